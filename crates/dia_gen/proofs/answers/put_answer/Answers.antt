@@ -1,0 +1,7 @@
+use Rattle.std.proofs.Common.{◌≡◌, ◌<◌, [], ◌++◌, length, take, drop, get_or, set, false, refl, ap, ap₂, ◌∙◌, arith, add-one}
+use Rattle.std.proofs.lemmas.List.{set-set, get_or-set_same}
+use Rattle.dia_gen.proofs.AnswerLemmas.{overwritten_more}
+use Rattle.dia_gen.proofs.answers.put_answer.Goals as goal
+
+pub loop-at-preserved : goal.loop-at-preserved
+loop-at-preserved c = rw (c.set.ensures, c.get.ensures) (overwritten_more c.args.row.now c.args.number c.loop-at.at c.loop-at.row c.args.answer.now c.requires.number c.requires.width (omega arith) c.loop-at.invariant)

@@ -1,0 +1,46 @@
+-- What is written of the numbers of a table behind its last pattern: evidence for each number that isn't a
+-- representative, and each number's class and mark.
+use Rattle.std.specs.Prelude.{ℕ, Bool, not, List, [], map, filter, length, ◌==◌, ◌++◌, if◌then◌else◌}
+use Rattle.std.specs.List.{range_with_len}
+use Rattle.net_model.specs.ClassTable.{ClassTable, class_at, representative, number_range}
+use Rattle.result_file.specs.declared.record.Budgets.{Budgets}
+use Rattle.result_file.specs.declared.record.Mark.{Mark}
+use Rattle.result_file.specs.declared.record.Mark.TheVariants.{Rep}
+use Rattle.result_file.specs.declared.record.Proof.{Proof}
+use Rattle.result_file.specs.declared.record.Proof.TheVariants.{Unsearched}
+use Rattle.result_file.specs.declared.record.Evidence.{Evidence}
+use Rattle.result_file.specs.declared.record.Record.TheVariants.{Pattern, Same}
+use Rattle.result_file.specs.Marks.{mark_of}
+use Rattle.result_file.specs.Meaning.{StatedResult}
+
+module _ (t : ClassTable) where
+  -- whether a number isn't the representative of its class
+  abbrev pub is_follower : ℕ → Bool
+  is_follower n = not (representative t (class_at t n) == n)
+
+  -- the proof for a member: nothing is searched
+  abbrev pub proof_for : ℕ → Proof
+  proof_for n = Unsearched
+
+  abbrev pub evidence_for : ℕ → Evidence
+  evidence_for n = record { member = n; partner = representative t (class_at t n); proof = proof_for n }
+
+  -- the evidence for the numbers below a bound, ascending
+  abbrev pub evidence_below : ℕ → List Evidence
+  evidence_below n = map evidence_for (filter is_follower (range_with_len 0 n))
+
+  -- the class and the mark of a number
+  abbrev pub mark_for : ℕ → Mark
+  mark_for n = if representative t (class_at t n) == n then Rep else mark_of (proof_for n)
+
+  abbrev pub member_for : ℕ → ℕ × Mark
+  member_for n = (class_at t n, mark_for n)
+
+  -- what the file states: these patterns and the evidence, and the table
+  abbrev pub plain_result : Budgets → List (List Bool) → StatedResult
+  plain_result budgets kept = record {
+    budgets = budgets;
+    body = map Pattern kept ++ map Same (evidence_below (length t.class_of));
+    births = t.births;
+    members = map member_for (number_range t);
+  }

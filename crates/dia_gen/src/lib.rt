@@ -1,0 +1,4 @@
+//! The generator of results.
+#![tactic(auto)]
+
+mod answers;

@@ -1,0 +1,4 @@
+pub mod Readers
+pub mod Bound
+pub mod Stuck
+pub mod Sites

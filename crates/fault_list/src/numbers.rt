@@ -1,0 +1,79 @@
+//! The faults of a circuit and their numbers.
+
+ghost use Rattle.std.specs.Prelude.{◌≡◌, ◌<◌, ◌≤◌, ◌^◌, All, IfOk, Some, flat_map, length, map, slice_get};
+ghost use Rattle.net_model.specs.Circuit.{all_lines};
+ghost use Rattle.net_model.specs.Fault.{IsFaultOf};
+ghost use Rattle.net_model.specs.FaultList.{destinations, sites_of_line, faults};
+
+use crate::destinations::Destinations;
+use net_model::{Circuit, Fault, Site};
+use std::alloc::{AllocError, Global};
+use std::marker::Model;
+
+/// The faults of a circuit in order of their numbers. Number 0 is the fault-free circuit.
+#[derive(Drop)]
+pub struct FaultList {
+    sites: Vec<Site>,
+}
+
+impl Model for FaultList {
+    ghost use Rattle.std.specs.Prelude.{◌<◌, ◌^◌, List, length};
+    ghost use Rattle.net_model.specs.declared.fault.Fault.{Fault};
+    ghost use Rattle.fault_list.specs.Numbers.{faults_at};
+
+    ghost Value = { List Fault };
+
+    ghost view = { λ l. faults_at l.sites.items };
+
+    ghost invariant = { λ l. length l.sites.items < 2 ^ 26 };
+}
+
+/// All faults of a circuit: fewer than 134,217,728, number 0 included.
+pub fn list(alloc: Global, circuit: &Circuit) -> Result<FaultList, AllocError>
+    ensures faults { IfOk result (λ listed. listed ≡ faults circuit.now) }
+    ensures stand { IfOk result (λ listed. All (IsFaultOf circuit.now) listed) }
+    ensures few { IfOk result (λ listed. length listed < 2 ^ 27) }
+{
+    let readers = Destinations::of_circuit(alloc, circuit)?;
+    let sites = sites(alloc, circuit, &readers)?;
+    Ok(FaultList { sites })
+}
+
+impl FaultList {
+    /// How many numbers there are, number 0 included.
+    pub fn len(&self) -> u32
+        ensures { result ≡ length self.now }
+    {
+        1 + 2 * self.sites.len() as u32
+    }
+
+    /// The fault with a number.
+    pub fn get(&self, number: u32) -> Fault
+        requires { number < length self.now }
+        ensures { slice_get self.now number ≡ Some result }
+    {
+        let sites = self.sites.as_slice();
+        if number == 0 {
+            return Fault::Free;
+        }
+        let place = number - 1;
+        Fault::Stuck(sites[(place / 2) as usize], place % 2 == 1)
+    }
+}
+
+// The sites of all lines, in order of the list.
+fn sites(alloc: Global, circuit: &Circuit, readers: &Destinations) -> Result<Vec<Site>, AllocError>
+    requires { readers.now ≡ map (destinations circuit.now) (all_lines circuit.now) }
+    ensures sites { IfOk result (λ found. found.items ≡ flat_map (sites_of_line circuit.now) (all_lines circuit.now)) }
+    ensures few { IfOk result (λ found. length found.items < 2 ^ 26) }
+{
+    let mut sites = Vec::new(alloc);
+    for line in 0..circuit.lines() {
+        sites.push(Site::Stem(line))?;
+        let branches = readers.at(line);
+        if branches.len() >= 2 {
+            sites.extend_from_slice(branches)?;
+        }
+    }
+    Ok(sites)
+}

@@ -1,0 +1,3 @@
+pub mod RecordLists
+pub mod RightLines
+pub mod Marked

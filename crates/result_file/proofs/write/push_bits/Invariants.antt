@@ -1,0 +1,6 @@
+use Rattle.std.proofs.Common.{◌≡◌, ◌++◌, ◌∷◌, [], take, length, map}
+use Rattle.net_model.specs.BitText.{bits_text, bit_digit}
+use Rattle.result_file.proofs.write.push_bits.Given as goal
+
+abbrev pub invariant-loop-at : goal.invariant-loop-at
+invariant-loop-at l = l.line.items ≡ l.initial.line.items ++ map bit_digit (take l.at l.bits)

@@ -1,0 +1,106 @@
+-- The rule of each line of a result file, given the lines before it.
+use Rattle.std.specs.Prelude.{◌≡◌, ℕ, ◌≤◌, ◌<◌, Bool, List, [], length, take, Option, None, Some, slice_get, slice_index_or, filter_map, unwrap_or, ⊤}
+use Rattle.net_model.specs.declared.fault.Fault.{Fault}
+use Rattle.net_model.specs.declared.fault.Fault.TheVariants.{Free}
+use Rattle.net_model.specs.Circuit.{Circuit}
+use Rattle.net_model.specs.FaultList.{faults, fault_count}
+use Rattle.net_model.specs.ClassTable.{ClassTable, class_at, class_count, representative, SplitBy}
+use Rattle.net_model.specs.PatternRows.{IsTableOf, IsAnswerRow}
+use Rattle.result_file.specs.declared.record.Budgets.{Budgets}
+use Rattle.result_file.specs.declared.record.Mark.{Mark}
+use Rattle.result_file.specs.declared.record.Proof.{Proof}
+use Rattle.result_file.specs.declared.record.Proof.TheVariants as proof
+use Rattle.result_file.specs.declared.record.Evidence.{Evidence}
+use Rattle.result_file.specs.declared.record.Record.{Record}
+use Rattle.result_file.specs.declared.record.Record.TheVariants.{Head, Budget, Pattern, Same, Class, Member, End}
+use Rattle.result_file.specs.Marks.{evidence_in, patterns_in, class_lines, member_lines, end_lines, number_mark, next_member}
+
+-- the fault of a number
+abbrev pub fault_numbered : Circuit → ℕ → Fault
+fault_numbered c n = slice_index_or (faults c) n Free
+
+-- The budgets are within their limits.
+pub record AreWithinLimits (budgets : Budgets) : Type 0 where
+  pub blocks : budgets.blocks ≤ 65536
+  pub cubes : budgets.cubes ≤ 1048576
+  pub conflicts : budgets.conflicts ≤ 100000
+
+abbrev pub no_budgets : Budgets
+no_budgets = record { blocks = 0; cubes = 0; conflicts = 0 }
+
+abbrev pub budgets_of : Record → Option Budgets
+budgets_of (Budget budgets) = Some budgets
+budgets_of _ = None
+
+-- the budgets that a file states
+abbrev pub budgets_in : List Record → Budgets
+budgets_in records = unwrap_or (slice_get (filter_map budgets_of records) 0) no_budgets
+
+-- ---- places
+
+-- A record of this kind may stand behind these lines.
+abbrev pub IsInPlace : ClassTable → List Record → Record → Type 0
+IsInPlace t before (Head sources positions numbers) = before ≡ []
+IsInPlace t before (Budget budgets) = length before ≡ 1
+IsInPlace t before (Pattern bits) = (2 ≤ length before) × (class_lines before ≡ 0)
+IsInPlace t before (Same evidence) = (2 ≤ length before) × (class_lines before ≡ 0)
+IsInPlace t before (Class number birth) = (2 ≤ length before) × (member_lines before ≡ 0)
+IsInPlace t before (Member number class mark) = (class_lines before ≡ class_count t) × (end_lines before ≡ 0)
+IsInPlace t before End = (class_lines before ≡ class_count t) × (member_lines before ≡ length t.class_of) × (end_lines before ≡ 0)
+
+-- ---- evidence
+
+-- The evidence names the lowest number that is neither a representative nor marked, with its representative.
+pub record NamesNext (t : ClassTable) (before : List Record) (evidence : Evidence) : Type 0 where
+  pub member : next_member t (evidence_in before) ≡ Some evidence.member
+  pub partner : evidence.partner ≡ representative t (class_at t evidence.member)
+
+-- Nothing is searched only where there is no budget for it.
+abbrev pub IsRightProof : Budgets → Proof → Type 0
+IsRightProof budgets proof.Unsearched = (budgets.cubes ≡ 0) × (budgets.conflicts ≡ 0)
+
+pub record IsRightEvidence (t : ClassTable) (before : List Record) (evidence : Evidence) : Type 0 where
+  pub next : NamesNext t before evidence
+  pub right : IsRightProof (budgets_in before) evidence.proof
+
+-- ---- each record
+
+-- The pattern has a bit for each source and splits a class of the patterns before it.
+pub record IsRightPattern (c : Circuit) (t : ClassTable) (bits : List Bool) : Type 0 where
+  pub width : length bits ≡ c.sources
+  pub row : List (List Bool)
+  pub answers : IsAnswerRow c bits row
+  pub splits : SplitBy t row
+
+-- Each of these patterns is right behind those before it.
+abbrev pub AreRightPatterns : Circuit → List (List Bool) → Type 0
+AreRightPatterns c patterns = (at : ℕ) → at < length patterns → (t : ClassTable) × IsTableOf c (take at patterns) t × IsRightPattern c t (slice_index_or patterns at [])
+
+-- The next class line: no number is left without a mark.
+pub record IsRightClass (t : ClassTable) (before : List Record) (number : ℕ) (birth : Option (ℕ × ℕ)) : Type 0 where
+  pub next : number ≡ class_lines before
+  pub birth_is : slice_get t.births number ≡ Some birth
+  pub complete : next_member t (evidence_in before) ≡ None
+
+-- The next member line.
+pub record IsRightMember (t : ClassTable) (before : List Record) (number class : ℕ) (mark : Mark) : Type 0 where
+  pub next : number ≡ member_lines before
+  pub inside : number < length t.class_of
+  pub class_is : class ≡ class_at t number
+  pub mark_is : number_mark t (evidence_in before) number ≡ Some mark
+
+abbrev pub IsRightContent : Circuit → ClassTable → List Record → Record → Type 0
+IsRightContent c t before (Head sources positions numbers) = (sources ≡ c.sources) × (positions ≡ length c.positions) × (numbers ≡ fault_count c)
+IsRightContent c t before (Budget budgets) = AreWithinLimits budgets
+IsRightContent c t before (Pattern bits) = IsRightPattern c t bits
+IsRightContent c t before (Same evidence) = IsRightEvidence t before evidence
+IsRightContent c t before (Class number birth) = IsRightClass t before number birth
+IsRightContent c t before (Member number class mark) = IsRightMember t before number class mark
+IsRightContent c t before End = ⊤
+
+-- The record is right behind these lines.
+pub record IsRightLine (c : Circuit) (before : List Record) (r : Record) : Type 0 where
+  pub t : ClassTable
+  pub table : IsTableOf c (patterns_in before) t
+  pub place : IsInPlace t before r
+  pub content : IsRightContent c t before r

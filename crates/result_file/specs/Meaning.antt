@@ -1,0 +1,81 @@
+-- What a result file says of its circuit, and when that is true. It speaks of the classes, births and marks that the
+-- file's class and member lines state, and not of how anything in it was found.
+use Rattle.std.specs.Prelude.{◌≡◌, ◌≢◌, ℕ, ◌<◌, Bool, true, false, List, [], ◌∷◌, ◌++◌, map, length, find, Option, None, Some, slice_get, slice_index_or, unwrap_or, All, IsTrue, ◌==◌}
+use Rattle.std.specs.List.{enumerate_from, range_with_len}
+use Rattle.net_model.specs.Circuit.{Circuit}
+use Rattle.net_model.specs.Answer.{Separates, AreEqual}
+use Rattle.net_model.specs.FaultList.{fault_count}
+use Rattle.net_model.specs.ClassTable.{named_pattern}
+use Rattle.result_file.specs.declared.record.Budgets.{Budgets}
+use Rattle.result_file.specs.declared.record.Mark.{Mark}
+use Rattle.result_file.specs.declared.record.Mark.TheVariants as mark
+use Rattle.result_file.specs.declared.record.Proof.TheVariants as proof
+use Rattle.result_file.specs.declared.record.Record.{Record}
+use Rattle.result_file.specs.declared.record.Record.TheVariants.{Head, Budget, Pattern, Same, Class, Member, End}
+use Rattle.result_file.specs.Spelling.{HasSpelling}
+use Rattle.result_file.specs.Marks.{patterns_in, evidence_in}
+use Rattle.result_file.specs.Lines.{fault_numbered}
+
+-- What the lines of a file state: the budgets, patterns and evidence, the birth of each class, and the class and mark of each number.
+pub record StatedResult : Type 0 where
+  pub budgets : Budgets
+  pub body : List Record
+  pub births : List (Option (ℕ × ℕ))
+  pub members : List (ℕ × Mark)
+
+abbrev pub class_records : List (Option (ℕ × ℕ)) → List Record
+class_records births = map (λ x. Class x.0 x.1) (enumerate_from 0 births)
+
+abbrev pub member_records : List (ℕ × Mark) → List Record
+member_records members = map (λ x. Member x.0 x.1.0 x.1.1) (enumerate_from 0 members)
+
+abbrev pub stated_records : Circuit → StatedResult → List Record
+stated_records c s = Head c.sources (length c.positions) (fault_count c) ∷ Budget s.budgets ∷ s.body ++ class_records s.births ++ member_records s.members ++ End ∷ []
+
+abbrev pub is_body_record : Record → Bool
+is_body_record (Pattern bits) = true
+is_body_record (Same evidence) = true
+is_body_record _ = false
+
+-- ---- what is stated of a number or a class
+
+abbrev pub member_of : StatedResult → ℕ → ℕ × Mark
+member_of s n = slice_index_or s.members n (0, mark.Rep)
+
+abbrev pub stated_class : StatedResult → ℕ → ℕ
+stated_class s n = (member_of s n).0
+
+abbrev pub stated_mark : StatedResult → ℕ → Mark
+stated_mark s n = (member_of s n).1
+
+-- the lowest number that is stated to be in the class of a number
+abbrev pub lowest_mate : StatedResult → ℕ → ℕ
+lowest_mate s n = unwrap_or (find (λ m. stated_class s m == stated_class s n) (range_with_len 0 (length s.members))) n
+
+-- the pattern that tells two numbers apart
+abbrev pub pattern_between : StatedResult → ℕ → ℕ → List Bool
+pattern_between s m n = slice_index_or (patterns_in s.body) (named_pattern s.births (stated_class s m) (stated_class s n)) []
+
+-- Class 0 alone has no parent, the parent of each other class is a lower one, and its pattern is one of the file's.
+pub record AreRightBirths (s : StatedResult) : Type 0 where
+  pub first : slice_get s.births 0 ≡ Some None
+  pub later : (k : ℕ) → 0 < k → k < length s.births → (birth : ℕ × ℕ) × (slice_get s.births k ≡ Some (Some birth)) × (birth.0 < k) × (birth.1 < length (patterns_in s.body))
+
+-- Some evidence of the file names the number with the lowest of its class, and there is no budget to search for more.
+pub record IsSpentOn (s : StatedResult) (n : ℕ) : Type 0 where
+  pub at : ℕ
+  pub evidence : slice_get (evidence_in s.body) at ≡ Some (record { member = n; partner = lowest_mate s n; proof = proof.Unsearched })
+  pub cubes : s.budgets.cubes ≡ 0
+  pub conflicts : s.budgets.conflicts ≡ 0
+
+-- What the lines state is true of the circuit.
+pub record IsTrueResult (c : Circuit) (s : StatedResult) : Type 0 where
+  pub spelled : All HasSpelling (stated_records c s)
+  pub body : All (λ r. IsTrue (is_body_record r)) s.body
+  pub births : AreRightBirths s
+  pub numbers : length s.members ≡ fault_count c
+  pub classes : All (λ member. member.0 < length s.births) s.members
+  pub apart : (m n : ℕ) → m < fault_count c → n < fault_count c → stated_class s m ≢ stated_class s n → Separates c (pattern_between s m n) (fault_numbered c m) (fault_numbered c n)
+  pub equal : (n : ℕ) → n < fault_count c → stated_mark s n ≡ mark.Equal → AreEqual c (fault_numbered c n) (fault_numbered c (lowest_mate s n))
+  pub spent : (n : ℕ) → n < fault_count c → stated_mark s n ≡ mark.Spent → IsSpentOn s n
+  pub representatives : (n : ℕ) → n < fault_count c → stated_mark s n ≡ mark.Rep → lowest_mate s n ≡ n

@@ -1,0 +1,26 @@
+-- What the lines of a file amount to.
+use Rattle.std.specs.Prelude.{ℕ, Bool, true, false, List, length, count_by}
+use Rattle.result_file.specs.declared.record.Summary.{Summary}
+use Rattle.result_file.specs.declared.record.Mark.TheVariants as mark
+use Rattle.result_file.specs.declared.record.Record.{Record}
+use Rattle.result_file.specs.declared.record.Record.TheVariants.{Member}
+use Rattle.result_file.specs.Marks.{patterns_in, class_lines, member_lines}
+
+-- whether a line marks a member equal, and whether it leaves one open
+abbrev pub is_equal : Record → Bool
+is_equal (Member number class mark.Equal) = true
+is_equal _ = false
+
+abbrev pub is_open : Record → Bool
+is_open (Member number class mark.Spent) = true
+is_open _ = false
+
+-- the numbers, patterns and classes, and the members that are marked equal or left open
+abbrev pub summary_of : List Record → Summary
+summary_of records = record {
+  numbers = member_lines records;
+  patterns = length (patterns_in records);
+  classes = class_lines records;
+  equal = count_by is_equal records;
+  spent = count_by is_open records;
+}

@@ -1,0 +1,56 @@
+//! The records of a result file.
+use net_model::Vector;
+
+/// How many blocks of the stream, closed leaves of a tree and learned clauses of a log there may be.
+#[derive(Clone, Copy, Debug, PartialEq, Eq)]
+pub struct Budgets {
+    pub blocks: u32,
+    pub cubes: u32,
+    pub conflicts: u32,
+}
+
+/// What a result amounts to: how many fault numbers, patterns and classes it has, and how many members are marked
+/// equal to their representative or left open (the budgets are spent on them).
+#[derive(Clone, Copy, Debug, PartialEq, Eq)]
+pub struct Summary {
+    pub numbers: u32,
+    pub patterns: u32,
+    pub classes: u32,
+    pub equal: u32,
+    pub spent: u32,
+}
+
+/// A representative; a member that is equal to it; a member on which the budgets were spent.
+#[derive(Clone, Copy, Debug, PartialEq, Eq)]
+pub enum Mark {
+    Rep,
+    Equal,
+    Spent,
+}
+
+/// What is known of a member and its representative: nothing was searched, since the budgets are 0.
+#[derive(Debug, Drop)]
+pub enum Proof {
+    Unsearched,
+}
+
+/// Evidence for a member of a class and the class's representative.
+#[derive(Debug, Drop)]
+pub struct Evidence {
+    pub member: u32,
+    pub partner: u32,
+    pub proof: Proof,
+}
+
+/// A line of a result file: the sources, positions and numbers; the budgets; a pattern; evidence; a class with its
+/// parent and the pattern that cut it off, none for class 0; a number with its class and mark; the end.
+#[derive(Drop)]
+pub enum Record {
+    Head(u32, u32, u32),
+    Budget(Budgets),
+    Pattern(Vector),
+    Same(Evidence),
+    Class(u32, Option<(u32, u32)>),
+    Member(u32, u32, Mark),
+    End,
+}

@@ -1,0 +1,124 @@
+-- The words of the stream, in the order in which the generator gives them.
+use Rattle.std.proofs.Common.{◌≡◌, ℕ, zero, suc, ◌+◌, ◌*◌, ◌/◌, ◌%◌, ◌<◌, ◌≤◌, List, [], length, get_or, set, refl, sym, ◌∙◌, ap, subst, arith, inl, inr}
+use Rattle.std.specs.Prelude.{Bool, true, false, ◌&&◌, ◌==◌, nat_lt, slice_index, map, if◌then◌else◌}
+use Rattle.std.specs.Int.{bit_at as digit_at}
+use Rattle.std.specs.List.{range_with_len}
+use Rattle.std.proofs.lemmas.Bool.{cases_eq}
+use Rattle.std.proofs.lemmas.Bool.Decides.{nat_tests}
+use Rattle.std.proofs.lemmas.List.{get_or-set_same, get_or-set_other}
+use Rattle.std.proofs.lemmas.List.FromFn.{length-map-range_with_len, get_or-map-range_with_len}
+use Rattle.rand_xoshiro.specs.SplitMix64.{next_state, mix_u64}
+use Rattle.net_model.specs.Answer.{bit_at}
+use Rattle.word_sim.specs.declared.stream.TheConstants.{COUNTING}
+use Rattle.word_sim.specs.Stream.{has_digit, state_after, stream_word, word_number, stream_bit, stream_vector}
+use Rattle.word_sim.specs.BlockFields.{column, columns}
+use Rattle.word_sim.proofs.Columns.{column_is, columns_is}
+
+-- ---- the words that count
+
+abbrev all_below : (ℕ → Bool) → ℕ → Bool
+all_below test zero = true
+all_below test (suc n) = test n && all_below test n
+
+both_true : (a b : Bool) → (a && b) ≡ true → (a ≡ true) × (b ≡ true)
+both_true true b e = (refl, e)
+both_true false b e = cc
+
+each_below : (test : ℕ → Bool) (n : ℕ) → all_below test n ≡ true → (k : ℕ) → k < n → test k ≡ true
+each_below test zero e k h = absurd (omega arith)
+each_below test (suc n) e k h =
+    let both = both_true (test n) (all_below test n) e in
+    elim (cases_eq k n) [
+      | inl same ↦ ap test same ∙ both.0
+      | inr ne ↦ each_below test n both.1 k (omega arith)
+    ]
+
+same_digit : (m n : ℕ) → (m == n) ≡ true → m ≡ n
+same_digit m n e = grind (arith, nat_tests)
+
+counts_by : (word source : ℕ) → all_below (λ lane. digit_at word lane == digit_at lane source) 64 ≡ true → (lane : ℕ) → lane < 64 → has_digit word lane ≡ has_digit lane source
+counts_by word source e lane h =
+    ap (λ d. d == 1) (same_digit (digit_at word lane) (digit_at lane source) (each_below (λ t. digit_at word t == digit_at t source) 64 e lane h))
+
+counting_digit : (source lane : ℕ) → source < 6 → lane < 64 → has_digit (slice_index COUNTING source) lane ≡ has_digit lane source
+counting_digit zero lane h k = counts_by 0xaaaaaaaaaaaaaaaa 0 refl lane k
+counting_digit (suc zero) lane h k = counts_by 0xcccccccccccccccc 1 refl lane k
+counting_digit (suc (suc zero)) lane h k = counts_by 0xf0f0f0f0f0f0f0f0 2 refl lane k
+counting_digit (suc (suc (suc zero))) lane h k = counts_by 0xff00ff00ff00ff00 3 refl lane k
+counting_digit (suc (suc (suc (suc zero)))) lane h k = counts_by 0xffff0000ffff0000 4 refl lane k
+counting_digit (suc (suc (suc (suc (suc zero))))) lane h k = counts_by 0xffffffff00000000 5 refl lane k
+counting_digit (suc (suc (suc (suc (suc (suc source)))))) lane h k = absurd (omega arith)
+
+-- ---- one word
+
+count_test : (done source : ℕ) → (done == 0 && nat_lt source 6) ≡ true → source < 6
+count_test done source e = let both = both_true (done == 0) (nat_lt source 6) e in grind (arith, nat_tests)
+
+word_digit_by : (b : Bool) (sources done source lane rng : ℕ) → (done == 0 && nat_lt source 6) ≡ b → rng ≡ state_after (word_number sources done source) → lane < 64
+    → has_digit (if b then slice_index COUNTING source else (mix_u64 rng).0) lane ≡ (if b then has_digit lane source else has_digit (stream_word (word_number sources done source)) lane)
+unfolding stream_word
+word_digit_by true sources done source lane rng e is h = counting_digit source lane (count_test done source e) h
+word_digit_by false sources done source lane rng e is h = ap (λ state. has_digit (mix_u64 state).0 lane) is
+
+-- the word of a source has the stream's bits
+pub word_digit : (sources done source lane rng : ℕ) → rng ≡ state_after (word_number sources done source) → lane < 64
+    → has_digit (if done == 0 && nat_lt source 6 then slice_index COUNTING source else (mix_u64 rng).0) lane ≡ stream_bit sources done lane source
+unfolding stream_bit
+word_digit sources done source lane rng is h = word_digit_by (done == 0 && nat_lt source 6) sources done source lane rng refl is h
+
+none_taken : (sources done source : ℕ) → source < sources → (done == 0 && nat_lt source 6) ≡ true → word_number sources done source ≡ word_number sources done (source + 1)
+none_taken sources zero source h e = let few : source < 6 = count_test 0 source e in omega arith
+none_taken sources (suc done) source h e = absurd (let both = both_true (suc done == 0) (nat_lt source 6) e in omega (arith, same_digit (suc done) 0 both.0))
+
+one_taken : (sources done source : ℕ) → source < sources → (done == 0 && nat_lt source 6) ≡ false → suc (word_number sources done source) ≡ word_number sources done (source + 1)
+one_taken sources zero source h e = let many : 6 ≤ source = grind (arith, nat_tests) in omega arith
+one_taken sources (suc done) source h e = omega arith
+
+next_rng_by : (b : Bool) (sources done source rng : ℕ) → (done == 0 && nat_lt source 6) ≡ b → source < sources → rng ≡ state_after (word_number sources done source)
+    → (if b then rng else (mix_u64 rng).1) ≡ state_after (word_number sources done (source + 1))
+next_rng_by true sources done source rng e h is = is ∙ ap state_after (none_taken sources done source h e)
+next_rng_by false sources done source rng e h is = ap next_state is ∙ ap state_after (one_taken sources done source h e)
+
+-- and leaves the generator at the next one
+pub next_rng : (sources done source rng : ℕ) → source < sources → rng ≡ state_after (word_number sources done source)
+    → (if done == 0 && nat_lt source 6 then rng else (mix_u64 rng).1) ≡ state_after (word_number sources done (source + 1))
+next_rng sources done source rng h is = next_rng_by (done == 0 && nat_lt source 6) sources done source rng refl h is
+
+-- ---- one block
+
+-- the first rows have their words in a block of the stream
+abbrev pub AreDrawn : ℕ → ℕ → List (List Bool) → ℕ → Type 0
+AreDrawn sources done rows n = (k lane : ℕ) → k < n → lane < 64 → bit_at (get_or rows k []) lane ≡ stream_bit sources done lane k
+
+pub drawn_more : (sources done : ℕ) (rows : List (List Bool)) (n : ℕ) (row : List Bool) → AreDrawn sources done rows n → n < length rows
+    → ((lane : ℕ) → lane < 64 → bit_at row lane ≡ stream_bit sources done lane n) → AreDrawn sources done (set rows n row) (n + 1)
+drawn_more sources done rows n row before h here k lane l within =
+    elim (cases_eq k n) [
+      | inl same ↦ let P : ℕ → Type 0 = λ j. bit_at (get_or (set rows n row) j []) lane ≡ stream_bit sources done lane j in
+          subst P (sym same) (ap (λ r. bit_at r lane) (get_or-set_same rows n row [] h) ∙ here lane within)
+      | inr ne ↦ ap (λ r. bit_at r lane) (get_or-set_other rows n k row [] ne) ∙ before k lane (omega arith) within
+    ]
+
+pub next_block : (sources done : ℕ) → word_number sources done sources ≡ word_number sources (done + 1) 0
+next_block sources done = omega arith
+
+pub first_block : (sources : ℕ) → word_number sources 0 0 ≡ 0
+first_block sources = omega arith
+
+-- a lane of drawn rows is a vector of the stream
+pub drawn_column : (sources done : ℕ) (rows : List (List Bool)) (lane : ℕ) → AreDrawn sources done rows sources → length rows ≡ sources → lane < 64
+    → column rows lane ≡ stream_vector sources (64 * done + lane)
+drawn_column sources done rows lane drawn wide h =
+    let block : (64 * done + lane) / 64 ≡ done = omega arith in
+    let at : (64 * done + lane) % 64 ≡ lane = omega arith in
+    column_is rows lane (stream_vector sources (64 * done + lane)) (length-map-range_with_len (stream_bit sources ((64 * done + lane) / 64) ((64 * done + lane) % 64)) 0 sources ∙ sym wide)
+    (λ k l.
+    let within : k < sources = subst (λ n. k < n) wide l in
+    drawn k lane within h ∙ sym (get_or-map-range_with_len (stream_bit sources ((64 * done + lane) / 64) ((64 * done + lane) % 64)) 0 sources k k false within (omega arith) ∙ (λ i. stream_bit sources (block i) (at i) k)))
+
+-- the lanes of drawn rows are a block of the stream
+pub drawn_block : (sources done count : ℕ) (rows : List (List Bool)) → count ≤ 1 → ((lane : ℕ) → lane < 64 → column rows lane ≡ stream_vector sources (64 * done + lane))
+    → columns rows (64 * count) ≡ map (stream_vector sources) (range_with_len (64 * done) (64 * count))
+drawn_block sources done count rows few h =
+    columns_is rows (64 * count) (map (stream_vector sources) (range_with_len (64 * done) (64 * count))) (length-map-range_with_len (stream_vector sources) (64 * done) (64 * count))
+    (λ lane l. h lane (omega arith) ∙ sym (get_or-map-range_with_len (stream_vector sources) (64 * done) (64 * count) lane (64 * done + lane) [] l refl))

@@ -1,0 +1,11 @@
+use Rattle.std.proofs.Common.{arith}
+use Rattle.word_sim.proofs.Columns.{length-columns, columns_wide}
+use Rattle.word_sim.proofs.block.Block.sources.Goals as goal
+
+pub returns-clause-block : goal.returns-clause-block
+returns-clause-block c =
+    rw (← c.self.view_is)
+    (record {
+      few = omega (arith, length-columns c.self.inside.rows.items c.self.inside.live, c.self.invariant.few);
+      widths = columns_wide c.self.inside.rows.items c.self.inside.live;
+    })

@@ -1,0 +1,100 @@
+//! The stream of vectors.
+
+ghost use Rattle.std.specs.Prelude.{◌≡◌, ℕ, ◌+◌, ◌*◌, ◌/◌, ◌^◌, ◌<◌, ◌≤◌, min, [], length, map, nat_lt, ◌==◌, ◌&&◌, slice_index, if◌then◌else◌};
+ghost use Rattle.std.specs.List.{range_with_len};
+ghost use Rattle.rand_xoshiro.specs.SplitMix64.{mix_u64};
+ghost use Rattle.word_sim.specs.Stream.{state_after, word_number, stream_vector};
+ghost use Rattle.word_sim.specs.StreamState.{stream_at};
+ghost use Rattle.word_sim.specs.Block.{block_with};
+ghost use Rattle.word_sim.specs.BlockFields.{column};
+
+use crate::block::Block;
+use crate::lanes::{LANES, Lanes};
+use rand_core::SeedableRng;
+use rand_core::utils::NextWord;
+use rand_xoshiro::SplitMix64;
+use std::marker::Model;
+
+// In the first block bit t of word j is bit j of t.
+const COUNTING: [u64; 6] = [
+    0xaaaa_aaaa_aaaa_aaaa,
+    0xcccc_cccc_cccc_cccc,
+    0xf0f0_f0f0_f0f0_f0f0,
+    0xff00_ff00_ff00_ff00,
+    0xffff_0000_ffff_0000,
+    0xffff_ffff_0000_0000,
+];
+
+/// The stream of vectors in blocks of 64: the first six sources count through the first block, and all other words
+/// are those of the generator SplitMix64 from the seed 0, by block and then source.
+#[derive(Drop)]
+pub struct Stream {
+    rng: SplitMix64,
+    sources: u32,
+    done: u32,
+}
+
+impl Model for Stream {
+    ghost use Rattle.word_sim.specs.StreamState.{StreamState};
+
+    ghost Value = { StreamState };
+
+    ghost use Rattle.word_sim.specs.StreamFields.{stream_of, IsInPlace};
+
+    ghost view = { stream_of };
+
+    ghost invariant = { IsInPlace };
+}
+
+impl Stream {
+    /// The stream from its first block on.
+    pub fn new(sources: u32) -> Stream
+        ensures { result ≡ stream_at sources 0 }
+    {
+        Stream {
+            rng: SplitMix64::seed_from_u64(0),
+            sources,
+            done: 0,
+        }
+    }
+
+    /// Puts the next blocks of the stream, at most `left`, into a block, and answers how many.
+    pub fn fill(&mut self, left: u32, block: &mut Block) -> u32
+        requires left { 1 ≤ left }
+        requires blocks { self.old.done + left < 2 ^ 32 }
+        requires empty { block.old.vectors ≡ [] }
+        requires sources { block.old.sources ≡ self.old.sources }
+        ensures count { result ≡ min left (LANES / 64) }
+        ensures stream { self.new ≡ stream_at self.old.sources (self.old.done + result) }
+        ensures block { block.new ≡ block_with self.old.sources (map (stream_vector self.old.sources) (range_with_len (64 * self.old.done) (64 * result))) }
+    {
+        let filled = left.min(LANES / 64);
+        draw(&mut self.rng, self.done, &mut block.rows);
+        self.done += filled;
+        block.live = 64 * filled;
+        filled
+    }
+}
+
+// Writes the words of a block of the stream.
+fn draw(rng: &mut SplitMix64, done: u32, rows: &mut [Lanes])
+    requires { rng.old ≡ state_after (word_number (length rows.old) done 0) }
+    ensures state { rng.new ≡ state_after (word_number (length rows.old) (done + 1) 0) }
+    ensures rows { (lane : ℕ) → lane < LANES → column rows.new lane ≡ stream_vector (length rows.old) (64 * done + lane) }
+{
+    for source in 0..rows.len() {
+        rows[source] = Lanes::from_word(source_word(rng, done, source));
+    }
+}
+
+// The word of a source in a block of the stream.
+fn source_word(rng: &mut SplitMix64, done: u32, source: usize) -> u64
+    ensures word { result ≡ (if done == 0 && nat_lt source 6 then slice_index COUNTING source else (mix_u64 rng.old).0) }
+    ensures state { rng.new ≡ (if done == 0 && nat_lt source 6 then rng.old else (mix_u64 rng.old).1) }
+{
+    if done == 0 && source < COUNTING.len() {
+        COUNTING[source]
+    } else {
+        rng.next_word()
+    }
+}
