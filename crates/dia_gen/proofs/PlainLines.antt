@@ -18,14 +18,14 @@ use Rattle.result_file.proofs.Marked.{IsSettled, next_is, none_next}
 use Rattle.result_file.proofs.RightLines.{AreMembers}
 use Rattle.dia_gen.specs.Plain.{is_follower, proof_for, evidence_for, evidence_below, mark_for, member_for}
 
-is_same : (n : ℕ) → (n == n) ≡ true
+pub is_same : (n : ℕ) → (n == n) ≡ true
 is_same n = grind (arith, nat_tests)
 
 is_other : (n m : ℕ) → n < m → (n == m) ≡ false
 is_other n m less = grind (arith, nat_tests)
 
 module _ (t : ClassTable) where
-  evidence_more : (n : ℕ) → evidence_below t (suc n) ≡ evidence_below t n ++ map (evidence_for t) (cond (is_follower t n) (n ∷ []) [])
+  pub evidence_more : (n : ℕ) → evidence_below t (suc n) ≡ evidence_below t n ++ map (evidence_for t) (cond (is_follower t n) (n ∷ []) [])
   evidence_more n =
       let numbers = range_with_len 0 n in
       ap (λ (ns : List ℕ). map (evidence_for t) (filter (is_follower t) ns)) (range_with_len_more 0 (suc n) n n (omega arith) (omega arith))
@@ -58,7 +58,7 @@ module _ (t : ClassTable) where
       let second = about_other (is_follower t n) n m (is_other n m (omega arith)) in
       about_more n m ∙ ap₂ (λ (a b : Option Evidence). option_or a b) first second
 
-  about_itself : (n m : ℕ) → m < n → is_follower t m ≡ true → find (is_about t m) (evidence_below t n) ≡ Some (evidence_for t m)
+  pub about_itself : (n m : ℕ) → m < n → is_follower t m ≡ true → find (is_about t m) (evidence_below t n) ≡ Some (evidence_for t m)
   about_itself zero m below follower = absurd (omega arith)
   about_itself (suc n) m below follower = elim (cases_lt m n) [
     | inl less ↦

@@ -1,3 +1,4 @@
 pub mod Kept
+pub mod Keeping
 pub mod Made
 pub mod Plain

@@ -2,3 +2,8 @@
 #![tactic(auto)]
 
 mod answers;
+mod kept;
+mod lines;
+mod output;
+
+pub use output::generate;

@@ -1,5 +1,5 @@
 -- Which number comes next for evidence.
-use Rattle.std.proofs.Common.{◌≡◌, ◌≢◌, ℕ, zero, suc, ◌+◌, ◌<◌, ◌≤◌, Bool, true, false, cond, List, [], ◌∷◌, length, Option, Some, None, refl, sym, ap, ◌∙◌, inl, inr, arith}
+use Rattle.std.proofs.Common.{◌≡◌, ◌≢◌, ℕ, zero, suc, ◌+◌, ◌<◌, ◌≤◌, Bool, true, false, cond, List, [], ◌∷◌, length, Option, Some, None, refl, sym, ap, ap₂, ◌∙◌, inl, inr, arith}
 use Rattle.std.specs.Prelude.{is_none, unwrap_or}
 use Rattle.std.specs.List.{find, range_with_len, slice_get}
 use Rattle.std.proofs.lemmas.Bool.{cases_lt}
@@ -52,3 +52,23 @@ found_within p a (suc k) d bound low high = found_by (p a) a (find p (range_with
 pub found_at : {X : Type 0} (p : X → Bool) (xs : List X) (x : X) → find p xs ≡ Some x → (at : ℕ) × (slice_get xs at ≡ Some x)
 found_at p [] x found = absurd (cc)
 found_at p (y ∷ xs) x found = found_by_place (p y) y (find p xs) xs x found (found_at p xs x)
+
+first_found : (b : Bool) (a : ℕ) (rest : Option ℕ) → (x : ℕ) × (rest ≡ Some x) → (x : ℕ) × (cond b (Some a) rest ≡ Some x)
+first_found true a rest found = (a, refl)
+first_found false a rest found = found
+
+-- a range that has a number which passes
+pub find_some : (p : ℕ → Bool) (a k n : ℕ) → a ≤ n → n < a + k → p n ≡ true → (x : ℕ) × (find p (range_with_len a k) ≡ Some x)
+find_some p a zero n low high here = absurd (omega arith)
+find_some p a (suc k) n low high here = elim (cases_lt a n) [
+  | inl less ↦ first_found (p a) a (find p (range_with_len (a + 1) k)) (find_some p (a + 1) k n (omega arith) (omega arith) here)
+  | inr most ↦
+      let e : a ≡ n = omega arith in
+      (a, ap (λ (b : Bool). cond b (Some a) (find p (range_with_len (a + 1) k))) (ap p e ∙ here))
+]
+
+-- tests that agree on a range find the same
+pub find_same : (p q : ℕ → Bool) (a k : ℕ) → ((m : ℕ) → a ≤ m → m < a + k → p m ≡ q m) → find p (range_with_len a k) ≡ find q (range_with_len a k)
+find_same p q a zero same = refl
+find_same p q a (suc k) same =
+    ap₂ (λ (b : Bool) (rest : Option ℕ). cond b (Some a) rest) (same a (omega arith) (omega arith)) (find_same p q (a + 1) k (λ m low high. same m (omega arith) (omega arith)))

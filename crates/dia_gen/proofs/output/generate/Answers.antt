@@ -1,0 +1,6 @@
+use Rattle.std.proofs.Common.{[]}
+use Rattle.dia_gen.proofs.Written.{nothing_cut, written_cut, writes_none}
+use Rattle.dia_gen.proofs.output.generate.Goals as goal
+
+pub returns-in_default-clause-err : goal.returns-in_default-clause-err
+returns-in_default-clause-err g c = λ told. ([], nothing_cut, writes_none (g.S.Shelf.state c.args.shelf.now).world)
