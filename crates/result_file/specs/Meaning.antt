@@ -68,6 +68,14 @@ pub record IsSpentOn (s : StatedResult) (n : ℕ) : Type 0 where
   pub cubes : s.budgets.cubes ≡ 0
   pub conflicts : s.budgets.conflicts ≡ 0
 
+-- Each two faults of different classes answer differently at the pattern that is named of the classes.
+abbrev pub AreApart : Circuit → StatedResult → Type 0
+AreApart c s = (m n : ℕ) → m < fault_count c → n < fault_count c → stated_class s m ≢ stated_class s n → Separates c (pattern_between s m n) (fault_numbered c m) (fault_numbered c n)
+
+-- Each member that is marked neither equal nor open is the lowest of its class.
+abbrev pub AreLowest : Circuit → StatedResult → Type 0
+AreLowest c s = (n : ℕ) → n < fault_count c → stated_mark s n ≡ mark.Rep → lowest_mate s n ≡ n
+
 -- What the lines state is true of the circuit.
 pub record IsTrueResult (c : Circuit) (s : StatedResult) : Type 0 where
   pub spelled : All HasSpelling (stated_records c s)
@@ -75,7 +83,7 @@ pub record IsTrueResult (c : Circuit) (s : StatedResult) : Type 0 where
   pub births : AreRightBirths s
   pub numbers : length s.members ≡ fault_count c
   pub classes : All (λ member. member.0 < length s.births) s.members
-  pub apart : (m n : ℕ) → m < fault_count c → n < fault_count c → stated_class s m ≢ stated_class s n → Separates c (pattern_between s m n) (fault_numbered c m) (fault_numbered c n)
+  pub apart : AreApart c s
   pub equal : (n : ℕ) → n < fault_count c → stated_mark s n ≡ mark.Equal → AreEqual c (fault_numbered c n) (fault_numbered c (lowest_mate s n))
   pub spent : (n : ℕ) → n < fault_count c → stated_mark s n ≡ mark.Spent → IsSpentOn s n
-  pub representatives : (n : ℕ) → n < fault_count c → stated_mark s n ≡ mark.Rep → lowest_mate s n ≡ n
+  pub representatives : AreLowest c s

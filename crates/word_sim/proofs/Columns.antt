@@ -1,7 +1,8 @@
 -- The vectors in the lanes of a block's rows.
-use Rattle.std.proofs.Common.{◌≡◌, ℕ, ◌+◌, ◌<◌, List, [], ◌∷◌, ◌++◌, length, get_or, refl, sym, ◌∙◌, subst, arith}
+use Rattle.std.proofs.Common.{◌≡◌, ℕ, ◌+◌, ◌<◌, List, [], ◌∷◌, ◌++◌, length, get_or, set, refl, sym, ◌∙◌, subst, arith}
 use Rattle.std.specs.Prelude.{Bool, false, All}
-use Rattle.std.proofs.lemmas.List.{get_or-map, length-map, ext_get_or}
+use Rattle.std.proofs.Math.ListN.{get_or-map}
+use Rattle.std.proofs.lemmas.List.{map-set, length-map, ext_get_or}
 use Rattle.std.proofs.lemmas.List.FromFn.{length-map-range_with_len, get_or-map-range_with_len, map-range_with_len_more}
 use Rattle.net_model.specs.Answer.{bit_at}
 use Rattle.word_sim.specs.BlockFields.{column, columns}
@@ -10,14 +11,18 @@ pub length-column : (rows : List (List Bool)) (lane : ℕ) → length (column ro
 unfolding column
 length-column rows lane = length-map rows (λ row. bit_at row lane)
 
-pub column_at : (rows : List (List Bool)) (lane k : ℕ) → k < length rows → bit_at (column rows lane) k ≡ bit_at (get_or rows k []) lane
+pub column_at : (rows : List (List Bool)) (lane k : ℕ) → bit_at (column rows lane) k ≡ bit_at (get_or rows k []) lane
 unfolding column
-column_at rows lane k h = get_or-map (λ row. bit_at row lane) rows k [] false h
+column_at rows lane k = get_or-map (λ row. bit_at row lane) rows k []
+
+pub column-set : (rows : List (List Bool)) (lane k : ℕ) (row : List Bool) → column (set rows k row) lane ≡ set (column rows lane) k (bit_at row lane)
+unfolding column
+column-set rows lane k row = map-set (λ r. bit_at r lane) rows k row
 
 pub column_is : (rows : List (List Bool)) (lane : ℕ) (v : List Bool) → length v ≡ length rows → ((k : ℕ) → k < length rows → bit_at (get_or rows k []) lane ≡ bit_at v k) → column rows lane ≡ v
 column_is rows lane v e h =
     ext_get_or false (column rows lane) v (length-column rows lane ∙ sym e)
-    (λ k l. let within : k < length rows = subst (λ n. k < n) (length-column rows lane) l in column_at rows lane k within ∙ h k within)
+    (λ k l. let within : k < length rows = subst (λ n. k < n) (length-column rows lane) l in column_at rows lane k ∙ h k within)
 
 pub length-columns : (rows : List (List Bool)) (live : ℕ) → length (columns rows live) ≡ live
 unfolding columns

@@ -9,7 +9,7 @@ use Rattle.net_model.specs.Answer.{bit_at}
 use Rattle.word_sim.specs.Stream.{has_digit}
 use Rattle.word_sim.specs.Lanes.{low_digits, lanes_of}
 
-low_digit : (n word lane : ℕ) → lane < n → bit_at (low_digits n word) lane ≡ has_digit word lane
+pub low_digit : (n word lane : ℕ) → lane < n → bit_at (low_digits n word) lane ≡ has_digit word lane
 low_digit zero word lane h = absurd (omega arith)
 low_digit (suc n) word zero h = ap (λ d. d == 1) (sym (bit_at_lowest word))
 low_digit (suc n) word (suc lane) h = low_digit n (word / 2) lane (omega arith) ∙ ap (λ d. d == 1) (sym (bit_at-suc word lane))

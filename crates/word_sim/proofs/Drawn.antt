@@ -1,18 +1,17 @@
 -- The words of the stream, in the order in which the generator gives them.
-use Rattle.std.proofs.Common.{◌≡◌, ℕ, zero, suc, ◌+◌, ◌*◌, ◌/◌, ◌%◌, ◌<◌, ◌≤◌, List, [], length, get_or, set, refl, sym, ◌∙◌, ap, subst, arith, inl, inr}
+use Rattle.std.proofs.Common.{◌≡◌, ℕ, zero, suc, ◌+◌, ◌*◌, ◌/◌, ◌%◌, ◌<◌, ◌≤◌, List, [], length, refl, sym, ◌∙◌, ap, subst, arith, inl, inr}
 use Rattle.std.specs.Prelude.{Bool, true, false, ◌&&◌, ◌==◌, nat_lt, slice_index, map, if◌then◌else◌}
 use Rattle.std.specs.Int.{bit_at as digit_at}
 use Rattle.std.specs.List.{range_with_len}
 use Rattle.std.proofs.lemmas.Bool.{cases_eq}
 use Rattle.std.proofs.lemmas.Bool.Decides.{nat_tests}
-use Rattle.std.proofs.lemmas.List.{get_or-set_same, get_or-set_other}
 use Rattle.std.proofs.lemmas.List.FromFn.{length-map-range_with_len, get_or-map-range_with_len}
 use Rattle.rand_xoshiro.specs.SplitMix64.{next_state, mix_u64}
-use Rattle.net_model.specs.Answer.{bit_at}
 use Rattle.word_sim.specs.declared.stream.TheConstants.{COUNTING}
 use Rattle.word_sim.specs.Stream.{has_digit, state_after, stream_word, word_number, stream_bit, stream_vector}
 use Rattle.word_sim.specs.BlockFields.{column, columns}
 use Rattle.word_sim.proofs.Columns.{column_is, columns_is}
+use Rattle.word_sim.proofs.Written.{AreSet}
 
 -- ---- the words that count
 
@@ -88,16 +87,7 @@ next_rng sources done source rng h is = next_rng_by (done == 0 && nat_lt source 
 
 -- the first rows have their words in a block of the stream
 abbrev pub AreDrawn : ℕ → ℕ → List (List Bool) → ℕ → Type 0
-AreDrawn sources done rows n = (k lane : ℕ) → k < n → lane < 64 → bit_at (get_or rows k []) lane ≡ stream_bit sources done lane k
-
-pub drawn_more : (sources done : ℕ) (rows : List (List Bool)) (n : ℕ) (row : List Bool) → AreDrawn sources done rows n → n < length rows
-    → ((lane : ℕ) → lane < 64 → bit_at row lane ≡ stream_bit sources done lane n) → AreDrawn sources done (set rows n row) (n + 1)
-drawn_more sources done rows n row before h here k lane l within =
-    elim (cases_eq k n) [
-      | inl same ↦ let P : ℕ → Type 0 = λ j. bit_at (get_or (set rows n row) j []) lane ≡ stream_bit sources done lane j in
-          subst P (sym same) (ap (λ r. bit_at r lane) (get_or-set_same rows n row [] h) ∙ here lane within)
-      | inr ne ↦ ap (λ r. bit_at r lane) (get_or-set_other rows n k row [] ne) ∙ before k lane (omega arith) within
-    ]
+AreDrawn sources done rows n = AreSet (λ k lane. stream_bit sources done lane k) 64 rows n
 
 pub next_block : (sources done : ℕ) → word_number sources done sources ≡ word_number sources (done + 1) 0
 next_block sources done = omega arith

@@ -1,4 +1,4 @@
--- One lane of the first rows, written.
+-- Rows that are written one after another: one lane of each, or the whole row.
 use Rattle.std.proofs.Common.{◌≡◌, ◌≢◌, ℕ, ◌+◌, ◌<◌, List, [], length, get_or, set, refl, sym, ◌∙◌, ap, subst, arith, inl, inr}
 use Rattle.std.specs.Prelude.{Bool}
 use Rattle.std.proofs.lemmas.Bool.{cases_eq}
@@ -31,3 +31,17 @@ written_more first rows lane v n old new w h read here there =
         | inr ne ↦ ap (λ row. bit_at row other) (get_or-set_other rows n k new [] ne) ∙ w.others k other l apart
       ];
     }
+
+-- the first rows have these bits in the first lanes
+abbrev pub AreSet : (ℕ → ℕ → Bool) → ℕ → List (List Bool) → ℕ → Type 0
+AreSet bit lanes rows n = (k lane : ℕ) → k < n → lane < lanes → bit_at (get_or rows k []) lane ≡ bit k lane
+
+pub set_more : (bit : ℕ → ℕ → Bool) (lanes : ℕ) (rows : List (List Bool)) (n : ℕ) (row : List Bool) → AreSet bit lanes rows n → n < length rows
+    → ((lane : ℕ) → lane < lanes → bit_at row lane ≡ bit n lane) → AreSet bit lanes (set rows n row) (n + 1)
+set_more bit lanes rows n row before h here k lane l within =
+    elim (cases_eq k n) [
+      | inl same ↦
+          let P : ℕ → Type 0 = λ j. bit_at (get_or (set rows n row) j []) lane ≡ bit j lane in
+          subst P (sym same) (ap (λ r. bit_at r lane) (get_or-set_same rows n row [] h) ∙ here lane within)
+      | inr ne ↦ ap (λ r. bit_at r lane) (get_or-set_other rows n k row [] ne) ∙ before k lane (omega arith) within
+    ]

@@ -5,3 +5,7 @@ pub mod Block
 pub mod BlockFields
 pub mod StreamState
 pub mod StreamFields
+pub mod GoodSim
+pub mod GoodSimFields
+pub mod SeenLane
+pub mod Laws

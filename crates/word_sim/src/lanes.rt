@@ -34,6 +34,7 @@ impl Model for Lanes {
 
 impl Lanes {
     /// The same bit in every lane.
+    #[inline]
     pub fn all(bit: bool) -> Lanes
         ensures { (lane : ℕ) → lane < LANES → bit_at result lane ≡ bit }
     {
@@ -43,6 +44,7 @@ impl Lanes {
     }
 
     /// The bit of a lane.
+    #[inline]
     pub fn get(&self, lane: u32) -> bool
         requires { lane < LANES }
         ensures { result ≡ bit_at self.now lane }
@@ -51,6 +53,7 @@ impl Lanes {
     }
 
     /// 1 in the lanes where both have 1.
+    #[inline]
     pub fn and(self, other: Lanes) -> Lanes
         ensures { (lane : ℕ) → lane < LANES → bit_at result lane ≡ (bit_at self lane && bit_at other lane) }
     {
@@ -60,6 +63,7 @@ impl Lanes {
     }
 
     /// 1 in the lanes where one of both has 1.
+    #[inline]
     pub fn or(self, other: Lanes) -> Lanes
         ensures { (lane : ℕ) → lane < LANES → bit_at result lane ≡ (bit_at self lane || bit_at other lane) }
     {
@@ -69,6 +73,7 @@ impl Lanes {
     }
 
     /// 1 in the lanes where they differ.
+    #[inline]
     pub fn xor(self, other: Lanes) -> Lanes
         ensures { (lane : ℕ) → lane < LANES → bit_at result lane ≡ (if bit_at self lane then not (bit_at other lane) else bit_at other lane) }
     {
@@ -78,6 +83,7 @@ impl Lanes {
     }
 
     /// The other bit in every lane.
+    #[inline]
     pub fn not(self) -> Lanes
         ensures { (lane : ℕ) → lane < LANES → bit_at result lane ≡ not (bit_at self lane) }
     {
@@ -85,6 +91,7 @@ impl Lanes {
     }
 
     /// Whether some lane has 1.
+    #[inline]
     pub fn any(self) -> bool
         ensures { IsTrue result ↔ ((lane : ℕ) × (lane < LANES) × IsTrue (bit_at self lane)) }
     {
@@ -92,6 +99,7 @@ impl Lanes {
     }
 
     // The same bits but for one lane, which has this bit.
+    #[inline]
     pub(crate) fn with(self, lane: u32, bit: bool) -> Lanes
         requires { lane < LANES }
         ensures same { bit_at result lane ≡ bit }
@@ -108,6 +116,7 @@ impl Lanes {
     }
 
     // 1 in the first lanes, this many.
+    #[inline]
     pub(crate) fn first(live: u32) -> Lanes
         requires { live ≤ LANES }
         ensures { (lane : ℕ) → lane < LANES → bit_at result lane ≡ nat_lt lane live }
@@ -122,6 +131,7 @@ impl Lanes {
     }
 
     // The binary digits of a word.
+    #[inline]
     pub(crate) fn from_word(word: u64) -> Lanes
         ensures { (lane : ℕ) → lane < LANES → bit_at result lane ≡ has_digit word lane }
     {

@@ -2,11 +2,16 @@
 #![tactic(auto)]
 
 mod block;
+mod gate_lanes;
+mod good_sim;
 mod lanes;
+mod laws;
 mod stream;
 #[cfg(test)]
 mod tests;
 
 pub use block::Block;
+pub use good_sim::GoodSim;
 pub use lanes::{LANES, Lanes};
+pub use laws::{first_block_has_all, stream_continues};
 pub use stream::Stream;

@@ -19,4 +19,4 @@ returns-clause-written c =
 pub returns-clause-others : goal.returns-clause-others
 returns-clause-others c = λ other h ne.
     column_is c.loop-source.rows other (column c.args.rows.now other) (length-column c.args.rows.now other ∙ sym c.loop-source.auto.rows)
-    (λ k l. c.loop-source.invariant.others k other h ne ∙ sym (column_at c.args.rows.now other k (omega arith)))
+    (λ k l. c.loop-source.invariant.others k other h ne ∙ sym (column_at c.args.rows.now other k))

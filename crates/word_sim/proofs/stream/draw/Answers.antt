@@ -1,5 +1,7 @@
 use Rattle.std.proofs.Common.{◌≡◌, ◌∙◌, length, arith}
-use Rattle.word_sim.proofs.Drawn.{word_digit, next_rng, drawn_more, drawn_column}
+use Rattle.word_sim.specs.Stream.{stream_bit}
+use Rattle.word_sim.proofs.Written.{set_more}
+use Rattle.word_sim.proofs.Drawn.{word_digit, next_rng, drawn_column}
 use Rattle.word_sim.proofs.stream.draw.Goals as goal
 
 pub loop-source-preserved : goal.loop-source-preserved
@@ -9,7 +11,7 @@ loop-source-preserved c =
     let source = c.loop-source.source in
     record {
       state = c.source_word.ensures.state ∙ next_rng sources done source c.loop-source.rng (omega arith) c.loop-source.invariant.state;
-      rows = drawn_more sources done c.loop-source.rows source c.from_word.result c.loop-source.invariant.rows (omega arith)
+      rows = set_more (λ k lane. stream_bit sources done lane k) 64 c.loop-source.rows source c.from_word.result c.loop-source.invariant.rows (omega arith)
           (λ lane h. c.from_word.ensures lane h ∙ (rw c.source_word.ensures.word (word_digit sources done source lane c.loop-source.rng c.loop-source.invariant.state h)));
     }
 

@@ -12,5 +12,5 @@ returns c =
     let within : c.args.source < length rows = omega (arith, c.requires, ap (λ (b : Block). b.sources) c.self.view_is) in
     rw (← c.self.view_is)
     (λ lane h. ap (λ row. bit_at row lane) (get_or_read rows c.args.source c.index.result.now within c.index.ensures [])
-    ∙ sym (column_at rows lane c.args.source within)
+    ∙ sym (column_at rows lane c.args.source)
     ∙ sym (ap (λ v. bit_at v c.args.source) (columns_at rows live lane [] (omega (arith, h, length-columns rows live)))))

@@ -1,0 +1,10 @@
+pub mod Pieces
+pub mod Phrases
+pub mod Numbers
+pub mod PinLemmas
+pub mod TakeLemmas
+pub mod Lines
+pub mod NameLemmas
+pub mod WordLemmas
+pub mod OrderLemmas
+pub mod ReadSoFar

@@ -1,0 +1,209 @@
+-- The pieces of a text by its first bytes.
+use Rattle.std.proofs.Common.{◌≡◌, ◌∙◌, ℕ, zero, suc, ◌+◌, ◌<◌, ◌≤◌, Bool, true, false, List, [], ◌∷◌, length, take, drop, refl, ap, arith, one-add}
+use Rattle.std.specs.Prelude.{nat_le, not, ◌&&◌, ◌||◌, ◌==◌, if◌then◌else◌}
+use Rattle.std.specs.List.{prefix_len}
+use Rattle.std.proofs.lemmas.Bool.Decides.{nat_tests}
+use Rattle.std.proofs.lemmas.List.Sums.{prefix_len-le-length}
+use Rattle.bench_reader.specs.Tokens.{Text, is_blank, is_name_byte, Piece, blank_piece, open_bracket, close_bracket, comma_mark, equals_mark, name_run, bad_byte, join_name, with_byte, pieces, piece_length}
+use Rattle.bench_reader.specs.Numbering.{begins_with, begins_with_name}
+
+-- whether pieces begin with a mark, and whether there are none
+abbrev pub opens : List Piece → Bool
+opens (open_bracket ∷ ps) = true
+opens _ = false
+
+abbrev pub closes : List Piece → Bool
+closes (close_bracket ∷ ps) = true
+closes _ = false
+
+abbrev pub parts : List Piece → Bool
+parts (comma_mark ∷ ps) = true
+parts _ = false
+
+abbrev pub equates : List Piece → Bool
+equates (equals_mark ∷ ps) = true
+equates _ = false
+
+abbrev pub is_nil : List Piece → Bool
+is_nil [] = true
+is_nil _ = false
+
+-- what fails of each case fails of the choice
+choose : (p : List Piece → Bool) (t1 t2 t3 t4 t5 t6 : Bool) (x1 x2 x3 x4 x5 x6 x7 : List Piece)
+    → (t1 ≡ true → p x1 ≡ false) → (t2 ≡ true → p x2 ≡ false) → (t3 ≡ true → p x3 ≡ false) → (t4 ≡ true → p x4 ≡ false) → (t5 ≡ true → p x5 ≡ false) → (t6 ≡ true → p x6 ≡ false) → p x7 ≡ false
+    → p (if t1 then x1 else if t2 then x2 else if t3 then x3 else if t4 then x4 else if t5 then x5 else if t6 then x6 else x7) ≡ false
+choose p true t2 t3 t4 t5 t6 x1 x2 x3 x4 x5 x6 x7 h1 h2 h3 h4 h5 h6 h7 = h1 refl
+choose p false true t3 t4 t5 t6 x1 x2 x3 x4 x5 x6 x7 h1 h2 h3 h4 h5 h6 h7 = h2 refl
+choose p false false true t4 t5 t6 x1 x2 x3 x4 x5 x6 x7 h1 h2 h3 h4 h5 h6 h7 = h3 refl
+choose p false false false true t5 t6 x1 x2 x3 x4 x5 x6 x7 h1 h2 h3 h4 h5 h6 h7 = h4 refl
+choose p false false false false true t6 x1 x2 x3 x4 x5 x6 x7 h1 h2 h3 h4 h5 h6 h7 = h5 refl
+choose p false false false false false true x1 x2 x3 x4 x5 x6 x7 h1 h2 h3 h4 h5 h6 h7 = h6 refl
+choose p false false false false false false x1 x2 x3 x4 x5 x6 x7 h1 h2 h3 h4 h5 h6 h7 = h7
+
+-- what holds of no name first doesn't hold of a joined name
+joined : (p : List Piece → Bool) → ((text : Text) (ps : List Piece) → p (name_run text ∷ ps) ≡ false) → (b : ℕ) (ps : List Piece) → p (join_name b ps) ≡ false
+joined p none b (name_run text ∷ ps) = none (b ∷ text) ps
+joined p none b _ = none (b ∷ []) _
+
+module _ (b : ℕ) (ps : List Piece) where
+  not_open : (b == 40) ≡ false → opens (with_byte b ps) ≡ false
+  not_open e = choose opens (is_blank b) (b == 40) (b == 41) (b == 44) (b == 61) (is_name_byte b) _ _ _ _ _ _ _ (λ t. refl) (λ t. cc) (λ t. refl) (λ t. refl) (λ t. refl) (λ t. joined opens (λ text ps. refl) b ps) refl
+
+  not_close : (b == 41) ≡ false → closes (with_byte b ps) ≡ false
+  not_close e = choose closes (is_blank b) (b == 40) (b == 41) (b == 44) (b == 61) (is_name_byte b) _ _ _ _ _ _ _ (λ t. refl) (λ t. refl) (λ t. cc) (λ t. refl) (λ t. refl) (λ t. joined closes (λ text ps. refl) b ps) refl
+
+  not_comma : (b == 44) ≡ false → parts (with_byte b ps) ≡ false
+  not_comma e = choose parts (is_blank b) (b == 40) (b == 41) (b == 44) (b == 61) (is_name_byte b) _ _ _ _ _ _ _ (λ t. refl) (λ t. refl) (λ t. refl) (λ t. cc) (λ t. refl) (λ t. joined parts (λ text ps. refl) b ps) refl
+
+  not_equals : (b == 61) ≡ false → equates (with_byte b ps) ≡ false
+  not_equals e = choose equates (is_blank b) (b == 40) (b == 41) (b == 44) (b == 61) (is_name_byte b) _ _ _ _ _ _ _ (λ t. refl) (λ t. refl) (λ t. refl) (λ t. refl) (λ t. cc) (λ t. joined equates (λ text ps. refl) b ps) refl
+
+  not_name : is_name_byte b ≡ false → begins_with_name (with_byte b ps) ≡ false
+  not_name e = choose begins_with_name (is_blank b) (b == 40) (b == 41) (b == 44) (b == 61) (is_name_byte b) _ _ _ _ _ _ _ (λ t. refl) (λ t. refl) (λ t. refl) (λ t. refl) (λ t. refl) (λ t. cc) refl
+
+  not_nil : is_nil (with_byte b ps) ≡ false
+  not_nil = choose is_nil (is_blank b) (b == 40) (b == 41) (b == 44) (b == 61) (is_name_byte b) _ _ _ _ _ _ _ (λ t. refl) (λ t. refl) (λ t. refl) (λ t. refl) (λ t. refl) (λ t. joined is_nil (λ text ps. refl) b ps) refl
+
+pub opens_not : (text : Text) → begins_with 40 text ≡ false → opens (pieces text) ≡ false
+unfolding pieces
+opens_not [] e = refl
+opens_not (b ∷ bytes) e = not_open b (pieces bytes) e
+
+pub closes_not : (text : Text) → begins_with 41 text ≡ false → closes (pieces text) ≡ false
+unfolding pieces
+closes_not [] e = refl
+closes_not (b ∷ bytes) e = not_close b (pieces bytes) e
+
+pub parts_not : (text : Text) → begins_with 44 text ≡ false → parts (pieces text) ≡ false
+unfolding pieces
+parts_not [] e = refl
+parts_not (b ∷ bytes) e = not_comma b (pieces bytes) e
+
+pub equates_not : (text : Text) → begins_with 61 text ≡ false → equates (pieces text) ≡ false
+unfolding pieces
+equates_not [] e = refl
+equates_not (b ∷ bytes) e = not_equals b (pieces bytes) e
+
+pub some_piece : (text : Text) → 0 < length text → is_nil (pieces text) ≡ false
+unfolding pieces
+some_piece [] h = absurd (omega arith)
+some_piece (b ∷ bytes) h = not_nil b (pieces bytes)
+
+-- ---- marks and names
+
+pub open_first : (text : Text) → pieces (40 ∷ text) ≡ open_bracket ∷ pieces text
+unfolding pieces
+open_first text = refl
+
+pub close_first : (text : Text) → pieces (41 ∷ text) ≡ close_bracket ∷ pieces text
+unfolding pieces
+close_first text = refl
+
+pub comma_first : (text : Text) → pieces (44 ∷ text) ≡ comma_mark ∷ pieces text
+unfolding pieces
+comma_first text = refl
+
+pub equals_first : (text : Text) → pieces (61 ∷ text) ≡ equals_mark ∷ pieces text
+unfolding pieces
+equals_first text = refl
+
+pub no_pieces : pieces [] ≡ []
+unfolding pieces
+no_pieces = refl
+
+-- a byte of a name is no other byte
+apart : (b n : ℕ) → nat_le 33 b ≡ true → n < 33 → (b == n) ≡ false
+apart b n h l = grind (arith, nat_tests)
+
+names_join : (b : ℕ) (ps : List Piece) (t1 t2 t3 t4 t5 t6 t7 low high : Bool) → (low && high && not (t2 || t3 || t4 || t5 || t7)) ≡ true → t1 ≡ false
+    → (if t1 then blank_piece ∷ ps else if t2 then open_bracket ∷ ps else if t3 then close_bracket ∷ ps else if t4 then comma_mark ∷ ps else if t5 then equals_mark ∷ ps else if t6 then join_name b ps else bad_byte ∷ ps)
+    ≡ (if t6 then join_name b ps else bad_byte ∷ ps)
+names_join b ps false false false false false t6 t7 low high e f = refl
+names_join b ps true t2 t3 t4 t5 t6 t7 low high e f = cc
+names_join b ps false t2 t3 t4 t5 t6 t7 false high e f = cc
+names_join b ps false t2 t3 t4 t5 t6 t7 true false e f = cc
+names_join b ps false true t3 t4 t5 t6 t7 true true e f = cc
+names_join b ps false false true t4 t5 t6 t7 true true e f = cc
+names_join b ps false false false true t5 t6 t7 true true e f = cc
+names_join b ps false false false false true t6 t7 true true e f = cc
+
+and_left : (x y : Bool) → (x && y) ≡ true → x ≡ true
+and_left true y e = refl
+and_left false y e = cc
+
+name_joins : (b : ℕ) (ps : List Piece) → is_name_byte b ≡ true → with_byte b ps ≡ join_name b ps
+unfolding is_name_byte
+name_joins b ps e =
+    let low : nat_le 33 b ≡ true = and_left _ _ (and_left _ _ e) in
+    let blank : is_blank b ≡ false = rw (apart b 32 low (omega arith), apart b 9 low (omega arith), apart b 10 low (omega arith), apart b 13 low (omega arith)) refl in
+    names_join b ps (is_blank b) (b == 40) (b == 41) (b == 44) (b == 61) (nat_le 33 b && nat_le b 126 && not (b == 40 || b == 41 || b == 44 || b == 61 || b == 35)) (b == 35) (nat_le 33 b) (nat_le b 126) e blank ∙ rw e refl
+
+alone : (b : ℕ) (ps : List Piece) → begins_with_name ps ≡ false → join_name b ps ≡ name_run (b ∷ []) ∷ ps
+alone b (name_run text ∷ ps) e = cc
+alone b _ e = refl
+
+-- a text that begins with so many bytes of a name
+abbrev pub with_run : Text → List Piece → List Piece
+with_run [] ps = ps
+with_run (b ∷ bytes) ps = name_run (b ∷ bytes) ∷ ps
+
+grow : (b : ℕ) (run : Text) (ps : List Piece) → begins_with_name ps ≡ false → join_name b (with_run run ps) ≡ name_run (b ∷ run) ∷ ps
+grow b [] ps e = alone b ps e
+grow b (x ∷ xs) ps e = refl
+
+pub record Cut (text : Text) (n : ℕ) : Type 0 where
+  pub run : pieces text ≡ with_run (take n text) (pieces (drop n text))
+  pub stops : begins_with_name (pieces (drop n text)) ≡ false
+
+pub cut_name : (text : Text) → Cut text (prefix_len is_name_byte text)
+unfolding pieces
+cut_name [] = record { run = refl; stops = refl }
+cut_name (b ∷ bytes) = by (is_name_byte b) refl (cut_name bytes)
+  where
+    by : (t : Bool) → is_name_byte b ≡ t → Cut bytes (prefix_len is_name_byte bytes) → Cut (b ∷ bytes) (if t then 1 + prefix_len is_name_byte bytes else 0)
+    by true e rest = rw one-add (record { run = name_joins b (pieces bytes) e ∙ ap (join_name b) rest.run ∙ grow b _ _ rest.stops; stops = rest.stops })
+    by false e rest = record { run = refl; stops = not_name b (pieces bytes) e }
+
+pub name_first : (text : Text) (n : ℕ) → n ≡ prefix_len is_name_byte text → 0 < n → pieces text ≡ name_run (take n text) ∷ pieces (drop n text)
+name_first text n e h = rw (← e) at (cut_name text).run ∙ run_is text n (rw e (prefix_len-le-length is_name_byte text)) h
+  where
+    run_is : (text : Text) (n : ℕ) → n ≤ length text → 0 < n → with_run (take n text) (pieces (drop n text)) ≡ name_run (take n text) ∷ pieces (drop n text)
+    run_is [] n l h = absurd (omega arith)
+    run_is (b ∷ bytes) zero l h = absurd (omega arith)
+    run_is (b ∷ bytes) (suc n) l h = refl
+
+pub no_name : (text : Text) → prefix_len is_name_byte text ≡ 0 → begins_with_name (pieces text) ≡ false
+no_name text e = rw e at (cut_name text).stops
+
+-- ---- how many pieces there are, and how long they are together
+
+each_choice : (P : List Piece → Type 0) (t1 t2 t3 t4 t5 t6 : Bool) (x1 x2 x3 x4 x5 x6 x7 : List Piece) → P x1 → P x2 → P x3 → P x4 → P x5 → P x6 → P x7
+    → P (if t1 then x1 else if t2 then x2 else if t3 then x3 else if t4 then x4 else if t5 then x5 else if t6 then x6 else x7)
+each_choice P true t2 t3 t4 t5 t6 x1 x2 x3 x4 x5 x6 x7 h1 h2 h3 h4 h5 h6 h7 = h1
+each_choice P false true t3 t4 t5 t6 x1 x2 x3 x4 x5 x6 x7 h1 h2 h3 h4 h5 h6 h7 = h2
+each_choice P false false true t4 t5 t6 x1 x2 x3 x4 x5 x6 x7 h1 h2 h3 h4 h5 h6 h7 = h3
+each_choice P false false false true t5 t6 x1 x2 x3 x4 x5 x6 x7 h1 h2 h3 h4 h5 h6 h7 = h4
+each_choice P false false false false true t6 x1 x2 x3 x4 x5 x6 x7 h1 h2 h3 h4 h5 h6 h7 = h5
+each_choice P false false false false false true x1 x2 x3 x4 x5 x6 x7 h1 h2 h3 h4 h5 h6 h7 = h6
+each_choice P false false false false false false x1 x2 x3 x4 x5 x6 x7 h1 h2 h3 h4 h5 h6 h7 = h7
+
+abbrev pub total : List Piece → ℕ
+total [] = 0
+total (p ∷ ps) = piece_length p + total ps
+
+-- one byte more, and at most one piece more
+abbrev Grows : List Piece → List Piece → Type 0
+Grows ps qs = (total qs ≡ suc (total ps)) × (length qs ≤ suc (length ps))
+
+joined_grows : (b : ℕ) (ps : List Piece) → Grows ps (join_name b ps)
+joined_grows b (name_run text ∷ ps) = (omega arith, omega arith)
+joined_grows b _ = (omega arith, omega arith)
+
+byte_grows : (b : ℕ) (ps : List Piece) → Grows ps (with_byte b ps)
+byte_grows b ps = each_choice (Grows ps) (is_blank b) (b == 40) (b == 41) (b == 44) (b == 61) (is_name_byte b) _ _ _ _ _ _ _
+    (omega arith, omega arith) (omega arith, omega arith) (omega arith, omega arith) (omega arith, omega arith) (omega arith, omega arith) (joined_grows b ps) (omega arith, omega arith)
+
+pub pieces_size : (text : Text) → (total (pieces text) ≡ length text) × (length (pieces text) ≤ length text)
+unfolding pieces
+pieces_size [] = (refl, omega arith)
+pieces_size (b ∷ bytes) = let h = pieces_size bytes in let g = byte_grows b (pieces bytes) in (g.0 ∙ ap suc h.0, omega (arith, g.1, h.1))

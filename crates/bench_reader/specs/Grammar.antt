@@ -1,0 +1,69 @@
+-- The statements of a netlist, as forms of token lists.
+use Rattle.std.specs.Prelude.{ℕ, Bool, List, [], ◌∷◌, find, codes, Option, None, Some, option_map, option_and_then, ◌==◌, if◌then◌else◌}
+use Rattle.std.specs.Str.{bytes_eq}
+use Rattle.net_model.specs.declared.gate.Kind.{Kind}
+use Rattle.net_model.specs.declared.gate.Kind.TheVariants.{Nand, Buff}
+use Rattle.net_model.specs.Gate.{takes_pins}
+use Rattle.bench_reader.specs.Tokens.{Text, open_bracket, close_bracket, comma_mark, equals_mark, name_run, Token}
+
+-- ---- words
+
+pub data Driver : Type 0 where
+  gate_driver : Kind → Driver
+  flip_flop_driver : Driver
+
+abbrev pub drivers : List (Text × Driver)
+drivers = (codes "NAND", gate_driver Nand) ∷ (codes "BUFF", gate_driver Buff) ∷ []
+
+-- what a gate word says
+unfoldable pub driver_of : Text → Option Driver
+driver_of word = option_map (λ x. x.1) (find (λ x. bytes_eq word x.0) drivers)
+
+-- whether a gate may have so many pins
+abbrev pub takes : Driver → ℕ → Bool
+takes (gate_driver kind) n = takes_pins kind n
+takes flip_flop_driver n = n == 1
+
+-- ---- statements
+
+-- a name, and the number of its first byte
+abbrev pub Named : Type 0
+Named = Text × ℕ
+
+-- an input, an observed name, and a gate: the name that it drives, its word and its pins
+pub data Phrase : Type 0 where
+  input_phrase : Named → Phrase
+  output_phrase : Named → Phrase
+  gate_phrase : Named → Driver → Named → List Named → Phrase
+
+-- the pins of a gate, up to the closing bracket
+unfoldable pub pins_of : List Token → Option (List Named)
+pins_of ((name_run text, at) ∷ (close_bracket, b) ∷ []) = Some ((text, at) ∷ [])
+pins_of ((name_run text, at) ∷ (comma_mark, b) ∷ tokens) = option_map (λ pins. (text, at) ∷ pins) (pins_of tokens)
+pins_of _ = None
+
+unfoldable pub observed_phrase : Text → Named → Option Phrase
+observed_phrase word n = if bytes_eq word (codes "INPUT") then Some (input_phrase n) else if bytes_eq word (codes "OUTPUT") then Some (output_phrase n) else None
+
+unfoldable pub driven_phrase : Named → Named → List Token → Option Phrase
+driven_phrase n word tokens = option_and_then (λ driver. option_map (gate_phrase n driver word) (pins_of tokens)) (driver_of word.0)
+
+-- the statement that a whole list of tokens is, with any number of pins, if it is one
+unfoldable pub phrase_of : List Token → Option Phrase
+phrase_of ((name_run word, a) ∷ (open_bracket, b) ∷ (name_run text, at) ∷ (close_bracket, d) ∷ []) = observed_phrase word (text, at)
+phrase_of ((name_run text, at) ∷ (equals_mark, b) ∷ (name_run word, w) ∷ (open_bracket, d) ∷ tokens) = driven_phrase (text, at) (word, w) tokens
+phrase_of _ = None
+
+-- ---- the names of a statement
+
+-- the name that a statement drives
+abbrev pub driven_name : Phrase → Option Named
+driven_name (input_phrase n) = Some n
+driven_name (output_phrase n) = None
+driven_name (gate_phrase n driver word pins) = Some n
+
+-- all its names, as written
+abbrev pub phrase_names : Phrase → List Named
+phrase_names (input_phrase n) = n ∷ []
+phrase_names (output_phrase n) = n ∷ []
+phrase_names (gate_phrase n driver word pins) = n ∷ pins

@@ -1,0 +1,66 @@
+-- The pieces of a line. Together they are the whole line.
+use Rattle.std.specs.Prelude.{ℕ, ◌+◌, Bool, not, ◌&&◌, ◌||◌, List, [], ◌∷◌, length, take, count_by, nat_le, ◌==◌, if◌then◌else◌}
+
+abbrev pub Text : Type 0
+Text = List ℕ
+
+-- ---- bytes
+
+-- space, tab, LF and CR
+abbrev pub is_blank : ℕ → Bool
+is_blank b = b == 32 || b == 9 || b == 10 || b == 13
+
+-- the printable bytes but for ( ) , = and #
+unfoldable pub is_name_byte : ℕ → Bool
+is_name_byte b = nat_le 0x21 b && nat_le b 0x7E && not (b == 40 || b == 41 || b == 44 || b == 61 || b == 35)
+
+-- ---- pieces
+
+pub data Piece : Type 0 where
+  blank_piece : Piece
+  open_bracket : Piece
+  close_bracket : Piece
+  comma_mark : Piece
+  equals_mark : Piece
+  name_run : Text → Piece
+  bad_byte : Piece
+
+-- a byte of a name before the pieces behind it: it joins a name that begins there
+abbrev pub join_name : ℕ → List Piece → List Piece
+join_name b (name_run text ∷ pieces) = name_run (b ∷ text) ∷ pieces
+join_name b pieces = name_run (b ∷ []) ∷ pieces
+
+-- a byte before the pieces behind it
+abbrev pub with_byte : ℕ → List Piece → List Piece
+with_byte b pieces =
+    if is_blank b then blank_piece ∷ pieces
+    else if b == 40 then open_bracket ∷ pieces
+    else if b == 41 then close_bracket ∷ pieces
+    else if b == 44 then comma_mark ∷ pieces
+    else if b == 61 then equals_mark ∷ pieces
+    else if is_name_byte b then join_name b pieces
+    else bad_byte ∷ pieces
+
+-- the pieces of a text without comments: names are the longest runs of their bytes
+unfoldable pub pieces : Text → List Piece
+pieces [] = []
+pieces (b ∷ bytes) = with_byte b (pieces bytes)
+
+abbrev pub piece_length : Piece → ℕ
+piece_length (name_run text) = length text
+piece_length _ = 1
+
+-- ---- tokens
+
+-- a piece, and the number of its first byte
+abbrev pub Token : Type 0
+Token = Piece × ℕ
+
+-- the pieces, the first of which begins at this byte
+abbrev pub placed_pieces : ℕ → List Piece → List Token
+placed_pieces byte [] = []
+placed_pieces byte (piece ∷ pieces) = (piece, byte) ∷ placed_pieces (byte + piece_length piece) pieces
+
+-- the line of a byte
+abbrev pub line_of : Text → ℕ → ℕ
+line_of text byte = count_by (λ b. b == 10) (take byte text) + 1

@@ -1,0 +1,107 @@
+//! The statements of a netlist.
+ghost use Rattle.std.specs.Prelude.{◌≡◌, ◌<◌, ◌++◌, ◌∷◌, [], length, slice_index_or, OnOk, OnErr};
+ghost use Rattle.bench_reader.specs.InOrder.{IsInOrder};
+
+use crate::fault::Place;
+use indexmap::IndexSet;
+use net_model::Kind;
+use std::alloc::{AllocError, Global};
+use std::marker::Model;
+
+/// A name by its number, and where it stands.
+#[derive(Clone, Copy, Debug, PartialEq, Eq)]
+pub struct Word {
+    pub name: u32,
+    pub place: Place,
+}
+
+/// A list of words.
+#[derive(Debug, Drop)]
+pub struct Words {
+    words: Vec<Word>,
+}
+
+impl Model for Words {
+    ghost use Rattle.std.specs.Prelude.{List};
+    ghost use Rattle.bench_reader.specs.declared.statement.Word.{Word};
+
+    ghost Value = { List Word };
+
+    ghost view = { λ a. a.words.items };
+}
+
+impl Words {
+    pub(crate) fn new(alloc: Global) -> Words
+        ensures { result ≡ [] }
+    {
+        Words {
+            words: Vec::new(alloc),
+        }
+    }
+
+    pub(crate) fn push(&mut self, word: Word) -> Result<(), AllocError>
+        ensures ok { OnOk result (self.new ≡ self.old ++ word ∷ []) }
+        ensures err { OnErr result (self.new ≡ self.old) }
+    {
+        self.words.push(word)?;
+        Ok(())
+    }
+
+    pub fn as_slice(&self) -> &[Word]
+        ensures { result.now ≡ self.now }
+    {
+        self.words.as_slice()
+    }
+}
+
+/// An input; an observed name; a gate with the name that it drives and its pins; a flip-flop with its output and its data pin.
+#[derive(Debug, Drop)]
+pub enum Statement {
+    Input(Word),
+    Output(Word),
+    Drive(Word, Kind, Words),
+    Flop(Word, Word),
+}
+
+/// The statements of a netlist, and its names by number.
+#[derive(Drop)]
+pub struct Statements {
+    pub(crate) statements: Vec<Statement>,
+    pub(crate) names: IndexSet<Vec<u8>>,
+}
+
+impl Model for Statements {
+    ghost use Rattle.bench_reader.specs.Netlist.{Netlist};
+
+    ghost Value = { Netlist };
+
+    ghost use Rattle.bench_reader.specs.Fields.{netlist_in, IsSound};
+
+    ghost view = { netlist_in };
+
+    ghost invariant = { IsSound };
+}
+
+impl Statements {
+    pub fn as_slice(&self) -> &[Statement]
+        ensures statements { result.now ≡ self.now.statements }
+        ensures order { IsInOrder self.now }
+    {
+        self.statements.as_slice()
+    }
+
+    /// The name of a number.
+    pub fn name(&self, number: u32) -> &[u8]
+        requires { number < length self.now.names }
+        ensures { result.now ≡ slice_index_or self.now.names number [] }
+    {
+        self.names[number as usize].as_slice()
+    }
+
+    /// How many names there are.
+    pub fn names_len(&self) -> u32
+        ensures { result ≡ length self.now.names }
+    {
+        self.names.len() as u32
+    }
+}

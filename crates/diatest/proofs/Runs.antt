@@ -1,0 +1,248 @@
+-- From what the last steps of a run do to what the whole run promises.
+use Rattle.std.proofs.Common.{◌≡◌, ◌≢◌, ℕ, zero, suc, Bool, true, false, ◌<◌, ◌⊎◌, List, [], ◌∷◌, ◌++◌, take, length, Option, Some, None, Ok, Err, refl, sym, ap, subst, ◌∙◌, inl, inr, arith, zero-le, IsTrue}
+use Rattle.std.specs.FinMap.{get, insert}
+use Rattle.diag_shelf.specs.World.{Files, World, State, appended}
+use Rattle.diag_shelf.specs.declared.shelf.ShelfFault.{ShelfFault}
+use Rattle.diag_shelf.specs.declared.shelf.ShelfFault.TheVariants.{Failed, NoMemory}
+use Rattle.std.proofs.Math.Nat.{le_refl}
+use Rattle.std.proofs.lemmas.List.{append-nil, take_all}
+use Rattle.std.proofs.lemmas.Bool.{cases_lt}
+use Rattle.diag_shelf.specs.Calls.{Told, OfSome, Same, SameFacts, OnlyReads, Creates, Writes, Prints, IsWriteCall}
+use Rattle.diag_shelf.proofs.FileMaps.{get_off_insert, insert_again, held_at_insert}
+use Rattle.diatest.specs.Request.{Text, Request, outputs_of}
+use Rattle.diatest.specs.Outcome.{Outcome, CallsFor, MayLeave, IsCut, IsCutText, IsPartOf, Leaves, after_made, said, saved}
+use Rattle.diatest.specs.Ran.{IsAmong, Ends, Ran}
+
+-- all files of the outcome have these names
+abbrev pub MadeAmong : List (Text × List ℕ) → List Text → Type 0
+MadeAmong [] names = Unit {0}
+MadeAmong (m ∷ made) names = IsAmong m.0 names × MadeAmong made names
+
+-- an outcome that these words may have
+pub record Fits (request : Option Request) (o : Outcome) (Part : List (Text × List ℕ) → List ℕ → Type 0) : Type 0 where
+  pub below : o.status < 7
+  pub words : o.status ≡ 2 → request ≡ None
+  pub not_understood : request ≡ None → o.status ≡ 2
+  pub names : (made : List (Text × List ℕ)) (text : List ℕ) → Part made text → MadeAmong made (outputs_of request)
+
+apart : (name x : Text) (names : List Text) → IsAmong x names → ¬ IsAmong name names → name ≢ x
+apart name x names among off e = off (subst (λ (n : Text). IsAmong n names) (sym e) among)
+
+others_after : (made : List (Text × List ℕ)) (names : List Text) (files : Files) (name : Text) → MadeAmong made names → ¬ IsAmong name names → get (after_made made files) name ≡ get files name
+others_after [] names files name among off = refl
+others_after (m ∷ made) names files name among off =
+    others_after made names (insert files m.0 m.1) name among.1 off ∙ get_off_insert files m.0 m.1 name (apart name m.0 names among.0 off)
+
+-- the files of a part have the names of the whole
+pub cut_among : (cut whole : List (Text × List ℕ)) (names : List Text) → IsCut cut whole → MadeAmong whole names → MadeAmong cut names
+cut_among [] whole names cut among = tt
+cut_among (c ∷ cs) [] names cut among = absurd cut
+cut_among (c ∷ []) (m ∷ whole) names cut among = (subst (λ (n : Text). IsAmong n names) (sym cut.0) among.0, tt)
+cut_among (c ∷ d ∷ cs) (m ∷ whole) names cut among =
+    (subst (λ (n : Text × List ℕ). IsAmong n.0 names) (sym cut.0) among.0, cut_among (d ∷ cs) whole names cut.1 among.1)
+
+leaves_moved : {made : List (Text × List ℕ)} {text : List ℕ} {u v w : World} → OnlyReads u v → Leaves made text v w → Leaves made text u w
+leaves_moved {made} {text} only l = record { files = l.files ∙ ap (after_made made) only.files; console = l.console ∙ ap (λ (x : List ℕ). x ++ text) only.console }
+
+-- what was read before doesn't matter
+pub ends_moved : {o : Outcome} {Part : List (Text × List ℕ) → List ℕ → Type 0} {status : ℕ} {a b c : State} → SameFacts a b → Told a b OnlyReads → Ends o Part status b c → Ends o Part status a c
+ends_moved {o} {Part} {status} {a} {b} {c} s r e = record {
+  reads = e.reads ∙ s.reads;
+  later = omega (arith, e.later, s.writes);
+  answered = e.answered;
+  write_fault = λ h. omega (arith, e.write_fault h, s.writes);
+  writes_failed = λ h. e.writes_failed (omega (arith, s.writes));
+  whole = λ h told. leaves_moved (r told) (e.whole h (s.tells ∙ told));
+  part = λ told. let l = e.part (s.tells ∙ told) in (l.0, l.1, l.2, leaves_moved (r told) l.3);
+  sure = λ h. e.sure (s.sure ∙ h) ∙ s.writes;
+}
+
+-- bytes that are written to a new file are the file
+pub written_anew : (files : Files) (name bytes : List ℕ) → appended (Some name) (insert files name []) bytes ≡ insert files name bytes
+written_anew files name [] = refl
+written_anew files name (b ∷ bytes) =
+    insert_again files name [] _ ∙ ap (λ (h : List ℕ). insert files name (h ++ b ∷ bytes)) (held_at_insert files name [])
+
+made_anew : {name bytes : List ℕ} {a b c : World} → Creates name a b → Writes bytes b c → c.files ≡ insert a.files name bytes
+made_anew {name} {bytes} {a} {b} {c} created w =
+    w.files ∙ ap (λ (o : Option (List ℕ)). appended o b.files bytes) created.written ∙ ap (λ (f : Files). appended (Some name) f bytes) created.files ∙ written_anew a.files name bytes
+
+saved_then : {name bytes text : List ℕ} {a b c d : World} → Creates name a b → Writes bytes b c → Leaves [] text c d → Leaves ((name, bytes) ∷ []) text a d
+saved_then {name} {bytes} {text} k w l = record { files = l.files ∙ made_anew k w; console = l.console ∙ ap (λ (s : List ℕ). s ++ text) (w.console ∙ k.console) }
+
+nothing_made : (made : List (Text × List ℕ)) {text : List ℕ} {u v : World} → IsCut made [] → Leaves made text u v → Leaves [] text u v
+nothing_made [] cut l = l
+nothing_made (m ∷ made) cut l = absurd cut
+
+-- the status of a fault of a write
+pub record IsWriteStatus (fault : ShelfFault) (status : ℕ) : Type 0 where
+  pub failed : fault ≡ Failed → status ≡ 8
+  pub memory : fault ≡ NoMemory → status ≡ 9
+
+pub status_of : (fault : ShelfFault) (status : ℕ) → IsWriteStatus fault status → (status ≡ 8) ⊎ (status ≡ 9)
+status_of Failed status h = inl (h.failed refl)
+status_of NoMemory status h = inr (h.memory refl)
+
+failed_of : (fault : ShelfFault) (status : ℕ) → IsWriteStatus fault status → status ≡ 8 → fault ≡ Failed
+failed_of Failed status h e = refl
+failed_of NoMemory status h e = let n = h.memory refl in absurd (omega arith)
+
+pub not_done : (status : ℕ) → (status ≡ 8) ⊎ (status ≡ 9) → status ≡ 0 → ⊥
+not_done status (inl a) z = omega arith
+not_done status (inr a) z = omega arith
+
+apart_from : (meant status : ℕ) → meant < 7 → (status ≡ 8) ⊎ (status ≡ 9) → status ≡ meant → ⊥
+apart_from meant status lt (inl a) z = omega arith
+apart_from meant status lt (inr a) z = omega arith
+
+still : {T : Type 0} (fault : ShelfFault) (a b : State) → IsWriteCall {T = T} (Err fault) a b → IsTrue a.sure → ¬ (fault ≡ Failed) → b.write_faults ≡ a.write_faults
+still Failed a b call s n = absurd (n refl)
+still NoMemory a b call s n = call.memory s refl
+
+-- a text was said
+pub ends_said : {T : Type 0} {x : T} {status : ℕ} {text : List ℕ} {a b : State} → status < 7 → IsWriteCall (Ok x) a b → Told a b (Prints text) → Ends (said status text) (IsPartOf (said status text)) status a b
+ends_said {T} {x} {status} {text} {a} {b} below call printed = record {
+  reads = call.reads;
+  later = call.later;
+  answered = inl refl;
+  write_fault = λ e. absurd (omega arith);
+  writes_failed = λ h. absurd (omega (arith, call.ok));
+  whole = λ e told. let p = printed told in record { files = p.files; console = p.console };
+  part = λ told.
+      let p = printed told in
+      ([], text, record { files = tt; console = (length text, le_refl (length text), sym (take_all (length text) text (le_refl (length text)))); order = λ _. refl }, record { files = p.files; console = p.console });
+  sure = λ s. call.ok;
+}
+
+-- a beginning of a text was said
+pub ends_said_part : {T : Type 0} {fault : ShelfFault} {meant status : ℕ} {text : List ℕ} {a b : State} → meant < 7 → IsWriteCall {T = T} (Err fault) a b → Told a b (OfSome Prints text) → (IsTrue a.sure → fault ≡ Failed → ⊥) → IsWriteStatus fault status → Ends (said meant text) (IsPartOf (said meant text)) status a b
+ends_said_part {T} {fault} {meant} {status} {text} {a} {b} below call printed never is = record {
+  reads = call.reads;
+  later = call.later;
+  answered = inr (status_of fault status is);
+  write_fault = λ e. call.failed (ap Err (failed_of fault status is e));
+  writes_failed = λ _. status_of fault status is;
+  whole = λ e. absurd (apart_from meant status below (status_of fault status is) e);
+  part = λ told.
+      let p = printed told in
+      ([], take p.0 text, record { files = tt; console = (p.0, p.1, refl); order = λ _. refl }, record { files = p.2.files; console = p.2.console });
+  sure = λ s. still fault a b call s (never s);
+}
+
+-- no file was made
+pub ends_unmade : {T : Type 0} {fault : ShelfFault} {name bytes text : List ℕ} {Part : List (Text × List ℕ) → List ℕ → Type 0} {status : ℕ} {a b : State} → Part [] [] → IsWriteCall {T = T} (Err fault) a b → Told a b Same → (IsTrue a.sure → fault ≡ Failed → ⊥) → IsWriteStatus fault status → Ends (saved name bytes text) Part status a b
+ends_unmade {T} {fault} {name} {bytes} {text} {Part} {status} {a} {b} none call same never is = record {
+  reads = call.reads;
+  later = call.later;
+  answered = inr (status_of fault status is);
+  write_fault = λ e. call.failed (ap Err (failed_of fault status is e));
+  writes_failed = λ _. status_of fault status is;
+  whole = λ e. absurd (not_done status (status_of fault status is) e);
+  part = λ told. let p = same told in ([], [], none, record { files = p.files; console = p.console ∙ sym (append-nil a.world.console) });
+  sure = λ s. still fault a b call s (never s);
+}
+
+-- a new file was made, and a part of it was written
+pub ends_cut : {T U : Type 0} {x : T} {fault : ShelfFault} {name bytes text : List ℕ} {Part : List (Text × List ℕ) → List ℕ → Type 0} {status : ℕ} {a b c : State} → (IsTrue b.sure → IsTrue b.tells) → IsWriteCall (Ok x) a b → Told a b (Creates name) → IsWriteCall {T = U} (Err fault) b c → Told b c (λ u v. (part : List ℕ) × Part ((name, part) ∷ []) [] × Writes part u v) → (IsTrue b.sure → fault ≡ Failed → b.world.written ≡ None) → IsWriteStatus fault status → Ends (saved name bytes text) Part status a c
+ends_cut {T} {U} {x} {fault} {name} {bytes} {text} {Part} {status} {a} {b} {c} law made created wrote cut absent is = record {
+  reads = wrote.reads ∙ made.reads;
+  later = omega (arith, wrote.later, made.later);
+  answered = inr (status_of fault status is);
+  write_fault = λ e. omega (arith, wrote.failed (ap Err (failed_of fault status is e)), made.ok);
+  writes_failed = λ _. status_of fault status is;
+  whole = λ e. absurd (not_done status (status_of fault status is) e);
+  part = λ told.
+      let k = created told in
+      let w = cut (made.tells ∙ told) in
+      ((name, w.0) ∷ [], [], w.1, record { files = made_anew k w.2; console = w.2.console ∙ k.console ∙ sym (append-nil a.world.console) });
+  sure = λ s.
+      let sb = made.sure ∙ s in
+      let none : fault ≡ Failed → ⊥ = λ e. let w = absent sb e in let k = (created (sym made.tells ∙ law sb)).written in cc in
+      still fault b c wrote sb none ∙ made.ok;
+}
+
+-- a new file was made whole, and then a text was said
+pub ends_saved : {T U : Type 0} {x : T} {y : U} {name bytes text : List ℕ} {Part : List (Text × List ℕ) → List ℕ → Type 0} {status : ℕ} {a b c d : State} → (IsTrue a.tells → (t : List ℕ) → IsCutText t text → Part ((name, bytes) ∷ []) t) → IsWriteCall (Ok x) a b → Told a b (Creates name) → IsWriteCall (Ok y) b c → Told b c (Writes bytes) → Ends (said 0 text) (IsPartOf (said 0 text)) status c d → Ends (saved name bytes text) Part status a d
+ends_saved {T} {U} {x} {y} {name} {bytes} {text} {Part} {status} {a} {b} {c} {d} parts made created wrote written e = record {
+  reads = e.reads ∙ wrote.reads ∙ made.reads;
+  later = omega (arith, e.later, wrote.later, made.later);
+  answered = e.answered;
+  write_fault = λ h. omega (arith, e.write_fault h, wrote.ok, made.ok);
+  writes_failed = λ h. e.writes_failed (omega (arith, wrote.ok, made.ok));
+  whole = λ h told. saved_then (created told) (written (made.tells ∙ told)) (e.whole h (wrote.tells ∙ made.tells ∙ told));
+  part = λ told.
+      let l = e.part (wrote.tells ∙ made.tells ∙ told) in
+      ((name, bytes) ∷ [], l.1, parts told l.1 l.2.console, saved_then (created told) (written (made.tells ∙ told)) (nothing_made l.0 l.2.files l.3));
+  sure = λ s. e.sure (wrote.sure ∙ made.sure ∙ s) ∙ wrote.ok ∙ made.ok;
+}
+
+-- what is there where a file was saved and a text was cut
+pub parts_saved : (name bytes text t : List ℕ) → IsCutText t text → IsPartOf (saved name bytes text) ((name, bytes) ∷ []) t
+parts_saved name bytes text t cut = record { files = (refl, (length bytes, le_refl (length bytes), sym (take_all (length bytes) bytes (le_refl (length bytes))))); console = cut; order = λ _. refl }
+
+-- ---- the whole run
+
+done_status : (o : Outcome) (status : ℕ) → (status ≡ o.status) ⊎ ((status ≡ 8) ⊎ (status ≡ 9)) → status < 8 → status ≡ o.status
+done_status o status (inl e) lt = e
+done_status o status (inr (inl e)) lt = absurd (omega arith)
+done_status o status (inr (inr e)) lt = absurd (omega arith)
+
+-- what the last steps do is what the whole run promises
+pub ran : {request : Option Request} {o : Outcome} {Part : List (Text × List ℕ) → List ℕ → Type 0} {status : ℕ} {a b : State} → Fits request o Part → (status ≡ o.status → IsTrue a.tells → CallsFor request a.world.files o) → (IsTrue a.tells → (made : List (Text × List ℕ)) (text : List ℕ) → Part made text → MayLeave request a.world.files made text) → Ends o Part status a b → Ran request status a b
+ran {request} {o} {Part} {status} {a} {b} fits called may e = record {
+  known = elim e.answered [ inl s ↦ omega (arith, fits.below) | inr f ↦ elim f [ inl x ↦ omega arith | inr x ↦ omega arith ] ];
+  causes = record {
+    read_fault = λ h. let s = done_status o status e.answered (omega arith) in absurd (omega (arith, fits.below));
+    write_fault = e.write_fault;
+    reads_failed = λ h. absurd (omega (arith, e.reads));
+    writes_failed = e.writes_failed;
+  };
+  words = λ h. fits.words (sym (done_status o status e.answered (omega arith)) ∙ h);
+  not_understood = λ h. elim e.answered [ inl s ↦ inl (s ∙ fits.not_understood h) | inr f ↦ inr f ];
+  done = λ told lt.
+      let s = done_status o status e.answered (omega arith) in
+      (o, called s told, sym s, e.whole s told);
+  unread = λ told h. let s = done_status o status e.answered (omega arith) in absurd (omega (arith, fits.below));
+  broken_off = λ told lt. let l = e.part told in inr (l.0, l.1, may told l.0 l.1 l.2, l.3);
+  others = λ told name off.
+      let l = e.part told in
+      ap (λ (f : Files). get f name) l.3.files ∙ others_after l.0 (outputs_of request) a.world.files name (fits.names l.0 l.1 l.2) off;
+  sure = λ s held. record { reads = e.reads; writes = e.sure s };
+}
+
+-- a new file was made whole, and memory was wanting for its text
+pub ends_quiet : {T U : Type 0} {x : T} {y : U} {name bytes text : List ℕ} {Part : List (Text × List ℕ) → List ℕ → Type 0} {a b c : State} → (IsTrue a.tells → Part ((name, bytes) ∷ []) []) → IsWriteCall (Ok x) a b → Told a b (Creates name) → IsWriteCall (Ok y) b c → Told b c (Writes bytes) → Ends (saved name bytes text) Part 9 a c
+ends_quiet {T} {U} {x} {y} {name} {bytes} {text} {Part} {a} {b} {c} part made created wrote written = record {
+  reads = wrote.reads ∙ made.reads;
+  later = omega (arith, wrote.ok, made.ok);
+  answered = inr (inr refl);
+  write_fault = λ e. absurd (omega arith);
+  writes_failed = λ h. absurd (omega (arith, wrote.ok, made.ok));
+  whole = λ e. absurd (omega arith);
+  part = λ told.
+      let k = created told in
+      let w = written (made.tells ∙ told) in
+      ((name, bytes) ∷ [], [], part told, record { files = made_anew k w; console = w.console ∙ k.console ∙ sym (append-nil a.world.console) });
+  sure = λ s. wrote.ok ∙ made.ok;
+}
+
+file_by : (P : List ℕ → Type 0) (a b : State) (tells : Bool) → a.tells ≡ tells → Told a b (λ u v. (file : List ℕ) × P file × Writes file u v) → (file : List ℕ) × Told a b (Writes file) × (IsTrue a.tells → P file)
+file_by P a b true e written = let w = written e in (w.0, λ told. w.2, λ told. w.1)
+file_by P a b false e written = ([], λ told. absurd (cc), λ told. absurd (cc))
+
+-- a file of which something is told where its shelf tells
+pub told_file : (P : List ℕ → Type 0) (a b : State) → Told a b (λ u v. (file : List ℕ) × P file × Writes file u v) → (file : List ℕ) × Told a b (Writes file) × (IsTrue a.tells → P file)
+told_file P a b written = file_by P a b a.tells refl written
+
+-- memory was wanting for a text, and nothing was said
+pub ends_silent : {meant : ℕ} {text : List ℕ} {a : State} → meant < 7 → Ends (said meant text) (IsPartOf (said meant text)) 9 a a
+ends_silent {meant} {text} {a} below = record {
+  reads = refl;
+  later = le_refl a.write_faults;
+  answered = inr (inr refl);
+  write_fault = λ e. absurd (omega arith);
+  writes_failed = λ h. inr refl;
+  whole = λ e. absurd (omega arith);
+  part = λ told. ([], [], record { files = tt; console = (0, zero-le, refl); order = λ n. absurd (n refl) }, record { files = refl; console = sym (append-nil a.world.console) });
+  sure = λ s. refl;
+}

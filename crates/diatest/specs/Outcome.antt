@@ -1,0 +1,108 @@
+-- How a run ends that isn't kept from it: its status, the files that it makes, in order, and what it prints.
+use Rattle.std.specs.Prelude.{◌≡◌, ℕ, ◌≤◌, ◌⊎◌, List, [], ◌∷◌, ◌++◌, length, take, Option, Some, None}
+use Rattle.std.specs.FinMap.{get, insert}
+use Rattle.diag_shelf.specs.World.{Files, World}
+use Rattle.net_model.specs.Circuit.{Circuit}
+use Rattle.bench_reader.specs.declared.fault.Place.{Place}
+use Rattle.bench_reader.specs.declared.fault.NetKind.{NetKind}
+use Rattle.bench_reader.specs.Netlist.{Netlist}
+use Rattle.bench_reader.specs.Narrow.{IsNetlist, IsRefused}
+use Rattle.scan_cut.specs.Cut.{cut_circuit}
+use Rattle.result_file.specs.declared.record.Budgets.{Budgets}
+use Rattle.result_file.specs.declared.record.Summary.{Summary}
+use Rattle.dia_gen.specs.Made.{IsMade, IsTrueFile, IsCutFile}
+use Rattle.diatest.specs.Request.{Text, Request, gen}
+use Rattle.diatest.specs.Texts.{refusal_text, summary_text, not_understood_text}
+
+pub record Outcome : Type 0 where
+  pub status : ℕ
+  pub made : List (Text × Text)
+  pub console : Text
+
+abbrev pub said : ℕ → Text → Outcome
+said status console = record { status = status; made = []; console = console }
+
+abbrev pub saved : Text → Text → Text → Outcome
+saved name bytes console = record { status = 0; made = (name, bytes) ∷ []; console = console }
+
+-- ---- what is asked for
+
+-- A netlist calls for this outcome of `gen`: it is refused, or a result of its cut circuit is made, which is true.
+pub data Generates (bytes result : Text) (budgets : Budgets) (o : Outcome) : Type 0 where
+  refused_netlist : (kind : NetKind) (place : Place) → IsRefused bytes kind place → o ≡ said 3 (refusal_text kind place) → Generates bytes result budgets o
+  made_result : (netlist : Netlist) (summary : Summary) (file : Text) → IsNetlist bytes netlist → IsMade (cut_circuit netlist) budgets summary file → IsTrueFile (cut_circuit netlist) file
+      → o ≡ saved result file (summary_text summary) → Generates bytes result budgets o
+
+-- These words and files call for this outcome.
+abbrev pub CallsFor : Option Request → Files → Outcome → Type 0
+CallsFor None files o = o ≡ said 2 not_understood_text
+CallsFor (Some (gen bench result budgets)) files o = (bytes : Text) × (get files bench ≡ Some bytes) × Generates bytes result budgets o
+
+-- The file is there, and is refused as a netlist.
+abbrev pub HasRefusedNetlist : Files → Text → Type 0
+HasRefusedNetlist files bench = (bytes : Text) × (get files bench ≡ Some bytes) × ((kind : NetKind) × (place : Place) × IsRefused bytes kind place)
+
+-- The words aren't understood, or the file that is read is refused.
+abbrev pub IsRefusedRequest : Option Request → Files → Type 0
+IsRefusedRequest None files = Unit {0}
+IsRefusedRequest (Some (gen bench result budgets)) files = HasRefusedNetlist files bench
+
+-- ---- what may stand where a run breaks off: the files that were made, and what was printed
+
+-- a beginning of what was to be made: whole files, and the last perhaps cut
+abbrev pub IsCut : List (Text × Text) → List (Text × Text) → Type 0
+IsCut [] whole = Unit {0}
+IsCut (c ∷ cut) [] = ⊥
+IsCut (c ∷ []) (m ∷ whole) = (c.0 ≡ m.0) × ((n : ℕ) × (n ≤ length m.1) × (c.1 ≡ take n m.1))
+IsCut (c ∷ d ∷ cut) (m ∷ whole) = (c ≡ m) × IsCut (d ∷ cut) whole
+
+abbrev pub IsCutText : Text → Text → Type 0
+IsCutText cut whole = (n : ℕ) × (n ≤ length whole) × (cut ≡ take n whole)
+
+-- A part of one outcome: nothing is printed before all is made.
+pub record IsPartOf (o : Outcome) (made : List (Text × Text)) (text : Text) : Type 0 where
+  pub files : IsCut made o.made
+  pub console : IsCutText text o.console
+  pub order : ¬ (text ≡ []) → made ≡ o.made
+
+-- A result that was cut short: a beginning of lines that are right for the netlist's circuit, and nothing printed.
+pub record IsCutResult (files : Files) (bench result : Text) (made : List (Text × Text)) (text : Text) : Type 0 where
+  pub bytes : Text
+  pub held : get files bench ≡ Some bytes
+  pub netlist : Netlist
+  pub accepted : IsNetlist bytes netlist
+  pub part : Text
+  pub lines : IsCutFile (cut_circuit netlist) part
+  pub files_are : IsCut made ((result, part) ∷ [])
+  pub text_is : text ≡ []
+
+-- The same of a circuit: a part of an outcome that makes a result of it, or a result that was cut short.
+pub data IsResultPart (c : Circuit) (budgets : Budgets) (result : Text) (made : List (Text × Text)) (text : Text) : Type 0 where
+  whole_result : (summary : Summary) (file : Text) → IsMade c budgets summary file → IsTrueFile c file → IsPartOf (saved result file (summary_text summary)) made text → IsResultPart c budgets result made text
+  cut_result : (part : Text) → IsCutFile c part → IsCut made ((result, part) ∷ []) → text ≡ [] → IsResultPart c budgets result made text
+
+-- What these words and files may leave: a part of an outcome that they call for, or a result that was cut short.
+abbrev pub MayLeave : Option Request → Files → List (Text × Text) → Text → Type 0
+MayLeave None files made text = (o : Outcome) × CallsFor None files o × IsPartOf o made text
+MayLeave (Some (gen bench result budgets)) files made text =
+    ((o : Outcome) × CallsFor (Some (gen bench result budgets)) files o × IsPartOf o made text) ⊎ IsCutResult files bench result made text
+
+-- ---- what a run leaves
+
+abbrev pub after_made : List (Text × Text) → Files → Files
+after_made [] files = files
+after_made (m ∷ made) files = after_made made (insert files m.0 m.1)
+
+-- These bytes were printed.
+abbrev pub ConsoleGained : Text → World → World → Type 0
+ConsoleGained text old new = new.console ≡ old.console ++ text
+
+-- These files were made and this text was printed, and nothing else.
+pub record Leaves (made : List (Text × Text)) (text : Text) (old new : World) : Type 0 where
+  pub files : new.files ≡ after_made made old.files
+  pub console : ConsoleGained text old new
+
+-- No file and nothing on the console is changed.
+pub record IsUntouched (old new : World) : Type 0 where
+  pub files : new.files ≡ old.files
+  pub console : new.console ≡ old.console

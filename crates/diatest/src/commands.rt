@@ -1,0 +1,62 @@
+//! The top call.
+
+ghost use Rattle.std.specs.Prelude.{◌≡◌, ◌⊎◌, map, string_bytes, IsTrue, None};
+ghost use Rattle.diag_shelf.specs.Calls.{Told};
+ghost use Rattle.diatest.specs.Request.{request_of, inputs_of};
+ghost use Rattle.diatest.specs.Ran.{HasCauses, IsDone, IsUnread, IsBrokenOff, OnlyOutputs, AreHeld, NoneFailed, Ran, GeneratesFile, IsMadeFile, HasApartClasses, HasLowestUnmarked, RefusesNetlist, KeepsRefused, IsComplete};
+
+use crate::ends::say;
+use crate::generates::generate_file;
+use crate::request::{Request, read_words};
+use bench_reader::accepted_or_refused;
+use diag_shelf::Shelf;
+use std::alloc::Global;
+
+/// Does what the words ask for, and answers a status: 0 where the work is done, 2 where the words aren't understood,
+/// 3 where the netlist is refused, 7 or 8 where a read or a write failed, 9 for want of memory.
+pub fn run<S: Shelf>(alloc: Global, words: &[String], shelf: &mut S) -> u8
+    // Each status has its cause, on every shelf.
+    ensures causes { HasCauses result (S.state shelf.old) (S.state shelf.new) }
+    ensures words { result ≡ 2 → request_of (map string_bytes words.now) ≡ None }
+    ensures not_understood { request_of (map string_bytes words.now) ≡ None → (result ≡ 2) ⊎ ((result ≡ 8) ⊎ (result ≡ 9)) }
+
+    // What is done to a shelf that tells.
+    ensures done { Told (S.state shelf.old) (S.state shelf.new) (IsDone (request_of (map string_bytes words.now)) result) }
+    ensures unread { Told (S.state shelf.old) (S.state shelf.new) (IsUnread result) }
+    ensures broken_off { Told (S.state shelf.old) (S.state shelf.new) (IsBrokenOff (request_of (map string_bytes words.now)) result) }
+    ensures others { Told (S.state shelf.old) (S.state shelf.new) (OnlyOutputs (request_of (map string_bytes words.now))) }
+
+    // The file of a generated result.
+    ensures made { Told (S.state shelf.old) (S.state shelf.new) (GeneratesFile IsMadeFile (request_of (map string_bytes words.now)) result) }
+    ensures apart { Told (S.state shelf.old) (S.state shelf.new) (GeneratesFile HasApartClasses (request_of (map string_bytes words.now)) result) }
+    ensures lowest { Told (S.state shelf.old) (S.state shelf.new) (GeneratesFile HasLowestUnmarked (request_of (map string_bytes words.now)) result) }
+
+    // Refusals, and their absence.
+    ensures netlist { Told (S.state shelf.old) (S.state shelf.new) (RefusesNetlist (request_of (map string_bytes words.now)) result) }
+    ensures refused { Told (S.state shelf.old) (S.state shelf.new) (KeepsRefused (request_of (map string_bytes words.now))) }
+    ensures complete { IsComplete (request_of (map string_bytes words.now)) result (S.state shelf.old) (S.state shelf.new) }
+
+    // A sure shelf that holds the inputs has no fault.
+    ensures sure { IsTrue (S.state shelf.old).sure → AreHeld (inputs_of (request_of (map string_bytes words.now))) (S.state shelf.old).world.files → NoneFailed (S.state shelf.old) (S.state shelf.new) }
+{
+    accepted_or_refused();
+    dispatch(alloc, words, shelf)
+}
+
+fn dispatch<S: Shelf>(alloc: Global, words: &[String], shelf: &mut S) -> u8
+    ensures { Ran (request_of (map string_bytes words.now)) result (S.state shelf.old) (S.state shelf.new) }
+{
+    match read_words(words) {
+        None => refuse(shelf),
+        Some(Request::Gen(bench, result, budgets)) => {
+            generate_file(alloc, shelf, bench, result, budgets)
+        }
+    }
+}
+
+#[tactic(auto, unfolding(crate::specs::Texts::not_understood_text))]
+fn refuse<S: Shelf>(shelf: &mut S) -> u8
+    ensures { Ran None result (S.state shelf.old) (S.state shelf.new) }
+{
+    say(shelf, 2, b"words: not understood\n")
+}

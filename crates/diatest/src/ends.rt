@@ -1,0 +1,29 @@
+//! The last step of a run: a text is printed, and the status follows.
+
+ghost use Rattle.std.specs.Prelude.{◌≡◌, ◌<◌};
+ghost use Rattle.diatest.specs.Outcome.{said, IsPartOf};
+ghost use Rattle.diatest.specs.Ran.{Ends};
+
+use diag_shelf::{Shelf, ShelfFault, print_all};
+
+/// The status of a failed write.
+pub(crate) fn write_status(fault: ShelfFault) -> u8
+    ensures failed { fault ≡ ShelfFault.Failed → result ≡ 8 }
+    ensures memory { fault ≡ ShelfFault.NoMemory → result ≡ 9 }
+{
+    match fault {
+        ShelfFault::Failed => 8,
+        ShelfFault::NoMemory => 9,
+    }
+}
+
+/// Prints a text and ends with a status.
+pub(crate) fn say<S: Shelf>(shelf: &mut S, status: u8, text: &[u8]) -> u8
+    requires { status < 7 }
+    ensures { Ends (said status text.now) (IsPartOf (said status text.now)) result (S.state shelf.old) (S.state shelf.new) }
+{
+    match print_all(shelf, text) {
+        Ok(()) => status,
+        Err(fault) => write_status(fault),
+    }
+}

@@ -1,0 +1,40 @@
+//! DIATEST: tests that tell single stuck-at faults apart.
+#![tactic(auto)]
+
+mod commands;
+mod ends;
+mod generates;
+mod real;
+mod request;
+mod texts;
+
+use crate::commands::run;
+use crate::real::RealShelf;
+use std::alloc::AllocError;
+use std::env;
+use std::io::ErrorKind;
+use std::process::ExitCode;
+use std::rt::Env;
+
+// The words behind the program's name. Where they can't be had for another cause than memory, there are none.
+fn words<R: Env + AllocGlobal>(rt: &R) -> Result<Vec<String>, AllocError> {
+    let mut words = Vec::new(rt.alloc());
+    match env::args(rt) {
+        Ok(args) => {
+            for word in args.skip(1) {
+                words.push(word)?;
+            }
+            Ok(words)
+        }
+        Err(e) if e.kind() == ErrorKind::OutOfMemory => Err(AllocError),
+        Err(_) => Ok(words),
+    }
+}
+
+fn main(rt: HostRuntime) -> ExitCode {
+    let Ok(words) = words(&rt) else {
+        return ExitCode::from(9);
+    };
+    let mut shelf = RealShelf::new(&rt);
+    ExitCode::from(run(rt.alloc(), &words, &mut shelf))
+}

@@ -1,0 +1,127 @@
+// A shelf of real files and standard output. It tells no contents.
+ghost use Rattle.std.specs.Prelude.{◌≤◌, ◌<◌, IfOk, IfSome};
+ghost use Rattle.diag_shelf.specs.Calls.{Rose};
+
+use diag_shelf::{Shelf, ShelfFault};
+use std::io::{Read, Write};
+use std::rt::Files;
+use std::{fs, io};
+
+#[derive(Drop)]
+pub(crate) struct RealShelf<'a, R: Files + Print> {
+    rt: &'a R,
+    opened: Option<R::File>,
+    written: Option<R::File>,
+    read_faults: u64,
+    write_faults: u64,
+}
+
+impl<'a, R: Files + Print> RealShelf<'a, R> {
+    pub(crate) fn new(rt: &'a R) -> RealShelf<'a, R> {
+        RealShelf {
+            rt,
+            opened: None,
+            written: None,
+            read_faults: 0,
+            write_faults: 0,
+        }
+    }
+}
+
+// Raises a count, which stands still at its last value.
+fn raise(count: &mut u64)
+    ensures rose { Rose count.old count.new }
+    ensures later { count.old ≤ count.new }
+{
+    *count = count.saturating_add(1);
+}
+
+// A device that takes none of a piece has failed.
+fn taken(answer: io::Result<usize>, offered: usize) -> Option<usize>
+    requires { IfOk answer (λ count. count ≤ offered) }
+    ensures bound { IfSome result (λ count. count ≤ offered) }
+    ensures moves { IfSome result (λ count. 0 < offered → 0 < count) }
+{
+    match answer {
+        Ok(0) if offered > 0 => None,
+        Ok(count) => Some(count),
+        Err(_) => None,
+    }
+}
+
+impl<'a, R: Files + Print> Shelf for RealShelf<'a, R> {
+    ghost use Rattle.std.specs.Prelude.{refl};
+    ghost use Rattle.diatest.specs.Real.{silent};
+
+    ghost state = { λ s. silent s.read_faults s.write_faults };
+
+    ghost sure_tells = { λ s h. h };
+
+    fn open_file(&mut self, name: &str) -> Result<(), ShelfFault> {
+        match fs::open(self.rt, name) {
+            Ok(file) => {
+                self.opened = Some(file);
+                Ok(())
+            }
+            Err(_) => {
+                raise(&mut self.read_faults);
+                Err(ShelfFault::Failed)
+            }
+        }
+    }
+
+    fn read(&mut self, piece: &mut [u8]) -> Result<usize, ShelfFault> {
+        match &mut self.opened {
+            Some(file) => match file.read(piece) {
+                Ok(count) => Ok(count),
+                Err(_) => {
+                    raise(&mut self.read_faults);
+                    Err(ShelfFault::Failed)
+                }
+            },
+            None => {
+                raise(&mut self.read_faults);
+                Err(ShelfFault::Failed)
+            }
+        }
+    }
+
+    fn create_file(&mut self, name: &str) -> Result<(), ShelfFault> {
+        match fs::create(self.rt, name) {
+            Ok(file) => {
+                self.written = Some(file);
+                Ok(())
+            }
+            Err(_) => {
+                raise(&mut self.write_faults);
+                Err(ShelfFault::Failed)
+            }
+        }
+    }
+
+    fn write(&mut self, piece: &[u8]) -> Result<usize, ShelfFault> {
+        match &mut self.written {
+            Some(file) => match taken(file.write(piece), piece.len()) {
+                Some(count) => Ok(count),
+                None => {
+                    raise(&mut self.write_faults);
+                    Err(ShelfFault::Failed)
+                }
+            },
+            None => {
+                raise(&mut self.write_faults);
+                Err(ShelfFault::Failed)
+            }
+        }
+    }
+
+    fn print(&mut self, piece: &[u8]) -> Result<usize, ShelfFault> {
+        match taken(io::writer(self.rt).write(piece), piece.len()) {
+            Some(count) => Ok(count),
+            None => {
+                raise(&mut self.write_faults);
+                Err(ShelfFault::Failed)
+            }
+        }
+    }
+}

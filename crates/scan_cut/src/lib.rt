@@ -1,0 +1,9 @@
+//! The full-scan cut of a netlist.
+#![tactic(auto)]
+
+mod cutting;
+mod parts;
+#[cfg(test)]
+mod tests;
+
+pub use cutting::cut;

@@ -1,0 +1,12 @@
+-- Laws of the stream.
+use Rattle.std.specs.Prelude.{◌≡◌, ℕ, ◌+◌, ◌*◌, ◌≤◌, Bool, List, ◌++◌, length, map, Contains}
+use Rattle.std.specs.List.{range_with_len}
+use Rattle.word_sim.specs.Stream.{stream, stream_vector}
+
+-- with at most six sources the first block has every vector
+abbrev pub FirstBlockHasAll : Type 0
+FirstBlockHasAll = (sources : ℕ) (v : List Bool) → sources ≤ 6 → length v ≡ sources → Contains (stream sources 1) v
+
+-- the vectors of some blocks, and of the next, are those of all of them
+abbrev pub StreamContinues : Type 0
+StreamContinues = (sources done count : ℕ) → stream sources (done + count) ≡ stream sources done ++ map (stream_vector sources) (range_with_len (64 * done) (64 * count))

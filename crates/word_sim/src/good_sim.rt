@@ -1,0 +1,105 @@
+//! The circuit without a fault, at all vectors of a block.
+
+ghost use Rattle.std.specs.Prelude.{◌≡◌, ℕ, ◌<◌, ◌≤◌, [], Some, None, length, slice_index_or, nat_lt, take, IfOk};
+ghost use Rattle.net_model.specs.declared.fault.Fault.TheVariants.{Free};
+ghost use Rattle.net_model.specs.Circuit.{line_count};
+ghost use Rattle.net_model.specs.Answer.{bit_at, Agrees};
+ghost use Rattle.word_sim.specs.BlockFields.{column};
+ghost use Rattle.word_sim.specs.GoodSim.{IsGoodBit, good_sim_with, vectors_of};
+
+use crate::block::Block;
+use crate::gate_lanes::gate_lanes;
+use crate::lanes::{LANES, Lanes};
+use net_model::Circuit;
+use std::alloc::{AllocError, Global};
+use std::marker::Model;
+
+/// The bits of all lines of a circuit without a fault, a lane for each vector of a block.
+#[derive(Drop)]
+pub struct GoodSim<'a> {
+    circuit: &'a Circuit,
+    rows: Vec<Lanes>,
+    live: Option<u32>,
+}
+
+impl<'a> Model for GoodSim<'a> {
+    ghost use Rattle.word_sim.specs.GoodSim as spec;
+
+    ghost Value = { spec.GoodSim };
+
+    ghost use Rattle.word_sim.specs.GoodSimFields.{good_sim_of, IsSettled};
+
+    ghost view = { good_sim_of };
+
+    ghost invariant = { IsSettled };
+}
+
+impl<'a> GoodSim<'a> {
+    /// The simulator of a circuit, which has run no block.
+    pub fn new(alloc: Global, circuit: &'a Circuit) -> Result<GoodSim<'a>, AllocError>
+        ensures { IfOk result (λ sim. sim ≡ good_sim_with circuit.now None) }
+    {
+        let rows = vec![in alloc; Lanes::all(false); circuit.lines() as usize]?;
+        Ok(GoodSim {
+            circuit,
+            rows,
+            live: None,
+        })
+    }
+
+    /// Evaluates the circuit at the vectors of a block.
+    pub fn run(&mut self, block: &Block)
+        requires { block.now.sources ≡ self.old.circuit.sources }
+        ensures { self.new ≡ good_sim_with self.old.circuit (Some block.now.vectors) }
+    {
+        place(block, &mut self.rows);
+        evaluate(self.circuit, &mut self.rows);
+        self.live = Some(block.live());
+    }
+
+    /// The bit of a line at the vector of a lane.
+    pub fn bit(&self, line: u32, lane: u32) -> bool
+        requires line { line < line_count self.now.circuit }
+        requires lane { lane < length (vectors_of self.now) }
+        ensures { IsGoodBit self.now line lane result }
+    {
+        self.rows[line as usize].get(lane)
+    }
+
+    /// The bits of a line at all vectors. Nothing is said of the lanes that aren't live.
+    pub fn lanes(&self, line: u32) -> Lanes
+        requires { line < line_count self.now.circuit }
+        ensures { (lane : ℕ) → lane < length (vectors_of self.now) → IsGoodBit self.now line lane (bit_at result lane) }
+    {
+        self.rows[line as usize]
+    }
+
+    /// 1 in the lanes of the last block's vectors.
+    pub fn live(&self) -> Lanes
+        ensures lanes { (lane : ℕ) → lane < LANES → bit_at result lane ≡ nat_lt lane (length (vectors_of self.now)) }
+        ensures few { length (vectors_of self.now) ≤ LANES }
+    {
+        Lanes::first(self.live.unwrap_or(0))
+    }
+}
+
+// Gives the first rows the bits of a block's sources.
+fn place(block: &Block, rows: &mut [Lanes])
+    requires { block.now.sources ≤ length rows.old }
+    ensures { (lane : ℕ) → lane < length block.now.vectors → column (take block.now.sources rows.new) lane ≡ slice_index_or block.now.vectors lane [] }
+{
+    for source in 0..block.sources() {
+        rows[source as usize] = block.row(source);
+    }
+}
+
+// Gives the row of each gate its value, once the rows of the sources are set.
+fn evaluate(circuit: &Circuit, rows: &mut [Lanes])
+    requires { length rows.old ≡ line_count circuit.now }
+    ensures sources { take circuit.now.sources rows.new ≡ take circuit.now.sources rows.old }
+    ensures agrees { (lane : ℕ) → lane < LANES → Agrees circuit.now Free (column (take circuit.now.sources rows.old) lane) (column rows.new lane) }
+{
+    for line in circuit.order() {
+        rows[*line as usize] = gate_lanes(circuit.gate(*line), rows);
+    }
+}
