@@ -1,5 +1,5 @@
 -- Vectors kept one after another.
-use Rattle.std.proofs.Common.{◌≡◌, ℕ, zero, suc, ◌+◌, ◌*◌, ◌<◌, ◌≤◌, Bool, true, false, cond, List, [], ◌∷◌, ◌++◌, map, length, length-append, take, get_or, refl, sym, ap, ap₂, subst, ◌∙◌, inl, inr, arith, IsTrue}
+use Rattle.std.proofs.Common.{◌≡◌, ℕ, zero, suc, ◌+◌, ◌*◌, ◌<◌, Bool, true, false, cond, List, [], ◌∷◌, ◌++◌, map, length, length-append, refl, sym, ap, ap₂, subst, ◌∙◌, inl, inr, arith, IsTrue}
 use Rattle.std.specs.List.{AllZip, zip, fold, range_with_len}
 use Rattle.std.proofs.lemmas.Bool.{cases_lt}
 use Rattle.std.proofs.lemmas.List.{length-map, length-replicate, take-append-le, get_or_append_left, map-append}
@@ -9,7 +9,7 @@ use Rattle.std.proofs.lemmas.List.Sums.{fold-append}
 use Rattle.net_model.specs.Circuit.{Circuit}
 use Rattle.net_model.specs.FaultList.{faults, fault_count}
 use Rattle.net_model.specs.ClassTable.{ClassTable, first_table, refined_table, cuts_class, class_after, SplitBy}
-use Rattle.net_model.specs.PatternRows.{IsAnswerRow, AreAnswerRows, IsTableOf}
+use Rattle.net_model.specs.PatternRows.{IsAnswerRow, IsTableOf}
 use Rattle.result_file.specs.Lines.{IsRightPattern, AreRightPatterns}
 use Rattle.word_sim.specs.Stream.{stream_vector}
 use Rattle.dia_gen.specs.Kept.{KeptSoFar, with_vector, keeping}

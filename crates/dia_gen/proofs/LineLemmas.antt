@@ -1,6 +1,6 @@
 -- The text of one line more.
-use Rattle.std.proofs.Common.{◌≡◌, ℕ, zero, suc, ◌+◌, ◌<◌, ◌≤◌, Bool, true, false, cond, List, [], ◌∷◌, ◌++◌, map, length, take, get_or, length-take, Option, Some, None, refl, sym, ap, ap₂, ◌∙◌, arith, add-one}
-use Rattle.std.specs.List.{filter, flat_map, enumerate_from, range_with_len}
+use Rattle.std.proofs.Common.{◌≡◌, ℕ, ◌+◌, ◌<◌, ◌≤◌, Bool, true, false, cond, List, [], ◌∷◌, ◌++◌, map, length, take, get_or, length-take, Option, None, sym, ap, ◌∙◌, arith, add-one}
+use Rattle.std.specs.List.{filter, enumerate_from, range_with_len}
 use Rattle.std.proofs.lemmas.List.{take_more, append_assoc, map-append, append-nil, length-map}
 use Rattle.std.proofs.lemmas.List.FromFn.{length-range_with_len, map-range_with_len_more}
 use Rattle.std.proofs.lemmas.Grind.{flat_map-append}

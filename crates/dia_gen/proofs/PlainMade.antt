@@ -1,16 +1,15 @@
 -- The result behind the last pattern is one that the generator may write, and it is true.
-use Rattle.std.proofs.Common.{◌≡◌, ◌≢◌, ℕ, zero, suc, ◌+◌, ◌<◌, ◌≤◌, ◌^◌, Bool, true, false, not, cond, List, [], ◌∷◌, ◌++◌, map, length, length-append, take, get_or, Option, Some, None, All, refl, sym, ap, ap₂, subst, ◌∙◌, inl, inr, arith, IsTrue}
+use Rattle.std.proofs.Common.{◌≡◌, ◌≢◌, ℕ, zero, suc, ◌+◌, ◌<◌, Bool, true, false, not, List, [], ◌∷◌, ◌++◌, map, length, get_or, Option, Some, None, refl, sym, ap, ap₂, subst, ◌∙◌, arith, IsTrue}
 use Rattle.std.specs.Prelude.{◌==◌, MatchOption, unwrap_or, if◌then◌else◌}
-use Rattle.std.specs.List.{cons_option, find, filter_map, count_by, slice_get, range_with_len, enumerate_from}
+use Rattle.std.specs.List.{cons_option, find, slice_get, range_with_len, enumerate_from}
 use Rattle.std.proofs.lemmas.Bool.Decides.{nat_tests}
-use Rattle.std.proofs.lemmas.List.{append_assoc, append-nil, map-append, length-map, map-id}
+use Rattle.std.proofs.lemmas.List.{append_assoc, map-id}
 use Rattle.std.proofs.lemmas.List.Elements.{All-append, All-map, All-from_get_or}
 use Rattle.std.proofs.lemmas.List.FromFn.{length-range_with_len, get_or-range_with_len, length-map-range_with_len, get_or-map-range_with_len}
-use Rattle.std.proofs.lemmas.Option.{get_or_from_slice_get, slice_get_within, slice_get-get_or}
+use Rattle.std.proofs.lemmas.Option.{slice_get-get_or}
 use Rattle.net_model.specs.Circuit.{Circuit}
 use Rattle.net_model.specs.FaultList.{fault_count}
-use Rattle.net_model.specs.ClassTable.{ClassTable, class_table, class_at, class_count, representative, number_range}
-use Rattle.net_model.specs.PatternRows.{IsTableOf}
+use Rattle.net_model.specs.ClassTable.{ClassTable, class_at, representative, number_range}
 use Rattle.class_refine.specs.Fields.{IsWhole}
 use Rattle.class_refine.specs.Laws.{NamedSeparatesFaults}
 use Rattle.result_file.specs.declared.record.Budgets.{Budgets}
@@ -18,7 +17,7 @@ use Rattle.result_file.specs.declared.record.Evidence.{Evidence}
 use Rattle.result_file.specs.declared.record.Mark.{Mark}
 use Rattle.result_file.specs.declared.record.Mark.TheVariants.{Rep, Equal, Spent}
 use Rattle.result_file.specs.declared.record.Record.{Record}
-use Rattle.result_file.specs.declared.record.Record.TheVariants.{Head, Budget, Pattern, Same, Class, Member, End}
+use Rattle.result_file.specs.declared.record.Record.TheVariants.{Pattern, Same, Class, Member, End}
 use Rattle.result_file.specs.Spelling.{HasSpelling}
 use Rattle.result_file.specs.Marks.{pattern_of, evidence_of, is_about, patterns_in, evidence_in}
 use Rattle.result_file.specs.Meaning.{StatedResult, stated_records, class_records, member_records, stated_class, stated_mark, lowest_mate, is_body_record, AreRightBirths, IsTrueResult}
@@ -28,7 +27,7 @@ use Rattle.dia_gen.specs.Made.{AreMade}
 use Rattle.dia_gen.specs.Plain.{is_follower, evidence_for, evidence_below, mark_for, member_for, plain_result}
 use Rattle.dia_gen.proofs.PlainLines.{is_same, about_itself}
 use Rattle.dia_gen.proofs.KeepLemmas.{table_numbers, table_patterns}
-use Rattle.dia_gen.proofs.PlainResult.{IsPlain, head, kept_lines, plain_right}
+use Rattle.dia_gen.proofs.PlainResult.{IsPlain, head, plain_right}
 
 same_number : (m n : ℕ) → (m == n) ≡ true → m ≡ n
 same_number m n same = grind (arith, nat_tests)
@@ -116,7 +115,7 @@ module _ (c : Circuit) (budgets : Budgets) (kept : List (List Bool)) (t : ClassT
       let p = λ (m : ℕ). stated_class stated m == stated_class stated n in
       let q = λ (m : ℕ). class_at t m == class_at t n in
       let same : find p (range_with_len 0 numbers) ≡ find q (range_with_len 0 numbers) =
-          find_same p q 0 numbers (λ m low high. ap₂ (λ (a b : ℕ). a == b) (class_is m (omega arith)) (class_is n below)) in
+      find_same p q 0 numbers (λ m low high. ap₂ (λ (a b : ℕ). a == b) (class_is m (omega arith)) (class_is n below)) in
       let found = find_some q 0 numbers n (omega arith) (omega arith) (is_same (class_at t n)) in
       ap (λ (k : ℕ). unwrap_or (find p (range_with_len 0 k)) n) count_is
       ∙ ap (λ (o : Option ℕ). unwrap_or o n) (same ∙ found.1)

@@ -1,22 +1,21 @@
 -- The result behind the last pattern: its lines are right.
-use Rattle.std.proofs.Common.{◌≡◌, ◌≢◌, ℕ, zero, suc, ◌+◌, ◌<◌, ◌≤◌, ◌^◌, Bool, true, false, not, cond, List, [], ◌∷◌, ◌++◌, map, length, length-append, take, get_or, Option, Some, None, refl, sym, ap, ap₂, subst, ◌∙◌, inl, inr, arith}
-use Rattle.std.specs.Prelude.{◌==◌, MatchOption, unwrap_or}
-use Rattle.std.specs.List.{filter_map, count_by, slice_get, range_with_len}
-use Rattle.std.proofs.lemmas.List.{append_assoc, append-nil, map-append, length-map, map-id}
+use Rattle.std.proofs.Common.{◌≡◌, ℕ, zero, suc, ◌+◌, ◌<◌, ◌≤◌, ◌^◌, Bool, true, false, List, [], ◌∷◌, ◌++◌, map, length, length-append, Option, Some, None, refl, sym, ap, subst, ◌∙◌, arith}
+use Rattle.std.specs.Prelude.{◌==◌, unwrap_or}
+use Rattle.std.specs.List.{count_by, slice_get}
+use Rattle.std.proofs.lemmas.List.{append_assoc, append-nil, map-append, map-id}
 use Rattle.std.proofs.lemmas.Option.{get_or_from_slice_get, slice_get_within}
 use Rattle.net_model.specs.Circuit.{Circuit}
 use Rattle.net_model.specs.FaultList.{fault_count}
-use Rattle.net_model.specs.ClassTable.{ClassTable, class_at, class_count, representative, number_range}
-use Rattle.net_model.specs.PatternRows.{IsTableOf}
+use Rattle.net_model.specs.ClassTable.{ClassTable, class_at, class_count, representative}
 use Rattle.class_refine.specs.Fields.{IsWhole}
 use Rattle.word_sim.specs.Stream.{stream}
 use Rattle.result_file.specs.declared.record.Budgets.{Budgets}
 use Rattle.result_file.specs.declared.record.Evidence.{Evidence}
 use Rattle.result_file.specs.declared.record.Record.{Record}
-use Rattle.result_file.specs.declared.record.Record.TheVariants.{Head, Budget, Pattern, Same, End}
-use Rattle.result_file.specs.Spelling.{HasSpelling, HasBirthSpelling}
-use Rattle.result_file.specs.Marks.{pattern_of, evidence_of, patterns_in, evidence_in, is_class, is_member, is_end, class_lines, member_lines, end_lines, next_member}
-use Rattle.result_file.specs.Lines.{AreWithinLimits, AreRightPatterns, no_budgets, budgets_of, budgets_in}
+use Rattle.result_file.specs.declared.record.Record.TheVariants.{Head, Budget, Pattern, Same}
+use Rattle.result_file.specs.Spelling.{HasBirthSpelling}
+use Rattle.result_file.specs.Marks.{pattern_of, evidence_of, patterns_in, evidence_in, is_class, is_member, is_end}
+use Rattle.result_file.specs.Lines.{AreWithinLimits, no_budgets, budgets_of, budgets_in}
 use Rattle.result_file.specs.Valid.{AreRightLines}
 use Rattle.result_file.specs.Meaning.{stated_records}
 use Rattle.result_file.proofs.RecordLists.{count_kept, read_kept, read_more}

@@ -1,7 +1,7 @@
 -- What the result behind the last pattern amounts to, and its text.
 use Rattle.std.proofs.Common.{◌≡◌, ℕ, zero, suc, ◌+◌, Bool, true, false, not, cond, List, [], ◌∷◌, ◌++◌, Option, map, length, refl, sym, ap, ap₂, ◌∙◌, arith}
 use Rattle.std.specs.Prelude.{◌==◌, if◌then◌else◌}
-use Rattle.std.specs.List.{filter, filter_map, count_by, range_with_len, enumerate_from}
+use Rattle.std.specs.List.{filter, count_by, range_with_len, enumerate_from}
 use Rattle.std.proofs.lemmas.List.{length-map, append-nil}
 use Rattle.std.proofs.lemmas.List.Elements.{filter_map-append}
 use Rattle.std.proofs.lemmas.List.FromFn.{length-enumerate_from, length-map-range_with_len}
@@ -14,12 +14,11 @@ use Rattle.result_file.specs.declared.record.Mark.{Mark}
 use Rattle.result_file.specs.declared.record.Mark.TheVariants.{Rep, Spent}
 use Rattle.result_file.specs.declared.record.Record.{Record}
 use Rattle.result_file.specs.declared.record.Record.TheVariants.{Pattern, Same, Class, Member, End}
-use Rattle.result_file.specs.declared.record.Summary.{Summary}
 use Rattle.result_file.specs.Spelling.{text_of}
 use Rattle.result_file.specs.Marks.{pattern_of, patterns_in, is_class, is_member, class_lines, member_lines}
 use Rattle.result_file.specs.Summary.{is_equal, is_open, summary_of}
 use Rattle.result_file.specs.Meaning.{class_records, member_records, stated_records}
-use Rattle.result_file.proofs.RecordLists.{count_kept, count_more, read_kept, read_more}
+use Rattle.result_file.proofs.RecordLists.{count_kept, count_more, read_kept}
 use Rattle.dia_gen.specs.Plain.{is_follower, evidence_for, evidence_below, mark_for, member_for, plain_result}
 use Rattle.dia_gen.proofs.LineLemmas.{text-append}
 use Rattle.dia_gen.proofs.PlainResult.{head, evidence_lines, lines_count, lines_patterns}

@@ -1,11 +1,10 @@
 -- What was written of a result that was cut short.
-use Rattle.std.proofs.Common.{◌≡◌, ℕ, List, [], Option, Some, None, ◌<◌, take, refl, ap, arith}
+use Rattle.std.proofs.Common.{◌≡◌, ℕ, List, [], Option, Some, None, take, refl, ap, arith}
 use Rattle.diag_shelf.specs.World.{World, Files, appended}
 use Rattle.diag_shelf.specs.Calls.{Writes}
 use Rattle.net_model.specs.Circuit.{Circuit}
 use Rattle.result_file.specs.declared.record.Budgets.{Budgets}
 use Rattle.result_file.specs.declared.record.Summary.{Summary}
-use Rattle.result_file.specs.Valid.{AreRightLines}
 use Rattle.dia_gen.specs.Made.{IsMade, IsCutFile}
 
 pub nothing_cut : {c : Circuit} → IsCutFile c []

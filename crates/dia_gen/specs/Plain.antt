@@ -1,6 +1,6 @@
 -- What is written of the numbers of a table behind its last pattern: evidence for each number that isn't a
 -- representative, and each number's class and mark.
-use Rattle.std.specs.Prelude.{ℕ, Bool, not, List, [], map, filter, length, ◌==◌, ◌++◌, if◌then◌else◌}
+use Rattle.std.specs.Prelude.{ℕ, Bool, not, List, map, filter, length, ◌==◌, ◌++◌, if◌then◌else◌}
 use Rattle.std.specs.List.{range_with_len}
 use Rattle.net_model.specs.ClassTable.{ClassTable, class_at, representative, number_range}
 use Rattle.result_file.specs.declared.record.Budgets.{Budgets}

@@ -32,7 +32,11 @@ pub(crate) fn push_patterns(text: &mut Vec<u8>, patterns: &Vectors) -> Result<()
 }
 
 // A line of evidence for each number that isn't the representative of its class. Answers how many.
-pub(crate) fn push_evidence(text: &mut Vec<u8>, classes: &Classes, numbers: u32) -> Result<u32, AllocError>
+pub(crate) fn push_evidence(
+    text: &mut Vec<u8>,
+    classes: &Classes,
+    numbers: u32,
+) -> Result<u32, AllocError>
     requires { numbers ≡ length classes.now.class_of }
     ensures text { OnOk result (text.new.items ≡ text.old.items ++ text_of (map Same (evidence_below classes.now numbers))) }
     ensures count { IfOk result (λ count. count ≡ length (evidence_below classes.now numbers)) }
@@ -58,13 +62,20 @@ pub(crate) fn push_classes(text: &mut Vec<u8>, classes: &Classes) -> Result<(), 
 }
 
 // A line for each number.
-pub(crate) fn push_members(text: &mut Vec<u8>, classes: &Classes, numbers: u32) -> Result<(), AllocError>
+pub(crate) fn push_members(
+    text: &mut Vec<u8>,
+    classes: &Classes,
+    numbers: u32,
+) -> Result<(), AllocError>
     requires { numbers ≡ length classes.now.class_of }
     ensures { OnOk result (text.new.items ≡ text.old.items ++ text_of (member_records (map (member_for classes.now) (number_range classes.now)))) }
 {
     for number in 0..numbers {
         let mark = mark_for(classes, number);
-        push_line(text, &Record::Member(number, classes.class_of(number), mark))?;
+        push_line(
+            text,
+            &Record::Member(number, classes.class_of(number), mark),
+        )?;
     }
     Ok(())
 }

@@ -59,7 +59,10 @@ fn made_file(alloc: Global, circuit: &Circuit, budgets: Budgets) -> Result<Made,
     let kept = keep_stream(alloc, circuit, &listed, budgets.blocks)?;
     let mut text = Vec::new(alloc);
     let positions = circuit.positions().len() as u32;
-    push_line(&mut text, &Record::Head(circuit.sources(), positions, numbers))?;
+    push_line(
+        &mut text,
+        &Record::Head(circuit.sources(), positions, numbers),
+    )?;
     push_line(&mut text, &Record::Budget(budgets))?;
     push_patterns(&mut text, &kept.vectors)?;
     let spent = push_evidence(&mut text, &kept.classes, numbers)?;

@@ -1,11 +1,9 @@
 -- What follows from a run's record, clause by clause.
-use Rattle.std.proofs.Common.{IsTrue, ◌≡◌, ℕ, ◌+◌, ◌≤◌, ◌<◌, ◌⊎◌, List, [], ◌∷◌, ◌++◌, length, Option, Some, None, refl, sym, ap, subst, ◌∙◌, inl, inr, arith}
+use Rattle.std.proofs.Common.{IsTrue, ◌≡◌, ℕ, List, [], ◌∷◌, ◌++◌, Option, Some, None, refl, sym, ap, subst, ◌∙◌, inl, inr, arith}
 use Rattle.std.proofs.lemmas.Bool.{cases_lt}
-use Rattle.std.specs.FinMap.{get, insert}
+use Rattle.std.specs.FinMap.{get}
 use Rattle.diag_shelf.specs.World.{Files, World, State}
-use Rattle.diag_shelf.specs.Calls.{Rose}
 use Rattle.diag_shelf.proofs.FileMaps.{get_at_insert}
-use Rattle.net_model.specs.Circuit.{Circuit}
 use Rattle.bench_reader.specs.declared.fault.Place.{Place}
 use Rattle.bench_reader.specs.declared.fault.NetKind.{NetKind}
 use Rattle.bench_reader.specs.Netlist.{Netlist}
@@ -16,8 +14,8 @@ use Rattle.result_file.specs.declared.record.Budgets.{Budgets}
 use Rattle.result_file.specs.declared.record.Summary.{Summary}
 use Rattle.dia_gen.specs.Made.{IsMade, IsTrueFile}
 use Rattle.diatest.specs.Request.{Text, Request, gen}
-use Rattle.diatest.specs.Texts.{refusal_text, summary_text}
-use Rattle.diatest.specs.Outcome.{Outcome, Generates, refused_netlist, made_result, CallsFor, said, saved, IsCut, IsPartOf, IsCutResult, HasRefusedNetlist, IsRefusedRequest, MayLeave, Leaves, after_made, ConsoleGained}
+use Rattle.diatest.specs.Texts.{refusal_text}
+use Rattle.diatest.specs.Outcome.{Outcome, Generates, refused_netlist, made_result, CallsFor, IsCut, IsRefusedRequest, MayLeave, Leaves, after_made, ConsoleGained}
 use Rattle.diatest.specs.Ran.{Ran, IsDone, GeneratesFile, IsMadeFile, HasApartClasses, HasLowestUnmarked, RefusesNetlist, KeepsRefused, IsComplete}
 
 -- An outcome of `gen` that was carried out, by its status.

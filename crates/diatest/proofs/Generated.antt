@@ -1,11 +1,11 @@
 -- From what `gen` did to what its whole run promises.
-use Rattle.std.proofs.Common.{IsTrue, ◌≡◌, ℕ, ◌+◌, ◌≤◌, ◌<◌, ◌⊎◌, List, [], ◌∷◌, ◌++◌, length, take, length-take, Option, Some, None, Ok, refl, sym, ap, subst, ◌∙◌, inl, inr, arith, zero-le}
+use Rattle.std.proofs.Common.{◌≡◌, ℕ, ◌+◌, ◌≤◌, ◌<◌, List, [], ◌∷◌, length, take, length-take, Some, None, Ok, refl, ap, subst, ◌∙◌, inl, inr, arith}
 use Rattle.std.specs.Prelude.{◌==◌}
 use Rattle.std.specs.List.{count_by}
 use Rattle.std.proofs.lemmas.Bool.{cases_lt}
 use Rattle.std.proofs.lemmas.List.{take_all, take-take}
 use Rattle.std.specs.FinMap.{get}
-use Rattle.diag_shelf.specs.World.{Files, World, State}
+use Rattle.diag_shelf.specs.World.{Files, State}
 use Rattle.diag_shelf.specs.Calls.{IsReadCall, OnlyReads, Told, read_of}
 use Rattle.net_model.specs.Circuit.{Circuit}
 use Rattle.bench_reader.specs.declared.fault.Place.{Place}
@@ -16,11 +16,11 @@ use Rattle.bench_reader.specs.Reading.{place_of}
 use Rattle.scan_cut.specs.Cut.{cut_circuit}
 use Rattle.result_file.specs.declared.record.Budgets.{Budgets}
 use Rattle.result_file.specs.declared.record.Summary.{Summary}
-use Rattle.dia_gen.specs.Made.{IsMade, IsTrueFile, IsCutFile}
+use Rattle.dia_gen.specs.Made.{IsMade, IsTrueFile}
 use Rattle.diatest.specs.Request.{Text, Request, gen, outputs_of}
 use Rattle.diatest.specs.Texts.{refusal_text, summary_text, not_understood_text}
-use Rattle.diatest.specs.Outcome.{Outcome, Generates, refused_netlist, made_result, CallsFor, said, saved, IsCut, IsPartOf, IsCutResult, IsResultPart, whole_result, cut_result, MayLeave}
-use Rattle.diatest.specs.Ran.{Ends, SavesResult, Ran}
+use Rattle.diatest.specs.Outcome.{Outcome, refused_netlist, made_result, CallsFor, said, saved, IsPartOf, IsResultPart, whole_result, cut_result, MayLeave}
+use Rattle.diatest.specs.Ran.{Ends, Ran}
 use Rattle.diatest.proofs.Runs.{Fits, MadeAmong, cut_among, ran}
 
 -- all was read, or one byte more than the limit

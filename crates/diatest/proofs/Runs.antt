@@ -1,12 +1,11 @@
 -- From what the last steps of a run do to what the whole run promises.
-use Rattle.std.proofs.Common.{◌≡◌, ◌≢◌, ℕ, zero, suc, Bool, true, false, ◌<◌, ◌⊎◌, List, [], ◌∷◌, ◌++◌, take, length, Option, Some, None, Ok, Err, refl, sym, ap, subst, ◌∙◌, inl, inr, arith, zero-le, IsTrue}
+use Rattle.std.proofs.Common.{◌≡◌, ◌≢◌, ℕ, Bool, true, false, ◌<◌, ◌⊎◌, List, [], ◌∷◌, ◌++◌, take, length, Option, Some, None, Ok, Err, refl, sym, ap, subst, ◌∙◌, inl, inr, arith, zero-le, IsTrue}
 use Rattle.std.specs.FinMap.{get, insert}
 use Rattle.diag_shelf.specs.World.{Files, World, State, appended}
 use Rattle.diag_shelf.specs.declared.shelf.ShelfFault.{ShelfFault}
 use Rattle.diag_shelf.specs.declared.shelf.ShelfFault.TheVariants.{Failed, NoMemory}
 use Rattle.std.proofs.Math.Nat.{le_refl}
 use Rattle.std.proofs.lemmas.List.{append-nil, take_all}
-use Rattle.std.proofs.lemmas.Bool.{cases_lt}
 use Rattle.diag_shelf.specs.Calls.{Told, OfSome, Same, SameFacts, OnlyReads, Creates, Writes, Prints, IsWriteCall}
 use Rattle.diag_shelf.proofs.FileMaps.{get_off_insert, insert_again, held_at_insert}
 use Rattle.diatest.specs.Request.{Text, Request, outputs_of}

@@ -1,5 +1,5 @@
 -- The lines of the console.
-use Rattle.std.specs.Prelude.{ℕ, List, ◌++◌, codes, decimal}
+use Rattle.std.specs.Prelude.{◌++◌, codes, decimal}
 use Rattle.bench_reader.specs.declared.fault.Place.{Place}
 use Rattle.bench_reader.specs.declared.fault.NetKind.{NetKind}
 use Rattle.bench_reader.specs.declared.fault.NetKind.TheVariants.{NotYet, TooLong}

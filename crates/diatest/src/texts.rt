@@ -38,5 +38,7 @@ pub(crate) fn summary_text(alloc: Global, summary: Summary) -> Result<String, Al
         equal,
         spent,
     } = summary;
-    format!(in alloc; "numbers {numbers} patterns {patterns} classes {classes} equal {equal} open {spent}\n")
+    format!(in alloc;
+        "numbers {numbers} patterns {patterns} classes {classes} equal {equal} open {spent}\n"
+    )
 }

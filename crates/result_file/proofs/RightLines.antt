@@ -1,12 +1,10 @@
 -- Right lines behind right lines: the class lines, the member lines and the end.
-use Rattle.std.proofs.Common.{◌≡◌, ◌≢◌, ℕ, ◌+◌, ◌-◌, ◌<◌, ◌≤◌, ◌^◌, Bool, true, false, List, [], ◌∷◌, ◌++◌, map, length, length-append, length-take, take, get_or, Option, Some, None, refl, sym, ap, subst, ◌∙◌, inl, inr, arith}
-use Rattle.std.specs.List.{filter_map, count_by, slice_get, enumerate_from}
+use Rattle.std.proofs.Common.{◌≡◌, ℕ, ◌+◌, ◌-◌, ◌<◌, ◌≤◌, ◌^◌, Bool, List, [], ◌∷◌, ◌++◌, map, length, length-append, length-take, take, get_or, Option, Some, None, refl, ap, ◌∙◌, inl, inr, arith}
+use Rattle.std.specs.List.{slice_get, enumerate_from}
 use Rattle.std.proofs.lemmas.Bool.{cases_lt}
 use Rattle.std.proofs.lemmas.List.{map-id, length-map, take-append-le, take-map, get_or-map, get_or_append_left, get_or-append-add, append-nil}
-use Rattle.std.proofs.lemmas.List.Elements.{filter_map-append}
 use Rattle.std.proofs.lemmas.List.FromFn.{length-enumerate_from, get_or-enumerate_from}
-use Rattle.std.proofs.lemmas.List.Sums.{sum_by-append}
-use Rattle.std.proofs.lemmas.Option.{get_or_from_slice_get, slice_get-get_or}
+use Rattle.std.proofs.lemmas.Option.{slice_get-get_or}
 use Rattle.std.proofs.Math.Seq.{take-append-add}
 use Rattle.net_model.specs.Circuit.{Circuit}
 use Rattle.net_model.specs.ClassTable.{ClassTable, first_table, class_at, class_count}
@@ -18,7 +16,7 @@ use Rattle.result_file.specs.declared.record.Mark.TheVariants as mark
 use Rattle.result_file.specs.declared.record.Evidence.{Evidence}
 use Rattle.result_file.specs.declared.record.Record.{Record}
 use Rattle.result_file.specs.declared.record.Record.TheVariants.{Head, Budget, Pattern, Class, Member, End}
-use Rattle.result_file.specs.Spelling.{IsNumber, HasSpelling, HasBirthSpelling}
+use Rattle.result_file.specs.Spelling.{HasSpelling, HasBirthSpelling}
 use Rattle.result_file.specs.Marks.{pattern_of, evidence_of, patterns_in, evidence_in, is_class, is_member, is_end, class_lines, member_lines, end_lines, number_mark, next_member}
 use Rattle.result_file.specs.Lines.{AreWithinLimits, IsRightLine, AreRightPatterns}
 use Rattle.result_file.specs.Valid.{AreRightLines, record_at}
@@ -73,7 +71,7 @@ right_patterns {c} {rs} {patterns} lines none no_class two right = right_more (m
     let one = right k below in
     let before = take k patterns in
     let read : patterns_in (rs ++ map Pattern before) ≡ before =
-        read_more Pattern rs pattern_of (λ v. v) (λ v. refl) before ∙ ap (λ (vs : List (List Bool)). vs ++ map (λ v. v) before) none ∙ map-id before in
+    read_more Pattern rs pattern_of (λ v. v) (λ v. refl) before ∙ ap (λ (vs : List (List Bool)). vs ++ map (λ v. v) before) none ∙ map-id before in
     rw (take-map Pattern k patterns, get_or-map Pattern patterns k [] End below)
     (record {
       spelled = tt;
@@ -206,7 +204,7 @@ right_table {c} {t} {before} {members} body small are =
         place = (
           count_kept f lines is_class (λ x. refl) numbered ∙ classed.classes,
           omega (arith, count_more f lines is_member (λ x. refl) numbered, classed.no_member, length-enumerate_from 0 members, are.count),
-          count_kept f lines is_end (λ x. refl) numbered ∙ classed.no_end
+          count_kept f lines is_end (λ x. refl) numbered ∙ classed.no_end,
         );
         content = tt;
       };

@@ -1,5 +1,5 @@
 -- What the lines of a file amount to.
-use Rattle.std.specs.Prelude.{ℕ, Bool, true, false, List, length, count_by}
+use Rattle.std.specs.Prelude.{Bool, true, false, List, length, count_by}
 use Rattle.result_file.specs.declared.record.Summary.{Summary}
 use Rattle.result_file.specs.declared.record.Mark.TheVariants as mark
 use Rattle.result_file.specs.declared.record.Record.{Record}

@@ -93,11 +93,7 @@ fn same_line(alloc: Global, evidence: &Evidence) -> Result<Vec<u8>, AllocError>
 }
 
 #[tactic(auto, unfolding(crate::specs::Spelling::spelling))]
-fn class_line(
-    alloc: Global,
-    number: u32,
-    birth: Option<(u32, u32)>,
-) -> Result<Vec<u8>, AllocError>
+fn class_line(alloc: Global, number: u32, birth: Option<(u32, u32)>) -> Result<Vec<u8>, AllocError>
     ensures { IfOk result (λ line. line.items ≡ spelling (Class number birth) ++ 10 ∷ []) }
 {
     let line = match birth {
@@ -108,12 +104,7 @@ fn class_line(
 }
 
 #[tactic(auto, unfolding(crate::specs::Spelling::spelling))]
-fn member_line(
-    alloc: Global,
-    number: u32,
-    class: u32,
-    mark: Mark,
-) -> Result<Vec<u8>, AllocError>
+fn member_line(alloc: Global, number: u32, class: u32, mark: Mark) -> Result<Vec<u8>, AllocError>
     ensures { IfOk result (λ line. line.items ≡ spelling (Member number class mark) ++ 10 ∷ []) }
 {
     let word = match mark {

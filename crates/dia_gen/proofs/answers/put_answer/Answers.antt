@@ -1,5 +1,4 @@
-use Rattle.std.proofs.Common.{◌≡◌, ◌<◌, [], ◌++◌, length, take, drop, get_or, set, false, refl, ap, ap₂, ◌∙◌, arith, add-one}
-use Rattle.std.proofs.lemmas.List.{set-set, get_or-set_same}
+use Rattle.std.proofs.Common.{arith}
 use Rattle.dia_gen.proofs.AnswerLemmas.{overwritten_more}
 use Rattle.dia_gen.proofs.answers.put_answer.Goals as goal
 

@@ -1,7 +1,5 @@
-use Rattle.std.proofs.Common.{◌≡◌, ◌+◌, ◌<◌, ◌++◌, ◌∷◌, [], Bool, List, take, length, sym, ap, ap₂, subst, ◌∙◌, arith}
+use Rattle.std.proofs.Common.{◌≡◌, ◌+◌, ◌<◌, ◌++◌, ◌∷◌, [], Bool, List, take, length, sym, ap, ◌∙◌, arith}
 use Rattle.std.proofs.lemmas.List.{take_more, append_assoc}
-use Rattle.dia_gen.specs.Kept.{KeptSoFar, with_vector}
-use Rattle.dia_gen.specs.Keeping.{kept_now, IsKeeping}
 use Rattle.dia_gen.proofs.KeepLemmas.{table_numbers, length-all_zip, kept_more}
 use Rattle.dia_gen.proofs.kept.keep_block.Goals as goal
 

@@ -1,5 +1,4 @@
-use Rattle.std.proofs.Common.{◌≡◌, ◌∙◌, ◌∷◌, [], ◌+◌, List, ℕ, ap, sym, true, false, map, length, length-append, arith}
-use Rattle.result_file.specs.declared.record.Evidence.{Evidence}
+use Rattle.std.proofs.Common.{◌≡◌, ◌∙◌, ◌∷◌, [], sym, true, false, map, length-append, arith}
 use Rattle.result_file.specs.declared.record.Record.TheVariants.{Same}
 use Rattle.result_file.specs.Spelling.{text_of}
 use Rattle.dia_gen.specs.Plain.{is_follower, evidence_for, evidence_below}
@@ -21,7 +20,7 @@ loop-member-preserved c =
           let more = evidence_added t n follower in
           record {
             text = rw w.text-is (pushed c.args.text.now.items (text_of (map Same (evidence_below t n))) (text_of (Same (evidence_for t n) ∷ []))
-            (rw w.evidence_for.ensures at w.in_ok-push_line.ensures) so_far.text (evidence_text t n follower));
+                (rw w.evidence_for.ensures at w.in_ok-push_line.ensures) so_far.text (evidence_text t n follower));
             count = rw (w.count-is, more) (omega (arith, so_far.count, length-append (evidence_below t n) (evidence_for t n ∷ [])));
           }
       | else-is_follower w ↦

@@ -1,5 +1,5 @@
 use Rattle.std.proofs.Common.{[]}
-use Rattle.dia_gen.proofs.Written.{nothing_cut, written_cut, writes_none}
+use Rattle.dia_gen.proofs.Written.{nothing_cut, writes_none}
 use Rattle.dia_gen.proofs.output.generate.Goals as goal
 
 pub returns-in_default-clause-err : goal.returns-in_default-clause-err

@@ -1,4 +1,4 @@
-use Rattle.std.proofs.Common.{ap, Err, [], ◌∷◌, refl, sym, subst, ◌∙◌, length, take, zero-le, arith, ◌≡◌, List, ℕ, IsTrue}
+use Rattle.std.proofs.Common.{ap, Err, [], ◌∷◌, refl, sym, subst, ◌∙◌, length, zero-le, arith, ◌≡◌, List, ℕ}
 use Rattle.std.proofs.Math.Nat.{le_refl}
 use Rattle.std.proofs.lemmas.List.{take_all}
 use Rattle.dia_gen.specs.Made.{IsMade, IsTrueFile}

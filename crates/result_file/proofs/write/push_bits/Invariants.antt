@@ -1,5 +1,5 @@
-use Rattle.std.proofs.Common.{◌≡◌, ◌++◌, ◌∷◌, [], take, length, map}
-use Rattle.net_model.specs.BitText.{bits_text, bit_digit}
+use Rattle.std.proofs.Common.{◌≡◌, ◌++◌, take, map}
+use Rattle.net_model.specs.BitText.{bit_digit}
 use Rattle.result_file.proofs.write.push_bits.Given as goal
 
 abbrev pub invariant-loop-at : goal.invariant-loop-at
