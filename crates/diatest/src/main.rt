@@ -6,6 +6,8 @@ mod ends;
 mod generates;
 mod real;
 mod request;
+#[cfg(test)]
+mod tests;
 mod texts;
 
 use crate::commands::run;

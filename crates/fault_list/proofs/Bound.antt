@@ -1,8 +1,8 @@
 -- A circuit has no more sites than lines, pins and positions.
 use Rattle.std.proofs.Common.{◌≡◌, ◌∙◌, ℕ, zero, suc, ◌+◌, ◌-◌, ◌<◌, ◌≤◌, ◌^◌, Bool, true, false, cond, eqb, ltb, List, [], ◌∷◌, length, map, refl, ap, arith, inl, inr, length-append}
-use Rattle.std.specs.Prelude.{flat_map, filter_map, sum_by, ◌==◌, nat_le, Some, slice_get, if◌then◌else◌}
+use Rattle.std.specs.Prelude.{flat_map, sum_by, nat_le, Some, slice_get, if◌then◌else◌}
 use Rattle.std.specs.Bool.{then_some}
-use Rattle.std.specs.List.{enumerate_from, range_with_len, cons_option}
+use Rattle.std.specs.List.{range_with_len, cons_option}
 use Rattle.std.proofs.lemmas.Bool.{cases_eq}
 use Rattle.std.proofs.lemmas.Bool.Decides.{nat_tests}
 use Rattle.std.proofs.lemmas.List.{length-map}
@@ -10,11 +10,12 @@ use Rattle.std.proofs.lemmas.List.Sums.{sum_by-cons}
 use Rattle.net_model.specs.declared.gate.Gate.{Gate}
 use Rattle.net_model.specs.declared.fault.Site.TheVariants.{Pin, Position}
 use Rattle.net_model.specs.Circuit.{Circuit, IsCircuit, line_count, all_lines, gate_lines, pins_of}
+use Rattle.fault_list.proofs.Places.{places_from}
 use Rattle.net_model.specs.FaultList.{places_of, destinations, branches, sites_of_line}
 
 -- ---- totals
 
-total : (ℕ → ℕ) → List ℕ → ℕ
+pub total : (ℕ → ℕ) → List ℕ → ℕ
 total f [] = 0
 total f (x ∷ xs) = f x + total f xs
 
@@ -65,27 +66,23 @@ hits_once y first (suc count) =
           omega (arith, here, hits_once y (first + 1) count)
     ]
 
-places_from : ℕ → ℕ → List ℕ → ℕ
-places_from line n xs = length (filter_map (λ at. then_some (at.1 == line) at.0) (enumerate_from n xs))
-
 one_place : (b : Bool) (n : ℕ) (xs : List ℕ) → length (cons_option (then_some b n) xs) ≡ cond b 1 0 + length xs
 one_place true n xs = omega arith
 one_place false n xs = omega arith
 
-few_from : (n first count : ℕ) (xs : List ℕ) → total (λ line. places_from line n xs) (range_with_len first count) ≤ length xs
-unfolding places_from
+few_from : (n first count : ℕ) (xs : List ℕ) → total (λ line. length (places_from line n xs)) (range_with_len first count) ≤ length xs
 few_from n first count [] = omega (arith, total-zero (range_with_len first count))
 few_from n first count (x ∷ xs) =
     omega (
       arith,
-      total-le (λ line. places_from line n (x ∷ xs)) (λ line. cond (eqb x line) 1 0 + places_from line (n + 1) xs) (λ line. omega (arith, one_place (eqb x line) n (filter_map (λ at. then_some (at.1 == line) at.0) (enumerate_from (n + 1) xs)))) (range_with_len first count),
-      total-add (λ line. cond (eqb x line) 1 0) (λ line. places_from line (n + 1) xs) (range_with_len first count),
+      total-le (λ line. length (places_from line n (x ∷ xs))) (λ line. cond (eqb x line) 1 0 + length (places_from line (n + 1) xs)) (λ line. omega (arith, one_place (eqb x line) n (places_from line (n + 1) xs))) (range_with_len first count),
+      total-add (λ line. cond (eqb x line) 1 0) (λ line. length (places_from line (n + 1) xs)) (range_with_len first count),
       hits_once x first count,
       few_from (n + 1) first count xs,
     )
 
 few_places : (xs : List ℕ) (first count : ℕ) → total (λ line. length (places_of line xs)) (range_with_len first count) ≤ length xs
-unfolding places_of places_from
+unfolding places_of
 few_places xs first count = few_from 0 first count xs
 
 -- of all these gates no more pins read lines than they have
@@ -112,7 +109,7 @@ total_of_items f g first (x ∷ xs) h =
     omega (arith, here, rest, sum_by-cons g x xs)
 
 module _ (c : Circuit) where
-  pins_of_item : (i : ℕ) (gate : Gate) → slice_get c.gates i ≡ Some gate → length (pins_of c (c.sources + i)) ≡ length gate.pins
+  pub pins_of_item : (i : ℕ) (gate : Gate) → slice_get c.gates i ≡ Some gate → length (pins_of c (c.sources + i)) ≡ length gate.pins
   pins_of_item i gate e =
       let test : ltb (c.sources + i) c.sources ≡ false = grind (arith, nat_tests) in
       let back : c.sources + i - c.sources ≡ i = omega arith in

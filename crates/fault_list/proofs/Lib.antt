@@ -1,4 +1,12 @@
+pub mod Places
 pub mod Readers
 pub mod Bound
 pub mod Stuck
 pub mod Sites
+pub mod OnePlace
+pub mod Table
+pub mod Numbered
+pub mod Marks
+pub mod Split
+pub mod Relevant
+pub mod Pair

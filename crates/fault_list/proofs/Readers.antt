@@ -1,8 +1,8 @@
 -- The destinations of lines, one reader more and all readers.
 use Rattle.std.proofs.Common.{◌≡◌, ◌∙◌, ℕ, ◌+◌, ◌<◌, Bool, true, false, cond, eqb, List, [], ◌∷◌, ◌++◌, length, take, set, get_or, map, replicate, refl, sym, ap, arith, inl, inr, length-set, append_assoc, append-nil}
-use Rattle.std.specs.Prelude.{flat_map, filter_map, ◌==◌}
+use Rattle.std.specs.Prelude.{flat_map, ◌==◌}
 use Rattle.std.specs.Bool.{then_some}
-use Rattle.std.specs.List.{enumerate_from, range_with_len, cons_option}
+use Rattle.std.specs.List.{range_with_len, cons_option}
 use Rattle.std.proofs.lemmas.Bool.{cases_eq}
 use Rattle.std.proofs.lemmas.Bool.Decides.{nat_tests}
 use Rattle.std.proofs.lemmas.List.{get_or-replicate, length-replicate, map-append, take_more, length-take-le, get_or-set_same, get_or-set_other, flat_map_more}
@@ -12,12 +12,10 @@ use Rattle.net_model.specs.declared.fault.Site.TheVariants.{Pin, Position}
 use Rattle.net_model.specs.Circuit.{Circuit, line_count, all_lines, pins_of}
 use Rattle.net_model.specs.FaultList.{places_of, destinations}
 use Rattle.net_model.proofs.Orders.{range_with_len_more}
+use Rattle.fault_list.proofs.Places.{places_from}
 use Rattle.fault_list.specs.Destinations.{AddsReaders}
 
 -- ---- places
-
-abbrev places_from : ℕ → ℕ → List ℕ → List ℕ
-places_from x n xs = filter_map (λ at. then_some (at.1 == x) at.0) (enumerate_from n xs)
 
 cons_option-append : (b : Bool) (n : ℕ) (xs ys : List ℕ) → cons_option (then_some b n) (xs ++ ys) ≡ cons_option (then_some b n) xs ++ ys
 cons_option-append true n xs ys = refl

@@ -1,14 +1,19 @@
 -- The sites of the lines so far, and of one line more.
-use Rattle.std.proofs.Common.{◌≡◌, ◌∙◌, ℕ, ◌+◌, ◌<◌, ◌≤◌, true, false, List, [], ◌∷◌, ◌++◌, length, get_or, map, refl, sym, ap, arith, append_assoc}
-use Rattle.std.specs.Prelude.{flat_map, nat_le}
+use Rattle.std.proofs.Common.{◌≡◌, ◌∙◌, ℕ, suc, ◌+◌, ◌*◌, ◌<◌, ◌≤◌, true, false, List, [], ◌∷◌, ◌++◌, length, get_or, map, refl, sym, ap, arith, append_assoc}
+use Rattle.std.specs.Prelude.{flat_map, nat_le, Some, slice_get}
 use Rattle.std.specs.List.{range_with_len}
 use Rattle.std.proofs.lemmas.Bool.Decides.{nat_tests}
 use Rattle.std.proofs.lemmas.List.{flat_map_more}
 use Rattle.std.proofs.lemmas.List.FromFn.{get_or-map-range_with_len}
 use Rattle.net_model.specs.declared.fault.Site.{Site}
 use Rattle.net_model.specs.declared.fault.Site.TheVariants.{Stem}
+use Rattle.net_model.specs.declared.fault.Fault.TheVariants.{Stuck}
 use Rattle.net_model.specs.Circuit.{Circuit, line_count, all_lines}
-use Rattle.net_model.specs.FaultList.{destinations, branches, sites_of_line}
+use Rattle.net_model.specs.FaultList.{destinations, branches, sites_of_line, faults}
+use Rattle.net_model.specs.Fault.{IsFaultOf}
+use Rattle.net_model.proofs.Listed.{listed}
+use Rattle.fault_list.proofs.Stuck.{stuck_of}
+use Rattle.fault_list.proofs.OnePlace.{All-at}
 use Rattle.net_model.proofs.Orders.{range_with_len_more}
 
 module _ (c : Circuit) where
@@ -31,3 +36,9 @@ module _ (c : Circuit) where
       ∙ ((λ i. e i ++ Stem line ∷ m i)
       ∙ (flat_map_more (sites_of_line c) [] (range_with_len 0 line) line
       ∙ ap (flat_map (sites_of_line c)) (sym (range_with_len_more 0 (line + 1) line line refl (omega arith)))))
+
+  -- a site of the list is in the circuit
+  pub site_stands : (place : ℕ) (site : Site) → slice_get (flat_map (sites_of_line c) (all_lines c)) place ≡ Some site → IsFaultOf c (Stuck site false)
+  unfolding faults
+  site_stands place site there =
+      All-at (IsFaultOf c) (faults c) (suc (2 * place + 0)) (Stuck site false) (listed c) (stuck_of (flat_map (sites_of_line c) (all_lines c)) place site false there)

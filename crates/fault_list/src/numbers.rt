@@ -1,31 +1,37 @@
 //! The faults of a circuit and their numbers.
 
-ghost use Rattle.std.specs.Prelude.{◌≡◌, ◌<◌, ◌≤◌, ◌^◌, All, IfOk, Some, flat_map, length, map, slice_get};
+ghost use Rattle.std.specs.Prelude.{◌≡◌, ◌<◌, ◌^◌, ◌↔◌, ℕ, All, IfOk, Some, flat_map, length, map, slice_get};
 ghost use Rattle.net_model.specs.Circuit.{all_lines};
 ghost use Rattle.net_model.specs.Fault.{IsFaultOf};
 ghost use Rattle.net_model.specs.FaultList.{destinations, sites_of_line, faults};
 
 use crate::destinations::Destinations;
+use crate::slots::{place_of, places, starts};
 use net_model::{Circuit, Fault, Site};
 use std::alloc::{AllocError, Global};
 use std::marker::Model;
+
+// From so many destinations on each is a branch.
+const FAN_OUT: usize = 2;
 
 /// The faults of a circuit in order of their numbers. Number 0 is the fault-free circuit.
 #[derive(Drop)]
 pub struct FaultList {
     sites: Vec<Site>,
+    starts: Vec<u32>,
+    places: Vec<u32>,
 }
 
 impl Model for FaultList {
-    ghost use Rattle.std.specs.Prelude.{◌<◌, ◌^◌, List, length};
+    ghost use Rattle.std.specs.Prelude.{List};
     ghost use Rattle.net_model.specs.declared.fault.Fault.{Fault};
-    ghost use Rattle.fault_list.specs.Numbers.{faults_at};
+    ghost use Rattle.fault_list.specs.Numbers.{faults_at, IsNumbered};
 
     ghost Value = { List Fault };
 
     ghost view = { λ l. faults_at l.sites.items };
 
-    ghost invariant = { λ l. length l.sites.items < 2 ^ 26 };
+    ghost invariant = { λ l. IsNumbered l.starts.items l.places.items l.sites.items };
 }
 
 /// All faults of a circuit: fewer than 134,217,728, number 0 included.
@@ -36,13 +42,20 @@ pub fn list(alloc: Global, circuit: &Circuit) -> Result<FaultList, AllocError>
 {
     let readers = Destinations::of_circuit(alloc, circuit)?;
     let sites = sites(alloc, circuit, &readers)?;
-    Ok(FaultList { sites })
+    let starts = starts(alloc, circuit)?;
+    let places = places(alloc, circuit, starts.as_slice(), sites.as_slice())?;
+    Ok(FaultList {
+        sites,
+        starts,
+        places,
+    })
 }
 
 impl FaultList {
     /// How many numbers there are, number 0 included.
     pub fn len(&self) -> u32
-        ensures { result ≡ length self.now }
+        ensures value { result ≡ length self.now }
+        ensures few { result < 2 ^ 27 }
     {
         1 + 2 * self.sites.len() as u32
     }
@@ -50,7 +63,8 @@ impl FaultList {
     /// The fault with a number.
     pub fn get(&self, number: u32) -> Fault
         requires { number < length self.now }
-        ensures { slice_get self.now number ≡ Some result }
+        ensures value { slice_get self.now number ≡ Some result }
+        ensures free { number ≡ 0 → result ≡ Fault.Free }
     {
         let sites = self.sites.as_slice();
         if number == 0 {
@@ -58,6 +72,20 @@ impl FaultList {
         }
         let place = number - 1;
         Fault::Stuck(sites[(place / 2) as usize], place % 2 == 1)
+    }
+
+    /// The number of a fault, if the list has it. A branch of a line with one destination is in no list.
+    pub fn number_of(&self, fault: &Fault) -> Option<u32>
+        ensures { (number : ℕ) → (result ≡ Some number) ↔ (slice_get self.now number ≡ Some fault.now) }
+    {
+        let sites = self.sites.as_slice();
+        match *fault {
+            Fault::Free => Some(0),
+            Fault::Stuck(site, bit) => {
+                let place = place_of(self.starts.as_slice(), self.places.as_slice(), sites, site)?;
+                Some(1 + 2 * place + u32::from(bit))
+            }
+        }
     }
 }
 
@@ -71,7 +99,7 @@ fn sites(alloc: Global, circuit: &Circuit, readers: &Destinations) -> Result<Vec
     for line in 0..circuit.lines() {
         sites.push(Site::Stem(line))?;
         let branches = readers.at(line);
-        if branches.len() >= 2 {
+        if branches.len() >= FAN_OUT {
             sites.extend_from_slice(branches)?;
         }
     }

@@ -2,6 +2,8 @@
 #![tactic(auto)]
 
 mod record;
+#[cfg(test)]
+mod tests;
 mod write;
 
 pub use record::{Budgets, Evidence, Mark, Proof, Record, Summary};

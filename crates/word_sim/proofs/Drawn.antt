@@ -89,12 +89,6 @@ next_rng sources done source rng h is = next_rng_by (done == 0 && nat_lt source 
 abbrev pub AreDrawn : ℕ → ℕ → List (List Bool) → ℕ → Type 0
 AreDrawn sources done rows n = AreSet (λ k lane. stream_bit sources done lane k) 64 rows n
 
-pub next_block : (sources done : ℕ) → word_number sources done sources ≡ word_number sources (done + 1) 0
-next_block sources done = omega arith
-
-pub first_block : (sources : ℕ) → word_number sources 0 0 ≡ 0
-first_block sources = omega arith
-
 -- a lane of drawn rows is a vector of the stream
 pub drawn_column : (sources done : ℕ) (rows : List (List Bool)) (lane : ℕ) → AreDrawn sources done rows sources → length rows ≡ sources → lane < 64
     → column rows lane ≡ stream_vector sources (64 * done + lane)

@@ -1,4 +1,4 @@
-//! The circuit without a fault, at all vectors of a block.
+//! The circuit without a fault, at all vectors of a block at once (parallel-pattern simulation).
 
 ghost use Rattle.std.specs.Prelude.{◌≡◌, ℕ, ◌<◌, ◌≤◌, [], Some, None, length, slice_index_or, nat_lt, take, IfOk};
 ghost use Rattle.net_model.specs.declared.fault.Fault.TheVariants.{Free};
@@ -66,7 +66,7 @@ impl<'a> GoodSim<'a> {
         self.rows[line as usize].get(lane)
     }
 
-    /// The bits of a line at all vectors. Nothing is said of the lanes that aren't live.
+    /// The bits of a line at the vectors of all lanes. Nothing is said of the lanes that aren't live.
     pub fn lanes(&self, line: u32) -> Lanes
         requires { line < line_count self.now.circuit }
         ensures { (lane : ℕ) → lane < length (vectors_of self.now) → IsGoodBit self.now line lane (bit_at result lane) }

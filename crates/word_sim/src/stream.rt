@@ -26,7 +26,7 @@ const COUNTING: [u64; 6] = [
 ];
 
 /// The stream of vectors in blocks of 64: the first six sources count through the first block, and all other words
-/// are those of the generator SplitMix64 from the seed 0, by block and then source.
+/// are those of the generator SplitMix64 (Steele, Lea and Flood, 2014) from the seed 0, by block and then source.
 #[derive(Drop)]
 pub struct Stream {
     rng: SplitMix64,

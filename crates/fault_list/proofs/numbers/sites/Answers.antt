@@ -7,7 +7,7 @@ use Rattle.net_model.specs.FaultList.{destinations, sites_of_line}
 use Rattle.fault_list.proofs.Bound.{few_sites}
 use Rattle.fault_list.proofs.Sites.{destinations_at, branches-many, branches-few, sites_more}
 use Rattle.fault_list.proofs.numbers.sites.Goals as goal
-use Rattle.fault_list.proofs.numbers.sites.Goals.{then-branches-ge2+in_ok-extend_from_slice, else-branches-ge2}
+use Rattle.fault_list.proofs.numbers.sites.Goals.{then-branches-ge-FAN_OUT+in_ok-extend_from_slice, else-branches-ge-FAN_OUT}
 
 pub at-branches-requires : goal.at-branches-requires
 at-branches-requires c =
@@ -21,17 +21,17 @@ loop-line-preserved c =
     let so_far = c.loop-line.sites.items in
     let here : c.at-branches.result.now ≡ destinations circuit line =
     c.at-branches.ensures ∙ destinations_at circuit line c.args.readers.now (omega (arith, c.lines-line-end.ensures.value)) c.requires in
-    elim c.if-branches-ge2.branch [
-      | then-branches-ge2+in_ok-extend_from_slice w ↦
+    elim c.if-branches-ge-FAN_OUT.branch [
+      | then-branches-ge-FAN_OUT+in_ok-extend_from_slice w ↦
           ap (λ v. v.items) w.sites-is
           ∙ (w.in_ok-extend_from_slice.ensures.items
           ∙ (ap (λ xs. xs ++ c.at-branches.result.now) c.in_ok-push.ensures.items
-          ∙ sites_more circuit line so_far c.at-branches.result.now c.loop-line.invariant (here ∙ sym (branches-many circuit line (omega (arith, w.if-branches-ge2.true, ap length here))))))
-      | else-branches-ge2 w ↦
+          ∙ sites_more circuit line so_far c.at-branches.result.now c.loop-line.invariant (here ∙ sym (branches-many circuit line (omega (arith, w.if-branches-ge-FAN_OUT.true, ap length here))))))
+      | else-branches-ge-FAN_OUT w ↦
           ap (λ v. v.items) w.sites-is
           ∙ (c.in_ok-push.ensures.items
           ∙ (sym (append-nil _)
-          ∙ sites_more circuit line so_far [] c.loop-line.invariant (sym (branches-few circuit line (omega (arith, w.if-branches-ge2.false, ap length here))))))
+          ∙ sites_more circuit line so_far [] c.loop-line.invariant (sym (branches-few circuit line (omega (arith, w.if-branches-ge-FAN_OUT.false, ap length here))))))
     ]
 
 pub returns-clause-sites : goal.returns-clause-sites

@@ -7,14 +7,14 @@ use Rattle.fault_list.specs.Numbers.{faults_at}
 use Rattle.fault_list.proofs.Stuck.{length-stuck, stuck_at}
 use Rattle.fault_list.proofs.numbers.FaultList.get.Goals as goal
 
-pub returns-then-number-eq0 : goal.returns-then-number-eq0
-returns-then-number-eq0 c = rw (← c.self.view_is, c.if-number-eq0.true) refl
+pub returns-then-number-eq0-clause-value : goal.returns-then-number-eq0-clause-value
+returns-then-number-eq0-clause-value c = rw (← c.self.view_is, c.if-number-eq0.true) refl
 
 pub bounds-sites-place : goal.bounds-sites-place
 bounds-sites-place c = omega (arith, ap length c.self.view_is, ap length c.as_slice-sites.ensures.value, length-stuck c.self.inside.sites.items)
 
-pub returns : goal.returns
-returns c =
+pub returns-clause-value : goal.returns-clause-value
+returns-clause-value c =
     let sites = c.self.inside.sites.items in
     let place = c.args.number - 1 in
     let after : c.args.number ≡ suc place = omega arith in

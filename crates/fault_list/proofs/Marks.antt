@@ -1,0 +1,70 @@
+-- Marks of lines and positions, one more at a time.
+use Rattle.std.proofs.Common.{◌≡◌, ◌∙◌, ℕ, ◌+◌, ◌<◌, ◌⊎◌, inl, inr, Bool, true, false, List, [], ◌∷◌, ◌++◌, length, take, set, get_or, sym, ap, arith, subst, length-append}
+use Rattle.std.specs.Prelude.{Contains}
+use Rattle.std.proofs.lemmas.Bool.{cases_eq, cases_lt}
+use Rattle.std.proofs.lemmas.List.{get_or_append_left, get_or_at, get_or-set_same, get_or-set_other, length-set, take_more}
+use Rattle.std.proofs.lemmas.List.Elements.{Contains-push, Contains-append_left, Contains-push_cases}
+use Rattle.net_model.specs.Answer.{bit_at}
+use Rattle.fault_list.specs.Scope.{AreMarks, MarksLines}
+
+pub marks_more : (test : ℕ → Bool) (count : ℕ) (marks : List Bool) (bit : Bool) → bit ≡ test count → AreMarks test count marks → AreMarks test (count + 1) (marks ++ bit ∷ [])
+marks_more test count marks bit is so_far = record {
+  whole = omega (arith, length-append marks (bit ∷ []), so_far.whole);
+  each = λ n h.
+      elim (cases_lt n count) [
+        | inl below ↦ get_or_append_left marks (bit ∷ []) false n (omega (arith, so_far.whole)) ∙ so_far.each n below
+        | inr above ↦
+            let here : n ≡ count = omega arith in
+            get_or_at marks bit [] false n (omega (arith, so_far.whole)) ∙ (is ∙ ap test (sym here))
+      ];
+}
+
+-- ---- one line marked
+
+module _ (marks : List Bool) (at : ℕ) where
+  mark_stays : (line : ℕ) → bit_at marks line ≡ true → at < length marks → bit_at (set marks at true) line ≡ true
+  mark_stays line e h =
+      elim (cases_eq line at) [
+        | inl same ↦ subst (λ n. bit_at (set marks at true) n ≡ true) (sym same) (get_or-set_same marks at true false h)
+        | inr other ↦ get_or-set_other marks at line true false other ∙ e
+      ]
+
+  mark_was : (line : ℕ) → bit_at (set marks at true) line ≡ true → (bit_at marks line ≡ true) ⊎ (at ≡ line)
+  mark_was line e =
+      elim (cases_eq line at) [
+        | inl same ↦ inr (sym same)
+        | inr other ↦ inl (sym (get_or-set_other marks at line true false other) ∙ e)
+      ]
+
+pub adds_more : (lines : List ℕ) (k : ℕ) (old now : List Bool) → k < length lines → get_or lines k 0 < length old → MarksLines (take k lines) old now → MarksLines (take (k + 1) lines) old (set now (get_or lines k 0) true)
+adds_more lines k old now h inside so_far =
+    let at = get_or lines k 0 in
+    let fits : at < length now = omega (arith, so_far.whole) in
+    let more = take_more lines k 0 h in
+    record {
+      whole = length-set now at true ∙ so_far.whole;
+      lines_are = λ line within m.
+          elim (Contains-push_cases (take k lines) at line (subst (λ (xs : List ℕ). Contains xs line) more m)) [
+            | inl before ↦ mark_stays now at line (so_far.lines_are line within before) fits
+            | inr here ↦ subst (λ n. bit_at (set now at true) n ≡ true) here (get_or-set_same now at true false fits)
+          ];
+      old_stay = λ line e. mark_stays now at line (so_far.old_stay line e) fits;
+      no_others = λ line e.
+          elim (mark_was now at line e) [
+            | inl before ↦
+                elim (so_far.no_others line before) [
+                  | inl was ↦ inl was
+                  | inr m ↦ inr (subst (λ (xs : List ℕ). Contains xs line) (sym more) (Contains-append_left (take k lines) (at ∷ []) line m))
+                ]
+            | inr here ↦ inr (subst (λ (xs : List ℕ). Contains xs line) (sym more) (subst (Contains (take k lines ++ at ∷ [])) here (Contains-push (take k lines) at)))
+          ];
+    }
+
+-- ---- the lines of reached positions
+
+module _ (positions : List ℕ) (reached : List Bool) where
+  -- of the first so many positions
+  pub record ShownBelow (count lines : ℕ) (marks : List Bool) : Type 0 where
+    pub whole : length marks ≡ lines
+    pub shown : (at : ℕ) → at < count → bit_at reached at ≡ true → bit_at marks (get_or positions at 0) ≡ true
+    pub no_others : (line : ℕ) → bit_at marks line ≡ true → (at : ℕ) × (at < length positions) × (bit_at reached at ≡ true) × (get_or positions at 0 ≡ line)

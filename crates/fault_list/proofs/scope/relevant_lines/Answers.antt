@@ -1,0 +1,60 @@
+use Rattle.std.proofs.Common.{◌≡◌, ◌∙◌, ◌+◌, ◌-◌, ◌<◌, ℕ, List, true, false, length, get_or, sym, subst, arith}
+use Rattle.std.proofs.lemmas.List.{get_or_read}
+use Rattle.std.proofs.lemmas.Option.{slice_get-get_or}
+use Rattle.net_model.specs.Answer.{bit_at}
+use Rattle.net_model.proofs.Orders.{order_only}
+use Rattle.net_model.proofs.SetSoFar.{fits_from}
+use Rattle.fault_list.specs.Scope.{MarksLines}
+use Rattle.fault_list.proofs.Relevant.{RelevantFrom, relevant_none, relevant_more, relevant_skip, relevant_all}
+use Rattle.fault_list.proofs.scope.relevant_lines.Goals as goal
+
+pub loop-i-init : goal.loop-i-init
+loop-i-init c = relevant_none c.args.circuit.now c.order-order.ensures.circuit c.args.f.now c.args.g.now c.order-order.result.now c.order-order.ensures.order c.args.reached.now c.in_ok-marks.marks.items c.requires c.in_ok-marks.ensures
+
+pub index-requires : goal.index-requires
+index-requires c =
+    omega (
+      arith,
+      c.loop-i.invariant.whole,
+      c.loop-i.marks.ok.0,
+      (order_only c.args.circuit.now (fits_from c.args.circuit.now c.order-order.ensures.circuit) c.order-order.result.now c.order-order.ensures.order (c.loop-i.i - 1) (omega arith)).1,
+    )
+
+pub gate-requires-clause-from : goal.gate-requires-clause-from
+gate-requires-clause-from c = (order_only c.args.circuit.now (fits_from c.args.circuit.now c.order-order.ensures.circuit) c.order-order.result.now c.order-order.ensures.order (c.loop-i.i - 1) (omega arith)).0
+
+pub gate-requires-clause-below : goal.gate-requires-clause-below
+gate-requires-clause-below c = (order_only c.args.circuit.now (fits_from c.args.circuit.now c.order-order.ensures.circuit) c.order-order.result.now c.order-order.ensures.order (c.loop-i.i - 1) (omega arith)).1
+
+pub loop-i-preserved-then-index : goal.loop-i-preserved-then-index
+loop-i-preserved-then-index c =
+    let circuit = c.args.circuit.now in
+    let order = c.order-order.result.now in
+    let i = c.loop-i.i - 1 in
+    let line = get_or order i 0 in
+    let marks = c.loop-i.marks.items in
+    let next : i + 1 ≡ c.loop-i.i = omega arith in
+    let inside : line < length marks = omega (arith, c.loop-i.invariant.whole, (order_only circuit (fits_from circuit c.order-order.ensures.circuit) order c.order-order.ensures.order i (omega arith)).1) in
+    let marked : bit_at marks line ≡ true = sym (get_or_read marks line c.index.result.now inside c.index.ensures false) ∙ c.if-index.true in
+    let more = subst (λ (pins : List ℕ). MarksLines pins marks c.mark_lines.new.marks.items) (c.as_slice.ensures ∙ sym c.gate.ensures.pins) c.mark_lines.ensures in
+    relevant_more circuit c.order-order.ensures.circuit c.args.f.now c.args.g.now order c.order-order.ensures.order i line marks c.mark_lines.new.marks.items (slice_get-get_or order i 0 (omega arith)) marked more
+    (subst (λ n. RelevantFrom circuit c.args.f.now c.args.g.now order n marks) (sym next) c.loop-i.invariant)
+
+pub loop-i-preserved : goal.loop-i-preserved
+loop-i-preserved c =
+    let circuit = c.args.circuit.now in
+    let order = c.order-order.result.now in
+    let i = c.loop-i.i - 1 in
+    let line = get_or order i 0 in
+    let marks = c.loop-i.marks.items in
+    let next : i + 1 ≡ c.loop-i.i = omega arith in
+    let inside : line < length marks = omega (arith, c.loop-i.invariant.whole, (order_only circuit (fits_from circuit c.order-order.ensures.circuit) order c.order-order.ensures.order i (omega arith)).1) in
+    let unmarked : bit_at marks line ≡ false = sym (get_or_read marks line c.index.result.now inside c.index.ensures false) ∙ c.if-index.false in
+    relevant_skip circuit c.order-order.ensures.circuit c.args.f.now c.args.g.now order c.order-order.ensures.order i line marks (slice_get-get_or order i 0 (omega arith)) unmarked
+    (subst (λ n. RelevantFrom circuit c.args.f.now c.args.g.now order n marks) (sym next) c.loop-i.invariant)
+
+pub returns : goal.returns
+returns c =
+    let none : c.loop-i.i ≡ 0 = omega arith in
+    relevant_all c.args.circuit.now c.order-order.ensures.circuit c.args.f.now c.args.g.now c.order-order.result.now c.order-order.ensures.order c.loop-i.marks.items
+    (subst (λ n. RelevantFrom c.args.circuit.now c.args.f.now c.args.g.now c.order-order.result.now n c.loop-i.marks.items) none c.loop-i.invariant)
