@@ -86,8 +86,14 @@ fn results_of_small_circuits(rt: HostRuntime) -> Result<(), Fail> {
 #[test]
 fn refusals_create_no_file(rt: HostRuntime) -> Result<(), Fail> {
     let cases: [(&[u8], &[u8]); 2] = [
-        (b"INPUT(a)\nz=NOT(a)\nOUTPUT(z)\n", b"netlist: NotYet at byte 9, line 2\n"),
-        (b"INPUT(a)\nOUTPUT(a)", b"netlist: NotYet at byte 9, line 2\n"),
+        (
+            b"INPUT(a)\nz=NOT(a)\nOUTPUT(z)\n",
+            b"netlist: NotYet at byte 9, line 2\n",
+        ),
+        (
+            b"INPUT(a)\nOUTPUT(a)",
+            b"netlist: NotYet at byte 9, line 2\n",
+        ),
     ];
     for (netlist, console) in &cases {
         let left = generated(rt.alloc(), *netlist)?;
@@ -116,12 +122,20 @@ fn each_failing_call_shows(rt: HostRuntime) -> Result<(), Fail> {
         let left = failing(rt.alloc(), *call)?;
         assert_eq!(rt; left.status, *status);
         assert_eq!(rt; left.result.is_some(), result.is_some());
-        assert_eq!(rt; left.result.as_ref().map_or(b"".as_slice(), |bytes| bytes.as_slice()), result.unwrap_or(b""));
+        assert_eq!(rt;
+            left.result
+                .as_ref()
+                .map_or(b"".as_slice(), |bytes| bytes.as_slice()),
+            result.unwrap_or(b"")
+        );
         assert!(rt; left.console.is_empty());
     }
     let alloc = rt.alloc();
     let mut shelf = SureShelf::new(alloc, 3);
-    assert_eq!(rt; run(alloc, &words(alloc, &["gen", "absent", "r"])?, &mut shelf), 7);
+    assert_eq!(rt;
+        run(alloc, &words(alloc, &["gen", "absent", "r"])?, &mut shelf),
+        7
+    );
     assert!(rt; shelf.file("r").is_none());
     Ok(())
 }

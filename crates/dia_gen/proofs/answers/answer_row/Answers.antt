@@ -12,7 +12,7 @@ put_answer-requires-clause-width c =
 pub loop-number-preserved : goal.loop-number-preserved
 loop-number-preserved c =
     let n = c.loop-number.number in
-    let fault : get_or c.args.listed.now n Free ≡ c.get.result = get_or_from_slice_get c.args.listed.now n c.get.result Free c.get.ensures in
+    let fault : get_or c.args.listed.now n Free ≡ c.get.result = get_or_from_slice_get c.args.listed.now n c.get.result Free c.get.ensures.value in
     rw c.put_answer.ensures (answers_more c.loop-number.invariant (omega arith) (rw fault c.in_ok-answer.ensures.answer))
 
 pub returns : goal.returns

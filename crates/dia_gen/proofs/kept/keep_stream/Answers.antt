@@ -7,10 +7,10 @@ use Rattle.dia_gen.proofs.KeepLemmas.{some_number, keeping_none, stream_more}
 use Rattle.dia_gen.proofs.kept.keep_stream.Goals as goal
 
 pub new-requires-2 : goal.new-requires-2
-new-requires-2 c = rw (c.len.ensures, c.requires.faults) (some_number c.args.circuit.now)
+new-requires-2 c = rw (c.len.ensures.value, c.requires.faults) (some_number c.args.circuit.now)
 
 pub loop-left-init : goal.loop-left-init
-loop-left-init c = rw (c.new-stream.ensures, c.in_ok-block.ensures, c.new.ensures, c.in_ok-new.ensures, c.len.ensures, c.requires.faults) (record {
+loop-left-init c = rw (c.new-stream.ensures, c.in_ok-block.ensures, c.new.ensures, c.in_ok-new.ensures, c.len.ensures.value, c.requires.faults) (record {
   all = omega arith;
   stream = c.sources.ensures.value;
   block = c.sources-2.ensures.value;

@@ -11,10 +11,10 @@ use Rattle.dia_gen.proofs.PlainMade.{plain_made, plain_true}
 use Rattle.dia_gen.proofs.output.made_file.Goals as goal
 
 pub push_evidence-requires : goal.push_evidence-requires
-push_evidence-requires c = c.len-numbers.ensures ∙ ap length c.in_ok-listed.ensures.faults ∙ sym (table_numbers c.in_ok-kept.ensures.table)
+push_evidence-requires c = c.len-numbers.ensures.value ∙ ap length c.in_ok-listed.ensures.faults ∙ sym (table_numbers c.in_ok-kept.ensures.table)
 
 pub push_members-requires : goal.push_members-requires
-push_members-requires c = c.len-numbers.ensures ∙ ap length c.in_ok-listed.ensures.faults ∙ sym (table_numbers c.in_ok-kept.ensures.table)
+push_members-requires c = c.len-numbers.ensures.value ∙ ap length c.in_ok-listed.ensures.faults ∙ sym (table_numbers c.in_ok-kept.ensures.table)
 
 pub returns : goal.returns
 returns c =
@@ -22,7 +22,7 @@ returns c =
     let budgets = c.args.budgets in
     let kept = c.in_ok-kept.kept.vectors in
     let t = c.in_ok-kept.kept.classes in
-    let numbers : c.len-numbers.result ≡ length t.class_of = c.len-numbers.ensures ∙ ap length c.in_ok-listed.ensures.faults ∙ sym (table_numbers c.in_ok-kept.ensures.table) in
+    let numbers : c.len-numbers.result ≡ length t.class_of = c.len-numbers.ensures.value ∙ ap length c.in_ok-listed.ensures.faults ∙ sym (table_numbers c.in_ok-kept.ensures.table) in
     let plain : IsPlain circuit budgets kept t = record {
       keeping = c.in_ok-kept.ensures;
       whole = c.count.ensures.whole;
@@ -37,7 +37,7 @@ returns c =
     let first = Head circuit.sources (length circuit.positions) (fault_count circuit) in
     let followers = evidence_below t (length t.class_of) in
     let members = map (member_for t) (number_range t) in
-    let all : c.len-numbers.result ≡ fault_count circuit = c.len-numbers.ensures ∙ ap length c.in_ok-listed.ensures.faults in
+    let all : c.len-numbers.result ≡ fault_count circuit = c.len-numbers.ensures.value ∙ ap length c.in_ok-listed.ensures.faults in
     let text_1 = joined [] (first ∷ []) c.new-text.ensures.items (rw (c.sources.ensures.value, c.positions.ensures.value, all) at c.in_ok-push_line.ensures) in
     let text_2 = joined (first ∷ []) (Budget budgets ∷ []) text_1 c.in_ok-push_line-2.ensures in
     let text_3 = joined (first ∷ Budget budgets ∷ []) (map Pattern kept) text_2 c.in_ok-push_patterns.ensures in
