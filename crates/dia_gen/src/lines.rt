@@ -13,11 +13,11 @@ use result_file::{Evidence, Mark, Proof, Record, write_record};
 use std::alloc::AllocError;
 
 // The line of a record.
-pub(crate) fn push_line(text: &mut Vec<u8>, record: &Record) -> Result<(), AllocError>
-    ensures { OnOk result (text.new.items ≡ text.old.items ++ text_of (record.now ∷ [])) }
+pub(crate) fn push_line(text: &mut Vec<u8>, line: &Record) -> Result<(), AllocError>
+    ensures { OnOk result (text.new.items ≡ text.old.items ++ text_of (line.now ∷ [])) }
 {
-    let line = write_record(*text.allocator(), record)?;
-    text.extend_from_slice(&line)?;
+    let bytes = write_record(*text.allocator(), line)?;
+    text.extend_from_slice(&bytes)?;
     Ok(())
 }
 
