@@ -1,0 +1,168 @@
+-- Lines that are settled: before the first event, after one, and once no gate waits.
+use Rattle.std.proofs.Common.{◌≡◌, ◌≢◌, ℕ, ◌<◌, List, [], length, get_or, set, refl, sym, ◌∙◌, ap, subst, arith, inl, inr}
+use Rattle.std.specs.Prelude.{Bool, true, false, Some, None, IsTrue, ◌↔◌, ◌==◌, ◌&&◌, Contains, unwrap_or}
+use Rattle.std.specs.Bool.{then_some}
+use Rattle.std.proofs.lemmas.Bool.{cases_eq, false≢true}
+use Rattle.std.proofs.lemmas.Bool.Decides.{nat_tests}
+use Rattle.std.proofs.lemmas.List.{get_or-set_same, get_or-set_other, get_or_default, length-set, ext_get_or}
+use Rattle.std.proofs.lemmas.List.Elements.{Contains-get_or}
+use Rattle.net_model.specs.declared.fault.Site.TheVariants.{Stem, Pin, Position}
+use Rattle.net_model.specs.declared.fault.Fault.{Fault}
+use Rattle.net_model.specs.declared.fault.Fault.TheVariants.{Free, Stuck}
+use Rattle.net_model.specs.Circuit.{Circuit, IsCircuit, line_count, gate_at, pins_of, Feeds}
+use Rattle.net_model.specs.Fault.{stuck_stem, stuck_pin, IsFaultOf}
+use Rattle.net_model.specs.Answer.{bit_at, driven_bit, line_bit, Agrees}
+use Rattle.net_model.specs.Scope.{first_changed}
+use Rattle.net_model.proofs.Copies.{same_driven, pins_inside}
+use Rattle.net_model.proofs.Orders.{order_has, reader_is_gate}
+use Rattle.net_model.proofs.SetSoFar.{fits_from}
+use Rattle.word_sim.specs.declared.lanes.TheConstants.{LANES}
+use Rattle.word_sim.specs.GoodSim.{GoodSim}
+use Rattle.fault_sim.specs.declared.wiring.Wiring.{Wiring}
+use Rattle.fault_sim.specs.Pending.{is_pending, IsEmpty, IsLowest}
+use Rattle.fault_sim.specs.Rows.{IsFalse, AreFalseBut}
+use Rattle.fault_sim.specs.Wiring.{IsWiring}
+use Rattle.fault_sim.specs.FaultyLanes.{turned, faulty_bits, vector_at, IsFreeLane, IsFalsePast, IsSettledLine}
+use Rattle.fault_sim.specs.Events.{IsIdle, AreSettled, AreSettledBut, AreFalsePast}
+use Rattle.fault_sim.proofs.FaultyLemmas.{length-faulty, faulty_at}
+use Rattle.fault_sim.proofs.UsersLemmas.{none_of}
+
+-- ---- bits
+
+pub turned_false : (a b : Bool) → turned a b ≡ false → a ≡ b
+turned_false true true e = refl
+turned_false true false e = e
+turned_false false true e = sym e
+turned_false false false e = refl
+
+pub turned_none : (a b : Bool) → b ≡ false → turned a b ≡ a
+turned_none true true e = sym e
+turned_none true false e = refl
+turned_none false true e = e
+turned_none false false e = refl
+
+pub not_both : (b : Bool) → b ≡ true → b ≡ false → ⊥
+not_both b t f = false≢true (sym f ∙ t)
+
+pub is_false : (b : Bool) → (b ≡ true → ⊥) → b ≡ false
+is_false true h = absurd (h refl)
+is_false false h = refl
+
+-- no lane has 1
+pub none_true : (row : List Bool) (some : Bool) → IsTrue some ↔ ((lane : ℕ) × (lane < LANES) × IsTrue (bit_at row lane)) → some ≡ false → IsFalse row
+none_true row some iff e lane h = is_false (bit_at row lane) (λ t. not_both some (iff.1 (lane, h, t)) e)
+
+-- ---- the right side of an equation
+
+-- it stays where the lines that the gate reads stay
+pub stays : (c : Circuit) (f : Fault) (v x y : List Bool) (line : ℕ) → ((read : ℕ) → Feeds c read line → bit_at x read ≡ bit_at y read) → line_bit c f v x line ≡ line_bit c f v y line
+unfolding line_bit driven_bit
+stays c f v x y line h = ap (unwrap_or (stuck_stem f line)) (same_driven c f f v x y line (gate_at c line) (λ pin. refl) h)
+
+-- it is the fault-free one where the fault doesn't stand
+untouched : (c : Circuit) (f : Fault) (v bits : List Bool) (line : ℕ) → stuck_stem f line ≡ None → ((pin : ℕ) → stuck_pin f line pin ≡ None) → line_bit c Free v bits line ≡ line_bit c f v bits line
+unfolding line_bit driven_bit
+untouched c f v bits line stem pins = λ i. unwrap_or (sym stem i) (same_driven c Free f v bits bits line (gate_at c line) (λ pin. sym (pins pin)) (λ read m. refl) i)
+
+pub no_test : (m n : ℕ) → m ≢ n → (m == n) ≡ false
+no_test m n ne = grind (arith, nat_tests)
+
+stem_free : (f : Fault) (line : ℕ) → (first_changed f ≡ Some line → ⊥) → stuck_stem f line ≡ None
+stem_free Free line h = refl
+stem_free (Stuck (Stem at) bit) line h = ap (λ b. then_some b bit) (no_test at line (λ e. h (ap Some e)))
+stem_free (Stuck (Pin gate at) bit) line h = refl
+stem_free (Stuck (Position at) bit) line h = refl
+
+pins_free : (f : Fault) (line pin : ℕ) → (first_changed f ≡ Some line → ⊥) → stuck_pin f line pin ≡ None
+pins_free Free line pin h = refl
+pins_free (Stuck (Stem at) bit) line pin h = refl
+pins_free (Stuck (Pin gate at) bit) line pin h = ap (λ b. then_some (b && at == pin) bit) (no_test gate line (λ e. h (ap Some e)))
+pins_free (Stuck (Position at) bit) line pin h = refl
+
+-- ---- before the first event
+
+module _ (good : GoodSim) (f : Fault) (order : List ℕ) where
+  same_bits : (rows : List (List Bool)) (lane : ℕ) (free : List Bool) → length rows ≡ line_count good.circuit → AreFalseBut [] rows → IsFreeLane good lane free → faulty_bits free rows lane ≡ free
+  same_bits rows lane free width clear at =
+      ext_get_or false (faulty_bits free rows lane) free (length-faulty free rows lane ∙ width ∙ sym at.agrees.whole)
+      (λ line h.
+      let inside : line < length rows = subst (λ n. line < n) (length-faulty free rows lane) h in
+      faulty_at free rows lane line inside ∙ turned_none (bit_at free line) (bit_at (get_or rows line []) lane) (clear line inside (none_of line) lane at.within))
+
+  pub settled_start : (rows : List (List Bool)) → length rows ≡ line_count good.circuit → AreFalseBut [] rows
+      → (lane : ℕ) (free : List Bool) → IsFreeLane good lane free → (line : ℕ) → line < line_count good.circuit → (first_changed f ≡ Some line → ⊥) → IsSettledLine good f rows lane free line
+  settled_start rows width clear lane free at line inside apart =
+      let same = same_bits rows lane free width clear at in
+      ap (λ bits. bit_at bits line) same ∙ at.agrees.each line inside
+      ∙ untouched good.circuit f (vector_at good lane) free line (stem_free f line apart) (λ pin. pins_free f line pin apart)
+      ∙ ap (λ bits. line_bit good.circuit f (vector_at good lane) bits line) (sym same)
+
+  -- ---- one line is settled
+
+  pub settled_same : (queue : List ℕ) (rows : List (List Bool)) (line : ℕ) (row : List Bool) → line < length rows → AreSettledBut good f order line queue rows
+      → ((lane : ℕ) (free : List Bool) → IsFreeLane good lane free → turned (bit_at free line) (bit_at row lane) ≡ line_bit good.circuit f (vector_at good lane) (faulty_bits free rows lane) line)
+      → ((lane : ℕ) → lane < LANES → bit_at (get_or rows line []) lane ≡ bit_at row lane) → AreSettled good f order queue rows
+  settled_same queue rows line row inside settled change same lane free at l within idle =
+      elim (cases_eq l line) [
+        | inl here ↦
+            let P : ℕ → Type 0 = λ k. IsSettledLine good f rows lane free k in
+            subst P (sym here) (faulty_at free rows lane line inside ∙ ap (turned (bit_at free line)) (same lane at.within) ∙ change lane free at)
+        | inr ne ↦ settled lane free at l within ne idle
+      ]
+
+module _ (good : GoodSim) (f : Fault) (w : Wiring) (is : IsCircuit good.circuit) (wired : IsWiring good.circuit w) (queue more : List ℕ) (rows : List (List Bool)) (line : ℕ) (row : List Bool) where
+  woken_idle : ((n : ℕ) → Contains (get_or w.readers.items line []) n → is_pending more n ≡ true) → (l : ℕ) → Feeds good.circuit line l → IsIdle w.order.items more l → ⊥
+  woken_idle woken l feeds idle =
+      let order = w.order.items in
+      let gate = reader_is_gate good.circuit line l feeds in
+      let found = order_has good.circuit (fits_from good.circuit is) order wired.order l gate.0 gate.1 in
+      let place = found.0 in
+      let there : get_or order place 0 ≡ l = get_or_default order place 0 l found.1 ∙ found.2 in
+      not_both (is_pending more place) (woken place (wired.readers.all line place found.1 (subst (λ r. Feeds good.circuit line r) (sym there) feeds))) (idle place found.1 there)
+
+  pub settled_changed : length rows ≡ line_count good.circuit → line < length rows → AreSettledBut good f w.order.items line queue rows
+      → ((lane : ℕ) (free : List Bool) → IsFreeLane good lane free → turned (bit_at free line) (bit_at row lane) ≡ line_bit good.circuit f (vector_at good lane) (faulty_bits free rows lane) line)
+      → ((n : ℕ) → is_pending queue n ≡ true → is_pending more n ≡ true) → ((n : ℕ) → Contains (get_or w.readers.items line []) n → is_pending more n ≡ true)
+      → AreSettled good f w.order.items more (set rows line row)
+  settled_changed width inside settled change kept woken lane free at l within idle =
+      let new = set rows line row in
+      let bits = faulty_bits free rows lane in
+      let after = faulty_bits free new lane in
+      let other : (k : ℕ) → k < line_count good.circuit → k ≢ line → bit_at after k ≡ bit_at bits k =
+      λ k h ne.
+      let before : k < length rows = omega (arith, width) in
+      let there : k < length new = omega (arith, length-set rows line row) in
+      faulty_at free new lane k there ∙ ap (λ r. turned (bit_at free k) (bit_at r lane)) (get_or-set_other rows line k row [] ne) ∙ sym (faulty_at free rows lane k before) in
+      elim (cases_eq l line) [
+        | inl here ↦
+            let P : ℕ → Type 0 = λ k. IsSettledLine good f new lane free k in
+            let there : line < length new = omega (arith, length-set rows line row) in
+            subst P (sym here)
+            (faulty_at free new lane line there ∙ ap (λ r. turned (bit_at free line) (bit_at r lane)) (get_or-set_same rows line row [] inside) ∙ change lane free at
+            ∙ stays good.circuit f (vector_at good lane) bits after line
+            (λ read m. sym (other read (pins_inside good.circuit is line read m)
+            (λ own. let rises = is.acyclic.rises line line (subst (λ r. Feeds good.circuit r line) own m) in omega (arith, rises)))))
+        | inr ne ↦
+            let was_idle : IsIdle w.order.items queue l = λ place h e. is_false (is_pending queue place) (λ t. not_both (is_pending more place) (kept place t) (idle place h e)) in
+            other l within ne ∙ settled lane free at l within ne was_idle
+            ∙ stays good.circuit f (vector_at good lane) bits after l
+            (λ read m. sym (other read (pins_inside good.circuit is l read m) (λ own. woken_idle woken l (subst (λ r. Feeds good.circuit r l) own m) idle)))
+      ]
+
+-- ---- no gate waits
+
+pub settled_all : (good : GoodSim) (f : Fault) (order queue : List ℕ) (rows : List (List Bool)) → length rows ≡ line_count good.circuit → IsEmpty queue → AreSettled good f order queue rows
+    → (lane : ℕ) (free : List Bool) → IsFreeLane good lane free → Agrees good.circuit f (vector_at good lane) (faulty_bits free rows lane)
+settled_all good f order queue rows width none settled lane free at = record {
+  whole = length-faulty free rows lane ∙ width;
+  each = λ line h. settled lane free at line h (λ place inside e. none place);
+}
+
+-- the first line that a fault of the circuit changes is a line
+pub first_inside : (c : Circuit) (f : Fault) (line : ℕ) → IsFaultOf c f → first_changed f ≡ Some line → line < line_count c
+first_inside c Free line is e = cc
+first_inside c (Stuck (Stem at) bit) line is e = let same : at ≡ line = cc in subst (λ n. n < line_count c) same is
+first_inside c (Stuck (Pin gate at) bit) line is e =
+    let same : gate ≡ line = cc in
+    subst (λ n. n < line_count c) same (reader_is_gate c (get_or (pins_of c gate) at 0) gate (Contains-get_or (pins_of c gate) at 0 is)).1
+first_inside c (Stuck (Position at) bit) line is e = cc

@@ -1,0 +1,30 @@
+-- A fault at the vectors of a block: where the answers differ from the fault-free ones.
+use Rattle.std.specs.Prelude.{◌≡◌, ◌≢◌, ℕ, ◌<◌, ◌≤◌, ◌↔◌, Bool, false, List, [], length, slice_index_or, IsTrue}
+use Rattle.net_model.specs.declared.fault.Fault.{Fault}
+use Rattle.net_model.specs.declared.fault.Fault.TheVariants.{Free}
+use Rattle.net_model.specs.Circuit.{Circuit}
+use Rattle.net_model.specs.Answer.{bit_at, IsAnswer}
+use Rattle.word_sim.specs.declared.lanes.TheConstants.{LANES}
+
+-- a circuit, and for each observed position a bit for each lane: whether the answers differ there
+pub record FaultSim : Type 0 where
+  pub circuit : Circuit
+  pub differences : List (List Bool)
+
+-- the bits of a position by lane
+abbrev pub row_at : FaultSim → ℕ → List Bool
+row_at sim position = slice_index_or sim.differences position []
+
+-- The bit is true exactly where the fault's answer to the vector and the fault-free one differ at the position.
+abbrev pub IsDifference : Circuit → Fault → List Bool → ℕ → Bool → Type 0
+IsDifference c f v position bit = (answer free : List Bool) → IsAnswer c f v answer → IsAnswer c Free v free → IsTrue bit ↔ (bit_at answer position ≢ bit_at free position)
+
+-- There is a row for each position. In the lanes of the vectors it says where the answers differ, and in the others it is false.
+pub record AreDifferences (c : Circuit) (f : Fault) (vectors rows : List (List Bool)) : Type 0 where
+  pub whole : length rows ≡ length c.positions
+  pub live : (position lane : ℕ) → position < length c.positions → lane < length vectors → IsDifference c f (slice_index_or vectors lane []) position (bit_at (slice_index_or rows position []) lane)
+  pub past : (position lane : ℕ) → position < length c.positions → length vectors ≤ lane → lane < LANES → bit_at (slice_index_or rows position []) lane ≡ false
+
+-- Some position differs in the lane.
+abbrev pub IsSomeDifference : FaultSim → ℕ → Type 0
+IsSomeDifference sim lane = (position : ℕ) × (position < length sim.circuit.positions) × IsTrue (bit_at (row_at sim position) lane)

@@ -1,0 +1,127 @@
+//! The simulator of single stuck-at faults (parallel-pattern single-fault propagation, PPSFP).
+
+ghost use Rattle.std.specs.Prelude.{◌≡◌, ℕ, ◌<◌, ◌↔◌, length, All, AllPairs, Contains, IsSome, IsTrue, IfOk};
+ghost use Rattle.net_model.specs.Fault.{IsFaultOf};
+ghost use Rattle.net_model.specs.Answer.{bit_at};
+ghost use Rattle.word_sim.specs.GoodSim.{vectors_of};
+ghost use Rattle.fault_sim.specs.Rows.{IsFalse, IsTrueSomewhere};
+ghost use Rattle.fault_sim.specs.FaultSim.{row_at, AreDifferences, IsSomeDifference};
+
+use crate::events::{change_lines, mark_positions, show_positions};
+use crate::pending::Pending;
+use crate::rows::Rows;
+use crate::wiring::{Wiring, wiring_of};
+use net_model::{Circuit, Fault};
+use std::alloc::{AllocError, Global};
+use std::marker::Model;
+use word_sim::{GoodSim, LANES, Lanes};
+
+/// Where the answers under the last injected fault differ from the fault-free ones, in each lane.
+#[derive(Drop)]
+pub struct FaultSim<'a> {
+    circuit: &'a Circuit,
+    wiring: Wiring,
+    queue: Pending,
+    marks: Pending,
+    lines: Rows,
+    positions: Rows,
+}
+
+impl<'a> Model for FaultSim<'a> {
+    ghost use Rattle.fault_sim.specs.FaultSim as spec;
+
+    ghost Value = { spec.FaultSim };
+
+    ghost use Rattle.fault_sim.specs.FaultSimFields.{fault_sim_of, IsReady};
+
+    ghost view = { fault_sim_of };
+
+    ghost invariant = { IsReady };
+}
+
+impl<'a> FaultSim<'a> {
+    /// The simulator of a circuit's faults. Nothing differs before the first injection.
+    pub fn new(alloc: Global, circuit: &'a Circuit) -> Result<FaultSim<'a>, AllocError>
+        ensures circuit { IfOk result (λ sim. sim.circuit ≡ circuit.now) }
+        ensures whole { IfOk result (λ sim. length sim.differences ≡ length circuit.now.positions) }
+        ensures same { IfOk result (λ sim. All IsFalse sim.differences) }
+    {
+        let lines = circuit.lines() as usize;
+        let positions = circuit.positions().len();
+        Ok(FaultSim {
+            circuit,
+            wiring: wiring_of(alloc, circuit)?,
+            queue: Pending::new(alloc, lines)?,
+            marks: Pending::new(alloc, positions)?,
+            lines: Rows::new(alloc, lines, lines + 1)?,
+            positions: Rows::new(alloc, positions, positions)?,
+        })
+    }
+
+    /// Evaluates a fault at the vectors of the block that the fault-free simulator ran last.
+    /// Only the fault's line and the gates that read a changed line are evaluated. It takes no memory.
+    pub fn inject(&mut self, good: &GoodSim, fault: &Fault)
+        requires circuit { good.now.circuit ≡ self.old.circuit }
+        requires ran { IsSome good.now.ran }
+        requires fault { IsFaultOf self.old.circuit fault.now }
+        ensures circuit { self.new.circuit ≡ self.old.circuit }
+        ensures differences { AreDifferences self.new.circuit fault.now (vectors_of good.now) self.new.differences }
+    {
+        let live = good.live();
+        self.lines.clear();
+        self.positions.clear();
+        change_lines(
+            self.circuit,
+            &self.wiring,
+            good,
+            live,
+            *fault,
+            &mut self.queue,
+            &mut self.lines,
+        );
+        mark_positions(
+            self.circuit,
+            &self.wiring,
+            *fault,
+            &self.lines,
+            &mut self.marks,
+        );
+        show_positions(
+            self.circuit,
+            good,
+            live,
+            *fault,
+            self.lines.as_slice(),
+            &mut self.marks,
+            &mut self.positions,
+        );
+    }
+
+    /// In which lanes the answers differ at a position. A lane with no vector is false.
+    pub fn differs(&self, position: u32) -> Lanes
+        requires { position < length self.now.circuit.positions }
+        ensures { result ≡ row_at self.now position }
+    {
+        self.positions.row(position)
+    }
+
+    /// The positions that differ in some lane, ascending.
+    pub fn differing_positions(&self) -> &[u32]
+        ensures within { All (λ position. position < length self.now.circuit.positions) result.now }
+        ensures exactly { (position : ℕ) → position < length self.now.circuit.positions → Contains result.now position ↔ IsTrueSomewhere (row_at self.now position) }
+        ensures ascending { AllPairs ◌<◌ result.now }
+    {
+        self.positions.listed()
+    }
+
+    /// In which lanes the answers differ at all.
+    pub fn any_difference(&self) -> Lanes
+        ensures { (lane : ℕ) → lane < LANES → IsTrue (bit_at result lane) ↔ IsSomeDifference self.now lane }
+    {
+        let mut lanes = Lanes::all(false);
+        for position in self.positions.listed() {
+            lanes = lanes.or(self.positions.row(*position));
+        }
+        lanes
+    }
+}
