@@ -1,7 +1,7 @@
 //! Small designs, with the names of their faults and the scope of a pair worked out by hand.
 
 ghost use Rattle.std.specs.Prelude.{◌≡◌, ◌<◌, ◌^◌, IfOk, length};
-ghost use Rattle.net_model.specs.Circuit.{line_count};
+ghost use Rattle.net_model.specs.Circuit.{FitsTogether, circuit_with, line_count};
 
 use crate::{Scope, list, name_text};
 use net_model::{Circuit, Design, Fault, Gate, Kind, Names, Pins, Site};
@@ -21,6 +21,23 @@ fn gate(alloc: Global, kind: Kind, lines: &[u32]) -> Result<Gate, AllocError>
     Ok(Gate { kind, pins })
 }
 
+fn design_of(
+    alloc: Global,
+    sources: u32,
+    gates: Vec<Gate>,
+    positions: Vec<u32>,
+    names: Names,
+) -> Result<Design, AllocError>
+    requires { FitsTogether (circuit_with sources gates.items positions.items) }
+    ensures circuit { IfOk result (λ design. design.circuit ≡ circuit_with sources gates.items positions.items) }
+    ensures names { IfOk result (λ design. design.names ≡ names) }
+{
+    match Circuit::build(alloc, sources, gates, positions) {
+        Ok(circuit) => Ok(Design { circuit, names }),
+        Err(_) => Err(AllocError),
+    }
+}
+
 // z is the AND of a and b.
 fn and_of_two(alloc: Global) -> Result<Design, AllocError>
     ensures lines { IfOk result (λ design. line_count design.circuit ≡ 3) }
@@ -35,8 +52,7 @@ fn and_of_two(alloc: Global) -> Result<Design, AllocError>
     names.push(b"a")?;
     names.push(b"b")?;
     names.push(b"z")?;
-    let circuit = Circuit::build_ordered(alloc, 2, gates, positions)?;
-    Ok(Design { circuit, names })
+    design_of(alloc, 2, gates, positions, names)
 }
 
 // b is the NOT of a, and z the OR of both.
@@ -53,10 +69,7 @@ fn not_and_or(alloc: Global) -> Result<Design, AllocError>
     names.push(b"a")?;
     names.push(b"b")?;
     names.push(b"z")?;
-    match Circuit::build(alloc, 1, gates, positions) {
-        Ok(circuit) => Ok(Design { circuit, names }),
-        Err(_) => Err(AllocError),
-    }
+    design_of(alloc, 1, gates, positions, names)
 }
 
 // The input a is observed twice.
@@ -69,8 +82,7 @@ fn shown_twice(alloc: Global) -> Result<Design, AllocError>
     positions.push(0)?;
     let mut names = Names::new(alloc);
     names.push(b"a")?;
-    let circuit = Circuit::build_ordered(alloc, 1, Vec::new(alloc), positions)?;
-    Ok(Design { circuit, names })
+    design_of(alloc, 1, Vec::new(alloc), positions, names)
 }
 
 // The names of all faults by number, each with a semicolon after it.

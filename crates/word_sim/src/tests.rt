@@ -89,7 +89,9 @@ fn shows(alloc: Global, kind: Kind, expected: [bool; 4]) -> Result<bool, AllocEr
 {
     let mut gates = Vec::new(alloc);
     gates.push(gate_of(alloc, kind)?)?;
-    let circuit = Circuit::build_ordered(alloc, 2, gates, Vec::new(alloc))?;
+    let Ok(circuit) = Circuit::build(alloc, 2, gates, Vec::new(alloc)) else {
+        return Err(AllocError);
+    };
     let mut block = Block::new(alloc, 2)?;
     Stream::new(2).fill(1, &mut block);
     let mut sim = GoodSim::new(alloc, &circuit)?;

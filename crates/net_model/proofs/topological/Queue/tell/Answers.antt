@@ -1,0 +1,51 @@
+use Rattle.std.proofs.Common.{◌≡◌, ◌∙◌, ◌-◌, take, get_or, ap, arith}
+use Rattle.std.proofs.lemmas.List.{get_or_read, take_more}
+use Rattle.net_model.proofs.QueueLemmas.{enough_so_far, is_open, reader_inside, told_closed, told_queued}
+use Rattle.net_model.proofs.topological.Queue.tell.Goals as goal
+use Rattle.net_model.proofs.topological.Queue.tell.Goals.{then-waits-eq0+in_ok-push, else-waits-eq0}
+
+pub index-requires : goal.index-requires
+index-requires c =
+    let readers = c.args.readers.now in
+    let i = c.loop-reader.reader-index in
+    let enough = enough_so_far readers c.args.self.now.waits.items i c.loop-reader-test.true c.requires.enough in
+    omega (arith, c.loop-reader.self.waits.ok.0, reader_inside (take i readers) c.args.self.now.waits.items c.loop-reader.self.waits.items c.args.self.now.order.items c.loop-reader.self.order.items (get_or readers i 0) c.loop-reader.invariant enough)
+
+pub overflow_sub-waits : goal.overflow_sub-waits
+overflow_sub-waits c =
+    let readers = c.args.readers.now in
+    let i = c.loop-reader.reader-index in
+    let waits = c.loop-reader.self.waits.items in
+    let enough = enough_so_far readers c.args.self.now.waits.items i c.loop-reader-test.true c.requires.enough in
+    let inside = reader_inside (take i readers) c.args.self.now.waits.items waits c.args.self.now.order.items c.loop-reader.self.order.items (get_or readers i 0) c.loop-reader.invariant enough in
+    let some = is_open (take i readers) c.args.self.now.waits.items waits c.args.self.now.order.items c.loop-reader.self.order.items (get_or readers i 0) c.loop-reader.invariant enough in
+    omega (arith, some, get_or_read waits (get_or readers i 0) c.index.result.now inside c.index.ensures 0)
+
+pub index_mut-requires : goal.index_mut-requires
+index_mut-requires c =
+    let readers = c.args.readers.now in
+    let i = c.loop-reader.reader-index in
+    let enough = enough_so_far readers c.args.self.now.waits.items i c.loop-reader-test.true c.requires.enough in
+    omega (arith, c.loop-reader.self.waits.ok.0, reader_inside (take i readers) c.args.self.now.waits.items c.loop-reader.self.waits.items c.args.self.now.order.items c.loop-reader.self.order.items (get_or readers i 0) c.loop-reader.invariant enough)
+
+pub loop-reader-preserved : goal.loop-reader-preserved
+loop-reader-preserved c =
+    let readers = c.args.readers.now in
+    let i = c.loop-reader.reader-index in
+    let reader = get_or readers i 0 in
+    let old = c.args.self.now.waits.items in
+    let waits = c.loop-reader.self.waits.items in
+    let order = c.args.self.now.order.items in
+    let longer = c.loop-reader.self.order.items in
+    let enough = enough_so_far readers old i c.loop-reader-test.true c.requires.enough in
+    let inside = reader_inside (take i readers) old waits order longer reader c.loop-reader.invariant enough in
+    let left : c.index.result.now - 1 ≡ get_or waits reader 0 - 1 = ap (λ n. n - 1) (get_or_read waits reader c.index.result.now inside c.index.ensures 0) in
+    rw (take_more readers i 0 c.loop-reader-test.true)
+    (elim c.if-waits-eq0.branch [
+      | then-waits-eq0+in_ok-push w ↦
+          told_queued (take i readers) old waits order longer reader c.loop-reader.invariant enough (c.index.result.now - 1) c.if-waits-eq0.self.waits.items c.if-waits-eq0.self.order.items
+          left (ap (λ q. q.waits.items) w.self-is) (w.if-waits-eq0.true, ap (λ q. q.order.items) w.self-is ∙ w.in_ok-push.ensures.items)
+      | else-waits-eq0 w ↦
+          told_closed (take i readers) old waits order longer reader c.loop-reader.invariant enough (c.index.result.now - 1) c.if-waits-eq0.self.waits.items c.if-waits-eq0.self.order.items
+          left (ap (λ q. q.waits.items) w.self-is) (w.if-waits-eq0.false, ap (λ q. q.order.items) w.self-is)
+    ])
