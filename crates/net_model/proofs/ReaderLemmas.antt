@@ -6,7 +6,7 @@ use Rattle.std.proofs.lemmas.List.{length-set, get_or-set_same, get_or-set_other
 use Rattle.net_model.specs.Circuit.{Circuit, line_count, pins_of}
 use Rattle.net_model.specs.Topological.{count_of, readers_at, AddsReader, AreReaders}
 use Rattle.net_model.proofs.Orders.{reader_is_gate}
-use Rattle.net_model.proofs.QueueLemmas.{count_if, count_same, count_other, count_has}
+use Rattle.net_model.proofs.OpenPins.{count_if, count_same, count_other, count_has}
 
 -- so many, if the test holds
 if_zero : (b : Bool) → count_if b 0 ≡ 0

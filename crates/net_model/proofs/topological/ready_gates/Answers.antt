@@ -2,7 +2,7 @@ use Rattle.std.proofs.Common.{◌≡◌, ◌∙◌, [], inl, inr, ap, subst, ari
 use Rattle.net_model.specs.Circuit.{line_count, pins_of}
 use Rattle.net_model.specs.Topological.{parts_circuit, open_pins}
 use Rattle.net_model.proofs.Wired.{few_pins_of}
-use Rattle.net_model.proofs.QueueLemmas.{IsStart, start_more, start_done}
+use Rattle.net_model.proofs.QueueSteps.{IsStart, start_more, start_done}
 use Rattle.net_model.proofs.topological.ready_gates.Goals as goal
 use Rattle.net_model.proofs.topological.ready_gates.Goals.{then-pins-eq0+in_ok-push-2, else-pins-eq0}
 

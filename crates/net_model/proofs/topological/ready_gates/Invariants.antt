@@ -1,5 +1,5 @@
 use Rattle.net_model.specs.Topological.{parts_circuit}
-use Rattle.net_model.proofs.QueueLemmas.{IsStart}
+use Rattle.net_model.proofs.QueueSteps.{IsStart}
 use Rattle.net_model.proofs.topological.ready_gates.Given as goal
 
 abbrev pub invariant-loop-line : goal.invariant-loop-line

@@ -1,7 +1,8 @@
 use Rattle.std.proofs.Common.{◌≡◌, ◌∙◌, ◌<◌, ◌+◌, ◌-◌, ℕ, List, length, get_or, ap, subst, arith, length-append}
 use Rattle.std.proofs.lemmas.List.{get_or_read}
 use Rattle.net_model.specs.Topological.{parts_circuit, readers_at, IsTold}
-use Rattle.net_model.proofs.QueueLemmas.{queue_short, head_gate, enough, queue_step}
+use Rattle.net_model.proofs.QueueEnd.{queue_short}
+use Rattle.net_model.proofs.QueueSteps.{head_gate, enough, queue_step}
 use Rattle.net_model.proofs.topological.sorted.Goals as goal
 
 pub at-requires : goal.at-requires

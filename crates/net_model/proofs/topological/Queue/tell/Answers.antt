@@ -1,6 +1,6 @@
 use Rattle.std.proofs.Common.{◌≡◌, ◌∙◌, ◌-◌, take, get_or, ap, arith}
 use Rattle.std.proofs.lemmas.List.{get_or_read, take_more}
-use Rattle.net_model.proofs.QueueLemmas.{enough_so_far, is_open, reader_inside, told_closed, told_queued}
+use Rattle.net_model.proofs.QueueSteps.{enough_so_far, is_open, reader_inside, told_closed, told_queued}
 use Rattle.net_model.proofs.topological.Queue.tell.Goals as goal
 use Rattle.net_model.proofs.topological.Queue.tell.Goals.{then-waits-eq0+in_ok-push, else-waits-eq0}
 
