@@ -1,10 +1,15 @@
 pub mod Pieces
-pub mod Phrases
-pub mod Numbers
+pub mod ScanLemmas
+pub mod StopLemmas
+pub mod StateLemmas
 pub mod PinLemmas
-pub mod TakeLemmas
-pub mod Lines
+pub mod Positions
 pub mod NameLemmas
-pub mod WordLemmas
-pub mod OrderLemmas
-pub mod ReadSoFar
+pub mod SizeLemmas
+pub mod ReadLemmas
+pub mod LawLemmas
+pub mod AllLemmas
+pub mod NumberLemmas
+pub mod PhraseLemmas
+-- What a text is once its names' drivers are judged
+pub mod DriverLemmas

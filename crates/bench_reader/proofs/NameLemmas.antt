@@ -1,18 +1,24 @@
--- The names of statements, as statements are added.
-use Rattle.std.proofs.Common.{◌≡◌, ◌∙◌, Bool, true, false, List, [], ◌∷◌, ◌++◌, length, refl, ap, sym, append_assoc}
-use Rattle.std.specs.Prelude.{map, filter, flat_map, not, ◌||◌, ◌&&◌, option_map, if◌then◌else◌}
-use Rattle.std.specs.List.{list_all}
-use Rattle.std.specs.Option.{option_to_list}
+-- The names of statements, as names are added.
+use Rattle.std.proofs.Common.{◌≡◌, ◌∙◌, ℕ, suc, ◌+◌, ◌≤◌, ◌<◌, take, get_or, Bool, true, false, List, [], ◌∷◌, ◌++◌, length, refl, ap, sym, append_assoc, arith, length-append}
+use Rattle.std.specs.Prelude.{map, All, filter, flat_map, not, ◌||◌, unwrap_or, position, if◌then◌else◌}
 use Rattle.std.specs.Str.{bytes_eq}
 use Rattle.std.proofs.lemmas.Slice.Eq.{bytes_eq-Decides}
-use Rattle.std.proofs.lemmas.List.{append-nil, map-append}
+use Rattle.std.proofs.lemmas.List.{append-nil, map-append, take_more}
 use Rattle.std.proofs.lemmas.List.Elements.{filter-append}
 use Rattle.std.proofs.lemmas.List.Folds.{list_any-append}
+use Rattle.std.proofs.lemmas.Map.Views.{any-filter_same}
 use Rattle.std.proofs.lemmas.Grind.{flat_map-append}
+use Rattle.bench_reader.specs.declared.statement.Word.{Word}
+use Rattle.bench_reader.specs.declared.word.Port.{Port}
+use Rattle.bench_reader.specs.declared.word.Port.TheVariants as says
+use Rattle.bench_reader.specs.declared.scanner.Lexeme.{Lexeme}
+use Rattle.bench_reader.specs.Scanning.{text_in, named_in}
+use Rattle.bench_reader.specs.Shapes.{port_phrase}
 use Rattle.bench_reader.specs.Tokens.{Text}
-use Rattle.bench_reader.specs.Grammar.{Named, Phrase, input_phrase, output_phrase, gate_phrase, driven_name, phrase_names, takes}
-use Rattle.bench_reader.specs.Reading.{distinct_names, names_of}
-use Rattle.bench_reader.specs.Narrow.{is_one_of, driven_texts, fits_among}
+use Rattle.bench_reader.specs.Grammar.{Named, Driver, gate_driver, flip_flop_driver, Phrase, input_phrase, output_phrase, gate_phrase, phrase_names}
+use Rattle.bench_reader.specs.Reading.{distinct_names, names_of, word_of, statement_with, statement_of}
+use Rattle.bench_reader.specs.Numbering.{is_one_of, with_name, with_names, port_statement, gate_statement}
+use Rattle.bench_reader.proofs.Positions.{placed, number_stays}
 
 -- ---- equal texts
 
@@ -23,6 +29,9 @@ symmetric x y = by (bytes_eq x y) (bytes_eq y x) (λ e. (bytes_eq-Decides y x).1
     by true t f g = sym (f refl)
     by false true f g = g refl
     by false false f g = refl
+
+pub same_text : (x : Text) → bytes_eq x x ≡ true
+same_text x = (bytes_eq-Decides x x).1 refl
 
 -- ---- a text behind others
 
@@ -44,6 +53,40 @@ distinct_more (x ∷ xs) y =
     by false true e = ap (λ ts. x ∷ ts) (filter-append (λ other. not (bytes_eq x other)) (distinct_names xs) (y ∷ []) ∙ ap (λ ts. filter (λ other. not (bytes_eq x other)) (distinct_names xs) ++ ts) (keep_one x y true e) ∙ append-nil (filter (λ other. not (bytes_eq x other)) (distinct_names xs)))
     by false false e = ap (λ ts. x ∷ ts) (filter-append (λ other. not (bytes_eq x other)) (distinct_names xs) (y ∷ []) ∙ ap (λ ts. filter (λ other. not (bytes_eq x other)) (distinct_names xs) ++ ts) (keep_one x y false e))
 
+-- the same texts are among the distinct names
+distinct_members : (xs : List Text) (t : Text) → is_one_of (distinct_names xs) t ≡ is_one_of xs t
+distinct_members [] t = refl
+distinct_members (x ∷ xs) t = by (bytes_eq t x) refl (distinct_members xs t)
+  where
+    kept : bytes_eq t x ≡ false → (k : Text) → bytes_eq t k ≡ true → not (bytes_eq x k) ≡ true
+    kept e k f = let g : bytes_eq x k ≡ false = rw (← (bytes_eq-Decides t k).0 f) (symmetric x t ∙ e) in rw g refl
+
+    by : (b : Bool) → bytes_eq t x ≡ b → is_one_of (distinct_names xs) t ≡ is_one_of xs t → (b || is_one_of (filter (λ other. not (bytes_eq x other)) (distinct_names xs)) t) ≡ (b || is_one_of xs t)
+    by true e same = refl
+    by false e same = any-filter_same (bytes_eq t) (λ other. not (bytes_eq x other)) true (kept e) (distinct_names xs) ∙ same
+
+distinct_with : (xs : List Text) (y : Text) → distinct_names (xs ++ y ∷ []) ≡ with_name (distinct_names xs) y
+distinct_with xs y = distinct_more xs y ∙ ap (λ b. if b then distinct_names xs else distinct_names xs ++ y ∷ []) (sym (distinct_members xs y))
+
+abbrev pub texts : List Named → List Text
+texts names = map (λ n. n.0) names
+
+distinct_all : (xs : List Text) (ns : List Named) → distinct_names (xs ++ texts ns) ≡ with_names (distinct_names xs) ns
+distinct_all xs [] = ap distinct_names (append-nil xs)
+distinct_all xs (n ∷ ns) = ap distinct_names (sym (append_assoc xs (n.0 ∷ []) (texts ns))) ∙ distinct_all (xs ++ n.0 ∷ []) ns ∙ ap (λ ts. with_names ts ns) (distinct_with xs n.0)
+
+pub names_more : (phrases : List Phrase) (p : Phrase) → names_of (phrases ++ p ∷ []) ≡ with_names (names_of phrases) (phrase_names p)
+unfolding names_of
+names_more phrases p =
+    ap (λ ns. distinct_names (texts ns)) (flat_map-append phrase_names phrases (p ∷ [])) ∙ ap distinct_names (map-append (λ n. n.0) (flat_map phrase_names phrases) (phrase_names p ++ []))
+    ∙ ap (λ (ns : List Named). distinct_names (texts (flat_map phrase_names phrases) ++ texts ns)) (append-nil (phrase_names p)) ∙ distinct_all (texts (flat_map phrase_names phrases)) (phrase_names p)
+
+pub no_names : names_of [] ≡ []
+unfolding names_of
+no_names = refl
+
+-- ---- names that are added
+
 -- these texts are all among those
 abbrev pub AreAmong : List Text → List Text → Type 0
 AreAmong xs [] = Unit {0}
@@ -53,128 +96,123 @@ pub among_more : (xs zs ys : List Text) → AreAmong xs ys → AreAmong (xs ++ z
 among_more xs zs [] a = tt
 among_more xs zs (y ∷ ys) a = (list_any-append (bytes_eq y) xs zs ∙ rw a.0 refl, among_more xs zs ys a.1)
 
-distinct_known : (xs ys : List Text) → AreAmong xs ys → distinct_names (xs ++ ys) ≡ distinct_names xs
-distinct_known xs [] a = ap distinct_names (append-nil xs)
-distinct_known xs (y ∷ ys) a =
-    ap distinct_names (sym (append_assoc xs (y ∷ []) ys)) ∙ distinct_known (xs ++ y ∷ []) ys (among_more xs (y ∷ []) ys a.1) ∙ distinct_more xs y ∙ rw a.0 refl
-
--- ---- membership
-
-or_right : (b : Bool) → (b || true) ≡ true
-or_right true = refl
-or_right false = refl
-
-same_member : (xs : List Text) (t y : Text) → bytes_eq t y ≡ true → is_one_of xs y ≡ true → is_one_of xs t ≡ true
-same_member xs t y e a = rw (← (bytes_eq-Decides t y).0 e) at a
-
--- texts that are all among others add no member
-known_members : (xs ys : List Text) (t : Text) → AreAmong xs ys → (is_one_of xs t || is_one_of ys t) ≡ is_one_of xs t
-known_members xs [] t a = by (is_one_of xs t)
+-- names grow at their end
+pub name_grows : (names : List Text) (t : Text) → (more : List Text) × (with_name names t ≡ names ++ more) × (is_one_of (with_name names t) t ≡ true)
+name_grows names t = by (is_one_of names t) refl
   where
-    by : (b : Bool) → (b || false) ≡ b
-    by true = refl
-    by false = refl
-known_members xs (y ∷ ys) t a = by (is_one_of xs t) (bytes_eq t y) (is_one_of ys t) (λ e. same_member xs t y e a.0) (known_members xs ys t a.1)
+    last : (b : Bool) → (b || (bytes_eq t t || false)) ≡ true
+    last true = refl
+    last false = rw (same_text t) refl
+
+    by : (b : Bool) → is_one_of names t ≡ b → (more : List Text) × ((if b then names else names ++ t ∷ []) ≡ names ++ more) × (is_one_of (if b then names else names ++ t ∷ []) t ≡ true)
+    by true e = ([], sym (append-nil names), e)
+    by false e = (t ∷ [], refl, list_any-append (bytes_eq t) names (t ∷ []) ∙ last (is_one_of names t))
+
+pub names_grow : (names : List Text) (ns : List Named) → (more : List Text) × (with_names names ns ≡ names ++ more) × AreAmong (with_names names ns) (texts ns)
+names_grow names [] = ([], sym (append-nil names), tt)
+names_grow names (n ∷ ns) =
+    let one = name_grows names n.0 in
+    let rest = names_grow (with_name names n.0) ns in
+    let e : with_names (with_name names n.0) ns ≡ with_name names n.0 ++ rest.0 = rest.1 in
+    (one.0 ++ rest.0, e ∙ ap (λ ts. ts ++ rest.0) one.1 ∙ append_assoc names one.0 rest.0, (rw e (list_any-append (bytes_eq n.0) (with_name names n.0) rest.0 ∙ rw one.2 refl), rest.2))
+
+pub names_push : (names : List Text) (ns : List Named) (n : Named) → with_names names (ns ++ n ∷ []) ≡ with_name (with_names names ns) n.0
+names_push names [] n = refl
+names_push names (m ∷ ns) n = names_push (with_name names m.0) ns n
+
+name_length : (names : List Text) (t : Text) → length (with_name names t) ≤ length names + 1
+name_length names t = by (is_one_of names t)
   where
-    by : (x b r : Bool) → (b ≡ true → x ≡ true) → (x || r) ≡ x → (x || (b || r)) ≡ x
-    by true b r f g = refl
-    by false true r f g = sym (f refl)
-    by false false r f g = g
+    by : (b : Bool) → length (if b then names else names ++ t ∷ []) ≤ length names + 1
+    by true = omega arith
+    by false = omega (arith, length-append names (t ∷ []))
 
--- ---- phrases
+pub names_length : (names : List Text) (ns : List Named) → length (with_names names ns) ≤ length names + length ns
+names_length names [] = omega arith
+names_length names (n ∷ ns) = omega (arith, name_length names n.0, names_length (with_name names n.0) ns)
 
-abbrev pub texts : List Named → List Text
-texts names = map (λ n. n.0) names
+-- ---- words that stay
 
-abbrev pub all_texts : List Phrase → List Text
-all_texts phrases = texts (flat_map phrase_names phrases)
+-- what holds of each name
+abbrev pub AllNamed : (Named → Type 0) → List Named → Type 0
+AllNamed P [] = Unit {0}
+AllNamed P (n ∷ ns) = P n × AllNamed P ns
 
--- the text that a statement drives
-abbrev pub new_texts : Phrase → List Text
-new_texts phrase = option_to_list (option_map (λ n. n.0) (driven_name phrase))
+map_same : (f g : Named → Word) (ns : List Named) → AllNamed (λ n. f n ≡ g n) ns → map f ns ≡ map g ns
+map_same f g [] h = refl
+map_same f g (n ∷ ns) h = rw (h.0, map_same f g ns h.1) refl
 
-pub driven_more : (phrases : List Phrase) (p : Phrase) → driven_texts (phrases ++ p ∷ []) ≡ driven_texts phrases ++ new_texts p
-driven_more [] (input_phrase n) = refl
-driven_more [] (output_phrase n) = refl
-driven_more [] (gate_phrase n driver word pins) = refl
-driven_more (input_phrase m ∷ phrases) p = ap (λ ts. m.0 ∷ ts) (driven_more phrases p)
-driven_more (output_phrase m ∷ phrases) p = driven_more phrases p
-driven_more (gate_phrase m driver word pins ∷ phrases) p = ap (λ ts. m.0 ∷ ts) (driven_more phrases p)
+statement_same : (f g : Named → Word) (p : Phrase) → AllNamed (λ n. f n ≡ g n) (phrase_names p) → statement_with f p ≡ statement_with g p
+statement_same f g (input_phrase n) h = rw h.0 refl
+statement_same f g (output_phrase n) h = rw h.0 refl
+statement_same f g (gate_phrase n (gate_driver kind) word pins) h = rw (h.0, map_same f g pins h.1) refl
+statement_same f g (gate_phrase n flip_flop_driver word []) h = rw h.0 refl
+statement_same f g (gate_phrase n flip_flop_driver word (pin ∷ pins)) h = rw (h.0, h.1.0) refl
 
-texts_more : (phrases : List Phrase) (p : Phrase) → all_texts (phrases ++ p ∷ []) ≡ all_texts phrases ++ texts (phrase_names p)
-texts_more phrases p =
-    ap texts (flat_map-append phrase_names phrases (p ∷ [])) ∙ map-append (λ n. n.0) (flat_map phrase_names phrases) (phrase_names p ++ [])
-    ∙ ap (λ (ns : List Named). all_texts phrases ++ texts ns) (append-nil (phrase_names p))
+stays : (text : Text) (names more : List Text) (ns : List Named) → AreAmong names (texts ns) → AllNamed (λ n. word_of text names n ≡ word_of text (names ++ more) n) ns
+stays text names more [] a = tt
+stays text names more (n ∷ ns) a =
+    let s = number_stays (bytes_eq n.0) names more a.0 in
+    let e : unwrap_or (position (bytes_eq n.0) names) 0 ≡ unwrap_or (position (bytes_eq n.0) (names ++ more)) 0 = (placed (bytes_eq n.0) names a.0).0 ∙ sym s.0 ∙ sym (placed (bytes_eq n.0) (names ++ more) s.1).0 in
+    (rw e refl, stays text names more ns a.1)
 
--- the names are those that are driven, in order
-pub record AreNumbered (phrases : List Phrase) : Type 0 where
-  pub numbered : names_of phrases ≡ driven_texts phrases
-  pub same : (t : Text) → is_one_of (all_texts phrases) t ≡ is_one_of (driven_texts phrases) t
+pub words_stay : (text : Text) (names more : List Text) (ns : List Named) → AreAmong names (texts ns) → map (word_of text names) ns ≡ map (word_of text (names ++ more)) ns
+words_stay text names more ns a = map_same (word_of text names) (word_of text (names ++ more)) ns (stays text names more ns a)
 
--- what it says of a statement's names that it fits
-abbrev pub FitsFor : List Text → Phrase → Type 0
-FitsFor names (input_phrase n) = is_one_of names n.0 ≡ false
-FitsFor names (output_phrase n) = is_one_of names n.0 ≡ true
-FitsFor names (gate_phrase n driver word pins) = (is_one_of names n.0 ≡ false) × AreAmong names (texts pins) × (takes driver (length pins) ≡ true)
+pub word_stays : (text : Text) (names more : List Text) (n : Named) → is_one_of names n.0 ≡ true → word_of text names n ≡ word_of text (names ++ more) n
+word_stays text names more n a = (stays text names more (n ∷ []) (a, tt)).0
 
-both : (x y : Bool) → (x && y) ≡ true → (x ≡ true) × (y ≡ true)
-both true y e = (refl, e)
-both false y e = cc
+-- every name of these statements is among these
+abbrev pub AllKnown : List Text → List Phrase → Type 0
+AllKnown names [] = Unit {0}
+AllKnown names (p ∷ ps) = AreAmong names (texts (phrase_names p)) × AllKnown names ps
 
-negated : (x : Bool) → not x ≡ true → x ≡ false
-negated true e = cc
-negated false e = refl
+pub known_more : (names more : List Text) (ps : List Phrase) → AllKnown names ps → AllKnown (names ++ more) ps
+known_more names more [] a = tt
+known_more names more (p ∷ ps) a = (among_more names more (texts (phrase_names p)) a.0, known_more names more ps a.1)
 
-pins_known : (names : List Text) (pins : List Named) → list_all (λ pin. is_one_of names pin.0) pins ≡ true → AreAmong names (texts pins)
-pins_known names [] e = tt
-pins_known names (pin ∷ pins) e = let h = both (is_one_of names pin.0) (list_all (λ pin. is_one_of names pin.0) pins) e in (h.0, pins_known names pins h.1)
+pub known_push : (names : List Text) (ps : List Phrase) (p : Phrase) → AllKnown names ps → AreAmong names (texts (phrase_names p)) → AllKnown names (ps ++ p ∷ [])
+known_push names [] p a h = (h, tt)
+known_push names (q ∷ ps) p a h = (a.0, known_push names ps p a.1 h)
 
-pub fits_for : (names : List Text) (b : Bool) (p : Phrase) → fits_among names b p ≡ true → FitsFor names p
-unfolding fits_among
-fits_for names b (input_phrase n) e = negated (is_one_of names n.0) (both (not b) (not (is_one_of names n.0)) e).1
-fits_for names b (output_phrase n) e = e
-fits_for names b (gate_phrase n driver word pins) e =
-    let h = both (not (is_one_of names n.0) && list_all (λ pin. is_one_of names pin.0) pins) (takes driver (length pins)) e in
-    let k = both (not (is_one_of names n.0)) (list_all (λ pin. is_one_of names pin.0) pins) h.0 in
-    (negated (is_one_of names n.0) k.0, pins_known names pins k.1, h.1)
+pub statements_stay : (text : Text) (names more : List Text) (ps : List Phrase) → AllKnown names ps → map (statement_of text names) ps ≡ map (statement_of text (names ++ more)) ps
+unfolding statement_of
+statements_stay text names more [] a = refl
+statements_stay text names more (p ∷ ps) a =
+    rw (statement_same (word_of text names) (word_of text (names ++ more)) p (stays text names more (phrase_names p) a.0), statements_stay text names more ps a.1) refl
 
-pub early_input : (names : List Text) (b : Bool) (n : Named) → fits_among names b (input_phrase n) ≡ true → b ≡ false
-unfolding fits_among
-early_input names b n e = negated b (both (not b) (not (is_one_of names n.0)) e).0
+-- ---- statements by their words
 
-pub numbered_none : AreNumbered []
-unfolding names_of
-numbered_none = record { numbered = refl; same = λ t. refl }
+pub port_words : (text : Text) (names : List Text) (port : Port) (n : Named) → port_statement port (word_of text names n) ≡ statement_of text names (port_phrase port n)
+unfolding statement_of
+port_words text names says.Input n = refl
+port_words text names says.Output n = refl
 
-module _ (phrases : List Phrase) (a : AreNumbered phrases) where
-  -- names that are all driven already
-  old_names : (ys : List Text) → AreAmong (driven_texts phrases) ys → AreAmong (all_texts phrases) ys
-  old_names [] h = tt
-  old_names (y ∷ ys) h = (a.same y ∙ h.0, old_names ys h.1)
+pub gate_words : (text : Text) (names : List Text) (driver : Driver) (n w : Named) (pins : List Named) → gate_statement driver (word_of text names n) (map (word_of text names) pins) ≡ statement_of text names (gate_phrase n driver w pins)
+unfolding statement_of
+gate_words text names (gate_driver kind) n w pins = refl
+gate_words text names flip_flop_driver n w [] = refl
+gate_words text names flip_flop_driver n w (pin ∷ pins) = refl
 
-  new_name : (y : Text) → is_one_of (driven_texts phrases) y ≡ false → distinct_names (all_texts phrases ++ y ∷ []) ≡ driven_texts phrases ++ y ∷ []
-  unfolding names_of
-  new_name y e = distinct_more (all_texts phrases) y ∙ rw (a.same y ∙ e) (ap (λ ts. ts ++ y ∷ []) a.numbered)
+-- ---- pins, one after another
 
-  same_more : (y t : Text) → is_one_of (all_texts phrases ++ y ∷ []) t ≡ is_one_of (driven_texts phrases ++ y ∷ []) t
-  same_more y t = list_any-append (bytes_eq t) (all_texts phrases) (y ∷ []) ∙ ap (λ b. b || is_one_of (y ∷ []) t) (a.same t) ∙ sym (list_any-append (bytes_eq t) (driven_texts phrases) (y ∷ []))
+pub pins_push : (text : Text) (old names more : List Text) (pins : List Lexeme) (i : ℕ) (d : Lexeme) (words new : List Word) (word : Word) → i < length pins
+    → names ≡ with_names old (map (named_in text) (take i pins)) → words ≡ map (word_of text names) (map (named_in text) (take i pins))
+    → more ≡ with_name names (text_in text (get_or pins i d)) → word ≡ word_of text more (named_in text (get_or pins i d)) → new ≡ words ++ word ∷ []
+    → (more ≡ with_names old (map (named_in text) (take (i + 1) pins))) × (new ≡ map (word_of text more) (map (named_in text) (take (i + 1) pins)))
+pins_push text old names more pins i d words new word h n w m is e =
+    let done = map (named_in text) (take i pins) in
+    let pin = named_in text (get_or pins i d) in
+    let all : map (named_in text) (take (i + 1) pins) ≡ done ++ pin ∷ [] = ap (map (named_in text)) (take_more pins i d h) ∙ map-append (named_in text) (take i pins) (get_or pins i d ∷ []) in
+    let grown = name_grows names pin.0 in
+    let among : AreAmong names (texts done) = rw n (names_grow old done).2 in
+    let longer : more ≡ names ++ grown.0 = m ∙ grown.1 in
+    let same : map (word_of text names) done ≡ map (word_of text more) done = rw longer (words_stay text names grown.0 done among) in
+    (rw all (m ∙ ap (λ ns. with_name ns pin.0) n ∙ sym (names_push old done pin)), rw all (e ∙ ap (λ ws. ws ++ word ∷ []) (w ∙ same) ∙ ap (λ x. map (word_of text more) done ++ x ∷ []) is ∙ sym (map-append (word_of text more) done (pin ∷ []))))
 
-  pub numbered_more : (p : Phrase) → FitsFor (driven_texts phrases) p → AreNumbered (phrases ++ p ∷ [])
-  unfolding names_of
-  numbered_more (input_phrase n) f = record {
-    numbered = ap distinct_names (texts_more phrases (input_phrase n)) ∙ new_name n.0 f ∙ sym (driven_more phrases (input_phrase n));
-    same = λ t. rw (texts_more phrases (input_phrase n), driven_more phrases (input_phrase n)) (same_more n.0 t);
-  }
-  numbered_more (output_phrase n) f = record {
-    numbered = ap distinct_names (texts_more phrases (output_phrase n)) ∙ distinct_known (all_texts phrases) (n.0 ∷ []) (old_names (n.0 ∷ []) (f, tt)) ∙ a.numbered ∙ sym (append-nil (driven_texts phrases)) ∙ sym (driven_more phrases (output_phrase n));
-    same = λ t. rw (texts_more phrases (output_phrase n), driven_more phrases (output_phrase n), append-nil (driven_texts phrases))
-        (list_any-append (bytes_eq t) (all_texts phrases) (n.0 ∷ []) ∙ known_members (all_texts phrases) (n.0 ∷ []) t (old_names (n.0 ∷ []) (f, tt)) ∙ a.same t);
-  }
-  numbered_more (gate_phrase n driver word pins) f =
-      let among : AreAmong (all_texts phrases ++ n.0 ∷ []) (texts pins) = among_more (all_texts phrases) (n.0 ∷ []) (texts pins) (old_names (texts pins) f.1) in
-      let whole : all_texts (phrases ++ gate_phrase n driver word pins ∷ []) ≡ (all_texts phrases ++ n.0 ∷ []) ++ texts pins = texts_more phrases (gate_phrase n driver word pins) ∙ sym (append_assoc (all_texts phrases) (n.0 ∷ []) (texts pins)) in
-      record {
-        numbered = ap distinct_names whole ∙ distinct_known (all_texts phrases ++ n.0 ∷ []) (texts pins) among ∙ new_name n.0 f.0 ∙ sym (driven_more phrases (gate_phrase n driver word pins));
-        same = λ t. rw (whole, driven_more phrases (gate_phrase n driver word pins))
-            (list_any-append (bytes_eq t) (all_texts phrases ++ n.0 ∷ []) (texts pins) ∙ known_members (all_texts phrases ++ n.0 ∷ []) (texts pins) t among ∙ same_more n.0 t);
-      }
+pub all_tail : (P : Lexeme → Type 0) (x : Lexeme) (xs : List Lexeme) → All P (x ∷ xs) → All P xs
+all_tail P x xs a k d h = a (suc k) d (omega arith)
+
+pub none_in : {X : Type 0} (xs : List X) → length xs ≡ 0 → xs ≡ []
+none_in [] e = refl
+none_in (x ∷ xs) e = absurd (omega arith)

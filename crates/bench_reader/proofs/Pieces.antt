@@ -4,29 +4,11 @@ use Rattle.std.specs.Prelude.{nat_le, not, ◌&&◌, ◌||◌, ◌==◌, if◌th
 use Rattle.std.specs.List.{prefix_len}
 use Rattle.std.proofs.lemmas.Bool.Decides.{nat_tests}
 use Rattle.std.proofs.lemmas.List.Sums.{prefix_len-le-length}
-use Rattle.bench_reader.specs.Tokens.{Text, is_blank, is_name_byte, Piece, blank_piece, open_bracket, close_bracket, comma_mark, equals_mark, name_run, bad_byte, join_name, with_byte, pieces, piece_length}
-use Rattle.bench_reader.specs.Numbering.{begins_with, begins_with_name}
+use Rattle.bench_reader.specs.Tokens.{Text, is_blank, is_name_byte, Piece, blank_piece, open_bracket, close_bracket, comma_mark, equals_mark, name_run, bad_byte, join_name, with_byte, pieces}
 
--- whether pieces begin with a mark, and whether there are none
-abbrev pub opens : List Piece → Bool
-opens (open_bracket ∷ ps) = true
-opens _ = false
-
-abbrev pub closes : List Piece → Bool
-closes (close_bracket ∷ ps) = true
-closes _ = false
-
-abbrev pub parts : List Piece → Bool
-parts (comma_mark ∷ ps) = true
-parts _ = false
-
-abbrev pub equates : List Piece → Bool
-equates (equals_mark ∷ ps) = true
-equates _ = false
-
-abbrev pub is_nil : List Piece → Bool
-is_nil [] = true
-is_nil _ = false
+abbrev pub begins_with_name : List Piece → Bool
+begins_with_name (name_run text ∷ pieces) = true
+begins_with_name _ = false
 
 -- what fails of each case fails of the choice
 choose : (p : List Piece → Bool) (t1 t2 t3 t4 t5 t6 : Bool) (x1 x2 x3 x4 x5 x6 x7 : List Piece)
@@ -46,70 +28,8 @@ joined p none b (name_run text ∷ ps) = none (b ∷ text) ps
 joined p none b _ = none (b ∷ []) _
 
 module _ (b : ℕ) (ps : List Piece) where
-  not_open : (b == 40) ≡ false → opens (with_byte b ps) ≡ false
-  not_open e = choose opens (is_blank b) (b == 40) (b == 41) (b == 44) (b == 61) (is_name_byte b) _ _ _ _ _ _ _ (λ t. refl) (λ t. cc) (λ t. refl) (λ t. refl) (λ t. refl) (λ t. joined opens (λ text ps. refl) b ps) refl
-
-  not_close : (b == 41) ≡ false → closes (with_byte b ps) ≡ false
-  not_close e = choose closes (is_blank b) (b == 40) (b == 41) (b == 44) (b == 61) (is_name_byte b) _ _ _ _ _ _ _ (λ t. refl) (λ t. refl) (λ t. cc) (λ t. refl) (λ t. refl) (λ t. joined closes (λ text ps. refl) b ps) refl
-
-  not_comma : (b == 44) ≡ false → parts (with_byte b ps) ≡ false
-  not_comma e = choose parts (is_blank b) (b == 40) (b == 41) (b == 44) (b == 61) (is_name_byte b) _ _ _ _ _ _ _ (λ t. refl) (λ t. refl) (λ t. refl) (λ t. cc) (λ t. refl) (λ t. joined parts (λ text ps. refl) b ps) refl
-
-  not_equals : (b == 61) ≡ false → equates (with_byte b ps) ≡ false
-  not_equals e = choose equates (is_blank b) (b == 40) (b == 41) (b == 44) (b == 61) (is_name_byte b) _ _ _ _ _ _ _ (λ t. refl) (λ t. refl) (λ t. refl) (λ t. refl) (λ t. cc) (λ t. joined equates (λ text ps. refl) b ps) refl
-
   not_name : is_name_byte b ≡ false → begins_with_name (with_byte b ps) ≡ false
   not_name e = choose begins_with_name (is_blank b) (b == 40) (b == 41) (b == 44) (b == 61) (is_name_byte b) _ _ _ _ _ _ _ (λ t. refl) (λ t. refl) (λ t. refl) (λ t. refl) (λ t. refl) (λ t. cc) refl
-
-  not_nil : is_nil (with_byte b ps) ≡ false
-  not_nil = choose is_nil (is_blank b) (b == 40) (b == 41) (b == 44) (b == 61) (is_name_byte b) _ _ _ _ _ _ _ (λ t. refl) (λ t. refl) (λ t. refl) (λ t. refl) (λ t. refl) (λ t. joined is_nil (λ text ps. refl) b ps) refl
-
-pub opens_not : (text : Text) → begins_with 40 text ≡ false → opens (pieces text) ≡ false
-unfolding pieces
-opens_not [] e = refl
-opens_not (b ∷ bytes) e = not_open b (pieces bytes) e
-
-pub closes_not : (text : Text) → begins_with 41 text ≡ false → closes (pieces text) ≡ false
-unfolding pieces
-closes_not [] e = refl
-closes_not (b ∷ bytes) e = not_close b (pieces bytes) e
-
-pub parts_not : (text : Text) → begins_with 44 text ≡ false → parts (pieces text) ≡ false
-unfolding pieces
-parts_not [] e = refl
-parts_not (b ∷ bytes) e = not_comma b (pieces bytes) e
-
-pub equates_not : (text : Text) → begins_with 61 text ≡ false → equates (pieces text) ≡ false
-unfolding pieces
-equates_not [] e = refl
-equates_not (b ∷ bytes) e = not_equals b (pieces bytes) e
-
-pub some_piece : (text : Text) → 0 < length text → is_nil (pieces text) ≡ false
-unfolding pieces
-some_piece [] h = absurd (omega arith)
-some_piece (b ∷ bytes) h = not_nil b (pieces bytes)
-
--- ---- marks and names
-
-pub open_first : (text : Text) → pieces (40 ∷ text) ≡ open_bracket ∷ pieces text
-unfolding pieces
-open_first text = refl
-
-pub close_first : (text : Text) → pieces (41 ∷ text) ≡ close_bracket ∷ pieces text
-unfolding pieces
-close_first text = refl
-
-pub comma_first : (text : Text) → pieces (44 ∷ text) ≡ comma_mark ∷ pieces text
-unfolding pieces
-comma_first text = refl
-
-pub equals_first : (text : Text) → pieces (61 ∷ text) ≡ equals_mark ∷ pieces text
-unfolding pieces
-equals_first text = refl
-
-pub no_pieces : pieces [] ≡ []
-unfolding pieces
-no_pieces = refl
 
 -- a byte of a name is no other byte
 apart : (b n : ℕ) → nat_le 33 b ≡ true → n < 33 → (b == n) ≡ false
@@ -175,7 +95,7 @@ name_first text n e h = rw (← e) at (cut_name text).run ∙ run_is text n (rw 
 pub no_name : (text : Text) → prefix_len is_name_byte text ≡ 0 → begins_with_name (pieces text) ≡ false
 no_name text e = rw e at (cut_name text).stops
 
--- ---- how many pieces there are, and how long they are together
+-- ---- how many pieces there are
 
 each_choice : (P : List Piece → Type 0) (t1 t2 t3 t4 t5 t6 : Bool) (x1 x2 x3 x4 x5 x6 x7 : List Piece) → P x1 → P x2 → P x3 → P x4 → P x5 → P x6 → P x7
     → P (if t1 then x1 else if t2 then x2 else if t3 then x3 else if t4 then x4 else if t5 then x5 else if t6 then x6 else x7)
@@ -187,23 +107,15 @@ each_choice P false false false false true t6 x1 x2 x3 x4 x5 x6 x7 h1 h2 h3 h4 h
 each_choice P false false false false false true x1 x2 x3 x4 x5 x6 x7 h1 h2 h3 h4 h5 h6 h7 = h6
 each_choice P false false false false false false x1 x2 x3 x4 x5 x6 x7 h1 h2 h3 h4 h5 h6 h7 = h7
 
-abbrev pub total : List Piece → ℕ
-total [] = 0
-total (p ∷ ps) = piece_length p + total ps
+joined_grows : (b : ℕ) (ps : List Piece) → length (join_name b ps) ≤ suc (length ps)
+joined_grows b (name_run text ∷ ps) = omega arith
+joined_grows b _ = omega arith
 
--- one byte more, and at most one piece more
-abbrev Grows : List Piece → List Piece → Type 0
-Grows ps qs = (total qs ≡ suc (total ps)) × (length qs ≤ suc (length ps))
+byte_grows : (b : ℕ) (ps : List Piece) → length (with_byte b ps) ≤ suc (length ps)
+byte_grows b ps = each_choice (λ qs. length qs ≤ suc (length ps)) (is_blank b) (b == 40) (b == 41) (b == 44) (b == 61) (is_name_byte b) _ _ _ _ _ _ _
+    (omega arith) (omega arith) (omega arith) (omega arith) (omega arith) (joined_grows b ps) (omega arith)
 
-joined_grows : (b : ℕ) (ps : List Piece) → Grows ps (join_name b ps)
-joined_grows b (name_run text ∷ ps) = (omega arith, omega arith)
-joined_grows b _ = (omega arith, omega arith)
-
-byte_grows : (b : ℕ) (ps : List Piece) → Grows ps (with_byte b ps)
-byte_grows b ps = each_choice (Grows ps) (is_blank b) (b == 40) (b == 41) (b == 44) (b == 61) (is_name_byte b) _ _ _ _ _ _ _
-    (omega arith, omega arith) (omega arith, omega arith) (omega arith, omega arith) (omega arith, omega arith) (omega arith, omega arith) (joined_grows b ps) (omega arith, omega arith)
-
-pub pieces_size : (text : Text) → (total (pieces text) ≡ length text) × (length (pieces text) ≤ length text)
+pub few_pieces : (text : Text) → length (pieces text) ≤ length text
 unfolding pieces
-pieces_size [] = (refl, omega arith)
-pieces_size (b ∷ bytes) = let h = pieces_size bytes in let g = byte_grows b (pieces bytes) in (g.0 ∙ ap suc h.0, omega (arith, g.1, h.1))
+few_pieces [] = omega arith
+few_pieces (b ∷ bytes) = let h = few_pieces bytes in let g = byte_grows b (pieces bytes) in omega (arith, g, h)

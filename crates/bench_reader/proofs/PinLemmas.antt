@@ -1,84 +1,172 @@
--- The words of pins, one after another.
-use Rattle.std.proofs.Common.{◌≡◌, ℕ, ◌+◌, ◌<◌, Bool, true, false, List, [], ◌∷◌, ◌++◌, length, refl, ap, sym, append_assoc, arith, Option, None, Some}
-use Rattle.std.specs.Prelude.{option_map, map, ◌&&◌, if◌then◌else◌}
-use Rattle.std.specs.List.{list_all}
-use Rattle.bench_reader.specs.declared.statement.Word.{Word}
-use Rattle.bench_reader.specs.Tokens.{Text, Piece, close_bracket, comma_mark, name_run, Token, pieces, placed_pieces}
-use Rattle.bench_reader.specs.Grammar.{Named, pins_of}
-use Rattle.bench_reader.specs.Narrow.{is_one_of, if_passes}
-use Rattle.bench_reader.specs.Numbering.{word_on, pin_words, begins_with, begins_with_name}
-use Rattle.bench_reader.proofs.Pieces.{is_nil, close_first, comma_first, no_pieces, closes_not, parts_not, some_piece}
-use Rattle.bench_reader.proofs.Phrases.{no_pin, no_mark, no_last}
+-- The pins of a gate, one after another.
+use Rattle.std.proofs.Common.{◌≡◌, ◌∙◌, ℕ, ◌+◌, ◌<◌, true, false, List, [], ◌∷◌, ◌++◌, length, refl, ap, sym, append_assoc, arith, Option, None, Some}
+use Rattle.std.specs.Prelude.{◌≢◌, map, option_map, All, Vec}
+use Rattle.std.specs.declared.alloc.Global.{Global}
+use Rattle.std.proofs.lemmas.List.{append-nil, map-append, length-map}
+use Rattle.std.proofs.lemmas.List.Elements.{All-nil, All-cons, All-push}
+use Rattle.bench_reader.specs.declared.fault.NetFault.{NetFault}
+use Rattle.bench_reader.specs.declared.fault.NetFault.TheVariants.{At}
+use Rattle.bench_reader.specs.declared.fault.Place.{Place}
+use Rattle.bench_reader.specs.declared.scanner.LexemeKind.{LexemeKind}
+use Rattle.bench_reader.specs.declared.scanner.LexemeKind.TheVariants.{OpenBracket, CloseBracket, Comma, Equals, Name, BadByte, End}
+use Rattle.bench_reader.specs.declared.scanner.Lexeme.{Lexeme}
+use Rattle.bench_reader.specs.declared.fault.NetKind.TheVariants.{WrongPins}
+use Rattle.bench_reader.specs.declared.shape.Shape.TheVariants.{Gate}
+use Rattle.bench_reader.specs.declared.shape.GateHead.{GateHead}
+use Rattle.bench_reader.specs.Tokens.{Text, open_bracket, close_bracket, comma_mark, equals_mark, name_run, Token}
+use Rattle.bench_reader.specs.Grammar.{Named, gate_phrase, takes, pins_of, driven_phrase, phrase_of, CanBegin}
+use Rattle.bench_reader.specs.Refusal.{stop_of}
+use Rattle.bench_reader.specs.Scanning.{tokens_at, piece_of, text_in, named_in, token_in, IsLexeme, IsNext}
+use Rattle.bench_reader.specs.Shapes.{stop_kind, driver_in, head_tokens, IsHead, ArePins, IsStatement}
+use Rattle.bench_reader.specs.Stops.{StopsIn, in_pins, IsStop}
+use Rattle.bench_reader.proofs.StopLemmas.{stop_at}
+use Rattle.bench_reader.proofs.StateLemmas.{place_behind}
 
-module _ (line : ℕ) (names : List Text) where
-  abbrev pub known : List Named → Bool
-  known pins = list_all (λ pin. is_one_of names pin.0) pins
+-- Up to a byte these pins are read, each with the comma behind it.
+pub record PinsSoFar (text : Text) (from : ℕ) (pins : List Lexeme) (byte : ℕ) : Type 0 where
+  pub part : List Token
+  pub whole : tokens_at text from ≡ part ++ tokens_at text byte
+  pub ends : (more : List Token) → pins_of (part ++ more) ≡ option_map (λ rest. map (named_in text) pins ++ rest) (pins_of more)
+  pub names : All (IsLexeme text) pins
 
-  no_words : (tokens : List Token) → pins_of tokens ≡ None → pin_words line names tokens ≡ None
-  unfolding pin_words
-  no_words tokens e = rw e refl
+pub no_pins : (text : Text) (from : ℕ) → PinsSoFar text from [] from
+no_pins text from = record { part = []; whole = refl; ends = λ more. by (pins_of more); names = All-nil (IsLexeme text) }
+  where
+    by : (o : Option (List Named)) → o ≡ option_map (λ rest. [] ++ rest) o
+    by None = refl
+    by (Some pins) = refl
 
-  pub words_none : (byte : ℕ) (ps : List Piece) → begins_with_name ps ≡ false → pin_words line names (placed_pieces byte ps) ≡ None
-  words_none byte ps e = no_words (placed_pieces byte ps) (no_pin byte ps e)
+no_pin : (kind : LexemeKind) (run : Text) (byte : ℕ) (more : List Token) → kind ≢ Name → pins_of ((piece_of kind run, byte) ∷ more) ≡ None
+unfolding pins_of
+no_pin Name run byte more g = absurd (g refl)
+no_pin OpenBracket run byte more g = refl
+no_pin CloseBracket run byte more g = refl
+no_pin Comma run byte more g = refl
+no_pin Equals run byte more g = refl
+no_pin BadByte run byte more g = refl
+no_pin End run byte more g = refl
 
-  unknown_first : (n : Named) (o : Option (List Named)) → is_one_of names n.0 ≡ false → if_passes known (option_map (λ pins. n ∷ pins) o) ≡ None
-  unknown_first n None e = refl
-  unknown_first n (Some pins) e = rw e refl
+no_mark : (t : Text) (m : ℕ) (kind : LexemeKind) (run : Text) (byte : ℕ) (more : List Token) → kind ≢ Comma → kind ≢ CloseBracket → pins_of ((name_run t, m) ∷ (piece_of kind run, byte) ∷ more) ≡ None
+unfolding pins_of
+no_mark t m Comma run byte more g h = absurd (g refl)
+no_mark t m CloseBracket run byte more g h = absurd (h refl)
+no_mark t m Name run byte more g h = refl
+no_mark t m OpenBracket run byte more g h = refl
+no_mark t m Equals run byte more g h = refl
+no_mark t m BadByte run byte more g h = refl
+no_mark t m End run byte more g h = refl
 
-  pub words_unknown : (byte : ℕ) (name : Text) (ps : List Piece) → is_one_of names name ≡ false → pin_words line names (placed_pieces byte (name_run name ∷ ps)) ≡ None
-  unfolding pin_words pins_of
-  words_unknown byte name (close_bracket ∷ []) e = rw e refl
-  words_unknown byte name (comma_mark ∷ ps) e = rw (unknown_first (name, byte) (pins_of (placed_pieces (byte + length name + 1) ps)) e) refl
-  words_unknown byte name _ e = refl
+module _ (text : Text) (head : GateHead) (h : IsHead text head) where
+  abbrev pub begin : List Token
+  begin = (name_run (text_in text head.name), head.name.place.byte) ∷ (equals_mark, head.equals.place.byte) ∷ (name_run (text_in text head.word), head.word.place.byte) ∷ (open_bracket, head.bracket.place.byte) ∷ []
 
-  pub words_stop : (byte : ℕ) (name behind : Text) → begins_with 41 behind ≡ false → begins_with 44 behind ≡ false → pin_words line names (placed_pieces byte (name_run name ∷ pieces behind)) ≡ None
-  words_stop byte name behind e f = no_words (placed_pieces byte (name_run name ∷ pieces behind)) (no_mark byte name (pieces behind) (closes_not behind e) (parts_not behind f))
+  abbrev pub HeadTokens : List Token
+  HeadTokens = head_tokens text head ++ tokens_at text head.bracket.end
 
-  pub words_trail : (byte : ℕ) (name : Text) (ps : List Piece) → is_nil ps ≡ false → pin_words line names (placed_pieces byte (name_run name ∷ close_bracket ∷ ps)) ≡ None
-  words_trail byte name ps e = no_words (placed_pieces byte (name_run name ∷ close_bracket ∷ ps)) (no_last byte name ps e)
+  pub head_is : head_tokens text head ≡ begin
+  head_is = rw (h.is_name, h.is_equals, h.is_word, h.is_bracket) refl
 
-  pub words_last : (byte : ℕ) (name : Text) → is_one_of names name ≡ true → pin_words line names (placed_pieces byte (name_run name ∷ close_bracket ∷ [])) ≡ Some (word_on line names (name, byte) ∷ [])
-  unfolding pin_words pins_of
-  words_last byte name e = rw e refl
+  pub gate_is : (part : List Token) (pins : List Named) → pins_of part ≡ Some pins → phrase_of (begin ++ part) ≡ Some (gate_phrase (named_in text head.name) (driver_in head.driver) (named_in text head.word) pins)
+  unfolding phrase_of driven_phrase
+  gate_is part pins e = rw (h.driver, e) refl
 
-  one_more : (n : Named) (o : Option (List Named)) → is_one_of names n.0 ≡ true
-      → option_map (map (word_on line names)) (if_passes known (option_map (λ pins. n ∷ pins) o)) ≡ option_map (λ ws. word_on line names n ∷ ws) (option_map (map (word_on line names)) (if_passes known o))
-  one_more n None e = refl
-  one_more n (Some pins) e = by (is_one_of names n.0) (known pins) e
-    where
-      by : (b k : Bool) → b ≡ true
-          → option_map (map (word_on line names)) (if b && k then Some (n ∷ pins) else None) ≡ option_map (λ ws. word_on line names n ∷ ws) (option_map (map (word_on line names)) (if k then Some pins else None))
-      by true true e = refl
-      by true false e = refl
-      by false k e = cc
+  no_gate : (part : List Token) → pins_of part ≡ None → phrase_of (begin ++ part) ≡ None
+  unfolding phrase_of driven_phrase
+  no_gate part e = rw (h.driver, e) refl
 
-  pub words_more : (byte : ℕ) (name : Text) (ps : List Piece) → is_one_of names name ≡ true
-      → pin_words line names (placed_pieces byte (name_run name ∷ comma_mark ∷ ps)) ≡ option_map (λ ws. word_on line names (name, byte) ∷ ws) (pin_words line names (placed_pieces (byte + length name + 1) ps))
-  unfolding pin_words pins_of
-  words_more byte name ps e = one_more (name, byte) (pins_of (placed_pieces (byte + length name + 1) ps)) e
+  part_begins : (part more : List Token) (pins : List Named) → pins_of (part ++ more) ≡ Some pins → CanBegin (begin ++ part)
+  part_begins part more pins e = record { more = more; phrase = gate_phrase (named_in text head.name) (driver_in head.driver) (named_in text head.word) pins; is = gate_is (part ++ more) pins e }
 
--- words before words
-pub before : {A : Type 0} (ws : List A) (w : A) (o : Option (List A)) → option_map (λ more. ws ++ more) (option_map (λ more. w ∷ more) o) ≡ option_map (λ more. (ws ++ w ∷ []) ++ more) o
-before ws w None = refl
-before ws w (Some more) = ap Some (sym (append_assoc ws (w ∷ []) more))
+  part_wrong : (part : List Token) (token : Token) → ((more : List Token) → pins_of (part ++ token ∷ more) ≡ None) → ¬ CanBegin ((begin ++ part) ++ token ∷ [])
+  part_wrong part token none c =
+      let e : phrase_of (begin ++ (part ++ token ∷ []) ++ c.more) ≡ None = no_gate ((part ++ token ∷ []) ++ c.more) (rw append_assoc (none c.more)) in
+      let f : phrase_of (((begin ++ part) ++ token ∷ []) ++ c.more) ≡ Some c.phrase = c.is in
+      cc
 
-module _ (line : ℕ) (names : List Text) (words : List Word) (byte : ℕ) (rest name behind : Text) (first : pieces rest ≡ name_run name ∷ pieces behind) where
-  abbrev pub with_rest : List Token → Option (List Word)
-  with_rest tokens = option_map (λ more. words ++ more) (pin_words line names tokens)
+  part_stop : (part : List Token) (kind : LexemeKind) (run : Text) (byte : ℕ) → stop_of (begin ++ part) (piece_of kind run, byte) ≡ (stop_kind kind, byte)
+  part_stop part Name run byte = refl
+  part_stop part OpenBracket run byte = refl
+  part_stop part CloseBracket run byte = refl
+  part_stop part Comma run byte = refl
+  part_stop part Equals run byte = refl
+  part_stop part BadByte run byte = refl
+  part_stop part End run byte = refl
 
-  pub ends_unknown : is_one_of names name ≡ false → with_rest (placed_pieces byte (pieces rest)) ≡ None
-  ends_unknown e = rw (first, words_unknown line names byte name (pieces behind) e) refl
+  -- a lexeme with which the pins so far can't go on
+  part_stops : (part : List Token) (byte : ℕ) (a : Lexeme) (f : NetFault) → tokens_at text head.bracket.end ≡ part ++ tokens_at text byte → (more : List Token) (pins : List Named) → pins_of (part ++ more) ≡ Some pins → pins_of part ≡ None
+      → ((rest : List Token) → pins_of (part ++ token_in text a ∷ rest) ≡ None) → IsNext text byte a → f ≡ At (stop_kind a.kind) a.place → IsStop text HeadTokens f
+  part_stops part byte a f whole more pins begins none wrong next is =
+      stop_at text HeadTokens (begin ++ part) byte a f next (ap (λ ts. ts ++ tokens_at text head.bracket.end) head_is ∙ ap (λ ts. begin ++ ts) whole) is (λ e. cc)
+      (part_begins part more pins begins) (no_gate part none) (part_wrong part (token_in text a) wrong) (part_stop part a.kind (text_in text a) a.place.byte)
 
-  pub ends_stopped : begins_with 41 behind ≡ false → begins_with 44 behind ≡ false → with_rest (placed_pieces byte (pieces rest)) ≡ None
-  ends_stopped e f = rw (first, words_stop line names byte name behind e f) refl
+  module _ (pins : List Lexeme) (byte : ℕ) (s : PinsSoFar text head.bracket.end pins byte) where
+    pub pins_no_name : (a : Lexeme) (f : NetFault) → IsNext text byte a → a.kind ≢ Name → f ≡ At (stop_kind a.kind) a.place → IsStop text HeadTokens f
+    unfolding pins_of
+    pins_no_name a f next other is =
+        part_stops s.part byte a f s.whole ((name_run [], 0) ∷ (close_bracket, 0) ∷ []) (map (named_in text) pins ++ ([], 0) ∷ []) (s.ends ((name_run [], 0) ∷ (close_bracket, 0) ∷ [])) (rw append-nil at (s.ends []))
+        (λ rest. s.ends (token_in text a ∷ rest) ∙ rw (no_pin a.kind (text_in text a) a.place.byte rest other) refl) next is
 
-  pub ends_trailing : (end : Text) → behind ≡ 41 ∷ end → 0 < length end → with_rest (placed_pieces byte (pieces rest)) ≡ None
-  ends_trailing end e h = rw (first, e, close_first, words_trail line names byte name (pieces end) (some_piece end h)) refl
+    module _ (pin : Lexeme) (next : IsNext text byte pin) (is_name : pin.kind ≡ Name) where
+      abbrev pub pinned : List Token
+      pinned = s.part ++ (name_run (text_in text pin), pin.place.byte) ∷ []
 
-  pub ends_last : (end : Text) → behind ≡ 41 ∷ end → length end ≡ 0 → is_one_of names name ≡ true → with_rest (placed_pieces byte (pieces rest)) ≡ Some (words ++ word_on line names (name, byte) ∷ [])
-  ends_last (x ∷ end) e h k = absurd (omega arith)
-  ends_last [] e h k = rw (first, e, close_first, no_pieces, words_last line names byte name k) refl
+      pinned_whole : tokens_at text head.bracket.end ≡ pinned ++ tokens_at text pin.end
+      pinned_whole = s.whole ∙ rw (next.tokens, is_name) (sym (append_assoc s.part ((name_run (text_in text pin), pin.place.byte) ∷ []) (tokens_at text pin.end)))
 
-  pub goes_on : (next : Text) (at : ℕ) → at ≡ byte + length name + 1 → behind ≡ 44 ∷ next → is_one_of names name ≡ true
-      → with_rest (placed_pieces byte (pieces rest)) ≡ option_map (λ more. (words ++ word_on line names (name, byte) ∷ []) ++ more) (pin_words line names (placed_pieces at (pieces next)))
-  goes_on next at a e k = rw (a, first, e, comma_first, words_more line names byte name (pieces next) k) (before words (word_on line names (name, byte)) (pin_words line names (placed_pieces (byte + length name + 1) (pieces next))))
+      pinned_ends : (more : List Token) → pins_of (pinned ++ more) ≡ option_map (λ rest. map (named_in text) pins ++ rest) (pins_of ((name_run (text_in text pin), pin.place.byte) ∷ more))
+      pinned_ends more = ap pins_of (append_assoc s.part ((name_run (text_in text pin), pin.place.byte) ∷ []) more) ∙ s.ends ((name_run (text_in text pin), pin.place.byte) ∷ more)
+
+      pub pins_no_mark : (mark : Lexeme) (f : NetFault) → IsNext text pin.end mark → mark.kind ≢ Comma → mark.kind ≢ CloseBracket → f ≡ At (stop_kind mark.kind) mark.place → IsStop text HeadTokens f
+      unfolding pins_of
+      pins_no_mark mark f after g k is =
+          part_stops pinned pin.end mark f pinned_whole ((close_bracket, 0) ∷ []) (map (named_in text) pins ++ named_in text pin ∷ []) (pinned_ends ((close_bracket, 0) ∷ [])) (rw append-nil at (pinned_ends []))
+          (λ rest. pinned_ends (token_in text mark ∷ rest) ∙ rw (no_mark (text_in text pin) pin.place.byte mark.kind (text_in text mark) mark.place.byte rest g k) refl) after is
+
+      pub pins_more : (mark : Lexeme) (place : Place) → IsNext text pin.end mark → mark.kind ≡ Comma → place.byte ≡ mark.end → PinsSoFar text head.bracket.end (pins ++ pin ∷ []) place.byte
+      unfolding pins_of
+      pins_more mark place after comma b = record {
+        part = pinned ++ (comma_mark, mark.place.byte) ∷ [];
+        whole = pinned_whole ∙ rw (after.tokens, comma, b) (sym (append_assoc pinned ((comma_mark, mark.place.byte) ∷ []) (tokens_at text mark.end)));
+        ends = λ more. ap pins_of (append_assoc pinned ((comma_mark, mark.place.byte) ∷ []) more) ∙ pinned_ends ((comma_mark, mark.place.byte) ∷ more) ∙ join (pins_of more)
+            ∙ ap (λ ns. option_map (λ rest. ns ++ rest) (pins_of more)) (sym (map-append (named_in text) pins (pin ∷ [])));
+        names = All-push (IsLexeme text) pins pin s.names next.lexeme;
+      }
+        where
+          join : (o : Option (List Named)) → option_map (λ rest. map (named_in text) pins ++ rest) (option_map (λ rest. named_in text pin ∷ rest) o) ≡ option_map (λ rest. (map (named_in text) pins ++ named_in text pin ∷ []) ++ rest) o
+          join None = refl
+          join (Some rest) = ap Some (sym (append_assoc (map (named_in text) pins) (named_in text pin ∷ []) rest))
+
+      pub pins_fewer : (mark : Lexeme) (place : Place) → IsNext text pin.end mark → mark.kind ≡ Comma → place.byte ≡ mark.end → length (tokens_at text place.byte) < length (tokens_at text byte)
+      pins_fewer mark place after comma b = let e : length (tokens_at text byte) ≡ length (tokens_at text mark.end) + 2 = rw (next.tokens, is_name, after.tokens, comma) (omega arith) in rw b (omega (arith, e))
+
+      pub pins_done : (mark : Lexeme) (place : Place) (found : Vec Lexeme Global) → found.items ≡ pins ++ pin ∷ [] → IsNext text pin.end mark → mark.kind ≡ CloseBracket → place.byte ≡ mark.end → place.line ≡ mark.place.line → ArePins text head (found, place)
+      unfolding pins_of
+      pins_done mark place found is after closes b l = record {
+        group = pinned ++ (close_bracket, mark.place.byte) ∷ [];
+        whole = pinned_whole ∙ rw (after.tokens, closes, b) (sym (append_assoc pinned ((close_bracket, mark.place.byte) ∷ []) (tokens_at text mark.end)));
+        are = pinned_ends ((close_bracket, mark.place.byte) ∷ []) ∙ ap Some (sym (ap (map (named_in text)) is ∙ map-append (named_in text) pins (pin ∷ [])));
+        names = rw is (All-push (IsLexeme text) pins pin s.names next.lexeme);
+        place = place_behind text mark place after.lexeme b l;
+        within = rw b after.lexeme.within;
+      }
+
+  module _ (tokens : List Token) (same : tokens ≡ HeadTokens) (found : Vec Lexeme Global × Place) (a : ArePins text head found) where
+    all_tokens : tokens ≡ (begin ++ a.group) ++ tokens_at text found.1.byte
+    all_tokens = same ∙ ap (λ ts. ts ++ tokens_at text head.bracket.end) head_is ∙ ap (λ ts. begin ++ ts) a.whole
+
+    same_count : length (map (named_in text) found.0.items) ≡ length found.0.items
+    same_count = length-map found.0.items (named_in text)
+
+    pub gate_refused : takes (driver_in head.driver) (length found.0.items) ≡ false → StopsIn (length text) tokens (WrongPins, head.word.place.byte)
+    gate_refused e = in_pins (begin ++ a.group) (named_in text head.name) (driver_in head.driver) (named_in text head.word) (map (named_in text) found.0.items) (tokens_at text found.1.byte) all_tokens (gate_is a.group (map (named_in text) found.0.items) a.are) (ap (takes (driver_in head.driver)) same_count ∙ e) refl
+
+    pub gate_whole : takes (driver_in head.driver) (length found.0.items) ≡ true → IsStatement text tokens (Gate head.name head.driver head.word found.0, found.1)
+    gate_whole e = record {
+      group = begin ++ a.group;
+      whole = all_tokens;
+      is = gate_is a.group (map (named_in text) found.0.items) a.are;
+      right = ap (takes (driver_in head.driver)) same_count ∙ e;
+      names = All-cons (IsLexeme text) head.name found.0.items h.name a.names;
+      place = a.place;
+      within = a.within;
+    }

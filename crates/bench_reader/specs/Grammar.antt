@@ -1,8 +1,8 @@
 -- The statements of a netlist, as forms of token lists.
-use Rattle.std.specs.Prelude.{ℕ, Bool, List, [], ◌∷◌, find, codes, Option, None, Some, option_map, option_and_then, ◌==◌, if◌then◌else◌}
-use Rattle.std.specs.Str.{bytes_eq}
+use Rattle.std.specs.Prelude.{◌≡◌, ℕ, Bool, true, List, [], ◌∷◌, ◌++◌, length, find, codes, Option, None, Some, option_map, option_and_then, ◌==◌, if◌then◌else◌}
+use Rattle.std.specs.Str.{str_eq_ignore_ascii_case}
 use Rattle.net_model.specs.declared.gate.Kind.{Kind}
-use Rattle.net_model.specs.declared.gate.Kind.TheVariants.{Nand, Buff}
+use Rattle.net_model.specs.declared.gate.Kind.TheVariants.{And, Nand, Or, Nor, Xor, Xnor, Not, Buff}
 use Rattle.net_model.specs.Gate.{takes_pins}
 use Rattle.bench_reader.specs.Tokens.{Text, open_bracket, close_bracket, comma_mark, equals_mark, name_run, Token}
 
@@ -13,11 +13,16 @@ pub data Driver : Type 0 where
   flip_flop_driver : Driver
 
 abbrev pub drivers : List (Text × Driver)
-drivers = (codes "NAND", gate_driver Nand) ∷ (codes "BUFF", gate_driver Buff) ∷ []
+drivers =
+    (codes "AND", gate_driver And) ∷ (codes "NAND", gate_driver Nand) ∷ (codes "OR", gate_driver Or) ∷ (codes "NOR", gate_driver Nor) ∷ (codes "XOR", gate_driver Xor) ∷ (codes "XNOR", gate_driver Xnor)
+    ∷ (codes "NOT", gate_driver Not) ∷ (codes "BUFF", gate_driver Buff) ∷ (codes "BUF", gate_driver Buff) ∷ (codes "DFF", flip_flop_driver) ∷ []
 
--- what a gate word says
+-- what a gate word says, in any case
 unfoldable pub driver_of : Text → Option Driver
-driver_of word = option_map (λ x. x.1) (find (λ x. bytes_eq word x.0) drivers)
+driver_of word = option_map (λ x. x.1) (find (λ x. str_eq_ignore_ascii_case word x.0) drivers)
+
+abbrev pub is_word : Text → Text → Bool
+is_word keyword word = str_eq_ignore_ascii_case word keyword
 
 -- whether a gate may have so many pins
 abbrev pub takes : Driver → ℕ → Bool
@@ -43,7 +48,7 @@ pins_of ((name_run text, at) ∷ (comma_mark, b) ∷ tokens) = option_map (λ pi
 pins_of _ = None
 
 unfoldable pub observed_phrase : Text → Named → Option Phrase
-observed_phrase word n = if bytes_eq word (codes "INPUT") then Some (input_phrase n) else if bytes_eq word (codes "OUTPUT") then Some (output_phrase n) else None
+observed_phrase word n = if is_word (codes "INPUT") word then Some (input_phrase n) else if is_word (codes "OUTPUT") word then Some (output_phrase n) else None
 
 unfoldable pub driven_phrase : Named → Named → List Token → Option Phrase
 driven_phrase n word tokens = option_and_then (λ driver. option_map (gate_phrase n driver word) (pins_of tokens)) (driver_of word.0)
@@ -54,13 +59,30 @@ phrase_of ((name_run word, a) ∷ (open_bracket, b) ∷ (name_run text, at) ∷ 
 phrase_of ((name_run text, at) ∷ (equals_mark, b) ∷ (name_run word, w) ∷ (open_bracket, d) ∷ tokens) = driven_phrase (text, at) (word, w) tokens
 phrase_of _ = None
 
+-- Some whole statement begins with these tokens.
+pub record CanBegin (tokens : List Token) : Type 0 where
+  pub more : List Token
+  pub phrase : Phrase
+  pub is : phrase_of (tokens ++ more) ≡ Some phrase
+
+-- whether a gate has a number of pins that it takes
+abbrev pub has_right_pins : Phrase → Bool
+has_right_pins (input_phrase n) = true
+has_right_pins (output_phrase n) = true
+has_right_pins (gate_phrase n driver word pins) = takes driver (length pins)
+
 -- ---- the names of a statement
 
--- the name that a statement drives
+-- the name that a statement drives, and those that it uses
 abbrev pub driven_name : Phrase → Option Named
 driven_name (input_phrase n) = Some n
 driven_name (output_phrase n) = None
 driven_name (gate_phrase n driver word pins) = Some n
+
+abbrev pub used_names : Phrase → List Named
+used_names (input_phrase n) = []
+used_names (output_phrase n) = n ∷ []
+used_names (gate_phrase n driver word pins) = pins
 
 -- all its names, as written
 abbrev pub phrase_names : Phrase → List Named

@@ -1,10 +1,19 @@
 -- Laws of the definitions.
-use Rattle.bench_reader.specs.declared.fault.Place.{Place}
+use Rattle.std.specs.Prelude.{◌≡◌, ℕ}
 use Rattle.bench_reader.specs.declared.fault.NetKind.{NetKind}
 use Rattle.bench_reader.specs.Netlist.{Netlist}
 use Rattle.bench_reader.specs.Tokens.{Text}
-use Rattle.bench_reader.specs.Narrow.{IsNetlist, IsRefused}
+use Rattle.bench_reader.specs.Reading.{IsNetlist}
+use Rattle.bench_reader.specs.Refusal.{TextRefused}
 
 -- no text is both accepted and refused
 abbrev pub AcceptedOrRefused : Type 0
-AcceptedOrRefused = (text : Text) (netlist : Netlist) (kind : NetKind) (place : Place) → IsNetlist text netlist → IsRefused text kind place → ⊥
+AcceptedOrRefused = (text : Text) (netlist : Netlist) (refusal : NetKind × ℕ) → IsNetlist text netlist → TextRefused text refusal → ⊥
+
+-- a text is refused by one rule at one byte
+abbrev pub OneRefusal : Type 0
+OneRefusal = (text : Text) (one other : NetKind × ℕ) → TextRefused text one → TextRefused text other → one ≡ other
+
+-- a text reads as one netlist
+abbrev pub OneNetlist : Type 0
+OneNetlist = (text : Text) (one other : Netlist) → IsNetlist text one → IsNetlist text other → one ≡ other

@@ -3,12 +3,21 @@ pub mod Netlist
 pub mod Tokens
 pub mod Grammar
 pub mod Reading
-pub mod Narrow
+pub mod Refusal
 -- What is known of every netlist that is read
-pub mod InOrder
--- The names of a reader, and what it does with one line
+pub mod Driven
+-- Statements before their names are judged, and how they are
+pub mod Parsed
+pub mod Drivers
+-- How a text is read: bytes, tokens, statements
+pub mod Bytes
+pub mod Scanning
+pub mod Shapes
+pub mod Stops
 pub mod Numbering
+-- What the fields of the types show
+pub mod Names
 pub mod Fields
-pub mod ReaderFields
+pub mod ParsedFields
 -- Laws
 pub mod Laws

@@ -1,13 +1,14 @@
--- What the statements of a text read as: names by number, and words with their places.
-use Rattle.std.specs.Prelude.{ℕ, not, List, [], ◌∷◌, map, filter, filter_map, flat_map, unwrap_or, position}
+-- What a netlist's text reads as.
+use Rattle.std.specs.Prelude.{◌≡◌, ℕ, ◌≤◌, Bool, not, List, [], ◌∷◌, map, filter, filter_map, flat_map, find, length, take, unwrap_or, position, Option, Some, None, IsTrue, option_map}
+use Rattle.std.specs.List.{AllZip, list_any, enumerate_from}
 use Rattle.std.specs.Str.{bytes_eq}
 use Rattle.bench_reader.specs.declared.fault.Place.{Place}
 use Rattle.bench_reader.specs.declared.statement.Word.{Word}
 use Rattle.bench_reader.specs.declared.statement.Statement.{Statement}
 use Rattle.bench_reader.specs.declared.statement.Statement.TheVariants.{Input, Output, Drive, Flop}
 use Rattle.bench_reader.specs.Netlist.{Netlist}
-use Rattle.bench_reader.specs.Tokens.{Text, line_of}
-use Rattle.bench_reader.specs.Grammar.{Named, Driver, gate_driver, flip_flop_driver, Phrase, input_phrase, output_phrase, gate_phrase, driven_name, phrase_names}
+use Rattle.bench_reader.specs.Tokens.{Text, Token, tokens_of, line_of}
+use Rattle.bench_reader.specs.Grammar.{Named, Driver, gate_driver, flip_flop_driver, Phrase, input_phrase, output_phrase, gate_phrase, phrase_of, has_right_pins, driven_name, used_names, phrase_names}
 
 -- ---- names
 
@@ -20,9 +21,24 @@ distinct_names (text ∷ texts) = text ∷ filter (λ other. not (bytes_eq text 
 unfoldable pub names_of : List Phrase → List Text
 names_of phrases = distinct_names (map (λ n. n.0) (flat_map phrase_names phrases))
 
--- the names that are driven, in order
+-- whether a name is among some
+abbrev pub is_among : List Named → Text → Bool
+is_among names text = list_any (λ n. bytes_eq n.0 text) names
+
+-- the names that are driven, and those that are used, in order
 abbrev pub driven_names : List Phrase → List Named
 driven_names phrases = filter_map driven_name phrases
+
+abbrev pub all_used_names : List Phrase → List Named
+all_used_names phrases = flat_map used_names phrases
+
+-- the first name that is driven after it was driven before
+unfoldable pub driven_twice : List Phrase → Option Named
+driven_twice phrases = option_map (λ x. x.1) (find (λ x. is_among (take x.0 (driven_names phrases)) x.1.0) (enumerate_from 0 (driven_names phrases)))
+
+-- the first use of a name that nothing drives
+unfoldable pub undriven : List Phrase → Option Named
+undriven phrases = find (λ n. not (is_among (driven_names phrases) n.0)) (all_used_names phrases)
 
 -- ---- statements with numbered names
 
@@ -53,3 +69,27 @@ statement_of text names phrase = statement_with (word_of text names) phrase
 
 abbrev pub netlist_of : Text → List Phrase → Netlist
 netlist_of text phrases = record { statements = map (statement_of text (names_of phrases)) phrases; names = names_of phrases }
+
+-- ---- the whole text
+
+abbrev pub joined_tokens : List (List Token) → List Token
+joined_tokens groups = flat_map (λ group. group) groups
+
+-- The groups of tokens are these statements, one for each.
+abbrev pub ArePhrases : List (List Token) → List Phrase → Type 0
+ArePhrases groups phrases = AllZip (λ group phrase. (phrase_of group ≡ Some phrase) × IsTrue (has_right_pins phrase)) groups phrases
+
+-- The text is these statements, one after another.
+pub record IsText (text : Text) (phrases : List Phrase) : Type 0 where
+  pub short : length text ≤ 16777216
+  pub groups : List (List Token)
+  pub whole : tokens_of text ≡ joined_tokens groups
+  pub each : ArePhrases groups phrases
+
+-- The text is accepted, and reads as this netlist: each name that is used is driven, and none is driven twice.
+pub record IsNetlist (text : Text) (netlist : Netlist) : Type 0 where
+  pub phrases : List Phrase
+  pub is_text : IsText text phrases
+  pub once : driven_twice phrases ≡ None
+  pub all_driven : undriven phrases ≡ None
+  pub netlist_is : netlist ≡ netlist_of text phrases

@@ -1,5 +1,5 @@
--- The pieces of a line. Together they are the whole line.
-use Rattle.std.specs.Prelude.{ℕ, ◌+◌, Bool, not, ◌&&◌, ◌||◌, List, [], ◌∷◌, length, take, count_by, nat_le, ◌==◌, if◌then◌else◌}
+-- The tokens of a netlist's text. Together with the blanks between them they are the whole text.
+use Rattle.std.specs.Prelude.{ℕ, ◌+◌, Bool, true, false, not, ◌&&◌, ◌||◌, List, [], ◌∷◌, length, filter, take, count_by, nat_le, ◌==◌, if◌then◌else◌}
 
 abbrev pub Text : Type 0
 Text = List ℕ
@@ -13,6 +13,12 @@ is_blank b = b == 32 || b == 9 || b == 10 || b == 13
 -- the printable bytes but for ( ) , = and #
 unfoldable pub is_name_byte : ℕ → Bool
 is_name_byte b = nat_le 0x21 b && nat_le b 0x7E && not (b == 40 || b == 41 || b == 44 || b == 61 || b == 35)
+
+-- The text with blanks for its comments, each of which goes from a # up to the next LF; the flag says that the text begins inside one.
+unfoldable pub without_comments : Bool → Text → Text
+without_comments inside [] = []
+without_comments true (b ∷ bytes) = if b == 10 then b ∷ without_comments false bytes else 32 ∷ without_comments true bytes
+without_comments false (b ∷ bytes) = if b == 35 then 32 ∷ without_comments true bytes else b ∷ without_comments false bytes
 
 -- ---- pieces
 
@@ -60,6 +66,14 @@ Token = Piece × ℕ
 abbrev pub placed_pieces : ℕ → List Piece → List Token
 placed_pieces byte [] = []
 placed_pieces byte (piece ∷ pieces) = (piece, byte) ∷ placed_pieces (byte + piece_length piece) pieces
+
+abbrev pub is_blank_piece : Piece → Bool
+is_blank_piece blank_piece = true
+is_blank_piece _ = false
+
+-- the pieces that aren't blank
+unfoldable pub tokens_of : Text → List Token
+tokens_of text = filter (λ token. not (is_blank_piece token.0)) (placed_pieces 0 (pieces (without_comments false text)))
 
 -- the line of a byte
 abbrev pub line_of : Text → ℕ → ℕ

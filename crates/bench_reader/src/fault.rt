@@ -2,30 +2,44 @@
 ghost use Rattle.bench_reader.specs.declared.fault.NetFault.TheVariants.{NoMemory};
 ghost use Rattle.std.specs.Prelude.{◌≡◌};
 
+use net_model::Names;
 use std::alloc::{AllocError, AllocFailed};
 use thiserror::Error;
 
 /// Which rule of the text is broken.
 #[derive(Clone, Copy, Debug, PartialEq, Eq)]
 pub enum NetKind {
-    /// A line isn't a statement of the narrow form.
-    NotYet,
+    /// A byte that may stand only in comments.
+    BadByte,
+    /// The statement can't go on so, or the text ends inside it.
+    Expected,
+    /// A word is no gate's, or is neither `INPUT` nor `OUTPUT`.
+    UnknownGate,
+    /// A gate has a number of pins that it doesn't take.
+    WrongPins,
+    /// A name is driven again.
+    DrivenTwice,
+    /// A name is used, and nothing drives it.
+    Undriven,
     /// The text has more than 16,777,216 bytes.
     TooLong,
 }
 
 /// A byte of the text, from 0 on, and its line, from 1 on.
-#[derive(Clone, Copy, Debug, PartialEq, Eq)]
+#[derive(Clone, Copy, Debug, Default, PartialEq, Eq)]
 pub struct Place {
     pub byte: u32,
     pub line: u32,
 }
 
-/// Why a netlist is refused: a rule and a place, or want of memory.
+/// Why a netlist is refused: a rule and a place; a loop of gates, by the place of the name that its walk's first gate drives
+/// and the names along it; or want of memory.
 #[derive(Debug, Drop, Error)]
 pub enum NetFault {
     #[error("a rule of the netlist is broken")]
     At(NetKind, Place),
+    #[error("the gates form a loop")]
+    Loop(Place, Names),
     #[error("out of memory")]
     NoMemory,
 }

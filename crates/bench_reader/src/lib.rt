@@ -1,17 +1,21 @@
 //! Netlist texts in the `.bench` format.
 #![tactic(auto)]
 
+mod drivers;
 mod fault;
 mod laws;
-mod line;
-mod names;
-mod reader;
+mod numbers;
+mod parsed;
+mod parsing;
 mod reading;
+mod scanner;
+mod shape;
 mod statement;
 #[cfg(test)]
 mod tests;
+mod word;
 
 pub use fault::{NetFault, NetKind, Place};
-pub use laws::accepted_or_refused;
+pub use laws::{accepted_or_refused, one_netlist, one_refusal};
 pub use reading::read;
 pub use statement::{Statement, Statements, Word, Words};

@@ -1,43 +1,50 @@
 //! Reading a netlist's text.
-ghost use Rattle.std.specs.Prelude.{◌≡◌, ◌<◌, ℕ, Err, IfOk, count_by, ◌==◌, length};
-ghost use Rattle.bench_reader.specs.declared.fault.NetKind.{NetKind};
-ghost use Rattle.bench_reader.specs.declared.fault.Place.{Place};
-ghost use Rattle.bench_reader.specs.Narrow.{IsNetlist, IsRefused};
-ghost use Rattle.bench_reader.specs.Reading.{place_of};
+ghost use Rattle.std.specs.Prelude.{◌≡◌, ◌<◌, IfOk, IfErr, count_by, ◌==◌, length};
+ghost use Rattle.bench_reader.specs.Parsed.{IsParsed};
+ghost use Rattle.bench_reader.specs.Reading.{place_of, IsNetlist};
+ghost use Rattle.bench_reader.specs.Stops.{IsTextFault};
 
+use crate::drivers::check_drivers;
 use crate::fault::{NetFault, NetKind, Place};
-use crate::line::line_len;
-use crate::reader::Reader;
+use crate::parsed::Parsed;
+use crate::parsing::parse;
 use crate::statement::Statements;
 use std::alloc::Global;
 
 /// The most bytes that a text may have.
 const MOST_BYTES: usize = 16_777_216;
 
-/// Reads a netlist, a statement on each line.
+/// Reads a netlist: statements in the `.bench` format of Brglez and Fujiwara (1985), with comments from `#` to the end of a line.
+///
+/// # Errors
+/// `At` with the first rule that the text breaks and where: a text of more than 16,777,216 bytes; then, from left to right, the
+/// rules of bytes, words and statements; then a name that is driven twice; then a used name that nothing drives. `NoMemory` where
+/// memory is wanting. `Loop` never comes from here.
 pub fn read(alloc: Global, bytes: &[u8]) -> Result<Statements, NetFault>
     ensures ok { IfOk result (IsNetlist bytes.now) }
-    ensures refused { (kind : NetKind) (place : Place) → result ≡ Err (NetFault.At kind place) → IsRefused bytes.now kind place }
+    ensures refused { IfErr result (IsTextFault bytes.now) }
+{
+    let parsed = parse_short(alloc, bytes)?;
+    let fault = check_drivers(alloc, &parsed)?;
+    match fault {
+        Some((kind, place)) => Err(NetFault::At(kind, place)),
+        None => Ok(Statements {
+            statements: parsed.statements,
+            names: parsed.names,
+        }),
+    }
+}
+
+// The statements of a text that isn't too long.
+fn parse_short(alloc: Global, bytes: &[u8]) -> Result<Parsed, NetFault>
+    ensures ok { IfOk result (IsParsed bytes.now) }
+    ensures refused { IfErr result (IsTextFault bytes.now) }
 {
     if bytes.len() > MOST_BYTES {
         return Err(NetFault::At(NetKind::TooLong, limit_place(bytes)));
     }
-    let mut reader = Reader::new(alloc);
-    let mut place = Place { byte: 0, line: 1 };
-    'lines: while (place.byte as usize) < bytes.len() {
-        let rest = &bytes[place.byte as usize..];
-        let Some(len) = line_len(rest) else {
-            return Err(NetFault::At(NetKind::NotYet, place));
-        };
-        if !reader.take_line(alloc, &rest[..len], place)? {
-            return Err(NetFault::At(NetKind::NotYet, place));
-        }
-        place = Place {
-            byte: place.byte + len as u32 + 1,
-            line: place.line + 1,
-        };
-    }
-    Ok(reader.finish())
+    let parsed = parse(alloc, bytes)?;
+    Ok(parsed)
 }
 
 // The place of the first byte behind the limit.

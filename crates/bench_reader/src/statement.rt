@@ -1,15 +1,16 @@
 //! The statements of a netlist.
 ghost use Rattle.std.specs.Prelude.{◌≡◌, ◌<◌, ◌++◌, ◌∷◌, [], length, slice_index_or, OnOk, OnErr};
-ghost use Rattle.bench_reader.specs.InOrder.{IsInOrder};
+ghost use Rattle.bench_reader.specs.Driven.{IsDriven};
 
 use crate::fault::Place;
 use indexmap::IndexSet;
 use net_model::Kind;
+use smallvec::SmallVec;
 use std::alloc::{AllocError, Global};
 use std::marker::Model;
 
 /// A name by its number, and where it stands.
-#[derive(Clone, Copy, Debug, PartialEq, Eq)]
+#[derive(Clone, Copy, Debug, Default, PartialEq, Eq)]
 pub struct Word {
     pub name: u32,
     pub place: Place,
@@ -18,7 +19,7 @@ pub struct Word {
 /// A list of words.
 #[derive(Debug, Drop)]
 pub struct Words {
-    words: Vec<Word>,
+    words: SmallVec<Word, 4>,
 }
 
 impl Model for Words {
@@ -35,7 +36,7 @@ impl Words {
         ensures { result ≡ [] }
     {
         Words {
-            words: Vec::new(alloc),
+            words: SmallVec::new(alloc),
         }
     }
 
@@ -85,7 +86,7 @@ impl Model for Statements {
 impl Statements {
     pub fn as_slice(&self) -> &[Statement]
         ensures statements { result.now ≡ self.now.statements }
-        ensures order { IsInOrder self.now }
+        ensures driven { IsDriven self.now }
     {
         self.statements.as_slice()
     }

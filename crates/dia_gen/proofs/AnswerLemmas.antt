@@ -1,76 +1,84 @@
--- Rows of answers, filled number by number.
-use Rattle.std.proofs.Common.{◌≡◌, ℕ, zero, suc, ◌+◌, ◌<◌, Bool, List, [], ◌∷◌, ◌++◌, length, take, drop, get_or, set, ◌≤◌, ◌≢◌, ◌⊎◌, false, refl, sym, ap, ap₂, add-one, subst, ◌∙◌, inl, inr, arith}
+-- Answers to a vector: each fault has one, and where it differs from the fault-free one says which it is.
+use Rattle.std.proofs.Common.{◌≡◌, ◌≢◌, ◌↔◌, ℕ, zero, suc, ◌<◌, Bool, true, false, List, [], ◌∷◌, length, get_or, refl, sym, ap, ◌∙◌, arith, IsTrue}
 use Rattle.std.specs.List.{AllZip}
-use Rattle.std.proofs.lemmas.List.{length-map, length-set, get_or-set_same, get_or-set_other, set-set}
-use Rattle.std.proofs.lemmas.Bool.{cases_lt}
+use Rattle.std.proofs.lemmas.List.{length-map}
+use Rattle.std.proofs.lemmas.Bool.{false≢true}
 use Rattle.std.proofs.lemmas.List.FromFn.{length-enumerate_from}
 use Rattle.net_model.specs.declared.fault.Fault.{Fault}
 use Rattle.net_model.specs.declared.fault.Fault.TheVariants.{Free}
-use Rattle.net_model.specs.Circuit.{Circuit}
+use Rattle.net_model.specs.Circuit.{Circuit, IsCircuit}
 use Rattle.net_model.specs.Fault.{readings}
-use Rattle.net_model.specs.Answer.{IsAnswer}
-use Rattle.net_model.specs.FaultList.{faults}
+use Rattle.net_model.specs.Answer.{bit_at, shown_bits, IsAnswer}
+use Rattle.net_model.specs.FaultList.{faults, fault_count, fault_numbered}
 use Rattle.net_model.specs.PatternRows.{IsAnswerRow}
-
--- one item of a list copied over another's
-pub copied_more : {X : Type 0} (xs ys : List X) (i : ℕ) (d : X) → i < length xs → length xs ≡ length ys → set (take i xs ++ drop i ys) i (get_or xs i d) ≡ take (suc i) xs ++ drop (suc i) ys
-copied_more [] ys i d below same = absurd (omega arith)
-copied_more (x ∷ xs) [] i d below same = absurd (omega arith)
-copied_more (x ∷ xs) (y ∷ ys) zero d below same = refl
-copied_more {X} (x ∷ xs) (y ∷ ys) (suc i) d below same = ap (λ (zs : List X). x ∷ zs) (copied_more xs ys i d (omega arith) (omega arith))
+use Rattle.net_model.proofs.Copies.{Agrees-unique, same_bits_same_list}
+use Rattle.net_model.proofs.Evaluation.{Agrees-exists}
+use Rattle.fault_sim.specs.FaultSim.{IsDifference}
 
 -- an answer has a bit for each observed position
 pub answer_width : {c : Circuit} {f : Fault} {v answer : List Bool} → IsAnswer c f v answer → length answer ≡ length c.positions
 unfolding readings
 answer_width {c} {f} {v} {answer} is = ap length is.shows ∙ length-map _ _ ∙ length-enumerate_from 0 c.positions
 
--- what holds of the items at each place holds of two lists
-pub all_zip : {A B : Type 0} (R : A → B → Type 0) (xs : List A) (ys : List B) (d : A) (e : B) → length xs ≡ length ys → ((i : ℕ) → i < length xs → R (get_or xs i d) (get_or ys i e)) → AllZip R xs ys
-all_zip R [] [] d e same each = tt
-all_zip R [] (y ∷ ys) d e same each = absurd (omega arith)
-all_zip R (x ∷ xs) [] d e same each = absurd (omega arith)
-all_zip R (x ∷ xs) (y ∷ ys) d e same each = (each 0 (omega arith), all_zip R xs ys d e (omega arith) (λ i below. each (suc i) (omega arith)))
+pub answer_exists : (c : Circuit) → IsCircuit c → (f : Fault) (v : List Bool) → (answer : List Bool) × IsAnswer c f v answer
+answer_exists c is f v =
+    let one = Agrees-exists c f v is in
+    (shown_bits c f one.0, record { bits = one.0; agrees = one.1; shows = refl })
 
-same_or_other : (n m : ℕ) → (n ≡ m) ⊎ (n ≢ m)
-same_or_other n m = elim (cases_lt n m) [
-  | inl less ↦ inr (omega arith)
-  | inr most ↦ elim (cases_lt m n) [ inl more ↦ inr (omega arith) | inr least ↦ inl (omega arith) ]
-]
+pub one_answer : (c : Circuit) → IsCircuit c → (f : Fault) (v first second : List Bool) → IsAnswer c f v first → IsAnswer c f v second → first ≡ second
+one_answer c is f v first second a b = a.shows ∙ (ap (shown_bits c f) (Agrees-unique c is f v a.bits b.bits a.agrees b.agrees) ∙ sym b.shows)
 
--- The row has the answers of the first numbers, and room for all.
-pub record AreAnswersSoFar (c : Circuit) (listed : List Fault) (v : List Bool) (count : ℕ) (row : List (List Bool)) : Type 0 where
-  pub room : length row ≡ length listed
-  pub widths : (n : ℕ) → n < length row → length (get_or row n []) ≡ length c.positions
-  pub answers : (n : ℕ) → n < count → IsAnswer c (get_or listed n Free) v (get_or row n [])
+answers_exist : (c : Circuit) → IsCircuit c → (v : List Bool) (fs : List Fault) → (row : List (List Bool)) × AllZip (λ f answer. IsAnswer c f v answer) fs row
+answers_exist c is v [] = ([], tt)
+answers_exist c is v (f ∷ fs) =
+    let one = answer_exists c is f v in
+    let more = answers_exist c is v fs in
+    (one.0 ∷ more.0, (one.1, more.1))
 
-pub answers_more : {c : Circuit} {listed : List Fault} {v answer : List Bool} {count : ℕ} {row : List (List Bool)} → AreAnswersSoFar c listed v count row → count < length listed
-    → IsAnswer c (get_or listed count Free) v answer → AreAnswersSoFar c listed v (count + 1) (set row count answer)
-answers_more {c} {listed} {v} {answer} {count} {row} so_far below is =
-    let here : get_or (set row count answer) count [] ≡ answer = get_or-set_same row count answer [] (omega (arith, so_far.room)) in
-    record {
-      room = length-set row count answer ∙ so_far.room;
-      widths = λ n inside. elim (same_or_other n count) [
-        | inl e ↦ rw (e, here) (answer_width is)
-        | inr other ↦ rw (get_or-set_other row count n answer [] other) (so_far.widths n (omega (arith, length-set row count answer)))
-      ];
-      answers = λ n less. elim (same_or_other n count) [
-        | inl e ↦ rw (e, here) is
-        | inr other ↦ rw (get_or-set_other row count n answer [] other) (so_far.answers n (omega arith))
-      ];
-    }
+pub row_exists : (c : Circuit) → IsCircuit c → (v : List Bool) → (row : List (List Bool)) × IsAnswerRow c v row
+row_exists c is v = answers_exist c is v (faults c)
 
-pub answers_all : {c : Circuit} {listed : List Fault} {v : List Bool} {count : ℕ} {row : List (List Bool)} → listed ≡ faults c → AreAnswersSoFar c listed v count row → length listed ≤ count → IsAnswerRow c v row
-answers_all {c} {listed} {v} {count} {row} same so_far whole =
-    let P : List Fault → Type 0 = λ fs. AllZip (λ f answer. IsAnswer c f v answer) fs row in
-    subst P same (all_zip (λ f answer. IsAnswer c f v answer) listed row Free [] (sym so_far.room) (λ n below. so_far.answers n (omega arith)))
+zip_at : {A B : Type 0} (R : A → B → Type 0) (xs : List A) (ys : List B) (i : ℕ) (d : A) (e : B) → AllZip R xs ys → i < length xs → R (get_or xs i d) (get_or ys i e)
+zip_at R [] ys i d e all h = absurd (omega (arith, h))
+zip_at R (x ∷ xs) [] i d e all h = absurd all
+zip_at R (x ∷ xs) (y ∷ ys) zero d e all h = all.0
+zip_at R (x ∷ xs) (y ∷ ys) (suc i) d e all h = zip_at R xs ys i d e all.1 (omega (arith, h))
 
--- one bit of an answer written into its row
-pub overwritten_more : (rows : List (List Bool)) (n i : ℕ) (now : List (List Bool)) (answer : List Bool) → n < length rows → length answer ≡ length (get_or rows n []) → i < length answer
-    → now ≡ set rows n (take i answer ++ drop i (get_or rows n []))
-    → set now n (set (get_or now n []) i (get_or answer i false)) ≡ set rows n (take (i + 1) answer ++ drop (i + 1) (get_or rows n []))
-overwritten_more rows n i now answer inside width below is =
-    let old = get_or rows n [] in
-    let part = take i answer ++ drop i old in
-    let here : get_or now n [] ≡ part = ap (λ (r : List (List Bool)). get_or r n []) is ∙ get_or-set_same rows n part [] inside in
-    let copied : set part i (get_or answer i false) ≡ take (i + 1) answer ++ drop (i + 1) old = rw add-one (copied_more answer old i false below width) in
-    ap₂ (λ (r : List (List Bool)) (x : List Bool). set r n x) is (ap (λ (x : List Bool). set x i (get_or answer i false)) here ∙ copied) ∙ set-set rows n part (take (i + 1) answer ++ drop (i + 1) old)
+-- the answer of a number in a row
+pub answer_in_row : (c : Circuit) (v : List Bool) (row : List (List Bool)) → IsAnswerRow c v row → (number : ℕ) → number < fault_count c → IsAnswer c (fault_numbered c number) v (get_or row number [])
+answer_in_row c v row all number h = zip_at (λ f answer. IsAnswer c f v answer) (faults c) row number Free [] all h
+
+both_other : (a b free : Bool) → a ≢ free → b ≢ free → a ≡ b
+both_other true true free ha hb = refl
+both_other false false free ha hb = refl
+both_other true false true ha hb = absurd (ha refl)
+both_other true false false ha hb = absurd (hb refl)
+both_other false true true ha hb = absurd (hb refl)
+both_other false true false ha hb = absurd (ha refl)
+
+not_other : (a free : Bool) → (a ≢ free → ⊥) → a ≡ free
+not_other true true h = refl
+not_other false false h = refl
+not_other true false h = absurd (h (λ e. false≢true (sym e)))
+not_other false true h = absurd (h (λ e. false≢true e))
+
+-- two bits that differ alike from a third are the same
+same_bit : (x a b free : Bool) → IsTrue x ↔ (a ≢ free) → IsTrue x ↔ (b ≢ free) → a ≡ b
+same_bit true a b free ha hb = both_other a b free (ha.0 refl) (hb.0 refl)
+same_bit false a b free ha hb = not_other a free (λ ne. false≢true (ha.1 ne)) ∙ sym (not_other b free (λ ne. false≢true (hb.1 ne)))
+
+-- whether two bits differ from a third is the same where they are the same
+pub same_difference : (x y a b free : Bool) → IsTrue x ↔ (a ≢ free) → IsTrue y ↔ (b ≢ free) → a ≡ b → x ≡ y
+same_difference true true a b free ha hb e = refl
+same_difference false false a b free ha hb e = refl
+same_difference true false a b free ha hb e = absurd (false≢true (hb.1 (λ same. ha.0 refl (e ∙ same))))
+same_difference false true a b free ha hb e = absurd (false≢true (ha.1 (λ same. hb.0 refl (sym e ∙ same))))
+
+-- the answers of two faults that differ alike from the fault-free one are the same
+pub alike_by_differences : (c : Circuit) → IsCircuit c → (f g : Fault) (v : List Bool) (x : ℕ → Bool) → ((position : ℕ) → position < length c.positions → IsDifference c f v position (x position) × IsDifference c g v position (x position))
+    → (first second : List Bool) → IsAnswer c f v first → IsAnswer c g v second → first ≡ second
+alike_by_differences c is f g v x differ first second a b =
+    let free = answer_exists c is Free v in
+    same_bits_same_list first second (answer_width a ∙ sym (answer_width b)) (λ position h.
+    let d = differ position (omega (arith, h, answer_width a)) in
+    same_bit (x position) (bit_at first position) (bit_at second position) (bit_at free.0 position) (d.0 first free.0 a free.1) (d.1 second free.0 b free.1))

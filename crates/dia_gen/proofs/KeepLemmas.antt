@@ -1,19 +1,28 @@
 -- Vectors kept one after another.
-use Rattle.std.proofs.Common.{◌≡◌, ℕ, zero, suc, ◌+◌, ◌*◌, ◌<◌, Bool, true, false, cond, List, [], ◌∷◌, ◌++◌, map, length, length-append, refl, sym, ap, ap₂, subst, ◌∙◌, inl, inr, arith, IsTrue}
+use Rattle.std.proofs.Common.{◌≡◌, ℕ, zero, suc, ◌+◌, ◌<◌, ◌≤◌, Bool, true, false, cond, eqb, List, [], ◌∷◌, ◌++◌, length, length-append, get_or, replicate, refl, sym, ap, subst, ◌∙◌, inl, inr, arith, IsTrue}
 use Rattle.std.specs.List.{AllZip, zip, fold, range_with_len}
 use Rattle.std.proofs.lemmas.Bool.{cases_lt}
-use Rattle.std.proofs.lemmas.List.{length-map, length-replicate, take-append-le, get_or_append_left, map-append}
+use Rattle.std.proofs.lemmas.List.{length-map, length-replicate, get_or-replicate, take-append-le, get_or_append_left}
 use Rattle.std.proofs.lemmas.List.FromFn.{length-range_with_len}
 use Rattle.std.proofs.Math.Seq.{take-append_seam, get_or-append_seam}
-use Rattle.std.proofs.lemmas.List.Sums.{fold-append}
-use Rattle.net_model.specs.Circuit.{Circuit}
+use Rattle.std.proofs.lemmas.List.Sums.{fold-append, length-filter, count_by-le-length}
+use Rattle.net_model.specs.Circuit.{Circuit, IsCircuit}
+use Rattle.net_model.specs.Answer.{bit_at}
 use Rattle.net_model.specs.FaultList.{faults, fault_count}
-use Rattle.net_model.specs.ClassTable.{ClassTable, first_table, refined_table, cuts_class, class_after, SplitBy}
+use Rattle.net_model.specs.ClassTable.{ClassTable, first_table, refined_table, cuts_class, class_after, class_at, members, SplitBy}
 use Rattle.net_model.specs.PatternRows.{IsAnswerRow, IsTableOf}
 use Rattle.result_file.specs.Lines.{IsRightPattern, AreRightPatterns}
-use Rattle.word_sim.specs.Stream.{stream_vector}
+use Rattle.class_refine.specs.Fields.{IsWhole}
+use Rattle.class_refine.proofs.Refined.{sound_from, from_cuts, adds_split}
+use Rattle.word_sim.specs.GoodSim.{GoodSim, vectors_of}
+use Rattle.fault_sim.specs.FaultyLanes.{vector_at}
+use Rattle.dia_gen.specs.declared.notes.Note.{Note}
 use Rattle.dia_gen.specs.Kept.{KeptSoFar, with_vector, keeping}
 use Rattle.dia_gen.specs.Keeping.{IsKeeping}
+use Rattle.dia_gen.specs.Notes.{is_noted, AreRight, AreNoted, AreAlikeAt, IsFiner, IsBlank, bit_in}
+use Rattle.dia_gen.proofs.AnswerLemmas.{row_exists, answer_in_row}
+use Rattle.dia_gen.proofs.RowLemmas.{tell_same}
+use Rattle.dia_gen.proofs.SameCuts.{same_kept, none_kept, whole_kept}
 
 zip_more : {A B : Type 0} (R : A → B → Type 0) (xs : List A) (ys : List B) (x : A) (y : B) → AllZip R xs ys → zip (xs ++ x ∷ []) (ys ++ y ∷ []) ≡ zip xs ys ++ (x, y) ∷ []
 zip_more R [] [] x y all = refl
@@ -114,28 +123,80 @@ keeping_none {c} = record {
   right = λ at below. absurd (omega arith);
 }
 
--- numbers one after another
-pub range_append : (a m n : ℕ) → range_with_len a m ++ range_with_len (a + m) n ≡ range_with_len a (m + n)
-range_append a zero n =
-    let from : a + 0 ≡ a = omega arith in
-    let count : n ≡ 0 + n = omega arith in
-    ap₂ range_with_len from count
-range_append a (suc m) n =
-    let from : a + suc m ≡ (a + 1) + m = omega arith in
-    let count : suc (m + n) ≡ suc m + n = omega arith in
-    ap (λ (k : ℕ). range_with_len a (suc m) ++ range_with_len k n) from ∙ ap (λ (ns : List ℕ). a ∷ ns) (range_append (a + 1) m n) ∙ ap (range_with_len a) count
-
 -- number 0 is always there
 pub some_number : (c : Circuit) → 0 < fault_count c
 unfolding faults
 some_number c = omega arith
 
--- the vectors of more blocks
-pub stream_more : (sources done more : ℕ) → map (stream_vector sources) (range_with_len 0 (64 * done)) ++ map (stream_vector sources) (range_with_len (64 * done) (64 * more)) ≡ map (stream_vector sources) (range_with_len 0 (64 * (done + more)))
-stream_more sources done more =
-    let first : 64 * done ≡ 0 + 64 * done = omega arith in
-    let count : 64 * done + 64 * more ≡ 64 * (done + more) = omega arith in
-    sym (map-append (stream_vector sources) (range_with_len 0 (64 * done)) (range_with_len (64 * done) (64 * more)))
-    ∙ ap (λ (k : ℕ). map (stream_vector sources) (range_with_len 0 (64 * done) ++ range_with_len k (64 * more))) first
-    ∙ ap (map (stream_vector sources)) (range_append 0 (64 * done) (64 * more))
-    ∙ ap (λ (k : ℕ). map (stream_vector sources) (range_with_len 0 k)) count
+-- a row that cuts a class splits it
+cuts_split : (t : ClassTable) (row : List (List Bool)) → IsWhole t → IsTrue (cuts_class t row) → SplitBy t row
+cuts_split t row w cut = adds_split t row (sound_from t w) (from_cuts t row cut)
+
+-- What a lane leaves of what was kept.
+pub record IsKeptLane (good : GoodSim) (lane : ℕ) (old new : KeptSoFar) : Type 0 where
+  pub whole : IsWhole new.table
+  pub finer : IsFiner old.table new.table
+  pub keeping : (vectors : List (List Bool)) → IsKeeping good.circuit vectors old → IsKeeping good.circuit (vectors ++ vector_at good lane ∷ []) new
+
+module _ (good : GoodSim) (is : IsCircuit good.circuit) (kept : KeptSoFar) (whole : IsWhole kept.table) (numbers : length kept.table.class_of ≡ fault_count good.circuit)
+    (lane : ℕ) (live : lane < length (vectors_of good)) (width : length (vector_at good lane) ≡ good.circuit.sources) where
+  -- a lane whose vector is offered with the row of what is noted
+  pub offered_lane : (notes : List Note) → AreRight good notes → ((m n : ℕ) → m < length kept.table.class_of → n < length kept.table.class_of → class_at kept.table m ≡ class_at kept.table n → AreNoted good notes m n)
+      → (row : List (List Bool)) → ((number position : ℕ) → bit_in row number position ≡ is_noted notes lane number position)
+      → ((number : ℕ) → number < fault_count good.circuit → length (get_or row number []) ≡ length good.circuit.positions)
+      → (new : KeptSoFar) → new ≡ with_vector kept (vector_at good lane, row) → IsKeptLane good lane kept new
+  offered_lane notes right noted row set widths new offered =
+      let v = vector_at good lane in
+      let answers = row_exists good.circuit is v in
+      let tells = tell_same good is notes right kept.table numbers noted lane live row answers.0 set widths answers.1 in
+      let e : new ≡ with_vector kept (v, answers.0) = offered ∙ same_kept kept v row answers.0 tells in
+      let later = whole_kept kept v answers.0 whole in
+      subst (λ k. IsKeptLane good lane kept k) (sym e) (record {
+        whole = later.0;
+        finer = later.1;
+        keeping = λ vectors so_far. kept_more v answers.0 so_far answers.1 width (cuts_split kept.table answers.0 whole);
+      })
+
+  -- a lane that splits no class
+  pub skipped_lane : ((m n : ℕ) → m < length kept.table.class_of → n < length kept.table.class_of → class_at kept.table m ≡ class_at kept.table n → AreAlikeAt good lane m n)
+      → (vectors : List (List Bool)) → IsKeeping good.circuit vectors kept → IsKeeping good.circuit (vectors ++ vector_at good lane ∷ []) kept
+  skipped_lane alike vectors so_far =
+      let v = vector_at good lane in
+      let answers = row_exists good.circuit is v in
+      let same = none_kept kept v answers.0 whole (λ m n hm hn e. alike m n hm hn e (get_or answers.0 m []) (get_or answers.0 n [])
+      (answer_in_row good.circuit v answers.0 answers.1 m (omega (arith, hm, numbers))) (answer_in_row good.circuit v answers.0 answers.1 n (omega (arith, hn, numbers)))) in
+      subst (λ k. IsKeeping good.circuit (vectors ++ v ∷ []) k) same (kept_more v answers.0 so_far answers.1 width (cuts_split kept.table answers.0 whole))
+
+-- numbers that were apart before stay apart
+pub finer_later : {t u w : ClassTable} → IsFiner t u → IsFiner u w → IsFiner t w
+finer_later {t} {u} {w} one two = record {
+  numbers = two.numbers ∙ one.numbers;
+  together = λ m n hm hn e. one.together m n hm hn (two.together m n (omega (arith, hm, one.numbers)) (omega (arith, hn, one.numbers)) e);
+}
+
+-- a class has no more members than there are numbers
+pub few_members : (t : ClassTable) (class : ℕ) → length (members t class) ≤ length t.class_of
+unfolding members
+few_members t class =
+    let numbers = range_with_len 0 (length t.class_of) in
+    omega (arith, length-filter (λ n. eqb (class_at t n) class) numbers, count_by-le-length (λ n. eqb (class_at t n) class) numbers, length-range_with_len 0 (length t.class_of))
+
+no_bit : (width position : ℕ) → bit_at (replicate width false) position ≡ false
+no_bit zero position = refl
+no_bit (suc width) zero = refl
+no_bit (suc width) (suc position) = no_bit width position
+
+no_bit_in : (count width number position : ℕ) → bit_in (replicate count (replicate width false)) number position ≡ false
+no_bit_in zero width number position = refl
+no_bit_in (suc count) width zero position = no_bit width position
+no_bit_in (suc count) width (suc number) position = no_bit_in count width number position
+
+-- a row of zeros is blank
+pub blank_zeros : (c : Circuit) (row : List (List Bool)) (count width : ℕ) → row ≡ replicate count (replicate width false) → count ≡ fault_count c → width ≡ length c.positions → IsBlank c row
+blank_zeros c row count width is numbers positions = record {
+  count = ap length is ∙ (length-replicate count (replicate width false) ∙ numbers);
+  widths = λ number h.
+      ap (λ (r : List (List Bool)). length (get_or r number [])) is
+      ∙ (ap length (get_or-replicate count number (replicate width false) [] (omega (arith, h, numbers, length-replicate count (replicate width false)))) ∙ (length-replicate width false ∙ positions));
+  clear = λ number position. ap (λ (r : List (List Bool)). bit_in r number position) is ∙ no_bit_in count width number position;
+}

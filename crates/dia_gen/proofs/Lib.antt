@@ -1,8 +1,14 @@
 pub mod PlainLines
 pub mod AnswerLemmas
+pub mod NoteLemmas
+pub mod SpanLemmas
+pub mod RowLemmas
+pub mod SameCuts
 pub mod KeepLemmas
 pub mod LineLemmas
 pub mod PlainResult
 pub mod PlainMade
 pub mod PlainSummary
 pub mod Written
+pub mod MarkedLemmas
+pub mod RootLemmas

@@ -37,34 +37,37 @@ classes_more births k below =
     ∙ ap text_of (map-append f (enumerate_from 0 (take k births)) ((k, birth) ∷ []))
     ∙ text-append (class_records (take k births)) (Class k birth ∷ [])
 
-pub members_more : (g : ℕ → ℕ × Mark) (k : ℕ)
-    → text_of (member_records (map g (range_with_len 0 (k + 1)))) ≡ text_of (member_records (map g (range_with_len 0 k))) ++ text_of (Member k (g k).0 (g k).1 ∷ [])
-members_more g k =
+-- the member lines of one number more
+pub member_lines_more : (g : ℕ → ℕ × Mark) (k : ℕ) → member_records (map g (range_with_len 0 (k + 1))) ≡ member_records (map g (range_with_len 0 k)) ++ Member k (g k).0 (g k).1 ∷ []
+member_lines_more g k =
     let f : ℕ × (ℕ × Mark) → Record = λ x. Member x.0 x.1.0 x.1.1 in
     let so_far = map g (range_with_len 0 k) in
     let count : 0 + length so_far ≡ k = omega (arith, length-map (range_with_len 0 k) g, length-range_with_len 0 k) in
-    ap (λ (ms : List (ℕ × Mark)). text_of (member_records ms)) (map-range_with_len_more g 0 k k (omega arith))
-    ∙ ap (λ (xs : List (ℕ × (ℕ × Mark))). text_of (map f xs)) (enumerate_more 0 k so_far (g k) count)
-    ∙ ap text_of (map-append f (enumerate_from 0 so_far) ((k, g k) ∷ []))
-    ∙ text-append (member_records so_far) (Member k (g k).0 (g k).1 ∷ [])
+    ap (λ (ms : List (ℕ × Mark)). member_records ms) (map-range_with_len_more g 0 k k (omega arith))
+    ∙ ap (λ (xs : List (ℕ × (ℕ × Mark))). map f xs) (enumerate_more 0 k so_far (g k) count)
+    ∙ map-append f (enumerate_from 0 so_far) ((k, g k) ∷ [])
 
-module _ (t : ClassTable) (n : ℕ) where
-  evidence_by : (b : Bool) → is_follower t n ≡ b → evidence_below t (n + 1) ≡ evidence_below t n ++ map (evidence_for t) (cond b (n ∷ []) [])
-  evidence_by b follower = rw add-one (evidence_more t n ∙ ap (λ (b : Bool). evidence_below t n ++ map (evidence_for t) (cond b (n ∷ []) [])) follower)
+pub members_more : (g : ℕ → ℕ × Mark) (k : ℕ)
+    → text_of (member_records (map g (range_with_len 0 (k + 1)))) ≡ text_of (member_records (map g (range_with_len 0 k))) ++ text_of (Member k (g k).0 (g k).1 ∷ [])
+members_more g k = ap text_of (member_lines_more g k) ∙ text-append (member_records (map g (range_with_len 0 k))) (Member k (g k).0 (g k).1 ∷ [])
+
+module _ (one_root : ℕ → ℕ → Bool) (t : ClassTable) (n : ℕ) where
+  evidence_by : (b : Bool) → is_follower t n ≡ b → evidence_below one_root t (n + 1) ≡ evidence_below one_root t n ++ map (evidence_for one_root t) (cond b (n ∷ []) [])
+  evidence_by b follower = rw add-one (evidence_more one_root t n ∙ ap (λ (b : Bool). evidence_below one_root t n ++ map (evidence_for one_root t) (cond b (n ∷ []) [])) follower)
 
   -- a follower has evidence, and a representative hasn't
-  pub evidence_added : is_follower t n ≡ true → evidence_below t (n + 1) ≡ evidence_below t n ++ evidence_for t n ∷ []
+  pub evidence_added : is_follower t n ≡ true → evidence_below one_root t (n + 1) ≡ evidence_below one_root t n ++ evidence_for one_root t n ∷ []
   evidence_added follower = evidence_by true follower
 
-  pub evidence_kept : is_follower t n ≡ false → evidence_below t (n + 1) ≡ evidence_below t n
-  evidence_kept follower = evidence_by false follower ∙ append-nil (evidence_below t n)
+  pub evidence_kept : is_follower t n ≡ false → evidence_below one_root t (n + 1) ≡ evidence_below one_root t n
+  evidence_kept follower = evidence_by false follower ∙ append-nil (evidence_below one_root t n)
 
-  pub evidence_text : is_follower t n ≡ true → text_of (map Same (evidence_below t (n + 1))) ≡ text_of (map Same (evidence_below t n)) ++ text_of (Same (evidence_for t n) ∷ [])
+  pub evidence_text : is_follower t n ≡ true → text_of (map Same (evidence_below one_root t (n + 1))) ≡ text_of (map Same (evidence_below one_root t n)) ++ text_of (Same (evidence_for one_root t n) ∷ [])
   evidence_text follower =
       ap (λ (es : List Evidence). text_of (map Same es)) (evidence_added follower)
-      ∙ ap text_of (map-append Same (evidence_below t n) (evidence_for t n ∷ []))
-      ∙ text-append (map Same (evidence_below t n)) (Same (evidence_for t n) ∷ [])
+      ∙ ap text_of (map-append Same (evidence_below one_root t n) (evidence_for one_root t n ∷ []))
+      ∙ text-append (map Same (evidence_below one_root t n)) (Same (evidence_for one_root t n) ∷ [])
 
 -- there is no more evidence than numbers
-pub few_evidence : (t : ClassTable) (n : ℕ) → length (evidence_below t n) ≤ n
-few_evidence t n = omega (arith, length-map (filter (is_follower t) (range_with_len 0 n)) (evidence_for t), length-filter (is_follower t) (range_with_len 0 n), count_by-le-length (is_follower t) (range_with_len 0 n), length-range_with_len 0 n)
+pub few_evidence : (one_root : ℕ → ℕ → Bool) (t : ClassTable) (n : ℕ) → length (evidence_below one_root t n) ≤ n
+few_evidence one_root t n = omega (arith, length-map (filter (is_follower t) (range_with_len 0 n)) (evidence_for one_root t), length-filter (is_follower t) (range_with_len 0 n), count_by-le-length (is_follower t) (range_with_len 0 n), length-range_with_len 0 n)

@@ -1,4 +1,5 @@
 -- The files that the generator may write for a circuit and its budgets.
+use Rattle.net_model.specs.FaultList.{fault_numbered}
 use Rattle.std.specs.Prelude.{◌≡◌, ℕ, Bool, List, [], ◌∷◌, ◌++◌, map, length, take, Some, slice_get}
 use Rattle.net_model.specs.Circuit.{Circuit}
 use Rattle.net_model.specs.Answer.{Separates}
@@ -11,7 +12,7 @@ use Rattle.result_file.specs.declared.record.Record.TheVariants.{Pattern, End}
 use Rattle.result_file.specs.Spelling.{Text, text_of}
 use Rattle.result_file.specs.Marks.{patterns_in, evidence_in, next_member}
 use Rattle.result_file.specs.Summary.{summary_of}
-use Rattle.result_file.specs.Lines.{budgets_in, fault_numbered}
+use Rattle.result_file.specs.Lines.{budgets_in}
 use Rattle.result_file.specs.Valid.{AreRightLines}
 use Rattle.result_file.specs.Meaning.{StatedResult, stated_records, IsTrueResult}
 use Rattle.dia_gen.specs.Kept.{IsKept}

@@ -1,42 +1,38 @@
-//! The answers of all faults to one vector.
+//! A row of answers, as differences from the fault-free ones.
 
-ghost use Rattle.std.specs.Prelude.{◌≡◌, ◌<◌, All, [], IfOk, length, slice_index_or, slice_set};
-ghost use Rattle.net_model.specs.Fault.{IsFaultOf};
-ghost use Rattle.net_model.specs.FaultList.{faults};
-ghost use Rattle.net_model.specs.PatternRows.{IsAnswerRow};
+ghost use Rattle.std.specs.Prelude.{◌≡◌, ℕ, ◌<◌, false};
+ghost use Rattle.dia_gen.specs.Notes.{is_noted, AreWithin, HaveSamePlaces, bit_in};
 
-use fault_list::FaultList;
-use net_model::{Answer, AnswerRows, Circuit, Vector, plain_answer};
-use std::alloc::{AllocError, Global};
+use crate::notes::Note;
+use net_model::AnswerRows;
+use word_sim::LANES;
 
-// What each fault of the list answers to the vector.
-pub(crate) fn answer_row(
-    alloc: Global,
-    circuit: &Circuit,
-    listed: &FaultList,
-    v: &Vector,
-) -> Result<AnswerRows, AllocError>
-    requires faults { listed.now ≡ faults circuit.now }
-    requires stand { All (IsFaultOf circuit.now) listed.now }
-    requires width { length v.now ≡ circuit.now.sources }
-    ensures { IfOk result (λ row. IsAnswerRow circuit.now v.now row) }
+// Sets what is noted in a lane.
+pub(crate) fn fill_row(notes: &[Note], lane: u32, row: &mut AnswerRows)
+    requires lane { lane < LANES }
+    requires clear { (number position : ℕ) → bit_in row.old number position ≡ false }
+    requires inside { AreWithin row.old notes.now }
+    ensures places { HaveSamePlaces row.old row.new }
+    ensures set { (number position : ℕ) → bit_in row.new number position ≡ is_noted notes.now lane number position }
 {
-    let width = circuit.positions().len();
-    let mut row = AnswerRows::zeros(alloc, listed.len() as usize, width)?;
-    for number in 0..listed.len() {
-        let answer = plain_answer(alloc, circuit, &listed.get(number), v)?;
-        put_answer(&mut row, number as usize, &answer);
+    for note in notes {
+        if note.lanes.get(lane) {
+            row.set(note.number as usize, note.position as usize, true);
+        }
     }
-    Ok(row)
 }
 
-// Writes the answer of a number into its place.
-fn put_answer(row: &mut AnswerRows, number: usize, answer: &Answer)
-    requires number { number < length row.old }
-    requires width { length answer.now ≡ length (slice_index_or row.old number []) }
-    ensures { row.new ≡ slice_set row.old number answer.now }
+// Clears what is noted in a lane.
+pub(crate) fn clear_row(notes: &[Note], lane: u32, row: &mut AnswerRows)
+    requires lane { lane < LANES }
+    requires set { (number position : ℕ) → bit_in row.old number position ≡ is_noted notes.now lane number position }
+    requires inside { AreWithin row.old notes.now }
+    ensures places { HaveSamePlaces row.old row.new }
+    ensures clear { (number position : ℕ) → bit_in row.new number position ≡ false }
 {
-    for at in 0..answer.len() {
-        row.set(number, at, answer.get(at));
+    for note in notes {
+        if note.lanes.get(lane) {
+            row.set(note.number as usize, note.position as usize, false);
+        }
     }
 }

@@ -1,19 +1,25 @@
 //! The vectors of the stream that are kept, and the classes that they tell apart.
 
-ghost use Rattle.std.specs.Prelude.{◌≡◌, ◌≤◌, ℕ, Bool, List, ◌++◌, All, IfOk, OnOk, IsTrue, length};
+ghost use Rattle.std.specs.Prelude.{◌≡◌, ◌≤◌, ◌<◌, ℕ, Bool, List, [], ◌∷◌, ◌++◌, Some, All, IfOk, OnOk, length};
+ghost use Rattle.net_model.specs.Circuit.{IsCircuit};
 ghost use Rattle.net_model.specs.Fault.{IsFaultOf};
 ghost use Rattle.net_model.specs.FaultList.{faults};
-ghost use Rattle.net_model.specs.ClassTable.{cuts_class, SplitBy};
+ghost use Rattle.net_model.specs.ClassTable.{class_at};
+ghost use Rattle.class_refine.specs.Fields.{IsWhole};
 ghost use Rattle.word_sim.specs.Stream.{stream};
+ghost use Rattle.fault_sim.specs.FaultyLanes.{vector_at};
 ghost use Rattle.dia_gen.specs.Kept.{with_vector};
 ghost use Rattle.dia_gen.specs.Keeping.{kept_now, IsKeeping};
+ghost use Rattle.dia_gen.specs.Notes.{AreRight, AreNoted, AreRootsOf, IsFiner, AreOf, IsBlank};
 
-use crate::answers::answer_row;
+use crate::answers::{clear_row, fill_row};
+use crate::differences::Differences;
+use crate::notes::Note;
 use class_refine::Classes;
 use fault_list::FaultList;
 use net_model::{AnswerRows, Circuit, Vector, Vectors};
 use std::alloc::{AllocError, Global};
-use word_sim::{Block, Stream};
+use word_sim::{Block, GoodSim, LANES, Stream, stream_continues};
 
 // The kept vectors, and their classes.
 #[derive(Drop)]
@@ -22,59 +28,120 @@ pub(crate) struct Kept {
     pub(crate) classes: Classes,
 }
 
-// Keeps each vector of the first blocks of the stream that splits a class.
+// Keeps each vector of the first blocks of the stream that splits a class. Numbers with one root answer alike: one number of
+// each root is simulated, and a class with one root isn't.
 pub(crate) fn keep_stream(
     alloc: Global,
     circuit: &Circuit,
     listed: &FaultList,
+    roots: &[u32],
     blocks: u32,
 ) -> Result<Kept, AllocError>
     requires faults { listed.now ≡ faults circuit.now }
     requires stand { All (IsFaultOf circuit.now) listed.now }
+    requires roots { AreRootsOf circuit.now roots.now }
     ensures { IfOk result (λ kept. IsKeeping circuit.now (stream circuit.now.sources blocks) (kept_now kept)) }
 {
+    stream_continues();
     let mut kept = Kept {
         vectors: Vectors::new(alloc),
         classes: Classes::new(alloc, listed.len())?,
     };
+    let mut good = GoodSim::new(alloc, circuit)?;
+    let mut differences = Differences::new(alloc, circuit, listed.len() as usize)?;
+    let mut row = AnswerRows::zeros(alloc, listed.len() as usize, circuit.positions().len())?;
     let mut stream = Stream::new(circuit.sources());
     let mut block = Block::new(alloc, circuit.sources())?;
     let mut left = blocks;
     while left > 0 {
         block.clear();
         left -= stream.fill(left, &mut block);
-        keep_block(alloc, circuit, listed, &block, &mut kept)?;
+        good.run(&block);
+        keep_block(
+            listed,
+            roots,
+            &block,
+            &good,
+            &mut differences,
+            &mut row,
+            &mut kept,
+        )?;
     }
     Ok(kept)
 }
 
-// Keeps each vector of a block that splits a class.
+// Keeps each vector of a block that splits a class. Only a lane in which some class may be split is looked at.
 fn keep_block(
-    alloc: Global,
-    circuit: &Circuit,
     listed: &FaultList,
+    roots: &[u32],
     block: &Block,
+    good: &GoodSim,
+    differences: &mut Differences,
+    row: &mut AnswerRows,
     kept: &mut Kept,
 ) -> Result<(), AllocError>
-    requires faults { listed.now ≡ faults circuit.now }
-    requires stand { All (IsFaultOf circuit.now) listed.now }
-    requires sources { block.now.sources ≡ circuit.now.sources }
-    requires keeping { (vectors : List (List Bool)) × IsKeeping circuit.now vectors (kept_now kept.old) }
-    ensures { OnOk result ((vectors : List (List Bool)) → IsKeeping circuit.now vectors (kept_now kept.old) → IsKeeping circuit.now (vectors ++ block.now.vectors) (kept_now kept.new)) }
+    requires circuit { IsCircuit good.now.circuit }
+    requires ran { good.now.ran ≡ Some block.now.vectors }
+    requires sources { block.now.sources ≡ good.now.circuit.sources }
+    requires faults { listed.now ≡ faults good.now.circuit }
+    requires stand { All (IsFaultOf good.now.circuit) listed.now }
+    requires roots { AreRootsOf good.now.circuit roots.now }
+    requires of { AreOf good.now.circuit differences.old }
+    requires blank { IsBlank good.now.circuit row.old }
+    requires whole { IsWhole kept.old.classes }
+    requires keeping { (vectors : List (List Bool)) × IsKeeping good.now.circuit vectors (kept_now kept.old) }
+    ensures of { OnOk result (AreOf good.now.circuit differences.new) }
+    ensures blank { OnOk result (IsBlank good.now.circuit row.new) }
+    ensures whole { OnOk result (IsWhole kept.new.classes) }
+    ensures keeping { OnOk result ((vectors : List (List Bool)) → IsKeeping good.now.circuit vectors (kept_now kept.old) → IsKeeping good.now.circuit (vectors ++ block.now.vectors) (kept_now kept.new)) }
 {
-    for lane in 0..block.live() {
-        let v = block.vector(lane)?;
-        let row = answer_row(alloc, circuit, listed, &v)?;
-        offer(kept, v, &row)?;
+    let live = block.live();
+    let splitting = differences.note_classes(listed, good, roots, &kept.classes)?;
+    let notes = differences.notes.as_slice();
+    for lane in 0..live {
+        if !splitting.get(lane) {
+            continue;
+        }
+        keep_lane(block, good, lane, notes, row, kept)?;
     }
+    Ok(())
+}
+
+// Keeps the vector of a lane if it splits a class.
+fn keep_lane(
+    block: &Block,
+    good: &GoodSim,
+    lane: u32,
+    notes: &[Note],
+    row: &mut AnswerRows,
+    kept: &mut Kept,
+) -> Result<(), AllocError>
+    requires circuit { IsCircuit good.now.circuit }
+    requires ran { good.now.ran ≡ Some block.now.vectors }
+    requires sources { block.now.sources ≡ good.now.circuit.sources }
+    requires lane { lane < length block.now.vectors }
+    requires few { length block.now.vectors ≤ LANES }
+    requires right { AreRight good.now notes.now }
+    requires noted { (m n : ℕ) → m < length kept.old.classes.class_of → n < length kept.old.classes.class_of → class_at kept.old.classes m ≡ class_at kept.old.classes n → AreNoted good.now notes.now m n }
+    requires blank { IsBlank good.now.circuit row.old }
+    requires whole { IsWhole kept.old.classes }
+    requires keeping { (vectors : List (List Bool)) × IsKeeping good.now.circuit vectors (kept_now kept.old) }
+    ensures blank { OnOk result (IsBlank good.now.circuit row.new) }
+    ensures whole { OnOk result (IsWhole kept.new.classes) }
+    ensures finer { OnOk result (IsFiner kept.old.classes kept.new.classes) }
+    ensures keeping { OnOk result ((vectors : List (List Bool)) → IsKeeping good.now.circuit vectors (kept_now kept.old) → IsKeeping good.now.circuit (vectors ++ vector_at good.now lane ∷ []) (kept_now kept.new)) }
+{
+    let v = block.vector(lane)?;
+    fill_row(notes, lane, row);
+    offer(kept, v, row)?;
+    clear_row(notes, lane, row);
     Ok(())
 }
 
 // Keeps a vector with this row of answers where it splits a class.
 fn offer(kept: &mut Kept, v: Vector, row: &AnswerRows) -> Result<(), AllocError>
     requires { length row.now ≡ length kept.old.classes.class_of }
-    ensures kept { OnOk result (kept_now kept.new ≡ with_vector (kept_now kept.old) (v, row.now)) }
-    ensures split { OnOk result (IsTrue (cuts_class kept.old.classes row.now) → SplitBy kept.old.classes row.now) }
+    ensures { OnOk result (kept_now kept.new ≡ with_vector (kept_now kept.old) (v, row.now)) }
 {
     if kept.classes.refine(row)? > 0 {
         kept.vectors.push(v)?;

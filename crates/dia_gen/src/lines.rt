@@ -1,13 +1,17 @@
 //! The lines of a result, appended to its text.
 
-ghost use Rattle.std.specs.Prelude.{◌≡◌, ◌≤◌, ◌<◌, ◌++◌, ◌∷◌, [], map, length, OnOk, IfOk};
+ghost use Rattle.std.specs.Prelude.{◌≡◌, ◌≤◌, ◌<◌, ◌+◌, ◌^◌, ◌++◌, ◌∷◌, [], map, length, OnOk, IfOk};
 ghost use Rattle.net_model.specs.ClassTable.{ClassTable, number_range, class_count};
 ghost use Rattle.result_file.specs.declared.record.Record.TheVariants.{Pattern, Same};
 ghost use Rattle.result_file.specs.Spelling.{text_of};
 ghost use Rattle.result_file.specs.Meaning.{class_records, member_records};
-ghost use Rattle.dia_gen.specs.Plain.{is_follower, evidence_for, evidence_below, mark_for, member_for};
+ghost use Rattle.result_file.specs.Summary.{is_equal, is_open};
+ghost use Rattle.fault_collapse.specs.Forest.{number_count};
+ghost use Rattle.dia_gen.specs.Plain.{is_follower, one_root_in, proof_for, evidence_for, evidence_below, mark_for, member_for};
+ghost use Rattle.dia_gen.specs.Marked.{marked_with, AreMarkedBelow};
 
 use class_refine::Classes;
+use fault_collapse::Forest;
 use net_model::Vectors;
 use result_file::{Evidence, Mark, Proof, Record, write_record};
 use std::alloc::AllocError;
@@ -31,24 +35,30 @@ pub(crate) fn push_patterns(text: &mut Vec<u8>, patterns: &Vectors) -> Result<()
     Ok(())
 }
 
-// A line of evidence for each number that isn't the representative of its class. Answers how many.
+// The line of evidence.
+fn push_same(text: &mut Vec<u8>, evidence: Evidence) -> Result<(), AllocError>
+    ensures { OnOk result (text.new.items ≡ text.old.items ++ text_of (Same evidence ∷ [])) }
+{
+    push_line(text, &Record::Same(evidence))
+}
+
+// A line of evidence for each number that isn't the representative of its class.
 pub(crate) fn push_evidence(
     text: &mut Vec<u8>,
     classes: &Classes,
+    forest: &Forest,
     numbers: u32,
-) -> Result<u32, AllocError>
-    requires { numbers ≡ length classes.now.class_of }
-    ensures text { OnOk result (text.new.items ≡ text.old.items ++ text_of (map Same (evidence_below classes.now numbers))) }
-    ensures count { IfOk result (λ count. count ≡ length (evidence_below classes.now numbers)) }
+) -> Result<(), AllocError>
+    requires numbers { numbers ≡ length classes.now.class_of }
+    requires forest { number_count forest.now ≡ length classes.now.class_of }
+    ensures { OnOk result (text.new.items ≡ text.old.items ++ text_of (map Same (evidence_below (one_root_in forest.now) classes.now numbers))) }
 {
-    let mut count = 0;
     for member in 0..numbers {
         if is_follower(classes, member) {
-            push_line(text, &Record::Same(evidence_for(classes, member)))?;
-            count += 1;
+            push_same(text, evidence_for(classes, forest, member))?;
         }
     }
-    Ok(count)
+    Ok(())
 }
 
 // A line for each class.
@@ -61,23 +71,50 @@ pub(crate) fn push_classes(text: &mut Vec<u8>, classes: &Classes) -> Result<(), 
     Ok(())
 }
 
-// A line for each number.
+// How many members are marked equal, and how many are left open.
+#[derive(Clone, Copy)]
+pub(crate) struct Marked {
+    pub(crate) equal: u32,
+    pub(crate) spent: u32,
+}
+
+impl Marked {
+    // One more number with this mark.
+    fn count(&mut self, mark: Mark)
+        requires equal { self.old.equal + 1 < 2 ^ 32 }
+        requires spent { self.old.spent + 1 < 2 ^ 32 }
+        ensures { self.new ≡ marked_with self.old mark }
+    {
+        match mark {
+            Mark::Rep => {}
+            Mark::Equal => self.equal += 1,
+            Mark::Spent => self.spent += 1,
+        }
+    }
+}
+
+// A line for each number. Answers how many are marked equal, and how many are left open.
 pub(crate) fn push_members(
     text: &mut Vec<u8>,
     classes: &Classes,
+    forest: &Forest,
     numbers: u32,
-) -> Result<(), AllocError>
-    requires { numbers ≡ length classes.now.class_of }
-    ensures { OnOk result (text.new.items ≡ text.old.items ++ text_of (member_records (map (member_for classes.now) (number_range classes.now)))) }
+) -> Result<Marked, AllocError>
+    requires numbers { numbers ≡ length classes.now.class_of }
+    requires forest { number_count forest.now ≡ length classes.now.class_of }
+    ensures text { OnOk result (text.new.items ≡ text.old.items ++ text_of (member_records (map (member_for (one_root_in forest.now) classes.now) (number_range classes.now)))) }
+    ensures marked { IfOk result (AreMarkedBelow (one_root_in forest.now) classes.now numbers) }
 {
+    let mut marked = Marked { equal: 0, spent: 0 };
     for number in 0..numbers {
-        let mark = mark_for(classes, number);
+        let mark = mark_for(classes, forest, number);
+        marked.count(mark);
         push_line(
             text,
             &Record::Member(number, classes.class_of(number), mark),
         )?;
     }
-    Ok(())
+    Ok(marked)
 }
 
 // Whether a number isn't the representative of its class.
@@ -88,26 +125,44 @@ fn is_follower(classes: &Classes, number: u32) -> bool
     classes.representative(classes.class_of(number)) != number
 }
 
+// What is known of a number and its representative.
+fn proof_for(classes: &Classes, forest: &Forest, number: u32) -> Proof
+    requires numbers { number_count forest.now ≡ length classes.now.class_of }
+    requires number { number < length classes.now.class_of }
+    ensures { result ≡ proof_for (one_root_in forest.now) classes.now number }
+{
+    let lead = classes.representative(classes.class_of(number));
+    if forest.same_root(lead, number) {
+        Proof::Collapse
+    } else {
+        Proof::Unsearched
+    }
+}
+
 // The evidence for a number and its representative.
-fn evidence_for(classes: &Classes, member: u32) -> Evidence
-    requires { member < length classes.now.class_of }
-    ensures { result ≡ evidence_for classes.now member }
+fn evidence_for(classes: &Classes, forest: &Forest, member: u32) -> Evidence
+    requires numbers { number_count forest.now ≡ length classes.now.class_of }
+    requires number { member < length classes.now.class_of }
+    ensures { result ≡ evidence_for (one_root_in forest.now) classes.now member }
 {
     Evidence {
         member,
         partner: classes.representative(classes.class_of(member)),
-        proof: Proof::Unsearched,
+        proof: proof_for(classes, forest, member),
     }
 }
 
 // The mark of a number.
-fn mark_for(classes: &Classes, number: u32) -> Mark
-    requires { number < length classes.now.class_of }
-    ensures { result ≡ mark_for classes.now number }
+fn mark_for(classes: &Classes, forest: &Forest, number: u32) -> Mark
+    requires numbers { number_count forest.now ≡ length classes.now.class_of }
+    requires number { number < length classes.now.class_of }
+    ensures { result ≡ mark_for (one_root_in forest.now) classes.now number }
 {
-    if is_follower(classes, number) {
-        Mark::Spent
-    } else {
-        Mark::Rep
+    if !is_follower(classes, number) {
+        return Mark::Rep;
+    }
+    match proof_for(classes, forest, number) {
+        Proof::Collapse => Mark::Equal,
+        Proof::Unsearched => Mark::Spent,
     }
 }

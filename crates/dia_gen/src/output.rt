@@ -9,6 +9,7 @@ use crate::kept::keep_stream;
 use crate::lines::{push_classes, push_evidence, push_line, push_members, push_patterns};
 use class_refine::named_separates_faults;
 use diag_shelf::{Shelf, ShelfFault, write_all};
+use fault_collapse::{collapse, same_root_equal};
 use fault_list::list;
 use net_model::Circuit;
 use result_file::{Budgets, Record, Summary};
@@ -54,9 +55,11 @@ fn made_file(alloc: Global, circuit: &Circuit, budgets: Budgets) -> Result<Made,
     ensures is_true { IfOk result (λ made. IsTrueFile circuit.now made.text.items) }
 {
     named_separates_faults();
+    same_root_equal();
     let listed = list(alloc, circuit)?;
+    let forest = collapse(alloc, circuit, &listed)?;
     let numbers = listed.len();
-    let kept = keep_stream(alloc, circuit, &listed, budgets.blocks)?;
+    let kept = keep_stream(alloc, circuit, &listed, forest.roots(), budgets.blocks)?;
     let mut text = Vec::new(alloc);
     let positions = circuit.positions().len() as u32;
     push_line(
@@ -65,16 +68,16 @@ fn made_file(alloc: Global, circuit: &Circuit, budgets: Budgets) -> Result<Made,
     )?;
     push_line(&mut text, &Record::Budget(budgets))?;
     push_patterns(&mut text, &kept.vectors)?;
-    let spent = push_evidence(&mut text, &kept.classes, numbers)?;
+    push_evidence(&mut text, &kept.classes, &forest, numbers)?;
     push_classes(&mut text, &kept.classes)?;
-    push_members(&mut text, &kept.classes, numbers)?;
+    let marked = push_members(&mut text, &kept.classes, &forest, numbers)?;
     push_line(&mut text, &Record::End)?;
     let summary = Summary {
         numbers,
         patterns: kept.classes.patterns(),
         classes: kept.classes.count(),
-        equal: 0,
-        spent,
+        equal: marked.equal,
+        spent: marked.spent,
     };
     Ok(Made { text, summary })
 }

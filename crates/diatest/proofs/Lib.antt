@@ -1,3 +1,6 @@
 pub mod Runs
+pub mod NetlistLemmas
+pub mod Refusals
 pub mod Generated
 pub mod Clauses
+pub mod NumberWords

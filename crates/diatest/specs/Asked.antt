@@ -1,7 +1,15 @@
 -- The request that the code's own type stands for.
+use Rattle.std.specs.Prelude.{◌≡◌, ⊤}
+use Rattle.result_file.specs.Lines.{AreWithinLimits}
 use Rattle.diatest.specs.Request as spec
 use Rattle.diatest.specs.declared.request.Request.{Request}
-use Rattle.diatest.specs.declared.request.Request.TheVariants.{Gen}
+use Rattle.diatest.specs.declared.request.Request.TheVariants.{Gen, ListFaults}
 
 abbrev pub asked : Request → spec.Request
 asked (Gen bench result budgets) = spec.gen bench.now result.now budgets
+asked (ListFaults bench) = spec.list_faults bench.now
+
+-- The budgets of a request are within their limits, and ask for no search.
+abbrev pub HasLimits : Request → Type 0
+HasLimits (Gen bench result budgets) = AreWithinLimits budgets × (budgets.cubes ≡ 0) × (budgets.conflicts ≡ 0)
+HasLimits (ListFaults bench) = ⊤

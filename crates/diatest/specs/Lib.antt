@@ -1,6 +1,10 @@
 pub mod Request
 pub mod Texts
+pub mod Faults
+pub mod Netlists
 pub mod Outcome
 pub mod Ran
 pub mod Asked
+pub mod Padded
+pub mod Steps
 pub mod Real

@@ -2,17 +2,15 @@
 use Rattle.std.specs.Prelude.{◌≡◌, ℕ, ◌≤◌, ◌⊎◌, List, [], ◌∷◌, ◌++◌, length, take, Option, Some, None}
 use Rattle.std.specs.FinMap.{get, insert}
 use Rattle.diag_shelf.specs.World.{Files, World}
+use Rattle.net_model.specs.declared.circuit.Design.{Design}
 use Rattle.net_model.specs.Circuit.{Circuit}
-use Rattle.bench_reader.specs.declared.fault.Place.{Place}
-use Rattle.bench_reader.specs.declared.fault.NetKind.{NetKind}
-use Rattle.bench_reader.specs.Netlist.{Netlist}
-use Rattle.bench_reader.specs.Narrow.{IsNetlist, IsRefused}
-use Rattle.scan_cut.specs.Cut.{cut_circuit}
 use Rattle.result_file.specs.declared.record.Budgets.{Budgets}
 use Rattle.result_file.specs.declared.record.Summary.{Summary}
 use Rattle.dia_gen.specs.Made.{IsMade, IsTrueFile, IsCutFile}
-use Rattle.diatest.specs.Request.{Text, Request, gen}
-use Rattle.diatest.specs.Texts.{refusal_text, summary_text, not_understood_text}
+use Rattle.diatest.specs.Request.{Text, Request, gen, list_faults, bench_of}
+use Rattle.diatest.specs.Texts.{summary_text, not_understood_text}
+use Rattle.diatest.specs.Faults.{IsFaultsText}
+use Rattle.diatest.specs.Netlists.{IsDesign, IsRefused}
 
 pub record Outcome : Type 0 where
   pub status : ℕ
@@ -27,25 +25,43 @@ saved name bytes console = record { status = 0; made = (name, bytes) ∷ []; con
 
 -- ---- what is asked for
 
--- A netlist calls for this outcome of `gen`: it is refused, or a result of its cut circuit is made, which is true.
-pub data Generates (bytes result : Text) (budgets : Budgets) (o : Outcome) : Type 0 where
-  refused_netlist : (kind : NetKind) (place : Place) → IsRefused bytes kind place → o ≡ said 3 (refusal_text kind place) → Generates bytes result budgets o
-  made_result : (netlist : Netlist) (summary : Summary) (file : Text) → IsNetlist bytes netlist → IsMade (cut_circuit netlist) budgets summary file → IsTrueFile (cut_circuit netlist) file
-      → o ≡ saved result file (summary_text summary) → Generates bytes result budgets o
+-- a result of the circuit, which is true
+pub record MakesResult (result : Text) (budgets : Budgets) (design : Design) (o : Outcome) : Type 0 where
+  pub summary : Summary
+  pub file : Text
+  pub made : IsMade design.circuit budgets summary file
+  pub is_true : IsTrueFile design.circuit file
+  pub outcome : o ≡ saved result file (summary_text summary)
+
+-- the list of the circuit's faults with their roots
+pub record ListsFaults (design : Design) (o : Outcome) : Type 0 where
+  pub text : Text
+  pub lists : IsFaultsText design text
+  pub outcome : o ≡ said 0 text
+
+-- what a request calls for where its netlist is accepted
+abbrev pub Does : Request → Design → Outcome → Type 0
+Does (gen bench result budgets) = MakesResult result budgets
+Does (list_faults bench) = ListsFaults
+
+-- A netlist's bytes call for this outcome: they are refused, or what is asked is done with their circuit.
+pub data Judges (bytes : Text) (request : Request) (o : Outcome) : Type 0 where
+  refused_netlist : (console : Text) → IsRefused bytes console → o ≡ said 3 console → Judges bytes request o
+  accepted_netlist : (design : Design) → IsDesign bytes design → Does request design o → Judges bytes request o
 
 -- These words and files call for this outcome.
 abbrev pub CallsFor : Option Request → Files → Outcome → Type 0
 CallsFor None files o = o ≡ said 2 not_understood_text
-CallsFor (Some (gen bench result budgets)) files o = (bytes : Text) × (get files bench ≡ Some bytes) × Generates bytes result budgets o
+CallsFor (Some request) files o = (bytes : Text) × (get files (bench_of request) ≡ Some bytes) × Judges bytes request o
 
 -- The file is there, and is refused as a netlist.
 abbrev pub HasRefusedNetlist : Files → Text → Type 0
-HasRefusedNetlist files bench = (bytes : Text) × (get files bench ≡ Some bytes) × ((kind : NetKind) × (place : Place) × IsRefused bytes kind place)
+HasRefusedNetlist files bench = (bytes : Text) × (get files bench ≡ Some bytes) × ((console : Text) × IsRefused bytes console)
 
 -- The words aren't understood, or the file that is read is refused.
 abbrev pub IsRefusedRequest : Option Request → Files → Type 0
 IsRefusedRequest None files = Unit {0}
-IsRefusedRequest (Some (gen bench result budgets)) files = HasRefusedNetlist files bench
+IsRefusedRequest (Some request) files = HasRefusedNetlist files (bench_of request)
 
 -- ---- what may stand where a run breaks off: the files that were made, and what was printed
 
@@ -69,10 +85,10 @@ pub record IsPartOf (o : Outcome) (made : List (Text × Text)) (text : Text) : T
 pub record IsCutResult (files : Files) (bench result : Text) (made : List (Text × Text)) (text : Text) : Type 0 where
   pub bytes : Text
   pub held : get files bench ≡ Some bytes
-  pub netlist : Netlist
-  pub accepted : IsNetlist bytes netlist
+  pub design : Design
+  pub accepted : IsDesign bytes design
   pub part : Text
-  pub lines : IsCutFile (cut_circuit netlist) part
+  pub lines : IsCutFile design.circuit part
   pub files_are : IsCut made ((result, part) ∷ [])
   pub text_is : text ≡ []
 
@@ -81,11 +97,15 @@ pub data IsResultPart (c : Circuit) (budgets : Budgets) (result : Text) (made : 
   whole_result : (summary : Summary) (file : Text) → IsMade c budgets summary file → IsTrueFile c file → IsPartOf (saved result file (summary_text summary)) made text → IsResultPart c budgets result made text
   cut_result : (part : Text) → IsCutFile c part → IsCut made ((result, part) ∷ []) → text ≡ [] → IsResultPart c budgets result made text
 
--- What these words and files may leave: a part of an outcome that they call for, or a result that was cut short.
+-- an output that is written piece by piece, cut short
+abbrev pub IsCutShort : Request → Files → List (Text × Text) → Text → Type 0
+IsCutShort (gen bench result budgets) files = IsCutResult files bench result
+IsCutShort (list_faults bench) files = λ made text. ⊥
+
+-- What these words and files may leave: a part of an outcome that they call for, or an output that was cut short.
 abbrev pub MayLeave : Option Request → Files → List (Text × Text) → Text → Type 0
 MayLeave None files made text = (o : Outcome) × CallsFor None files o × IsPartOf o made text
-MayLeave (Some (gen bench result budgets)) files made text =
-    ((o : Outcome) × CallsFor (Some (gen bench result budgets)) files o × IsPartOf o made text) ⊎ IsCutResult files bench result made text
+MayLeave (Some request) files made text = ((o : Outcome) × CallsFor (Some request) files o × IsPartOf o made text) ⊎ IsCutShort request files made text
 
 -- ---- what a run leaves
 

@@ -4,18 +4,16 @@ use Rattle.std.specs.FinMap.{get}
 use Rattle.diag_shelf.specs.World.{Files, World, State}
 use Rattle.diag_shelf.specs.Calls.{Rose, Told}
 use Rattle.net_model.specs.Circuit.{Circuit}
-use Rattle.bench_reader.specs.declared.fault.Place.{Place}
-use Rattle.bench_reader.specs.declared.fault.NetKind.{NetKind}
-use Rattle.bench_reader.specs.Netlist.{Netlist}
-use Rattle.bench_reader.specs.Narrow.{IsNetlist, IsRefused}
-use Rattle.scan_cut.specs.Cut.{cut_circuit}
+use Rattle.net_model.specs.declared.circuit.Design.{Design}
 use Rattle.result_file.specs.declared.record.Budgets.{Budgets}
 use Rattle.result_file.specs.declared.record.Summary.{Summary}
 use Rattle.result_file.specs.Spelling.{text_of}
-use Rattle.result_file.specs.Meaning.{StatedResult, stated_records, AreApart, AreLowest}
+use Rattle.result_file.specs.Meaning.{StatedResult, stated_records, AreApart, AreEqualMarked, AreLowest}
 use Rattle.dia_gen.specs.Made.{IsMade, IsTrueFile}
-use Rattle.diatest.specs.Request.{Text, Request, gen, outputs_of, inputs_of}
-use Rattle.diatest.specs.Texts.{refusal_text, summary_text}
+use Rattle.diatest.specs.Request.{Text, Request, gen, list_faults, bench_of, outputs_of, inputs_of}
+use Rattle.diatest.specs.Texts.{summary_text}
+use Rattle.diatest.specs.Netlists.{IsDesign, IsRefused}
+use Rattle.diatest.specs.Faults.{IsFaultsText}
 use Rattle.diatest.specs.Outcome.{Outcome, saved, CallsFor, MayLeave, IsResultPart, IsRefusedRequest, Leaves, IsUntouched, ConsoleGained}
 
 -- A fault's status comes only where its count rose, and a count that grew shows in the status.
@@ -92,7 +90,12 @@ pub record Ran (request : Option Request) (status : ℕ) (old new : State) : Typ
 -- A run of `gen` that answers 0 leaves a file under the result's name of which this holds, with the netlist's circuit.
 abbrev pub GeneratesFile : (Circuit → Budgets → Text → Type 0) → Option Request → ℕ → World → World → Type 0
 GeneratesFile P request status old new = (bench result : Text) (budgets : Budgets) → request ≡ Some (gen bench result budgets) → status ≡ 0
-    → (bytes : Text) × (netlist : Netlist) × (file : Text) × (get old.files bench ≡ Some bytes) × IsNetlist bytes netlist × (get new.files result ≡ Some file) × P (cut_circuit netlist) budgets file
+    → (bytes : Text) × (design : Design) × (file : Text) × (get old.files bench ≡ Some bytes) × IsDesign bytes design × (get new.files result ≡ Some file) × P design.circuit budgets file
+
+-- A run of `faults` that answers 0 prints all faults of the netlist's circuit with their roots.
+abbrev pub PrintsFaults : Option Request → ℕ → World → World → Type 0
+PrintsFaults request status old new = (bench : Text) → request ≡ Some (list_faults bench) → status ≡ 0
+    → (bytes : Text) × (design : Design) × (text : Text) × (get old.files bench ≡ Some bytes) × IsDesign bytes design × IsFaultsText design text × ConsoleGained text old new
 
 abbrev pub IsMadeFile : Circuit → Budgets → Text → Type 0
 IsMadeFile c budgets file = (summary : Summary) × IsMade c budgets summary file
@@ -101,19 +104,23 @@ IsMadeFile c budgets file = (summary : Summary) × IsMade c budgets summary file
 abbrev pub HasApartClasses : Circuit → Budgets → Text → Type 0
 HasApartClasses c budgets file = (stated : StatedResult) × (file ≡ text_of (stated_records c stated)) × AreApart c stated
 
+-- Of the file: each member that is marked equal answers as the lowest of its class on every vector.
+abbrev pub HasEqualMarked : Circuit → Budgets → Text → Type 0
+HasEqualMarked c budgets file = (stated : StatedResult) × (file ≡ text_of (stated_records c stated)) × AreEqualMarked c stated
+
 -- Of the file: each member that isn't marked is the lowest of its class.
 abbrev pub HasLowestUnmarked : Circuit → Budgets → Text → Type 0
 HasLowestUnmarked c budgets file = (stated : StatedResult) × (file ≡ text_of (stated_records c stated)) × AreLowest c stated
 
 -- Status 3 comes only for a netlist that is refused, with its text, and of the statuses below 7 no other comes for such a netlist.
 abbrev pub RefusesNetlist : Option Request → ℕ → World → World → Type 0
-RefusesNetlist request status old new = (bench result bytes : Text) (budgets : Budgets) → request ≡ Some (gen bench result budgets) → get old.files bench ≡ Some bytes
-    → (status ≡ 3 → (kind : NetKind) × (place : Place) × IsRefused bytes kind place × ConsoleGained (refusal_text kind place) old new)
-    × ((kind : NetKind) (place : Place) → IsRefused bytes kind place → status < 7 → status ≡ 3)
+RefusesNetlist asked status old new = (request : Request) (bytes : Text) → asked ≡ Some request → get old.files (bench_of request) ≡ Some bytes
+    → (status ≡ 3 → (console : Text) × IsRefused bytes console × ConsoleGained console old new)
+    × ((console : Text) → IsRefused bytes console → status < 7 → status ≡ 3)
 
 -- Where the netlist is accepted and neither count rose, the work is done or memory was wanting.
 abbrev pub IsComplete : Option Request → ℕ → State → State → Type 0
-IsComplete request status old new = (bench result bytes : Text) (budgets : Budgets) (netlist : Netlist) → request ≡ Some (gen bench result budgets) → IsTrue old.tells → get old.world.files bench ≡ Some bytes → IsNetlist bytes netlist
+IsComplete asked status old new = (request : Request) (bytes : Text) (design : Design) → asked ≡ Some request → IsTrue old.tells → get old.world.files (bench_of request) ≡ Some bytes → IsDesign bytes design
     → ¬ Rose old.read_faults new.read_faults → ¬ Rose old.write_faults new.write_faults → (status ≡ 0) ⊎ (status ≡ 9)
 
 -- Where the words aren't understood or a file that is read is refused, no file is created or changed, whatever the status.

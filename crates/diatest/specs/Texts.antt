@@ -1,18 +1,39 @@
 -- The lines of the console.
-use Rattle.std.specs.Prelude.{◌++◌, codes, decimal}
+use Rattle.net_model.specs.FaultList.{fault_numbered}
+use Rattle.std.specs.Prelude.{ℕ, ◌-◌, List, ◌∷◌, ◌++◌, codes, decimal, flat_map, length}
+use Rattle.std.specs.List.{range_with_len}
+use Rattle.net_model.specs.declared.circuit.Design.{Design}
+use Rattle.net_model.specs.declared.fault.Fault.{Fault}
 use Rattle.bench_reader.specs.declared.fault.Place.{Place}
 use Rattle.bench_reader.specs.declared.fault.NetKind.{NetKind}
-use Rattle.bench_reader.specs.declared.fault.NetKind.TheVariants.{NotYet, TooLong}
+use Rattle.bench_reader.specs.declared.fault.NetKind.TheVariants.{BadByte, Expected, UnknownGate, WrongPins, DrivenTwice, Undriven, TooLong}
+use Rattle.fault_list.specs.Names.{fault_name}
+use Rattle.fault_collapse.specs.Forest.{Forest, number_count, root_of, root_numbers}
 use Rattle.result_file.specs.declared.record.Summary.{Summary}
 use Rattle.diatest.specs.Request.{Text}
 
 abbrev pub kind_name : NetKind → Text
-kind_name NotYet = codes "NotYet"
+kind_name BadByte = codes "BadByte"
+kind_name Expected = codes "Expected"
+kind_name UnknownGate = codes "UnknownGate"
+kind_name WrongPins = codes "WrongPins"
+kind_name DrivenTwice = codes "DrivenTwice"
+kind_name Undriven = codes "Undriven"
 kind_name TooLong = codes "TooLong"
 
--- why a netlist is refused
+-- why a netlist's text is refused
 unfoldable pub refusal_text : NetKind → Place → Text
 refusal_text kind place = codes "netlist: " ++ (kind_name kind ++ (codes " at byte " ++ (decimal place.byte ++ (codes ", line " ++ (decimal place.line ++ codes "\n")))))
+
+unfoldable pub loop_start : Place → Text
+loop_start place = codes "netlist: Loop at byte " ++ (decimal place.byte ++ (codes ", line " ++ (decimal place.line ++ codes ":")))
+
+abbrev pub after_blank : Text → Text
+after_blank name = 32 ∷ name
+
+-- a loop of gates: where its walk begins, and the names along it
+unfoldable pub loop_text : Place → List Text → Text
+loop_text place names = loop_start place ++ flat_map after_blank names ++ codes "\n"
 
 -- what a result amounts to
 unfoldable pub summary_text : Summary → Text
@@ -21,3 +42,23 @@ summary_text s =
 
 unfoldable pub not_understood_text : Text
 not_understood_text = codes "words: not understood\n"
+
+-- ---- faults
+
+unfoldable pub line_start : ℕ → ℕ → Text
+line_start number root = decimal number ++ (codes " " ++ (decimal root ++ codes " "))
+
+-- a number, that of its root and the fault's name
+unfoldable pub fault_fields : Design → Fault → ℕ → ℕ → Text
+fault_fields design fault number root = line_start number root ++ fault_name design.circuit design.names fault ++ codes "\n"
+
+abbrev pub fault_line : Design → Forest → ℕ → Text
+fault_line design forest n = fault_fields design (fault_numbered design.circuit n) n (root_of forest n)
+
+-- how many faults there are, and how many roots, number 0 left out
+unfoldable pub count_text : ℕ → ℕ → Text
+count_text numbers roots = codes "faults " ++ (decimal numbers ++ (codes " roots " ++ (decimal roots ++ codes "\n")))
+
+-- all faults, by number
+unfoldable pub faults_text : Design → Forest → Text
+faults_text design forest = flat_map (fault_line design forest) (range_with_len 0 (number_count forest)) ++ count_text (number_count forest - 1) (length (root_numbers forest))

@@ -3,13 +3,15 @@
 ghost use Rattle.std.specs.Prelude.{◌≡◌, ◌⊎◌, map, string_bytes, IsTrue, None};
 ghost use Rattle.diag_shelf.specs.Calls.{Told};
 ghost use Rattle.diatest.specs.Request.{request_of, inputs_of};
-ghost use Rattle.diatest.specs.Ran.{HasCauses, IsDone, IsUnread, IsBrokenOff, OnlyOutputs, AreHeld, NoneFailed, Ran, GeneratesFile, IsMadeFile, HasApartClasses, HasLowestUnmarked, RefusesNetlist, KeepsRefused, IsComplete};
+ghost use Rattle.diatest.specs.Ran.{HasCauses, IsDone, IsUnread, IsBrokenOff, OnlyOutputs, AreHeld, NoneFailed, Ran, GeneratesFile, IsMadeFile, HasApartClasses, HasEqualMarked, HasLowestUnmarked, PrintsFaults, RefusesNetlist, KeepsRefused, IsComplete};
 
 use crate::ends::say;
 use crate::generates::generate_file;
+use crate::listing::list_faults;
 use crate::request::{Request, read_words};
-use bench_reader::accepted_or_refused;
+use bench_reader::{accepted_or_refused, one_netlist};
 use diag_shelf::Shelf;
+use net_model::{none_reaches_itself, walk_reaches_itself};
 use std::alloc::Global;
 
 /// Does what the words ask for, and answers a status: 0 where the work is done, 2 where the words aren't understood,
@@ -29,7 +31,11 @@ pub fn run<S: Shelf>(alloc: Global, words: &[String], shelf: &mut S) -> u8
     // The file of a generated result.
     ensures made { Told (S.state shelf.old) (S.state shelf.new) (GeneratesFile IsMadeFile (request_of (map string_bytes words.now)) result) }
     ensures apart { Told (S.state shelf.old) (S.state shelf.new) (GeneratesFile HasApartClasses (request_of (map string_bytes words.now)) result) }
+    ensures equal { Told (S.state shelf.old) (S.state shelf.new) (GeneratesFile HasEqualMarked (request_of (map string_bytes words.now)) result) }
     ensures lowest { Told (S.state shelf.old) (S.state shelf.new) (GeneratesFile HasLowestUnmarked (request_of (map string_bytes words.now)) result) }
+
+    // The faults of a circuit.
+    ensures faults { Told (S.state shelf.old) (S.state shelf.new) (PrintsFaults (request_of (map string_bytes words.now)) result) }
 
     // Refusals, and their absence.
     ensures netlist { Told (S.state shelf.old) (S.state shelf.new) (RefusesNetlist (request_of (map string_bytes words.now)) result) }
@@ -40,6 +46,9 @@ pub fn run<S: Shelf>(alloc: Global, words: &[String], shelf: &mut S) -> u8
     ensures sure { IsTrue (S.state shelf.old).sure → AreHeld (inputs_of (request_of (map string_bytes words.now))) (S.state shelf.old).world.files → NoneFailed (S.state shelf.old) (S.state shelf.new) }
 {
     accepted_or_refused();
+    one_netlist();
+    none_reaches_itself();
+    walk_reaches_itself();
     dispatch(alloc, words, shelf)
 }
 
@@ -51,6 +60,7 @@ fn dispatch<S: Shelf>(alloc: Global, words: &[String], shelf: &mut S) -> u8
         Some(Request::Gen(bench, result, budgets)) => {
             generate_file(alloc, shelf, bench, result, budgets)
         }
+        Some(Request::ListFaults(bench)) => list_faults(alloc, shelf, bench),
     }
 }
 

@@ -4,6 +4,8 @@
 mod commands;
 mod ends;
 mod generates;
+mod listing;
+mod netlists;
 mod real;
 mod request;
 #[cfg(test)]

@@ -22,9 +22,13 @@ struct Left {
 }
 
 fn generated(alloc: Global, netlist: &[u8]) -> Result<Left, AllocError> {
+    generated_by(alloc, netlist, &["gen", "n", "r"])
+}
+
+fn generated_by(alloc: Global, netlist: &[u8], all: &[&str]) -> Result<Left, AllocError> {
     let mut shelf = SureShelf::new(alloc, 7);
     shelf.put_file("n", netlist)?;
-    let status = run(alloc, &words(alloc, &["gen", "n", "r"])?, &mut shelf);
+    let status = run(alloc, &words(alloc, all)?, &mut shelf);
     let result = match shelf.file("r") {
         Some(bytes) => Some(bytes.to_vec(alloc)?),
         None => None,
@@ -54,24 +58,34 @@ fn failing(alloc: Global, call: u64) -> Result<Left, AllocError> {
     })
 }
 
-// A wire; no line at all; two NANDs over two sources, one of which is read twice.
+// A wire; no line at all; an AND; an OR of a signal and its complement; a flip-flop that toggles.
 #[test]
 fn results_of_small_circuits(rt: HostRuntime) -> Result<(), Fail> {
-    let cases: [(&[u8], &[u8], &[u8]); 3] = [
+    let cases: [(&[u8], &[u8], &[u8]); 5] = [
         (
             b"INPUT(a)\nz=BUFF(a)\nOUTPUT(z)\n",
-            b"diatest 1 1 1 5\nbudget 1 0 0\npattern 0\npattern 1\nsame 3 1 O ?\nsame 4 2 O ?\nclass 0 - -\nclass 1 0 0\nclass 2 0 1\nmember 0 0 rep\nmember 1 2 rep\nmember 2 1 rep\nmember 3 2 open\nmember 4 1 open\nend\n",
-            b"numbers 5 patterns 2 classes 3 equal 0 open 2\n",
+            b"diatest 1 1 1 5\nbudget 4 0 0\npattern 0\npattern 1\nsame 3 1 C\nsame 4 2 C\nclass 0 - -\nclass 1 0 0\nclass 2 0 1\nmember 0 0 rep\nmember 1 2 rep\nmember 2 1 rep\nmember 3 2 equal\nmember 4 1 equal\nend\n",
+            b"numbers 5 patterns 2 classes 3 equal 2 open 0\n",
         ),
         (
             b"",
-            b"diatest 1 0 0 1\nbudget 1 0 0\nclass 0 - -\nmember 0 0 rep\nend\n",
+            b"diatest 1 0 0 1\nbudget 4 0 0\nclass 0 - -\nmember 0 0 rep\nend\n",
             b"numbers 1 patterns 0 classes 1 equal 0 open 0\n",
         ),
         (
-            b"INPUT(a)\nINPUT(b)\ny=NAND(a,b)\nz=NAND(y,b)\nOUTPUT(z)\n",
-            b"diatest 1 2 1 13\nbudget 1 0 0\npattern 00\npattern 10\npattern 01\npattern 11\nsame 3 2 O ?\nsame 5 1 O ?\nsame 6 0 O ?\nsame 7 2 O ?\nsame 9 2 O ?\nsame 10 1 O ?\nsame 12 2 O ?\nclass 0 - -\nclass 1 0 0\nclass 2 1 1\nclass 3 0 2\nclass 4 0 3\nclass 5 2 3\nmember 0 0 rep\nmember 1 4 rep\nmember 2 3 rep\nmember 3 3 open\nmember 4 1 rep\nmember 5 4 open\nmember 6 0 open\nmember 7 3 open\nmember 8 2 rep\nmember 9 3 open\nmember 10 4 open\nmember 11 5 rep\nmember 12 3 open\nend\n",
-            b"numbers 13 patterns 4 classes 6 equal 0 open 7\n",
+            b"INPUT(a)\nINPUT(b)\nOUTPUT(z)\nz=AND(a,b)\n",
+            b"diatest 1 2 1 7\nbudget 4 0 0\npattern 00\npattern 10\npattern 01\npattern 11\nsame 3 1 C\nsame 5 1 C\nclass 0 - -\nclass 1 0 0\nclass 2 0 1\nclass 3 0 2\nclass 4 0 3\nmember 0 0 rep\nmember 1 4 rep\nmember 2 3 rep\nmember 3 4 equal\nmember 4 2 rep\nmember 5 4 equal\nmember 6 1 rep\nend\n",
+            b"numbers 7 patterns 4 classes 5 equal 2 open 0\n",
+        ),
+        (
+            b"INPUT(a)\nOUTPUT(z)\nb=NOT(a)\nz=OR(a,b)\n",
+            b"diatest 1 1 1 11\nbudget 4 0 0\npattern 0\npattern 1\nsame 1 0 O ?\nsame 2 0 O ?\nsame 3 0 O ?\nsame 6 0 O ?\nsame 7 4 C\nsame 8 0 O ?\nsame 10 0 O ?\nclass 0 - -\nclass 1 0 0\nclass 2 0 1\nclass 3 1 1\nmember 0 0 rep\nmember 1 0 open\nmember 2 0 open\nmember 3 0 open\nmember 4 1 rep\nmember 5 2 rep\nmember 6 0 open\nmember 7 1 equal\nmember 8 0 open\nmember 9 3 rep\nmember 10 0 open\nend\n",
+            b"numbers 11 patterns 2 classes 4 equal 1 open 6\n",
+        ),
+        (
+            b"q=DFF(d)\nd=NOT(q)\n",
+            b"diatest 1 1 1 5\nbudget 4 0 0\npattern 0\npattern 1\nsame 3 2 C\nsame 4 1 C\nclass 0 - -\nclass 1 0 0\nclass 2 0 1\nmember 0 0 rep\nmember 1 2 rep\nmember 2 1 rep\nmember 3 1 equal\nmember 4 2 equal\nend\n",
+            b"numbers 5 patterns 2 classes 3 equal 2 open 0\n",
         ),
     ];
     for (netlist, result, console) in &cases {
@@ -83,28 +97,185 @@ fn results_of_small_circuits(rt: HostRuntime) -> Result<(), Fail> {
     Ok(())
 }
 
+const C17: &[u8] =
+    b"# c17\nINPUT(1)\nINPUT(2)\nINPUT(3)\nINPUT(6)\nINPUT(7)\n\nOUTPUT(22)\nOUTPUT(23)\n\n10 = NAND(1, 3)\n11 = NAND(3, 6)\n16 = NAND(2, 11)\n19 = NAND(11, 7)\n22 = NAND(10, 16)\n23 = NAND(16, 19)\n";
+
+const S27: &[u8] =
+    b"# s27\nINPUT(G0)\nINPUT(G1)\nINPUT(G2)\nINPUT(G3)\n\nOUTPUT(G17)\n\nG5 = DFF(G10)\nG6 = DFF(G11)\nG7 = DFF(G13)\nG14 = NOT(G0)\nG17 = NOT(G11)\nG8 = AND(G14, G6)\nG15 = OR(G12, G8)\nG16 = OR(G3, G8)\nG9 = NAND(G16, G15)\nG10 = NOR(G14, G11)\nG11 = NOR(G5, G9)\nG12 = NOR(G1, G7)\nG13 = NOR(G2, G12)\n";
+
+// What the command `faults` leaves on the console, over one netlist.
+fn listed(alloc: Global, netlist: &[u8]) -> Result<Left, AllocError> {
+    let mut shelf = SureShelf::new(alloc, 100);
+    shelf.put_file("n", netlist)?;
+    let status = run(alloc, &words(alloc, &["faults", "n"])?, &mut shelf);
+    let console = shelf.console().to_vec(alloc)?;
+    Ok(Left {
+        status,
+        result: None,
+        console,
+    })
+}
+
+// Whether a text stands somewhere in another.
+fn has(text: &[u8], part: &[u8]) -> bool {
+    text.windows(part.len().max(1)).any(|window| window == part)
+}
+
 #[test]
-fn refusals_create_no_file(rt: HostRuntime) -> Result<(), Fail> {
+fn faults_of_small_circuits(rt: HostRuntime) -> Result<(), Fail> {
+    let all: [(&[u8], &[u8]); 2] = [
+        (
+            b"INPUT(a)\nINPUT(b)\nOUTPUT(z)\nz=AND(a,b)\n",
+            b"0 0 free\n1 5 S a 0\n2 2 S a 1\n3 5 S b 0\n4 4 S b 1\n5 5 S z 0\n6 6 S z 1\nfaults 6 roots 4\n",
+        ),
+        (
+            b"input(INPUT)\nAND=and(INPUT)\nOUTPUT=BUF(AND)\nOutput(OUTPUT)\n",
+            b"0 0 free\n1 5 S INPUT 0\n2 6 S INPUT 1\n3 5 S AND 0\n4 6 S AND 1\n5 5 S OUTPUT 0\n6 6 S OUTPUT 1\nfaults 6 roots 2\n",
+        ),
+    ];
+    for (netlist, console) in &all {
+        let left = listed(rt.alloc(), *netlist)?;
+        assert_eq!(rt; left.status, 0);
+        assert_eq!(rt; left.console.as_slice(), *console);
+    }
+    let some: [(&[u8], &[u8]); 4] = [
+        (C17, b"\n7 16 G 3 10 1 0\n"),
+        (C17, b"\n15 32 S 10 0\n"),
+        (C17, b"\nfaults 34 roots 22\n"),
+        (S27, b"\nfaults 52 roots 32\n"),
+    ];
+    for (netlist, line) in &some {
+        let left = listed(rt.alloc(), *netlist)?;
+        assert_eq!(rt; left.status, 0);
+        assert!(rt; has(left.console.as_slice(), *line));
+    }
+    Ok(())
+}
+
+#[test]
+fn summaries_of_known_circuits(rt: HostRuntime) -> Result<(), Fail> {
     let cases: [(&[u8], &[u8]); 2] = [
         (
-            b"INPUT(a)\nz=NOT(a)\nOUTPUT(z)\n",
-            b"netlist: NotYet at byte 9, line 2\n",
+            b"INPUT(a)\nOUTPUT(a)\nOUTPUT(a)\n",
+            b"numbers 7 patterns 2 classes 7 equal 0 open 0\n",
         ),
-        (
-            b"INPUT(a)\nOUTPUT(a)",
-            b"netlist: NotYet at byte 9, line 2\n",
-        ),
+        (C17, b" classes 23 equal 12 open 0\n"),
     ];
     for (netlist, console) in &cases {
         let left = generated(rt.alloc(), *netlist)?;
+        assert_eq!(rt; left.status, 0);
+        assert!(rt; left.console.as_slice().ends_with(*console));
+    }
+    let left = generated(rt.alloc(), S27)?;
+    assert_eq!(rt; left.status, 0);
+    let file = left.result.ok_or("no file")?;
+    assert!(rt;
+        file.as_slice()
+            .starts_with(b"diatest 1 7 4 53\nbudget 4 0 0\npattern 0000001\n")
+    );
+    Ok(())
+}
+
+// Without a block no vector is kept, and all faults stay in one class.
+#[test]
+fn no_block_of_the_stream(rt: HostRuntime) -> Result<(), Fail> {
+    let wire = b"INPUT(a)\nOUTPUT(z)\nz=BUFF(a)\n";
+    let left = generated_by(rt.alloc(), wire, &["gen", "n", "r", "--blocks", "0"])?;
+    assert_eq!(rt; left.status, 0);
+    assert_eq!(rt;
+        left.result.ok_or("no file")?.as_slice(),
+        b"diatest 1 1 1 5\nbudget 0 0 0\nsame 1 0 O ?\nsame 2 0 O ?\nsame 3 0 O ?\nsame 4 0 O ?\nclass 0 - -\nmember 0 0 rep\nmember 1 0 open\nmember 2 0 open\nmember 3 0 open\nmember 4 0 open\nend\n".as_slice()
+    );
+    assert_eq!(rt;
+        left.console.as_slice(),
+        b"numbers 5 patterns 0 classes 1 equal 0 open 4\n".as_slice()
+    );
+    Ok(())
+}
+
+// The longest text that is read, a comment of 16,777,216 bytes, and one byte more.
+#[test]
+fn the_longest_netlist(rt: HostRuntime) -> Result<(), Fail> {
+    let alloc = rt.alloc();
+    let mut text = vec![in alloc; b'x'; 16_777_216]?;
+    text[0] = b'#';
+    for (status, console) in [
+        (0u8, "numbers 1 patterns 0 classes 1 equal 0 open 0\n"),
+        (3, "netlist: TooLong at byte 16777216, line 1\n"),
+    ] {
+        let mut shelf = SureShelf::new(alloc, 65_536);
+        shelf.put_file("n", &text)?;
+        assert_eq!(rt;
+            run(alloc, &words(alloc, &["gen", "n", "r"])?, &mut shelf),
+            status
+        );
+        assert_eq!(rt; shelf.console(), console.as_bytes());
+        text.push(b'x')?;
+    }
+    Ok(())
+}
+
+#[test]
+fn refusals_create_no_file(rt: HostRuntime) -> Result<(), Fail> {
+    let cases: [(&[u8], &[u8]); 21] = [
+        (
+            b"INPUT(a)\nOUTPUT(z)\nz=AND(a,b)\n",
+            b"Undriven at byte 27, line 3",
+        ),
+        (b"INPUT(a)\nINPUT(a)\n", b"DrivenTwice at byte 15, line 2"),
+        (b"INPUT(a)\nz=NOT(a,b)\n", b"WrongPins at byte 11, line 2"),
+        (b"z=LUT 0x8 (a,b)\n", b"UnknownGate at byte 2, line 1"),
+        (b"INPUT(a\n", b"Expected at byte 8, line 2"),
+        (b"INPUT()\n", b"Expected at byte 6, line 1"),
+        (b"INPUT(\x01", b"BadByte at byte 6, line 1"),
+        (b"z=LUT\x01", b"UnknownGate at byte 2, line 1"),
+        (b"FOO\x01", b"BadByte at byte 3, line 1"),
+        (b"FOO (a", b"UnknownGate at byte 0, line 1"),
+        (b"INPUT a(b)", b"Expected at byte 6, line 1"),
+        (b"z=(a)", b"Expected at byte 2, line 1"),
+        (b"z= # x\n", b"Expected at byte 7, line 2"),
+        (b"INPUT(a)\x0c", b"BadByte at byte 8, line 1"),
+        (b"#\x0c\x7f\r\n\x7f", b"BadByte at byte 5, line 2"),
+        (
+            b"OUTPUT(u)\nINPUT(a)\nINPUT(a)\n",
+            b"DrivenTwice at byte 25, line 3",
+        ),
+        (b"q=DFF(d)\nOUTPUT(q)\n", b"Undriven at byte 6, line 1"),
+        (
+            b"INPUT(a)\nx=AND(a,y)\ny=NOT(x)\n",
+            b"Loop at byte 9, line 2: x y",
+        ),
+        (
+            b"INPUT(a)\nz=AND(a,x)\nx=NOT(y)\ny=NOT(x)\n",
+            b"Loop at byte 20, line 3: x y",
+        ),
+        (b"z=AND(z,z)\n", b"Loop at byte 0, line 1: z"),
+        (b"z=NOT(Z)\n", b"Undriven at byte 6, line 1"),
+    ];
+    for (netlist, refusal) in &cases {
+        let left = generated(rt.alloc(), *netlist)?;
         assert_eq!(rt; left.status, 3);
         assert!(rt; left.result.is_none());
-        assert_eq!(rt; left.console.as_slice(), *console);
+        let console = left.console.as_slice();
+        assert!(rt; console.starts_with(b"netlist: ") && console.ends_with(b"\n"));
+        assert_eq!(rt; console.len(), refusal.len() + 10);
+        assert!(rt; has(console, *refusal));
     }
     let alloc = rt.alloc();
-    let mut shelf = SureShelf::new(alloc, 7);
-    assert_eq!(rt; run(alloc, &words(alloc, &["gen", "a"])?, &mut shelf), 2);
-    assert_eq!(rt; shelf.console(), b"words: not understood\n".as_slice());
+    let wrong: [&[&str]; 7] = [
+        &[],
+        &["gen", "a"],
+        &["faults"],
+        &["faults", "a", "b"],
+        &["gen", "a", "b", "--blocks", "65537"],
+        &["gen", "a", "b", "--blocks", "01"],
+        &["gen", "a", "b", "--blocks"],
+    ];
+    for all in &wrong {
+        let mut shelf = SureShelf::new(alloc, 7);
+        assert_eq!(rt; run(alloc, &words(alloc, *all)?, &mut shelf), 2);
+        assert_eq!(rt; shelf.console(), b"words: not understood\n".as_slice());
+    }
     Ok(())
 }
 

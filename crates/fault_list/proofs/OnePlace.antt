@@ -67,7 +67,7 @@ Apart-then true n xs h a = (h, a)
 Apart-then false n xs h a = a
 
 -- what holds of each place at which the number stands
-All-places : (P : ℕ → Type 0) (x n : ℕ) (xs : List ℕ) → ((k : ℕ) → k < length xs → get_or xs k 0 ≡ x → P (n + k)) → All P (places_from x n xs)
+pub All-places : (P : ℕ → Type 0) (x n : ℕ) (xs : List ℕ) → ((k : ℕ) → k < length xs → get_or xs k 0 ≡ x → P (n + k)) → All P (places_from x n xs)
 All-places P x n [] h = All-nil P
 All-places P x n (y ∷ ys) h =
     All-then P (eqb y x) n (places_from x (n + 1) ys) (λ e. subst P (omega arith) (h 0 (omega arith) (eqb-true y x e)))

@@ -31,7 +31,7 @@ one_number c (suc m) (suc n) (Stuck site bit) d e =
     omega (arith, first.2, second.2, same)
 
 -- what one of the readers gets
-at_reading : (read : ℕ → ℕ → Bool) (lines : List ℕ) (at : ℕ) → at < length lines → bit_at (readings read lines) at ≡ read at (get_or lines at 0)
+pub at_reading : (read : ℕ → ℕ → Bool) (lines : List ℕ) (at : ℕ) → at < length lines → bit_at (readings read lines) at ≡ read at (get_or lines at 0)
 unfolding readings
 at_reading read lines at h =
     get_or-map (λ (x : ℕ × ℕ). read x.0 x.1) (enumerate_from 0 lines) at (0, 0) false (omega (arith, length-enumerate_from 0 lines))

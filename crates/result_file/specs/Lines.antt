@@ -1,9 +1,9 @@
 -- The rule of each line of a result file, given the lines before it.
-use Rattle.std.specs.Prelude.{◌≡◌, ℕ, ◌≤◌, ◌<◌, Bool, List, [], length, take, Option, None, Some, slice_get, slice_index_or, filter_map, unwrap_or, ⊤}
+use Rattle.std.specs.Prelude.{◌≡◌, ◌≢◌, ℕ, ◌≤◌, ◌<◌, Bool, List, [], length, take, Option, None, Some, slice_get, slice_index_or, filter_map, unwrap_or, ⊤}
 use Rattle.net_model.specs.declared.fault.Fault.{Fault}
-use Rattle.net_model.specs.declared.fault.Fault.TheVariants.{Free}
 use Rattle.net_model.specs.Circuit.{Circuit}
-use Rattle.net_model.specs.FaultList.{faults, fault_count}
+use Rattle.net_model.specs.FaultList.{fault_count, fault_numbered}
+use Rattle.net_model.specs.Collapse.{root}
 use Rattle.net_model.specs.ClassTable.{ClassTable, class_at, class_count, representative, SplitBy}
 use Rattle.net_model.specs.PatternRows.{IsTableOf, IsAnswerRow}
 use Rattle.result_file.specs.declared.record.Budgets.{Budgets}
@@ -14,10 +14,6 @@ use Rattle.result_file.specs.declared.record.Evidence.{Evidence}
 use Rattle.result_file.specs.declared.record.Record.{Record}
 use Rattle.result_file.specs.declared.record.Record.TheVariants.{Head, Budget, Pattern, Same, Class, Member, End}
 use Rattle.result_file.specs.Marks.{evidence_in, patterns_in, class_lines, member_lines, end_lines, number_mark, next_member}
-
--- the fault of a number
-abbrev pub fault_numbered : Circuit → ℕ → Fault
-fault_numbered c n = slice_index_or (faults c) n Free
 
 -- The budgets are within their limits.
 pub record AreWithinLimits (budgets : Budgets) : Type 0 where
@@ -55,12 +51,19 @@ pub record NamesNext (t : ClassTable) (before : List Record) (evidence : Evidenc
   pub member : next_member t (evidence_in before) ≡ Some evidence.member
   pub partner : evidence.partner ≡ representative t (class_at t evidence.member)
 
+-- By collapse the roots are the same, and else they are different.
+abbrev pub HasRightRoots : Circuit → Fault → Fault → Proof → Type 0
+HasRightRoots c f g proof.Collapse = root c f ≡ root c g
+HasRightRoots c f g proof.Unsearched = root c f ≢ root c g
+
 -- Nothing is searched only where there is no budget for it.
 abbrev pub IsRightProof : Budgets → Proof → Type 0
+IsRightProof budgets proof.Collapse = ⊤
 IsRightProof budgets proof.Unsearched = (budgets.cubes ≡ 0) × (budgets.conflicts ≡ 0)
 
-pub record IsRightEvidence (t : ClassTable) (before : List Record) (evidence : Evidence) : Type 0 where
+pub record IsRightEvidence (c : Circuit) (t : ClassTable) (before : List Record) (evidence : Evidence) : Type 0 where
   pub next : NamesNext t before evidence
+  pub roots : HasRightRoots c (fault_numbered c evidence.partner) (fault_numbered c evidence.member) evidence.proof
   pub right : IsRightProof (budgets_in before) evidence.proof
 
 -- ---- each record
@@ -93,7 +96,7 @@ abbrev pub IsRightContent : Circuit → ClassTable → List Record → Record �
 IsRightContent c t before (Head sources positions numbers) = (sources ≡ c.sources) × (positions ≡ length c.positions) × (numbers ≡ fault_count c)
 IsRightContent c t before (Budget budgets) = AreWithinLimits budgets
 IsRightContent c t before (Pattern bits) = IsRightPattern c t bits
-IsRightContent c t before (Same evidence) = IsRightEvidence t before evidence
+IsRightContent c t before (Same evidence) = IsRightEvidence c t before evidence
 IsRightContent c t before (Class number birth) = IsRightClass t before number birth
 IsRightContent c t before (Member number class mark) = IsRightMember t before number class mark
 IsRightContent c t before End = ⊤

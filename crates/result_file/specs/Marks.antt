@@ -46,6 +46,7 @@ abbrev pub end_lines : List Record → ℕ
 end_lines records = count_by is_end records
 
 abbrev pub mark_of : Proof → Mark
+mark_of proof.Collapse = mark.Equal
 mark_of proof.Unsearched = mark.Spent
 
 -- whether evidence names a number with the representative that it has in the table

@@ -4,7 +4,7 @@ use Rattle.std.specs.Prelude.{◌≡◌, ◌≢◌, ℕ, ◌<◌, Bool, true, fa
 use Rattle.std.specs.List.{enumerate_from, range_with_len}
 use Rattle.net_model.specs.Circuit.{Circuit}
 use Rattle.net_model.specs.Answer.{Separates, AreEqual}
-use Rattle.net_model.specs.FaultList.{fault_count}
+use Rattle.net_model.specs.FaultList.{fault_count, fault_numbered}
 use Rattle.net_model.specs.ClassTable.{named_pattern}
 use Rattle.result_file.specs.declared.record.Budgets.{Budgets}
 use Rattle.result_file.specs.declared.record.Mark.{Mark}
@@ -14,7 +14,6 @@ use Rattle.result_file.specs.declared.record.Record.{Record}
 use Rattle.result_file.specs.declared.record.Record.TheVariants.{Head, Budget, Pattern, Same, Class, Member, End}
 use Rattle.result_file.specs.Spelling.{HasSpelling}
 use Rattle.result_file.specs.Marks.{patterns_in, evidence_in}
-use Rattle.result_file.specs.Lines.{fault_numbered}
 
 -- What the lines of a file state: the budgets, patterns and evidence, the birth of each class, and the class and mark of each number.
 pub record StatedResult : Type 0 where
@@ -72,6 +71,10 @@ pub record IsSpentOn (s : StatedResult) (n : ℕ) : Type 0 where
 abbrev pub AreApart : Circuit → StatedResult → Type 0
 AreApart c s = (m n : ℕ) → m < fault_count c → n < fault_count c → stated_class s m ≢ stated_class s n → Separates c (pattern_between s m n) (fault_numbered c m) (fault_numbered c n)
 
+-- Each member that is marked equal answers as the lowest of its class on every vector.
+abbrev pub AreEqualMarked : Circuit → StatedResult → Type 0
+AreEqualMarked c s = (n : ℕ) → n < fault_count c → stated_mark s n ≡ mark.Equal → AreEqual c (fault_numbered c n) (fault_numbered c (lowest_mate s n))
+
 -- Each member that is marked neither equal nor open is the lowest of its class.
 abbrev pub AreLowest : Circuit → StatedResult → Type 0
 AreLowest c s = (n : ℕ) → n < fault_count c → stated_mark s n ≡ mark.Rep → lowest_mate s n ≡ n
@@ -84,6 +87,6 @@ pub record IsTrueResult (c : Circuit) (s : StatedResult) : Type 0 where
   pub numbers : length s.members ≡ fault_count c
   pub classes : All (λ member. member.0 < length s.births) s.members
   pub apart : AreApart c s
-  pub equal : (n : ℕ) → n < fault_count c → stated_mark s n ≡ mark.Equal → AreEqual c (fault_numbered c n) (fault_numbered c (lowest_mate s n))
+  pub equal : AreEqualMarked c s
   pub spent : (n : ℕ) → n < fault_count c → stated_mark s n ≡ mark.Spent → IsSpentOn s n
   pub representatives : AreLowest c s

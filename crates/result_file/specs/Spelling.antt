@@ -15,6 +15,7 @@ Text = List ℕ
 -- ---- fields
 
 abbrev pub proof_fields : Proof → List Text
+proof_fields proof.Collapse = codes "C" ∷ []
 proof_fields proof.Unsearched = codes "O" ∷ codes "?" ∷ []
 
 abbrev pub birth_fields : Option (ℕ × ℕ) → List Text

@@ -28,9 +28,11 @@ pub enum Mark {
     Spent,
 }
 
-/// What is known of a member and its representative: nothing was searched, since the budgets are 0.
+/// What is known of a member and its representative: both faults have the same root of the fault collapse; or nothing was
+/// searched, since the budgets are 0.
 #[derive(Debug, Drop)]
 pub enum Proof {
+    Collapse,
     Unsearched,
 }
 

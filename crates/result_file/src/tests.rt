@@ -18,12 +18,18 @@ fn records_are_lines(rt: HostRuntime) -> Result<(), Fail> {
         partner: 1,
         proof: Proof::Unsearched,
     };
+    let collapsed = Evidence {
+        member: 7,
+        partner: 4,
+        proof: Proof::Collapse,
+    };
     let cases = [
         (Record::Head(2, 1, 7), "diatest 1 2 1 7\n"),
         (Record::Budget(budgets), "budget 4 64 2000\n"),
         (Record::Pattern(bits), "pattern 010\n"),
         (Record::Pattern(Bits::zeros(rt.alloc(), 0)?), "pattern -\n"),
         (Record::Same(evidence), "same 3 1 O ?\n"),
+        (Record::Same(collapsed), "same 7 4 C\n"),
         (Record::Class(0, None), "class 0 - -\n"),
         (Record::Class(3, Some((0, 2))), "class 3 0 2\n"),
         (Record::Member(0, 0, Mark::Rep), "member 0 0 rep\n"),

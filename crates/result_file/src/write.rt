@@ -85,6 +85,10 @@ fn same_line(alloc: Global, evidence: &Evidence) -> Result<Vec<u8>, AllocError>
         proof,
     } = evidence;
     match proof {
+        Proof::Collapse => {
+            let line = format!(in alloc; "same {member} {partner} C\n")?;
+            Ok(line.into_bytes())
+        }
         Proof::Unsearched => {
             let line = format!(in alloc; "same {member} {partner} O ?\n")?;
             Ok(line.into_bytes())

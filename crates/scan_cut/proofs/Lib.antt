@@ -1,2 +1,4 @@
-pub mod CutLemmas
-pub mod PartLemmas
+pub mod NameLemmas
+pub mod FitLemmas
+pub mod TableLemmas
+pub mod LoopLemmas

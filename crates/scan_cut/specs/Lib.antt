@@ -1,4 +1,5 @@
 -- The cut
 pub mod Cut
--- What the parts of a circuit are while it is cut
+-- What is known while it is made
+pub mod Lines
 pub mod Parts

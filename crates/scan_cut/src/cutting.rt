@@ -1,35 +1,38 @@
 //! The cut circuit, with the name of each line.
-ghost use Rattle.std.specs.Prelude.{◌≡◌, ◌<◌, ◌≤◌, length, Err, IfOk};
-ghost use Rattle.bench_reader.specs.declared.fault.NetFault.{NetFault};
-ghost use Rattle.scan_cut.specs.Cut.{cut_design};
+ghost use Rattle.std.specs.Prelude.{◌≡◌, List, ℕ, Err, IfOk, length};
+ghost use Rattle.net_model.specs.Circuit.{line_count};
+ghost use Rattle.bench_reader.specs.declared.fault.NetKind.{NetKind};
+ghost use Rattle.bench_reader.specs.declared.fault.Place.{Place};
+ghost use Rattle.scan_cut.specs.Cut.{cut_design, IsNetlistLoop};
 
-use crate::parts::collect_parts;
+use crate::loops::loop_of;
+use crate::parts::{Parts, collect_parts};
 use bench_reader::{NetFault, Statements};
-use net_model::{BuildFault, Circuit, Design, Names};
-use std::alloc::{AllocError, Global};
+use net_model::{BuildFault, Circuit, Design};
+use std::alloc::Global;
 
-/// The circuit of a netlist, in which each flip-flop's output is a source and its data pin a position. It fails only for want
-/// of memory.
+/// The full-scan cut of a netlist: a circuit in which each flip-flop's output is a source and its data pin an observed
+/// position, with the name of each line. Where the gates of the cut form a loop, that loop is answered; else it fails only for
+/// want of memory.
 pub fn cut(alloc: Global, statements: &Statements) -> Result<Design, NetFault>
     ensures ok { IfOk result (λ design. design ≡ cut_design statements.now) }
-    ensures only_memory { (fault : NetFault) → result ≡ Err fault → fault ≡ NetFault.NoMemory }
+    ensures named { IfOk result (λ design. length design.names ≡ line_count design.circuit) }
+    ensures looped { (place : Place) (names : List (List ℕ)) → result ≡ Err (NetFault.Loop place names) → IsNetlistLoop statements.now place names }
+    ensures no_rule { (kind : NetKind) (place : Place) → result ≡ Err (NetFault.At kind place) → ⊥ }
 {
-    let parts = collect_parts(alloc, statements.as_slice())?;
-    let names = names(alloc, statements)?;
-    match Circuit::build(alloc, parts.sources, parts.gates, parts.positions) {
+    let Parts {
+        sources,
+        gates,
+        positions,
+        names,
+    } = collect_parts(alloc, statements)?;
+    match Circuit::build(alloc, sources, gates, positions) {
         Ok(circuit) => Ok(Design { circuit, names }),
         Err(BuildFault::NoMemory) => Err(NetFault::NoMemory),
-        Err(BuildFault::Loop(_)) => unreachable!(),
+        Err(BuildFault::Loop(walk)) => {
+            let walk = walk.as_slice();
+            let (place, names) = loop_of(alloc, statements, sources, &names, walk)?;
+            Err(NetFault::Loop(place, names))
+        }
     }
-}
-
-// All names, by number.
-fn names(alloc: Global, statements: &Statements) -> Result<Names, AllocError>
-    ensures { IfOk result (λ names. names ≡ statements.now.names) }
-{
-    let mut names = Names::new(alloc);
-    for number in 0..statements.names_len() {
-        names.push(statements.name(number))?;
-    }
-    Ok(names)
 }

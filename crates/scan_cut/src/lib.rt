@@ -2,6 +2,8 @@
 #![tactic(auto)]
 
 mod cutting;
+mod lines;
+mod loops;
 mod parts;
 #[cfg(test)]
 mod tests;

@@ -1,15 +1,21 @@
-use Rattle.std.proofs.Common.{[], ap, sym, ◌∙◌, arith}
-use Rattle.bench_reader.specs.Tokens.{Text}
-use Rattle.bench_reader.specs.Netlist.{Netlist}
-use Rattle.bench_reader.specs.declared.fault.Place.{Place}
-use Rattle.bench_reader.specs.declared.fault.NetKind.{NetKind}
-use Rattle.bench_reader.specs.Narrow.{IsNetlist, IsRefused, too_long, not_yet, phrases_behind}
-use Rattle.bench_reader.proofs.Lines.{no_refusal}
+use Rattle.std.proofs.Common.{◌≡◌, None, arith}
+use Rattle.bench_reader.specs.Reading.{driven_twice, undriven}
+use Rattle.bench_reader.specs.Refusal.{too_long, by_grammar, by_second, by_missing}
+use Rattle.bench_reader.specs.Laws.{AcceptedOrRefused}
+use Rattle.bench_reader.proofs.LawLemmas.{same_phrases, text_or_stop}
 use Rattle.bench_reader.proofs.laws.accepted_or_refused.Goals as goal
 
-one_of : (text : Text) (netlist : Netlist) (kind : NetKind) (place : Place) → IsNetlist text netlist → IsRefused text kind place → ⊥
-one_of text netlist kind place n (too_long h k p) = absurd (omega (arith, n.short, h))
-one_of text netlist kind place n (not_yet before line more phrases h e f g k p) = no_refusal before more line phrases n.phrases (ap (phrases_behind []) (sym e) ∙ n.each_fits) f g
+never_both : AcceptedOrRefused
+never_both text netlist refusal n (too_long long is) = absurd (omega (arith, n.is_text.short))
+never_both text netlist refusal n (by_grammar before phrases short each stops) = text_or_stop text n.phrases before phrases refusal n.is_text each stops
+never_both text netlist refusal n (by_second phrases name whole second is) =
+    let e = same_phrases text n.phrases phrases n.is_text whole in
+    let f : driven_twice phrases ≡ None = rw (← e) n.once in
+    cc
+never_both text netlist refusal n (by_missing phrases name whole once missing is) =
+    let e = same_phrases text n.phrases phrases n.is_text whole in
+    let f : undriven phrases ≡ None = rw (← e) n.all_driven in
+    cc
 
 pub returns : goal.returns
-returns c = one_of
+returns c = never_both

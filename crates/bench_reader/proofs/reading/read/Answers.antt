@@ -1,39 +1,39 @@
-use Rattle.std.proofs.Common.{◌≡◌, drop, sym, ◌∙◌, Some, None, add_assoc, arith}
-use Rattle.bench_reader.specs.declared.fault.NetKind.TheVariants.{NotYet}
-use Rattle.std.specs.Prelude.{position}
-use Rattle.bench_reader.proofs.Lines.{is_feed, rest_all}
-use Rattle.bench_reader.proofs.ReadSoFar.{nothing_read, read_more, refused_here, refused_end, all_read}
+use Rattle.std.proofs.Common.{◌≡◌, ◌∙◌, ◌≤◌, length, None, sym, subst, arith}
+use Rattle.std.specs.Prelude.{sum_by}
+use Rattle.bench_reader.specs.Netlist.{Netlist}
+use Rattle.bench_reader.specs.Names.{texts_in}
+use Rattle.bench_reader.specs.Reading.{IsNetlist}
+use Rattle.bench_reader.specs.Driven.{IsDriven, statement_size}
+use Rattle.bench_reader.specs.Drivers.{driver_fault}
+use Rattle.bench_reader.proofs.SizeLemmas.{few_names, small_statements}
+use Rattle.bench_reader.proofs.DriverLemmas.{numbered, accepted, all_driven}
+use Rattle.bench_reader.proofs.ReadLemmas.{driver_refused}
 use Rattle.bench_reader.proofs.reading.read.Goals as goal
 
-pub lines-init : goal.lines-init
-lines-init c = record { read = rw c.new-reader.ensures (nothing_read c.args.bytes.now); few = omega arith }
+pub check_drivers-requires : goal.check_drivers-requires
+check_drivers-requires c = numbered c.args.bytes.now c.in_ok-parsed.parsed c.in_ok-parsed.ensures.ok
 
-pub returns-in_default-clause-refused : goal.returns-in_default-clause-refused
-returns-in_default-clause-refused c = λ kind place e.
+pub invariant_of-result : goal.invariant_of-result
+invariant_of-result c =
     let text = c.args.bytes.now in
-    let k : NotYet ≡ kind = cc in
-    let p : c.lines.place ≡ place = cc in
-    let none : position is_feed (drop c.lines.place.byte text) ≡ None = rw (rest_all c.lines.place.byte text) at (sym c.line_len.ensures ∙ c.in_default.is) in
-    rw (← k, ← p) (refused_end text c.lines.place.byte c.lines.place.line c.lines.reader c.lines.invariant.read (omega arith) (omega arith) none)
+    let n = c.in_ok-parsed.parsed in
+    let p = c.in_ok-parsed.ensures.ok in
+    let none : driver_fault n.statements ≡ None = sym c.in_ok-fault.ensures ∙ c.in-None.is in
+    let few : length n.names ≤ 16777216 = omega (arith, few_names text n p, p.is_text.short) in
+    let small : sum_by statement_size n.statements ≤ 16777216 = omega (arith, small_statements text n p, p.is_text.short) in
+    let driven : IsDriven n = all_driven text n p none few small in
+    let e : ◌≡◌ {A = Netlist} (record { statements = c.parsed.inside.statements.items; names = texts_in c.parsed.inside.names }) n = c.parsed.view_is in
+    subst (λ (m : Netlist). IsDriven m) (sym e) driven
 
-pub returns-then-not-branch-clause-refused : goal.returns-then-not-branch-clause-refused
-returns-then-not-branch-clause-refused c = λ kind place e.
+pub returns-in-Some-clause-refused : goal.returns-in-Some-clause-refused
+returns-in-Some-clause-refused c =
+    driver_refused c.args.bytes.now c.in_ok-parsed.parsed c.in_ok-parsed.ensures.ok c.in-Some.kind c.in-Some.place (sym c.in_ok-fault.ensures ∙ c.in-Some.is)
+
+pub returns-in-None-clause-ok : goal.returns-in-None-clause-ok
+returns-in-None-clause-ok c =
     let text = c.args.bytes.now in
-    let k : NotYet ≡ kind = cc in
-    let p : c.lines.place ≡ place = cc in
-    let some : position is_feed (drop c.lines.place.byte text) ≡ Some c.in-Some.len = rw (rest_all c.lines.place.byte text) at (sym c.line_len.ensures ∙ c.in-Some.is) in
-    let taken = rw (rest_all c.lines.place.byte text, c.if-not-branch.true) at c.in_ok-take_line.ensures in
-    rw (← k, ← p) (refused_here text c.lines.place.byte c.lines.place.line c.in-Some.len c.lines.reader c.lines.invariant.read some (omega arith) c.take_line.new.self taken)
-
-pub lines-preserved : goal.lines-preserved
-lines-preserved c =
-    let text = c.args.bytes.now in
-    let some : position is_feed (drop c.lines.place.byte text) ≡ Some c.in-Some.len = rw (rest_all c.lines.place.byte text) at (sym c.line_len.ensures ∙ c.in-Some.is) in
-    let taken = rw (rest_all c.lines.place.byte text, c.if-not-branch.false) at c.in_ok-take_line.ensures in
-    record {
-      read = rw (add_assoc c.lines.place.byte c.in-Some.len 1) (read_more text c.lines.place.byte c.lines.place.line c.in-Some.len c.lines.reader c.lines.invariant.read some c.take_line.new.self taken);
-      few = omega (arith, c.lines.invariant.few);
-    }
-
-pub returns-clause-ok : goal.returns-clause-ok
-returns-clause-ok c = rw c.finish.ensures (all_read c.args.bytes.now c.lines.place.byte c.lines.place.line c.lines.reader c.lines.invariant.read (omega arith) (omega arith))
+    let n = c.in_ok-parsed.parsed in
+    let none : driver_fault n.statements ≡ None = sym c.in_ok-fault.ensures ∙ c.in-None.is in
+    let read : IsNetlist text n = accepted text n c.in_ok-parsed.ensures.ok none in
+    let e : ◌≡◌ {A = Netlist} (record { statements = c.parsed.inside.statements.items; names = texts_in c.parsed.inside.names }) n = c.parsed.view_is in
+    subst (λ (m : Netlist). IsNetlist text m) (sym e) read

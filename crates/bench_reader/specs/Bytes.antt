@@ -1,0 +1,32 @@
+-- What single bytes of a text begin, and which are skipped.
+use Rattle.std.specs.Prelude.{◌≡◌, ℕ, ◌≤◌, ◌<◌, Bool, false, not, ◌&&◌, ◌||◌, length, slice_index, ◌==◌, if◌then◌else◌}
+use Rattle.std.specs.List.{prefix_len}
+use Rattle.bench_reader.specs.declared.fault.Place.{Place}
+use Rattle.bench_reader.specs.declared.scanner.LexemeKind.{LexemeKind}
+use Rattle.bench_reader.specs.declared.scanner.LexemeKind.TheVariants.{OpenBracket, CloseBracket, Comma, Equals, Name, BadByte}
+use Rattle.bench_reader.specs.Tokens.{Text, is_blank, is_name_byte}
+use Rattle.bench_reader.specs.Scanning.{tokens_at, IsPlace}
+
+-- what a byte that isn't skipped begins
+abbrev pub kind_at : ℕ → LexemeKind
+kind_at b = if b == 40 then OpenBracket else if b == 41 then CloseBracket else if b == 44 then Comma else if b == 61 then Equals else if is_name_byte b then Name else BadByte
+
+-- how long what a text begins with is
+abbrev pub length_at : LexemeKind → Text → ℕ
+length_at Name text = prefix_len is_name_byte text
+length_at _ text = 1
+
+-- whether a byte outside a comment is skipped
+abbrev pub is_skipped : ℕ → Bool
+is_skipped b = is_blank b || b == 35
+
+-- whether the bytes behind a skipped one are inside a comment
+abbrev pub inside_behind : Bool → ℕ → Bool
+inside_behind inside b = not (b == 10) && (inside || b == 35)
+
+-- From a byte on, the next one that is neither blank nor in a comment stands here, or here the text ends.
+pub record IsSkipped (text : Text) (byte : ℕ) (next : Place) : Type 0 where
+  pub tokens : tokens_at text byte ≡ tokens_at text next.byte
+  pub place : IsPlace text next
+  pub within : next.byte ≤ length text
+  pub stops : next.byte < length text → is_skipped (slice_index text next.byte) ≡ false

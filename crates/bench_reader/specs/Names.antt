@@ -1,0 +1,14 @@
+-- The names of a reader.
+use Rattle.std.specs.Prelude.{ℕ, List, map, Vec}
+use Rattle.std.specs.declared.alloc.Global.{Global}
+use Rattle.std.specs.declared.hash.FoldHasher.{FoldHasher}
+use Rattle.std.specs.declared.hash.BuildHasherDefault.{BuildHasherDefault}
+use Rattle.indexmap.specs.IndexSet.{IndexSet}
+use Rattle.bench_reader.specs.Tokens.{Text}
+
+abbrev pub NameSet : Type 0
+NameSet = IndexSet (Vec ℕ Global) (BuildHasherDefault FoldHasher)
+
+-- the names by number
+abbrev pub texts_in : NameSet → List Text
+texts_in names = map (λ v. v.items) names.keys

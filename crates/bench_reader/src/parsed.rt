@@ -1,0 +1,21 @@
+//! The statements of a text, before it is judged which names are driven.
+use crate::statement::Statement;
+use indexmap::IndexSet;
+use std::marker::Model;
+
+/// The statements in order, and the names by number.
+#[derive(Drop)]
+pub(crate) struct Parsed {
+    pub(crate) statements: Vec<Statement>,
+    pub(crate) names: IndexSet<Vec<u8>>,
+}
+
+impl Model for Parsed {
+    ghost use Rattle.bench_reader.specs.Netlist.{Netlist};
+
+    ghost Value = { Netlist };
+
+    ghost use Rattle.bench_reader.specs.ParsedFields.{parsed_in};
+
+    ghost view = { parsed_in };
+}

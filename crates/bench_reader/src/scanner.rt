@@ -1,0 +1,173 @@
+//! Tokens, one after another, each with its place.
+ghost use Rattle.std.specs.Prelude.{◌≡◌, ◌+◌, ◌≤◌, ◌<◌, ◌^◌, ◌&&◌, ◌||◌, ◌==◌, not, length, drop, if◌then◌else◌};
+ghost use Rattle.std.specs.List.{prefix_len};
+ghost use Rattle.bench_reader.specs.Tokens.{is_blank, is_name_byte, line_of};
+ghost use Rattle.bench_reader.specs.Scanning.{tokens_at, IsPlace, text_in, IsLexeme, IsNext};
+ghost use Rattle.bench_reader.specs.Bytes.{kind_at, length_at, is_skipped, inside_behind, IsSkipped};
+
+use crate::fault::Place;
+
+/// What stands at a place where a token is read.
+#[derive(Clone, Copy, Debug, PartialEq, Eq)]
+pub(crate) enum LexemeKind {
+    OpenBracket,
+    CloseBracket,
+    Comma,
+    Equals,
+    Name,
+    BadByte,
+    End,
+}
+
+/// A token, or the end of the text: its first byte, and the byte behind it.
+#[derive(Clone, Copy, Debug, PartialEq, Eq)]
+pub(crate) struct Lexeme {
+    pub(crate) kind: LexemeKind,
+    pub(crate) place: Place,
+    pub(crate) end: u32,
+}
+
+/// The place behind a lexeme.
+pub(crate) fn behind(lexeme: Lexeme) -> Place
+    ensures byte { result.byte ≡ lexeme.end }
+    ensures line { result.line ≡ lexeme.place.line }
+{
+    Place {
+        byte: lexeme.end,
+        line: lexeme.place.line,
+    }
+}
+
+/// The bytes of a lexeme.
+pub(crate) fn text_of(bytes: &[u8], lexeme: Lexeme) -> &[u8]
+    requires { IsLexeme bytes.now lexeme }
+    ensures { result.now ≡ text_in bytes.now lexeme }
+{
+    &bytes[lexeme.place.byte as usize..lexeme.end as usize]
+}
+
+fn is_blank(byte: u8) -> bool
+    ensures { result ≡ is_blank byte }
+{
+    byte == b' ' || byte == b'\t' || byte == b'\n' || byte == b'\r'
+}
+
+#[tactic(auto, unfolding(crate::specs::Tokens::is_name_byte))]
+fn is_name_byte(byte: u8) -> bool
+    ensures { result ≡ is_name_byte byte }
+{
+    0x21 <= byte
+        && byte <= 0x7E
+        && !(byte == b'(' || byte == b')' || byte == b',' || byte == b'=' || byte == b'#')
+}
+
+// How many bytes of a name a text begins with.
+fn name_len(text: &[u8]) -> usize
+    ensures { result ≡ prefix_len is_name_byte text.now }
+{
+    for (len, byte) in text.iter().enumerate() {
+        if !is_name_byte(*byte) {
+            return len;
+        }
+    }
+    text.len()
+}
+
+// What a byte that isn't skipped begins.
+fn kind_at(byte: u8) -> LexemeKind
+    ensures { result ≡ kind_at byte }
+{
+    match byte {
+        b'(' => LexemeKind::OpenBracket,
+        b')' => LexemeKind::CloseBracket,
+        b',' => LexemeKind::Comma,
+        b'=' => LexemeKind::Equals,
+        _ if is_name_byte(byte) => LexemeKind::Name,
+        _ => LexemeKind::BadByte,
+    }
+}
+
+// How long what a text begins with is, by its kind.
+fn length_at(kind: LexemeKind, text: &[u8]) -> usize
+    ensures { result ≡ length_at kind text.now }
+{
+    match kind {
+        LexemeKind::Name => name_len(text),
+        _ => 1,
+    }
+}
+
+// The place of the first byte from this place on that is neither blank nor in a comment.
+fn skip_blanks(bytes: &[u8], place: Place) -> Place
+    requires room { length bytes.now < 2 ^ 31 }
+    requires within { place.byte ≤ length bytes.now }
+    requires place { IsPlace bytes.now place }
+    ensures { IsSkipped bytes.now place.byte result }
+{
+    let mut place = place;
+    let mut inside = false;
+    'bytes: while (place.byte as usize) < bytes.len() {
+        let byte = bytes[place.byte as usize];
+        if !is_skipped(inside, byte) {
+            return place;
+        }
+        inside = inside_behind(inside, byte);
+        place = place_behind(place, byte);
+    }
+    place
+}
+
+// Whether a byte is skipped, inside a comment or not.
+fn is_skipped(inside: bool, byte: u8) -> bool
+    ensures { result ≡ (inside || is_skipped byte) }
+{
+    inside || is_blank(byte) || byte == b'#'
+}
+
+// Whether the bytes behind a skipped one are inside a comment.
+fn inside_behind(inside: bool, byte: u8) -> bool
+    ensures { result ≡ inside_behind inside byte }
+{
+    byte != b'\n' && (inside || byte == b'#')
+}
+
+// The place of the next byte.
+fn place_behind(place: Place, byte: u8) -> Place
+    requires byte { place.byte < 2 ^ 31 }
+    requires line { place.line ≤ 2 ^ 31 }
+    ensures byte { result.byte ≡ place.byte + 1 }
+    ensures line { result.line ≡ place.line + (if byte == 10 then 1 else 0) }
+{
+    Place {
+        byte: place.byte + 1,
+        line: if byte == b'\n' {
+            place.line + 1
+        } else {
+            place.line
+        },
+    }
+}
+
+/// The next lexeme from this place on.
+pub(crate) fn next_lexeme(bytes: &[u8], place: Place) -> Lexeme
+    requires room { length bytes.now < 2 ^ 31 }
+    requires within { place.byte ≤ length bytes.now }
+    requires place { IsPlace bytes.now place }
+    ensures { IsNext bytes.now place.byte result }
+{
+    let place = skip_blanks(bytes, place);
+    let rest = &bytes[place.byte as usize..];
+    let [first, ..] = rest else {
+        return Lexeme {
+            kind: LexemeKind::End,
+            place,
+            end: place.byte,
+        };
+    };
+    let kind = kind_at(*first);
+    Lexeme {
+        kind,
+        place,
+        end: place.byte + length_at(kind, rest) as u32,
+    }
+}

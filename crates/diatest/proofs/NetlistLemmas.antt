@@ -1,0 +1,87 @@
+-- What is judged of the bytes that were read is judged of the whole file, and nothing is both accepted and refused.
+use Rattle.std.proofs.Common.{◌≡◌, ℕ, ◌+◌, ◌≤◌, ◌<◌, List, [], ◌∷◌, length, take, length-take, refl, ap, subst, ◌∙◌, inl, inr, arith}
+use Rattle.std.specs.Prelude.{◌==◌, Contains}
+use Rattle.std.specs.List.{count_by}
+use Rattle.std.proofs.lemmas.Bool.{cases_lt}
+use Rattle.std.proofs.lemmas.List.{take_all, take-take}
+use Rattle.diag_shelf.specs.Calls.{read_of}
+use Rattle.net_model.specs.declared.circuit.Design.{Design}
+use Rattle.net_model.specs.LoopWalk.{IsLoopWalk}
+use Rattle.net_model.specs.Circuit.{Circuit, IsCircuit}
+use Rattle.net_model.specs.Laws.{NoneReachesItself, WalkReachesItself}
+use Rattle.bench_reader.specs.declared.fault.Place.{Place}
+use Rattle.bench_reader.specs.declared.fault.NetKind.{NetKind}
+use Rattle.bench_reader.specs.Netlist.{Netlist}
+use Rattle.bench_reader.specs.Reading.{place_of}
+use Rattle.bench_reader.specs.Refusal.{TextRefused, too_long, by_grammar, by_second, by_missing}
+use Rattle.bench_reader.specs.Laws.{AcceptedOrRefused, OneNetlist}
+use Rattle.scan_cut.specs.Cut.{cut_circuit}
+use Rattle.diatest.specs.Request.{Text}
+use Rattle.diatest.specs.Texts.{refusal_text}
+use Rattle.diatest.specs.Netlists.{IsDesign, IsRefused, by_text, by_loop}
+
+-- all was read, or one byte more than the limit
+read_whole : (limit : ℕ) (all : List ℕ) → length all ≤ limit → read_of limit all ≡ all
+read_whole limit all h = take_all (limit + 1) all (omega arith)
+
+too_long_read : (all bytes : Text) → bytes ≡ read_of 16777216 all → 16777216 < length all → length bytes ≤ 16777216 → ⊥
+too_long_read all bytes e long short = omega (arith, short, ap length e, length-take 16777217 all)
+
+abbrev place_with : ℕ → ℕ → Place
+place_with byte line = record { byte = byte; line = line }
+
+-- the place of a byte up to which all was read
+place_read : (byte : ℕ) (all : Text) → place_of (take (byte + 1) all) byte ≡ place_of all byte
+place_read byte all =
+    let place = λ (text : Text). place_with byte (count_by (λ b. b == 10) text + 1) in
+    ap place (take-take byte (byte + 1) all (omega arith))
+
+pub design_read : {all bytes : Text} {design : Design} → bytes ≡ read_of 16777216 all → IsDesign bytes design → IsDesign all design
+design_read {all} {bytes} {design} e is = elim (cases_lt 16777216 (length all)) [
+  | inl long ↦ absurd (too_long_read all bytes e long is.accepted.is_text.short)
+  | inr short ↦ subst (λ (b : Text). IsDesign b design) (e ∙ read_whole 16777216 all short) is
+]
+
+long_refused : {all bytes : Text} (refusal : NetKind × ℕ) → bytes ≡ read_of 16777216 all → 16777216 < length all → TextRefused bytes refusal
+    → TextRefused all refusal × (place_of bytes refusal.1 ≡ place_of all refusal.1)
+long_refused {all} {bytes} refusal e long (too_long over is) =
+    let byte : refusal.1 ≡ 16777216 = ap (λ (r : NetKind × ℕ). r.1) is in
+    (too_long long is, rw byte (ap (λ (b : Text). place_of b 16777216) e ∙ place_read 16777216 all))
+long_refused {all} {bytes} refusal e long (by_grammar before phrases short are stops) = absurd (too_long_read all bytes e long short)
+long_refused {all} {bytes} refusal e long (by_second phrases n text twice is) = absurd (too_long_read all bytes e long text.short)
+long_refused {all} {bytes} refusal e long (by_missing phrases n text once missing is) = absurd (too_long_read all bytes e long text.short)
+
+refused_long : {all bytes console : Text} → bytes ≡ read_of 16777216 all → 16777216 < length all → IsRefused bytes console → IsRefused all console
+refused_long {all} {bytes} {console} e long (by_text kind byte refused is) =
+    let r = long_refused (kind, byte) e long refused in
+    by_text kind byte r.0 (is ∙ ap (refusal_text kind) r.1)
+refused_long {all} {bytes} {console} e long (by_loop netlist place names accepted loops is) = absurd (too_long_read all bytes e long accepted.is_text.short)
+
+pub refused_read : {all bytes console : Text} → bytes ≡ read_of 16777216 all → IsRefused bytes console → IsRefused all console
+refused_read {all} {bytes} {console} e refused = elim (cases_lt 16777216 (length all)) [
+  | inl long ↦ refused_long e long refused
+  | inr short ↦ subst (λ (b : Text). IsRefused b console) (e ∙ read_whole 16777216 all short) refused
+]
+
+first_of : (walk : List ℕ) → 0 < length walk → (line : ℕ) × Contains walk line
+first_of [] some = absurd (omega arith)
+first_of (line ∷ walk) some = (line, (0, some, refl))
+
+-- the first gate of a walk is on it
+walk_first : {c : Circuit} {walk : List ℕ} → IsLoopWalk c walk → (line : ℕ) × Contains walk line
+walk_first {c} {walk} is = first_of walk is.nonempty
+
+-- The laws by which nothing is both accepted and refused.
+pub record HasLaws : Type 0 where
+  pub text : AcceptedOrRefused
+  pub one : OneNetlist
+  pub none : NoneReachesItself
+  pub walk : WalkReachesItself
+
+pub accepted_not_refused : HasLaws → {bytes console : Text} {design : Design} → IsDesign bytes design → IsRefused bytes console → ⊥
+accepted_not_refused laws {bytes} {console} {design} is (by_text kind byte refused text) = laws.text bytes is.netlist (kind, byte) is.accepted refused
+accepted_not_refused laws {bytes} {console} {design} is (by_loop netlist place names accepted loops text) =
+    let same : is.netlist ≡ netlist = laws.one bytes is.netlist netlist is.accepted accepted in
+    let circuit : IsCircuit (cut_circuit netlist) = subst (λ (n : Netlist). IsCircuit (cut_circuit n)) same is.circuit in
+    let first = walk_first loops.is_walk in
+    laws.none (cut_circuit netlist) first.0 circuit (laws.walk (cut_circuit netlist) loops.walk first.0 loops.is_walk first.1)

@@ -1,0 +1,21 @@
+use Rattle.std.proofs.Common.{List, ℕ, subst}
+use Rattle.diag_shelf.proofs.Steps.{facts_same, facts_after_read}
+use Rattle.diatest.specs.Netlists.{IsDesign, IsRefused}
+use Rattle.diatest.proofs.NetlistLemmas.{design_read}
+use Rattle.diatest.proofs.Generated.{over_refused}
+use Rattle.diatest.proofs.netlists.read_design.Goals as goal
+
+pub returns-in-Ok-judge-clause-ok : goal.returns-in-Ok-judge-clause-ok
+returns-in-Ok-judge-clause-ok g c =
+    let judged : IsDesign c.in-Ok.bytes.items c.in-Ok-judge.design = rw c.deref.ensures.value at c.in-Ok-judge.ensures.ok in
+    record {
+      facts = facts_after_read _ _ _ _ (facts_same _) c.in-Ok.ensures.call;
+      only = c.in-Ok.ensures.others;
+      held = λ told. let r = c.in-Ok.ensures.bytes told in (r.0, r.1, design_read r.2 judged);
+    }
+
+pub returns-in-Err-Refused-clause-err : goal.returns-in-Err-Refused-clause-err
+returns-in-Err-Refused-clause-err g c request same =
+    let text = c.in-Err-Refused.text.items in
+    let refused : IsRefused c.in-Ok.bytes.items text = subst (λ (b : List ℕ). IsRefused b text) c.deref.ensures.value (c.in-Err-Refused.ensures.refused c.in-Err-Refused.text (cc)) in
+    over_refused (facts_after_read _ _ _ _ (facts_same _) c.in-Ok.ensures.call) c.in-Ok.ensures.others (λ told. c.in-Ok.ensures.bytes told) refused (rw c.deref-in-Err-Refused.ensures.value at c.say.ensures) request same

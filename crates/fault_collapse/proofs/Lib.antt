@@ -1,0 +1,12 @@
+pub mod Members
+pub mod Destinations
+pub mod Readings
+pub mod Carried
+pub mod Steps
+pub mod Equal
+pub mod Chain
+pub mod Numbers
+pub mod Sole
+pub mod RootSteps
+pub mod Found
+pub mod Settled

@@ -1,0 +1,12 @@
+use Rattle.fault_collapse.proofs.Found.{no_gate, one_gate, free_none}
+use Rattle.fault_collapse.proofs.successors.successor.Goals as goal
+
+pub returns-in_err-entered_gate-in-Stuck : goal.returns-in_err-entered_gate-in-Stuck
+returns-in_err-entered_gate-in-Stuck c =
+    rw (c.in-Stuck.is, c.from_residual.ensures) (no_gate c.args.circuit.now c.in-Stuck.site c.in-Stuck.bit c.in_err-entered_gate-in-Stuck.ensures.value)
+
+pub returns-in-Free : goal.returns-in-Free
+returns-in-Free c = rw c.in-Free.is (free_none c.args.circuit.now)
+
+pub returns-in_ok-entered_gate-in-Stuck : goal.returns-in_ok-entered_gate-in-Stuck
+returns-in_ok-entered_gate-in-Stuck c = rw c.in-Stuck.is (one_gate c.args.circuit.now c.in-Stuck.site c.in-Stuck.bit _ c.carried_fault.result c.in_ok-entered_gate-in-Stuck.ensures.value c.carried_fault.ensures)

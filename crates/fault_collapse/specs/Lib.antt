@@ -1,0 +1,4 @@
+pub mod Forest
+pub mod ForestFields
+pub mod Underway
+pub mod Laws

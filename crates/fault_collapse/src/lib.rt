@@ -1,0 +1,12 @@
+//! Fault collapse: which faults are equal because of the gates that they stand at.
+#![tactic(auto)]
+
+mod forest;
+mod laws;
+mod roots;
+mod successors;
+#[cfg(test)]
+mod tests;
+
+pub use forest::{Forest, collapse};
+pub use laws::{root_is_last, same_root_equal};

@@ -1,0 +1,147 @@
+//! The successor of each fault, by the gate that it stands at.
+
+ghost use Rattle.std.specs.Prelude.{◌≡◌, ◌+◌, ◌<◌, ◌≤◌, ◌∷◌, [], IfOk, IfSome, None, false, length, replicate};
+ghost use Rattle.net_model.specs.Gate.{gate_value};
+ghost use Rattle.net_model.specs.Fault.{IsFaultOf};
+ghost use Rattle.net_model.specs.Circuit.{line_count};
+ghost use Rattle.net_model.specs.FaultList.{faults as faults_of};
+ghost use Rattle.net_model.specs.Collapse.{carried_value, carried_fault, entered_gate, successor};
+ghost use Rattle.fault_collapse.specs.Forest.{AreSuccessors, IsNumberOf};
+ghost use Rattle.fault_collapse.specs.Underway.{sole_gates, AreSoleBefore};
+
+use fault_list::FaultList;
+use net_model::{Circuit, Fault, Gate, Kind, Site};
+use std::alloc::{AllocError, Global};
+
+// For each line the gate at whose pin its sole destination stands, if it has such a one.
+pub(crate) fn sole_gates(
+    alloc: Global,
+    circuit: &Circuit,
+    faults: &FaultList,
+) -> Result<Vec<Option<u32>>, AllocError>
+    requires { faults.now ≡ faults_of circuit.now }
+    ensures { IfOk result (λ gates. gates.items ≡ sole_gates circuit.now) }
+{
+    let mut gates = no_gates(alloc, circuit.lines())?;
+    for gate in circuit.sources()..circuit.lines() {
+        add_gate(&mut gates, circuit, faults, gate);
+    }
+    Ok(gates)
+}
+
+// No gate for any of so many lines.
+fn no_gates(alloc: Global, lines: u32) -> Result<Vec<Option<u32>>, AllocError>
+    ensures { IfOk result (λ gates. gates.items ≡ replicate lines None) }
+{
+    let mut gates = Vec::with_capacity(alloc, lines as usize)?;
+    for _ in 0..lines {
+        gates.push(None)?;
+    }
+    Ok(gates)
+}
+
+// Notes a gate at the lines whose sole destinations are its pins. Such a pin has no number of its own.
+fn add_gate(gates: &mut Vec<Option<u32>>, circuit: &Circuit, faults: &FaultList, gate: u32)
+    requires faults { faults.now ≡ faults_of circuit.now }
+    requires from { circuit.now.sources ≤ gate }
+    requires below { gate < line_count circuit.now }
+    requires before { AreSoleBefore circuit.now gate 0 gates.old.items }
+    ensures { AreSoleBefore circuit.now (gate + 1) 0 gates.new.items }
+{
+    for (pin, line) in circuit.gate(gate).pins.as_slice().iter().enumerate() {
+        let branch = Fault::Stuck(Site::Pin(gate, pin as u32), false);
+        if faults.number_of(&branch).is_none() {
+            gates[*line as usize] = Some(gate);
+        }
+    }
+}
+
+// The numbers of all faults' successors.
+pub(crate) fn successors(
+    alloc: Global,
+    circuit: &Circuit,
+    faults: &FaultList,
+    gates: &[Option<u32>],
+) -> Result<Vec<Option<u32>>, AllocError>
+    requires faults { faults.now ≡ faults_of circuit.now }
+    requires gates { gates.now ≡ sole_gates circuit.now }
+    ensures { IfOk result (λ found. AreSuccessors circuit.now found.items) }
+{
+    let mut found = Vec::with_capacity(alloc, faults.len() as usize)?;
+    for number in 0..faults.len() {
+        found.push(successor(circuit, faults, gates, faults.get(number)))?;
+    }
+    Ok(found)
+}
+
+// The number of a fault's successor.
+fn successor(
+    circuit: &Circuit,
+    faults: &FaultList,
+    gates: &[Option<u32>],
+    fault: Fault,
+) -> Option<u32>
+    requires faults { faults.now ≡ faults_of circuit.now }
+    requires gates { gates.now ≡ sole_gates circuit.now }
+    requires fault { IsFaultOf circuit.now fault }
+    ensures { IsNumberOf circuit.now (successor circuit.now fault) result }
+{
+    match fault {
+        Fault::Free => None,
+        Fault::Stuck(site, bit) => {
+            carried_fault(circuit, faults, bit, entered_gate(circuit, gates, site)?)
+        }
+    }
+}
+
+// The gate that a site alone leads into: that of the pin, or of the pin that is the stem's sole destination.
+fn entered_gate(circuit: &Circuit, gates: &[Option<u32>], site: Site) -> Option<u32>
+    requires gates { gates.now ≡ sole_gates circuit.now }
+    requires site { IsFaultOf circuit.now (Fault.Stuck site false) }
+    ensures value { result ≡ entered_gate circuit.now site }
+    ensures from { IfSome result (λ gate. circuit.now.sources ≤ gate) }
+    ensures below { IfSome result (λ gate. gate < line_count circuit.now) }
+{
+    match site {
+        Site::Stem(line) => gates[line as usize],
+        Site::Pin(gate, _) => Some(gate),
+        Site::Position(_) => None,
+    }
+}
+
+// The number of the fault at a gate's stem that is equal to a bit stuck at one of its pins.
+fn carried_fault(circuit: &Circuit, faults: &FaultList, bit: bool, gate: u32) -> Option<u32>
+    requires faults { faults.now ≡ faults_of circuit.now }
+    requires from { circuit.now.sources ≤ gate }
+    requires below { gate < line_count circuit.now }
+    ensures { IsNumberOf circuit.now (carried_fault circuit.now bit gate) result }
+{
+    let value = carried_value(circuit.gate(gate), bit)?;
+    faults.number_of(&Fault::Stuck(Site::Stem(gate), value))
+}
+
+// The value that a bit stuck at one pin puts on the gate, if it alone decides.
+fn carried_value(gate: &Gate, bit: bool) -> Option<bool>
+    ensures { result ≡ carried_value gate.now.kind (length gate.now.pins) bit }
+{
+    if gate.pins.as_slice().len() == 1 {
+        return Some(single_pin_value(gate.kind, bit));
+    }
+    match (gate.kind, bit) {
+        (Kind::And, false) => Some(false),
+        (Kind::Nand, false) => Some(true),
+        (Kind::Or, true) => Some(true),
+        (Kind::Nor, true) => Some(false),
+        _ => None,
+    }
+}
+
+// The value of a gate with one pin.
+fn single_pin_value(kind: Kind, bit: bool) -> bool
+    ensures { result ≡ gate_value kind (bit ∷ []) }
+{
+    match kind {
+        Kind::And | Kind::Or | Kind::Xor | Kind::Buff => bit,
+        Kind::Nand | Kind::Nor | Kind::Xnor | Kind::Not => !bit,
+    }
+}
