@@ -1,0 +1,5 @@
+pub mod Literal
+pub mod LiteralCode
+pub mod Clauses
+pub mod PoolFields
+pub mod Partial

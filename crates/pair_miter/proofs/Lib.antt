@@ -1,0 +1,14 @@
+pub mod Elements
+pub mod Bits
+pub mod Opened
+pub mod TidyAndFresh
+pub mod Clauses
+pub mod Relevance
+pub mod GateRows
+pub mod CopyClauses
+pub mod Sound
+pub mod Places
+pub mod Assignment
+pub mod Complete
+pub mod Bounds
+pub mod Examples

@@ -1,0 +1,28 @@
+//! Laws over the definitions: each function has an empty body, and its contract is the law.
+
+ghost use Rattle.pair_miter.specs.Laws.{TidyKeepsModels, SupersetIsNotFresh, ModelSeparates, SeparatedHasModel, MiterIsSmall};
+
+/// An assignment makes a list of clauses true exactly where it does so once the list is tidied.
+pub fn tidy_keeps_models()
+    ensures { TidyKeepsModels }
+{}
+
+/// A clause that has all literals of a clause of the list isn't fresh over the list.
+pub fn superset_is_not_fresh()
+    ensures { SupersetIsNotFresh }
+{}
+
+/// The vector of an assignment that satisfies the miter of two faults of a circuit separates the two.
+pub fn model_separates()
+    ensures { ModelSeparates }
+{}
+
+/// Where some vector separates two faults of a circuit, some assignment of all variables satisfies their miter.
+pub fn separated_pair_has_model()
+    ensures { SeparatedHasModel }
+{}
+
+/// The miter of two faults of a circuit has fewer than 2^30 clauses, and fewer than 2^31 variables.
+pub fn miter_is_small()
+    ensures { MiterIsSmall }
+{}

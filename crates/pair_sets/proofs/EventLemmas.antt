@@ -1,0 +1,138 @@
+-- Lines that are settled: after one event, and once no gate waits.
+use Rattle.std.proofs.Common.{◌≡◌, ◌≢◌, ℕ, ◌^◌, ◌<◌, ◌≤◌, List, [], length, get_or, set, refl, sym, ◌∙◌, ap, subst, arith, inl, inr}
+use Rattle.std.specs.Prelude.{Bool, true, false}
+use Rattle.std.proofs.lemmas.Bool.{cases_eq, cases_lt, false≢true}
+use Rattle.std.proofs.lemmas.List.{get_or-set_same, get_or-set_other, get_or_default, get_or_past}
+use Rattle.std.proofs.lemmas.Option.{slice_get-get_or}
+use Rattle.net_model.specs.declared.fault.Fault.{Fault}
+use Rattle.net_model.specs.Circuit.{Circuit, IsCircuit, line_count, Feeds}
+use Rattle.net_model.proofs.Orders.{order_has, order_only, order_count, reader_is_gate}
+use Rattle.net_model.proofs.SetSoFar.{fits_from}
+use Rattle.pair_sets.specs.declared.pair_set.PairSet.{PairSet}
+use Rattle.pair_sets.specs.declared.wiring.Wiring.{Wiring}
+use Rattle.pair_sets.specs.PairSet.{free_pairs, IsWithin}
+use Rattle.pair_sets.specs.CubeState.{set_at}
+use Rattle.pair_sets.specs.Pending.{is_pending, IsLowest}
+use Rattle.pair_sets.specs.Wiring.{IsWiring}
+use Rattle.pair_sets.specs.Events.{IsIdle, gate_line_pairs, AreSettled, AreLoose, WakesReaders}
+use Rattle.pair_sets.proofs.PairLemmas.{within_same, within_more}
+use Rattle.pair_sets.proofs.SeenLemmas.{same_line_pairs, fewer_line_pairs}
+
+-- ---- bits and pending numbers
+
+pub not_both : (b : Bool) → b ≡ true → b ≡ false → ⊥
+not_both b t f = false≢true (sym f ∙ t)
+
+pub is_false : (b : Bool) → (b ≡ true → ⊥) → b ≡ false
+is_false true h = absurd (h refl)
+is_false false h = refl
+
+pub pending_within : (queue : List Bool) (n : ℕ) → is_pending queue n ≡ true → n < length queue
+pending_within queue n t = elim (cases_lt n (length queue)) [
+  | inl under ↦ under
+  | inr over ↦ absurd (not_both (is_pending queue n) t (get_or_past queue n false over))
+]
+
+pub lowest_left : (old new : List Bool) (low : ℕ) → IsLowest old new low → (n : ℕ) → is_pending new n ≡ true → (low < n) × (is_pending old n ≡ true)
+lowest_left old new low is n t =
+    let apart : n ≢ low = λ e. false≢true (sym is.gone ∙ ap (is_pending new) (sym e) ∙ t) in
+    let was : is_pending old n ≡ true = sym (is.others n apart) ∙ t in (
+      elim (cases_lt n low) [
+        | inl under ↦ absurd (false≢true (sym (is.lower n under) ∙ was))
+        | inr over ↦ omega arith
+      ],
+      was,
+    )
+
+-- ---- one line is settled
+
+module _ (c : Circuit) (f g : Fault) (w : IsCircuit c) (sets : List PairSet) (line : ℕ) (pairs : PairSet) (inside : line < length sets)
+    (right : c.sources ≤ line → pairs ≡ gate_line_pairs c f g sets line) where
+  here : set_at (set sets line pairs) line ≡ pairs
+  here = get_or-set_same sets line pairs free_pairs inside
+
+  other : (l : ℕ) → l ≢ line → set_at (set sets line pairs) l ≡ set_at sets l
+  other l ne = get_or-set_other sets line l pairs free_pairs ne
+
+  pub fewer_after : IsWithin pairs (set_at sets line) → (l : ℕ) → IsWithin (set_at (set sets line pairs) l) (set_at sets l)
+  fewer_after fewer l = elim (cases_eq l line) [
+    | inl same ↦
+        let P : ℕ → Type 0 = λ k. IsWithin (set_at (set sets line pairs) k) (set_at sets k) in
+        subst P (sym same) (subst (λ s. IsWithin s (set_at sets line)) (sym here) fewer)
+    | inr ne ↦ within_same (set_at (set sets line pairs) l) (set_at sets l) (other l ne)
+  ]
+
+  pub loose_after : IsWithin pairs (set_at sets line) → AreLoose c f g sets → AreLoose c f g (set sets line pairs)
+  loose_after fewer loose l above below =
+      let new = set sets line pairs in
+      let narrow : IsWithin (gate_line_pairs c f g new l) (gate_line_pairs c f g sets l) = fewer_line_pairs c f g [] new sets l (λ read m. fewer_after fewer read) in
+      elim (cases_eq l line) [
+        | inl same ↦
+            let P : ℕ → Type 0 = λ k. IsWithin (gate_line_pairs c f g new l) (set_at new k) in
+            let at : gate_line_pairs c f g sets l ≡ set_at new line = ap (gate_line_pairs c f g sets) same ∙ sym (right (subst (λ n. c.sources ≤ n) same above)) ∙ sym here in
+            subst P (sym same) (subst (IsWithin (gate_line_pairs c f g new l)) at narrow)
+        | inr ne ↦
+            within_more (gate_line_pairs c f g new l) (gate_line_pairs c f g sets l) (set_at new l) narrow
+            (subst (IsWithin (gate_line_pairs c f g sets l)) (sym (other l ne)) (loose l above below))
+      ]
+
+  -- its own gate reads other lines
+  not_own : (l read : ℕ) → l ≡ line → Feeds c read l → read ≢ line
+  not_own l read same m own =
+      let rises : w.acyclic.rank read < w.acyclic.rank l = w.acyclic.rises read l m in
+      let equal : w.acyclic.rank read ≡ w.acyclic.rank l = ap w.acyclic.rank (own ∙ sym same) in
+      omega arith
+
+  module _ (wiring : Wiring) (wired : IsWiring c wiring) (queue more : List Bool) where
+    woken_idle : ((place : ℕ) → place < length wiring.order.items → Feeds c line (get_or wiring.order.items place 0) → is_pending more place ≡ true)
+        → (l : ℕ) → Feeds c line l → IsIdle wiring.order.items more l → ⊥
+    woken_idle woken l feeds idle =
+        let order = wiring.order.items in
+        let gate = reader_is_gate c line l feeds in
+        let found = order_has c (fits_from c w) order wired.order l gate.0 gate.1 in
+        let place = found.0 in
+        let there : get_or order place 0 ≡ l = get_or_default order place 0 l found.1 ∙ found.2 in
+        not_both (is_pending more place) (woken place found.1 (subst (Feeds c line) (sym there) feeds)) (idle place found.1 there)
+
+    -- what a line that doesn't wait reads has stayed, or is the line itself
+    reads_stay : WakesReaders c wiring.order.items line (set_at sets line) pairs queue more → (l : ℕ) → IsIdle wiring.order.items more l → (read : ℕ) → Feeds c read l → set_at sets read ≡ set_at (set sets line pairs) read
+    reads_stay wakes l idle read m = elim (cases_eq read line) [
+      | inl own ↦ elim wakes.readers [
+        | inl same ↦
+            let P : ℕ → Type 0 = λ k. set_at sets k ≡ set_at (set sets line pairs) k in
+            subst P (sym own) (same ∙ sym here)
+        | inr woken ↦ absurd (woken_idle woken l (subst (λ r. Feeds c r l) own m) idle)
+      ]
+      | inr ne ↦ sym (other read ne)
+    ]
+
+    pub settled_after : WakesReaders c wiring.order.items line (set_at sets line) pairs queue more
+        → ((l : ℕ) → c.sources ≤ l → l < line_count c → l ≢ line → IsIdle wiring.order.items queue l → set_at sets l ≡ gate_line_pairs c f g sets l)
+        → AreSettled c f g wiring.order.items more (set sets line pairs)
+    settled_after wakes settled l above below idle =
+        let new = set sets line pairs in
+        elim (cases_eq l line) [
+          | inl same ↦
+              let P : ℕ → Type 0 = λ k. set_at new k ≡ gate_line_pairs c f g new k in
+              subst P (sym same) (here ∙ right (subst (λ n. c.sources ≤ n) same above)
+              ∙ same_line_pairs c f g [] sets new line (λ read m. sym (other read (not_own line read refl m))))
+          | inr ne ↦
+              let was_idle : IsIdle wiring.order.items queue l = λ place h e. is_false (is_pending queue place) (λ t. not_both (is_pending more place) (wakes.kept place t) (idle place h e)) in
+              other l ne ∙ settled l above below ne was_idle ∙ same_line_pairs c f g [] sets new l (reads_stay wakes l idle)
+        ]
+
+-- ---- along the order
+
+-- a gate's readers stand after it
+pub later_place : (c : Circuit) (wiring : Wiring) → IsWiring c wiring → (place reader : ℕ) → place < length wiring.order.items → reader < length wiring.order.items
+    → Feeds c (get_or wiring.order.items place 0) (get_or wiring.order.items reader 0) → place < reader
+later_place c wiring wired place reader h k feeds =
+    let order = wiring.order.items in
+    wired.order.sorted reader place (get_or order place 0) (get_or order reader 0) (slice_get-get_or order reader 0 k) feeds
+    (order_only c (fits_from c wired.circuit) order wired.order place h).0 (slice_get-get_or order place 0 h)
+
+pub few_places : (c : Circuit) (wiring : Wiring) → IsWiring c wiring → length wiring.order.items < 2 ^ 26
+few_places c wiring wired =
+    let gates : length wiring.order.items ≡ length c.gates = order_count c (fits_from c wired.circuit) wiring.order.items wired.order in
+    let small = wired.circuit.small in
+    omega arith

@@ -1,0 +1,13 @@
+pub mod PairLemmas
+pub mod GateLemmas
+pub mod SeenLemmas
+pub mod ReaderLemmas
+pub mod TrailLemmas
+pub mod EventLemmas
+pub mod LevelLemmas
+pub mod Coverage
+pub mod StateLemmas
+pub mod RelevantLemmas
+pub mod DecidedLemmas
+pub mod Opened
+pub mod Examples

@@ -1,0 +1,96 @@
+use Rattle.std.proofs.Common.{◌≡◌, ◌≢◌, ◌<◌, ◌≤◌, ◌∙◌, ℕ, [], length, get_or, true, sym, ap, subst, arith, inl, inr}
+use Rattle.std.proofs.lemmas.List.{get_or_read, get_or-set_other}
+use Rattle.net_model.specs.Circuit.{Circuit, Feeds, line_count}
+use Rattle.net_model.proofs.Orders.{order_only}
+use Rattle.net_model.proofs.SetSoFar.{fits_from}
+use Rattle.pair_sets.specs.declared.wiring.Wiring.{Wiring}
+use Rattle.pair_sets.specs.PairSet.{free_pairs, IsWithin}
+use Rattle.pair_sets.specs.CubeState.{set_at}
+use Rattle.pair_sets.specs.Pending.{is_pending, IsLowest}
+use Rattle.pair_sets.specs.Wiring.{IsWiring}
+use Rattle.pair_sets.specs.Events.{IsIdle, AreSettled, AreLoose, gate_line_pairs}
+use Rattle.pair_sets.proofs.EventLemmas.{is_false, pending_within, lowest_left, loose_after, settled_after, later_place, few_places}
+use Rattle.pair_sets.proofs.TrailLemmas.{longer_more}
+use Rattle.pair_sets.proofs.events.follow.Goals as goal
+
+-- the line whose gate stands at a place
+line_at : (c : Circuit) (wiring : Wiring) → IsWiring c wiring → (place line : ℕ) → place < length wiring.order.items → line ≡ get_or wiring.order.items place line → (c.sources ≤ line) × (line < line_count c) × (line ≡ get_or wiring.order.items place 0)
+line_at c wiring wired place line h read =
+    let is : line ≡ get_or wiring.order.items place 0 = get_or_read wiring.order.items place line h read 0 in
+    let range = order_only c (fits_from c wired.circuit) wiring.order.items wired.order place h in
+    (subst (λ l. c.sources ≤ l) (sym is) range.0, subst (λ l. l < line_count c) (sym is) range.1, is)
+
+pub take_lowest-requires-clause-few : goal.take_lowest-requires-clause-few
+take_lowest-requires-clause-few c = omega (arith, few_places c.args.circuit.now c.args.wiring.now c.requires.wiring, c.loop-place.invariant.queue)
+
+pub line_pairs-pairs-requires-clause-gate : goal.line_pairs-pairs-requires-clause-gate
+line_pairs-pairs-requires-clause-gate c =
+    let inside = pending_within c.loop-place.queue c.in-Some.place c.in-Some.ensures.cases.was in
+    (line_at c.args.circuit.now c.args.wiring.now c.requires.wiring c.in-Some.place c.index-line.result.now (omega (arith, inside, c.loop-place.invariant.queue)) c.index-line.ensures).0
+
+pub line_pairs-pairs-requires-clause-line : goal.line_pairs-pairs-requires-clause-line
+line_pairs-pairs-requires-clause-line c =
+    let inside = pending_within c.loop-place.queue c.in-Some.place c.in-Some.ensures.cases.was in
+    (line_at c.args.circuit.now c.args.wiring.now c.requires.wiring c.in-Some.place c.index-line.result.now (omega (arith, inside, c.loop-place.invariant.queue)) c.index-line.ensures).1
+
+pub settle-requires-clause-line : goal.settle-requires-clause-line
+settle-requires-clause-line c =
+    let inside = pending_within c.loop-place.queue c.in-Some.place c.in-Some.ensures.cases.was in
+    (line_at c.args.circuit.now c.args.wiring.now c.requires.wiring c.in-Some.place c.index-line.result.now (omega (arith, inside, c.loop-place.invariant.queue)) c.index-line.ensures).1
+
+pub settle-requires-clause-fewer : goal.settle-requires-clause-fewer
+settle-requires-clause-fewer c =
+    let circuit = c.args.circuit.now in
+    let sets = c.loop-place.trail.sets.items in
+    let line = c.index-line.result.now in
+    let inside = pending_within c.loop-place.queue c.in-Some.place c.in-Some.ensures.cases.was in
+    let at = line_at circuit c.args.wiring.now c.requires.wiring c.in-Some.place line (omega (arith, inside, c.loop-place.invariant.queue)) c.index-line.ensures in
+    let pairs : c.line_pairs-pairs.result ≡ gate_line_pairs circuit c.args.f c.args.g sets line = c.line_pairs-pairs.ensures [] ∙ ap (λ s. gate_line_pairs circuit c.args.f c.args.g s line) c.as_slice.ensures.value in
+    subst (λ s. IsWithin s (set_at sets line)) (sym pairs) (c.loop-place.invariant.loose line at.0 at.1)
+
+pub overflow_add-from : goal.overflow_add-from
+overflow_add-from c =
+    omega (arith, few_places c.args.circuit.now c.args.wiring.now c.requires.wiring, pending_within c.loop-place.queue c.in-Some.place c.in-Some.ensures.cases.was, c.loop-place.invariant.queue)
+
+pub loop-place-preserved : goal.loop-place-preserved
+loop-place-preserved c =
+    let circuit = c.args.circuit.now in
+    let f = c.args.f in
+    let g = c.args.g in
+    let wiring = c.args.wiring.now in
+    let order = wiring.order.items in
+    let place = c.in-Some.place in
+    let line = c.index-line.result.now in
+    let pairs = c.line_pairs-pairs.result in
+    let sets = c.loop-place.trail.sets.items in
+    let taken = c.take_lowest.new.self in
+    let lowest : IsLowest c.loop-place.queue taken place = c.in-Some.ensures.cases in
+    let within : place < length order = omega (arith, pending_within c.loop-place.queue place lowest.was, c.loop-place.invariant.queue) in
+    let at = line_at circuit wiring c.requires.wiring place line within c.index-line.ensures in
+    let width : length sets ≡ line_count circuit = c.loop-place.invariant.longer.whole ∙ c.requires.width in
+    let inside : line < length sets = omega (arith, width, at.1) in
+    let is : pairs ≡ gate_line_pairs circuit f g sets line = c.line_pairs-pairs.ensures [] ∙ ap (λ s. gate_line_pairs circuit f g s line) c.as_slice.ensures.value in
+    let fewer : IsWithin pairs (set_at sets line) = subst (λ s. IsWithin s (set_at sets line)) (sym is) (c.loop-place.invariant.loose line at.0 at.1) in
+    let above : (p : ℕ) → is_pending c.settle.new.queue p ≡ true → place < p =
+    λ p t. elim (c.settle.ensures.wakes.only p t) [
+      | inl was ↦ (lowest_left c.loop-place.queue taken place lowest p was).0
+      | inr (h, feeds) ↦ later_place circuit wiring c.requires.wiring place p within h (subst (λ l. Feeds circuit l (get_or order p 0)) at.2 feeds)
+    ] in
+    let others : (l : ℕ) → circuit.sources ≤ l → l < line_count circuit → l ≢ line → IsIdle order taken l → set_at sets l ≡ gate_line_pairs circuit f g sets l =
+    λ l over under ne idle. c.loop-place.invariant.settled l over under
+    (λ p h e. let apart : p ≢ place = λ same. ne (sym e ∙ ap (λ k. get_or order k 0) same ∙ sym at.2) in sym (lowest.others p apart) ∙ idle p h e) in
+    record {
+      from = omega arith;
+      queue = c.settle.ensures.queue ∙ c.in-Some.ensures.room ∙ c.loop-place.invariant.queue;
+      low = λ p h. is_false (is_pending c.settle.new.queue p) (λ t. let up = above p t in omega arith);
+      longer = longer_more c.args.trail.now c.loop-place.trail c.settle.new.trail c.loop-place.invariant.longer c.settle.ensures.longer;
+      room = c.settle.ensures.room;
+      settled = subst (AreSettled circuit f g order c.settle.new.queue) (sym c.settle.ensures.sets)
+          (settled_after circuit f g c.requires.wiring.circuit sets line pairs inside (λ h. is) wiring c.requires.wiring taken c.settle.new.queue c.settle.ensures.wakes others);
+      loose = subst (AreLoose circuit f g) (sym c.settle.ensures.sets)
+          (loose_after circuit f g c.requires.wiring.circuit sets line pairs inside (λ h. is) fewer c.loop-place.invariant.loose);
+      sources = λ source h.
+          ap (λ s. set_at s source) c.settle.ensures.sets
+          ∙ get_or-set_other sets line source pairs free_pairs (let ne : source ≢ line = omega (arith, at.0) in ne)
+          ∙ c.loop-place.invariant.sources source h;
+    }

@@ -1,0 +1,30 @@
+-- Changes under way: the gates that wait, and the lines that are settled.
+use Rattle.std.specs.Prelude.{◌≡◌, ℕ, ◌<◌, ◌≤◌, ◌⊎◌, Bool, true, false, List, [], length, slice_index}
+use Rattle.net_model.specs.declared.fault.Fault.{Fault}
+use Rattle.net_model.specs.Circuit.{Circuit, line_count, Feeds}
+use Rattle.pair_sets.specs.declared.pair_set.PairSet.{PairSet}
+use Rattle.pair_sets.specs.PairSet.{IsWithin}
+use Rattle.pair_sets.specs.CubeState.{set_at, line_pairs}
+use Rattle.pair_sets.specs.Pending.{is_pending}
+
+-- The gate of the line doesn't wait.
+abbrev pub IsIdle : List ℕ → List Bool → ℕ → Type 0
+IsIdle order queue line = (place : ℕ) → place < length order → slice_index order place ≡ line → is_pending queue place ≡ false
+
+-- the pairs that the gate of a line gives it
+abbrev pub gate_line_pairs : Circuit → Fault → Fault → List PairSet → ℕ → PairSet
+gate_line_pairs c f g sets line = line_pairs c f g [] sets line
+
+-- Each gate that doesn't wait has the pairs that its pins give.
+abbrev pub AreSettled : Circuit → Fault → Fault → List ℕ → List Bool → List PairSet → Type 0
+AreSettled c f g order queue sets = (line : ℕ) → c.sources ≤ line → line < line_count c → IsIdle order queue line → set_at sets line ≡ gate_line_pairs c f g sets line
+
+-- Each gate has the pairs that its pins give, and perhaps others.
+abbrev pub AreLoose : Circuit → Fault → Fault → List PairSet → Type 0
+AreLoose c f g sets = (line : ℕ) → c.sources ≤ line → line < line_count c → IsWithin (gate_line_pairs c f g sets line) (set_at sets line)
+
+-- Gates that waited still do; only readers of the line wait besides, and all of them where its pairs changed.
+pub record WakesReaders (c : Circuit) (order : List ℕ) (line : ℕ) (was pairs : PairSet) (old new : List Bool) : Type 0 where
+  pub kept : (place : ℕ) → is_pending old place ≡ true → is_pending new place ≡ true
+  pub only : (place : ℕ) → is_pending new place ≡ true → (is_pending old place ≡ true) ⊎ ((place < length order) × Feeds c line (slice_index order place))
+  pub readers : (was ≡ pairs) ⊎ ((place : ℕ) → place < length order → Feeds c line (slice_index order place) → is_pending new place ≡ true)

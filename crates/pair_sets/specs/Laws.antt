@@ -1,0 +1,42 @@
+-- Laws of the pair sets.
+use Rattle.std.specs.Prelude.{◌≡◌, ◌≢◌, ℕ, ◌<◌, Bool, true, List, length, IsSome, IsTrue}
+use Rattle.net_model.specs.declared.fault.Fault.{Fault}
+use Rattle.net_model.specs.Circuit.{Circuit, IsCircuit, line_count}
+use Rattle.net_model.specs.Answer.{bit_at, Agrees, IsAnswer, Separates}
+use Rattle.net_model.specs.Scope.{is_relevant}
+use Rattle.pair_sets.specs.declared.pair_set.PairSet.{PairSet}
+use Rattle.pair_sets.specs.declared.state.PairState.{PairState}
+use Rattle.pair_sets.specs.declared.state.PairState.TheVariants.{AllSame, Apart, Undecided}
+use Rattle.pair_sets.specs.Cube.{Cube, InCube, fixed_bit, IsClosed}
+use Rattle.pair_sets.specs.PairSet.{has_pair}
+use Rattle.pair_sets.specs.CubeState.{set_at, ArePairSets, IsState}
+
+-- the pair of a line's bits under each vector of the cube is in its set
+abbrev pub SetsCover : Type 0
+SetsCover = (c : Circuit) (f g : Fault) (cube : Cube) (v x y : List Bool) (sets : List PairSet) (line : ℕ) → IsCircuit c → InCube cube v → Agrees c f v x → Agrees c g v y
+    → ArePairSets c f g cube sets → line < line_count c → has_pair (set_at sets line) (bit_at x line) (bit_at y line) ≡ true
+
+-- no vector of an all same cube separates
+abbrev pub AllSameClosed : Type 0
+AllSameClosed = (c : Circuit) (f g : Fault) (cube : Cube) → IsCircuit c → IsState c f g cube AllSame → IsClosed c f g cube
+
+-- The two answers differ at the position.
+abbrev pub DifferAt : Circuit → Fault → Fault → List Bool → ℕ → Type 0
+DifferAt c f g v at = (first second : List Bool) → IsAnswer c f v first → IsAnswer c g v second → bit_at first at ≢ bit_at second at
+
+-- every vector of an apart cube separates, and the answers differ at the position that is named
+pub record IsApart (c : Circuit) (f g : Fault) (v : List Bool) (at : ℕ) : Type 0 where
+  pub position : at < length c.positions
+  pub differ : DifferAt c f g v at
+  pub separates : Separates c v f g
+
+abbrev pub ApartSeparates : Type 0
+ApartSeparates = (c : Circuit) (f g : Fault) (cube : Cube) (v : List Bool) (at : ℕ) → IsCircuit c → IsState c f g cube (Apart at) → InCube cube v → IsApart c f g v at
+
+-- where all relevant sources are fixed no cube is undecided
+abbrev pub FixedDecided : Type 0
+FixedDecided = (c : Circuit) (f g : Fault) (cube : Cube) → IsCircuit c → ((source : ℕ) → source < c.sources → IsTrue (is_relevant c f g source) → IsSome (fixed_bit cube source)) → ¬ IsState c f g cube Undecided
+
+-- a cube has one state
+abbrev pub OneState : Type 0
+OneState = (c : Circuit) (f g : Fault) (cube : Cube) (s t : PairState) → IsCircuit c → IsState c f g cube s → IsState c f g cube t → s ≡ t

@@ -1,0 +1,12 @@
+pub mod Cube
+pub mod PairSet
+pub mod CubeState
+pub mod Tree
+pub mod Pending
+pub mod PendingFields
+pub mod Wiring
+pub mod Trail
+pub mod Events
+pub mod PairSim
+pub mod PairSimFields
+pub mod Laws

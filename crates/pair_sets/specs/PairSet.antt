@@ -1,0 +1,68 @@
+-- Sets of pairs of bits: the value of a line under one fault, and under another.
+use Rattle.std.specs.Prelude.{◌≡◌, Bool, true, false, not, ◌&&◌, ◌||◌, List, [], ◌∷◌, map, filter, flat_map, Option, unwrap_or}
+use Rattle.std.specs.Bool.{beq}
+use Rattle.std.specs.List.{list_any}
+use Rattle.net_model.specs.declared.gate.Kind.{Kind}
+use Rattle.net_model.specs.Gate.{gate_value}
+use Rattle.pair_sets.specs.declared.pair_set.PairSet.{PairSet}
+
+abbrev pub Pair : Type 0
+Pair = Bool × Bool
+
+-- all four pairs; the equal pairs of both values, which a free source has; and that of one value, which a fixed source has
+abbrev pub all_pairs : PairSet
+all_pairs = record { both_zero = true; zero_one = true; one_zero = true; both_one = true }
+
+abbrev pub free_pairs : PairSet
+free_pairs = record { both_zero = true; zero_one = false; one_zero = false; both_one = true }
+
+abbrev pub fixed_pairs : Bool → PairSet
+fixed_pairs bit = record { both_zero = not bit; zero_one = false; one_zero = false; both_one = bit }
+
+abbrev pub has_pair : PairSet → Bool → Bool → Bool
+has_pair s false false = s.both_zero
+has_pair s false true = s.zero_one
+has_pair s true false = s.one_zero
+has_pair s true true = s.both_one
+
+-- the set of the pairs that pass a test
+abbrev pub set_of : (Pair → Bool) → PairSet
+set_of test = record { both_zero = test (false, false); zero_one = test (false, true); one_zero = test (true, false); both_one = test (true, true) }
+
+-- whether the set has a pair at all
+abbrev pub some_pair : PairSet → Bool
+some_pair s = ((s.both_zero || s.zero_one) || s.one_zero) || s.both_one
+
+-- Each pair of the first set is in the second.
+abbrev pub IsWithin : PairSet → PairSet → Type 0
+IsWithin s t = (a b : Bool) → has_pair s a b ≡ true → has_pair t a b ≡ true
+
+-- the set's pairs
+abbrev pub pairs_of : PairSet → List Pair
+pairs_of s = filter (λ p. has_pair s p.0 p.1) ((false, false) ∷ (false, true) ∷ (true, false) ∷ (true, true) ∷ [])
+
+abbrev pub same_pair : Pair → Pair → Bool
+same_pair p q = beq p.0 q.0 && beq p.1 q.1
+
+-- the image of a list
+abbrev pub image_of : {A : Type 0} → (A → Pair) → List A → PairSet
+image_of value items = set_of (λ p. list_any (λ x. same_pair p (value x)) items)
+
+-- the set with a value put in each pair's first place, and in its second, where there is one to put
+unfoldable pub forced_pairs : Option Bool → Option Bool → PairSet → PairSet
+forced_pairs first second s = image_of (λ p. (unwrap_or first p.0, unwrap_or second p.1)) (pairs_of s)
+
+-- the ways to take one pair from each set, independently
+abbrev pub choices : List PairSet → List (List Pair)
+choices [] = [] ∷ []
+choices (s ∷ sets) = flat_map (λ p. map (λ ps. p ∷ ps) (choices sets)) (pairs_of s)
+
+-- the pairs that a gate gives on the choices from what its pins see
+unfoldable pub gate_pairs : Kind → List PairSet → PairSet
+gate_pairs kind sets = image_of (λ ps. (gate_value kind (map (λ p. p.0) ps), gate_value kind (map (λ p. p.1) ps))) (choices sets)
+
+abbrev pub only_equal : PairSet → Bool
+only_equal s = not (s.zero_one || s.one_zero)
+
+abbrev pub only_unequal : PairSet → Bool
+only_unequal s = not (s.both_zero || s.both_one)

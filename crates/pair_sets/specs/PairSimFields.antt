@@ -1,0 +1,46 @@
+-- What the fields of a `PairSim` show, and what is true of them.
+use Rattle.std.specs.Prelude.{◌≡◌, ℕ, ◌+◌, ◌<◌, ◌≤◌, List, [], ◌∷◌, map, reverse, length, sum_by, take, drop, vec_capacity, All, None}
+use Rattle.net_model.specs.declared.fault.Fault.{Fault}
+use Rattle.net_model.specs.Circuit.{Circuit}
+use Rattle.net_model.specs.Scope.{reached_positions}
+use Rattle.pair_sets.specs.declared.pair_set.PairSet.{PairSet}
+use Rattle.pair_sets.specs.declared.sim.Level.{Level}
+use Rattle.pair_sets.specs.declared.sim.PairSim.TheInside.{Inside}
+use Rattle.pair_sets.specs.declared.trail.Change.{Change}
+use Rattle.pair_sets.specs.Cube.{Cube, fixed_bit}
+use Rattle.pair_sets.specs.CubeState.{ArePairSets}
+use Rattle.pair_sets.specs.Pending.{IsEmpty}
+use Rattle.pair_sets.specs.Trail.{pair_count, undone}
+use Rattle.pair_sets.specs.Wiring.{IsWiring}
+use Rattle.pair_sets.specs.PairSim.{PairSim, pair_sim}
+
+-- the fixed sources with their bits, the last level first
+abbrev pub cube_of : List Level → Cube
+cube_of levels = map (λ level. (level.source, level.bit)) levels
+
+abbrev pub pair_sim_of : Inside → PairSim
+pair_sim_of a = pair_sim a.circuit.now a.f a.g (cube_of (reverse a.levels.items))
+
+-- The pairs are those of the cube, with room for a change for each of them.
+pub record IsLevelRight (c : Circuit) (f g : Fault) (cube : Cube) (room : ℕ) (changes : List Change) (sets : List PairSet) : Type 0 where
+  pub right : ArePairSets c f g cube sets
+  pub room_left : length changes + sum_by pair_count sets ≤ room
+
+-- The pairs are right, and so are those of each level further down, where the changes since its start are taken back. Each level fixes a source that was free.
+abbrev pub AreLevels : Circuit → Fault → Fault → ℕ → List Level → List Change → List PairSet → Type 0
+AreLevels c f g room [] changes sets = IsLevelRight c f g [] room changes sets
+AreLevels c f g room (level ∷ levels) changes sets =
+    IsLevelRight c f g (cube_of (level ∷ levels)) room changes sets
+    × (level.source < c.sources)
+    × (fixed_bit (cube_of levels) level.source ≡ None)
+    × (level.start ≤ length changes)
+    × AreLevels c f g room levels (take level.start changes) (undone (drop level.start changes) sets)
+
+pub record IsReady (a : Inside) : Type 0 where
+  pub wiring : IsWiring a.circuit.now a.wiring
+  pub reached : a.reached.items ≡ reached_positions a.circuit.now a.f a.g
+  pub none_waits : IsEmpty a.queue
+  pub queue_room : length a.queue ≡ length a.wiring.order.items
+  pub levels : AreLevels a.circuit.now a.f a.g (vec_capacity a.trail.changes) (reverse a.levels.items) a.trail.changes.items a.trail.sets.items
+  pub within : All (λ change. change.line < length a.trail.sets.items) a.trail.changes.items
+  pub levels_room : a.circuit.now.sources ≤ vec_capacity a.levels

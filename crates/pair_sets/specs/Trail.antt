@@ -1,0 +1,30 @@
+-- Changes of the pairs of lines, and how to take them back.
+use Rattle.std.specs.Prelude.{◌≡◌, ℕ, ◌+◌, ◌<◌, ◌≤◌, List, [], ◌∷◌, ◌++◌, length, sum_by, slice_set, vec_capacity, All, if◌then◌else◌}
+use Rattle.pair_sets.specs.declared.pair_set.PairSet.{PairSet}
+use Rattle.pair_sets.specs.declared.trail.Change.{Change}
+use Rattle.pair_sets.specs.declared.trail.Trail.{Trail}
+
+-- how many pairs a set has
+abbrev pub pair_count : PairSet → ℕ
+pair_count s = (if s.both_zero then 1 else 0) + (if s.zero_one then 1 else 0) + (if s.one_zero then 1 else 0) + (if s.both_one then 1 else 0)
+
+abbrev pub change_with : ℕ → PairSet → Change
+change_with line was = record { line = line; was = was }
+
+-- the pairs of all lines before these changes, the last of which is taken back first
+abbrev pub undone : List Change → List PairSet → List PairSet
+undone [] sets = sets
+undone (change ∷ changes) sets = slice_set (undone changes sets) change.line change.was
+
+-- There is room for a change for each pair that some line still has, and each change takes a pair away.
+abbrev pub HasRoom : Trail → Type 0
+HasRoom trail = length trail.changes.items + sum_by pair_count trail.sets.items ≤ vec_capacity trail.changes
+
+-- The second trail has further changes, which lead from the pairs of the first to its own.
+pub record IsLonger (old new : Trail) : Type 0 where
+  pub added : List Change
+  pub extends : new.changes.items ≡ old.changes.items ++ added
+  pub before : undone added new.sets.items ≡ old.sets.items
+  pub whole : length new.sets.items ≡ length old.sets.items
+  pub within : All (λ change. change.line < length new.sets.items) added
+  pub capacity : vec_capacity new.changes ≡ vec_capacity old.changes

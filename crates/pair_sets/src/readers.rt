@@ -1,0 +1,44 @@
+//! The readers of a line.
+
+ghost use Rattle.std.specs.Prelude.{◌≡◌, [], ◌∷◌, ◌++◌, OnOk, OnErr};
+
+use std::alloc::{AllocError, Global};
+use std::marker::Model;
+
+/// The places, in an order of the gates, of the gates that read a line.
+#[derive(Drop)]
+pub(crate) struct Readers {
+    places: Vec<u32>,
+}
+
+impl Model for Readers {
+    ghost use Rattle.std.specs.Prelude.{List, ℕ};
+
+    ghost Value = { List ℕ };
+
+    ghost view = { λ r. r.places.items };
+}
+
+impl Readers {
+    pub(crate) fn new(alloc: Global) -> Readers
+        ensures { result ≡ [] }
+    {
+        Readers {
+            places: Vec::new(alloc),
+        }
+    }
+
+    pub(crate) fn push(&mut self, place: u32) -> Result<(), AllocError>
+        ensures ok { OnOk result (self.new ≡ self.old ++ place ∷ []) }
+        ensures err { OnErr result (self.new ≡ self.old) }
+    {
+        self.places.push(place)?;
+        Ok(())
+    }
+
+    pub(crate) fn as_slice(&self) -> &[u32]
+        ensures { result.now ≡ self.now }
+    {
+        self.places.as_slice()
+    }
+}

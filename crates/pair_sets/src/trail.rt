@@ -1,0 +1,54 @@
+//! The pairs of all lines, and how to take their changes back.
+
+ghost use Rattle.std.specs.Prelude.{◌≡◌, ◌<◌, ◌≤◌, ◌∷◌, [], ◌++◌, All, drop, length, slice_set, take, vec_capacity};
+ghost use Rattle.pair_sets.specs.CubeState.{set_at};
+ghost use Rattle.pair_sets.specs.Trail.{HasRoom, change_with, pair_count, undone};
+
+use crate::pair_set::PairSet;
+
+/// A line whose pairs changed, and what they were before.
+#[derive(Clone, Copy)]
+pub(crate) struct Change {
+    pub(crate) line: u32,
+    pub(crate) was: PairSet,
+}
+
+/// The pairs of all lines, and the changes that led to them.
+#[derive(Drop)]
+pub(crate) struct Trail {
+    pub(crate) sets: Vec<PairSet>,
+    pub(crate) changes: Vec<Change>,
+}
+
+impl Trail {
+    /// Gives a line fewer pairs. It takes no memory.
+    pub(crate) fn set(&mut self, line: u32, pairs: PairSet)
+        requires line { line < length self.old.sets.items }
+        requires fewer { pair_count pairs < pair_count (set_at self.old.sets.items line) }
+        requires room { HasRoom self.old }
+        ensures sets { self.new.sets.items ≡ slice_set self.old.sets.items line pairs }
+        ensures changes { self.new.changes.items ≡ self.old.changes.items ++ change_with line (set_at self.old.sets.items line) ∷ [] }
+        ensures capacity { vec_capacity self.new.changes ≡ vec_capacity self.old.changes }
+        ensures room { HasRoom self.new }
+    {
+        let was = self.sets[line as usize];
+        self.changes.push_reserved(Change { line, was });
+        self.sets[line as usize] = pairs;
+    }
+
+    /// Takes all changes back but the first so many.
+    pub(crate) fn take_back(&mut self, start: usize)
+        requires start { start ≤ length self.old.changes.items }
+        requires within { All (λ change. change.line < length self.old.sets.items) self.old.changes.items }
+        ensures sets { self.new.sets.items ≡ undone (drop start self.old.changes.items) self.old.sets.items }
+        ensures changes { self.new.changes.items ≡ take start self.old.changes.items }
+        ensures capacity { vec_capacity self.new.changes ≡ vec_capacity self.old.changes }
+    {
+        while self.changes.len() > start {
+            let Some(change) = self.changes.pop() else {
+                return;
+            };
+            self.sets[change.line as usize] = change.was;
+        }
+    }
+}
