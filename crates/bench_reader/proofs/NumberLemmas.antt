@@ -10,7 +10,7 @@ use Rattle.std.proofs.lemmas.Grind.{flat_map-append}
 use Rattle.std.proofs.lemmas.Bool.{cases_Bool, eq-eqb, eqb-true, or_cases}
 use Rattle.net_model.proofs.Copies.{later}
 use Rattle.net_model.proofs.Listed.{All-flat_map}
-use Rattle.net_model.proofs.OpenPins.{true_false}
+use Rattle.net_model.proofs.Elements.{true_false}
 use Rattle.bench_reader.specs.declared.statement.Word.{Word}
 use Rattle.bench_reader.specs.declared.statement.Statement.{Statement}
 use Rattle.bench_reader.specs.declared.statement.Statement.TheVariants.{Input, Output, Drive, Flop}

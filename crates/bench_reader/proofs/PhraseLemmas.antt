@@ -9,7 +9,7 @@ use Rattle.std.proofs.lemmas.List.Elements.{All-nil, All-cons, All-head, All-tai
 use Rattle.std.proofs.lemmas.List.Sums.{passes_at_first, fails_before_first}
 use Rattle.std.proofs.lemmas.Slice.Eq.{bytes_eq-Decides}
 use Rattle.net_model.proofs.Copies.{later}
-use Rattle.net_model.proofs.OpenPins.{true_false}
+use Rattle.net_model.proofs.Elements.{true_false}
 use Rattle.bench_reader.specs.declared.statement.Word.{Word}
 use Rattle.bench_reader.specs.Tokens.{Text, Token}
 use Rattle.bench_reader.specs.Grammar.{Named, gate_driver, flip_flop_driver, Phrase, input_phrase, output_phrase, gate_phrase, has_right_pins, phrase_names}

@@ -16,9 +16,10 @@ use Rattle.std.proofs.Common.{inl, inr}
 use Rattle.std.proofs.lemmas.List.{length-map, get_or-map}
 use Rattle.std.proofs.lemmas.List.FromFn.{fill_by_all, length-map-range_with_len, get_or-map-range_with_len}
 use Rattle.net_model.specs.ClassTable.{ClassTable, class_count, class_at, members, representative, new_lowest, refined_table}
+use Rattle.net_model.proofs.Elements.{true_false}
 use Rattle.class_refine.specs.Fields.{IsWhole}
 use Rattle.class_refine.proofs.Pieces.{IsSound, members-All, members-contains, representative_lowest}
-use Rattle.class_refine.proofs.Ranges.{IsLowest, true-false}
+use Rattle.class_refine.proofs.Ranges.{IsLowest}
 use Rattle.class_refine.proofs.Refined.{representative-member, numbers-refined, count-refined, members-refined}
 
 first-filter : (p : ℕ → Bool) (xs : List ℕ) → get_or (filter p xs) 0 0 ≡ unwrap_or (find p xs) 0
@@ -56,7 +57,7 @@ representative_is t s class n w h e same =
       value = refl;
       member = facts.1;
       within = facts.0;
-      lowest = λ k l here. true-false (eqb (class_at t k) class) (eq-eqb (class_at t k) class here) (is.below k l);
+      lowest = λ k l here. true_false (eqb (class_at t k) class) (eq-eqb (class_at t k) class here) (is.below k l);
     }))
 
 -- the groups that a list of values has

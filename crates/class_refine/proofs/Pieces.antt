@@ -8,7 +8,8 @@ use Rattle.std.proofs.lemmas.List.Elements.{All-contains, All-filter, filter_pas
 use Rattle.std.proofs.lemmas.List.Kept.{AllPairs-filter}
 use Rattle.std.proofs.lemmas.Slice.Eq.{slice_eq-Decides}
 use Rattle.net_model.specs.ClassTable.{ClassTable, same_bits, number_range, class_count, class_at, members, representative, answer_at, stay_together, piece_lowest, begins_class, new_lowest, class_after}
-use Rattle.class_refine.proofs.Ranges.{IsLowest, found_lowest, lowest_once, true-false, filter-contains, range_below, range-contains, AreDistinct, range_distinct, parts-All, parts-contains, parts-distinct, position_cases}
+use Rattle.net_model.proofs.Elements.{true_false, Contains-filter}
+use Rattle.class_refine.proofs.Ranges.{IsLowest, found_lowest, lowest_once, range_below, range-contains, AreDistinct, range_distinct, parts-All, parts-contains, parts-distinct, position_cases}
 
 -- each number has a class that is counted, and each class but class 0 was cut from a lower one by one of the patterns
 pub record IsSound (t : ClassTable) : Type 0 where
@@ -37,7 +38,7 @@ module _ (t : ClassTable) where
 
   pub members-contains : (n : ℕ) → n < length t.class_of → Contains (members t (class_at t n)) n
   unfolding members
-  members-contains n h = filter-contains (λ m. eqb (class_at t m) (class_at t n)) (number_range t) n (range-contains (length t.class_of) n h) (eq-eqb (class_at t n) (class_at t n) refl)
+  members-contains n h = Contains-filter (λ m. eqb (class_at t m) (class_at t n)) (number_range t) n (range-contains (length t.class_of) n h) (eq-eqb (class_at t n) (class_at t n) refl)
 
   members_distinct : (class : ℕ) → AreDistinct (members t class)
   unfolding members
@@ -71,7 +72,7 @@ module _ (t : ClassTable) where
           within = other.within;
           below = λ k l. elim (cases_Bool (stay_together t row m k)) [
             | inr f ↦ f
-            | inl e ↦ let s = stays m k e in true-false (stay_together t row n k) (staying n k (sym class ∙ s.0) (sym answer ∙ s.1)) (other.below k l)
+            | inl e ↦ let s = stays m k e in true_false (stay_together t row n k) (staying n k (sym class ∙ s.0) (sym answer ∙ s.1)) (other.below k l)
           ];
         })
 
@@ -105,7 +106,7 @@ module _ (t : ClassTable) where
             | inl same ↦ same
             | inr ne ↦
                 let low = piece_lowest t row rep in
-                true-false (eqb (class_at t low) (class_at t n)) (eq-eqb (class_at t low) (class_at t n) ((piece_is rep inside).class ∙ class))
+                true_false (eqb (class_at t low) (class_at t n)) (eq-eqb (class_at t low) (class_at t n) ((piece_is rep inside).class ∙ class))
                 (is.below low (omega (arith, piece.within, ne)))
           ];
         }
@@ -157,7 +158,7 @@ module _ (t : ClassTable) where
     unfolding new_lowest part
     new_lowest-contains is n b =
         parts-contains part (class_count t) (class_at t n) n (is.classes n b.inside)
-        (filter-contains (begins_class t row) (members t (class_at t n)) n (members-contains n b.inside) (begins-true n b))
+        (Contains-filter (begins_class t row) (members t (class_at t n)) n (members-contains n b.inside) (begins-true n b))
 
     -- ---- the classes after the cut
 
@@ -189,7 +190,7 @@ module _ (t : ClassTable) where
               | inr ne ↦
                   let rep : representative t (class_at t low) ≡ representative t (class_at t n) = ap (representative t) piece.class in
                   let has = new_lowest-contains sound low (record { inside = piece.inside; own = piece.own; leaves = λ e. ne (sym e ∙ rep) }) in
-                  true-false (eqb low low) (eq-eqb low low refl) (All-contains (λ m. eqb m low ≡ false) (new_lowest t row) low all has)
+                  true_false (eqb low low) (eq-eqb low low refl) (All-contains (λ m. eqb m low ≡ false) (new_lowest t row) low all has)
             ];
             after = ap (λ o. class_at_place o n) none;
           })

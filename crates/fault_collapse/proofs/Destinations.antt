@@ -15,9 +15,10 @@ use Rattle.net_model.specs.FaultList.{places_of, destinations}
 use Rattle.net_model.proofs.Copies.{later}
 use Rattle.net_model.proofs.Listed.{All-flat_map, All-range_with_len}
 use Rattle.net_model.proofs.Orders.{Contains-range}
+use Rattle.net_model.proofs.Elements.{Contains-map, Contains-flat_map}
 use Rattle.fault_list.proofs.OnePlace.{All-places}
 use Rattle.fault_list.proofs.Places.{places_from}
-use Rattle.fault_collapse.proofs.Members.{Contains-head, Contains-map, Contains-flat_map}
+use Rattle.fault_collapse.proofs.Members.{Contains-head}
 
 -- ---- gates
 

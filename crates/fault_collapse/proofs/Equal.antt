@@ -3,7 +3,7 @@ use Rattle.std.proofs.Common.{◌≡◌, ◌∙◌, ℕ, zero, suc, ◌<◌, Boo
 use Rattle.std.specs.Prelude.{Option, None, Some, Contains, slice_get, unwrap_or, ◌&&◌}
 use Rattle.std.specs.Bool.{then_some}
 use Rattle.std.specs.Option.{option_map_or}
-use Rattle.std.proofs.lemmas.Bool.{eqb-true}
+use Rattle.std.proofs.lemmas.Bool.{eqb-true, and_from, and_left, and_parts}
 use Rattle.std.proofs.lemmas.Bool.Decides.{nat_tests}
 use Rattle.std.proofs.lemmas.List.Elements.{All-contains}
 use Rattle.net_model.specs.declared.gate.Gate.{Gate}
@@ -46,18 +46,12 @@ module _ (c : Circuit) (w : IsCircuit c) where
 same_number : (n : ℕ) → eqb n n ≡ true
 same_number n = grind (arith, nat_tests)
 
-both_true : (a b : Bool) → a ≡ true → b ≡ true → (a && b) ≡ true
-both_true a b s t = rw (s, t) refl
-
-false_first : (a b : Bool) → a ≡ false → (a && b) ≡ false
-false_first a b e = rw e refl
-
 -- ---- from a pin to the stem of its gate
 
 module _ (c : Circuit) (w : IsCircuit c) (line pin : ℕ) (bit value : Bool) (gate : Gate) (drives : gate_at c line ≡ Some gate) (within : pin < length gate.pins) (carries : carried_value gate.kind (length gate.pins) bit ≡ Some value) (v bits : List Bool) (a : Agrees c (Stuck (Pin line pin) bit) v bits) where
   pin_sees : slice_get (seen_bits (stuck_pin (Stuck (Pin line pin) bit) line) bits gate.pins) pin ≡ Some bit
   pin_sees =
-      let here = both_true (eqb line line) (eqb pin pin) (same_number line) (same_number pin) in
+      let here = and_from (eqb line line) (eqb pin pin) (same_number line) (same_number pin) in
       seen_at (stuck_pin (Stuck (Pin line pin) bit) line) bits gate.pins pin within ∙ ap (λ b. Some (unwrap_or (then_some b bit) (bit_at bits (get_or gate.pins pin 0)))) here
 
   -- the line has the carried value
@@ -77,7 +71,7 @@ module _ (c : Circuit) (w : IsCircuit c) (line pin : ℕ) (bit value : Bool) (ga
       ap (bit_at bits) (sym same) ∙ (has_value ∙ ap (λ b. unwrap_or (then_some b value) (driven_bit c (Stuck (Stem line) value) v bits l)) (sym t))
   right_line l inside false t =
       a.each l inside
-      ∙ (same_driven c (Stuck (Pin line pin) bit) (Stuck (Stem line) value) v bits bits l (gate_at c l) (λ p. ap (λ b. then_some b bit) (false_first (eqb line l) (eqb pin p) t)) (λ read m. refl)
+      ∙ (same_driven c (Stuck (Pin line pin) bit) (Stuck (Stem line) value) v bits bits l (gate_at c l) (λ p. ap (λ b. then_some b bit) (and_left (eqb line l) (eqb pin p) t)) (λ read m. refl)
       ∙ ap (λ b. unwrap_or (then_some b value) (driven_bit c (Stuck (Stem line) value) v bits l)) (sym t))
 
   agrees_too : Agrees c (Stuck (Stem line) value) v bits
@@ -111,24 +105,19 @@ module _ (c : Circuit) (w : IsCircuit c) (line gate pin : ℕ) (bit : Bool) (ins
       let site = only_destination (Pin reader place) (pin_is_destination c line reader place (there ∙ ap Some (sym is))) in
       let g : reader ≡ gate = cc in
       let p : place ≡ pin = cc in
-      let here = both_true (eqb gate reader) (eqb pin place) (rw g (same_number gate)) (rw p (same_number pin)) in
+      let here = and_from (eqb gate reader) (eqb pin place) (rw g (same_number gate)) (rw p (same_number pin)) in
       let clash : ◌≡◌ {A = Bool} true false = sym here ∙ not_here in
       cc
 
   -- the stuck pin reads the line
   stuck_read : (reader place read : ℕ) → slice_get (pins_of c reader) place ≡ Some read → (eqb gate reader && eqb pin place) ≡ true → bit_at x read ≡ bit
   stuck_read reader place read there here =
-      let both = and_true (eqb gate reader) (eqb pin place) here in
+      let both = and_parts (eqb gate reader) (eqb pin place) here in
       let g : gate ≡ reader = eqb-true gate reader both.0 in
       let p : pin ≡ place = eqb-true pin place both.1 in
       let reads : slice_get (pins_of c reader) place ≡ Some line = subst (λ n. slice_get (pins_of c n) place ≡ Some line) g (subst (λ n. slice_get (pins_of c gate) n ≡ Some line) p (sole_pin_reads c line gate pin sole)) in
       let same : line ≡ read = let s : Some line ≡ Some read = sym reads ∙ there in cc in
       ap (bit_at x) (sym same) ∙ stem_is_stuck
-    where
-      and_true : (p q : Bool) → (p && q) ≡ true → (p ≡ true) × (q ≡ true)
-      and_true true true e = (refl, refl)
-      and_true true false e = cc
-      and_true false q e = cc
 
   -- the same is seen where the lines that are read have the same bit
   same_seen : (reader place read : ℕ) → slice_get (pins_of c reader) place ≡ Some read → (eqb line read ≡ false → bit_at x read ≡ bit_at y read) → (here : Bool) → (eqb gate reader && eqb pin place) ≡ here → bit_at x read ≡ unwrap_or (then_some here bit) (bit_at y read)

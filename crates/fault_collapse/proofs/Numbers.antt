@@ -13,8 +13,9 @@ use Rattle.net_model.specs.FaultList.{destinations, branches, sites_of_line, bot
 use Rattle.net_model.proofs.Copies.{later}
 use Rattle.net_model.proofs.Listed.{All-flat_map, All-range_with_len, listed}
 use Rattle.net_model.proofs.Orders.{Contains-range}
+use Rattle.net_model.proofs.Elements.{Contains-flat_map}
 use Rattle.fault_list.proofs.Sites.{branches-many}
-use Rattle.fault_collapse.proofs.Members.{Contains-head, Contains-slice_get, slice_get-Contains, Contains-flat_map}
+use Rattle.fault_collapse.proofs.Members.{Contains-head, Contains-slice_get, slice_get-Contains}
 use Rattle.fault_collapse.proofs.Destinations.{ReadsLine, destinations_read, pin_is_destination}
 
 module _ (c : Circuit) where

@@ -5,13 +5,13 @@ use Rattle.std.specs.Bool.{then_some}
 use Rattle.std.specs.List.{range_with_len, cons_option}
 use Rattle.std.proofs.lemmas.Bool.{eqb-true}
 use Rattle.std.proofs.lemmas.List.Elements.{All-nil, All-cons, All-head, All-tail, All-append, All-map, All-weaker}
-use Rattle.std.proofs.lemmas.Option.{slice_get_within, get_or_from_slice_get}
 use Rattle.net_model.specs.declared.fault.Site.{Site}
 use Rattle.net_model.specs.declared.fault.Site.TheVariants.{Stem, Pin, Position}
 use Rattle.net_model.specs.Circuit.{Circuit, all_lines, gate_lines, pins_of}
 use Rattle.net_model.specs.FaultList.{places_of, destinations, branches, sites_of_line}
 use Rattle.fault_list.proofs.Places.{places_from}
-use Rattle.net_model.proofs.Listed.{All-flat_map, All-range_with_len}
+use Rattle.net_model.proofs.Copies.{All-at}
+use Rattle.net_model.proofs.Listed.{All-if, All-flat_map, All-range_with_len}
 
 -- ---- lists in which nothing stands twice
 
@@ -19,9 +19,6 @@ use Rattle.net_model.proofs.Listed.{All-flat_map, All-range_with_len}
 pub Apart : {X : Type 0} → List X → Type 0
 Apart [] = Unit {0}
 Apart (x ∷ xs) = All (λ y. x ≢ y) xs × Apart xs
-
-pub All-at : {X : Type 0} (P : X → Type 0) (xs : List X) (k : ℕ) (x : X) → All P xs → slice_get xs k ≡ Some x → P x
-All-at P xs k x h there = subst P (get_or_from_slice_get xs k x x there) (h k x (slice_get_within xs k x there))
 
 pub one_place : {X : Type 0} (xs : List X) → Apart xs → (j k : ℕ) (x : X) → slice_get xs j ≡ Some x → slice_get xs k ≡ Some x → j ≡ k
 unfolding Apart
@@ -141,10 +138,6 @@ module _ (c : Circuit) where
   unfolding Apart
   Apart-if true xs a = a
   Apart-if false xs a = tt
-
-  All-if : (P : Site → Type 0) (b : Bool) (xs : List Site) → All P xs → All P (if b then xs else [])
-  All-if P true xs h = h
-  All-if P false xs h = All-nil P
 
   Apart-line : (line : ℕ) → Apart (sites_of_line c line)
   unfolding Apart branches

@@ -13,7 +13,7 @@ use Rattle.net_model.specs.FaultList.{destinations, branches, sites_of_line, fau
 use Rattle.net_model.specs.Fault.{IsFaultOf}
 use Rattle.net_model.proofs.Listed.{listed}
 use Rattle.fault_list.proofs.Stuck.{stuck_of}
-use Rattle.fault_list.proofs.OnePlace.{All-at}
+use Rattle.net_model.proofs.Copies.{All-at}
 use Rattle.net_model.proofs.Orders.{range_with_len_more}
 
 module _ (c : Circuit) where

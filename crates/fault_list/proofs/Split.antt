@@ -11,7 +11,7 @@ use Rattle.net_model.specs.Circuit.{Circuit, IsCircuit, IsAcyclic, line_count, p
 use Rattle.net_model.specs.Order.{IsOrder}
 use Rattle.net_model.specs.Answer.{bit_at}
 use Rattle.net_model.specs.Scope.{leads_to, first_changed, reaches_line, is_split}
-use Rattle.net_model.proofs.Copies.{later}
+use Rattle.net_model.proofs.Elements.{same_any}
 use Rattle.net_model.proofs.Orders.{order_has, order_only, order_after}
 use Rattle.net_model.proofs.ScopeLaws.{no_longer}
 use Rattle.net_model.proofs.SetSoFar.{fits_from}
@@ -19,10 +19,6 @@ use Rattle.fault_list.proofs.Table.{no_pins}
 use Rattle.fault_list.specs.Scope.{AreMarks, is_first_changed, begins_at}
 
 -- ---- tests
-
-same_any : {A : Type 0} (test other : A → Bool) (xs : List A) → ((x : A) → Contains xs x → test x ≡ other x) → list_any test xs ≡ list_any other xs
-same_any test other [] h = refl
-same_any test other (x ∷ xs) h = λ i. h x (0, omega arith, refl) i || same_any test other xs (λ y m. h y (later x xs y m)) i
 
 none_pass : {A : Type 0} (xs : List A) → list_any (λ x. false) xs ≡ false
 none_pass [] = refl

@@ -2,8 +2,7 @@
 use Rattle.std.proofs.Common.{◌≡◌, ◌≢◌, ℕ, ◌<◌, List, [], length, get_or, set, refl, sym, ◌∙◌, ap, subst, arith, inl, inr}
 use Rattle.std.specs.Prelude.{Bool, true, false, Some, None, IsTrue, ◌↔◌, ◌==◌, ◌&&◌, Contains, unwrap_or}
 use Rattle.std.specs.Bool.{then_some}
-use Rattle.std.proofs.lemmas.Bool.{cases_eq, false≢true}
-use Rattle.std.proofs.lemmas.Bool.Decides.{nat_tests}
+use Rattle.std.proofs.lemmas.Bool.{cases_eq, false_from_ne_true, ne_eqb}
 use Rattle.std.proofs.lemmas.List.{get_or-set_same, get_or-set_other, get_or_default, length-set, ext_get_or}
 use Rattle.std.proofs.lemmas.List.Elements.{Contains-get_or}
 use Rattle.net_model.specs.declared.fault.Site.TheVariants.{Stem, Pin, Position}
@@ -16,6 +15,7 @@ use Rattle.net_model.specs.Scope.{first_changed}
 use Rattle.net_model.proofs.Copies.{same_driven, pins_inside}
 use Rattle.net_model.proofs.Orders.{order_has, reader_is_gate}
 use Rattle.net_model.proofs.SetSoFar.{fits_from}
+use Rattle.net_model.proofs.Elements.{true_false}
 use Rattle.word_sim.specs.declared.lanes.TheConstants.{LANES}
 use Rattle.word_sim.specs.GoodSim.{GoodSim}
 use Rattle.fault_sim.specs.declared.wiring.Wiring.{Wiring}
@@ -41,16 +41,9 @@ turned_none true false e = refl
 turned_none false true e = e
 turned_none false false e = refl
 
-pub not_both : (b : Bool) → b ≡ true → b ≡ false → ⊥
-not_both b t f = false≢true (sym f ∙ t)
-
-pub is_false : (b : Bool) → (b ≡ true → ⊥) → b ≡ false
-is_false true h = absurd (h refl)
-is_false false h = refl
-
 -- no lane has 1
 pub none_true : (row : List Bool) (some : Bool) → IsTrue some ↔ ((lane : ℕ) × (lane < LANES) × IsTrue (bit_at row lane)) → some ≡ false → IsFalse row
-none_true row some iff e lane h = is_false (bit_at row lane) (λ t. not_both some (iff.1 (lane, h, t)) e)
+none_true row some iff e lane h = false_from_ne_true (bit_at row lane) (λ t. true_false some (iff.1 (lane, h, t)) e)
 
 -- ---- the right side of an equation
 
@@ -64,19 +57,16 @@ untouched : (c : Circuit) (f : Fault) (v bits : List Bool) (line : ℕ) → stuc
 unfolding line_bit driven_bit
 untouched c f v bits line stem pins = λ i. unwrap_or (sym stem i) (same_driven c Free f v bits bits line (gate_at c line) (λ pin. sym (pins pin)) (λ read m. refl) i)
 
-pub no_test : (m n : ℕ) → m ≢ n → (m == n) ≡ false
-no_test m n ne = grind (arith, nat_tests)
-
 stem_free : (f : Fault) (line : ℕ) → (first_changed f ≡ Some line → ⊥) → stuck_stem f line ≡ None
 stem_free Free line h = refl
-stem_free (Stuck (Stem at) bit) line h = ap (λ b. then_some b bit) (no_test at line (λ e. h (ap Some e)))
+stem_free (Stuck (Stem at) bit) line h = ap (λ b. then_some b bit) (ne_eqb at line (λ e. h (ap Some e)))
 stem_free (Stuck (Pin gate at) bit) line h = refl
 stem_free (Stuck (Position at) bit) line h = refl
 
 pins_free : (f : Fault) (line pin : ℕ) → (first_changed f ≡ Some line → ⊥) → stuck_pin f line pin ≡ None
 pins_free Free line pin h = refl
 pins_free (Stuck (Stem at) bit) line pin h = refl
-pins_free (Stuck (Pin gate at) bit) line pin h = ap (λ b. then_some (b && at == pin) bit) (no_test gate line (λ e. h (ap Some e)))
+pins_free (Stuck (Pin gate at) bit) line pin h = ap (λ b. then_some (b && at == pin) bit) (ne_eqb gate line (λ e. h (ap Some e)))
 pins_free (Stuck (Position at) bit) line pin h = refl
 
 -- ---- before the first event
@@ -118,7 +108,7 @@ module _ (good : GoodSim) (f : Fault) (w : Wiring) (is : IsCircuit good.circuit)
       let found = order_has good.circuit (fits_from good.circuit is) order wired.order l gate.0 gate.1 in
       let place = found.0 in
       let there : get_or order place 0 ≡ l = get_or_default order place 0 l found.1 ∙ found.2 in
-      not_both (is_pending more place) (woken place (wired.readers.all line place found.1 (subst (λ r. Feeds good.circuit line r) (sym there) feeds))) (idle place found.1 there)
+      true_false (is_pending more place) (woken place (wired.readers.all line place found.1 (subst (λ r. Feeds good.circuit line r) (sym there) feeds))) (idle place found.1 there)
 
   pub settled_changed : length rows ≡ line_count good.circuit → line < length rows → AreSettledBut good f w.order.items line queue rows
       → ((lane : ℕ) (free : List Bool) → IsFreeLane good lane free → turned (bit_at free line) (bit_at row lane) ≡ line_bit good.circuit f (vector_at good lane) (faulty_bits free rows lane) line)
@@ -143,7 +133,7 @@ module _ (good : GoodSim) (f : Fault) (w : Wiring) (is : IsCircuit good.circuit)
             (λ read m. sym (other read (pins_inside good.circuit is line read m)
             (λ own. let rises = is.acyclic.rises line line (subst (λ r. Feeds good.circuit r line) own m) in omega (arith, rises)))))
         | inr ne ↦
-            let was_idle : IsIdle w.order.items queue l = λ place h e. is_false (is_pending queue place) (λ t. not_both (is_pending more place) (kept place t) (idle place h e)) in
+            let was_idle : IsIdle w.order.items queue l = λ place h e. false_from_ne_true (is_pending queue place) (λ t. true_false (is_pending more place) (kept place t) (idle place h e)) in
             other l within ne ∙ settled lane free at l within ne was_idle
             ∙ stays good.circuit f (vector_at good lane) bits after l
             (λ read m. sym (other read (pins_inside good.circuit is l read m) (λ own. woken_idle woken l (subst (λ r. Feeds good.circuit r l) own m) idle)))

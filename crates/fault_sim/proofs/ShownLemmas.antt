@@ -2,7 +2,7 @@
 use Rattle.std.proofs.Common.{◌≡◌, ◌≢◌, ℕ, ◌<◌, ◌+◌, ◌≤◌, List, [], ◌∷◌, ◌++◌, length, get_or, set, refl, sym, ◌∙◌, ap, subst, arith, inl, inr}
 use Rattle.std.specs.Prelude.{Bool, false, Some, None, Contains, All, AllPairs, unwrap_or}
 use Rattle.std.specs.Bool.{then_some}
-use Rattle.std.proofs.lemmas.Bool.{cases_eq}
+use Rattle.std.proofs.lemmas.Bool.{cases_eq, ne_eqb}
 use Rattle.std.proofs.lemmas.List.{get_or-set_same, get_or-set_other}
 use Rattle.std.proofs.lemmas.List.Elements.{All-push}
 use Rattle.std.proofs.lemmas.List.Quantifiers.{all_pairs_push}
@@ -21,13 +21,13 @@ use Rattle.fault_sim.specs.Rows.{IsFalse, IsTrueSomewhere, AreFalseBut}
 use Rattle.fault_sim.specs.FaultyLanes.{turned, faulty_bits}
 use Rattle.fault_sim.specs.Events.{IsShown, IsUntouched, stands_at}
 use Rattle.fault_sim.proofs.FaultyLemmas.{faulty_at}
-use Rattle.fault_sim.proofs.SettledLemmas.{turned_none, no_test}
+use Rattle.fault_sim.proofs.SettledLemmas.{turned_none}
 
 pub position_free : (f : Fault) (position : ℕ) → (stands_at f ≡ Some position → ⊥) → stuck_position f position ≡ None
 position_free Free position h = refl
 position_free (Stuck (Stem at) bit) position h = refl
 position_free (Stuck (Pin gate at) bit) position h = refl
-position_free (Stuck (Position at) bit) position h = ap (λ b. then_some b bit) (no_test at position (λ e. h (ap Some e)))
+position_free (Stuck (Position at) bit) position h = ap (λ b. then_some b bit) (ne_eqb at position (λ e. h (ap Some e)))
 
 module _ (good : GoodSim) (f : Fault) (lines : List (List Bool)) where
   pub shown_untouched : (position : ℕ) (row : List Bool) → get_or good.circuit.positions position 0 < length lines → IsUntouched good.circuit f lines position → IsFalse row → IsShown good f lines position row

@@ -7,8 +7,7 @@ ghost use Rattle.net_model.specs.Circuit.{line_count};
 ghost use Rattle.net_model.specs.Answer.{bit_at, seen_bits, driven_bit, line_bit};
 ghost use Rattle.fault_sim.specs.FaultyLanes.{faulty_bits, turned, vector_at, IsLive, IsFreeLane, IsFalsePast};
 
-use crate::stuck::{stuck_pin, stuck_position, stuck_stem};
-use net_model::{Circuit, Fault, Gate, Kind};
+use net_model::{Circuit, Fault, Gate, Kind, stuck_pin, stuck_position, stuck_stem};
 use word_sim::{GoodSim, Lanes};
 
 // The bits of a line under the fault.

@@ -6,7 +6,6 @@ mod faulty;
 mod pending;
 mod rows;
 mod sim;
-mod stuck;
 #[cfg(test)]
 mod tests;
 mod users;

@@ -1,8 +1,9 @@
 -- How often a number stands in a list, and the pins of a gate that are still open.
-use Rattle.std.proofs.Common.{◌≡◌, ◌≢◌, ◌∙◌, ℕ, zero, suc, ◌+◌, ◌-◌, ◌<◌, ◌⊎◌, inl, inr, true, false, not, ◌||◌, cond, List, [], ◌∷◌, ◌++◌, get_or, eqb, refl, sym, ap, arith}
+use Rattle.std.proofs.Common.{◌≡◌, ◌≢◌, ◌∙◌, ℕ, ◌+◌, ◌-◌, ◌<◌, ◌⊎◌, inl, inr, true, false, not, ◌||◌, cond, List, [], ◌∷◌, ◌++◌, get_or, eqb, refl, sym, ap, arith}
 use Rattle.std.specs.Prelude.{Bool, Contains, nat_lt}
-use Rattle.std.specs.List.{list_all, list_any}
-use Rattle.std.proofs.lemmas.Bool.{cases_eq, cases_Bool, lt-ltb, ltb-true, eqb-true, ne_eqb, eq-eqb, and_from, and_parts, or_cases}
+use Rattle.std.specs.List.{list_any}
+use Rattle.std.proofs.Math.Bool.{or-false}
+use Rattle.std.proofs.lemmas.Bool.{cases_eq, cases_Bool, lt-ltb, ltb-true, eqb-true, ne_eqb, eq-eqb, or_cases, or_left, or_right}
 use Rattle.std.proofs.lemmas.List.{get_or_default}
 use Rattle.std.proofs.lemmas.List.Elements.{Contains-push}
 use Rattle.std.proofs.lemmas.List.Folds.{list_any-append}
@@ -10,27 +11,7 @@ use Rattle.std.proofs.lemmas.List.Sums.{sum_by-cons, sum_by_push, get_or-le-sum_
 use Rattle.std.proofs.lemmas.Map.Views.{Contains-from_any}
 use Rattle.net_model.specs.Topological.{count_of, is_told, open_pins}
 use Rattle.net_model.proofs.Copies.{later}
-
-pub true_false : {P : Type 0} (b : Bool) → b ≡ true → b ≡ false → P
-true_false b t f = absurd (let e : ◌≡◌ {A = Bool} true false = sym t ∙ f in cc)
-
-pub or_left_true : (a b : Bool) → a ≡ true → (a || b) ≡ true
-or_left_true a b e = rw e refl
-
-pub or_right_true : (a b : Bool) → b ≡ true → (a || b) ≡ true
-or_right_true true b e = refl
-or_right_true false b e = e
-
--- ---- tests of all of a list
-
-pub all_parts : {X : Type 0} (p : X → Bool) (xs : List X) → list_all p xs ≡ true → (x : X) → Contains xs x → p x ≡ true
-all_parts p [] t x (k, h, e) = absurd (omega (arith, h))
-all_parts p (y ∷ ys) t x (zero, h, e) = ap p (sym e) ∙ (and_parts (p y) (list_all p ys) t).0
-all_parts p (y ∷ ys) t x (suc k, h, e) = all_parts p ys (and_parts (p y) (list_all p ys) t).1 x (k, omega (arith, h), e)
-
-pub all_from : {X : Type 0} (p : X → Bool) (xs : List X) → ((x : X) → Contains xs x → p x ≡ true) → list_all p xs ≡ true
-all_from p [] h = refl
-all_from p (y ∷ ys) h = and_from (p y) (list_all p ys) (h y (0, omega arith, refl)) (all_from p ys (λ x m. h x (later y ys x m)))
+use Rattle.net_model.proofs.Elements.{any_from}
 
 -- ---- counts
 
@@ -61,19 +42,13 @@ has_count x xs (k, h, e) =
 
 -- ---- told lines and open pins
 
-or_none : (b : Bool) → (b || false) ≡ b
-or_none true = refl
-or_none false = refl
-
 has_any : (told : List ℕ) (line : ℕ) → Contains told line → list_any (λ gate. eqb gate line) told ≡ true
-has_any [] line (k, h, e) = absurd (omega (arith, h))
-has_any (y ∷ ys) line (zero, h, e) = or_left_true (eqb y line) (list_any (λ gate. eqb gate line) ys) (eq-eqb y line e)
-has_any (y ∷ ys) line (suc k, h, e) = or_right_true (eqb y line) (list_any (λ gate. eqb gate line) ys) (has_any ys line (k, omega (arith, h), e))
+has_any told line m = any_from (λ gate. eqb gate line) told line m (eq-eqb line line refl)
 
 module _ (sources : ℕ) (told : List ℕ) where
   pub told_from : (line : ℕ) → (line < sources) ⊎ Contains told line → is_told sources told line ≡ true
-  told_from line (inl source) = or_left_true (nat_lt line sources) (list_any (λ gate. eqb gate line) told) (lt-ltb line sources source)
-  told_from line (inr gate) = or_right_true (nat_lt line sources) (list_any (λ gate. eqb gate line) told) (has_any told line gate)
+  told_from line (inl source) = or_left (nat_lt line sources) (list_any (λ gate. eqb gate line) told) (lt-ltb line sources source)
+  told_from line (inr gate) = or_right (nat_lt line sources) (list_any (λ gate. eqb gate line) told) (has_any told line gate)
 
   pub told_is : (line : ℕ) → is_told sources told line ≡ true → (line < sources) ⊎ Contains told line
   told_is line t =
@@ -105,13 +80,13 @@ module _ (sources : ℕ) (told : List ℕ) where
     told_new = told_more (Contains-push told x)
       where
         told_more : Contains (told ++ x ∷ []) x → is_told sources (told ++ x ∷ []) x ≡ true
-        told_more m = or_right_true (nat_lt x sources) (list_any (λ gate. eqb gate x) (told ++ x ∷ [])) (has_any (told ++ x ∷ []) x m)
+        told_more m = or_right (nat_lt x sources) (list_any (λ gate. eqb gate x) (told ++ x ∷ [])) (has_any (told ++ x ∷ []) x m)
 
     told_other : (y : ℕ) → y ≢ x → is_told sources (told ++ x ∷ []) y ≡ is_told sources told y
     told_other y ne =
         let more = list_any-append (λ gate. eqb gate y) told (x ∷ []) in
         let none : (list_any (λ gate. eqb gate y) told || (eqb x y || false)) ≡ list_any (λ gate. eqb gate y) told =
-        ap (λ b. list_any (λ gate. eqb gate y) told || (b || false)) (ne_eqb x y (λ e. ne (sym e))) ∙ or_none (list_any (λ gate. eqb gate y) told) in
+        ap (λ b. list_any (λ gate. eqb gate y) told || (b || false)) (ne_eqb x y (λ e. ne (sym e))) ∙ or-false (list_any (λ gate. eqb gate y) told) in
         ap (λ b. nat_lt y sources || b) (more ∙ none)
 
     -- one more told line closes the pins that read it

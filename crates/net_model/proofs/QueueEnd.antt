@@ -2,7 +2,7 @@
 use Rattle.std.proofs.Common.{◌≡◌, ◌≢◌, ◌∙◌, ℕ, zero, suc, ◌+◌, ◌-◌, ◌<◌, ◌≤◌, ◌⊎◌, inl, inr, true, false, not, List, [], ◌∷◌, ◌++◌, length, get_or, refl, sym, subst, ap, arith, length-append, length-take, get_or-take, append_assoc}
 use Rattle.std.specs.Prelude.{Contains, IsPermutation, nat_lt}
 use Rattle.std.specs.List.{list_all}
-use Rattle.std.proofs.lemmas.Bool.{cases_lt, cases_Bool, lt-ltb, le-ltb, ltb-true, eqb-true, eq-eqb, or_cases, false_from_ne_true}
+use Rattle.std.proofs.lemmas.Bool.{cases_lt, cases_Bool, lt-ltb, le-ltb, ltb-true, eqb-true, eq-eqb, or_cases, false_from_ne_true, or_left, or_right}
 use Rattle.std.proofs.lemmas.List.{get_or_default, append-nil}
 use Rattle.std.proofs.lemmas.List.Elements.{Contains-append_cases}
 use Rattle.std.proofs.lemmas.List.FromFn.{length-range_with_len}
@@ -14,7 +14,8 @@ use Rattle.net_model.specs.LoopWalk.{is_removed_within, is_left}
 use Rattle.net_model.specs.Topological.{open_pins, IsQueue, is_placed, are_placed, IsRest}
 use Rattle.net_model.proofs.Copies.{later, pins_within}
 use Rattle.net_model.proofs.Orders.{Contains-range}
-use Rattle.net_model.proofs.OpenPins.{all_from, all_parts, all_told, or_left_true, or_right_true, told_from, true_false}
+use Rattle.net_model.proofs.OpenPins.{all_told, told_from}
+use Rattle.net_model.proofs.Elements.{all_from, all_parts, true_false}
 use Rattle.net_model.proofs.QueueSteps.{source_pins}
 
 -- ---- lists without repeats
@@ -48,12 +49,12 @@ no_longer xs ys distinct inside =
 
 module _ (c : Circuit) where
   removed_more : (n line : ℕ) → is_removed_within c n line ≡ true → is_removed_within c (suc n) line ≡ true
-  removed_more zero line t = or_left_true (nat_lt line c.sources) (list_all (is_removed_within c 0) (pins_of c line)) t
+  removed_more zero line t = or_left (nat_lt line c.sources) (list_all (is_removed_within c 0) (pins_of c line)) t
   removed_more (suc n) line t =
       elim (or_cases (nat_lt line c.sources) (list_all (is_removed_within c n) (pins_of c line)) t) [
-        | inl source ↦ or_left_true (nat_lt line c.sources) (list_all (is_removed_within c (suc n)) (pins_of c line)) source
+        | inl source ↦ or_left (nat_lt line c.sources) (list_all (is_removed_within c (suc n)) (pins_of c line)) source
         | inr pins ↦
-            or_right_true (nat_lt line c.sources) (list_all (is_removed_within c (suc n)) (pins_of c line))
+            or_right (nat_lt line c.sources) (list_all (is_removed_within c (suc n)) (pins_of c line))
             (all_from (is_removed_within c (suc n)) (pins_of c line) (λ pin m. removed_more n pin (all_parts (is_removed_within c n) (pins_of c line) pins pin m)))
       ]
 
@@ -74,7 +75,7 @@ module _ (c : Circuit) (fits : FitsTogether c) (waits order : List ℕ) (is : Is
   removed_at : (n i : ℕ) → i < n → i < length order → is_removed_within c (suc i) (get_or order i 0) ≡ true
   removed_at zero i lt h = absurd (omega arith)
   removed_at (suc n) i lt h =
-      or_right_true (nat_lt (get_or order i 0) c.sources) (list_all (is_removed_within c i) (pins_of c (get_or order i 0)))
+      or_right (nat_lt (get_or order i 0) c.sources) (list_all (is_removed_within c i) (pins_of c (get_or order i 0)))
       (all_from (is_removed_within c i) (pins_of c (get_or order i 0))
       (λ pin m. elim (is.after i pin h m) [
         | inl source ↦ removed_later c 0 i pin (omega arith) (lt-ltb pin c.sources source)

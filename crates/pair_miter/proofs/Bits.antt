@@ -1,6 +1,6 @@
 -- Bits: equality, and exclusive or.
 use Rattle.std.proofs.Common.{◌≡◌, refl, sym, ap, ◌∙◌, subst, ℕ, ◌+◌, ◌%◌, arith}
-use Rattle.std.specs.Prelude.{Bool, true, false, not, List, ◌∷◌, ◌||◌, ◌&&◌, ◌==◌, count_by, if◌then◌else◌}
+use Rattle.std.specs.Prelude.{Bool, true, false, not, List, ◌∷◌, ◌==◌, count_by, if◌then◌else◌}
 use Rattle.std.proofs.lemmas.Bool.Decides.{nat_tests}
 use Rattle.std.proofs.lemmas.List.Sums.{sum_by-cons}
 use Rattle.net_model.specs.Gate.{odd_ones}
@@ -32,26 +32,6 @@ is_not true true e = cc
 is_not true false e = refl
 is_not false true e = refl
 is_not false false e = cc
-
-pub and_both : (a b : Bool) → (a && b) ≡ true → (a ≡ true) × (b ≡ true)
-and_both true b e = (refl, e)
-and_both false b e = cc
-
-pub both_and : (a b : Bool) → a ≡ true → b ≡ true → (a && b) ≡ true
-both_and true b p q = q
-both_and false b p q = cc
-
-pub or_false : (b : Bool) → (b || false) ≡ b
-or_false true = refl
-or_false false = refl
-
-pub or_true : (b : Bool) → (b || true) ≡ true
-or_true true = refl
-or_true false = refl
-
-pub and_true : (b : Bool) → (b && true) ≡ b
-and_true true = refl
-and_true false = refl
 
 -- exclusive or
 abbrev pub flip : Bool → Bool → Bool

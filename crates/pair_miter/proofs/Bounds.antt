@@ -18,13 +18,13 @@ use Rattle.net_model.specs.Circuit.{Circuit, IsCircuit, line_count, all_lines, p
 use Rattle.net_model.specs.Fault.{stuck_stem, stuck_pin, stuck_position, readings}
 use Rattle.net_model.specs.Scope.{is_split, is_relevant, is_reached, relevant_lines, reached_positions}
 use Rattle.net_model.proofs.QueueSteps.{source_pins}
+use Rattle.net_model.proofs.Elements.{slice_get-none}
 use Rattle.clause_pool.specs.Literal.{Literal, pos_literal, neg_literal, opposite}
 use Rattle.clause_pool.specs.Clauses.{Clause}
 use Rattle.pair_miter.specs.Variables.{Copy, first_copy, second_copy, fault_of, is_parity, line_variables, variables_below, line_variable, free_pins, gate_helpers, copy_helpers, line_helpers, helpers_below, first_helper, difference_variable, variable_count}
 use Rattle.pair_miter.specs.Rows.{Operand, stuck_operand, free_operand, variable_of, variables, constants, has_constant, and_of, or_of, same_value, xor_of_two, xor_onward, xor_of, buffer_of, and_rows, or_rows, output_literal, xor_rows, gate_rows}
 use Rattle.pair_miter.specs.Miter.{operand_of, gate_operands, gate_clauses, stuck_clauses, copy_clauses, line_clauses, shown_operand, difference_clauses, raw_clauses, without_repeats, is_tautology, tidy, miter}
 use Rattle.pair_miter.proofs.CopyClauses.{length-readings}
-use Rattle.pair_miter.proofs.Relevance.{slice_get-none}
 
 -- ---- sums
 

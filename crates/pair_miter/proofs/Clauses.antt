@@ -3,17 +3,17 @@ use Rattle.std.proofs.Common.{◌≡◌, ◌∙◌, sym, ap, refl, zero, suc, ar
 use Rattle.std.specs.Prelude.{Bool, true, List, [], ◌∷◌, ◌++◌, ◌||◌, map, flat_map, Contains}
 use Rattle.std.specs.List.{list_any}
 use Rattle.std.proofs.lemmas.List.Folds.{list_all-append}
+use Rattle.std.proofs.lemmas.Bool.{and_parts, and_from}
 use Rattle.net_model.proofs.Copies.{later}
 use Rattle.clause_pool.specs.Clauses.{Clause}
 use Rattle.pair_miter.specs.Miter.{is_satisfied_by, is_model}
-use Rattle.pair_miter.proofs.Bits.{and_both, both_and}
 
 module _ (bits : List Bool) where
   pub model_parts : (first rest : List Clause) → is_model bits (first ++ rest) ≡ true → (is_model bits first ≡ true) × (is_model bits rest ≡ true)
-  model_parts first rest e = and_both (is_model bits first) (is_model bits rest) (sym (list_all-append (is_satisfied_by bits) first rest) ∙ e)
+  model_parts first rest e = and_parts (is_model bits first) (is_model bits rest) (sym (list_all-append (is_satisfied_by bits) first rest) ∙ e)
 
   pub model_both : (first rest : List Clause) → is_model bits first ≡ true → is_model bits rest ≡ true → is_model bits (first ++ rest) ≡ true
-  model_both first rest a b = list_all-append (is_satisfied_by bits) first rest ∙ both_and (is_model bits first) (is_model bits rest) a b
+  model_both first rest a b = list_all-append (is_satisfied_by bits) first rest ∙ and_from (is_model bits first) (is_model bits rest) a b
 
   pub model_each : {A : Type 0} (clauses : A → List Clause) (xs : List A) (x : A) → Contains xs x → is_model bits (flat_map clauses xs) ≡ true → is_model bits (clauses x) ≡ true
   model_each clauses [] x (k, h, there) e = absurd (omega (arith, h))

@@ -2,6 +2,7 @@
 use Rattle.std.proofs.Common.{◌≡◌, ◌≢◌, ◌∙◌, ℕ, suc, ◌-◌, ◌<◌, refl, sym, ap, arith, subst, get_or}
 use Rattle.std.specs.Prelude.{Bool, true, false, List, [], ◌∷◌, ◌++◌, map, flat_map, length, None, Some, Contains, unwrap_or, is_none, if◌then◌else◌}
 use Rattle.std.specs.Option.{option_map_or}
+use Rattle.std.proofs.lemmas.Bool.{and_from}
 use Rattle.net_model.specs.declared.gate.Gate.{Gate}
 use Rattle.net_model.specs.declared.gate.Kind.TheVariants.{Xor}
 use Rattle.net_model.specs.declared.fault.Fault.{Fault}
@@ -13,6 +14,8 @@ use Rattle.net_model.specs.Scope.{is_split, is_relevant, is_reached, relevant_li
 use Rattle.net_model.proofs.Copies.{pins_inside}
 use Rattle.net_model.proofs.Seen.{length-seen_bits}
 use Rattle.net_model.proofs.ScopeLaws.{same_unsplit}
+use Rattle.net_model.proofs.Elements.{any_from}
+use Rattle.net_model.proofs.Relevance.{relevant_back, reached_listed, listed_reached, relevant_shown, listed_relevant}
 use Rattle.fault_list.proofs.Pair.{same_unreached}
 use Rattle.clause_pool.specs.Literal.{pos_literal}
 use Rattle.pair_miter.specs.Variables.{Copy, first_copy, second_copy, fault_of, first_helper, is_parity, difference_variable}
@@ -20,10 +23,8 @@ use Rattle.pair_miter.specs.Rows.{Operand, stuck_operand, free_operand, variable
 use Rattle.pair_miter.specs.Miter.{copy_clauses, line_clauses, shown_operand, difference_clauses, raw_clauses, miter, literal_bit, is_satisfied_by, is_model, copy_bit}
 use Rattle.pair_miter.specs.Laws.{HasModel}
 use Rattle.pair_miter.proofs.TidyAndFresh.{is_model-tidy}
-use Rattle.pair_miter.proofs.Elements.{any_from}
-use Rattle.pair_miter.proofs.Bits.{flip, both_and}
+use Rattle.pair_miter.proofs.Bits.{flip}
 use Rattle.pair_miter.proofs.Clauses.{model_both, model_all, any_mapped}
-use Rattle.pair_miter.proofs.Relevance.{relevant_back, reached_listed, listed_reached, relevant_shown, listed_relevant}
 use Rattle.pair_miter.proofs.GateRows.{Carry, variable_bits, helper_bits, gate_rows-complete}
 use Rattle.pair_miter.proofs.CopyClauses.{operand_carries, copy_complete}
 use Rattle.pair_miter.proofs.Sound.{one_variable, odd_two, at_position}
@@ -106,7 +107,7 @@ module _ (c : Circuit) (w : IsCircuit c) (f g : Fault) (v x y : List Bool) (a : 
 
     second_holds : is_split c f g line ≡ true → is_model bits (copy_clauses c f g second_copy line) ≡ true
     second_holds split =
-        copy_holds second_copy (λ gate is free parity. gate_parts_carry c f g x y line inside relevant second_copy gate is (both_and (is_split c f g line) (is_none (stuck_stem g line)) split (ap is_none free)) parity)
+        copy_holds second_copy (λ gate is free parity. gate_parts_carry c f g x y line inside relevant second_copy gate is (and_from (is_split c f g line) (is_none (stuck_stem g line)) split (ap is_none free)) parity)
 
     line_holds : is_model bits (line_clauses c f g line) ≡ true
     unfolding line_clauses
@@ -163,7 +164,7 @@ module _ (c : Circuit) (w : IsCircuit c) (f g : Fault) (v x y : List Bool) (a : 
         (model_both bits line_part difference_part
         (model_all bits (line_clauses c f g) (relevant_lines c f g) (λ line m. let h = listed_relevant c f g line m in line_holds line h.0 h.1))
         (model_all bits (difference_clauses c f g) (reached_positions c f g) (λ at m. let h = listed_reached c f g at m in difference_holds at h.0 h.1)))
-        (both_and (is_satisfied_by bits (map (λ at. pos_literal (difference_variable c f g at)) (reached_positions c f g))) true some_holds refl)
+        (and_from (is_satisfied_by bits (map (λ at. pos_literal (difference_variable c f g at)) (reached_positions c f g))) true some_holds refl)
 
 pub separated_has_model : (c : Circuit) (f g : Fault) (v : List Bool) → IsCircuit c → Separates c v f g → HasModel c f g
 unfolding miter

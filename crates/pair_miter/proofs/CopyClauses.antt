@@ -10,23 +10,13 @@ use Rattle.net_model.specs.Gate.{gate_value, takes_pins}
 use Rattle.net_model.specs.Circuit.{Circuit, IsCircuit, line_count, gate_at, Feeds}
 use Rattle.net_model.specs.Fault.{stuck_stem, stuck_pin, readings}
 use Rattle.net_model.specs.Answer.{bit_at, seen_bits, driven_bit, line_bit, Agrees}
-use Rattle.net_model.proofs.Copies.{same_readings}
-use Rattle.fault_list.proofs.OnePlace.{All-at}
+use Rattle.net_model.proofs.Copies.{same_readings, All-at, map-readings}
 use Rattle.clause_pool.specs.Clauses.{Clause}
 use Rattle.pair_miter.specs.Variables.{Copy, fault_of, line_variable, first_helper, is_parity}
 use Rattle.pair_miter.specs.Rows.{variables, output_literal}
 use Rattle.pair_miter.specs.Miter.{operand_of, gate_operands, gate_clauses, stuck_clauses, copy_clauses, is_model, copy_bit}
 use Rattle.pair_miter.proofs.Bits.{holds, holds-is, is-holds}
 use Rattle.pair_miter.proofs.GateRows.{operand_value, Carry, variable_bits, helper_bits, gate_rows-sound, gate_rows-complete, unit_true}
-
-map_pairs : {A B : Type 0} (h : A → B) (read : ℕ → ℕ → A) (n : ℕ) (lines : List ℕ)
-    → map h (map (λ x. read x.0 x.1) (enumerate_from n lines)) ≡ map (λ x. h (read x.0 x.1)) (enumerate_from n lines)
-map_pairs h read n [] = refl
-map_pairs h read n (line ∷ lines) = ap (λ rest. h (read n line) ∷ rest) (map_pairs h read (n + 1) lines)
-
-pub map-readings : {A B : Type 0} (h : A → B) (read : ℕ → ℕ → A) (lines : List ℕ) → map h (readings read lines) ≡ readings (λ place line. h (read place line)) lines
-unfolding readings
-map-readings h read lines = map_pairs h read 0 lines
 
 length_pairs : {A : Type 0} (read : ℕ → ℕ → A) (n : ℕ) (lines : List ℕ) → length (map (λ x. read x.0 x.1) (enumerate_from n lines)) ≡ length lines
 length_pairs read n [] = refl

@@ -4,6 +4,8 @@ use Rattle.std.proofs.Common.{◌≡◌, refl, sym, ap, ◌∙◌, subst, ℕ, s
 use Rattle.std.specs.Prelude.{Bool, true, false, not, List, [], ◌∷◌, length, map, ◌||◌, ◌&&◌, if◌then◌else◌, IsTrue}
 use Rattle.std.specs.List.{list_any}
 use Rattle.std.proofs.lemmas.List.Folds.{list_all-append}
+use Rattle.std.proofs.Math.Bool.{or-true}
+use Rattle.std.proofs.lemmas.Bool.{and_parts, and_from}
 use Rattle.net_model.specs.declared.gate.Kind.{Kind}
 use Rattle.net_model.specs.declared.gate.Kind.TheVariants.{And, Nand, Or, Nor, Xor, Xnor, Not, Buff}
 use Rattle.net_model.specs.Gate.{all_ones, some_one, odd_ones, gate_value, takes_pins}
@@ -13,7 +15,7 @@ use Rattle.pair_miter.specs.Variables.{is_parity}
 use Rattle.pair_miter.specs.Rows.{Operand, stuck_operand, free_operand, constants, variables, has_constant, and_of, or_of, same_value, xor_of_two, xor_onward, xor_of, buffer_of, and_rows, or_rows, output_literal, xor_rows, gate_rows}
 use Rattle.pair_miter.specs.Miter.{literal_bit, is_satisfied_by, is_model}
 use Rattle.pair_miter.proofs.TidyAndFresh.{opposite_bit}
-use Rattle.pair_miter.proofs.Bits.{holds, holds-is, is-holds, not_is, is_not, and_both, both_and, or_true, flip, flip-false, flip-assoc, flip-inner, flip_back, flip_on, odd_ones-cons}
+use Rattle.pair_miter.proofs.Bits.{holds, holds-is, is-holds, not_is, is_not, flip, flip-false, flip-assoc, flip-inner, flip_back, flip_on, odd_ones-cons}
 
 -- what an operand carries
 abbrev pub operand_value : List Bool → Operand → Bool
@@ -63,13 +65,13 @@ module _ (bits : List Bool) where
   or_not_step false false a = refl
 
   each_implied : (y : Literal) (xs : List ℕ) → is_model bits (map (λ x. opposite y ∷ pos_literal x ∷ []) xs) ≡ (not (literal_bit bits y) || all_ones (variable_bits xs))
-  each_implied y [] = sym (or_true (not (literal_bit bits y)))
+  each_implied y [] = sym (or-true (not (literal_bit bits y)))
   each_implied y (x ∷ xs) =
       (λ i. (opposite_bit bits y i || (bit_at bits (x - 1) || false)) && each_implied y xs i)
       ∙ not_or_step (literal_bit bits y) (bit_at bits (x - 1)) (all_ones (variable_bits xs))
 
   each_implies : (y : Literal) (xs : List ℕ) → is_model bits (map (λ x. y ∷ neg_literal x ∷ []) xs) ≡ (literal_bit bits y || not (some_one (variable_bits xs)))
-  each_implies y [] = sym (or_true (literal_bit bits y))
+  each_implies y [] = sym (or-true (literal_bit bits y))
   each_implies y (x ∷ xs) =
       ap (λ b. (literal_bit bits y || (not (bit_at bits (x - 1)) || false)) && b) (each_implies y xs)
       ∙ or_not_step (literal_bit bits y) (bit_at bits (x - 1)) (some_one (variable_bits xs))
@@ -213,7 +215,7 @@ module _ (bits : List Bool) where
   xor_onward-sound y helper before x (x' ∷ xs) e =
       let two = xor_of_two (pos_literal helper) before (pos_literal x) in
       let rest = xor_onward y (helper + 1) (pos_literal helper) (x' ∷ xs) in
-      let both = and_both (is_model bits two) (is_model bits rest) (sym (list_all-append (is_satisfied_by bits) two rest) ∙ e) in
+      let both = and_parts (is_model bits two) (is_model bits rest) (sym (list_all-append (is_satisfied_by bits) two rest) ∙ e) in
       let b = literal_bit bits before in
       let v = bit_at bits (x - 1) in
       let odd = odd_ones (variable_bits (x' ∷ xs)) in
@@ -239,7 +241,7 @@ module _ (bits : List Bool) where
       let odd = odd_ones (variable_bits (x' ∷ xs)) in
       let part : bit_at bits (helper - 1) ≡ flip b v = ap (bit_at bits) (let e : helper - 1 ≡ helper + 0 - 1 = omega arith in e) ∙ carry 0 (omega arith) in
       list_all-append (is_satisfied_by bits) two rest
-      ∙ both_and (is_model bits two) (is_model bits rest)
+      ∙ and_from (is_model bits two) (is_model bits rest)
       (xor_of_two-holds (pos_literal helper) before (pos_literal x) ∙ is-holds (bit_at bits (helper - 1)) (flip b v) part)
       (xor_onward-complete y (helper + 1) (pos_literal helper) x' xs
       (subst (λ h. Carry (helper + 1) (parts h (variable_bits (x' ∷ xs)))) (sym part) (carry_rest helper (flip b v) (parts (flip b v) (variable_bits (x' ∷ xs))) carry))

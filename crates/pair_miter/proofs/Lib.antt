@@ -1,9 +1,8 @@
-pub mod Elements
 pub mod Bits
 pub mod Opened
 pub mod TidyAndFresh
 pub mod Clauses
-pub mod Relevance
+pub mod Sources
 pub mod GateRows
 pub mod CopyClauses
 pub mod Sound

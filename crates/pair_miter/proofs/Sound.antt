@@ -1,8 +1,9 @@
 -- The vector of a model separates: in each copy the variables carry the valuation under the copy's fault, and a
 -- difference that is 1 is a position that shows different bits.
-use Rattle.std.proofs.Common.{◌≡◌, ◌≢◌, ◌∙◌, ◌⊎◌, inl, inr, ℕ, zero, suc, ◌+◌, ◌-◌, ◌<◌, refl, sym, ap, arith, get_or}
-use Rattle.std.specs.Prelude.{Bool, true, false, not, List, [], ◌∷◌, ◌++◌, map, flat_map, length, None, unwrap_or, is_none, ◌||◌, if◌then◌else◌}
+use Rattle.std.proofs.Common.{◌≡◌, ◌≢◌, ◌∙◌, inl, inr, ℕ, zero, suc, ◌+◌, ◌-◌, ◌<◌, refl, sym, ap, arith, get_or}
+use Rattle.std.specs.Prelude.{Bool, true, false, not, List, [], ◌∷◌, ◌++◌, map, flat_map, length, None, unwrap_or, is_none, if◌then◌else◌}
 use Rattle.std.proofs.lemmas.List.FromFn.{get_or-map-range_with_len}
+use Rattle.std.proofs.lemmas.Bool.{and_parts, or_cases}
 use Rattle.net_model.specs.declared.gate.Kind.TheVariants.{Xor}
 use Rattle.net_model.specs.declared.fault.Fault.{Fault}
 use Rattle.net_model.specs.Gate.{odd_ones}
@@ -13,16 +14,18 @@ use Rattle.net_model.specs.Scope.{is_split, is_relevant, is_reached, reaches_lin
 use Rattle.net_model.proofs.Copies.{pins_inside}
 use Rattle.net_model.proofs.ScopeLaws.{same_unsplit}
 use Rattle.net_model.proofs.Evaluation.{Agrees-exists}
+use Rattle.net_model.proofs.Elements.{passing}
+use Rattle.net_model.proofs.Relevance.{relevant_back, reached_listed, listed_reached, relevant_shown, relevant_listed}
+use Rattle.net_model.proofs.SetSoFar.{undriven_is_source}
 use Rattle.fault_list.proofs.Pair.{at_reading}
 use Rattle.clause_pool.specs.Literal.{pos_literal}
 use Rattle.clause_pool.specs.Clauses.{Clause}
 use Rattle.pair_miter.specs.Variables.{first_copy, second_copy, line_variable, difference_variable, variables_below}
 use Rattle.pair_miter.specs.Miter.{copy_clauses, line_clauses, shown_operand, difference_clauses, raw_clauses, miter, literal_bit, is_satisfied_by, is_model, copy_bit, split_source_bit, source_bit, vector_of}
 use Rattle.pair_miter.proofs.TidyAndFresh.{is_model-tidy}
-use Rattle.pair_miter.proofs.Elements.{passing}
-use Rattle.pair_miter.proofs.Bits.{and_both, flip, flip-false, odd_ones-cons}
+use Rattle.pair_miter.proofs.Bits.{flip, flip-false, odd_ones-cons}
 use Rattle.pair_miter.proofs.Clauses.{model_parts, model_each, any_mapped}
-use Rattle.pair_miter.proofs.Relevance.{relevant_back, reached_listed, listed_reached, relevant_shown, relevant_listed, undriven_is_source, reached_source}
+use Rattle.pair_miter.proofs.Sources.{reached_source}
 use Rattle.pair_miter.proofs.GateRows.{gate_rows-sound}
 use Rattle.pair_miter.proofs.CopyClauses.{operand_carries, copy_sound}
 
@@ -43,10 +46,6 @@ flip_differs false false e same = cc
 
 pub at_position : (c : Circuit) (f : Fault) (z : List Bool) (at : ℕ) → at < length c.positions → bit_at (shown_bits c f z) at ≡ unwrap_or (stuck_position f at) (bit_at z (get_or c.positions at 0))
 at_position c f z at h = at_reading (λ place line. unwrap_or (stuck_position f place) (bit_at z line)) c.positions at h
-
-or_cases : (a b : Bool) → (a || b) ≡ true → (a ≡ true) ⊎ (b ≡ true)
-or_cases true b e = inl refl
-or_cases false b e = inr e
 
 module _ (c : Circuit) (w : IsCircuit c) (f g : Fault) (ff : IsFaultOf c f) (gg : IsFaultOf c g) (bits : List Bool) (model : is_model bits (raw_clauses c f g) ≡ true) where
   abbrev v : List Bool
@@ -73,7 +72,7 @@ module _ (c : Circuit) (w : IsCircuit c) (f g : Fault) (ff : IsFaultOf c f) (gg 
 
   some_holds : is_satisfied_by bits some_difference ≡ true
   unfolding raw_clauses
-  some_holds = (and_both (is_satisfied_by bits some_difference) true (model_parts bits (line_part ++ difference_part) (some_difference ∷ []) model).1).0
+  some_holds = (and_parts (is_satisfied_by bits some_difference) true (model_parts bits (line_part ++ difference_part) (some_difference ∷ []) model).1).0
 
   module _ (line : ℕ) (inside : line < line_count c) (relevant : is_relevant c f g line ≡ true) where
     first_clauses : is_model bits (copy_clauses c f g first_copy line) ≡ true

@@ -2,39 +2,27 @@
 use Rattle.std.proofs.Common.{◌≡◌, ◌≢◌, ◌⊎◌, refl, sym, ◌∙◌, ap, subst, inl, inr, eqb-true, eq-eqb, ◌-◌}
 use Rattle.std.specs.Prelude.{Bool, true, false, not, List, [], ◌∷◌, map, filter, cond, ◌||◌, ◌&&◌, ◌==◌, Contains, if◌then◌else◌}
 use Rattle.std.specs.Bool.{beq}
+use Rattle.std.specs.Cmp.{booleans_Decides}
+use Rattle.std.proofs.lemmas.Bool.{and_parts}
 use Rattle.clause_pool.specs.Literal.{Literal, opposite, same_literal}
 use Rattle.clause_pool.specs.Clauses.{Clause}
 use Rattle.clause_pool.specs.Partial.{IsQuiet}
 use Rattle.net_model.specs.Answer.{bit_at}
+use Rattle.net_model.proofs.Elements.{any_from, passing}
 use Rattle.pair_miter.specs.Miter.{has_literal, without_repeats, is_tautology, tidy, literal_bit, is_satisfied_by, is_model}
-use Rattle.pair_miter.proofs.Elements.{any_from, passing}
 use Rattle.pair_miter.specs.Fresh.{IsFresh}
 
 -- ---- literals
 
-and_both : (a b : Bool) → (a && b) ≡ true → (a ≡ true) × (b ≡ true)
-and_both true b e = (refl, e)
-and_both false b e = cc
-
-same_bool : (a b : Bool) → beq a b ≡ true → a ≡ b
-same_bool true true e = refl
-same_bool true false e = cc
-same_bool false true e = cc
-same_bool false false e = refl
-
 same_is : (l m : Literal) → same_literal l m ≡ true → l ≡ m
 same_is l m e =
-    let both = and_both (l.variable == m.variable) (beq l.positive m.positive) e in
+    let both = and_parts (l.variable == m.variable) (beq l.positive m.positive) e in
     let variables : l.variable ≡ m.variable = eqb-true l.variable m.variable both.0 in
-    let signs : l.positive ≡ m.positive = same_bool l.positive m.positive both.1 in
+    let signs : l.positive ≡ m.positive = (booleans_Decides l.positive m.positive).0 both.1 in
     λ i. record { variable = variables i; positive = signs i }
 
-same_bool-same : (a : Bool) → beq a a ≡ true
-same_bool-same true = refl
-same_bool-same false = refl
-
 same_literal-same : (l m : Literal) → l ≡ m → same_literal l m ≡ true
-same_literal-same l m e = subst (λ n. same_literal l n ≡ true) e (rw (eq-eqb l.variable l.variable refl) (same_bool-same l.positive))
+same_literal-same l m e = subst (λ n. same_literal l n ≡ true) e (rw (eq-eqb l.variable l.variable refl) ((booleans_Decides l.positive l.positive).1 refl))
 
 literal_cases : (l m : Literal) → (l ≡ m) ⊎ (l ≢ m)
 literal_cases l m = by (same_literal l m) refl

@@ -1,15 +1,15 @@
 -- The sets cover the real pairs: for each vector of the cube, the pair of a line's bits under the two faults is in the line's set.
-use Rattle.std.proofs.Common.{◌≡◌, ℕ, zero, suc, ◌+◌, ◌<◌, refl, sym, ◌∙◌, ap, arith, subst, eqb-true, get_or, length}
+use Rattle.std.proofs.Common.{◌≡◌, ℕ, zero, suc, ◌<◌, refl, sym, ◌∙◌, ap, arith, subst, eqb-true, get_or, length}
 use Rattle.std.specs.Prelude.{Bool, true, false, List, [], ◌∷◌, map, find, Option, None, Some, option_map, unwrap_or, ◌==◌, cond, Contains}
 use Rattle.std.specs.Option.{option_map_or}
-use Rattle.std.specs.List.{enumerate_from, AllZip}
+use Rattle.std.specs.List.{AllZip}
 use Rattle.net_model.specs.declared.gate.Gate.{Gate}
 use Rattle.net_model.specs.declared.fault.Fault.{Fault}
 use Rattle.net_model.specs.Gate.{gate_value}
 use Rattle.net_model.specs.Circuit.{Circuit, IsCircuit, line_count, gate_at}
 use Rattle.net_model.specs.Fault.{stuck_stem, stuck_pin, stuck_position, readings}
 use Rattle.net_model.specs.Answer.{bit_at, seen_bits, driven_bit, line_bit, Agrees, shown_bits}
-use Rattle.net_model.proofs.Copies.{pins_inside}
+use Rattle.net_model.proofs.Copies.{pins_inside, map-readings}
 use Rattle.fault_list.proofs.Pair.{at_reading}
 use Rattle.pair_sets.specs.declared.pair_set.PairSet.{PairSet}
 use Rattle.pair_sets.specs.Cube.{Cube, fixed_bit, InCube}
@@ -19,14 +19,6 @@ use Rattle.pair_sets.proofs.PairLemmas.{Has, forced_from, gate_from}
 use Rattle.pair_sets.proofs.SeenLemmas.{pin_set, zip-readings}
 
 -- ---- readings
-
-map-from : {A B : Type 0} (h : A → B) (read : ℕ → ℕ → A) (n : ℕ) (lines : List ℕ) → map h (map (λ x. read x.0 x.1) (enumerate_from n lines)) ≡ map (λ x. h (read x.0 x.1)) (enumerate_from n lines)
-map-from h read n [] = refl
-map-from h read n (line ∷ lines) = λ i. h (read n line) ∷ map-from h read (n + 1) lines i
-
-map-readings : {A B : Type 0} (h : A → B) (read : ℕ → ℕ → A) (lines : List ℕ) → map h (readings read lines) ≡ readings (λ place line. h (read place line)) lines
-unfolding readings
-map-readings h read lines = map-from h read 0 lines
 
 -- ---- sources
 

@@ -3,7 +3,7 @@ use Rattle.std.proofs.Common.{◌≡◌, ℕ, zero, suc, ◌+◌, ◌<◌, refl,
 use Rattle.std.specs.Prelude.{Bool, true, false, not, List, [], ◌∷◌, map, Option, None, Some, ◌||◌, ◌⊎◌, Contains, IsTrue, IsSome}
 use Rattle.std.specs.Option.{option_map_or}
 use Rattle.std.specs.List.{enumerate_from, AllZip}
-use Rattle.std.proofs.lemmas.Bool.{cases_lt, false≢true}
+use Rattle.std.proofs.lemmas.Bool.{false≢true}
 use Rattle.std.proofs.lemmas.List.{ext_get_or}
 use Rattle.net_model.specs.declared.gate.Gate.{Gate}
 use Rattle.net_model.specs.declared.gate.Kind.{Kind}
@@ -12,6 +12,8 @@ use Rattle.net_model.specs.Circuit.{Circuit, IsCircuit, line_count, gate_at}
 use Rattle.net_model.specs.Fault.{stuck_stem, stuck_pin, stuck_position, readings}
 use Rattle.net_model.specs.Scope.{is_relevant, reached_positions}
 use Rattle.net_model.proofs.Copies.{later, pins_inside}
+use Rattle.net_model.proofs.Relevance.{listed_reached, relevant_back, relevant_shown}
+use Rattle.net_model.proofs.SetSoFar.{undriven_is_source}
 use Rattle.pair_sets.specs.declared.pair_set.PairSet.{PairSet}
 use Rattle.pair_sets.specs.declared.state.PairState.{PairState}
 use Rattle.pair_sets.specs.declared.state.PairState.TheVariants.{Undecided}
@@ -19,9 +21,8 @@ use Rattle.pair_sets.specs.Cube.{Cube, fixed_bit}
 use Rattle.pair_sets.specs.PairSet.{Pair, forced_pairs, gate_pairs, free_pairs, fixed_pairs, only_equal, only_unequal}
 use Rattle.pair_sets.specs.CubeState.{set_at, seen_pairs, source_pairs, line_pairs, ArePairSets, position_pairs, state_of, IsState}
 use Rattle.pair_sets.proofs.PairLemmas.{Has, forced_pair, forced_from, forced_is, value_pair, gate_from, gate_is}
-use Rattle.pair_sets.proofs.SeenLemmas.{pin_set, same_line_pairs, gate_is_at}
-use Rattle.pair_sets.proofs.StateLemmas.{not_all, none_found, undecided_is, reached_is}
-use Rattle.pair_sets.proofs.RelevantLemmas.{relevant_back, relevant_shown}
+use Rattle.pair_sets.proofs.SeenLemmas.{pin_set, same_line_pairs}
+use Rattle.pair_sets.proofs.StateLemmas.{not_all, none_found, undecided_is}
 
 -- ---- sets of one pair
 
@@ -110,15 +111,6 @@ module _ (c : Circuit) (f g : Fault) (cube : Cube) (sets : List PairSet) (w : Is
       let each = ones (pin_set f g sets line) gate.pins (λ place read m. one_forced (stuck_pin f line place) (stuck_pin g line place) (set_at sets read) (h read m)) in
       one_gate gate.kind (seen_pairs f g sets line gate.pins) each.0 each.1
 
-  is_source : (line : ℕ) → line < line_count c → gate_at c line ≡ None → line < c.sources
-  is_source line h e = elim (cases_lt line c.sources) [
-    | inl under ↦ under
-    | inr over ↦
-        let gate = gate_is_at c line over h in
-        let clash : ◌≡◌ {A = Option Gate} None (Some gate.0) = sym e ∙ gate.1 in
-        cc
-  ]
-
   one_below : (n line : ℕ) → w.acyclic.rank line < n → line < line_count c → is_relevant c f g line ≡ true → HasOne (set_at sets line)
   unfolding line_pairs
   one_below zero line h l t = absurd (omega arith)
@@ -126,15 +118,16 @@ module _ (c : Circuit) (f g : Fault) (cube : Cube) (sets : List PairSet) (w : Is
       subst HasOne (sym (are.each line l))
       (one_forced (stuck_stem f line) (stuck_stem g line) (option_map_or (λ gate. gate_pairs gate.kind (seen_pairs f g sets line gate.pins)) (gate_at c line) (source_pairs cube line))
       (one_driven line (gate_at c line) refl
-      (λ e. one_source line (fixed line (is_source line l e) t))
-      (λ read m. one_below n read (let lower : w.acyclic.rank read < w.acyclic.rank line = w.acyclic.rises read line m in omega arith) (pins_inside c w line read m) (relevant_back c w.acyclic f g read line m t))))
+      (λ e. one_source line (fixed line (undriven_is_source c line l e) t))
+      (λ read m. one_below n read (let lower : w.acyclic.rank read < w.acyclic.rank line = w.acyclic.rises read line m in omega arith) (pins_inside c w line read m) (relevant_back c f g w.acyclic read line m t))))
 
   one_position : (at : ℕ) → Contains (reached_positions c f g) at → HasOne (position_pairs c f g sets at)
   unfolding position_pairs
   one_position at m =
       let line = get_or c.positions at 0 in
-      let inside : line < line_count c = w.positions at 0 (reached_is c f g at m).0 in
-      one_forced (stuck_position f at) (stuck_position g at) (set_at sets line) (one_below (suc (w.acyclic.rank line)) line (omega arith) inside (relevant_shown c f g at m))
+      let reached = listed_reached c f g at m in
+      let inside : line < line_count c = w.positions at 0 reached.0 in
+      one_forced (stuck_position f at) (stuck_position g at) (set_at sets line) (one_below (suc (w.acyclic.rank line)) line (omega arith) inside (relevant_shown c f g at reached.0 reached.1))
 
 -- a set of one pair has equal pairs alone or unequal pairs alone
 both_false : (s : PairSet) (p : Pair) → IsOnly s p → only_equal s ≡ false → only_unequal s ≡ false → ⊥

@@ -1,13 +1,14 @@
 -- Lines that are settled: after one event, and once no gate waits.
 use Rattle.std.proofs.Common.{◌≡◌, ◌≢◌, ℕ, ◌^◌, ◌<◌, ◌≤◌, List, [], length, get_or, set, refl, sym, ◌∙◌, ap, subst, arith, inl, inr}
 use Rattle.std.specs.Prelude.{Bool, true, false}
-use Rattle.std.proofs.lemmas.Bool.{cases_eq, cases_lt, false≢true}
+use Rattle.std.proofs.lemmas.Bool.{cases_eq, cases_lt, false≢true, false_from_ne_true}
 use Rattle.std.proofs.lemmas.List.{get_or-set_same, get_or-set_other, get_or_default, get_or_past}
 use Rattle.std.proofs.lemmas.Option.{slice_get-get_or}
 use Rattle.net_model.specs.declared.fault.Fault.{Fault}
 use Rattle.net_model.specs.Circuit.{Circuit, IsCircuit, line_count, Feeds}
 use Rattle.net_model.proofs.Orders.{order_has, order_only, order_count, reader_is_gate}
 use Rattle.net_model.proofs.SetSoFar.{fits_from}
+use Rattle.net_model.proofs.Elements.{true_false}
 use Rattle.pair_sets.specs.declared.pair_set.PairSet.{PairSet}
 use Rattle.pair_sets.specs.declared.wiring.Wiring.{Wiring}
 use Rattle.pair_sets.specs.PairSet.{free_pairs, IsWithin}
@@ -20,17 +21,10 @@ use Rattle.pair_sets.proofs.SeenLemmas.{same_line_pairs, fewer_line_pairs}
 
 -- ---- bits and pending numbers
 
-pub not_both : (b : Bool) → b ≡ true → b ≡ false → ⊥
-not_both b t f = false≢true (sym f ∙ t)
-
-pub is_false : (b : Bool) → (b ≡ true → ⊥) → b ≡ false
-is_false true h = absurd (h refl)
-is_false false h = refl
-
 pub pending_within : (queue : List Bool) (n : ℕ) → is_pending queue n ≡ true → n < length queue
 pending_within queue n t = elim (cases_lt n (length queue)) [
   | inl under ↦ under
-  | inr over ↦ absurd (not_both (is_pending queue n) t (get_or_past queue n false over))
+  | inr over ↦ true_false (is_pending queue n) t (get_or_past queue n false over)
 ]
 
 pub lowest_left : (old new : List Bool) (low : ℕ) → IsLowest old new low → (n : ℕ) → is_pending new n ≡ true → (low < n) × (is_pending old n ≡ true)
@@ -92,7 +86,7 @@ module _ (c : Circuit) (f g : Fault) (w : IsCircuit c) (sets : List PairSet) (li
         let found = order_has c (fits_from c w) order wired.order l gate.0 gate.1 in
         let place = found.0 in
         let there : get_or order place 0 ≡ l = get_or_default order place 0 l found.1 ∙ found.2 in
-        not_both (is_pending more place) (woken place found.1 (subst (Feeds c line) (sym there) feeds)) (idle place found.1 there)
+        true_false (is_pending more place) (woken place found.1 (subst (Feeds c line) (sym there) feeds)) (idle place found.1 there)
 
     -- what a line that doesn't wait reads has stayed, or is the line itself
     reads_stay : WakesReaders c wiring.order.items line (set_at sets line) pairs queue more → (l : ℕ) → IsIdle wiring.order.items more l → (read : ℕ) → Feeds c read l → set_at sets read ≡ set_at (set sets line pairs) read
@@ -117,7 +111,7 @@ module _ (c : Circuit) (f g : Fault) (w : IsCircuit c) (sets : List PairSet) (li
               subst P (sym same) (here ∙ right (subst (λ n. c.sources ≤ n) same above)
               ∙ same_line_pairs c f g [] sets new line (λ read m. sym (other read (not_own line read refl m))))
           | inr ne ↦
-              let was_idle : IsIdle wiring.order.items queue l = λ place h e. is_false (is_pending queue place) (λ t. not_both (is_pending more place) (wakes.kept place t) (idle place h e)) in
+              let was_idle : IsIdle wiring.order.items queue l = λ place h e. false_from_ne_true (is_pending queue place) (λ t. true_false (is_pending more place) (wakes.kept place t) (idle place h e)) in
               other l ne ∙ settled l above below ne was_idle ∙ same_line_pairs c f g [] sets new l (reads_stay wakes l idle)
         ]
 

@@ -5,13 +5,16 @@ use Rattle.std.specs.Bool.{beq}
 use Rattle.std.specs.List.{AllZip}
 use Rattle.std.proofs.lemmas.Bool.Decides.{nat_tests}
 use Rattle.std.proofs.lemmas.List.Sums.{sum_by-cons}
+use Rattle.std.proofs.Math.Bool.{and-true, or-false}
+use Rattle.std.specs.Cmp.{booleans_Decides}
+use Rattle.std.proofs.lemmas.Bool.{and_from, and_parts}
 use Rattle.net_model.specs.declared.gate.Kind.{Kind}
 use Rattle.net_model.specs.declared.gate.Kind.TheVariants.{And, Or, Xor, Not, Buff}
 use Rattle.net_model.specs.Gate.{gate_value, odd_ones}
 use Rattle.pair_sets.specs.declared.pair_set.PairSet.{PairSet}
 use Rattle.pair_sets.specs.PairSet.{Pair, forced_pairs, gate_pairs, some_pair, fixed_pairs, IsWithin}
 use Rattle.pair_sets.specs.Trail.{pair_count}
-use Rattle.pair_sets.proofs.PairLemmas.{Has, same_set, both_true, same_bit, beq_same, value_pair, gate_from, gate_is, forced_pair, forced_from, forced_is}
+use Rattle.pair_sets.proofs.PairLemmas.{Has, same_set, value_pair, gate_from, gate_is, forced_pair, forced_from, forced_is}
 
 -- ---- a gate of many pins is a gate of two, again and again
 
@@ -43,14 +46,6 @@ module _ (kind : Kind) (op : Bool → Bool → Bool) (more : (b : Bool) (bits : 
         (λ p h. let found = gate_is kind (s ∷ sets) p h in splits p found.0 found.1 found.2)
         (λ p h. let found = gate_is kind (s ∷ gate_pairs kind sets ∷ []) p h in joins p found.0 found.1 found.2)
 
-and_true : (b : Bool) → (b && true) ≡ b
-and_true true = refl
-and_true false = refl
-
-or_false : (b : Bool) → (b || false) ≡ b
-or_false true = refl
-or_false false = refl
-
 next_odd : (n : ℕ) → ((n + 1) % 2 == 1) ≡ not (n % 2 == 1)
 next_odd n = grind (arith, nat_tests)
 
@@ -63,10 +58,10 @@ odd_one true = refl
 odd_one false = refl
 
 pub and_more : (s : PairSet) (sets : List PairSet) → gate_pairs And (s ∷ sets) ≡ gate_pairs And (s ∷ gate_pairs And sets ∷ [])
-and_more = pin_by_pin And (λ a b. a && b) (λ b bits. refl) and_true
+and_more = pin_by_pin And (λ a b. a && b) (λ b bits. refl) and-true
 
 pub or_more : (s : PairSet) (sets : List PairSet) → gate_pairs Or (s ∷ sets) ≡ gate_pairs Or (s ∷ gate_pairs Or sets ∷ [])
-or_more = pin_by_pin Or (λ a b. a || b) (λ b bits. refl) or_false
+or_more = pin_by_pin Or (λ a b. a || b) (λ b bits. refl) or-false
 
 pub xor_more : (s : PairSet) (sets : List PairSet) → gate_pairs Xor (s ∷ sets) ≡ gate_pairs Xor (s ∷ gate_pairs Xor sets ∷ [])
 xor_more = pin_by_pin Xor (λ a b. if a then not b else b) odd_more odd_one
@@ -107,8 +102,8 @@ abbrev every_bit : (Bool → Bool) → Bool
 every_bit test = test false && test true
 
 at_bit : (test : Bool → Bool) → every_bit test ≡ true → (b : Bool) → test b ≡ true
-at_bit test e false = (both_true (test false) (test true) e).0
-at_bit test e true = (both_true (test false) (test true) e).1
+at_bit test e false = (and_parts (test false) (test true) e).0
+at_bit test e true = (and_parts (test false) (test true) e).1
 
 abbrev set_with : Bool → Bool → Bool → Bool → PairSet
 set_with a b c d = record { both_zero = a; zero_one = b; one_zero = c; both_one = d }
@@ -128,18 +123,18 @@ same_sets s t = beq s.both_zero t.both_zero && (beq s.zero_one t.zero_one && (be
 
 pub same_sets_are : (s t : PairSet) → same_sets s t ≡ true → s ≡ t
 same_sets_are s t e =
-    let first = both_true (beq s.both_zero t.both_zero) (beq s.zero_one t.zero_one && (beq s.one_zero t.one_zero && beq s.both_one t.both_one)) e in
-    let second = both_true (beq s.zero_one t.zero_one) (beq s.one_zero t.one_zero && beq s.both_one t.both_one) first.1 in
-    let third = both_true (beq s.one_zero t.one_zero) (beq s.both_one t.both_one) second.1 in
+    let first = and_parts (beq s.both_zero t.both_zero) (beq s.zero_one t.zero_one && (beq s.one_zero t.one_zero && beq s.both_one t.both_one)) e in
+    let second = and_parts (beq s.zero_one t.zero_one) (beq s.one_zero t.one_zero && beq s.both_one t.both_one) first.1 in
+    let third = and_parts (beq s.one_zero t.one_zero) (beq s.both_one t.both_one) second.1 in
     λ i. record {
-      both_zero = same_bit s.both_zero t.both_zero first.0 i;
-      zero_one = same_bit s.zero_one t.zero_one second.0 i;
-      one_zero = same_bit s.one_zero t.one_zero third.0 i;
-      both_one = same_bit s.both_one t.both_one third.1 i;
+      both_zero = (booleans_Decides s.both_zero t.both_zero).0 first.0 i;
+      zero_one = (booleans_Decides s.zero_one t.zero_one).0 second.0 i;
+      one_zero = (booleans_Decides s.one_zero t.one_zero).0 third.0 i;
+      both_one = (booleans_Decides s.both_one t.both_one).0 third.1 i;
     }
 
 pub same_sets_same : (s : PairSet) → same_sets s s ≡ true
-same_sets_same s = rw (beq_same s.both_zero, beq_same s.zero_one, beq_same s.one_zero, beq_same s.both_one) refl
+same_sets_same s = rw ((booleans_Decides s.both_zero s.both_zero).1 refl, (booleans_Decides s.zero_one s.zero_one).1 refl, (booleans_Decides s.one_zero s.one_zero).1 refl, (booleans_Decides s.both_one s.both_one).1 refl) refl
 
 abbrev pub and_set : PairSet → PairSet → PairSet
 and_set s t = record {
@@ -265,9 +260,6 @@ fewer_table = refl
 implied : (a b : Bool) → (a ≡ true → b ≡ true) → (not a || b) ≡ true
 implied true b h = h refl
 implied false b h = refl
-
-and_from : (a b : Bool) → a ≡ true → b ≡ true → (a && b) ≡ true
-and_from a b e d = rw (e, d) refl
 
 is_within_test : (s t : PairSet) → IsWithin s t → within_test s t ≡ true
 is_within_test s t w =

@@ -3,8 +3,7 @@ use Rattle.std.proofs.Common.{◌≡◌, ◌≢◌, ℕ, ◌<◌, ◌≤◌, Lis
 use Rattle.std.specs.Prelude.{Bool, true, false, Option, None, Some, option_map, find, cond, ◌==◌, ◌||◌, All, Contains, filter, reverse, vec_capacity, if◌then◌else◌}
 use Rattle.std.specs.Option.{option_map_or}
 use Rattle.std.specs.List.{list_any, list_all, AllByRecursion, IsDistinct, range_with_len}
-use Rattle.std.proofs.lemmas.Bool.{cases_eq, cases_lt, false≢true}
-use Rattle.std.proofs.lemmas.Bool.Decides.{nat_tests}
+use Rattle.std.proofs.lemmas.Bool.{cases_eq, cases_lt, false≢true, ne_eqb}
 use Rattle.std.proofs.lemmas.List.{get_or-set_same, get_or-set_other, length-map, take_at, drop_at}
 use Rattle.std.proofs.lemmas.List.Elements.{Contains-get_or}
 use Rattle.std.proofs.lemmas.Map.Steps.{length-le_from_distinct_below}
@@ -13,6 +12,7 @@ use Rattle.net_model.specs.Circuit.{Circuit, line_count}
 use Rattle.net_model.specs.Fault.{stuck_stem}
 use Rattle.net_model.specs.Scope.{is_reached, reached_positions}
 use Rattle.net_model.proofs.Orders.{range-within}
+use Rattle.net_model.proofs.Elements.{Contains-from_filter}
 use Rattle.pair_sets.specs.declared.pair_set.PairSet.{PairSet}
 use Rattle.pair_sets.specs.declared.sim.Level.{Level}
 use Rattle.pair_sets.specs.declared.sim.PairSim.TheInside.{Inside}
@@ -26,13 +26,8 @@ use Rattle.pair_sets.specs.Pending.{IsEmpty}
 use Rattle.pair_sets.specs.Trail.{undone}
 use Rattle.pair_sets.specs.Events.{AreSettled, AreLoose, gate_line_pairs}
 use Rattle.pair_sets.specs.PairSimFields.{cube_of, IsLevelRight, AreLevels, IsReady}
-use Rattle.pair_sets.proofs.PairLemmas.{filter_is, within_same, within_forced}
+use Rattle.pair_sets.proofs.PairLemmas.{within_same, within_forced}
 use Rattle.pair_sets.proofs.SeenLemmas.{source_line_pairs, any_cube}
-
--- ---- tests
-
-no_test : (m n : ℕ) → m ≢ n → (m == n) ≡ false
-no_test m n ne = grind (arith, nat_tests)
 
 -- ---- sources
 
@@ -41,7 +36,7 @@ module _ (source : ℕ) (bit : Bool) (cube : Cube) where
   fixed_here = ap (λ b. option_map_or fixed_pairs (option_map (λ (fixed : ℕ × Bool). fixed.1) (cond b (Some (source, bit)) (find (λ fixed. fixed.0 == source) cube))) free_pairs) (eq-eqb source source refl)
 
   pub fixed_other : (line : ℕ) → line ≢ source → source_pairs ((source, bit) ∷ cube) line ≡ source_pairs cube line
-  fixed_other line ne = ap (λ b. option_map_or fixed_pairs (option_map (λ (fixed : ℕ × Bool). fixed.1) (cond b (Some (source, bit)) (find (λ fixed. fixed.0 == line) cube))) free_pairs) (no_test source line (λ e. ne (sym e)))
+  fixed_other line ne = ap (λ b. option_map_or fixed_pairs (option_map (λ (fixed : ℕ × Bool). fixed.1) (cond b (Some (source, bit)) (find (λ fixed. fixed.0 == line) cube))) free_pairs) (ne_eqb source line (λ e. ne (sym e)))
 
 fixed_is_free : (bit : Bool) → IsWithin (fixed_pairs bit) free_pairs
 fixed_is_free bit false false h = refl
@@ -121,7 +116,7 @@ module _ (c : Circuit) (f g : Fault) (room : ℕ) where
       by : (b : Bool) → (level.source == source) ≡ b → option_map (λ (fixed : ℕ × Bool). fixed.1) (cond b (Some (level.source, level.bit)) (find (λ fixed. fixed.0 == source) (cube_of levels))) ≡ None
           → (fixed_bit (cube_of levels) source ≡ None → AllByRecursion (λ other. eqb source other ≡ false) (map source_of levels)) → (eqb source level.source ≡ false) × AllByRecursion (λ other. eqb source other ≡ false) (map source_of levels)
       by true t e rest = cc
-      by false t e rest = (no_test source level.source (λ same. false≢true (sym t ∙ eq-eqb level.source source (sym same))), rest e)
+      by false t e rest = (ne_eqb source level.source (λ same. false≢true (sym t ∙ eq-eqb level.source source (sym same))), rest e)
 
   sources_apart : (levels : List Level) (changes : List Change) (sets : List PairSet) → AreLevels c f g room levels changes sets → IsDistinct eqb (map source_of levels)
   unfolding source_of IsDistinct
@@ -131,7 +126,7 @@ module _ (c : Circuit) (f g : Fault) (room : ℕ) where
   one_of : (n source : ℕ) (sources : List ℕ) → source < n → ((q : ℕ) → list_any (eqb q) sources ≡ true → q < n) → (q : ℕ) → list_any (eqb q) (source ∷ sources) ≡ true → q < n
   one_of n source sources h rest q t = elim (cases_eq q source) [
     | inl same ↦ subst (λ k. k < n) (sym same) h
-    | inr ne ↦ rest q (ap (λ b. b || list_any (eqb q) sources) (sym (no_test q source ne)) ∙ t)
+    | inr ne ↦ rest q (ap (λ b. b || list_any (eqb q) sources) (sym (ne_eqb q source ne)) ∙ t)
   ]
 
   sources_below : (levels : List Level) (changes : List Change) (sets : List PairSet) → AreLevels c f g room levels changes sets → (q : ℕ) → list_any (eqb q) (map source_of levels) ≡ true → q < c.sources
@@ -155,7 +150,7 @@ pub reached_within : (c : Circuit) (f g : Fault) (reached : List ℕ) → reache
 unfolding reached_positions
 reached_within c f g reached e = λ k d h.
     let has : Contains (filter (is_reached c f g) (range_with_len 0 (length c.positions))) (get_or reached k d) = subst (λ xs. Contains xs (get_or reached k d)) e (Contains-get_or reached k d h) in
-    omega (arith, (range-within 0 (length c.positions) (get_or reached k d) (filter_is (is_reached c f g) (range_with_len 0 (length c.positions)) (get_or reached k d) has).0).1)
+    omega (arith, (range-within 0 (length c.positions) (get_or reached k d) (Contains-from_filter (is_reached c f g) (range_with_len 0 (length c.positions)) (get_or reached k d) has).0).1)
 
 module _ (c : Circuit) (f g : Fault) (sets : List PairSet) (reached : List ℕ) (are : reached ≡ reached_positions c f g) where
   pub state_same : list_all (λ at. only_equal (position_pairs c f g sets at)) reached ≡ true → AllSame ≡ state_of c f g sets

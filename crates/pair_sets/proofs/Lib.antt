@@ -7,7 +7,6 @@ pub mod EventLemmas
 pub mod LevelLemmas
 pub mod Coverage
 pub mod StateLemmas
-pub mod RelevantLemmas
 pub mod DecidedLemmas
 pub mod Opened
 pub mod Examples

@@ -1,6 +1,6 @@
 -- What the pins of a gate see, and how that follows what they read.
 use Rattle.std.proofs.Common.{◌≡◌, ℕ, zero, suc, ◌+◌, ◌-◌, ◌<◌, ◌≤◌, refl, sym, ◌∙◌, ap, arith, drop, length, get_or}
-use Rattle.std.specs.Prelude.{true, false, List, [], ◌∷◌, map, Option, None, Some, nat_lt, slice_get, Contains}
+use Rattle.std.specs.Prelude.{false, List, [], ◌∷◌, map, Option, None, Some, nat_lt, slice_get, Contains}
 use Rattle.std.specs.Option.{option_map_or}
 use Rattle.std.specs.List.{enumerate_from, AllZip}
 use Rattle.std.proofs.lemmas.Bool.Decides.{nat_tests}
@@ -12,6 +12,7 @@ use Rattle.net_model.specs.declared.fault.Fault.{Fault}
 use Rattle.net_model.specs.Circuit.{Circuit, line_count, gate_at, Feeds}
 use Rattle.net_model.specs.Fault.{stuck_stem, stuck_pin, readings}
 use Rattle.net_model.proofs.Copies.{later, same_readings}
+use Rattle.net_model.proofs.SetSoFar.{gate_at-source}
 use Rattle.pair_sets.specs.declared.pair_set.PairSet.{PairSet}
 use Rattle.pair_sets.specs.Cube.{Cube}
 use Rattle.pair_sets.specs.PairSet.{forced_pairs, gate_pairs, IsWithin}
@@ -90,13 +91,10 @@ module _ (c : Circuit) (f g : Fault) (cube : Cube) (x y : List PairSet) (line : 
 
 -- ---- sources and gates
 
-pub no_gate : (c : Circuit) (line : ℕ) → line < c.sources → gate_at c line ≡ None
-no_gate c line h = let test : nat_lt line c.sources ≡ true = grind (arith, nat_tests) in rw test refl
-
 pub source_line_pairs : (c : Circuit) (f g : Fault) (cube : Cube) (sets : List PairSet) (line : ℕ) → line < c.sources
     → line_pairs c f g cube sets line ≡ forced_pairs (stuck_stem f line) (stuck_stem g line) (source_pairs cube line)
 unfolding line_pairs
-source_line_pairs c f g cube sets line h = ap (λ o. forced_pairs (stuck_stem f line) (stuck_stem g line) (option_map_or (λ gate. gate_pairs gate.kind (seen_pairs f g sets line gate.pins)) o (source_pairs cube line))) (no_gate c line h)
+source_line_pairs c f g cube sets line h = ap (λ o. forced_pairs (stuck_stem f line) (stuck_stem g line) (option_map_or (λ gate. gate_pairs gate.kind (seen_pairs f g sets line gate.pins)) o (source_pairs cube line))) (gate_at-source c line h)
 
 pub gate_is_at : (c : Circuit) (line : ℕ) → c.sources ≤ line → line < line_count c → (gate : Gate) × (gate_at c line ≡ Some gate)
 gate_is_at c line above below =

@@ -2,7 +2,7 @@
 use Rattle.std.proofs.Common.{◌≡◌, ◌≢◌, ℕ, zero, suc, ◌<◌, refl, sym, ◌∙◌, ap, arith, subst, length}
 use Rattle.std.specs.Prelude.{Bool, true, false, not, List, [], ◌∷◌, find, Option, None, Some, cond, ◌||◌, ◌&&◌, Contains, if◌then◌else◌}
 use Rattle.std.specs.Option.{option_map_or}
-use Rattle.std.specs.List.{list_all, range_with_len}
+use Rattle.std.specs.List.{list_all}
 use Rattle.std.proofs.lemmas.Bool.{false≢true}
 use Rattle.net_model.specs.declared.fault.Fault.{Fault}
 use Rattle.net_model.specs.Circuit.{Circuit, IsCircuit}
@@ -11,8 +11,9 @@ use Rattle.net_model.specs.Answer.{bit_at, IsAnswer, shown_bits}
 use Rattle.net_model.specs.Scope.{is_reached, reached_positions}
 use Rattle.net_model.proofs.Copies.{later, same_bits_same_list}
 use Rattle.net_model.proofs.Evaluation.{Agrees-exists}
-use Rattle.net_model.proofs.Orders.{Contains-range, range-within}
 use Rattle.net_model.proofs.Seen.{length-seen_bits}
+use Rattle.net_model.proofs.Relevance.{reached_listed, listed_reached}
+use Rattle.net_model.proofs.Elements.{none_in, all_parts}
 use Rattle.fault_list.proofs.Pair.{same_unreached}
 use Rattle.pair_sets.specs.declared.pair_set.PairSet.{PairSet}
 use Rattle.pair_sets.specs.declared.state.PairState.{PairState}
@@ -21,15 +22,9 @@ use Rattle.pair_sets.specs.Cube.{Cube, InCube, IsClosed}
 use Rattle.pair_sets.specs.PairSet.{has_pair, only_equal, only_unequal}
 use Rattle.pair_sets.specs.CubeState.{position_pairs, state_of, IsState}
 use Rattle.pair_sets.specs.Laws.{DifferAt, IsApart}
-use Rattle.pair_sets.proofs.PairLemmas.{both_true, none_in, filter_from, filter_is}
 use Rattle.pair_sets.proofs.Coverage.{covered_position}
 
 -- ---- tests of lists
-
-pub all_at : {A : Type 0} (test : A → Bool) (xs : List A) → list_all test xs ≡ true → (x : A) → Contains xs x → test x ≡ true
-all_at test [] e x m = absurd (none_in x m)
-all_at test (y ∷ ys) e x (zero, h, at) = ap test (sym at) ∙ (both_true (test y) (list_all test ys) e).0
-all_at test (y ∷ ys) e x (suc k, h, at) = all_at test ys (both_true (test y) (list_all test ys) e).1 x (k, omega (arith, h), at)
 
 pub not_all : {A : Type 0} (test : A → Bool) (xs : List A) → list_all test xs ≡ false → (x : A) × Contains xs x × (test x ≡ false)
 not_all test [] e = cc
@@ -96,16 +91,6 @@ module _ (c : Circuit) (f g : Fault) (sets : List PairSet) where
   unfolding state_of
   undecided_is e = from_undecided (list_all equal_at (reached_positions c f g)) (find unequal_at (reached_positions c f g)) e
 
-pub reached_from : (c : Circuit) (f g : Fault) (at : ℕ) → at < length c.positions → is_reached c f g at ≡ true → Contains (reached_positions c f g) at
-unfolding reached_positions
-reached_from c f g at h t = filter_from (is_reached c f g) (range_with_len 0 (length c.positions)) at (Contains-range 0 (length c.positions) at (omega arith) (omega (arith, h))) t
-
-pub reached_is : (c : Circuit) (f g : Fault) (at : ℕ) → Contains (reached_positions c f g) at → (at < length c.positions) × (is_reached c f g at ≡ true)
-unfolding reached_positions
-reached_is c f g at m =
-    let found = filter_is (is_reached c f g) (range_with_len 0 (length c.positions)) at m in
-    (omega (arith, (range-within 0 (length c.positions) at found.0).1), found.1)
-
 -- ---- equal and unequal pairs
 
 equal_pair : (s : PairSet) (a b : Bool) → only_equal s ≡ true → has_pair s a b ≡ true → a ≡ b
@@ -146,14 +131,14 @@ same_closed c f g cube w state v first second width inside p q =
         → bit_at (shown_bits c f p.bits) at ≡ bit_at (shown_bits c g q.bits) at
     by_reach at h true t all =
         equal_pair (position_pairs c f g state.sets at) (bit_at (shown_bits c f p.bits) at) (bit_at (shown_bits c g q.bits) at)
-        (all_at (λ k. only_equal (position_pairs c f g state.sets k)) (reached_positions c f g) all at (reached_from c f g at h t))
+        (all_parts (λ k. only_equal (position_pairs c f g state.sets k)) (reached_positions c f g) all at (reached_listed c f g at h t))
         (covered_position c f g cube v p.bits q.bits state.sets inside w p.agrees q.agrees state.are at h)
     by_reach at h false t all = same_unreached c w f g v p.bits q.bits p.agrees q.agrees at h t
 
 pub apart_differs : (c : Circuit) (f g : Fault) (cube : Cube) (v : List Bool) (at : ℕ) → IsCircuit c → IsState c f g cube (Apart at) → InCube cube v → IsApart c f g v at
 apart_differs c f g cube v at w state inside =
     let found = found_at (λ k. only_unequal (position_pairs c f g state.sets k)) (reached_positions c f g) at (apart_is c f g state.sets at state.is) in
-    let reached = reached_is c f g at found.0 in
+    let reached = listed_reached c f g at found.0 in
     let differ : DifferAt c f g v at =
     λ first second p q e.
     unequal_pair (position_pairs c f g state.sets at) (bit_at (shown_bits c f p.bits) at) (bit_at (shown_bits c g q.bits) at) found.1

@@ -10,8 +10,7 @@ ghost use Rattle.pair_sets.specs.PairSet.{forced_pairs, gate_pairs};
 ghost use Rattle.pair_sets.specs.CubeState.{set_at, seen_pairs, line_pairs};
 
 use crate::pair_set::PairSet;
-use crate::stuck::{stuck_pin, stuck_stem};
-use net_model::{Circuit, Fault, Gate, Kind};
+use net_model::{Circuit, Fault, Gate, Kind, stuck_pin, stuck_stem};
 
 // What a pin of a line's gate sees.
 fn pin_pairs(sets: &[PairSet], f: Fault, g: Fault, line: u32, pin: u32, read: u32) -> PairSet

@@ -10,7 +10,6 @@ mod readers;
 mod sim;
 mod start;
 mod state;
-mod stuck;
 #[cfg(test)]
 mod tests;
 mod trail;

@@ -14,10 +14,9 @@ use crate::pair_set::PairSet;
 use crate::pending::Pending;
 use crate::start::{first_pairs, reached_positions};
 use crate::state::PairState;
-use crate::stuck::{stuck_position, stuck_stem};
 use crate::trail::Trail;
 use crate::wiring::{Wiring, wiring_of};
-use net_model::{Circuit, Fault};
+use net_model::{Circuit, Fault, stuck_position, stuck_stem};
 use std::alloc::{AllocError, Global};
 use std::marker::Model;
 

@@ -8,10 +8,9 @@ ghost use Rattle.pair_sets.specs.CubeState.{set_at, line_pairs};
 ghost use Rattle.pair_sets.specs.Trail.{HasRoom};
 
 use crate::pair_set::PairSet;
-use crate::stuck::stuck_stem;
 use crate::trail::Trail;
 use fault_list::Scope;
-use net_model::{Circuit, Fault};
+use net_model::{Circuit, Fault, stuck_stem};
 use std::alloc::{AllocError, Global};
 
 /// The pairs of the sources, all of them free, and all pairs for the other lines; with room for all changes.

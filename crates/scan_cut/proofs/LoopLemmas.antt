@@ -1,6 +1,6 @@
 -- The walk along a loop of the cut.
-use Rattle.std.proofs.Common.{◌≡◌, ◌≢◌, ◌∙◌, ℕ, zero, suc, ◌+◌, ◌-◌, ◌<◌, ◌≤◌, List, [], ◌∷◌, length, get_or, sym, ap, arith}
-use Rattle.std.specs.Prelude.{All, Contains, None, Some, slice_get}
+use Rattle.std.proofs.Common.{◌≡◌, ◌≢◌, ◌∙◌, ℕ, ◌+◌, ◌-◌, ◌<◌, ◌≤◌, List, [], length, get_or, sym, ap, arith}
+use Rattle.std.specs.Prelude.{All, Contains, Some}
 use Rattle.std.proofs.lemmas.List.{get_or_default, length-map}
 use Rattle.std.proofs.lemmas.List.Elements.{All-from_get_or}
 use Rattle.std.proofs.lemmas.List.FromFn.{length-range_with_len}
@@ -36,12 +36,6 @@ module _ (c : Circuit) (walk : List ℕ) (is : IsLoopWalk c walk) where
       let inside : (line : ℕ) → Contains walk line → Contains (gate_lines c) line =
       λ line m. let r = reached_gate c line line (walk_reaches c walk line is m) in Contains-range c.sources (length c.gates) line r.0 r.1 in
       omega (arith, no_longer walk (gate_lines c) walk_distinct inside, length-range_with_len c.sources (length c.gates))
-
--- what isn't found at a place is past the end
-pub none_past : {X : Type 0} (xs : List X) (k : ℕ) → slice_get xs k ≡ None → length xs ≤ k
-none_past [] k e = omega arith
-none_past (x ∷ xs) zero e = cc
-none_past (x ∷ xs) (suc k) e = let h = none_past xs k e in omega (arith, h)
 
 -- ---- the walk of a netlist's cut
 

@@ -7,7 +7,8 @@ use Rattle.std.proofs.lemmas.List.{get_or_default}
 use Rattle.std.proofs.lemmas.List.Elements.{All-from_get_or, All-contains}
 use Rattle.std.proofs.lemmas.List.Sums.{sum_by-cons, sum_by-append, passes_at_first, fails_before_first}
 use Rattle.net_model.specs.Topological.{count_of}
-use Rattle.net_model.proofs.OpenPins.{true_false, count_if, count_has, has_count}
+use Rattle.net_model.proofs.Elements.{true_false}
+use Rattle.net_model.proofs.OpenPins.{count_if, count_has, has_count}
 use Rattle.bench_reader.specs.declared.statement.Word.{Word}
 use Rattle.bench_reader.specs.declared.statement.Statement.{Statement}
 use Rattle.bench_reader.specs.declared.statement.Statement.TheVariants.{Input, Output, Drive, Flop}

@@ -1,6 +1,7 @@
 use Rattle.std.proofs.Common.{◌≡◌, ◌<◌, ◌≤◌, ◌^◌, ◌∙◌, ℕ, length, get_or, true, sym, arith, subst, inl, inr}
 use Rattle.std.proofs.lemmas.List.{get_or_read}
 use Rattle.std.proofs.lemmas.Option.{slice_get-get_or}
+use Rattle.std.proofs.lemmas.Bool.{false_from_ne_true}
 use Rattle.net_model.specs.Circuit.{Circuit, Feeds, line_count}
 use Rattle.net_model.proofs.Orders.{order_only, order_count}
 use Rattle.net_model.proofs.SetSoFar.{fits_from}
@@ -8,7 +9,6 @@ use Rattle.fault_sim.specs.declared.wiring.Wiring.{Wiring}
 use Rattle.fault_sim.specs.Pending.{is_pending, IsLowest}
 use Rattle.fault_sim.specs.Wiring.{IsWiring}
 use Rattle.fault_sim.proofs.PendingLemmas.{lowest_left, not_before}
-use Rattle.fault_sim.proofs.SettledLemmas.{is_false}
 use Rattle.fault_sim.proofs.events.follow.Goals as goal
 
 -- a gate's readers stand after it
@@ -61,7 +61,7 @@ loop-place-preserved c =
       room = c.settle.ensures.room ∙ c.loop-place.invariant.room;
       listed = omega (arith, c.settle.ensures.listed, c.loop-place.invariant.listed, low);
       queue = c.settle.ensures.queue ∙ c.in-Some.ensures.room ∙ c.loop-place.invariant.queue;
-      low = λ p h. is_false (is_pending c.settle.new.queue p) (λ t. let up = (above p t).0 in omega arith);
+      low = λ p h. false_from_ne_true (is_pending c.settle.new.queue p) (λ t. let up = (above p t).0 in omega arith);
       within = λ p t. (above p t).1;
       settled = c.settle.ensures.settled;
       past = c.settle.ensures.past;

@@ -2,13 +2,14 @@ use Rattle.std.proofs.Common.{◌≡◌, ◌≢◌, ◌<◌, ◌≤◌, ◌+◌,
 use Rattle.std.specs.Prelude.{All, AllPairs}
 use Rattle.std.proofs.lemmas.List.{length-set, length_push, get_or-set_other}
 use Rattle.std.proofs.lemmas.List.Elements.{All-nil}
+use Rattle.std.proofs.lemmas.Bool.{false_from_ne_true}
 use Rattle.net_model.specs.Circuit.{Circuit, line_count}
 use Rattle.word_sim.specs.GoodSim.{GoodSim}
 use Rattle.fault_sim.specs.Pending.{is_pending, IsLowest}
 use Rattle.fault_sim.specs.Rows.{Rows, IsFalse, IsTrueSomewhere}
 use Rattle.fault_sim.specs.Events.{IsShown, IsUntouched}
 use Rattle.fault_sim.proofs.PendingLemmas.{lowest_left, not_before}
-use Rattle.fault_sim.proofs.SettledLemmas.{none_true, is_false}
+use Rattle.fault_sim.proofs.SettledLemmas.{none_true}
 use Rattle.fault_sim.proofs.UsersLemmas.{none_of}
 use Rattle.fault_sim.proofs.ShownLemmas.{shown_untouched, shown_same, shown_more, shown_kept, below_more, below_later, some_more, ascending_more}
 use Rattle.fault_sim.proofs.events.show_positions.Goals as goal
@@ -99,7 +100,7 @@ loop-at-preserved c =
       whole = facts.0 ∙ c.loop-at.invariant.whole;
       room = facts.1 ∙ c.loop-at.invariant.room;
       listed = omega (arith, facts.2, c.loop-at.invariant.listed);
-      low = λ position h. is_false (is_pending c.take_lowest.new.self position) (λ t. let up = (rest position t).0 in omega arith);
+      low = λ position h. false_from_ne_true (is_pending c.take_lowest.new.self position) (λ t. let up = (rest position t).0 in omega arith);
       within = λ position t. c.loop-at.invariant.within position (rest position t).1;
       later = facts.3;
       below = facts.4;

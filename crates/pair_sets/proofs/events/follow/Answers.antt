@@ -1,5 +1,6 @@
 use Rattle.std.proofs.Common.{◌≡◌, ◌≢◌, ◌<◌, ◌≤◌, ◌∙◌, ℕ, [], length, get_or, true, sym, ap, subst, arith, inl, inr}
 use Rattle.std.proofs.lemmas.List.{get_or_read, get_or-set_other}
+use Rattle.std.proofs.lemmas.Bool.{false_from_ne_true}
 use Rattle.net_model.specs.Circuit.{Circuit, Feeds, line_count}
 use Rattle.net_model.proofs.Orders.{order_only}
 use Rattle.net_model.proofs.SetSoFar.{fits_from}
@@ -9,7 +10,7 @@ use Rattle.pair_sets.specs.CubeState.{set_at}
 use Rattle.pair_sets.specs.Pending.{is_pending, IsLowest}
 use Rattle.pair_sets.specs.Wiring.{IsWiring}
 use Rattle.pair_sets.specs.Events.{IsIdle, AreSettled, AreLoose, gate_line_pairs}
-use Rattle.pair_sets.proofs.EventLemmas.{is_false, pending_within, lowest_left, loose_after, settled_after, later_place, few_places}
+use Rattle.pair_sets.proofs.EventLemmas.{pending_within, lowest_left, loose_after, settled_after, later_place, few_places}
 use Rattle.pair_sets.proofs.TrailLemmas.{longer_more}
 use Rattle.pair_sets.proofs.events.follow.Goals as goal
 
@@ -82,7 +83,7 @@ loop-place-preserved c =
     record {
       from = omega arith;
       queue = c.settle.ensures.queue ∙ c.in-Some.ensures.room ∙ c.loop-place.invariant.queue;
-      low = λ p h. is_false (is_pending c.settle.new.queue p) (λ t. let up = above p t in omega arith);
+      low = λ p h. false_from_ne_true (is_pending c.settle.new.queue p) (λ t. let up = above p t in omega arith);
       longer = longer_more c.args.trail.now c.loop-place.trail c.settle.new.trail c.loop-place.invariant.longer c.settle.ensures.longer;
       room = c.settle.ensures.room;
       settled = subst (AreSettled circuit f g order c.settle.new.queue) (sym c.settle.ensures.sets)

@@ -3,9 +3,10 @@ use Rattle.std.specs.Prelude.{ℕ, List, []}
 use Rattle.std.specs.Borrow.{Bor}
 use Rattle.std.specs.BTreeMap.{get}
 use Rattle.net_model.specs.ClassTable.{class_at, representative, answer_at, piece_lowest}
+use Rattle.net_model.proofs.Elements.{true_false}
 use Rattle.class_refine.specs.Steps.{key_order}
 use Rattle.class_refine.proofs.Keys.{AreNoted, lowest_same, noted_same, lowest_noted, noted_more}
-use Rattle.class_refine.proofs.Ranges.{push-map_range, true-false}
+use Rattle.class_refine.proofs.Ranges.{push-map_range}
 use Rattle.class_refine.proofs.classes.Classes.lowest_of_pieces.Goals as goal
 use Rattle.class_refine.proofs.classes.Classes.lowest_of_pieces.Goals.{then-same_rows+in_ok-push, else-same_rows+in_ok-first_with+in_ok-push-2}
 
@@ -27,7 +28,7 @@ loop-n-preserved c =
           }
       | else-same_rows+in_ok-first_with+in_ok-push-2 w ↦
           let differs : answer_at t row n ≢ answer_at t row (representative t (class_at t n)) =
-          λ e. true-false c.same_rows.result (c.same_rows.ensures.1 (e ∙ ap (answer_at t row) (sym rep))) w.if-same_rows.false in
+          λ e. true_false c.same_rows.result (c.same_rows.ensures.1 (e ∙ ap (answer_at t row) (sym rep))) w.if-same_rows.false in
           let key : ℕ × Bor (List ℕ) = (c.class_of-class.result, w.row_words.result) in
           let class = c.class_of-class.ensures.value in
           let old = get key_order c.loop-n.pieces in

@@ -3,9 +3,9 @@ use Rattle.std.specs.Prelude.{Bool, Contains, IsTrue, ◌||◌, ◌⊎◌}
 use Rattle.std.proofs.lemmas.List.{take_more, take_all}
 use Rattle.std.proofs.lemmas.List.Elements.{Contains-push_cases}
 use Rattle.net_model.specs.Answer.{bit_at}
+use Rattle.net_model.proofs.Elements.{true_false}
 use Rattle.word_sim.specs.declared.lanes.TheConstants.{LANES}
 use Rattle.fault_sim.specs.FaultSim.{FaultSim, row_at}
-use Rattle.fault_sim.proofs.SettledLemmas.{not_both}
 use Rattle.fault_sim.proofs.sim.FaultSim.any_difference.Goals as goal
 
 either : (a b : Bool) → IsTrue (a || b) → IsTrue a ⊎ IsTrue b
@@ -14,7 +14,7 @@ either false b t = inr t
 
 left_one : (a b : Bool) → IsTrue a → IsTrue (a || b)
 left_one true b t = refl
-left_one false b t = absurd (not_both false t refl)
+left_one false b t = absurd (true_false false t refl)
 
 right_one : (a b : Bool) → IsTrue b → IsTrue (a || b)
 right_one true b t = refl
@@ -60,10 +60,10 @@ returns c = λ lane h.
           let unlisted : bit ≡ false → Contains c.self.inside.positions.listed position → ⊥ =
           λ e has.
           let there : Contains (take c.loop-position.position-index items) position = subst (λ ls. Contains ls position) (sym c.listed-position-items.ensures.value ∙ sym done) has in
-          not_both bit (c.loop-position.invariant.all lane position h there t) e in
+          true_false bit (c.loop-position.invariant.all lane position h there t) e in
           let dark : bit ≡ false → ⊥ =
           λ e.
           let row_false = c.listed-position-items.ensures.others position (omega (arith, whole, inside)) (unlisted e) lane h in
-          not_both (bit_at (row_at sim position) lane) t (sym (ap (λ (s : FaultSim). bit_at (row_at s position) lane) c.self.view_is) ∙ row_false) in
+          true_false (bit_at (row_at sim position) lane) t (sym (ap (λ (s : FaultSim). bit_at (row_at s position) lane) c.self.view_is) ∙ row_false) in
           true_or bit dark,
     )

@@ -2,10 +2,10 @@ use Rattle.std.proofs.Common.{◌≡◌, ◌<◌, ◌∙◌, [], length, get_or,
 use Rattle.std.proofs.lemmas.List.Elements.{All-contains}
 use Rattle.std.specs.Prelude.{Contains}
 use Rattle.net_model.specs.Answer.{bit_at}
+use Rattle.net_model.proofs.Elements.{true_false}
 use Rattle.fault_sim.specs.Rows.{IsTrueSomewhere}
 use Rattle.fault_sim.specs.FaultSim.{FaultSim, row_at}
 use Rattle.fault_sim.proofs.UsersLemmas.{contains_or_not}
-use Rattle.fault_sim.proofs.SettledLemmas.{not_both}
 use Rattle.fault_sim.proofs.sim.FaultSim.differing_positions.Goals as goal
 
 pub returns-clause-exactly : goal.returns-clause-exactly
@@ -18,6 +18,6 @@ returns-clause-exactly c = λ position h.
           (All-contains (λ at. IsTrueSomewhere (get_or rows at [])) listed position c.self.invariant.positions_some (subst (λ ls. Contains ls position) c.listed.ensures.value has)),
       λ (lane, within, t). elim (contains_or_not listed position) [
         | inl has ↦ subst (λ ls. Contains ls position) (sym c.listed.ensures.value) has
-        | inr none ↦ absurd (not_both (bit_at (row_at c.args.self.now position) lane) t (sym (ap (λ row. bit_at row lane) row_is) ∙ c.listed.ensures.others position inside none lane within))
+        | inr none ↦ absurd (true_false (bit_at (row_at c.args.self.now position) lane) t (sym (ap (λ row. bit_at row lane) row_is) ∙ c.listed.ensures.others position inside none lane within))
       ],
     )

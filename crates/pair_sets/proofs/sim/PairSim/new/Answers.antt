@@ -4,9 +4,9 @@ use Rattle.std.proofs.lemmas.Bool.{cases_lt}
 use Rattle.std.proofs.lemmas.List.{get_or_default}
 use Rattle.net_model.proofs.Orders.{order_has}
 use Rattle.net_model.proofs.SetSoFar.{fits_from}
+use Rattle.net_model.proofs.Elements.{true_false}
 use Rattle.pair_sets.specs.CubeState.{ArePairSets}
 use Rattle.pair_sets.specs.PairSimFields.{IsLevelRight, AreLevels}
-use Rattle.pair_sets.proofs.EventLemmas.{not_both}
 use Rattle.pair_sets.proofs.SeenLemmas.{source_line_pairs}
 use Rattle.pair_sets.proofs.sim.PairSim.new.Goals as goal
 
@@ -18,7 +18,7 @@ follow-requires-clause-settled c = λ line over under idle.
     let wired = c.in_ok-wiring.ensures in
     let found = order_has circuit (fits_from circuit wired.circuit) order wired.order line over under in
     let there : get_or order found.0 0 ≡ line = get_or_default order found.0 0 line found.1 ∙ found.2 in
-    absurd (not_both _ (c.in_ok-queue.ensures.all found.0 (omega (arith, found.1, c.len.ensures))) (idle found.0 found.1 there))
+    absurd (true_false _ (c.in_ok-queue.ensures.all found.0 (omega (arith, found.1, c.len.ensures))) (idle found.0 found.1 there))
 
 pub invariant_of-result : goal.invariant_of-result
 invariant_of-result c =

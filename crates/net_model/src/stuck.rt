@@ -3,11 +3,11 @@
 ghost use Rattle.std.specs.Prelude.{◌≡◌};
 ghost use Rattle.net_model.specs.Fault.{stuck_pin, stuck_stem, stuck_position};
 
-use net_model::{Fault, Site};
+use crate::fault::{Fault, Site};
 
 /// The value at which the fault sticks the stem of a line, if it does.
 #[inline]
-pub(crate) fn stuck_stem(fault: Fault, line: u32) -> Option<bool>
+pub fn stuck_stem(fault: Fault, line: u32) -> Option<bool>
     ensures { result ≡ stuck_stem fault line }
 {
     match fault {
@@ -18,7 +18,7 @@ pub(crate) fn stuck_stem(fault: Fault, line: u32) -> Option<bool>
 
 /// The value at which it sticks a pin of a line's gate.
 #[inline]
-pub(crate) fn stuck_pin(fault: Fault, line: u32, pin: u32) -> Option<bool>
+pub fn stuck_pin(fault: Fault, line: u32, pin: u32) -> Option<bool>
     ensures { result ≡ stuck_pin fault line pin }
 {
     match fault {
@@ -29,7 +29,7 @@ pub(crate) fn stuck_pin(fault: Fault, line: u32, pin: u32) -> Option<bool>
 
 /// The value at which it sticks an observed position.
 #[inline]
-pub(crate) fn stuck_position(fault: Fault, position: u32) -> Option<bool>
+pub fn stuck_position(fault: Fault, position: u32) -> Option<bool>
     ensures { result ≡ stuck_position fault position }
 {
     match fault {
