@@ -30,7 +30,7 @@ zip_more R [] (b ∷ ys) x y all = absurd all
 zip_more R (a ∷ xs) [] x y all = absurd all
 zip_more {A} {B} R (a ∷ xs) (b ∷ ys) x y all = ap (λ (zs : List (A × B)). (a, b) ∷ zs) (zip_more R xs ys x y all.1)
 
-all_zip_more : {A B : Type 0} (R : A → B → Type 0) (xs : List A) (ys : List B) (x : A) (y : B) → AllZip R xs ys → R x y → AllZip R (xs ++ x ∷ []) (ys ++ y ∷ [])
+pub all_zip_more : {A B : Type 0} (R : A → B → Type 0) (xs : List A) (ys : List B) (x : A) (y : B) → AllZip R xs ys → R x y → AllZip R (xs ++ x ∷ []) (ys ++ y ∷ [])
 all_zip_more R [] [] x y all one = (one, tt)
 all_zip_more R [] (b ∷ ys) x y all one = absurd all
 all_zip_more R (a ∷ xs) [] x y all one = absurd all
@@ -80,7 +80,7 @@ right_more {c} {patterns} {t} {v} right table one at below = elim (cases_lt at (
 ]
 
 -- what is kept of one vector more
-keeping_step : {c : Circuit} {vectors : List (List Bool)} {kept : KeptSoFar} → (so_far : IsKeeping c vectors kept) → (v : List Bool) (row : List (List Bool))
+pub keeping_step : {c : Circuit} {vectors : List (List Bool)} {kept : KeptSoFar} → (so_far : IsKeeping c vectors kept) → (v : List Bool) (row : List (List Bool))
     → with_vector kept (v, row) ≡ keeping (fault_count c) (zip (vectors ++ v ∷ []) (so_far.rows ++ row ∷ []))
 keeping_step {c} {vectors} {kept} so_far v row =
     let start : KeptSoFar = record { vectors = []; table = first_table (fault_count c) } in

@@ -1,4 +1,3 @@
-pub mod PlainLines
 pub mod AnswerLemmas
 pub mod NoteLemmas
 pub mod SpanLemmas
@@ -6,9 +5,11 @@ pub mod RowLemmas
 pub mod SameCuts
 pub mod KeepLemmas
 pub mod LineLemmas
-pub mod PlainResult
-pub mod PlainMade
-pub mod PlainSummary
+pub mod MarkLemmas
+pub mod DraftLemmas
+pub mod NextPattern
+pub mod PairLemmas
+pub mod DraftResult
 pub mod Written
 pub mod MarkedLemmas
 pub mod RootLemmas

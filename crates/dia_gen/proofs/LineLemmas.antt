@@ -1,22 +1,21 @@
 -- The text of one line more.
-use Rattle.std.proofs.Common.{◌≡◌, ℕ, ◌+◌, ◌<◌, ◌≤◌, Bool, true, false, cond, List, [], ◌∷◌, ◌++◌, map, length, take, get_or, length-take, Option, None, sym, ap, ◌∙◌, arith, add-one}
-use Rattle.std.specs.List.{filter, enumerate_from, range_with_len}
-use Rattle.std.proofs.lemmas.List.{take_more, append_assoc, map-append, append-nil, length-map}
+use Rattle.std.proofs.Common.{◌≡◌, ℕ, ◌+◌, ◌<◌, List, [], ◌∷◌, ◌++◌, map, length, take, get_or, length-take, Option, None, sym, ap, ◌∙◌, arith}
+use Rattle.std.specs.List.{enumerate_from, range_with_len}
+use Rattle.std.proofs.lemmas.List.{take_more, append_assoc, map-append, length-map}
 use Rattle.std.proofs.lemmas.List.FromFn.{length-range_with_len, map-range_with_len_more}
 use Rattle.std.proofs.lemmas.Grind.{flat_map-append}
-use Rattle.std.proofs.lemmas.List.Sums.{length-filter, count_by-le-length}
-use Rattle.net_model.specs.ClassTable.{ClassTable}
-use Rattle.result_file.specs.declared.record.Evidence.{Evidence}
 use Rattle.result_file.specs.declared.record.Mark.{Mark}
 use Rattle.result_file.specs.declared.record.Record.{Record}
-use Rattle.result_file.specs.declared.record.Record.TheVariants.{Same, Class, Member}
+use Rattle.result_file.specs.declared.record.Record.TheVariants.{Class, Member}
 use Rattle.result_file.specs.Spelling.{spelling, text_of}
 use Rattle.result_file.specs.Meaning.{class_records, member_records}
-use Rattle.dia_gen.specs.Plain.{is_follower, evidence_for, evidence_below}
-use Rattle.dia_gen.proofs.PlainLines.{evidence_more}
 
 pub text-append : (xs ys : List Record) → text_of (xs ++ ys) ≡ text_of xs ++ text_of ys
 text-append xs ys = flat_map-append (λ r. spelling r ++ 10 ∷ []) xs ys
+
+-- a text and some more lines
+pub joined : {text more : List ℕ} (xs ys : List Record) → text ≡ text_of xs → more ≡ text ++ text_of ys → more ≡ text_of (xs ++ ys)
+joined {text} {more} xs ys is next = next ∙ ap (λ (t : List ℕ). t ++ text_of ys) is ∙ sym (text-append xs ys)
 
 -- a text with one part more
 pub pushed : (first so_far part : List ℕ) {new now all : List ℕ} → new ≡ now ++ part → now ≡ first ++ so_far → all ≡ so_far ++ part → new ≡ first ++ all
@@ -50,24 +49,3 @@ member_lines_more g k =
 pub members_more : (g : ℕ → ℕ × Mark) (k : ℕ)
     → text_of (member_records (map g (range_with_len 0 (k + 1)))) ≡ text_of (member_records (map g (range_with_len 0 k))) ++ text_of (Member k (g k).0 (g k).1 ∷ [])
 members_more g k = ap text_of (member_lines_more g k) ∙ text-append (member_records (map g (range_with_len 0 k))) (Member k (g k).0 (g k).1 ∷ [])
-
-module _ (one_root : ℕ → ℕ → Bool) (t : ClassTable) (n : ℕ) where
-  evidence_by : (b : Bool) → is_follower t n ≡ b → evidence_below one_root t (n + 1) ≡ evidence_below one_root t n ++ map (evidence_for one_root t) (cond b (n ∷ []) [])
-  evidence_by b follower = rw add-one (evidence_more one_root t n ∙ ap (λ (b : Bool). evidence_below one_root t n ++ map (evidence_for one_root t) (cond b (n ∷ []) [])) follower)
-
-  -- a follower has evidence, and a representative hasn't
-  pub evidence_added : is_follower t n ≡ true → evidence_below one_root t (n + 1) ≡ evidence_below one_root t n ++ evidence_for one_root t n ∷ []
-  evidence_added follower = evidence_by true follower
-
-  pub evidence_kept : is_follower t n ≡ false → evidence_below one_root t (n + 1) ≡ evidence_below one_root t n
-  evidence_kept follower = evidence_by false follower ∙ append-nil (evidence_below one_root t n)
-
-  pub evidence_text : is_follower t n ≡ true → text_of (map Same (evidence_below one_root t (n + 1))) ≡ text_of (map Same (evidence_below one_root t n)) ++ text_of (Same (evidence_for one_root t n) ∷ [])
-  evidence_text follower =
-      ap (λ (es : List Evidence). text_of (map Same es)) (evidence_added follower)
-      ∙ ap text_of (map-append Same (evidence_below one_root t n) (evidence_for one_root t n ∷ []))
-      ∙ text-append (map Same (evidence_below one_root t n)) (Same (evidence_for one_root t n) ∷ [])
-
--- there is no more evidence than numbers
-pub few_evidence : (one_root : ℕ → ℕ → Bool) (t : ClassTable) (n : ℕ) → length (evidence_below one_root t n) ≤ n
-few_evidence one_root t n = omega (arith, length-map (filter (is_follower t) (range_with_len 0 n)) (evidence_for one_root t), length-filter (is_follower t) (range_with_len 0 n), count_by-le-length (is_follower t) (range_with_len 0 n), length-range_with_len 0 n)

@@ -1,5 +1,5 @@
 -- Counts of marks, number by number.
-use Rattle.std.proofs.Common.{◌≡◌, ℕ, ◌+◌, ◌≤◌, Bool, cond, [], ◌∷◌, map, refl, ap, ◌∙◌, arith}
+use Rattle.std.proofs.Common.{◌≡◌, ℕ, ◌+◌, ◌≤◌, Bool, cond, List, Option, [], ◌∷◌, map, refl, ap, ◌∙◌, arith}
 use Rattle.std.specs.List.{count_by, range_with_len, enumerate_from}
 use Rattle.std.proofs.lemmas.List.{length-map}
 use Rattle.std.proofs.lemmas.List.FromFn.{length-enumerate_from, length-range_with_len}
@@ -11,22 +11,23 @@ use Rattle.result_file.specs.declared.record.Record.{Record}
 use Rattle.result_file.specs.declared.record.Record.TheVariants.{Member}
 use Rattle.result_file.specs.Summary.{is_equal, is_open}
 use Rattle.dia_gen.specs.declared.lines.Marked.{Marked}
-use Rattle.dia_gen.specs.Plain.{mark_for, member_for}
+use Rattle.dia_gen.specs.declared.marks.Given.{Given}
+use Rattle.dia_gen.specs.Given.{member_for}
 use Rattle.dia_gen.specs.Marked.{marked_with, members_below, AreMarkedBelow}
 use Rattle.dia_gen.proofs.LineLemmas.{member_lines_more}
 
-module _ (one_root : ℕ → ℕ → Bool) (t : ClassTable) where
+module _ (t : ClassTable) (given : List (Option Given)) where
   -- no more member lines pass than there are numbers
-  pub few_marked : (p : Record → Bool) (n : ℕ) → count_by p (members_below one_root t n) ≤ n
+  pub few_marked : (p : Record → Bool) (n : ℕ) → count_by p (members_below t given n) ≤ n
   few_marked p n =
-      let members = map (member_for one_root t) (range_with_len 0 n) in
-      omega (arith, count_by-le-length p (members_below one_root t n), length-map (enumerate_from 0 members) (λ x. let r : Record = Member x.0 x.1.0 x.1.1 in r), length-enumerate_from 0 members, length-map (range_with_len 0 n) (member_for one_root t), length-range_with_len 0 n)
+      let members = map (member_for t given) (range_with_len 0 n) in
+      omega (arith, count_by-le-length p (members_below t given n), length-map (enumerate_from 0 members) (λ x. let r : Record = Member x.0 x.1.0 x.1.1 in r), length-enumerate_from 0 members, length-map (range_with_len 0 n) (member_for t given), length-range_with_len 0 n)
 
-  count_more_members : (p : Record → Bool) (n : ℕ) → count_by p (members_below one_root t (n + 1)) ≡ count_by p (members_below one_root t n) + cond (p (Member n (class_at t n) (mark_for one_root t n))) 1 0
+  count_more_members : (p : Record → Bool) (n : ℕ) → count_by p (members_below t given (n + 1)) ≡ count_by p (members_below t given n) + cond (p (Member n (class_at t n) ((member_for t given n).1))) 1 0
   count_more_members p n =
-      let more = Member n (class_at t n) (mark_for one_root t n) in
-      ap (count_by p) (member_lines_more (member_for one_root t) n)
-      ∙ omega (arith, sum_by-append (λ r. cond {A = ℕ} (p r) 1 0) (members_below one_root t n) (more ∷ []))
+      let more = Member n (class_at t n) ((member_for t given n).1) in
+      ap (count_by p) (member_lines_more (member_for t given) n)
+      ∙ omega (arith, sum_by-append (λ r. cond {A = ℕ} (p r) 1 0) (members_below t given n) (more ∷ []))
 
   equal_by : (mark : Mark) (marked : Marked) (n class : ℕ) → (marked_with marked mark).equal ≡ marked.equal + cond (is_equal (Member n class mark)) 1 0
   equal_by mark.Rep marked n class = omega arith
@@ -38,8 +39,8 @@ module _ (one_root : ℕ → ℕ → Bool) (t : ClassTable) where
   open_by mark.Equal marked n class = omega arith
   open_by mark.Spent marked n class = refl
 
-  pub marked_more : {marked : Marked} {n : ℕ} → AreMarkedBelow one_root t n marked → AreMarkedBelow one_root t (n + 1) (marked_with marked (mark_for one_root t n))
+  pub marked_more : {marked : Marked} {n : ℕ} → AreMarkedBelow t given n marked → AreMarkedBelow t given (n + 1) (marked_with marked ((member_for t given n).1))
   marked_more {marked} {n} so_far = record {
-    equal = omega (arith, equal_by (mark_for one_root t n) marked n (class_at t n), so_far.equal, count_more_members is_equal n);
-    spent = omega (arith, open_by (mark_for one_root t n) marked n (class_at t n), so_far.spent, count_more_members is_open n);
+    equal = omega (arith, equal_by ((member_for t given n).1) marked n (class_at t n), so_far.equal, count_more_members is_equal n);
+    spent = omega (arith, open_by ((member_for t given n).1) marked n (class_at t n), so_far.spent, count_more_members is_open n);
   }

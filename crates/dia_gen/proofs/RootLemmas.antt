@@ -1,5 +1,5 @@
 -- What the roots of a forest say of the faults.
-use Rattle.std.proofs.Common.{◌≡◌, ◌≢◌, ℕ, ◌<◌, true, false, refl, arith}
+use Rattle.std.proofs.Common.{◌≡◌, ℕ, ◌<◌, true, refl, arith}
 use Rattle.std.specs.Prelude.{◌==◌}
 use Rattle.std.proofs.lemmas.Bool.Decides.{nat_tests}
 use Rattle.std.proofs.lemmas.List.Elements.{All-from_get_or}
@@ -12,17 +12,8 @@ use Rattle.net_model.specs.FaultList.{faults, fault_count, fault_numbered}
 use Rattle.net_model.specs.Collapse.{root}
 use Rattle.fault_collapse.specs.Forest.{Forest, IsForestOf, root_of}
 use Rattle.fault_collapse.specs.Laws.{SameRootEqual}
-use Rattle.fault_collapse.proofs.Settled.{same_roots, same_equal}
+use Rattle.fault_collapse.proofs.Settled.{same_equal}
 use Rattle.dia_gen.specs.Notes.{AreRootsOf}
-use Rattle.dia_gen.specs.Plain.{one_root_in}
-
-pub one_root_same : {c : Circuit} {forest : Forest} → IsForestOf c forest → (m n : ℕ) → m < fault_count c → n < fault_count c → one_root_in forest m n ≡ true → root c (fault_numbered c m) ≡ root c (fault_numbered c n)
-one_root_same {c} {forest} is m n low high one = (same_roots c forest is m n (omega (arith, is.roots.whole)) (omega (arith, is.roots.whole)) (one_root_in forest m n) refl).0 one
-
-pub one_root_different : {c : Circuit} {forest : Forest} → IsForestOf c forest → (m n : ℕ) → m < fault_count c → n < fault_count c → one_root_in forest m n ≡ false → root c (fault_numbered c m) ≢ root c (fault_numbered c n)
-one_root_different {c} {forest} is m n low high two same =
-    let one = (same_roots c forest is m n (omega (arith, is.roots.whole)) (omega (arith, is.roots.whole)) (one_root_in forest m n) refl).1 same in
-    cc
 
 pub one_root_equal : SameRootEqual → (c : Circuit) → IsCircuit c → ((n : ℕ) → n < fault_count c → IsFaultOf c (fault_numbered c n)) → (m n : ℕ) → m < fault_count c → n < fault_count c
     → root c (fault_numbered c m) ≡ root c (fault_numbered c n) → AreEqual c (fault_numbered c m) (fault_numbered c n)

@@ -2,5 +2,8 @@ pub mod Notes
 pub mod Kept
 pub mod Keeping
 pub mod Made
-pub mod Plain
+pub mod Setting
+pub mod Settled
+pub mod Given
+pub mod Draft
 pub mod Marked

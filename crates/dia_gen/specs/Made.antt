@@ -1,6 +1,6 @@
 -- The files that the generator may write for a circuit and its budgets.
 use Rattle.net_model.specs.FaultList.{fault_numbered}
-use Rattle.std.specs.Prelude.{◌≡◌, ℕ, Bool, List, [], ◌∷◌, ◌++◌, map, length, take, Some, slice_get}
+use Rattle.std.specs.Prelude.{◌≡◌, ℕ, Bool, List, [], ◌∷◌, ◌++◌, map, length, take, Some, slice_get, ⊤}
 use Rattle.net_model.specs.Circuit.{Circuit}
 use Rattle.net_model.specs.Answer.{Separates}
 use Rattle.net_model.specs.ClassTable.{ClassTable, representative, class_at}
@@ -8,7 +8,11 @@ use Rattle.net_model.specs.PatternRows.{IsTableOf}
 use Rattle.result_file.specs.declared.record.Budgets.{Budgets}
 use Rattle.result_file.specs.declared.record.Summary.{Summary}
 use Rattle.result_file.specs.declared.record.Record.{Record}
-use Rattle.result_file.specs.declared.record.Record.TheVariants.{Pattern, End}
+use Rattle.result_file.specs.declared.record.Record.TheVariants.{Pattern, Same, End}
+use Rattle.result_file.specs.declared.record.Evidence.{Evidence}
+use Rattle.result_file.specs.declared.record.Proof.{Proof}
+use Rattle.result_file.specs.declared.record.Proof.TheVariants as proof
+use Rattle.pair_sets.specs.declared.tree.Token.TheVariants.{Rest}
 use Rattle.result_file.specs.Spelling.{Text, text_of}
 use Rattle.result_file.specs.Marks.{patterns_in, evidence_in, next_member}
 use Rattle.result_file.specs.Summary.{summary_of}
@@ -25,6 +29,12 @@ pub record SeparatesNext (c : Circuit) (before : List Record) (v : List Bool) : 
   pub member_is : next_member t (evidence_in before) ≡ Some member
   pub separates : Separates c v (fault_numbered c (representative t (class_at t member))) (fault_numbered c member)
 
+-- The proof has no tree, or the tree of one open leaf.
+abbrev pub HasNoSearch : Proof → Type 0
+HasNoSearch proof.Collapse = ⊤
+HasNoSearch (proof.Covered tree) = tree ≡ Rest ∷ []
+HasNoSearch (proof.Searched tree) = tree ≡ Rest ∷ []
+
 -- The generator may write these lines: they are right, and come about in the generator's way.
 pub record AreMade (c : Circuit) (budgets : Budgets) (records : List Record) : Type 0 where
   pub head : List Record
@@ -36,6 +46,7 @@ pub record AreMade (c : Circuit) (budgets : Budgets) (records : List Record) : T
   pub budgets_are : budgets_in head ≡ budgets
   pub kept_are : IsKept c budgets.blocks kept
   pub patterns : (at : ℕ) (v : List Bool) → slice_get later at ≡ Some (Pattern v) → SeparatesNext c (head ++ map Pattern kept ++ take at later) v
+  pub no_search : (at : ℕ) (e : Evidence) → budgets.cubes ≡ 0 → slice_get later at ≡ Some (Same e) → HasNoSearch e.proof
   pub no_choice : (at : ℕ) (v : List Bool) → budgets.cubes ≡ 0 → budgets.conflicts ≡ 0 → slice_get later at ≡ Some (Pattern v) → ⊥
 
 -- The file is made, and amounts to this.

@@ -3,18 +3,20 @@
 ghost use Rattle.std.specs.Prelude.{◌≡◌, ◌≤◌, ◌<◌, ℕ, Bool, List, [], ◌∷◌, ◌++◌, Some, All, IfOk, OnOk, length};
 ghost use Rattle.net_model.specs.Circuit.{IsCircuit};
 ghost use Rattle.net_model.specs.Fault.{IsFaultOf};
-ghost use Rattle.net_model.specs.FaultList.{faults};
+ghost use Rattle.net_model.specs.FaultList.{faults, fault_count};
 ghost use Rattle.net_model.specs.ClassTable.{class_at};
 ghost use Rattle.class_refine.specs.Fields.{IsWhole};
 ghost use Rattle.word_sim.specs.Stream.{stream};
 ghost use Rattle.fault_sim.specs.FaultyLanes.{vector_at};
 ghost use Rattle.dia_gen.specs.Kept.{with_vector};
-ghost use Rattle.dia_gen.specs.Keeping.{kept_now, IsKeeping};
+ghost use Rattle.dia_gen.specs.Keeping.{kept_now, IsKeeping, IsKeeper};
+ghost use Rattle.dia_gen.specs.Setting.{IsSetting};
 ghost use Rattle.dia_gen.specs.Notes.{AreRight, AreNoted, AreRootsOf, IsFiner, AreOf, IsBlank};
 
 use crate::answers::{clear_row, fill_row};
 use crate::differences::Differences;
 use crate::notes::Note;
+use crate::setting::Setting;
 use class_refine::Classes;
 use fault_list::FaultList;
 use net_model::{AnswerRows, Circuit, Vector, Vectors};
@@ -28,46 +30,86 @@ pub(crate) struct Kept {
     pub(crate) classes: Classes,
 }
 
-// Keeps each vector of the first blocks of the stream that splits a class. Numbers with one root answer alike: one number of
-// each root is simulated, and a class with one root isn't.
-pub(crate) fn keep_stream(
-    alloc: Global,
-    circuit: &Circuit,
-    listed: &FaultList,
-    roots: &[u32],
-    blocks: u32,
-) -> Result<Kept, AllocError>
-    requires faults { listed.now ≡ faults circuit.now }
-    requires stand { All (IsFaultOf circuit.now) listed.now }
-    requires roots { AreRootsOf circuit.now roots.now }
-    ensures { IfOk result (λ kept. IsKeeping circuit.now (stream circuit.now.sources blocks) (kept_now kept)) }
-{
-    stream_continues();
-    let mut kept = Kept {
-        vectors: Vectors::new(alloc),
-        classes: Classes::new(alloc, listed.len())?,
-    };
-    let mut good = GoodSim::new(alloc, circuit)?;
-    let mut differences = Differences::new(alloc, circuit, listed.len() as usize)?;
-    let mut row = AnswerRows::zeros(alloc, listed.len() as usize, circuit.positions().len())?;
-    let mut stream = Stream::new(circuit.sources());
-    let mut block = Block::new(alloc, circuit.sources())?;
-    let mut left = blocks;
-    while left > 0 {
-        block.clear();
-        left -= stream.fill(left, &mut block);
-        good.run(&block);
-        keep_block(
-            listed,
-            roots,
-            &block,
-            &good,
-            &mut differences,
-            &mut row,
-            &mut kept,
-        )?;
+// The kept vectors with the simulators that tell which vectors split a class: of a block, and of faults on it; what the
+// simulated faults showed; and a row of answers, which is clear between two vectors.
+#[derive(Drop)]
+pub(crate) struct Keeper<'a> {
+    pub(crate) kept: Kept,
+    pub(crate) block: Block,
+    pub(crate) good: GoodSim<'a>,
+    pub(crate) differences: Differences<'a>,
+    pub(crate) row: AnswerRows,
+}
+
+impl<'a> Keeper<'a> {
+    // Nothing is kept.
+    pub(crate) fn new(
+        alloc: Global,
+        circuit: &'a Circuit,
+        numbers: u32,
+    ) -> Result<Keeper<'a>, AllocError>
+        requires { numbers ≡ fault_count circuit.now }
+        ensures { IfOk result (IsKeeper circuit.now []) }
+    {
+        Ok(Keeper {
+            kept: Kept {
+                vectors: Vectors::new(alloc),
+                classes: Classes::new(alloc, numbers)?,
+            },
+            block: Block::new(alloc, circuit.sources())?,
+            good: GoodSim::new(alloc, circuit)?,
+            differences: Differences::new(alloc, circuit, numbers as usize)?,
+            row: AnswerRows::zeros(alloc, numbers as usize, circuit.positions().len())?,
+        })
     }
-    Ok(kept)
+
+    // Keeps each vector of the first blocks of the stream that splits a class. Numbers with one root answer alike: one
+    // number of each root is simulated, and a class with one root isn't.
+    pub(crate) fn keep_stream(&mut self, setting: &Setting) -> Result<(), AllocError>
+        requires setting { IsSetting setting.now }
+        requires keeper { IsKeeper setting.now.circuit.now [] self.old }
+        ensures { OnOk result (IsKeeper setting.now.circuit.now (stream setting.now.circuit.now.sources setting.now.budgets.blocks) self.new) }
+    {
+        stream_continues();
+        let mut stream = Stream::new(setting.circuit.sources());
+        let mut left = setting.budgets.blocks;
+        while left > 0 {
+            self.block.clear();
+            left -= stream.fill(left, &mut self.block);
+            self.keep_block(setting)?;
+        }
+        Ok(())
+    }
+
+    // Keeps a vector if it splits a class.
+    pub(crate) fn keep_vector(&mut self, setting: &Setting, v: &Vector) -> Result<(), AllocError>
+        requires setting { IsSetting setting.now }
+        requires width { length v.now ≡ setting.now.circuit.now.sources }
+        requires keeper { (vectors : List (List Bool)) × IsKeeper setting.now.circuit.now vectors self.old }
+        ensures { OnOk result ((vectors : List (List Bool)) → IsKeeper setting.now.circuit.now vectors self.old → IsKeeper setting.now.circuit.now (vectors ++ v.now ∷ []) self.new) }
+    {
+        self.block.clear();
+        self.block.push(v);
+        self.keep_block(setting)
+    }
+
+    // Keeps each vector of the block that splits a class.
+    fn keep_block(&mut self, setting: &Setting) -> Result<(), AllocError>
+        requires setting { IsSetting setting.now }
+        requires keeper { (vectors : List (List Bool)) × IsKeeper setting.now.circuit.now vectors self.old }
+        ensures { OnOk result ((vectors : List (List Bool)) → IsKeeper setting.now.circuit.now vectors self.old → IsKeeper setting.now.circuit.now (vectors ++ self.old.block.vectors) self.new) }
+    {
+        self.good.run(&self.block);
+        keep_block(
+            setting.listed,
+            setting.forest.roots(),
+            &self.block,
+            &self.good,
+            &mut self.differences,
+            &mut self.row,
+            &mut self.kept,
+        )
+    }
 }
 
 // Keeps each vector of a block that splits a class. Only a lane in which some class may be split is looked at.

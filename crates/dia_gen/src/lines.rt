@@ -6,14 +6,16 @@ ghost use Rattle.result_file.specs.declared.record.Record.TheVariants.{Pattern, 
 ghost use Rattle.result_file.specs.Spelling.{text_of};
 ghost use Rattle.result_file.specs.Meaning.{class_records, member_records};
 ghost use Rattle.result_file.specs.Summary.{is_equal, is_open};
-ghost use Rattle.fault_collapse.specs.Forest.{number_count};
-ghost use Rattle.dia_gen.specs.Plain.{is_follower, one_root_in, proof_for, evidence_for, evidence_below, mark_for, member_for};
+ghost use Rattle.dia_gen.specs.Setting.{IsSetting};
+ghost use Rattle.dia_gen.specs.Draft.{head_lines};
+ghost use Rattle.dia_gen.specs.Given.{AreAllMarked, member_for};
 ghost use Rattle.dia_gen.specs.Marked.{marked_with, AreMarkedBelow};
 
+use crate::marks::Marks;
+use crate::setting::Setting;
 use class_refine::Classes;
-use fault_collapse::Forest;
-use net_model::Vectors;
-use result_file::{Evidence, Mark, Proof, Record, write_record};
+use net_model::{Vector, Vectors};
+use result_file::{Evidence, Mark, Record, write_record};
 use std::alloc::AllocError;
 
 // The line of a record.
@@ -25,40 +27,40 @@ pub(crate) fn push_line(text: &mut Vec<u8>, line: &Record) -> Result<(), AllocEr
     Ok(())
 }
 
+// The first two lines.
+pub(crate) fn push_head(text: &mut Vec<u8>, setting: &Setting) -> Result<(), AllocError>
+    requires { IsSetting setting.now }
+    ensures { OnOk result (text.new.items ≡ text.old.items ++ text_of (head_lines setting.now.circuit.now setting.now.budgets)) }
+{
+    let circuit = setting.circuit;
+    let positions = circuit.positions().len() as u32;
+    let head = Record::Head(circuit.sources(), positions, setting.listed.len());
+    push_line(text, &head)?;
+    push_line(text, &Record::Budget(setting.budgets))
+}
+
+// The line of a pattern.
+pub(crate) fn push_pattern(text: &mut Vec<u8>, pattern: Vector) -> Result<(), AllocError>
+    ensures { OnOk result (text.new.items ≡ text.old.items ++ text_of (Pattern pattern ∷ [])) }
+{
+    push_line(text, &Record::Pattern(pattern))
+}
+
 // A line for each pattern.
 pub(crate) fn push_patterns(text: &mut Vec<u8>, patterns: &Vectors) -> Result<(), AllocError>
     ensures { OnOk result (text.new.items ≡ text.old.items ++ text_of (map Pattern patterns.now)) }
 {
     for pattern in patterns.as_slice() {
-        push_line(text, &Record::Pattern(pattern.copy()?))?;
+        push_pattern(text, pattern.copy()?)?;
     }
     Ok(())
 }
 
 // The line of evidence.
-fn push_same(text: &mut Vec<u8>, evidence: Evidence) -> Result<(), AllocError>
+pub(crate) fn push_same(text: &mut Vec<u8>, evidence: Evidence) -> Result<(), AllocError>
     ensures { OnOk result (text.new.items ≡ text.old.items ++ text_of (Same evidence ∷ [])) }
 {
     push_line(text, &Record::Same(evidence))
-}
-
-// A line of evidence for each number that isn't the representative of its class.
-pub(crate) fn push_evidence(
-    text: &mut Vec<u8>,
-    classes: &Classes,
-    forest: &Forest,
-    numbers: u32,
-) -> Result<(), AllocError>
-    requires numbers { numbers ≡ length classes.now.class_of }
-    requires forest { number_count forest.now ≡ length classes.now.class_of }
-    ensures { OnOk result (text.new.items ≡ text.old.items ++ text_of (map Same (evidence_below (one_root_in forest.now) classes.now numbers))) }
-{
-    for member in 0..numbers {
-        if is_follower(classes, member) {
-            push_same(text, evidence_for(classes, forest, member))?;
-        }
-    }
-    Ok(())
 }
 
 // A line for each class.
@@ -97,17 +99,18 @@ impl Marked {
 pub(crate) fn push_members(
     text: &mut Vec<u8>,
     classes: &Classes,
-    forest: &Forest,
+    marks: &Marks,
     numbers: u32,
 ) -> Result<Marked, AllocError>
     requires numbers { numbers ≡ length classes.now.class_of }
-    requires forest { number_count forest.now ≡ length classes.now.class_of }
-    ensures text { OnOk result (text.new.items ≡ text.old.items ++ text_of (member_records (map (member_for (one_root_in forest.now) classes.now) (number_range classes.now)))) }
-    ensures marked { IfOk result (AreMarkedBelow (one_root_in forest.now) classes.now numbers) }
+    requires whole { length marks.now.given.items ≡ length classes.now.class_of }
+    requires marked { AreAllMarked classes.now marks.now.given.items }
+    ensures text { OnOk result (text.new.items ≡ text.old.items ++ text_of (member_records (map (member_for classes.now marks.now.given.items) (number_range classes.now)))) }
+    ensures marked { IfOk result (AreMarkedBelow classes.now marks.now.given.items numbers) }
 {
     let mut marked = Marked { equal: 0, spent: 0 };
     for number in 0..numbers {
-        let mark = mark_for(classes, forest, number);
+        let mark = marks.of(classes, number).unwrap();
         marked.count(mark);
         push_line(
             text,
@@ -115,54 +118,4 @@ pub(crate) fn push_members(
         )?;
     }
     Ok(marked)
-}
-
-// Whether a number isn't the representative of its class.
-fn is_follower(classes: &Classes, number: u32) -> bool
-    requires { number < length classes.now.class_of }
-    ensures { result ≡ is_follower classes.now number }
-{
-    classes.representative(classes.class_of(number)) != number
-}
-
-// What is known of a number and its representative.
-fn proof_for(classes: &Classes, forest: &Forest, number: u32) -> Proof
-    requires numbers { number_count forest.now ≡ length classes.now.class_of }
-    requires number { number < length classes.now.class_of }
-    ensures { result ≡ proof_for (one_root_in forest.now) classes.now number }
-{
-    let lead = classes.representative(classes.class_of(number));
-    if forest.same_root(lead, number) {
-        Proof::Collapse
-    } else {
-        Proof::Unsearched
-    }
-}
-
-// The evidence for a number and its representative.
-fn evidence_for(classes: &Classes, forest: &Forest, member: u32) -> Evidence
-    requires numbers { number_count forest.now ≡ length classes.now.class_of }
-    requires number { member < length classes.now.class_of }
-    ensures { result ≡ evidence_for (one_root_in forest.now) classes.now member }
-{
-    Evidence {
-        member,
-        partner: classes.representative(classes.class_of(member)),
-        proof: proof_for(classes, forest, member),
-    }
-}
-
-// The mark of a number.
-fn mark_for(classes: &Classes, forest: &Forest, number: u32) -> Mark
-    requires numbers { number_count forest.now ≡ length classes.now.class_of }
-    requires number { number < length classes.now.class_of }
-    ensures { result ≡ mark_for (one_root_in forest.now) classes.now number }
-{
-    if !is_follower(classes, number) {
-        return Mark::Rep;
-    }
-    match proof_for(classes, forest, number) {
-        Proof::Collapse => Mark::Equal,
-        Proof::Unsearched => Mark::Spent,
-    }
 }

@@ -3,15 +3,20 @@
 ghost use Rattle.std.specs.Prelude.{◌≡◌, ℕ, List, IfOk, OnErr, IsTrue, IsSome, IsErrOf};
 ghost use Rattle.diag_shelf.specs.Calls.{IsWriteCall, Told, Writes};
 ghost use Rattle.result_file.specs.Lines.{AreWithinLimits};
+ghost use Rattle.dia_gen.specs.Setting.{IsSetting};
+ghost use Rattle.dia_gen.specs.Given.{AreAllMarked};
+ghost use Rattle.dia_gen.specs.Draft.{IsDraft};
 ghost use Rattle.dia_gen.specs.Made.{IsMade, IsTrueFile, IsCutFile};
 
-use crate::kept::keep_stream;
-use crate::lines::{push_classes, push_evidence, push_line, push_members, push_patterns};
+use crate::draft::Draft;
+use crate::lines::{push_classes, push_line, push_members};
+use crate::setting::Setting;
 use class_refine::named_separates_faults;
 use diag_shelf::{Shelf, ShelfFault, write_all};
 use fault_collapse::{collapse, same_root_equal};
 use fault_list::list;
 use net_model::Circuit;
+use pair_sets::{covering_is_equal, leaves_are_closed};
 use result_file::{Budgets, Record, Summary};
 use std::alloc::{AllocError, Global};
 
@@ -25,7 +30,6 @@ pub fn generate<S: Shelf>(
     shelf: &mut S,
 ) -> Result<Summary, ShelfFault>
     requires limits { AreWithinLimits budgets }
-    requires cubes { budgets.cubes ≡ 0 }
     requires conflicts { budgets.conflicts ≡ 0 }
     requires created { IsTrue (S.state shelf.old).tells → IsSome (S.state shelf.old).world.written }
     ensures call { IsWriteCall result (S.state shelf.old) (S.state shelf.new) }
@@ -49,33 +53,49 @@ struct Made {
 
 fn made_file(alloc: Global, circuit: &Circuit, budgets: Budgets) -> Result<Made, AllocError>
     requires limits { AreWithinLimits budgets }
-    requires cubes { budgets.cubes ≡ 0 }
     requires conflicts { budgets.conflicts ≡ 0 }
     ensures made { IfOk result (λ made. IsMade circuit.now budgets made.summary made.text.items) }
     ensures is_true { IfOk result (λ made. IsTrueFile circuit.now made.text.items) }
 {
-    named_separates_faults();
-    same_root_equal();
     let listed = list(alloc, circuit)?;
     let forest = collapse(alloc, circuit, &listed)?;
-    let numbers = listed.len();
-    let kept = keep_stream(alloc, circuit, &listed, forest.roots(), budgets.blocks)?;
-    let mut text = Vec::new(alloc);
-    let positions = circuit.positions().len() as u32;
-    push_line(
-        &mut text,
-        &Record::Head(circuit.sources(), positions, numbers),
-    )?;
-    push_line(&mut text, &Record::Budget(budgets))?;
-    push_patterns(&mut text, &kept.vectors)?;
-    push_evidence(&mut text, &kept.classes, &forest, numbers)?;
-    push_classes(&mut text, &kept.classes)?;
-    let marked = push_members(&mut text, &kept.classes, &forest, numbers)?;
+    let setting = Setting {
+        circuit,
+        listed: &listed,
+        forest: &forest,
+        budgets,
+    };
+    let mut draft = Draft::start(alloc, &setting)?;
+    draft.mark_all(alloc, &setting)?;
+    finish(&setting, draft)
+}
+
+// Adds the lines of the classes and of the numbers, and the end.
+fn finish(setting: &Setting, draft: Draft) -> Result<Made, AllocError>
+    requires setting { IsSetting setting.now }
+    requires draft { IsDraft setting.now draft }
+    requires marked { AreAllMarked draft.keeper.kept.classes draft.marks.given.items }
+    ensures made { IfOk result (λ made. IsMade setting.now.circuit.now setting.now.budgets made.summary made.text.items) }
+    ensures is_true { IfOk result (λ made. IsTrueFile setting.now.circuit.now made.text.items) }
+{
+    named_separates_faults();
+    same_root_equal();
+    covering_is_equal();
+    leaves_are_closed();
+    let numbers = setting.listed.len();
+    let Draft {
+        keeper,
+        marks,
+        mut text,
+    } = draft;
+    let classes = &keeper.kept.classes;
+    push_classes(&mut text, classes)?;
+    let marked = push_members(&mut text, classes, &marks, numbers)?;
     push_line(&mut text, &Record::End)?;
     let summary = Summary {
         numbers,
-        patterns: kept.classes.patterns(),
-        classes: kept.classes.count(),
+        patterns: classes.patterns(),
+        classes: classes.count(),
         equal: marked.equal,
         spent: marked.spent,
     };

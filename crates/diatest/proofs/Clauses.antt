@@ -9,7 +9,7 @@ use Rattle.result_file.specs.declared.record.Budgets.{Budgets}
 use Rattle.diatest.specs.Request.{Text, Request, gen, list_faults, bench_of}
 use Rattle.diatest.specs.Netlists.{IsDesign, IsRefused}
 use Rattle.diatest.specs.Outcome.{Outcome, MakesResult, Does, Judges, refused_netlist, accepted_netlist, CallsFor, IsCut, IsRefusedRequest, IsCutShort, MayLeave, Leaves, after_made, ConsoleGained}
-use Rattle.diatest.specs.Ran.{Ran, IsDone, GeneratesFile, IsMadeFile, HasApartClasses, HasEqualMarked, HasLowestUnmarked, PrintsFaults, RefusesNetlist, KeepsRefused, IsComplete}
+use Rattle.diatest.specs.Ran.{Ran, IsDone, GeneratesFile, IsMadeFile, HasApartClasses, HasEqualMarked, HasOpenSpent, HasLowestUnmarked, PrintsFaults, RefusesNetlist, KeepsRefused, IsComplete}
 use Rattle.diatest.proofs.NetlistLemmas.{HasLaws, accepted_not_refused}
 
 some_same : {X : Type 0} {x y : X} → Some x ≡ Some y → x ≡ y
@@ -63,6 +63,13 @@ module _ {asked : Option Request} {status : ℕ} {old new : World} (done : IsDon
       let x = d.2.1 in
       let true_file = x.does.is_true in
       (d.0, x.design, x.does.file, d.1, x.accepted, held_by x.does d.2.2, (true_file.stated, true_file.text, true_file.is_true.equal))
+
+  pub spent_of : GeneratesFile HasOpenSpent asked status old new
+  spent_of bench result budgets is z =
+      let d = done_for (gen bench result budgets) is z in
+      let x = d.2.1 in
+      let true_file = x.does.is_true in
+      (d.0, x.design, x.does.file, d.1, x.accepted, held_by x.does d.2.2, (true_file.stated, true_file.text, true_file.is_true.spent))
 
   pub lowest_of : GeneratesFile HasLowestUnmarked asked status old new
   lowest_of bench result budgets is z =

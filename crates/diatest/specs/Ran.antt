@@ -8,7 +8,9 @@ use Rattle.net_model.specs.declared.circuit.Design.{Design}
 use Rattle.result_file.specs.declared.record.Budgets.{Budgets}
 use Rattle.result_file.specs.declared.record.Summary.{Summary}
 use Rattle.result_file.specs.Spelling.{text_of}
-use Rattle.result_file.specs.Meaning.{StatedResult, stated_records, AreApart, AreEqualMarked, AreLowest}
+use Rattle.net_model.specs.FaultList.{fault_count}
+use Rattle.result_file.specs.declared.record.Mark.TheVariants.{Spent}
+use Rattle.result_file.specs.Meaning.{StatedResult, stated_records, stated_mark, AreApart, AreEqualMarked, AreLowest, IsSpentOn}
 use Rattle.dia_gen.specs.Made.{IsMade, IsTrueFile}
 use Rattle.diatest.specs.Request.{Text, Request, gen, list_faults, bench_of, outputs_of, inputs_of}
 use Rattle.diatest.specs.Texts.{summary_text}
@@ -107,6 +109,10 @@ HasApartClasses c budgets file = (stated : StatedResult) × (file ≡ text_of (s
 -- Of the file: each member that is marked equal answers as the lowest of its class on every vector.
 abbrev pub HasEqualMarked : Circuit → Budgets → Text → Type 0
 HasEqualMarked c budgets file = (stated : StatedResult) × (file ≡ text_of (stated_records c stated)) × AreEqualMarked c stated
+
+-- Of the file: for each member that is marked open evidence spends the file's budget with closed cubes.
+abbrev pub HasOpenSpent : Circuit → Budgets → Text → Type 0
+HasOpenSpent c budgets file = (stated : StatedResult) × (file ≡ text_of (stated_records c stated)) × ((n : ℕ) → n < fault_count c → stated_mark stated n ≡ Spent → IsSpentOn c stated n)
 
 -- Of the file: each member that isn't marked is the lowest of its class.
 abbrev pub HasLowestUnmarked : Circuit → Budgets → Text → Type 0

@@ -3,7 +3,7 @@
 ghost use Rattle.std.specs.Prelude.{◌≡◌, ◌⊎◌, map, string_bytes, IsTrue, None};
 ghost use Rattle.diag_shelf.specs.Calls.{Told};
 ghost use Rattle.diatest.specs.Request.{request_of, inputs_of};
-ghost use Rattle.diatest.specs.Ran.{HasCauses, IsDone, IsUnread, IsBrokenOff, OnlyOutputs, AreHeld, NoneFailed, Ran, GeneratesFile, IsMadeFile, HasApartClasses, HasEqualMarked, HasLowestUnmarked, PrintsFaults, RefusesNetlist, KeepsRefused, IsComplete};
+ghost use Rattle.diatest.specs.Ran.{HasCauses, IsDone, IsUnread, IsBrokenOff, OnlyOutputs, AreHeld, NoneFailed, Ran, GeneratesFile, IsMadeFile, HasApartClasses, HasEqualMarked, HasOpenSpent, HasLowestUnmarked, PrintsFaults, RefusesNetlist, KeepsRefused, IsComplete};
 
 use crate::ends::say;
 use crate::generates::generate_file;
@@ -32,6 +32,7 @@ pub fn run<S: Shelf>(alloc: Global, words: &[String], shelf: &mut S) -> u8
     ensures made { Told (S.state shelf.old) (S.state shelf.new) (GeneratesFile IsMadeFile (request_of (map string_bytes words.now)) result) }
     ensures apart { Told (S.state shelf.old) (S.state shelf.new) (GeneratesFile HasApartClasses (request_of (map string_bytes words.now)) result) }
     ensures equal { Told (S.state shelf.old) (S.state shelf.new) (GeneratesFile HasEqualMarked (request_of (map string_bytes words.now)) result) }
+    ensures spent { Told (S.state shelf.old) (S.state shelf.new) (GeneratesFile HasOpenSpent (request_of (map string_bytes words.now)) result) }
     ensures lowest { Told (S.state shelf.old) (S.state shelf.new) (GeneratesFile HasLowestUnmarked (request_of (map string_bytes words.now)) result) }
 
     // The faults of a circuit.

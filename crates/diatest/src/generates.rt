@@ -23,7 +23,6 @@ pub(crate) fn generate_file<S: Shelf>(
     budgets: Budgets,
 ) -> u8
     requires limits { AreWithinLimits budgets }
-    requires cubes { budgets.cubes ≡ 0 }
     requires conflicts { budgets.conflicts ≡ 0 }
     ensures { Ran (Some (gen bench.now output.now budgets)) result (S.state shelf.old) (S.state shelf.new) }
 {
@@ -43,7 +42,6 @@ fn save_result<S: Shelf>(
     budgets: Budgets,
 ) -> u8
     requires limits { AreWithinLimits budgets }
-    requires cubes { budgets.cubes ≡ 0 }
     requires conflicts { budgets.conflicts ≡ 0 }
     ensures { SavesResult circuit.now budgets output.now result (S.state shelf.old) (S.state shelf.new) }
 {

@@ -3,8 +3,8 @@
 ghost use Rattle.std.specs.Prelude.{◌≡◌, ◌<◌, ◌≤◌, ◌↔◌, map, string_bytes, IsTrue, IfSome, IfNone};
 ghost use Rattle.std.specs.Option.{option_map};
 ghost use Rattle.result_file.specs.Lines.{AreWithinLimits};
-ghost use Rattle.diatest.specs.Request.{budgets_of, faults_of, gen_of, number_in, request_of};
-ghost use Rattle.diatest.specs.Asked.{asked, HasLimits};
+ghost use Rattle.diatest.specs.Request.{budgets_of, faults_of, gen_of, number_in, option_of, request_of};
+ghost use Rattle.diatest.specs.Asked.{asked, option_read, HasLimits};
 ghost use Rattle.diatest.specs.Padded.{IsPadded};
 
 use result_file::Budgets;
@@ -19,12 +19,15 @@ pub(crate) enum Request<'a> {
 // The budgets where no option is given.
 const DEFAULT_BUDGETS: Budgets = Budgets {
     blocks: 4,
-    cubes: 0,
+    cubes: 64,
     conflicts: 0,
 };
 
 // The most blocks of the stream.
 const BLOCKS_LIMIT: u32 = 65_536;
+
+// The most cubes for a pair of faults.
+const CUBES_LIMIT: u32 = 1_048_576;
 
 pub(crate) fn read_words(words: &[String]) -> Option<Request<'_>>
     ensures asked { option_map asked result ≡ request_of (map string_bytes words.now) }
@@ -69,19 +72,36 @@ fn read_faults(words: &[String]) -> Option<Request<'_>>
 fn read_budgets(options: &[String]) -> Option<Budgets>
     ensures asked { result ≡ budgets_of (map string_bytes options.now) }
     ensures limits { IfSome result AreWithinLimits }
-    ensures no_search { IfSome result (λ budgets. (budgets.cubes ≡ 0) × (budgets.conflicts ≡ 0)) }
+    ensures conflicts { IfSome result (λ budgets. budgets.conflicts ≡ 0) }
 {
-    match options {
-        [] => Some(DEFAULT_BUDGETS),
-        [option, number] if option.as_str() == "--blocks" => {
-            let blocks = read_number(number.as_str(), BLOCKS_LIMIT)?;
-            Some(Budgets {
-                blocks,
-                cubes: 0,
-                conflicts: 0,
-            })
+    let (blocks, options) = read_option(options, "--blocks", BLOCKS_LIMIT)?;
+    let (cubes, options) = read_option(options, "--cubes", CUBES_LIMIT)?;
+    if !options.is_empty() {
+        return None;
+    }
+    Some(Budgets {
+        blocks: blocks.unwrap_or(DEFAULT_BUDGETS.blocks),
+        cubes: cubes.unwrap_or(DEFAULT_BUDGETS.cubes),
+        conflicts: DEFAULT_BUDGETS.conflicts,
+    })
+}
+
+// The number of an option that may stand at the head of the words, and the words behind it.
+fn read_option<'a>(
+    words: &'a [String],
+    name: &str,
+    limit: u32,
+) -> Option<(Option<u32>, &'a [String])>
+    ensures read { option_map option_read result ≡ option_of name.now limit (map string_bytes words.now) }
+    ensures low { IfSome result (λ read. IfSome read.0 (λ number. number ≤ limit)) }
+{
+    match words {
+        [word, words @ ..] if word.as_str() == name => {
+            let (number, words) = words.split_first()?;
+            let number = read_number(number.as_str(), limit)?;
+            Some((Some(number), words))
         }
-        _ => None,
+        _ => Some((None, words)),
     }
 }
 

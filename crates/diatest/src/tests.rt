@@ -58,38 +58,56 @@ fn failing(alloc: Global, call: u64) -> Result<Left, AllocError> {
     })
 }
 
-// A wire; no line at all; an AND; an OR of a signal and its complement; a flip-flop that toggles.
+// A wire; no line at all; an AND; an OR of a signal and its complement, without a search too; a flip-flop that toggles; the
+// wire without a block of the stream, where no vector is kept, and all faults stay in one class.
 #[test]
 fn results_of_small_circuits(rt: HostRuntime) -> Result<(), Fail> {
-    let cases: [(&[u8], &[u8], &[u8]); 5] = [
+    let cases: [(&[u8], &[&str], &[u8], &[u8]); 7] = [
         (
             b"INPUT(a)\nz=BUFF(a)\nOUTPUT(z)\n",
-            b"diatest 1 1 1 5\nbudget 4 0 0\npattern 0\npattern 1\nsame 3 1 C\nsame 4 2 C\nclass 0 - -\nclass 1 0 0\nclass 2 0 1\nmember 0 0 rep\nmember 1 2 rep\nmember 2 1 rep\nmember 3 2 equal\nmember 4 1 equal\nend\n",
+            &["gen", "n", "r"],
+            b"diatest 1 1 1 5\nbudget 4 64 0\npattern 0\npattern 1\nsame 3 1 C\nsame 4 2 C\nclass 0 - -\nclass 1 0 0\nclass 2 0 1\nmember 0 0 rep\nmember 1 2 rep\nmember 2 1 rep\nmember 3 2 equal\nmember 4 1 equal\nend\n",
             b"numbers 5 patterns 2 classes 3 equal 2 open 0\n",
         ),
         (
             b"",
-            b"diatest 1 0 0 1\nbudget 4 0 0\nclass 0 - -\nmember 0 0 rep\nend\n",
+            &["gen", "n", "r"],
+            b"diatest 1 0 0 1\nbudget 4 64 0\nclass 0 - -\nmember 0 0 rep\nend\n",
             b"numbers 1 patterns 0 classes 1 equal 0 open 0\n",
         ),
         (
             b"INPUT(a)\nINPUT(b)\nOUTPUT(z)\nz=AND(a,b)\n",
-            b"diatest 1 2 1 7\nbudget 4 0 0\npattern 00\npattern 10\npattern 01\npattern 11\nsame 3 1 C\nsame 5 1 C\nclass 0 - -\nclass 1 0 0\nclass 2 0 1\nclass 3 0 2\nclass 4 0 3\nmember 0 0 rep\nmember 1 4 rep\nmember 2 3 rep\nmember 3 4 equal\nmember 4 2 rep\nmember 5 4 equal\nmember 6 1 rep\nend\n",
+            &["gen", "n", "r"],
+            b"diatest 1 2 1 7\nbudget 4 64 0\npattern 00\npattern 10\npattern 01\npattern 11\nsame 3 1 C\nsame 5 1 C\nclass 0 - -\nclass 1 0 0\nclass 2 0 1\nclass 3 0 2\nclass 4 0 3\nmember 0 0 rep\nmember 1 4 rep\nmember 2 3 rep\nmember 3 4 equal\nmember 4 2 rep\nmember 5 4 equal\nmember 6 1 rep\nend\n",
             b"numbers 7 patterns 4 classes 5 equal 2 open 0\n",
         ),
         (
             b"INPUT(a)\nOUTPUT(z)\nb=NOT(a)\nz=OR(a,b)\n",
+            &["gen", "n", "r"],
+            b"diatest 1 1 1 11\nbudget 4 64 0\npattern 0\npattern 1\nsame 1 0 T 0 . .\nsame 2 0 T 0 . .\nsame 3 0 T 0 . .\nsame 6 0 T 0 . .\nsame 7 4 C\nsame 8 0 T 0 . .\nsame 10 0 T 0 . .\nclass 0 - -\nclass 1 0 0\nclass 2 0 1\nclass 3 1 1\nmember 0 0 rep\nmember 1 0 equal\nmember 2 0 equal\nmember 3 0 equal\nmember 4 1 rep\nmember 5 2 rep\nmember 6 0 equal\nmember 7 1 equal\nmember 8 0 equal\nmember 9 3 rep\nmember 10 0 equal\nend\n",
+            b"numbers 11 patterns 2 classes 4 equal 7 open 0\n",
+        ),
+        (
+            b"INPUT(a)\nOUTPUT(z)\nb=NOT(a)\nz=OR(a,b)\n",
+            &["gen", "n", "r", "--cubes", "0"],
             b"diatest 1 1 1 11\nbudget 4 0 0\npattern 0\npattern 1\nsame 1 0 O ?\nsame 2 0 O ?\nsame 3 0 O ?\nsame 6 0 O ?\nsame 7 4 C\nsame 8 0 O ?\nsame 10 0 O ?\nclass 0 - -\nclass 1 0 0\nclass 2 0 1\nclass 3 1 1\nmember 0 0 rep\nmember 1 0 open\nmember 2 0 open\nmember 3 0 open\nmember 4 1 rep\nmember 5 2 rep\nmember 6 0 open\nmember 7 1 equal\nmember 8 0 open\nmember 9 3 rep\nmember 10 0 open\nend\n",
             b"numbers 11 patterns 2 classes 4 equal 1 open 6\n",
         ),
         (
             b"q=DFF(d)\nd=NOT(q)\n",
-            b"diatest 1 1 1 5\nbudget 4 0 0\npattern 0\npattern 1\nsame 3 2 C\nsame 4 1 C\nclass 0 - -\nclass 1 0 0\nclass 2 0 1\nmember 0 0 rep\nmember 1 2 rep\nmember 2 1 rep\nmember 3 1 equal\nmember 4 2 equal\nend\n",
+            &["gen", "n", "r"],
+            b"diatest 1 1 1 5\nbudget 4 64 0\npattern 0\npattern 1\nsame 3 2 C\nsame 4 1 C\nclass 0 - -\nclass 1 0 0\nclass 2 0 1\nmember 0 0 rep\nmember 1 2 rep\nmember 2 1 rep\nmember 3 1 equal\nmember 4 2 equal\nend\n",
             b"numbers 5 patterns 2 classes 3 equal 2 open 0\n",
         ),
+        (
+            b"INPUT(a)\nOUTPUT(z)\nz=BUFF(a)\n",
+            &["gen", "n", "r", "--blocks", "0", "--cubes", "0"],
+            b"diatest 1 1 1 5\nbudget 0 0 0\nsame 1 0 O ?\nsame 2 0 O ?\nsame 3 0 O ?\nsame 4 0 O ?\nclass 0 - -\nmember 0 0 rep\nmember 1 0 open\nmember 2 0 open\nmember 3 0 open\nmember 4 0 open\nend\n",
+            b"numbers 5 patterns 0 classes 1 equal 0 open 4\n",
+        ),
     ];
-    for (netlist, result, console) in &cases {
-        let left = generated(rt.alloc(), *netlist)?;
+    for (netlist, all, result, console) in &cases {
+        let left = generated_by(rt.alloc(), *netlist, *all)?;
         assert_eq!(rt; left.status, 0);
         assert_eq!(rt; left.result.ok_or("no file")?.as_slice(), *result);
         assert_eq!(rt; left.console.as_slice(), *console);
@@ -102,6 +120,10 @@ const C17: &[u8] =
 
 const S27: &[u8] =
     b"# s27\nINPUT(G0)\nINPUT(G1)\nINPUT(G2)\nINPUT(G3)\n\nOUTPUT(G17)\n\nG5 = DFF(G10)\nG6 = DFF(G11)\nG7 = DFF(G13)\nG14 = NOT(G0)\nG17 = NOT(G11)\nG8 = AND(G14, G6)\nG15 = OR(G12, G8)\nG16 = OR(G3, G8)\nG9 = NAND(G16, G15)\nG10 = NOR(G14, G11)\nG11 = NOR(G5, G9)\nG12 = NOR(G1, G7)\nG13 = NOR(G2, G12)\n";
+
+// The sum of nine inputs, and the complement of the sum of three sums over them.
+const PARITY: &[u8] =
+    b"INPUT(a0)\nINPUT(a1)\nINPUT(a2)\nINPUT(a3)\nINPUT(a4)\nINPUT(a5)\nINPUT(a6)\nINPUT(a7)\nINPUT(a8)\nOUTPUT(z)\nf=XOR(a0,a1,a2,a3,a4,a5,a6,a7,a8)\nt0=XOR(a0,a1,a2)\nt1=XOR(a3,a4,a5)\nt2=XOR(a6,a7,a8)\ng=XNOR(t0,t1,t2)\nz=XOR(f,g)\n";
 
 // What the command `faults` leaves on the console, over one netlist.
 fn listed(alloc: Global, netlist: &[u8]) -> Result<Left, AllocError> {
@@ -159,37 +181,56 @@ fn summaries_of_known_circuits(rt: HostRuntime) -> Result<(), Fail> {
             b"INPUT(a)\nOUTPUT(a)\nOUTPUT(a)\n",
             b"numbers 7 patterns 2 classes 7 equal 0 open 0\n",
         ),
-        (C17, b" classes 23 equal 12 open 0\n"),
+        (C17, b"numbers 35 patterns 11 classes 23 equal 12 open 0\n"),
     ];
     for (netlist, console) in &cases {
         let left = generated(rt.alloc(), *netlist)?;
         assert_eq!(rt; left.status, 0);
         assert!(rt; left.console.as_slice().ends_with(*console));
     }
-    let left = generated(rt.alloc(), S27)?;
-    assert_eq!(rt; left.status, 0);
-    let file = left.result.ok_or("no file")?;
-    assert!(rt;
-        file.as_slice()
-            .starts_with(b"diatest 1 7 4 53\nbudget 4 0 0\npattern 0000001\n")
-    );
     Ok(())
 }
 
-// Without a block no vector is kept, and all faults stay in one class.
+// s27 and the parity circuit: the console's end, and the file's first lines.
 #[test]
-fn no_block_of_the_stream(rt: HostRuntime) -> Result<(), Fail> {
-    let wire = b"INPUT(a)\nOUTPUT(z)\nz=BUFF(a)\n";
-    let left = generated_by(rt.alloc(), wire, &["gen", "n", "r", "--blocks", "0"])?;
+fn searches_of_known_circuits(rt: HostRuntime) -> Result<(), Fail> {
+    let cases: [(&[u8], &str, &[u8], &[u8]); 2] = [
+        (
+            S27,
+            "128",
+            b" open 0\n",
+            b"diatest 1 7 4 53\nbudget 4 128 0\npattern 0000001\n",
+        ),
+        (
+            PARITY,
+            "512",
+            b" open 0\n",
+            b"diatest 1 9 1 67\nbudget 4 512 0\n",
+        ),
+    ];
+    for (netlist, cubes, console, start) in &cases {
+        let left = generated_by(rt.alloc(), *netlist, &["gen", "n", "r", "--cubes", *cubes])?;
+        assert_eq!(rt; left.status, 0);
+        assert!(rt; left.console.as_slice().ends_with(*console));
+        assert!(rt; left.result.ok_or("no file")?.as_slice().starts_with(*start));
+    }
+    Ok(())
+}
+
+// Four closed cubes don't show that the output of the parity circuit is always 1.
+#[test]
+fn a_pair_that_stays_open(rt: HostRuntime) -> Result<(), Fail> {
+    let left = generated_by(rt.alloc(), PARITY, &["gen", "n", "r", "--cubes", "4"])?;
     assert_eq!(rt; left.status, 0);
-    assert_eq!(rt;
-        left.result.ok_or("no file")?.as_slice(),
-        b"diatest 1 1 1 5\nbudget 0 0 0\nsame 1 0 O ?\nsame 2 0 O ?\nsame 3 0 O ?\nsame 4 0 O ?\nclass 0 - -\nmember 0 0 rep\nmember 1 0 open\nmember 2 0 open\nmember 3 0 open\nmember 4 0 open\nend\n".as_slice()
-    );
-    assert_eq!(rt;
-        left.console.as_slice(),
-        b"numbers 5 patterns 0 classes 1 equal 0 open 4\n".as_slice()
-    );
+    let file = left.result.ok_or("no file")?;
+    assert!(rt; has(file.as_slice(), b"\nmember 66 0 open\n"));
+    let line = file
+        .as_slice()
+        .split(|byte| *byte == b'\n')
+        .find(|line| line.starts_with(b"same 66 0 O "))
+        .ok_or("no evidence")?;
+    assert_eq!(rt; line.iter().filter(|byte| **byte == b'.').count(), 4);
+    assert!(rt; line.contains(&b'?'));
     Ok(())
 }
 
@@ -262,7 +303,7 @@ fn refusals_create_no_file(rt: HostRuntime) -> Result<(), Fail> {
         assert!(rt; has(console, *refusal));
     }
     let alloc = rt.alloc();
-    let wrong: [&[&str]; 7] = [
+    let wrong: [&[&str]; 9] = [
         &[],
         &["gen", "a"],
         &["faults"],
@@ -270,6 +311,8 @@ fn refusals_create_no_file(rt: HostRuntime) -> Result<(), Fail> {
         &["gen", "a", "b", "--blocks", "65537"],
         &["gen", "a", "b", "--blocks", "01"],
         &["gen", "a", "b", "--blocks"],
+        &["gen", "a", "b", "--cubes", "1048577"],
+        &["gen", "a", "b", "--cubes", "5", "--blocks", "1"],
     ];
     for all in &wrong {
         let mut shelf = SureShelf::new(alloc, 7);

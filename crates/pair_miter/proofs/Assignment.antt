@@ -258,13 +258,13 @@ module _ (c : Circuit) (f g : Fault) (x y : List Bool) where
       ∙ ap (λ bits. bit_at bits 0) here)))))))
 
 -- the operands that are variables carry the bits at the pins that aren't stuck
-free_operands : (c : Circuit) (f g : Fault) (bits : List Bool) (copy : Copy) (stuck : ℕ → Option Bool) (z : List Bool) (n : ℕ) (lines : List ℕ)
+Variables : (c : Circuit) (f g : Fault) (bits : List Bool) (copy : Copy) (stuck : ℕ → Option Bool) (z : List Bool) (n : ℕ) (lines : List ℕ)
     → ((read : ℕ) → Contains lines read → bit_at z read ≡ copy_bit c f g bits copy read)
     → variable_bits bits (filter_map variable_of (map (λ x. operand_of c f g copy (stuck x.0) x.1) (enumerate_from n lines))) ≡ filter_map (λ o. o) (map (λ x. free_bit (stuck x.0) (bit_at z x.1)) (enumerate_from n lines))
 unfolding free_bit
-free_operands c f g bits copy stuck z n [] h = refl
-free_operands c f g bits copy stuck z n (line ∷ lines) h =
-    one_operand (stuck n) (free_operands c f g bits copy stuck z (n + 1) lines (λ read m. h read (later line lines read m)))
+Variables c f g bits copy stuck z n [] h = refl
+Variables c f g bits copy stuck z n (line ∷ lines) h =
+    one_operand (stuck n) (Variables c f g bits copy stuck z (n + 1) lines (λ read m. h read (later line lines read m)))
   where
     one_operand : (o : Option Bool)
         → variable_bits bits (filter_map variable_of (map (λ x. operand_of c f g copy (stuck x.0) x.1) (enumerate_from (n + 1) lines))) ≡ filter_map (λ o. o) (map (λ x. free_bit (stuck x.0) (bit_at z x.1)) (enumerate_from (n + 1) lines))
@@ -276,4 +276,4 @@ pub variables_carry : (c : Circuit) (f g : Fault) (bits : List Bool) (copy : Cop
     → ((read : ℕ) → Contains gate.pins read → bit_at z read ≡ copy_bit c f g bits copy read)
     → variable_bits bits (variables (gate_operands c f g copy line gate)) ≡ free_bits (stuck_pin (fault_of c f g copy) line) z gate.pins
 unfolding readings free_bits
-variables_carry c f g bits copy z line gate h = free_operands c f g bits copy (stuck_pin (fault_of c f g copy) line) z 0 gate.pins h
+variables_carry c f g bits copy z line gate h = Variables c f g bits copy (stuck_pin (fault_of c f g copy) line) z 0 gate.pins h

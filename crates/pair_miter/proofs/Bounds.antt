@@ -1,7 +1,7 @@
 -- A miter has fewer than 2^30 clauses and fewer than 2^31 variables: each line has at most eight clauses for itself and
 -- for each pin of its gate, and there are not too many lines, pins and positions.
 use Rattle.std.proofs.Common.{◌≡◌, ◌∙◌, ℕ, zero, suc, ◌+◌, ◌-◌, ◌*◌, ◌<◌, ◌≤◌, ◌^◌, refl, sym, ap, arith, drop, get_or}
-use Rattle.std.specs.Prelude.{Bool, true, false, not, List, [], ◌∷◌, ◌++◌, map, filter, flat_map, length, Option, None, Some, slice_get, nat_lt, is_none, ◌&&◌, sum_by, count_by, if◌then◌else◌}
+use Rattle.std.specs.Prelude.{Bool, true, false, not, List, [], ◌∷◌, ◌++◌, map, filter, flat_map, length, Option, None, Some, slice_get, nat_lt, is_none, ◌&&◌, sum_by, if◌then◌else◌}
 use Rattle.std.specs.Option.{option_map_or}
 use Rattle.std.specs.List.{range_with_len, filter_map, cons_option}
 use Rattle.std.proofs.lemmas.List.FromFn.{length-range_with_len}
@@ -15,14 +15,16 @@ use Rattle.net_model.specs.declared.gate.Gate.{Gate}
 use Rattle.net_model.specs.declared.fault.Fault.{Fault}
 use Rattle.net_model.specs.Gate.{odd_ones}
 use Rattle.net_model.specs.Circuit.{Circuit, IsCircuit, line_count, all_lines, pins_of, gate_at}
-use Rattle.net_model.specs.Fault.{stuck_stem, stuck_pin, stuck_position, readings}
+use Rattle.net_model.specs.Fault.{stuck_stem, stuck_pin, readings}
 use Rattle.net_model.specs.Scope.{is_split, is_relevant, is_reached, relevant_lines, reached_positions}
 use Rattle.net_model.proofs.QueueSteps.{source_pins}
 use Rattle.net_model.proofs.Elements.{slice_get-none}
 use Rattle.clause_pool.specs.Literal.{Literal, pos_literal, neg_literal, opposite}
 use Rattle.clause_pool.specs.Clauses.{Clause}
 use Rattle.pair_miter.specs.Variables.{Copy, first_copy, second_copy, fault_of, is_parity, line_variables, variables_below, line_variable, free_pins, gate_helpers, copy_helpers, line_helpers, helpers_below, first_helper, difference_variable, variable_count}
-use Rattle.pair_miter.specs.Rows.{Operand, stuck_operand, free_operand, variable_of, variables, constants, has_constant, and_of, or_of, same_value, xor_of_two, xor_onward, xor_of, buffer_of, and_rows, or_rows, output_literal, xor_rows, gate_rows}
+use Rattle.pair_miter.specs.declared.operand.Operand.{Operand}
+use Rattle.pair_miter.specs.declared.operand.Operand.TheVariants.{Constant, Variable}
+use Rattle.pair_miter.specs.Rows.{variable_of, variables, constants, has_constant, and_of, or_of, xor_of_two, xor_onward, xor_of, buffer_of, and_rows, or_rows, output_literal, xor_rows, gate_rows}
 use Rattle.pair_miter.specs.Miter.{operand_of, gate_operands, gate_clauses, stuck_clauses, copy_clauses, line_clauses, shown_operand, difference_clauses, raw_clauses, without_repeats, is_tautology, tidy, miter}
 use Rattle.pair_miter.proofs.CopyClauses.{length-readings}
 
@@ -110,10 +112,10 @@ module _ (operands : List Operand) where
 
 buffer_of-few : (y : Literal) (operands : List Operand) → length (buffer_of y operands) ≤ 4 * length operands + 1
 buffer_of-few y [] = omega arith
-buffer_of-few y (stuck_operand b ∷ operands) = omega arith
-buffer_of-few y (free_operand x ∷ operands) = omega arith
+buffer_of-few y (Constant b ∷ operands) = omega arith
+buffer_of-few y (Variable x ∷ operands) = omega arith
 
-gate_rows-few : (kind : Kind) (y helper : ℕ) (operands : List Operand) → length (gate_rows kind y helper operands) ≤ 4 * length operands + 1
+pub gate_rows-few : (kind : Kind) (y helper : ℕ) (operands : List Operand) → length (gate_rows kind y helper operands) ≤ 4 * length operands + 1
 unfolding gate_rows
 gate_rows-few And y helper operands = and_rows-few operands (output_literal false y)
 gate_rows-few Nand y helper operands = and_rows-few operands (output_literal true y)
@@ -288,7 +290,7 @@ module _ (c : Circuit) where
       few_reached,
     )
 
-tidy-few : (clauses : List Clause) → length (tidy clauses) ≤ length clauses
+pub tidy-few : (clauses : List Clause) → length (tidy clauses) ≤ length clauses
 unfolding tidy
 tidy-few clauses = omega (arith, length-map (filter (λ clause. not (is_tautology clause)) clauses) without_repeats, length-filter-le (λ clause. not (is_tautology clause)) clauses)
 

@@ -19,7 +19,9 @@ use Rattle.net_model.proofs.Relevance.{relevant_back, reached_listed, listed_rea
 use Rattle.fault_list.proofs.Pair.{same_unreached}
 use Rattle.clause_pool.specs.Literal.{pos_literal}
 use Rattle.pair_miter.specs.Variables.{Copy, first_copy, second_copy, fault_of, first_helper, is_parity, difference_variable}
-use Rattle.pair_miter.specs.Rows.{Operand, stuck_operand, free_operand, variables}
+use Rattle.pair_miter.specs.declared.operand.Operand.{Operand}
+use Rattle.pair_miter.specs.declared.operand.Operand.TheVariants.{Constant, Variable}
+use Rattle.pair_miter.specs.Rows.{variables}
 use Rattle.pair_miter.specs.Miter.{copy_clauses, line_clauses, shown_operand, difference_clauses, raw_clauses, miter, literal_bit, is_satisfied_by, is_model, copy_bit}
 use Rattle.pair_miter.specs.Laws.{HasModel}
 use Rattle.pair_miter.proofs.TidyAndFresh.{is_model-tidy}
@@ -50,10 +52,10 @@ differ_flips false false n = absurd (n refl)
 
 -- an exclusive or of two operands has no helpers
 no_helpers : (bits : List Bool) (o p : Operand) → Carry bits 0 (helper_bits (variable_bits bits (variables (o ∷ p ∷ []))))
-no_helpers bits (stuck_operand a) (stuck_operand b) k h = absurd (omega arith)
-no_helpers bits (stuck_operand a) (free_operand y) k h = absurd (omega arith)
-no_helpers bits (free_operand x) (stuck_operand b) k h = absurd (omega arith)
-no_helpers bits (free_operand x) (free_operand y) k h = absurd (omega arith)
+no_helpers bits (Constant a) (Constant b) k h = absurd (omega arith)
+no_helpers bits (Constant a) (Variable y) k h = absurd (omega arith)
+no_helpers bits (Variable x) (Constant b) k h = absurd (omega arith)
+no_helpers bits (Variable x) (Variable y) k h = absurd (omega arith)
 
 module _ (c : Circuit) (w : IsCircuit c) (f g : Fault) (v x y : List Bool) (a : Agrees c f v x) (b : Agrees c g v y) where
   abbrev bits : List Bool

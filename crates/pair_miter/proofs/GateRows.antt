@@ -12,15 +12,17 @@ use Rattle.net_model.specs.Gate.{all_ones, some_one, odd_ones, gate_value, takes
 use Rattle.net_model.specs.Answer.{bit_at}
 use Rattle.clause_pool.specs.Literal.{Literal, pos_literal, neg_literal, opposite}
 use Rattle.pair_miter.specs.Variables.{is_parity}
-use Rattle.pair_miter.specs.Rows.{Operand, stuck_operand, free_operand, constants, variables, has_constant, and_of, or_of, same_value, xor_of_two, xor_onward, xor_of, buffer_of, and_rows, or_rows, output_literal, xor_rows, gate_rows}
+use Rattle.pair_miter.specs.declared.operand.Operand.{Operand}
+use Rattle.pair_miter.specs.declared.operand.Operand.TheVariants.{Constant, Variable}
+use Rattle.pair_miter.specs.Rows.{constants, variables, has_constant, and_of, or_of, same_value, xor_of_two, xor_onward, xor_of, buffer_of, and_rows, or_rows, output_literal, xor_rows, gate_rows}
 use Rattle.pair_miter.specs.Miter.{literal_bit, is_satisfied_by, is_model}
 use Rattle.pair_miter.proofs.TidyAndFresh.{opposite_bit}
 use Rattle.pair_miter.proofs.Bits.{holds, holds-is, is-holds, not_is, is_not, flip, flip-false, flip-assoc, flip-inner, flip_back, flip_on, odd_ones-cons}
 
 -- what an operand carries
 abbrev pub operand_value : List Bool → Operand → Bool
-operand_value bits (stuck_operand b) = b
-operand_value bits (free_operand x) = bit_at bits (x - 1)
+operand_value bits (Constant b) = b
+operand_value bits (Variable x) = bit_at bits (x - 1)
 
 -- ---- helpers
 
@@ -138,17 +140,17 @@ module _ (bits : List Bool) where
 
   all_of_operands : (operands : List Operand) → all_ones (map (operand_value bits) operands) ≡ (if has_constant false operands then false else all_ones (variable_bits (variables operands)))
   all_of_operands [] = refl
-  all_of_operands (stuck_operand true ∷ operands) = all_of_operands operands
-  all_of_operands (stuck_operand false ∷ operands) = refl
-  all_of_operands (free_operand x ∷ operands) =
+  all_of_operands (Constant true ∷ operands) = all_of_operands operands
+  all_of_operands (Constant false ∷ operands) = refl
+  all_of_operands (Variable x ∷ operands) =
       ap (λ b. bit_at bits (x - 1) && b) (all_of_operands operands)
       ∙ and_through (bit_at bits (x - 1)) (has_constant false operands) (all_ones (variable_bits (variables operands)))
 
   some_of_operands : (operands : List Operand) → some_one (map (operand_value bits) operands) ≡ (if has_constant true operands then true else some_one (variable_bits (variables operands)))
   some_of_operands [] = refl
-  some_of_operands (stuck_operand true ∷ operands) = refl
-  some_of_operands (stuck_operand false ∷ operands) = some_of_operands operands
-  some_of_operands (free_operand x ∷ operands) =
+  some_of_operands (Constant true ∷ operands) = refl
+  some_of_operands (Constant false ∷ operands) = some_of_operands operands
+  some_of_operands (Variable x ∷ operands) =
       ap (λ b. bit_at bits (x - 1) || b) (some_of_operands operands)
       ∙ or_through (bit_at bits (x - 1)) (has_constant true operands) (some_one (variable_bits (variables operands)))
 
@@ -180,9 +182,9 @@ module _ (bits : List Bool) where
       ∙ same_table (literal_bit bits y) (bit_at bits (x - 1))
 
   buffer_of-holds : (y : Literal) (operand : Operand) (operands : List Operand) → is_model bits (buffer_of y (operand ∷ operands)) ≡ holds (literal_bit bits y) (operand_value bits operand)
-  buffer_of-holds y (stuck_operand true) operands = unit_true y
-  buffer_of-holds y (stuck_operand false) operands = unit_false y
-  buffer_of-holds y (free_operand x) operands = same_value-holds y x
+  buffer_of-holds y (Constant true) operands = unit_true y
+  buffer_of-holds y (Constant false) operands = unit_false y
+  buffer_of-holds y (Variable x) operands = same_value-holds y x
 
   -- ---- exclusive or
 
@@ -262,12 +264,12 @@ module _ (bits : List Bool) where
 
   odd_of_operands : (operands : List Operand) → odd_ones (map (operand_value bits) operands) ≡ flip (odd_ones (constants operands)) (odd_ones (variable_bits (variables operands)))
   odd_of_operands [] = refl
-  odd_of_operands (stuck_operand b ∷ operands) =
+  odd_of_operands (Constant b ∷ operands) =
       odd_ones-cons b (map (operand_value bits) operands)
       ∙ (ap (flip b) (odd_of_operands operands)
       ∙ (sym (flip-assoc b (odd_ones (constants operands)) (odd_ones (variable_bits (variables operands))))
       ∙ ap (λ o. flip o (odd_ones (variable_bits (variables operands)))) (sym (odd_ones-cons b (constants operands)))))
-  odd_of_operands (free_operand x ∷ operands) =
+  odd_of_operands (Variable x ∷ operands) =
       odd_ones-cons (bit_at bits (x - 1)) (map (operand_value bits) operands)
       ∙ (ap (flip (bit_at bits (x - 1))) (odd_of_operands operands)
       ∙ (flip-inner (bit_at bits (x - 1)) (odd_ones (constants operands)) (odd_ones (variable_bits (variables operands)))

@@ -10,4 +10,15 @@ pub mod Places
 pub mod Assignment
 pub mod Complete
 pub mod Bounds
+pub mod Numbers
+pub mod Operands
+pub mod LineClauses
+pub mod ClauseParts
+pub mod Differences
+pub mod MiterParts
 pub mod Examples
+pub mod TidyParts
+pub mod MarkSteps
+pub mod AddSteps
+pub mod OperandSteps
+pub mod Families

@@ -2,6 +2,13 @@
 pub mod Variables
 pub mod Rows
 pub mod Miter
+pub mod MiterView
+pub mod Numbering
+pub mod MiterFields
+-- Writing clauses into a pool
+pub mod Adds
+pub mod Marks
+pub mod Parts
 -- Logs of resolutions
 pub mod ChainView
 pub mod Resolution

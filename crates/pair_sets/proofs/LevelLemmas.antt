@@ -1,12 +1,11 @@
 -- The levels of a simulation: the pairs of a cube, and those that come back where its last source is freed.
-use Rattle.std.proofs.Common.{◌≡◌, ◌≢◌, ℕ, ◌<◌, ◌≤◌, List, [], ◌∷◌, ◌++◌, length, length-append, get_or, set, take, drop, map, eqb, eq-eqb, refl, sym, ◌∙◌, ap, subst, arith, inl, inr}
-use Rattle.std.specs.Prelude.{Bool, true, false, Option, None, Some, option_map, find, cond, ◌==◌, ◌||◌, All, Contains, filter, reverse, vec_capacity, if◌then◌else◌}
+use Rattle.std.proofs.Common.{◌≡◌, ◌≢◌, ℕ, ◌<◌, ◌≤◌, List, [], ◌∷◌, ◌++◌, length, length-append, get_or, set, take, drop, eq-eqb, refl, sym, ◌∙◌, ap, subst, arith, inl, inr}
+use Rattle.std.specs.Prelude.{Bool, true, false, Option, None, Some, option_map, find, cond, ◌==◌, All, Contains, filter, reverse, vec_capacity, if◌then◌else◌}
 use Rattle.std.specs.Option.{option_map_or}
-use Rattle.std.specs.List.{list_any, list_all, AllByRecursion, IsDistinct, range_with_len}
-use Rattle.std.proofs.lemmas.Bool.{cases_eq, cases_lt, false≢true, ne_eqb}
+use Rattle.std.specs.List.{list_all, range_with_len}
+use Rattle.std.proofs.lemmas.Bool.{cases_eq, cases_lt, ne_eqb}
 use Rattle.std.proofs.lemmas.List.{get_or-set_same, get_or-set_other, length-map, take_at, drop_at}
 use Rattle.std.proofs.lemmas.List.Elements.{Contains-get_or}
-use Rattle.std.proofs.lemmas.Map.Steps.{length-le_from_distinct_below}
 use Rattle.net_model.specs.declared.fault.Fault.{Fault}
 use Rattle.net_model.specs.Circuit.{Circuit, line_count}
 use Rattle.net_model.specs.Fault.{stuck_stem}
@@ -19,13 +18,14 @@ use Rattle.pair_sets.specs.declared.sim.PairSim.TheInside.{Inside}
 use Rattle.pair_sets.specs.declared.state.PairState.{PairState}
 use Rattle.pair_sets.specs.declared.state.PairState.TheVariants.{AllSame, Apart, Undecided}
 use Rattle.pair_sets.specs.declared.trail.Change.{Change}
-use Rattle.pair_sets.specs.Cube.{Cube, fixed_bit}
+use Rattle.pair_sets.specs.Cube.{Cube, FixesOnce, fixed_bit}
 use Rattle.pair_sets.specs.PairSet.{forced_pairs, free_pairs, fixed_pairs, only_equal, only_unequal, IsWithin}
 use Rattle.pair_sets.specs.CubeState.{set_at, source_pairs, ArePairSets, position_pairs, state_of}
 use Rattle.pair_sets.specs.Pending.{IsEmpty}
 use Rattle.pair_sets.specs.Trail.{undone}
 use Rattle.pair_sets.specs.Events.{AreSettled, AreLoose, gate_line_pairs}
 use Rattle.pair_sets.specs.PairSimFields.{cube_of, IsLevelRight, AreLevels, IsReady}
+use Rattle.pair_sets.proofs.CubeLemmas.{few_fixed}
 use Rattle.pair_sets.proofs.PairLemmas.{within_same, within_forced}
 use Rattle.pair_sets.proofs.SeenLemmas.{source_line_pairs, any_cube}
 
@@ -86,9 +86,6 @@ module _ (c : Circuit) (f g : Fault) (cube : Cube) (sets : List PairSet) (are : 
 
 -- ---- levels
 
-source_of : Level → ℕ
-source_of level = level.source
-
 module _ (c : Circuit) (f g : Fault) (room : ℕ) where
   pub level_right : (levels : List Level) (changes : List Change) (sets : List PairSet) → AreLevels c f g room levels changes sets → IsLevelRight c f g (cube_of levels) room changes sets
   level_right [] changes sets are = are
@@ -108,41 +105,14 @@ module _ (c : Circuit) (f g : Fault) (room : ℕ) where
         subst (λ xs. AreLevels c f g room levels xs (undone (drop level.start all) new)) (sym taken) (subst (AreLevels c f g room levels changes) (sym back) are),
       )
 
-  free_apart : (levels : List Level) (source : ℕ) → fixed_bit (cube_of levels) source ≡ None → AllByRecursion (λ other. eqb source other ≡ false) (map source_of levels)
-  unfolding source_of
-  free_apart [] source e = tt
-  free_apart (level ∷ levels) source e = by (level.source == source) refl e (free_apart levels source)
-    where
-      by : (b : Bool) → (level.source == source) ≡ b → option_map (λ (fixed : ℕ × Bool). fixed.1) (cond b (Some (level.source, level.bit)) (find (λ fixed. fixed.0 == source) (cube_of levels))) ≡ None
-          → (fixed_bit (cube_of levels) source ≡ None → AllByRecursion (λ other. eqb source other ≡ false) (map source_of levels)) → (eqb source level.source ≡ false) × AllByRecursion (λ other. eqb source other ≡ false) (map source_of levels)
-      by true t e rest = cc
-      by false t e rest = (ne_eqb source level.source (λ same. false≢true (sym t ∙ eq-eqb level.source source (sym same))), rest e)
-
-  sources_apart : (levels : List Level) (changes : List Change) (sets : List PairSet) → AreLevels c f g room levels changes sets → IsDistinct eqb (map source_of levels)
-  unfolding source_of IsDistinct
-  sources_apart [] changes sets are = tt
-  sources_apart (level ∷ levels) changes sets are = (free_apart levels level.source are.2, sources_apart levels (take level.start changes) (undone (drop level.start changes) sets) are.4)
-
-  one_of : (n source : ℕ) (sources : List ℕ) → source < n → ((q : ℕ) → list_any (eqb q) sources ≡ true → q < n) → (q : ℕ) → list_any (eqb q) (source ∷ sources) ≡ true → q < n
-  one_of n source sources h rest q t = elim (cases_eq q source) [
-    | inl same ↦ subst (λ k. k < n) (sym same) h
-    | inr ne ↦ rest q (ap (λ b. b || list_any (eqb q) sources) (sym (ne_eqb q source ne)) ∙ t)
-  ]
-
-  sources_below : (levels : List Level) (changes : List Change) (sets : List PairSet) → AreLevels c f g room levels changes sets → (q : ℕ) → list_any (eqb q) (map source_of levels) ≡ true → q < c.sources
-  unfolding source_of
-  sources_below [] changes sets are q t = cc
-  sources_below (level ∷ levels) changes sets are q t =
-      one_of c.sources level.source (map source_of levels) are.1 (sources_below levels (take level.start changes) (undone (drop level.start changes) sets) are.4) q t
+  levels_once : (levels : List Level) (changes : List Change) (sets : List PairSet) → AreLevels c f g room levels changes sets → FixesOnce c.sources (cube_of levels)
+  levels_once [] changes sets are = tt
+  levels_once (level ∷ levels) changes sets are = (are.1, are.2, levels_once levels (take level.start changes) (undone (drop level.start changes) sets) are.4)
 
   -- there are fewer levels than sources where a source is free
   pub levels_few : (levels : List Level) (changes : List Change) (sets : List PairSet) → AreLevels c f g room levels changes sets → (source : ℕ) → source < c.sources → fixed_bit (cube_of levels) source ≡ None → length levels < c.sources
-  unfolding IsDistinct
   levels_few levels changes sets are source inside free =
-      let xs = source ∷ map source_of levels in
-      let few : length xs ≤ c.sources =
-      length-le_from_distinct_below xs c.sources (free_apart levels source free, sources_apart levels changes sets are) (one_of c.sources source (map source_of levels) inside (sources_below levels changes sets are)) in
-      omega (arith, few, length-map levels source_of)
+      omega (arith, few_fixed c.sources (cube_of levels) source (levels_once levels changes sets are) inside free, length-map {B = ℕ × Bool} levels (λ (level : Level). (level.source, level.bit)))
 
 -- ---- reached positions
 

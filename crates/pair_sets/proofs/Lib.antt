@@ -3,10 +3,14 @@ pub mod GateLemmas
 pub mod SeenLemmas
 pub mod ReaderLemmas
 pub mod TrailLemmas
+pub mod TallyLemmas
 pub mod EventLemmas
 pub mod LevelLemmas
 pub mod Coverage
 pub mod StateLemmas
 pub mod DecidedLemmas
+pub mod ReadLemmas
+pub mod CubeLemmas
+pub mod TreeLemmas
 pub mod Opened
 pub mod Examples

@@ -49,3 +49,9 @@ module _ (c : Circuit) (f g : Fault) where
     pub sets : List PairSet
     pub are : ArePairSets cube sets
     pub is : state ≡ state_of sets
+
+  -- The pairs are a part of the pair sets of a cube.
+  pub record IsPart (cube : Cube) (part : List PairSet → PairSet) (pairs : PairSet) : Type 0 where
+    pub sets : List PairSet
+    pub are : ArePairSets cube sets
+    pub is : pairs ≡ part sets

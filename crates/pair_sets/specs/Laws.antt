@@ -1,13 +1,16 @@
 -- Laws of the pair sets.
-use Rattle.std.specs.Prelude.{◌≡◌, ◌≢◌, ℕ, ◌<◌, Bool, true, List, length, IsSome, IsTrue}
+use Rattle.std.specs.Prelude.{◌≡◌, ◌≢◌, ℕ, ◌<◌, ◌^◌, Bool, true, List, length, IsSome, IsTrue, Some}
 use Rattle.net_model.specs.declared.fault.Fault.{Fault}
 use Rattle.net_model.specs.Circuit.{Circuit, IsCircuit, line_count}
-use Rattle.net_model.specs.Answer.{bit_at, Agrees, IsAnswer, Separates}
+use Rattle.net_model.specs.Answer.{bit_at, Agrees, IsAnswer, Separates, AreEqual}
 use Rattle.net_model.specs.Scope.{is_relevant}
 use Rattle.pair_sets.specs.declared.pair_set.PairSet.{PairSet}
 use Rattle.pair_sets.specs.declared.state.PairState.{PairState}
 use Rattle.pair_sets.specs.declared.state.PairState.TheVariants.{AllSame, Apart, Undecided}
+use Rattle.pair_sets.specs.declared.tree.Token.{Token}
+use Rattle.pair_sets.specs.declared.tree.Token.TheVariants.{Closed}
 use Rattle.pair_sets.specs.Cube.{Cube, InCube, fixed_bit, IsClosed}
+use Rattle.pair_sets.specs.Tree.{cube_at, token_at, IsTree, IsCovering, IsSpending}
 use Rattle.pair_sets.specs.PairSet.{has_pair}
 use Rattle.pair_sets.specs.CubeState.{set_at, ArePairSets, IsState}
 
@@ -40,3 +43,15 @@ FixedDecided = (c : Circuit) (f g : Fault) (cube : Cube) → IsCircuit c → ((s
 -- a cube has one state
 abbrev pub OneState : Type 0
 OneState = (c : Circuit) (f g : Fault) (cube : Cube) (s t : PairState) → IsCircuit c → IsState c f g cube s → IsState c f g cube t → s ≡ t
+
+-- no vector of the cube of a closed leaf separates
+abbrev pub LeavesClosed : Type 0
+LeavesClosed = (c : Circuit) (f g : Fault) (tokens : List Token) (at : ℕ) (cube : Cube) → IsCircuit c → IsTree c f g tokens → at < length tokens → token_at tokens at ≡ Closed → cube_at tokens at ≡ Some cube → IsClosed c f g cube
+
+-- the faults are equal where a tree covers all vectors
+abbrev pub CoveringEqual : Type 0
+CoveringEqual = (c : Circuit) (f g : Fault) (limit : ℕ) (tokens : List Token) → IsCircuit c → IsCovering c f g limit tokens → AreEqual c f g
+
+-- a limit is spent only where it is less than the number of vectors
+abbrev pub SpendingBounded : Type 0
+SpendingBounded = (c : Circuit) (f g : Fault) (limit : ℕ) (tokens : List Token) → IsCircuit c → IsSpending c f g limit tokens → limit < 2 ^ c.sources

@@ -2,11 +2,14 @@ pub mod Cube
 pub mod PairSet
 pub mod CubeState
 pub mod Tree
+pub mod Subtree
 pub mod Pending
 pub mod PendingFields
 pub mod Wiring
 pub mod Trail
 pub mod Events
+pub mod ShownFields
+pub mod Tally
 pub mod PairSim
 pub mod PairSimFields
 pub mod Laws

@@ -1,5 +1,5 @@
 -- Sets of pairs of bits: the value of a line under one fault, and under another.
-use Rattle.std.specs.Prelude.{◌≡◌, Bool, true, false, not, ◌&&◌, ◌||◌, List, [], ◌∷◌, map, filter, flat_map, Option, unwrap_or}
+use Rattle.std.specs.Prelude.{◌≡◌, Bool, true, false, not, ◌&&◌, ◌||◌, List, [], ◌∷◌, map, filter, flat_map, length, nat_lt, Option, unwrap_or}
 use Rattle.std.specs.Bool.{beq}
 use Rattle.std.specs.List.{list_any}
 use Rattle.net_model.specs.declared.gate.Kind.{Kind}
@@ -66,3 +66,7 @@ only_equal s = not (s.zero_one || s.one_zero)
 
 abbrev pub only_unequal : PairSet → Bool
 only_unequal s = not (s.both_zero || s.both_one)
+
+-- whether there are two pairs or more
+abbrev pub has_several : PairSet → Bool
+has_several s = nat_lt 1 (length (pairs_of s))

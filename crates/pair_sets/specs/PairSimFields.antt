@@ -2,7 +2,6 @@
 use Rattle.std.specs.Prelude.{◌≡◌, ℕ, ◌+◌, ◌<◌, ◌≤◌, List, [], ◌∷◌, map, reverse, length, sum_by, take, drop, vec_capacity, All, None}
 use Rattle.net_model.specs.declared.fault.Fault.{Fault}
 use Rattle.net_model.specs.Circuit.{Circuit}
-use Rattle.net_model.specs.Scope.{reached_positions}
 use Rattle.pair_sets.specs.declared.pair_set.PairSet.{PairSet}
 use Rattle.pair_sets.specs.declared.sim.Level.{Level}
 use Rattle.pair_sets.specs.declared.sim.PairSim.TheInside.{Inside}
@@ -10,6 +9,7 @@ use Rattle.pair_sets.specs.declared.trail.Change.{Change}
 use Rattle.pair_sets.specs.Cube.{Cube, fixed_bit}
 use Rattle.pair_sets.specs.CubeState.{ArePairSets}
 use Rattle.pair_sets.specs.Pending.{IsEmpty}
+use Rattle.pair_sets.specs.Tally.{IsTally, IsShown}
 use Rattle.pair_sets.specs.Trail.{pair_count, undone}
 use Rattle.pair_sets.specs.Wiring.{IsWiring}
 use Rattle.pair_sets.specs.PairSim.{PairSim, pair_sim}
@@ -38,9 +38,10 @@ AreLevels c f g room (level ∷ levels) changes sets =
 
 pub record IsReady (a : Inside) : Type 0 where
   pub wiring : IsWiring a.circuit.now a.wiring
-  pub reached : a.reached.items ≡ reached_positions a.circuit.now a.f a.g
   pub none_waits : IsEmpty a.queue
   pub queue_room : length a.queue ≡ length a.wiring.order.items
   pub levels : AreLevels a.circuit.now a.f a.g (vec_capacity a.trail.changes) (reverse a.levels.items) a.trail.changes.items a.trail.sets.items
   pub within : All (λ change. change.line < length a.trail.sets.items) a.trail.changes.items
   pub levels_room : a.circuit.now.sources ≤ vec_capacity a.levels
+  pub tally : IsTally a.circuit.now a.f a.g a.tally
+  pub shown : IsShown a.circuit.now a.f a.g a.trail.sets.items a.tally

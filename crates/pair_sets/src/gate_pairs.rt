@@ -12,8 +12,15 @@ ghost use Rattle.pair_sets.specs.CubeState.{set_at, seen_pairs, line_pairs};
 use crate::pair_set::PairSet;
 use net_model::{Circuit, Fault, Gate, Kind, stuck_pin, stuck_stem};
 
-// What a pin of a line's gate sees.
-fn pin_pairs(sets: &[PairSet], f: Fault, g: Fault, line: u32, pin: u32, read: u32) -> PairSet
+/// What a pin of a line's gate sees of the line that it reads.
+pub(crate) fn pin_pairs(
+    sets: &[PairSet],
+    f: Fault,
+    g: Fault,
+    line: u32,
+    pin: u32,
+    read: u32,
+) -> PairSet
     requires { read < length sets.now }
     ensures { result ≡ forced_pairs (stuck_pin f line pin) (stuck_pin g line pin) (set_at sets.now read) }
 {

@@ -1,6 +1,6 @@
 //! Laws of the pair sets: each function has an empty body, and its contract is the law.
 
-ghost use Rattle.pair_sets.specs.Laws.{SetsCover, AllSameClosed, ApartSeparates, FixedDecided, OneState};
+ghost use Rattle.pair_sets.specs.Laws.{SetsCover, AllSameClosed, ApartSeparates, FixedDecided, OneState, LeavesClosed, CoveringEqual, SpendingBounded};
 
 /// The sets cover the real pairs: under each vector of the cube the pair of a line's two values is in its set.
 pub fn sets_cover_real_pairs()
@@ -25,4 +25,19 @@ pub fn relevant_fixed_is_decided()
 /// A cube has one state.
 pub fn one_state()
     ensures { OneState }
+{}
+
+/// No vector of the cube of a tree's closed leaf separates the faults.
+pub fn leaves_are_closed()
+    ensures { LeavesClosed }
+{}
+
+/// The faults of a tree without an open leaf are equal.
+pub fn covering_is_equal()
+    ensures { CoveringEqual }
+{}
+
+/// A limit of closed leaves is spent only where it is less than the number of vectors: any more leaves cover them all.
+pub fn full_tree_is_covered()
+    ensures { SpendingBounded }
 {}

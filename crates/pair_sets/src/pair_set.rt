@@ -2,11 +2,11 @@
 
 ghost use Rattle.std.specs.Prelude.{◌≡◌, ◌∷◌, [], Some, None};
 ghost use Rattle.net_model.specs.declared.gate.Kind.TheVariants.{And, Or, Xor, Not};
-ghost use Rattle.pair_sets.specs.PairSet.{forced_pairs, gate_pairs, fixed_pairs, free_pairs, all_pairs, some_pair, only_equal, only_unequal};
+ghost use Rattle.pair_sets.specs.PairSet.{forced_pairs, gate_pairs, fixed_pairs, free_pairs, all_pairs, some_pair, has_pair, has_several, only_equal, only_unequal};
 
-/// Whether each of the four pairs is in the set.
+/// A set of pairs of bits: whether each of the four is in it.
 #[derive(Clone, Copy, Debug, PartialEq, Eq)]
-pub(crate) struct PairSet {
+pub struct PairSet {
     pub(crate) both_zero: bool,
     pub(crate) zero_one: bool,
     pub(crate) one_zero: bool,
@@ -165,15 +165,36 @@ impl PairSet {
         }
     }
 
-    // Whether no pair has two values.
-    pub(crate) fn only_equal(self) -> bool
+    /// Whether the pair of these two bits is in the set.
+    pub fn has(self, first: bool, second: bool) -> bool
+        ensures { result ≡ has_pair self first second }
+    {
+        match (first, second) {
+            (false, false) => self.both_zero,
+            (false, true) => self.zero_one,
+            (true, false) => self.one_zero,
+            (true, true) => self.both_one,
+        }
+    }
+
+    /// Whether there are two pairs or more.
+    pub fn has_several(self) -> bool
+        ensures { result ≡ has_several self }
+    {
+        (self.both_zero & (self.zero_one | self.one_zero | self.both_one))
+            | (self.zero_one & (self.one_zero | self.both_one))
+            | (self.one_zero & self.both_one)
+    }
+
+    /// Whether no pair has two values.
+    pub fn only_equal(self) -> bool
         ensures { result ≡ only_equal self }
     {
         !(self.zero_one | self.one_zero)
     }
 
-    // Whether each pair has two values.
-    pub(crate) fn only_unequal(self) -> bool
+    /// Whether each pair has two values.
+    pub fn only_unequal(self) -> bool
         ensures { result ≡ only_unequal self }
     {
         !(self.both_zero | self.both_one)

@@ -1,11 +1,11 @@
-//! The readers of a line.
+//! What reads a line.
 
 ghost use Rattle.std.specs.Prelude.{◌≡◌, [], ◌∷◌, ◌++◌, OnOk, OnErr};
 
 use std::alloc::{AllocError, Global};
 use std::marker::Model;
 
-/// The places, in an order of the gates, of the gates that read a line.
+/// The places of what reads a line: of gates in an order, or of reached positions that show it.
 #[derive(Drop)]
 pub(crate) struct Readers {
     places: Vec<u32>,

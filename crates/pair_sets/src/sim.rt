@@ -1,22 +1,25 @@
 //! Which pairs of values two faults can give a line under a cube.
 
-ghost use Rattle.std.specs.Prelude.{◌≡◌, ◌<◌, ◌∷◌, [], All, None, IfOk, drop, find, length, slice_index};
-ghost use Rattle.std.specs.List.{list_all};
-ghost use Rattle.net_model.specs.Circuit.{line_count};
+ghost use Rattle.std.specs.Prelude.{◌≡◌, ◌<◌, ◌∷◌, [], All, None, IfOk, drop, length};
+ghost use Rattle.net_model.specs.Circuit.{IsCircuit, line_count};
 ghost use Rattle.net_model.specs.Fault.{IsFaultOf};
 ghost use Rattle.pair_sets.specs.Cube.{fixed_bit};
-ghost use Rattle.pair_sets.specs.PairSet.{only_equal, only_unequal};
-ghost use Rattle.pair_sets.specs.CubeState.{position_pairs, IsState};
+ghost use Rattle.net_model.specs.Fault.{stuck_pin};
+ghost use Rattle.net_model.specs.Scope.{reached_positions};
+ghost use Rattle.pair_sets.specs.PairSet.{forced_pairs};
+ghost use Rattle.pair_sets.specs.CubeState.{set_at, position_pairs, IsState, IsPart};
 ghost use Rattle.pair_sets.specs.PairSim.{pair_sim, with_cube};
 
 use crate::events::{follow, settle};
+use crate::gate_pairs::pin_pairs;
 use crate::pair_set::PairSet;
 use crate::pending::Pending;
-use crate::start::{first_pairs, reached_positions};
+use crate::start::first_pairs;
 use crate::state::PairState;
+use crate::tally::{Tally, first_apart, position_pairs, tally_of};
 use crate::trail::Trail;
 use crate::wiring::{Wiring, wiring_of};
-use net_model::{Circuit, Fault, stuck_position, stuck_stem};
+use net_model::{Circuit, Fault, stuck_stem};
 use std::alloc::{AllocError, Global};
 use std::marker::Model;
 
@@ -36,9 +39,9 @@ pub struct PairSim<'a> {
     f: Fault,
     g: Fault,
     wiring: Wiring,
-    reached: Vec<u32>,
     queue: Pending,
     trail: Trail,
+    tally: Tally,
     levels: Vec<Level>,
 }
 
@@ -66,21 +69,21 @@ impl<'a> PairSim<'a> {
         requires second { IsFaultOf circuit.now g.now }
         ensures { IfOk result (λ sim. sim ≡ pair_sim circuit.now f.now g.now []) }
     {
-        let reached = reached_positions(alloc, circuit, f, g)?;
         let wiring = wiring_of(alloc, circuit)?;
         let mut queue = Pending::all(alloc, wiring.order.len())?;
         let mut trail = first_pairs(alloc, circuit, *f, *g)?;
         let levels = Vec::with_capacity(alloc, circuit.sources() as usize)?;
         follow(circuit, &wiring, *f, *g, &mut queue, &mut trail);
         trail.changes.clear();
+        let tally = tally_of(alloc, circuit, trail.sets.as_slice(), f, g)?;
         Ok(PairSim {
             circuit,
             f: *f,
             g: *g,
             wiring,
-            reached,
             queue,
             trail,
+            tally,
             levels,
         })
     }
@@ -111,6 +114,13 @@ impl<'a> PairSim<'a> {
             &mut self.queue,
             &mut self.trail,
         );
+        self.tally.recount(
+            circuit,
+            self.trail.sets.as_slice(),
+            f,
+            g,
+            &self.trail.changes[start..],
+        );
         self.levels.push_reserved(Level { source, bit, start });
     }
 
@@ -120,7 +130,15 @@ impl<'a> PairSim<'a> {
         ensures { self.new ≡ with_cube self.old (drop 1 self.old.cube) }
     {
         if let Some(level) = self.levels.pop() {
-            self.trail.take_back(level.start);
+            self.trail.restore(level.start);
+            self.tally.recount(
+                self.circuit,
+                self.trail.sets.as_slice(),
+                self.f,
+                self.g,
+                &self.trail.changes[level.start..],
+            );
+            self.trail.changes.truncate(level.start);
         }
     }
 
@@ -129,11 +147,14 @@ impl<'a> PairSim<'a> {
     pub fn state(&self) -> PairState
         ensures { IsState self.now.circuit self.now.f self.now.g self.now.cube result }
     {
-        let sets = self.trail.sets.as_slice();
-        let reached = self.reached.as_slice();
-        if are_equal(self.circuit, sets, self.f, self.g, reached) {
+        if self.tally.shown.are_equal() {
             return PairState::AllSame;
         }
+        if self.tally.shown.none_apart() {
+            return PairState::Undecided;
+        }
+        let sets = self.trail.sets.as_slice();
+        let reached = self.tally.reached.as_slice();
         match first_apart(self.circuit, sets, self.f, self.g, reached) {
             Some(at) => PairState::Apart(at),
             None => PairState::Undecided,
@@ -141,46 +162,44 @@ impl<'a> PairSim<'a> {
     }
 }
 
-// The pairs that an observed position shows.
-fn position_pairs(circuit: &Circuit, sets: &[PairSet], f: Fault, g: Fault, at: u32) -> PairSet
-    requires width { length sets.now ≡ line_count circuit.now }
-    requires position { at < length circuit.now.positions }
-    ensures { result ≡ position_pairs circuit.now f g sets.now at }
-{
-    let line = circuit.positions()[at as usize];
-    sets[line as usize].forced(stuck_position(f, at), stuck_position(g, at))
-}
-
-// Whether all these positions have equal pairs alone.
-fn are_equal(circuit: &Circuit, sets: &[PairSet], f: Fault, g: Fault, reached: &[u32]) -> bool
-    requires width { length sets.now ≡ line_count circuit.now }
-    requires positions { All (λ at. at < length circuit.now.positions) reached.now }
-    ensures { result ≡ list_all (λ at. only_equal (position_pairs circuit.now f g sets.now at)) reached.now }
-{
-    for at in reached {
-        if !position_pairs(circuit, sets, f, g, *at).only_equal() {
-            return false;
-        }
+impl<'a> PairSim<'a> {
+    pub fn circuit(&self) -> &'a Circuit
+        ensures value { result.now ≡ self.now.circuit }
+        ensures circuit { IsCircuit self.now.circuit }
+    {
+        self.circuit
     }
-    true
-}
 
-// The first of these positions that has unequal pairs alone, if one has.
-fn first_apart(
-    circuit: &Circuit,
-    sets: &[PairSet],
-    f: Fault,
-    g: Fault,
-    reached: &[u32],
-) -> Option<u32>
-    requires width { length sets.now ≡ line_count circuit.now }
-    requires positions { All (λ at. at < length circuit.now.positions) reached.now }
-    ensures { result ≡ find (λ at. only_unequal (position_pairs circuit.now f g sets.now at)) reached.now }
-{
-    for at in reached {
-        if position_pairs(circuit, sets, f, g, *at).only_unequal() {
-            return Some(*at);
-        }
+    /// The observed positions that the faults can change, ascending.
+    pub fn reached(&self) -> &[u32]
+        ensures value { result.now ≡ reached_positions self.now.circuit self.now.f self.now.g }
+        ensures inside { All (λ at. at < length self.now.circuit.positions) result.now }
+        ensures circuit { IsCircuit self.now.circuit }
+    {
+        self.tally.reached.as_slice()
     }
-    None
+
+    /// The pairs of a line.
+    pub fn pairs(&self, line: u32) -> PairSet
+        requires { line < line_count self.now.circuit }
+        ensures { IsPart self.now.circuit self.now.f self.now.g self.now.cube (λ sets. set_at sets line) result }
+    {
+        self.trail.sets[line as usize]
+    }
+
+    /// The pairs that a pin of a line's gate sees, where it reads that line.
+    pub fn pin_pairs(&self, line: u32, pin: u32, read: u32) -> PairSet
+        requires { read < line_count self.now.circuit }
+        ensures { IsPart self.now.circuit self.now.f self.now.g self.now.cube (λ sets. forced_pairs (stuck_pin self.now.f line pin) (stuck_pin self.now.g line pin) (set_at sets read)) result }
+    {
+        pin_pairs(self.trail.sets.as_slice(), self.f, self.g, line, pin, read)
+    }
+
+    /// The pairs that an observed position shows.
+    pub fn position_pairs(&self, at: u32) -> PairSet
+        requires { at < length self.now.circuit.positions }
+        ensures { IsPart self.now.circuit self.now.f self.now.g self.now.cube (λ sets. position_pairs self.now.circuit self.now.f self.now.g sets at) result }
+    {
+        position_pairs(self.circuit, self.trail.sets.as_slice(), self.f, self.g, at)
+    }
 }

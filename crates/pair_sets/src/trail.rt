@@ -1,6 +1,6 @@
 //! The pairs of all lines, and how to take their changes back.
 
-ghost use Rattle.std.specs.Prelude.{◌≡◌, ◌<◌, ◌≤◌, ◌∷◌, [], ◌++◌, All, drop, length, slice_set, take, vec_capacity};
+ghost use Rattle.std.specs.Prelude.{◌≡◌, ◌<◌, ◌≤◌, ◌∷◌, [], ◌++◌, All, drop, length, slice_set, vec_capacity};
 ghost use Rattle.pair_sets.specs.CubeState.{set_at};
 ghost use Rattle.pair_sets.specs.Trail.{HasRoom, change_with, pair_count, undone};
 
@@ -36,18 +36,17 @@ impl Trail {
         self.sets[line as usize] = pairs;
     }
 
-    /// Takes all changes back but the first so many.
-    pub(crate) fn take_back(&mut self, start: usize)
+    /// Gives the lines the pairs that they had before all changes but the first so many.
+    pub(crate) fn restore(&mut self, start: usize)
         requires start { start ≤ length self.old.changes.items }
         requires within { All (λ change. change.line < length self.old.sets.items) self.old.changes.items }
         ensures sets { self.new.sets.items ≡ undone (drop start self.old.changes.items) self.old.sets.items }
-        ensures changes { self.new.changes.items ≡ take start self.old.changes.items }
-        ensures capacity { vec_capacity self.new.changes ≡ vec_capacity self.old.changes }
+        ensures changes { self.new.changes ≡ self.old.changes }
     {
-        while self.changes.len() > start {
-            let Some(change) = self.changes.pop() else {
-                return;
-            };
+        let mut end = self.changes.len();
+        while end > start {
+            end -= 1;
+            let change = self.changes[end];
             self.sets[change.line as usize] = change.was;
         }
     }

@@ -42,8 +42,8 @@ fn readers_of(alloc: Global, circuit: &Circuit, order: &[u32]) -> Result<Vec<Rea
     Ok(readers)
 }
 
-// For each line none.
-fn no_readers(alloc: Global, lines: u32) -> Result<Vec<Readers>, AllocError>
+/// For each line none.
+pub(crate) fn no_readers(alloc: Global, lines: u32) -> Result<Vec<Readers>, AllocError>
     ensures none { IfOk result (λ readers. (line : ℕ) → slice_index_or readers.items line [] ≡ []) }
     ensures whole { IfOk result (λ readers. length readers.items ≡ lines) }
 {
@@ -54,8 +54,12 @@ fn no_readers(alloc: Global, lines: u32) -> Result<Vec<Readers>, AllocError>
     Ok(readers)
 }
 
-// One reader more of these lines.
-fn add_reader(readers: &mut Vec<Readers>, lines: &[u32], place: u32) -> Result<(), AllocError>
+/// One reader more of these lines.
+pub(crate) fn add_reader(
+    readers: &mut Vec<Readers>,
+    lines: &[u32],
+    place: u32,
+) -> Result<(), AllocError>
     requires { All (λ line. line < length readers.old.items) lines.now }
     ensures whole { IfOk result (λ _. length readers.new.items ≡ length readers.old.items) }
     ensures here { IfOk result (λ _. (line : ℕ) → Contains lines.now line → Contains (slice_index_or readers.new.items line []) place) }

@@ -6,6 +6,7 @@ use Rattle.net_model.specs.FaultList.{fault_count, fault_numbered}
 use Rattle.net_model.specs.Collapse.{root}
 use Rattle.net_model.specs.ClassTable.{ClassTable, class_at, class_count, representative, SplitBy}
 use Rattle.net_model.specs.PatternRows.{IsTableOf, IsAnswerRow}
+use Rattle.pair_sets.specs.Tree.{IsCovering, IsSpending}
 use Rattle.result_file.specs.declared.record.Budgets.{Budgets}
 use Rattle.result_file.specs.declared.record.Mark.{Mark}
 use Rattle.result_file.specs.declared.record.Proof.{Proof}
@@ -51,20 +52,23 @@ pub record NamesNext (t : ClassTable) (before : List Record) (evidence : Evidenc
   pub member : next_member t (evidence_in before) ≡ Some evidence.member
   pub partner : evidence.partner ≡ representative t (class_at t evidence.member)
 
--- By collapse the roots are the same, and else they are different.
-abbrev pub HasRightRoots : Circuit → Fault → Fault → Proof → Type 0
-HasRightRoots c f g proof.Collapse = root c f ≡ root c g
-HasRightRoots c f g proof.Unsearched = root c f ≢ root c g
+module _ (c : Circuit) (f g : Fault) where
+  -- By collapse the roots are the same, and else they are different.
+  abbrev pub HasRightRoots : Proof → Type 0
+  HasRightRoots proof.Collapse = root c f ≡ root c g
+  HasRightRoots (proof.Covered tree) = root c f ≢ root c g
+  HasRightRoots (proof.Searched tree) = root c f ≢ root c g
 
--- Nothing is searched only where there is no budget for it.
-abbrev pub IsRightProof : Budgets → Proof → Type 0
-IsRightProof budgets proof.Collapse = ⊤
-IsRightProof budgets proof.Unsearched = (budgets.cubes ≡ 0) × (budgets.conflicts ≡ 0)
+  -- The tree is right for the pair and the budget of cubes, and a pair is left open only where there is no other budget.
+  abbrev pub IsRightProof : Budgets → Proof → Type 0
+  IsRightProof budgets proof.Collapse = ⊤
+  IsRightProof budgets (proof.Covered tree) = IsCovering c f g budgets.cubes tree
+  IsRightProof budgets (proof.Searched tree) = IsSpending c f g budgets.cubes tree × (budgets.conflicts ≡ 0)
 
 pub record IsRightEvidence (c : Circuit) (t : ClassTable) (before : List Record) (evidence : Evidence) : Type 0 where
   pub next : NamesNext t before evidence
   pub roots : HasRightRoots c (fault_numbered c evidence.partner) (fault_numbered c evidence.member) evidence.proof
-  pub right : IsRightProof (budgets_in before) evidence.proof
+  pub right : IsRightProof c (fault_numbered c evidence.partner) (fault_numbered c evidence.member) (budgets_in before) evidence.proof
 
 -- ---- each record
 

@@ -47,7 +47,8 @@ end_lines records = count_by is_end records
 
 abbrev pub mark_of : Proof → Mark
 mark_of proof.Collapse = mark.Equal
-mark_of proof.Unsearched = mark.Spent
+mark_of (proof.Covered tree) = mark.Equal
+mark_of (proof.Searched tree) = mark.Spent
 
 -- whether evidence names a number with the representative that it has in the table
 abbrev pub is_about : ClassTable → ℕ → Evidence → Bool

@@ -6,6 +6,11 @@ use Rattle.net_model.specs.Circuit.{Circuit}
 use Rattle.net_model.specs.Answer.{Separates, AreEqual}
 use Rattle.net_model.specs.FaultList.{fault_count, fault_numbered}
 use Rattle.net_model.specs.ClassTable.{named_pattern}
+use Rattle.net_model.specs.declared.fault.Fault.{Fault}
+use Rattle.pair_sets.specs.declared.tree.Token.{Token}
+use Rattle.pair_sets.specs.declared.tree.Token.TheVariants.{Closed}
+use Rattle.pair_sets.specs.Cube.{Cube, IsClosed}
+use Rattle.pair_sets.specs.Tree.{cube_at, token_at, closed_count}
 use Rattle.result_file.specs.declared.record.Budgets.{Budgets}
 use Rattle.result_file.specs.declared.record.Mark.{Mark}
 use Rattle.result_file.specs.declared.record.Mark.TheVariants as mark
@@ -60,11 +65,17 @@ pub record AreRightBirths (s : StatedResult) : Type 0 where
   pub first : slice_get s.births 0 ≡ Some None
   pub later : (k : ℕ) → 0 < k → k < length s.births → (birth : ℕ × ℕ) × (slice_get s.births k ≡ Some (Some birth)) × (birth.0 < k) × (birth.1 < length (patterns_in s.body))
 
--- Some evidence of the file names the number with the lowest of its class, and there is no budget to search for more.
-pub record IsSpentOn (s : StatedResult) (n : ℕ) : Type 0 where
+-- The tree has exactly so many closed leaves, and no vector of their cubes separates the faults.
+pub record HasClosedCubes (c : Circuit) (f g : Fault) (limit : ℕ) (tree : List Token) : Type 0 where
+  pub full : closed_count tree ≡ limit
+  pub closed : (at : ℕ) → at < length tree → token_at tree at ≡ Closed → (cube : Cube) × (cube_at tree at ≡ Some cube) × IsClosed c f g cube
+
+-- Some evidence of the file names the number with the lowest of its class, and spends the budget on them with closed cubes; there is no other budget.
+pub record IsSpentOn (c : Circuit) (s : StatedResult) (n : ℕ) : Type 0 where
+  pub tree : List Token
   pub at : ℕ
-  pub evidence : slice_get (evidence_in s.body) at ≡ Some (record { member = n; partner = lowest_mate s n; proof = proof.Unsearched })
-  pub cubes : s.budgets.cubes ≡ 0
+  pub evidence : slice_get (evidence_in s.body) at ≡ Some (record { member = n; partner = lowest_mate s n; proof = proof.Searched tree })
+  pub cubes : HasClosedCubes c (fault_numbered c (lowest_mate s n)) (fault_numbered c n) s.budgets.cubes tree
   pub conflicts : s.budgets.conflicts ≡ 0
 
 -- Each two faults of different classes answer differently at the pattern that is named of the classes.
@@ -88,5 +99,5 @@ pub record IsTrueResult (c : Circuit) (s : StatedResult) : Type 0 where
   pub classes : All (λ member. member.0 < length s.births) s.members
   pub apart : AreApart c s
   pub equal : AreEqualMarked c s
-  pub spent : (n : ℕ) → n < fault_count c → stated_mark s n ≡ mark.Spent → IsSpentOn s n
+  pub spent : (n : ℕ) → n < fault_count c → stated_mark s n ≡ mark.Spent → IsSpentOn c s n
   pub representatives : AreLowest c s

@@ -1,7 +1,9 @@
 -- How a record is written: its fields, parted by one blank each.
-use Rattle.std.specs.Prelude.{ℕ, ◌<◌, ◌^◌, List, [], ◌∷◌, ◌++◌, flat_map, codes, decimal, Option, None, Some, ⊤}
+use Rattle.std.specs.Prelude.{◌≢◌, ℕ, ◌<◌, ◌^◌, List, [], ◌∷◌, ◌++◌, map, flat_map, codes, decimal, Option, None, Some, All, ⊤}
 use Rattle.std.specs.List.{join_with_byte}
 use Rattle.net_model.specs.BitText.{bits_text}
+use Rattle.pair_sets.specs.declared.tree.Token.{Token}
+use Rattle.pair_sets.specs.declared.tree.Token.TheVariants.{Split, Closed, Rest}
 use Rattle.result_file.specs.declared.record.Mark.{Mark}
 use Rattle.result_file.specs.declared.record.Mark.TheVariants as mark
 use Rattle.result_file.specs.declared.record.Proof.{Proof}
@@ -14,9 +16,15 @@ Text = List ℕ
 
 -- ---- fields
 
+abbrev pub token_field : Token → Text
+token_field (Split source) = decimal source
+token_field Closed = codes "."
+token_field Rest = codes "?"
+
 abbrev pub proof_fields : Proof → List Text
 proof_fields proof.Collapse = codes "C" ∷ []
-proof_fields proof.Unsearched = codes "O" ∷ codes "?" ∷ []
+proof_fields (proof.Covered tree) = codes "T" ∷ map token_field tree
+proof_fields (proof.Searched tree) = codes "O" ∷ map token_field tree
 
 abbrev pub birth_fields : Option (ℕ × ℕ) → List Text
 birth_fields None = codes "-" ∷ codes "-" ∷ []
@@ -48,6 +56,21 @@ text_of records = flat_map (λ r. spelling r ++ 10 ∷ []) records
 abbrev pub IsNumber : ℕ → Type 0
 IsNumber n = n < 2 ^ 32
 
+abbrev pub HasTokenSpelling : Token → Type 0
+HasTokenSpelling (Split source) = IsNumber source
+HasTokenSpelling Closed = ⊤
+HasTokenSpelling Rest = ⊤
+
+-- A tree has a token.
+pub record HasTreeSpelling (tree : List Token) : Type 0 where
+  pub nonempty : tree ≢ []
+  pub each : All HasTokenSpelling tree
+
+abbrev pub HasProofSpelling : Proof → Type 0
+HasProofSpelling proof.Collapse = ⊤
+HasProofSpelling (proof.Covered tree) = HasTreeSpelling tree
+HasProofSpelling (proof.Searched tree) = HasTreeSpelling tree
+
 abbrev pub HasBirthSpelling : Option (ℕ × ℕ) → Type 0
 HasBirthSpelling None = ⊤
 HasBirthSpelling (Some birth) = IsNumber birth.0 × IsNumber birth.1
@@ -56,7 +79,7 @@ abbrev pub HasSpelling : Record → Type 0
 HasSpelling (Head sources positions numbers) = IsNumber sources × IsNumber positions × IsNumber numbers
 HasSpelling (Budget budgets) = IsNumber budgets.blocks × IsNumber budgets.cubes × IsNumber budgets.conflicts
 HasSpelling (Pattern bits) = ⊤
-HasSpelling (Same evidence) = IsNumber evidence.member × IsNumber evidence.partner
+HasSpelling (Same evidence) = IsNumber evidence.member × IsNumber evidence.partner × HasProofSpelling evidence.proof
 HasSpelling (Class number birth) = IsNumber number × HasBirthSpelling birth
 HasSpelling (Member number class mark) = IsNumber number × IsNumber class
 HasSpelling End = ⊤

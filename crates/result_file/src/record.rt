@@ -1,5 +1,6 @@
 //! The records of a result file.
 use net_model::Vector;
+use pair_sets::Tree;
 
 /// How many blocks of the stream, closed leaves of a tree and learned clauses of a log there may be.
 #[derive(Clone, Copy, Debug, PartialEq, Eq)]
@@ -28,12 +29,13 @@ pub enum Mark {
     Spent,
 }
 
-/// What is known of a member and its representative: both faults have the same root of the fault collapse; or nothing was
-/// searched, since the budgets are 0.
+/// What is known of a member and its representative: both faults have the same root of the fault collapse; a tree of
+/// cubes in none of which a vector separates them covers all vectors; or a tree with an open leaf has spent the budget.
 #[derive(Debug, Drop)]
 pub enum Proof {
     Collapse,
-    Unsearched,
+    Covered(Tree),
+    Searched(Tree),
 }
 
 /// Evidence for a member of a class and the class's representative.

@@ -2,6 +2,7 @@
 
 use crate::{Budgets, Evidence, Mark, Proof, Record, write_record};
 use net_model::Bits;
+use pair_sets::{Token, Tree};
 use std::test::Fail;
 
 #[test]
@@ -13,10 +14,21 @@ fn records_are_lines(rt: HostRuntime) -> Result<(), Fail> {
         cubes: 64,
         conflicts: 2000,
     };
+    let mut left = Tree::new(rt.alloc());
+    left.push(Token::Rest)?;
     let evidence = Evidence {
         member: 3,
         partner: 1,
-        proof: Proof::Unsearched,
+        proof: Proof::Searched(left),
+    };
+    let mut whole = Tree::new(rt.alloc());
+    for token in [Token::Split(10), Token::Closed, Token::Closed] {
+        whole.push(token)?;
+    }
+    let covered = Evidence {
+        member: 8,
+        partner: 0,
+        proof: Proof::Covered(whole),
     };
     let collapsed = Evidence {
         member: 7,
@@ -29,6 +41,7 @@ fn records_are_lines(rt: HostRuntime) -> Result<(), Fail> {
         (Record::Pattern(bits), "pattern 010\n"),
         (Record::Pattern(Bits::zeros(rt.alloc(), 0)?), "pattern -\n"),
         (Record::Same(evidence), "same 3 1 O ?\n"),
+        (Record::Same(covered), "same 8 0 T 10 . .\n"),
         (Record::Same(collapsed), "same 7 4 C\n"),
         (Record::Class(0, None), "class 0 - -\n"),
         (Record::Class(3, Some((0, 2))), "class 3 0 2\n"),

@@ -1,12 +1,14 @@
 //! Records as lines of text.
 
-ghost use Rattle.std.specs.Prelude.{◌≡◌, ◌++◌, ◌∷◌, [], IfOk, OnOk, string_bytes};
+ghost use Rattle.std.specs.Prelude.{◌≡◌, ◌++◌, ◌∷◌, [], IfOk, OnOk, map, flat_map, codes, decimal};
+ghost use Rattle.std.specs.List.{join_with_byte};
 ghost use Rattle.net_model.specs.BitText.{bits_text};
-ghost use Rattle.result_file.specs.Spelling.{spelling, mark_field};
+ghost use Rattle.result_file.specs.Spelling.{spelling, token_field, mark_field};
 ghost use Rattle.result_file.specs.declared.record.Record.TheVariants.{Head, Budget, Pattern, Same, Class, Member, End};
 
 use crate::record::{Budgets, Evidence, Mark, Proof, Record};
 use net_model::Bits;
+use pair_sets::{Token, Tree};
 use std::alloc::{AllocError, Global};
 
 /// The line of a record, with its LF.
@@ -89,11 +91,51 @@ fn same_line(alloc: Global, evidence: &Evidence) -> Result<Vec<u8>, AllocError>
             let line = format!(in alloc; "same {member} {partner} C\n")?;
             Ok(line.into_bytes())
         }
-        Proof::Unsearched => {
-            let line = format!(in alloc; "same {member} {partner} O ?\n")?;
-            Ok(line.into_bytes())
-        }
+        Proof::Covered(tree) => tree_line(alloc, *member, *partner, "T", tree),
+        Proof::Searched(tree) => tree_line(alloc, *member, *partner, "O", tree),
     }
+}
+
+// The line of evidence that has a tree.
+fn tree_line(
+    alloc: Global,
+    member: u32,
+    partner: u32,
+    kind: &str,
+    tree: &Tree,
+) -> Result<Vec<u8>, AllocError>
+    ensures { IfOk result (λ line. line.items ≡ join_with_byte 32 (codes "same" ∷ decimal member ∷ decimal partner ∷ kind.now ∷ map token_field tree.now) ++ 10 ∷ []) }
+{
+    let head = format!(in alloc; "same {member} {partner} {kind}")?;
+    let mut line = head.into_bytes();
+    push_tree(&mut line, tree)?;
+    line.push(b'\n')?;
+    Ok(line)
+}
+
+// Appends the tokens of a tree, a blank before each.
+fn push_tree(line: &mut Vec<u8>, tree: &Tree) -> Result<(), AllocError>
+    ensures { OnOk result (line.new.items ≡ line.old.items ++ flat_map (λ token. 32 ∷ token_field token) tree.now) }
+{
+    for token in tree.as_slice() {
+        push_token(line, *token)?;
+    }
+    Ok(())
+}
+
+// Appends a blank and a token.
+fn push_token(line: &mut Vec<u8>, token: Token) -> Result<(), AllocError>
+    ensures { OnOk result (line.new.items ≡ line.old.items ++ 32 ∷ token_field token) }
+{
+    match token {
+        Token::Split(source) => {
+            let field = format!(in *line.allocator(); " {source}")?;
+            line.extend_from_slice(field.as_bytes())?;
+        }
+        Token::Closed => line.extend_from_slice(b" .")?,
+        Token::Rest => line.extend_from_slice(b" ?")?,
+    }
+    Ok(())
 }
 
 #[tactic(auto, unfolding(crate::specs::Spelling::spelling))]

@@ -2,12 +2,12 @@ use Rattle.std.proofs.Common.{◌≡◌, ◌++◌, map}
 use Rattle.std.specs.List.{range_with_len}
 use Rattle.result_file.specs.Spelling.{text_of}
 use Rattle.result_file.specs.Meaning.{member_records}
-use Rattle.dia_gen.specs.Plain.{one_root_in, member_for}
+use Rattle.dia_gen.specs.Given.{member_for}
 use Rattle.dia_gen.specs.Marked.{AreMarkedBelow}
 use Rattle.dia_gen.proofs.lines.push_members.Given as goal
 
 abbrev pub invariant-loop-number : goal.invariant-loop-number
 invariant-loop-number l = record {
-  text : l.text.items ≡ l.initial.text.items ++ text_of (member_records (map (member_for (one_root_in l.forest) l.classes) (range_with_len 0 l.number)));
-  marked : AreMarkedBelow (one_root_in l.forest) l.classes l.number l.marked;
+  text : l.text.items ≡ l.initial.text.items ++ text_of (member_records (map (member_for l.classes l.marks.given.items) (range_with_len 0 l.number)));
+  marked : AreMarkedBelow l.classes l.marks.given.items l.number l.marked;
 }

@@ -1,5 +1,5 @@
 use Rattle.diatest.proofs.NetlistLemmas.{HasLaws}
-use Rattle.diatest.proofs.Clauses.{made_of, apart_of, equal_of, lowest_of, faults_of, refuses_netlist, keeps_refused, is_complete}
+use Rattle.diatest.proofs.Clauses.{made_of, apart_of, equal_of, spent_of, lowest_of, faults_of, refuses_netlist, keeps_refused, is_complete}
 use Rattle.diatest.proofs.commands.run.Goals as goal
 
 pub returns-clause-made : goal.returns-clause-made
@@ -10,6 +10,9 @@ returns-clause-apart g c = λ told. apart_of (c.dispatch.ensures.done told)
 
 pub returns-clause-equal : goal.returns-clause-equal
 returns-clause-equal g c = λ told. equal_of (c.dispatch.ensures.done told)
+
+pub returns-clause-spent : goal.returns-clause-spent
+returns-clause-spent g c = λ told. spent_of (c.dispatch.ensures.done told)
 
 pub returns-clause-lowest : goal.returns-clause-lowest
 returns-clause-lowest g c = λ told. lowest_of (c.dispatch.ensures.done told)

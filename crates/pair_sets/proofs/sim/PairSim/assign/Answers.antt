@@ -1,20 +1,23 @@
-use Rattle.std.proofs.Common.{◌≡◌, ◌<◌, ◌≤◌, ◌∙◌, ◌∷◌, [], ℕ, length, sym, ap, arith, subst}
+use Rattle.std.proofs.Common.{◌≡◌, ◌≢◌, ◌<◌, ◌≤◌, ◌-◌, ◌∙◌, ◌∷◌, [], ℕ, List, length, take, drop, sym, ap, arith, subst}
 use Rattle.std.specs.Prelude.{All, Bool, None, reverse, vec_capacity}
-use Rattle.std.proofs.lemmas.List.{reverse-append, length-reverse}
+use Rattle.std.proofs.lemmas.List.{reverse-append, length-reverse, drop_at}
 use Rattle.std.proofs.lemmas.List.Elements.{All-append}
 use Rattle.net_model.specs.Fault.{stuck_stem}
 use Rattle.pair_sets.specs.declared.pair_set.PairSet.{PairSet}
 use Rattle.pair_sets.specs.declared.sim.Level.{Level}
 use Rattle.pair_sets.specs.declared.sim.PairSim.TheInside.{Inside}
 use Rattle.pair_sets.specs.declared.trail.Change.{Change}
+use Rattle.pair_sets.specs.declared.trail.Trail.{Trail}
 use Rattle.pair_sets.specs.Cube.{fixed_bit}
 use Rattle.pair_sets.specs.PairSet.{forced_pairs, fixed_pairs, IsWithin}
 use Rattle.pair_sets.specs.CubeState.{set_at}
-use Rattle.pair_sets.specs.Trail.{IsLonger}
+use Rattle.pair_sets.specs.Trail.{IsLonger, undone}
 use Rattle.pair_sets.specs.Events.{AreSettled, AreLoose, gate_line_pairs}
 use Rattle.pair_sets.specs.PairSim.{PairSim}
 use Rattle.pair_sets.specs.PairSimFields.{cube_of, pair_sim_of, IsLevelRight, AreLevels, IsReady}
+use Rattle.pair_sets.specs.Tally.{IsShown, line_at}
 use Rattle.pair_sets.proofs.EventLemmas.{settled_after, loose_after}
+use Rattle.pair_sets.proofs.TallyLemmas.{all_from, shown_after}
 use Rattle.pair_sets.proofs.TrailLemmas.{longer_more}
 use Rattle.pair_sets.proofs.LevelLemmas.{right_of, fewer_fixed, pairs_fixed, gates_right, gates_loose, levels_more, levels_few}
 use Rattle.pair_sets.proofs.sim.PairSim.assign.Goals as goal
@@ -121,7 +124,6 @@ invariant_of-self c =
     let P : Change → Type 0 = λ change. change.line < length new.sets.items in
     record {
       wiring = c.self.invariant.wiring;
-      reached = c.self.invariant.reached;
       none_waits = c.follow.ensures.none;
       queue_room = c.follow.ensures.queue ∙ c.settle.ensures.queue ∙ c.self.invariant.queue_room;
       levels =
@@ -131,4 +133,33 @@ invariant_of-self c =
           subst (All P) (sym longer.extends)
           (All-append P a.trail.changes.items longer.added (subst (λ n. All (λ (change : Change). change.line < n) a.trail.changes.items) (sym longer.whole) c.self.invariant.within) longer.within);
       levels_room = subst (λ n. circuit.sources ≤ n) (sym c.push_reserved.ensures.capacity) c.self.invariant.levels_room;
+      tally = c.recount.ensures.tally;
+      shown = subst (λ xs. IsShown circuit a.f a.g xs c.recount.new.self) c.as_slice.ensures.value c.recount.ensures.shown;
     }
+
+pub recount-requires-clause-width : goal.recount-requires-clause-width
+recount-requires-clause-width c = ap length c.as_slice.ensures.value ∙ c.follow.ensures.longer.whole ∙ c.settle.ensures.longer.whole ∙ (right_of c.self.inside c.self.invariant).right.whole
+
+-- the changes that are looked at are those that were added
+added_from : (old new : Trail) (longer : IsLonger old new) (changes : List Change) (start : ℕ) → changes ≡ new.changes.items → start ≡ length old.changes.items → take (length changes - start) (drop start changes) ≡ longer.added
+added_from old new longer changes start are e = all_from start changes ∙ ap (drop start) (are ∙ longer.extends) ∙ drop_at old.changes.items longer.added start (sym e)
+
+pub recount-requires-clause-lines : goal.recount-requires-clause-lines
+recount-requires-clause-lines c =
+    let a = c.self.inside in
+    let new = c.follow.new.trail in
+    let longer : IsLonger a.trail new = longer_more a.trail c.settle.new.trail new c.settle.ensures.longer c.follow.ensures.longer in
+    let are = added_from a.trail new longer c.deref.result.now c.len-start.result c.deref.ensures.value (omega (arith, c.len-start.ensures)) in
+    subst (All (λ (change : Change). change.line < length c.as_slice.result.now)) (sym are)
+    (subst (λ xs. All (λ (change : Change). change.line < length xs) longer.added) (sym c.as_slice.ensures.value) longer.within)
+
+pub recount-requires-clause-others : goal.recount-requires-clause-others
+recount-requires-clause-others c = λ place h none.
+    let a = c.self.inside in
+    let circuit = a.circuit.now in
+    let new = c.follow.new.trail in
+    let longer : IsLonger a.trail new = longer_more a.trail c.settle.new.trail new c.settle.ensures.longer c.follow.ensures.longer in
+    let are = added_from a.trail new longer c.deref.result.now c.len-start.result c.deref.ensures.value (omega (arith, c.len-start.ensures)) in
+    shown_after circuit a.f a.g a.trail.sets.items c.as_slice.result.now longer.added a.tally c.self.invariant.shown place h
+    (subst (All (λ (change : Change). change.line ≢ line_at circuit a.tally.reached.items place)) are none)
+    (ap (undone longer.added) c.as_slice.ensures.value ∙ longer.before)

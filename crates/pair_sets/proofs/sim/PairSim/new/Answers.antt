@@ -7,6 +7,7 @@ use Rattle.net_model.proofs.SetSoFar.{fits_from}
 use Rattle.net_model.proofs.Elements.{true_false}
 use Rattle.pair_sets.specs.CubeState.{ArePairSets}
 use Rattle.pair_sets.specs.PairSimFields.{IsLevelRight, AreLevels}
+use Rattle.pair_sets.specs.Tally.{IsShown}
 use Rattle.pair_sets.proofs.SeenLemmas.{source_line_pairs}
 use Rattle.pair_sets.proofs.sim.PairSim.new.Goals as goal
 
@@ -44,10 +45,11 @@ invariant_of-result c =
     } in
     record {
       wiring = c.in_ok-wiring.ensures;
-      reached = c.in_ok-reached.ensures;
       none_waits = c.follow.ensures.none;
       queue_room = omega (arith, c.follow.ensures.queue, c.in_ok-queue.ensures.room, c.len.ensures);
       levels = subst (λ levels. AreLevels circuit f g (vec_capacity c.clear.new.self) levels c.clear.new.self.items sets) (sym (ap reverse c.in_ok-levels.ensures.items)) level;
       within = λ k d h. absurd (omega (arith, h, ap length c.clear.ensures.items));
       levels_room = omega (arith, c.in_ok-levels.ensures.exact, c.sources.ensures.value);
+      tally = c.in_ok-tally.ensures.tally;
+      shown = subst (λ xs. IsShown circuit f g xs c.in_ok-tally.tally) c.as_slice.ensures.value c.in_ok-tally.ensures.shown;
     }

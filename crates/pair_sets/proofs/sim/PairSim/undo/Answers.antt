@@ -1,10 +1,14 @@
-use Rattle.std.proofs.Common.{◌≡◌, ◌<◌, ◌≤◌, ◌∙◌, ◌∷◌, [], length, take, drop, sym, ap, subst}
+use Rattle.std.proofs.Common.{◌≡◌, ◌≢◌, ◌-◌, ℕ, List, ◌<◌, ◌≤◌, ◌∙◌, ◌∷◌, [], length, take, drop, sym, ap, subst, Vec}
 use Rattle.std.specs.Prelude.{All, reverse, vec_capacity}
 use Rattle.std.proofs.lemmas.List.{reverse-append}
-use Rattle.std.proofs.lemmas.List.Elements.{All-take}
+use Rattle.std.proofs.lemmas.List.Elements.{All-take, All-drop}
+use Rattle.std.specs.declared.alloc.Global.{Global}
 use Rattle.pair_sets.specs.declared.trail.Change.{Change}
 use Rattle.pair_sets.specs.Trail.{undone}
 use Rattle.pair_sets.specs.PairSimFields.{AreLevels}
+use Rattle.pair_sets.specs.Tally.{IsShown, line_at}
+use Rattle.pair_sets.proofs.LevelLemmas.{right_of}
+use Rattle.pair_sets.proofs.TallyLemmas.{all_from, shown_before}
 use Rattle.pair_sets.proofs.TrailLemmas.{length-undone}
 use Rattle.pair_sets.proofs.sim.PairSim.undo.Goals as goal
 
@@ -20,19 +24,52 @@ invariant_of-self c =
     let was : AreLevels circuit a.f a.g (vec_capacity a.trail.changes) (level ∷ reverse rest) changes sets =
     subst (λ levels. AreLevels circuit a.f a.g (vec_capacity a.trail.changes) levels changes sets) parts c.self.invariant.levels in
     let below : AreLevels circuit a.f a.g (vec_capacity a.trail.changes) (reverse rest) (take level.start changes) (undone (drop level.start changes) sets) = was.4 in
-    let new = c.take_back.new.self in
-    let kept : AreLevels circuit a.f a.g (vec_capacity new.changes) (reverse rest) new.changes.items new.sets.items =
-    subst (λ room. AreLevels circuit a.f a.g room (reverse rest) new.changes.items new.sets.items) (sym c.take_back.ensures.capacity)
-    (subst (λ xs. AreLevels circuit a.f a.g (vec_capacity a.trail.changes) (reverse rest) xs new.sets.items) (sym c.take_back.ensures.changes)
-    (subst (λ xs. AreLevels circuit a.f a.g (vec_capacity a.trail.changes) (reverse rest) (take level.start changes) xs) (sym c.take_back.ensures.sets) below)) in
+    let new = c.truncate.new.self in
+    let capacity : vec_capacity new ≡ vec_capacity a.trail.changes = c.truncate.ensures.capacity ∙ ap vec_capacity c.restore.ensures.changes in
+    let changes_are : new.items ≡ take level.start changes = c.truncate.ensures.items ∙ ap (λ (v : Vec Change Global). take level.start v.items) c.restore.ensures.changes in
+    let sets_are = c.restore.ensures.sets in
+    let kept : AreLevels circuit a.f a.g (vec_capacity new) (reverse rest) new.items c.restore.new.self.sets.items =
+    subst (λ room. AreLevels circuit a.f a.g room (reverse rest) new.items c.restore.new.self.sets.items) (sym capacity)
+    (subst (λ xs. AreLevels circuit a.f a.g (vec_capacity a.trail.changes) (reverse rest) xs c.restore.new.self.sets.items) (sym changes_are)
+    (subst (λ xs. AreLevels circuit a.f a.g (vec_capacity a.trail.changes) (reverse rest) (take level.start changes) xs) (sym sets_are) below)) in
     record {
       wiring = c.self.invariant.wiring;
-      reached = c.self.invariant.reached;
       none_waits = c.self.invariant.none_waits;
       queue_room = c.self.invariant.queue_room;
       levels = kept;
       within =
-          subst (λ n. All (λ (change : Change). change.line < n) new.changes.items) (sym (ap length c.take_back.ensures.sets ∙ length-undone (drop level.start changes) sets))
-          (subst (All (λ (change : Change). change.line < length sets)) (sym c.take_back.ensures.changes) (All-take (λ (change : Change). change.line < length sets) level.start changes c.self.invariant.within));
+          subst (λ n. All (λ (change : Change). change.line < n) new.items) (sym (ap length sets_are ∙ length-undone (drop level.start changes) sets))
+          (subst (All (λ (change : Change). change.line < length sets)) (sym changes_are) (All-take (λ (change : Change). change.line < length sets) level.start changes c.self.invariant.within));
       levels_room = subst (λ n. circuit.sources ≤ n) (sym c.in-Some.ensures.capacity) c.self.invariant.levels_room;
+      tally = c.recount.ensures.tally;
+      shown = subst (λ xs. IsShown circuit a.f a.g xs c.recount.new.self) c.as_slice.ensures.value c.recount.ensures.shown;
     }
+
+pub recount-requires-clause-width : goal.recount-requires-clause-width
+recount-requires-clause-width c =
+    let a = c.self.inside in
+    ap length (c.as_slice.ensures.value ∙ c.restore.ensures.sets) ∙ length-undone (drop c.in-Some.level.start a.trail.changes.items) a.trail.sets.items ∙ (right_of a c.self.invariant).right.whole
+
+-- the changes that are looked at are those that are taken back
+taken_from : (old new : Vec Change Global) (changes : List Change) (start : ℕ) → changes ≡ new.items → new ≡ old → take (length changes - start) (drop start changes) ≡ drop start old.items
+taken_from old new changes start are same = all_from start changes ∙ ap (drop start) (are ∙ ap (λ (v : Vec Change Global). v.items) same)
+
+pub recount-requires-clause-lines : goal.recount-requires-clause-lines
+recount-requires-clause-lines c =
+    let a = c.self.inside in
+    let start = c.in-Some.level.start in
+    let back = drop start a.trail.changes.items in
+    let are = taken_from a.trail.changes c.restore.new.self.changes c.deref.result.now start c.deref.ensures.value c.restore.ensures.changes in
+    let whole : length c.as_slice.result.now ≡ length a.trail.sets.items = ap length (c.as_slice.ensures.value ∙ c.restore.ensures.sets) ∙ length-undone back a.trail.sets.items in
+    subst (All (λ (change : Change). change.line < length c.as_slice.result.now)) (sym are)
+    (subst (λ n. All (λ (change : Change). change.line < n) back) (sym whole) (All-drop (λ (change : Change). change.line < length a.trail.sets.items) start a.trail.changes.items c.self.invariant.within))
+
+pub recount-requires-clause-others : goal.recount-requires-clause-others
+recount-requires-clause-others c = λ place h none.
+    let a = c.self.inside in
+    let circuit = a.circuit.now in
+    let start = c.in-Some.level.start in
+    let are = taken_from a.trail.changes c.restore.new.self.changes c.deref.result.now start c.deref.ensures.value c.restore.ensures.changes in
+    shown_before circuit a.f a.g a.trail.sets.items c.as_slice.result.now (drop start a.trail.changes.items) a.tally c.self.invariant.shown place h
+    (subst (All (λ (change : Change). change.line ≢ line_at circuit a.tally.reached.items place)) are none)
+    (c.as_slice.ensures.value ∙ c.restore.ensures.sets)

@@ -1,0 +1,266 @@
+-- A draft in which each number is marked, with the lines of its classes and numbers and the end: the generator may write it, and it is true.
+use Rattle.std.proofs.Common.{◌≡◌, ℕ, zero, suc, ◌<◌, ◌^◌, Bool, false, cond, List, [], ◌∷◌, ◌++◌, map, length, take, get_or, Option, Some, None, refl, sym, ap, subst, ◌∙◌, inl, inr, arith, IsTrue}
+use Rattle.std.specs.Prelude.{◌⊎◌, MatchOption, unwrap_or, IsSome}
+use Rattle.std.specs.List.{cons_option, slice_get, count_by, enumerate_from}
+use Rattle.std.proofs.lemmas.List.{append_assoc, append-nil, map-id, take-append-le}
+use Rattle.std.proofs.lemmas.List.Elements.{All-append, All-map, filter_map-append}
+use Rattle.std.proofs.lemmas.List.FromFn.{length-enumerate_from, length-map-range_with_len, get_or-map-range_with_len}
+use Rattle.std.proofs.lemmas.List.Sums.{sum_by-append}
+use Rattle.std.proofs.lemmas.Option.{slice_get-get_or, get_or_from_slice_get, slice_get_within}
+use Rattle.net_model.specs.Circuit.{Circuit, IsCircuit}
+use Rattle.net_model.specs.Fault.{IsFaultOf}
+use Rattle.net_model.specs.FaultList.{fault_count, fault_numbered}
+use Rattle.net_model.specs.ClassTable.{ClassTable, class_at, class_count, number_range}
+use Rattle.net_model.specs.PatternRows.{IsTableOf}
+use Rattle.class_refine.specs.Fields.{IsWhole}
+use Rattle.class_refine.specs.Laws.{NamedSeparatesFaults}
+use Rattle.class_refine.proofs.Refined.{few_classes}
+use Rattle.fault_collapse.specs.Laws.{SameRootEqual}
+use Rattle.pair_sets.specs.Laws.{CoveringEqual, LeavesClosed}
+use Rattle.result_file.specs.declared.record.Budgets.{Budgets}
+use Rattle.result_file.specs.declared.record.Evidence.{Evidence}
+use Rattle.result_file.specs.declared.record.Mark.{Mark}
+use Rattle.result_file.specs.declared.record.Mark.TheVariants.{Rep}
+use Rattle.result_file.specs.declared.record.Record.{Record}
+use Rattle.result_file.specs.declared.record.Record.TheVariants.{Pattern, Same, Class, Member, End}
+use Rattle.result_file.specs.Spelling.{HasBirthSpelling}
+use Rattle.result_file.specs.Marks.{pattern_of, evidence_of, patterns_in, evidence_in, is_class, is_member, is_end, class_lines, member_lines}
+use Rattle.result_file.specs.Valid.{AreRightLines}
+use Rattle.result_file.specs.Summary.{is_equal, is_open, summary_of}
+use Rattle.result_file.specs.Meaning.{StatedResult, stated_records, class_records, member_records, is_body_record, IsTrueResult}
+use Rattle.result_file.proofs.RecordLists.{read_none, read_all, read_kept, count_kept, count_more}
+use Rattle.result_file.proofs.RightLines.{IsBody, HasSmallClasses, AreMembers, right_table}
+use Rattle.result_file.proofs.Truth.{AreSound, IsSoundTable, lines_true}
+use Rattle.dia_gen.specs.declared.marks.Given.{Given}
+use Rattle.dia_gen.specs.Kept.{IsKept}
+use Rattle.dia_gen.specs.Given.{given_mark, member_for, AreGiven, AreAllMarked}
+use Rattle.dia_gen.specs.Draft.{head_lines, lines_with, AreDraftLines}
+use Rattle.dia_gen.specs.Made.{AreMade}
+use Rattle.dia_gen.proofs.KeepLemmas.{table_numbers, table_patterns}
+use Rattle.dia_gen.proofs.MarkLemmas.{all_marked_none, lead_inside}
+use Rattle.dia_gen.proofs.DraftLemmas.{lines_patterns, lines_evidence, lines_two, lines_count}
+use Rattle.dia_gen.proofs.RootLemmas.{one_root_equal}
+
+-- ---- lines behind other lines
+
+in_parts : {X : Type 0} (xs ys : List X) (at : ℕ) (x : X) → slice_get (xs ++ ys) at ≡ Some x → (slice_get xs at ≡ Some x) ⊎ ((k : ℕ) × (slice_get ys k ≡ Some x))
+in_parts [] ys at x there = inr (at, there)
+in_parts (z ∷ xs) ys zero x there = inl there
+in_parts (z ∷ xs) ys (suc at) x there = in_parts xs ys at x there
+
+rest_none : {X : Type 0} (o : Option X) (xs : List X) → cons_option o xs ≡ [] → xs ≡ []
+rest_none None xs none = none
+rest_none (Some x) xs none = absurd (cc)
+
+-- a list without patterns, or without evidence, has none at any place
+no_pattern : (rs : List Record) (at : ℕ) (v : List Bool) → patterns_in rs ≡ [] → slice_get rs at ≡ Some (Pattern v) → ⊥
+no_pattern [] at v none is = absurd (cc)
+no_pattern (r ∷ rs) zero v none is =
+    let e : r ≡ Pattern v = cc in
+    let P : Record → Type 0 = λ x. patterns_in (x ∷ rs) ≡ [] in
+    let some : v ∷ patterns_in rs ≡ [] = subst P e none in
+    cc
+no_pattern (r ∷ rs) (suc at) v none is = no_pattern rs at v (rest_none (pattern_of r) (patterns_in rs) none) is
+
+no_evidence : (rs : List Record) (at : ℕ) (e : Evidence) → evidence_in rs ≡ [] → slice_get rs at ≡ Some (Same e) → ⊥
+no_evidence [] at e none is = absurd (cc)
+no_evidence (r ∷ rs) zero e none is =
+    let same : r ≡ Same e = cc in
+    let P : Record → Type 0 = λ x. evidence_in (x ∷ rs) ≡ [] in
+    let some : e ∷ evidence_in rs ≡ [] = subst P same none in
+    cc
+no_evidence (r ∷ rs) (suc at) e none is = no_evidence rs at e (rest_none (evidence_of r) (evidence_in rs) none) is
+
+regroup : (h p l c m e : List Record) → h ++ (p ++ l) ++ c ++ m ++ e ≡ h ++ p ++ (l ++ c ++ m) ++ e
+regroup h p l c m e = simp append_assoc
+
+-- ---- births
+
+first_by : (o : Option (ℕ × ℕ)) (count : ℕ) → MatchOption o (◌≡◌ {A = ℕ} 0 0) (λ birth. (birth.0 < 0) × (birth.1 < count)) → o ≡ None
+first_by None count known = refl
+first_by (Some birth) count known = absurd (omega (arith, known.0))
+
+first_birth : (t : ClassTable) → IsWhole t → slice_get t.births 0 ≡ Some None
+first_birth t whole =
+    let some : 0 < length t.births = omega (arith, whole.patterns) in
+    slice_get-get_or t.births 0 None some ∙ ap Some (first_by (get_or t.births 0 None) t.patterns (whole.births 0 some))
+
+later_by : (o : Option (ℕ × ℕ)) (k count : ℕ) → MatchOption o (k ≡ 0) (λ birth. (birth.0 < k) × (birth.1 < count)) → 0 < k → (birth : ℕ × ℕ) × (o ≡ Some birth) × (birth.0 < k) × (birth.1 < count)
+later_by None k count known some = absurd (omega (arith, known))
+later_by (Some birth) k count known some = (birth, refl, known.0, known.1)
+
+small_birth : (t : ClassTable) → IsWhole t → class_count t < 2 ^ 32 → (class : ℕ) (birth : Option (ℕ × ℕ)) → slice_get t.births class ≡ Some birth → HasBirthSpelling birth
+small_birth t whole small class None at = tt
+small_birth t whole small class (Some birth) at =
+    let below : class < class_count t = slice_get_within t.births class (Some birth) at in
+    let known = rw (get_or_from_slice_get t.births class (Some birth) None at) at (whole.births class below) in
+    (omega (arith, known.0), omega (arith, known.1, whole.patterns))
+
+-- the laws of a circuit's faults that its results rest on
+pub sound_circuit : (c : Circuit) → IsCircuit c → ((n : ℕ) → n < fault_count c → IsFaultOf c (fault_numbered c n)) → SameRootEqual → CoveringEqual → LeavesClosed → AreSound c
+sound_circuit c is stand roots covering closed = record {
+  roots = one_root_equal roots c is stand;
+  covered = λ f g limit tokens right. covering c f g limit tokens is right;
+  leaves = λ f g tokens tree at below leaf. let here = tree.each at below in (here.0, here.1, closed c f g tokens at here.0 is tree below leaf here.1);
+}
+
+some_mark : (o : Option Mark) → IsSome o → o ≡ Some (unwrap_or o Rep)
+some_mark None some = absurd (cc)
+some_mark (Some m) some = refl
+
+-- one end behind other records
+count_end : (p : Record → Bool) (rs : List Record) → p End ≡ false → count_by p (rs ++ End ∷ []) ≡ count_by p rs
+count_end p rs refused =
+    let e : ◌≡◌ {A = ℕ} (cond (p End) 1 0) 0 = ap (λ (b : Bool). cond {A = ℕ} b 1 0) refused in
+    omega (arith, sum_by-append (λ r. cond (p r) 1 0) rs (End ∷ []), e)
+
+module _ (c : Circuit) (budgets : Budgets) (kept : List (List Bool)) (later : List Record) (t : ClassTable) (given : List (Option Given)) where
+  abbrev pub stated : StatedResult
+  stated = record { budgets = budgets; body = map Pattern kept ++ later; births = t.births; members = map (member_for t given) (number_range t) }
+
+  abbrev classes : List Record
+  classes = class_records t.births
+
+  abbrev members : List Record
+  members = member_records (map (member_for t given) (number_range t))
+
+  table_none : patterns_in (classes ++ members) ≡ []
+  table_none = read_kept (λ x. Member x.0 x.1.0 x.1.1) classes pattern_of (λ x. refl) (enumerate_from 0 (map (member_for t given) (number_range t))) ∙ read_none (λ x. Class x.0 x.1) pattern_of (λ x. refl) (enumerate_from 0 t.births)
+
+  table_unevidenced : evidence_in (classes ++ members) ≡ []
+  table_unevidenced = read_kept (λ x. Member x.0 x.1.0 x.1.1) classes evidence_of (λ x. refl) (enumerate_from 0 (map (member_for t given) (number_range t))) ∙ read_none (λ x. Class x.0 x.1) evidence_of (λ x. refl) (enumerate_from 0 t.births)
+
+  body_patterns : patterns_in stated.body ≡ kept ++ patterns_in later
+  body_patterns = filter_map-append pattern_of (map Pattern kept) later ∙ ap (λ (vs : List (List Bool)). vs ++ patterns_in later) (read_all Pattern pattern_of (λ v. v) (λ v. refl) kept ∙ map-id kept)
+
+  body_evidence : evidence_in stated.body ≡ evidence_in later
+  body_evidence = filter_map-append evidence_of (map Pattern kept) later ∙ ap (λ (es : List Evidence). es ++ evidence_in later) (read_none Pattern evidence_of (λ v. refl) kept)
+
+  module _ (lines : AreDraftLines c budgets kept later) (table : IsTableOf c (kept ++ patterns_in later) t) (whole : IsWhole t) (few : fault_count c < 2 ^ 32)
+      (are : AreGiven t (evidence_in later) given) (all : AreAllMarked t given) where
+    numbers : length t.class_of ≡ fault_count c
+    numbers = table_numbers table
+
+    body : IsBody c t (lines_with c budgets kept later)
+    body = record {
+      lines = lines.right;
+      table = rw (lines_patterns c budgets kept later) table;
+      two = lines_two c budgets kept later;
+      no_class = lines_count c budgets kept later is_class (λ v. refl) (λ e. refl) refl lines.body;
+      no_member = lines_count c budgets kept later is_member (λ v. refl) (λ e. refl) refl lines.body;
+      no_end = lines_count c budgets kept later is_end (λ v. refl) (λ e. refl) refl lines.body;
+      complete = rw (lines_evidence c budgets kept later) (all_marked_none t (evidence_in later) given are all);
+    }
+
+    small : HasSmallClasses t
+    small =
+        let count : class_count t < 2 ^ 32 = omega (arith, few_classes t whole, numbers) in
+        record { numbers = omega (arith, numbers); classes = λ n below. omega (arith, whole.classes n below); count = count; births = small_birth t whole count }
+
+    all_members : (evidence : List Evidence) → evidence ≡ evidence_in later → AreMembers t evidence (map (member_for t given) (number_range t))
+    all_members evidence is =
+        let count : length (map (member_for t given) (number_range t)) ≡ length t.class_of = length-map-range_with_len (member_for t given) 0 (length t.class_of) in
+        let item = λ (n : ℕ) (below : n < length (map (member_for t given) (number_range t))). get_or-map-range_with_len (member_for t given) 0 (length t.class_of) n n (0, Rep) (omega arith) (omega arith) in
+        record {
+          count = count;
+          classes = λ n below. rw (item n below) refl;
+          marks = λ n below. rw (item n below, is) (are.marks n (omega arith) ∙ some_mark (given_mark t given n) (all n (omega arith)));
+        }
+
+    pub result_right : AreRightLines c (stated_records c stated)
+    result_right = right_table body small (all_members (evidence_in (lines_with c budgets kept later)) (lines_evidence c budgets kept later))
+
+    -- a line behind the kept patterns that is no line of the table
+    in_later : (at : ℕ) (r : Record) → slice_get (later ++ classes ++ members) at ≡ Some r → (slice_get later at ≡ Some r) ⊎ ((k : ℕ) × (slice_get (classes ++ members) k ≡ Some r))
+    in_later at r there = in_parts later (classes ++ members) at r (ap (λ (rs : List Record). slice_get rs at) (sym (append_assoc later classes members)) ∙ there)
+
+    taken : (at : ℕ) (r : Record) → slice_get later at ≡ Some r → take at (later ++ classes ++ members) ≡ take at later
+    taken at r there = ap (take at) (append_assoc later classes members) ∙ take-append-le at later (classes ++ members) (let h = slice_get_within later at r there in omega arith)
+
+    pub result_made : IsKept c budgets.blocks kept → AreMade c budgets (stated_records c stated)
+    result_made first = record {
+      head = head_lines c budgets;
+      kept = kept;
+      later = later ++ classes ++ members;
+      parts = regroup (head_lines c budgets) (map Pattern kept) later classes members (End ∷ []);
+      right = result_right;
+      two_lines = refl;
+      budgets_are = refl;
+      kept_are = first;
+      patterns = λ at v there. elim (in_later at (Pattern v) there) [
+        | inl old ↦ rw (taken at (Pattern v) old) (lines.patterns at v old)
+        | inr tabled ↦ absurd (no_pattern (classes ++ members) tabled.0 v table_none tabled.1)
+      ];
+      no_search = λ at e none there. elim (in_later at (Same e) there) [
+        | inl old ↦ lines.no_search at e none old
+        | inr tabled ↦ absurd (no_evidence (classes ++ members) tabled.0 e table_unevidenced tabled.1)
+      ];
+      no_choice = λ at v cubes conflicts there. elim (in_later at (Pattern v) there) [
+        | inl old ↦ lines.no_choice at v cubes old
+        | inr tabled ↦ no_pattern (classes ++ members) tabled.0 v table_none tabled.1
+      ];
+    }
+
+    sound_table : NamedSeparatesFaults → IsSoundTable c (patterns_in stated.body) t
+    sound_table law = record {
+      numbers = numbers;
+      some = whole.some;
+      classes = whole.classes;
+      first = first_birth t whole;
+      later = λ k some below.
+          let found = later_by (get_or t.births k None) k t.patterns (whole.births k below) some in
+          (found.0, slice_get-get_or t.births k None below ∙ ap Some found.1, found.2, rw body_patterns (omega (arith, found.3, table_patterns table)));
+      apart = λ m n low high differ. rw body_patterns (law c (kept ++ patterns_in later) t (class_at t m) (class_at t n) m n table (whole.classes m (omega (arith, numbers))) (whole.classes n (omega (arith, numbers))) differ low high refl refl);
+      leads = lead_inside t whole;
+    }
+
+    pub result_true : AreSound c → NamedSeparatesFaults → IsTrueResult c stated
+    result_true sound law =
+        lines_true c budgets (map Pattern kept ++ later) t (map (member_for t given) (number_range t)) sound result_right
+        (All-append (λ r. IsTrue (is_body_record r)) (map Pattern kept) later (All-map (λ r. IsTrue (is_body_record r)) Pattern kept (λ k d below. refl)) lines.body)
+        (sound_table law) (all_members (evidence_in stated.body) body_evidence)
+
+    -- ---- what it amounts to
+
+    abbrev numbered : List (ℕ × (ℕ × Mark))
+    numbered = enumerate_from 0 (map (member_for t given) (number_range t))
+
+    abbrev before : List Record
+    before = lines_with c budgets kept later
+
+    -- no line before the member lines passes a test that takes member lines alone
+    count_tabled : (p : Record → Bool) → count_by p (head_lines c budgets) ≡ 0 → ((v : List Bool) → p (Pattern v) ≡ false) → ((e : Evidence) → p (Same e) ≡ false) → ((x : ℕ × Option (ℕ × ℕ)) → p (Class x.0 x.1) ≡ false) → count_by p (before ++ classes) ≡ 0
+    count_tabled p none pattern same class = count_kept (λ x. Class x.0 x.1) before p class (enumerate_from 0 t.births) ∙ lines_count c budgets kept later p pattern same none lines.body
+
+    count_marked : (p : Record → Bool) → count_by p (before ++ classes) ≡ 0 → p End ≡ false → count_by p (stated_records c stated) ≡ count_by p members
+    count_marked p none end = count_end p (before ++ classes ++ members) end ∙ sum_by-append (λ r. cond (p r) 1 0) (before ++ classes) members ∙ omega (arith, none)
+
+    numbers_are : member_lines (stated_records c stated) ≡ length t.class_of
+    numbers_are =
+        count_end is_member (before ++ classes ++ members) refl
+        ∙ omega (arith, count_more (λ x. Member x.0 x.1.0 x.1.1) (before ++ classes) is_member (λ x. refl) numbered, count_tabled is_member refl (λ v. refl) (λ e. refl) (λ x. refl), length-enumerate_from 0 (map (member_for t given) (number_range t)), length-map-range_with_len (member_for t given) 0 (length t.class_of))
+
+    classes_are : class_lines (stated_records c stated) ≡ class_count t
+    classes_are =
+        count_end is_class (before ++ classes ++ members) refl
+        ∙ count_kept (λ x. Member x.0 x.1.0 x.1.1) (before ++ classes) is_class (λ x. refl) numbered
+        ∙ omega (arith, count_more (λ x. Class x.0 x.1) before is_class (λ x. refl) (enumerate_from 0 t.births), lines_count c budgets kept later is_class (λ v. refl) (λ e. refl) refl lines.body, length-enumerate_from 0 t.births)
+
+    patterns_are : length (patterns_in (stated_records c stated)) ≡ t.patterns
+    patterns_are =
+        ap length (
+        filter_map-append pattern_of (before ++ classes ++ members) (End ∷ [])
+        ∙ append-nil (patterns_in (before ++ classes ++ members))
+        ∙ read_kept (λ x. Member x.0 x.1.0 x.1.1) (before ++ classes) pattern_of (λ x. refl) numbered
+        ∙ read_kept (λ x. Class x.0 x.1) before pattern_of (λ x. refl) (enumerate_from 0 t.births)
+        ∙ lines_patterns c budgets kept later)
+        ∙ sym (table_patterns table)
+
+    pub result_summary : record { numbers = length t.class_of; patterns = t.patterns; classes = class_count t; equal = count_by is_equal members; spent = count_by is_open members } ≡ summary_of (stated_records c stated)
+    result_summary =
+        let ns = numbers_are in
+        let cs = classes_are in
+        let ps = patterns_are in
+        let equal = count_marked is_equal (count_tabled is_equal refl (λ v. refl) (λ e. refl) (λ x. refl)) refl in
+        let spent = count_marked is_open (count_tabled is_open refl (λ v. refl) (λ e. refl) (λ x. refl)) refl in
+        cc

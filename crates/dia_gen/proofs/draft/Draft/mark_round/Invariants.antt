@@ -1,0 +1,12 @@
+use Rattle.std.proofs.Common.{◌≡◌, ◌<◌, ℕ}
+use Rattle.std.specs.Prelude.{IsSome}
+use Rattle.dia_gen.specs.Given.{given_mark}
+use Rattle.dia_gen.specs.Draft.{IsDraft}
+use Rattle.dia_gen.proofs.draft.Draft.mark_round.Given as goal
+
+abbrev pub invariant-loop-number : goal.invariant-loop-number
+invariant-loop-number l = record {
+  draft : IsDraft l.setting l.self;
+  same : l.self.keeper.kept ≡ l.initial.self.keeper.kept;
+  marked : (n : ℕ) → n < l.number → IsSome (given_mark l.self.keeper.kept.classes l.self.marks.given.items n);
+}

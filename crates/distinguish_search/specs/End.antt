@@ -1,0 +1,20 @@
+-- Where a descent ends.
+use Rattle.std.specs.Prelude.{◌≡◌, ℕ, Bool, false, if◌then◌else◌}
+use Rattle.net_model.specs.declared.fault.Fault.{Fault}
+use Rattle.net_model.specs.Circuit.{Circuit}
+use Rattle.pair_sets.specs.declared.state.PairState.TheVariants as state
+use Rattle.pair_sets.specs.declared.tree.Token.{Token}
+use Rattle.pair_sets.specs.declared.tree.Token.TheVariants.{Closed, Rest}
+use Rattle.pair_sets.specs.Cube.{Cube}
+use Rattle.pair_sets.specs.CubeState.{IsState}
+use Rattle.distinguish_search.specs.declared.end.End.{End}
+use Rattle.distinguish_search.specs.declared.end.End.TheVariants.{Leaf, Apart}
+
+-- A leaf is all same, unless no leaf may be closed any more.
+abbrev pub IsEnd : Circuit → Fault → Fault → Cube → Bool → End → Type 0
+IsEnd c f g cube full Leaf = full ≡ false → IsState c f g cube state.AllSame
+IsEnd c f g cube full Apart = (at : ℕ) × IsState c f g cube (state.Apart at)
+
+-- the leaf of a cube at which a descent ends
+abbrev pub leaf_token : Bool → Token
+leaf_token full = if full then Rest else Closed

@@ -1,0 +1,5 @@
+pub mod Found
+pub mod Asked
+pub mod Open
+pub mod Frames
+pub mod End

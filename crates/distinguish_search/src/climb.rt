@@ -1,0 +1,66 @@
+//! Up from a finished tree, half by half, to a split of which the other half is left.
+
+ghost use Rattle.std.specs.Prelude.{◌≡◌, ◌∷◌, ◌++◌, IfOk};
+ghost use Rattle.pair_sets.specs.declared.tree.Token.TheVariants.{Split};
+ghost use Rattle.pair_sets.specs.Subtree.{IsSubtree};
+ghost use Rattle.distinguish_search.specs.Frames.{IsUnderWay, IsClimbed};
+
+use crate::frames::Frame;
+use crate::stack::Stack;
+use pair_sets::{PairSim, Token, Tree};
+use std::alloc::{AllocError, Global};
+
+/// Finishes the tree of a cube, and with it each split of which it is the second half. It gives the whole tree, or
+/// begins the second half of the split of which it finishes the first.
+pub(crate) fn climb(
+    alloc: Global,
+    sim: &mut PairSim,
+    stack: &mut Stack,
+    tree: Tree,
+) -> Result<Option<Tree>, AllocError>
+    requires under_way { IsUnderWay sim.old.circuit sim.old.f sim.old.g sim.old stack.old }
+    requires tree { IsSubtree sim.old.circuit sim.old.f sim.old.g sim.old.cube tree }
+    ensures { IfOk result (IsClimbed sim.old.circuit sim.old.f sim.old.g tree stack.old sim.new stack.new) }
+{
+    let mut tree = tree;
+    while let Some(frame) = stack.pop() {
+        sim.undo();
+        let Frame {
+            source,
+            bit,
+            half,
+            place,
+        } = frame;
+        match half {
+            None => {
+                stack.push(Frame {
+                    source,
+                    bit: !bit,
+                    half: Some(tree),
+                    place,
+                })?;
+                sim.assign(source, !bit);
+                return Ok(None);
+            }
+            Some(other) => {
+                tree = if bit {
+                    joined(alloc, source, &other, &tree)?
+                } else {
+                    joined(alloc, source, &tree, &other)?
+                };
+            }
+        }
+    }
+    Ok(Some(tree))
+}
+
+// The tree of a split, from the trees of its source at 0 and at 1.
+fn joined(alloc: Global, source: u32, zero: &Tree, one: &Tree) -> Result<Tree, AllocError>
+    ensures { IfOk result (λ tree. tree ≡ Split source ∷ zero.now ++ one.now) }
+{
+    let mut tree = Tree::new(alloc);
+    tree.push(Token::Split(source))?;
+    tree.extend(zero.as_slice())?;
+    tree.extend(one.as_slice())?;
+    Ok(tree)
+}

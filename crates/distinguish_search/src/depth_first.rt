@@ -1,0 +1,86 @@
+//! The search, depth first.
+
+ghost use Rattle.std.specs.Prelude.{◌≡◌, ◌≤◌, ◌∷◌, [], IfOk, if◌then◌else◌};
+ghost use Rattle.std.specs.List.{list_any};
+ghost use Rattle.net_model.specs.Fault.{IsFaultOf};
+ghost use Rattle.distinguish_search.specs.End.{leaf_token};
+ghost use Rattle.distinguish_search.specs.Frames.{is_open};
+ghost use Rattle.distinguish_search.specs.Found.{IsFound};
+
+use crate::climb::climb;
+use crate::descent::descend;
+use crate::end::End;
+use crate::found::Found;
+use crate::stack::Stack;
+use net_model::{Circuit, Fault};
+use pair_sets::{PairSim, Token, Tree};
+use std::alloc::{AllocError, Global};
+
+/// Searches the cubes of all vectors for one that separates two faults. It splits undecided cubes by sources that can
+/// still decide them. No more leaves are closed than `leaves`, which is 1 or more: with so many the cubes that are left
+/// stay open. Its own stack is in memory from `alloc`, and grows by a frame for each source that is fixed.
+pub fn search(
+    alloc: Global,
+    circuit: &Circuit,
+    f: &Fault,
+    g: &Fault,
+    leaves: u32,
+) -> Result<Found, AllocError>
+    requires first { IsFaultOf circuit.now f.now }
+    requires second { IsFaultOf circuit.now g.now }
+    requires leaves { 1 ≤ leaves }
+    ensures { IfOk result (IsFound circuit.now f.now g.now leaves) }
+{
+    let mut sim = PairSim::new(alloc, circuit, f, g)?;
+    let mut stack = Stack::new(alloc);
+    let mut closed = 0;
+    loop {
+        let full = closed == leaves;
+        match descend(&mut sim, &mut stack, full)? {
+            End::Leaf => {}
+            End::Apart => return Ok(Found::Vector(stack.vector(alloc, circuit.sources())?)),
+        }
+        if !full {
+            closed += 1;
+        }
+        let tree = leaf(alloc, full)?;
+        match climb(alloc, &mut sim, &mut stack, tree)? {
+            Some(tree) => return Ok(finished(tree)),
+            None => {}
+        }
+    }
+}
+
+// A tree of one leaf.
+fn leaf(alloc: Global, full: bool) -> Result<Tree, AllocError>
+    ensures { IfOk result (λ tree. tree ≡ leaf_token full ∷ []) }
+{
+    let token = if full { Token::Rest } else { Token::Closed };
+    let mut tree = Tree::new(alloc);
+    tree.push(token)?;
+    Ok(tree)
+}
+
+// A whole tree is spent where it has an open leaf, else covered.
+fn finished(tree: Tree) -> Found
+    ensures { result ≡ (if list_any is_open tree then Found.Spent tree else Found.Covered tree) }
+{
+    if has_open(tree.as_slice()) {
+        Found::Spent(tree)
+    } else {
+        Found::Covered(tree)
+    }
+}
+
+// Whether some leaf is open.
+fn has_open(tokens: &[Token]) -> bool
+    ensures { result ≡ list_any is_open tokens.now }
+{
+    tokens.iter().any(|token| is_open(*token))
+}
+
+fn is_open(token: Token) -> bool
+    ensures { result ≡ is_open token }
+{
+    matches!(token, Token::Rest)
+}

@@ -1,0 +1,40 @@
+//! Down from a cube, split by split, to one that is decided.
+
+ghost use Rattle.std.specs.Prelude.{IfOk};
+ghost use Rattle.distinguish_search.specs.Frames.{IsUnderWay, SplitsOn};
+ghost use Rattle.distinguish_search.specs.End.{IsEnd};
+
+use crate::end::End;
+use crate::frames::Frame;
+use crate::stack::Stack;
+use crate::walk::choose;
+use pair_sets::{PairSim, PairState};
+use std::alloc::AllocError;
+
+/// Splits the cube, and then a half of it, and so on, until it is decided. Where no leaf may be closed any more (`full`)
+/// nothing is split.
+pub(crate) fn descend(sim: &mut PairSim, stack: &mut Stack, full: bool) -> Result<End, AllocError>
+    requires { IsUnderWay sim.old.circuit sim.old.f sim.old.g sim.old stack.old }
+    ensures under_way { IfOk result (λ end. IsUnderWay sim.old.circuit sim.old.f sim.old.g sim.new stack.new) }
+    ensures splits { IfOk result (λ end. SplitsOn sim.old.circuit.sources stack.old stack.new) }
+    ensures ends { IfOk result (IsEnd sim.old.circuit sim.old.f sim.old.g sim.new.cube full) }
+{
+    loop {
+        match sim.state() {
+            PairState::Apart(_) => return Ok(End::Apart),
+            PairState::AllSame => return Ok(End::Leaf),
+            PairState::Undecided => {}
+        }
+        if full {
+            return Ok(End::Leaf);
+        }
+        let choice = choose(sim, stack.place());
+        stack.push(Frame {
+            source: choice.source,
+            bit: choice.bit,
+            half: None,
+            place: choice.place,
+        })?;
+        sim.assign(choice.source, choice.bit);
+    }
+}

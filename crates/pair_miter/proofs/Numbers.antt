@@ -1,0 +1,253 @@
+-- The numbers of variables: sums over the lines, one line more at a time, and what they stay below.
+use Rattle.std.proofs.Common.{◌≡◌, ◌∙◌, inl, inr, ℕ, zero, suc, ◌+◌, ◌-◌, ◌<◌, ◌≤◌, ◌^◌, refl, sym, ap, arith}
+use Rattle.std.specs.Prelude.{Bool, true, false, List, [], ◌∷◌, length, ◌++◌, ◌&&◌, sum_by, count_by, None, Some, is_none, if◌then◌else◌}
+use Rattle.std.specs.Option.{option_map_or}
+use Rattle.std.specs.List.{range_with_len}
+use Rattle.std.proofs.lemmas.Bool.{cases_lt}
+use Rattle.std.proofs.lemmas.List.{get_or_append_left, get_or_at, length-append}
+use Rattle.std.proofs.lemmas.List.Sums.{sum_by_push, length-filter, count_by-le-length}
+use Rattle.std.proofs.lemmas.List.FromFn.{length-range_with_len}
+use Rattle.net_model.specs.Answer.{bit_at}
+use Rattle.net_model.specs.declared.gate.Gate.{Gate}
+use Rattle.net_model.specs.declared.fault.Fault.{Fault}
+use Rattle.net_model.specs.Circuit.{Circuit, IsCircuit, line_count, gate_at}
+use Rattle.net_model.specs.Fault.{stuck_stem}
+use Rattle.net_model.specs.Scope.{is_split, is_relevant, is_reached, reached_positions}
+use Rattle.net_model.proofs.Orders.{range_with_len_more}
+use Rattle.fault_list.specs.Scope.{Scope, IsScopeOf}
+use Rattle.pair_miter.specs.Variables.{Copy, first_copy, second_copy, fault_of, is_second, line_variables, variables_below, line_variable, gate_helpers, copy_helpers, line_helpers, helpers_below, first_helper, difference_variable, variable_count}
+use Rattle.pair_miter.specs.Marks.{IsVariable}
+use Rattle.pair_miter.specs.Numbering.{AreFirstVariables, HasCopy}
+use Rattle.pair_miter.proofs.Bounds.{few_variables_of}
+
+-- ---- sums over the numbers below one
+
+sum_more : (h : ℕ → ℕ) (n : ℕ) → sum_by h (range_with_len 0 (n + 1)) ≡ sum_by h (range_with_len 0 n) + h n
+sum_more h n = ap (sum_by h) (range_with_len_more 0 (n + 1) n n refl (omega arith)) ∙ sum_by_push h (range_with_len 0 n) n
+
+sum_rises_by : (h : ℕ → ℕ) (n more : ℕ) → sum_by h (range_with_len 0 n) ≤ sum_by h (range_with_len 0 (n + more))
+sum_rises_by h n zero = let e : n + 0 ≡ n = omega arith in let same = ap (λ k. sum_by h (range_with_len 0 k)) e in omega (arith, same)
+sum_rises_by h n (suc more) =
+    let e : n + suc more ≡ (n + more) + 1 = omega arith in
+    let same = ap (λ k. sum_by h (range_with_len 0 k)) e in
+    omega (arith, same, sum_more h (n + more), sum_rises_by h n more)
+
+sum_rises : (h : ℕ → ℕ) (n m : ℕ) → n ≤ m → sum_by h (range_with_len 0 n) ≤ sum_by h (range_with_len 0 m)
+sum_rises h n m le =
+    let e : n + (m - n) ≡ m = omega arith in
+    let same = ap (λ k. sum_by h (range_with_len 0 k)) e in
+    omega (arith, same, sum_rises_by h n (m - n))
+
+module _ (c : Circuit) (f g : Fault) where
+  pub variables_below-more : (line : ℕ) → variables_below c f g (line + 1) ≡ variables_below c f g line + line_variables c f g line
+  unfolding variables_below
+  variables_below-more line = sum_more (line_variables c f g) line
+
+  pub variables_below-rises : (n m : ℕ) → n ≤ m → variables_below c f g n ≤ variables_below c f g m
+  unfolding variables_below
+  variables_below-rises n m le = sum_rises (line_variables c f g) n m le
+
+  pub first_variable : (line : ℕ) → line_variable c f g first_copy line ≡ 1 + variables_below c f g line
+  unfolding line_variable
+  first_variable line = omega arith
+
+  -- a relevant line has its variables below those that no line has
+  pub line_variable-below : (copy : Copy) (line : ℕ) → line < line_count c → is_relevant c f g line ≡ true
+      → line_variable c f g copy line ≤ variables_below c f g (line_count c)
+  unfolding line_variable line_variables
+  line_variable-below copy line h e = by (is_relevant c f g line) (is_split c f g line) (is_second copy) e (variables_below-more line)
+    where
+      by : (r s o : Bool) → r ≡ true → variables_below c f g (line + 1) ≡ variables_below c f g line + (if r then (if s then 2 else 1) else 0)
+          → 1 + variables_below c f g line + (if (o && s) then 1 else 0) ≤ variables_below c f g (line_count c)
+      by false s o e more = cc
+      by true true true e more = omega (arith, more, variables_below-rises (line + 1) (line_count c) (omega arith))
+      by true true false e more = omega (arith, more, variables_below-rises (line + 1) (line_count c) (omega arith))
+      by true false true e more = omega (arith, more, variables_below-rises (line + 1) (line_count c) (omega arith))
+      by true false false e more = omega (arith, more, variables_below-rises (line + 1) (line_count c) (omega arith))
+
+  -- the second copy of a line that isn't split has the first's variable, and that of a split line the next one
+  pub shared_variable : (line : ℕ) → is_split c f g line ≡ false → line_variable c f g second_copy line ≡ line_variable c f g first_copy line
+  unfolding line_variable
+  shared_variable line e = ap (λ s. 1 + variables_below c f g line + (if s then 1 else 0)) e
+
+  pub own_variable : (line : ℕ) → is_split c f g line ≡ true → line_variable c f g second_copy line ≡ line_variable c f g first_copy line + 1
+  unfolding line_variable
+  own_variable line e = let own = ap (λ s. 1 + variables_below c f g line + (if s then 1 else 0)) e in omega (arith, own)
+
+  pub few_line_variables : IsCircuit c → (line : ℕ) → line ≤ line_count c → variables_below c f g line < 2 ^ 31
+  unfolding variable_count
+  few_line_variables w line h = omega (arith, variables_below-rises line (line_count c) h, few_variables_of c f g w)
+
+  -- how many variables a line has, by the marks of the scope
+  pub line_variables-marked : (s : Scope) → IsScopeOf c f g s → (line : ℕ) → line < line_count c
+      → (if bit_at s.relevant line then (if bit_at s.split line then 2 else 1) else 0) ≡ line_variables c f g line
+  unfolding line_variables
+  line_variables-marked s is line h =
+      ap (λ r. if r then (if bit_at s.split line then 2 else 1) else 0) (is.relevant.each line h)
+      ∙ ap (λ b. if is_relevant c f g line then (if b then 2 else 1) else 0) (is.split.each line h)
+
+  pub first_variables-more : (line first : ℕ) (firsts : List ℕ) → first ≡ 1 + variables_below c f g line → AreFirstVariables c f g line firsts
+      → AreFirstVariables c f g (line + 1) (firsts ++ first ∷ [])
+  first_variables-more line first firsts is so_far = record {
+    whole = omega (arith, length-append firsts (first ∷ []), so_far.whole);
+    each = λ n h.
+        elim (cases_lt n line) [
+          | inl below ↦ get_or_append_left firsts (first ∷ []) 0 n (omega (arith, so_far.whole)) ∙ so_far.each n below
+          | inr above ↦
+              let here : n ≡ line = omega arith in
+              get_or_at firsts first [] 0 n (omega (arith, so_far.whole)) ∙ (is ∙ (sym (first_variable line) ∙ ap (line_variable c f g first_copy) (sym here)))
+        ];
+  }
+
+  pub variables_below-none : variables_below c f g 0 ≡ 0
+  unfolding variables_below
+  variables_below-none = refl
+
+  pub line_variable-from : (copy : Copy) (line : ℕ) → 1 ≤ line_variable c f g copy line
+  unfolding line_variable
+  line_variable-from copy line = omega arith
+
+  -- no more variables are lines' than there are
+  pub few_of_lines : variables_below c f g (line_count c) ≤ variable_count c f g
+  unfolding variable_count
+  few_of_lines = omega arith
+
+  -- ---- helpers
+
+  pub helpers_below-more : (line : ℕ) → helpers_below c f g (line + 1) ≡ helpers_below c f g line + line_helpers c f g line
+  unfolding helpers_below
+  helpers_below-more line = sum_more (line_helpers c f g) line
+
+  pub helpers_below-rises : (n m : ℕ) → n ≤ m → helpers_below c f g n ≤ helpers_below c f g m
+  unfolding helpers_below
+  helpers_below-rises n m le = sum_rises (line_helpers c f g) n m le
+
+  pub helpers_below-none : helpers_below c f g 0 ≡ 0
+  unfolding helpers_below
+  helpers_below-none = refl
+
+  pub helpers_of_irrelevant : (line : ℕ) → is_relevant c f g line ≡ false → line_helpers c f g line ≡ 0
+  unfolding line_helpers
+  helpers_of_irrelevant line e = rw e refl
+
+  pub helpers_of_relevant : (line : ℕ) → is_relevant c f g line ≡ true → line_helpers c f g line ≡ copy_helpers c f g first_copy line + copy_helpers c f g second_copy line
+  unfolding line_helpers
+  helpers_of_relevant line e = rw e refl
+
+  -- a copy's helpers, by its stem and its gate
+  pub helpers_of_copy : (copy : Copy) (line : ℕ) → HasCopy c f g copy line
+      → copy_helpers c f g copy line ≡ (if is_none (stuck_stem (fault_of c f g copy) line) then option_map_or (gate_helpers c f g copy line) (gate_at c line) 0 else 0)
+  unfolding copy_helpers
+  helpers_of_copy first_copy line own = refl
+  helpers_of_copy second_copy line own = ap (λ s. if (s && is_none (stuck_stem g line)) then option_map_or (gate_helpers c f g second_copy line) (gate_at c line) 0 else 0) own
+
+  pub helpers_of_shared : (line : ℕ) → is_split c f g line ≡ false → copy_helpers c f g second_copy line ≡ 0
+  unfolding copy_helpers
+  helpers_of_shared line shared = ap (λ s. if (s && is_none (stuck_stem g line)) then option_map_or (gate_helpers c f g second_copy line) (gate_at c line) 0 else 0) shared
+
+  module _ (copy : Copy) (line : ℕ) (own : HasCopy c f g copy line) where
+    pub helpers_of_stuck : is_none (stuck_stem (fault_of c f g copy) line) ≡ false → copy_helpers c f g copy line ≡ 0
+    helpers_of_stuck e = helpers_of_copy copy line own ∙ ap (λ b. if b then option_map_or (gate_helpers c f g copy line) (gate_at c line) 0 else 0) e
+
+    pub helpers_of_source : gate_at c line ≡ None → copy_helpers c f g copy line ≡ 0
+    helpers_of_source e = helpers_of_copy copy line own ∙ (ap (λ o. if is_none (stuck_stem (fault_of c f g copy) line) then option_map_or (gate_helpers c f g copy line) o 0 else 0) e ∙ either (is_none (stuck_stem (fault_of c f g copy) line)))
+      where
+        either : (b : Bool) → ◌≡◌ {A = ℕ} (if b then 0 else 0) 0
+        either true = refl
+        either false = refl
+
+    pub helpers_of_driven : (gate : Gate) → is_none (stuck_stem (fault_of c f g copy) line) ≡ true → gate_at c line ≡ Some gate → copy_helpers c f g copy line ≡ gate_helpers c f g copy line gate
+    helpers_of_driven gate free e =
+        helpers_of_copy copy line own
+        ∙ (ap (λ b. if b then option_map_or (gate_helpers c f g copy line) (gate_at c line) 0 else 0) free ∙ ap (λ o. option_map_or (gate_helpers c f g copy line) o 0) e)
+
+  -- the helpers of all lines are variables
+  pub few_helpers : helpers_below c f g (line_count c) ≤ variable_count c f g
+  unfolding variable_count
+  few_helpers = omega arith
+
+  pub few_helpers_below : IsCircuit c → (line : ℕ) → line ≤ line_count c → helpers_below c f g line < 2 ^ 31
+  few_helpers_below w line h = omega (arith, helpers_below-rises line (line_count c) h, few_helpers, few_variables_of c f g w)
+
+  pub few_line_helpers : IsCircuit c → (line : ℕ) → line < line_count c → line_helpers c f g line < 2 ^ 31
+  few_line_helpers w line h = omega (arith, helpers_below-more line, few_helpers_below w (line + 1) (omega arith))
+
+  -- the helpers of a relevant line's copy come before the differences
+  pub first_helper-from : (copy : Copy) (line : ℕ) → 1 ≤ first_helper c f g copy line
+  unfolding first_helper
+  first_helper-from first_copy line = omega arith
+  first_helper-from second_copy line = omega arith
+
+  pub first_helper-below : (copy : Copy) (line : ℕ) → HasCopy c f g copy line → line < line_count c → is_relevant c f g line ≡ true
+      → first_helper c f g copy line + copy_helpers c f g copy line ≤ 1 + variables_below c f g (line_count c) + helpers_below c f g (line_count c)
+  unfolding first_helper
+  first_helper-below first_copy line own h e = omega (arith, helpers_of_relevant line e, helpers_below-more line, helpers_below-rises (line + 1) (line_count c) (omega arith))
+  first_helper-below second_copy line own h e = omega (arith, helpers_of_relevant line e, helpers_below-more line, helpers_below-rises (line + 1) (line_count c) (omega arith))
+
+  pub few_of_parts : variables_below c f g (line_count c) + helpers_below c f g (line_count c) ≤ variable_count c f g
+  unfolding variable_count
+  few_of_parts = omega arith
+
+  -- the variable of a relevant line is one
+  pub variable_within : (copy : Copy) (line x n : ℕ) → x ≡ line_variable c f g copy line → n ≡ variable_count c f g → line < line_count c → is_relevant c f g line ≡ true → IsVariable n x
+  variable_within copy line x n is all h e = (
+    omega (arith, is, line_variable-from copy line),
+    omega (arith, is, all, line_variable-below copy line h e, few_of_lines),
+  )
+
+  -- the second copy's helpers follow the first's
+  pub second_helper : (line : ℕ) → first_helper c f g second_copy line ≡ first_helper c f g first_copy line + copy_helpers c f g first_copy line
+  unfolding first_helper
+  second_helper line = refl
+
+  -- ---- differences
+
+  -- how many positions below one are reached
+  abbrev pub reached_below : ℕ → ℕ
+  reached_below at = count_by (is_reached c f g) (range_with_len 0 at)
+
+  pub reached_more : (at : ℕ) (b : Bool) → is_reached c f g at ≡ b → reached_below (at + 1) ≡ reached_below at + (if b then 1 else 0)
+  reached_more at b e = sum_more (λ n. if is_reached c f g n then 1 else 0) at ∙ ap (λ r. reached_below at + (if r then 1 else 0)) e
+
+  pub length-reached : length (reached_positions c f g) ≡ reached_below (length c.positions)
+  unfolding reached_positions
+  length-reached = length-filter (is_reached c f g) (range_with_len 0 (length c.positions))
+
+  pub first_difference : difference_variable c f g 0 ≡ 1 + variables_below c f g (line_count c) + helpers_below c f g (line_count c)
+  unfolding difference_variable
+  first_difference = omega arith
+
+  pub difference-from : (at : ℕ) → 1 ≤ difference_variable c f g at
+  unfolding difference_variable
+  difference-from at = omega arith
+
+  pub difference_more : (at : ℕ) → is_reached c f g at ≡ true → difference_variable c f g (at + 1) ≡ difference_variable c f g at + 1
+  unfolding difference_variable
+  difference_more at e = omega (arith, reached_more at true e)
+
+  pub difference_same : (at : ℕ) → is_reached c f g at ≡ false → difference_variable c f g (at + 1) ≡ difference_variable c f g at
+  unfolding difference_variable
+  difference_same at e = omega (arith, reached_more at false e)
+
+  -- the difference of a reached position is a variable
+  pub difference_below : (at : ℕ) → at < length c.positions → is_reached c f g at ≡ true → difference_variable c f g at ≤ variable_count c f g
+  unfolding difference_variable variable_count
+  difference_below at h e = omega (arith, reached_more at true e, sum_rises (λ n. if is_reached c f g n then 1 else 0) (at + 1) (length c.positions) (omega arith), length-reached)
+
+  pub difference_within : (at x n : ℕ) → x ≡ difference_variable c f g at → n ≡ variable_count c f g → at < length c.positions → is_reached c f g at ≡ true → IsVariable n x
+  difference_within at x n is all h e = (omega (arith, is, difference-from at), omega (arith, is, all, difference_below at h e))
+
+  pub reached_few : (at : ℕ) → reached_below at ≤ at
+  reached_few at = omega (arith, count_by-le-length (is_reached c f g) (range_with_len 0 at), length-range_with_len 0 at)
+
+  pub helper_more : (line : ℕ) → first_helper c f g first_copy (line + 1) ≡ first_helper c f g first_copy line + line_helpers c f g line
+  unfolding first_helper
+  helper_more line = omega (arith, helpers_below-more line)
+
+  pub helpers_begin : first_helper c f g first_copy 0 ≡ 1 + variables_below c f g (line_count c)
+  unfolding first_helper
+  helpers_begin = omega (arith, helpers_below-none)
+
+  pub variables_in_all : variable_count c f g ≡ variables_below c f g (line_count c) + helpers_below c f g (line_count c) + length (reached_positions c f g)
+  unfolding variable_count
+  variables_in_all = refl

@@ -1,0 +1,84 @@
+use Rattle.std.proofs.Common.{◌∙◌, ◌+◌, ◌<◌, ◌^◌, ◌++◌, length, refl, arith, ap, sym, subst}
+use Rattle.net_model.specs.Fault.{IsFaultOf}
+use Rattle.pair_miter.specs.Adds.{Adds}
+use Rattle.pair_miter.specs.Miter.{miter, tidy}
+use Rattle.pair_miter.specs.MiterView.{Miter}
+use Rattle.pair_miter.proofs.AddSteps.{first_few, left_few, both_parts}
+use Rattle.pair_miter.proofs.Bounds.{few_variables_of}
+use Rattle.pair_miter.proofs.MiterParts.{lines_part, differences_part, miter_parts, parts_few}
+use Rattle.pair_miter.proofs.Numbers.{variables_in_all, helpers_begin, first_difference}
+use Rattle.pair_miter.proofs.building.write_miter.Goals as goal
+
+pub overflow_add-first_difference : goal.overflow_add-first_difference
+overflow_add-first_difference c =
+    let q = c.in_ok-numbering.numbering in
+    omega (arith, c.end.ensures.value, c.count_helpers.ensures, variables_in_all q.circuit q.f q.g, few_variables_of q.circuit q.f q.g c.end.ensures.circuit)
+
+pub overflow_add-variables : goal.overflow_add-variables
+overflow_add-variables c =
+    let q = c.in_ok-numbering.numbering in
+    omega (arith, c.end.ensures.value, c.count_helpers.ensures, c.count_reached.ensures, variables_in_all q.circuit q.f q.g, few_variables_of q.circuit q.f q.g c.end.ensures.circuit)
+
+pub new-requires-2 : goal.new-requires-2
+new-requires-2 c =
+    let q = c.in_ok-numbering.numbering in
+    omega (arith, c.end.ensures.value, c.count_helpers.ensures, c.count_reached.ensures, variables_in_all q.circuit q.f q.g, few_variables_of q.circuit q.f q.g c.end.ensures.circuit)
+
+pub write_lines-requires-clause-variables : goal.write_lines-requires-clause-variables
+write_lines-requires-clause-variables c =
+    let q = c.in_ok-numbering.numbering in
+    omega (arith, c.in_ok-writer.ensures.variables, c.end.ensures.value, c.count_helpers.ensures, c.count_reached.ensures, variables_in_all q.circuit q.f q.g)
+
+pub write_lines-requires-clause-helper : goal.write_lines-requires-clause-helper
+write_lines-requires-clause-helper c =
+    let q = c.in_ok-numbering.numbering in
+    omega (arith, c.in_ok-writer.ensures.helper, c.end-2.ensures.value, helpers_begin q.circuit q.f q.g)
+
+pub write_lines-requires-clause-few : goal.write_lines-requires-clause-few
+write_lines-requires-clause-few c =
+    let q = c.in_ok-numbering.numbering in
+    let first = lines_part q.circuit q.f q.g in
+    let left = differences_part q.circuit q.f q.g in
+    let few : length c.args.pool.now.clauses + length (tidy (first ++ left)) < 2 ^ 30 = omega (arith, ap length c.requires.empty, parts_few q.circuit q.f q.g c.end.ensures.circuit) in
+    first_few c.args.pool.now (first ++ left) first left refl few
+
+pub write_differences-requires-clause-variables : goal.write_differences-requires-clause-variables
+write_differences-requires-clause-variables c =
+    let q = c.in_ok-numbering.numbering in
+    omega (arith, c.in_ok-write_lines.ensures.variables, c.in_ok-writer.ensures.variables, c.end.ensures.value, c.count_helpers.ensures, c.count_reached.ensures, variables_in_all q.circuit q.f q.g)
+
+pub write_differences-requires-clause-difference : goal.write_differences-requires-clause-difference
+write_differences-requires-clause-difference c =
+    let q = c.in_ok-numbering.numbering in
+    omega (arith, c.end.ensures.value, c.count_helpers.ensures, first_difference q.circuit q.f q.g)
+
+pub write_differences-requires-clause-few : goal.write_differences-requires-clause-few
+write_differences-requires-clause-few c =
+    let q = c.in_ok-numbering.numbering in
+    let first = lines_part q.circuit q.f q.g in
+    let left = differences_part q.circuit q.f q.g in
+    let few : length c.args.pool.now.clauses + length (tidy (first ++ left)) < 2 ^ 30 = omega (arith, ap length c.requires.empty, parts_few q.circuit q.f q.g c.end.ensures.circuit) in
+    left_few c.args.pool.now c.write_lines.new.pool (first ++ left) first left refl c.in_ok-write_lines.ensures.ok few
+
+pub invariant_of-result : goal.invariant_of-result
+invariant_of-result c =
+    let q = c.in_ok-numbering.numbering in
+    let first = lines_part q.circuit q.f q.g in
+    let left = differences_part q.circuit q.f q.g in
+    let adds = both_parts c.args.pool.now c.write_lines.new.pool c.write_differences.new.pool (first ++ left) first left refl c.in_ok-write_lines.ensures.ok c.in_ok-write_differences.ensures.ok in
+    let all = adds.written ∙ ap (λ xs. xs ++ tidy (first ++ left)) c.requires.empty ∙ sym (miter_parts q.circuit q.f q.g) in
+    record {
+      first = subst (λ (p : Miter). IsFaultOf p.circuit p.f) (sym c.in_ok-numbering.ensures) c.requires.first;
+      second = subst (λ (p : Miter). IsFaultOf p.circuit p.g) (sym c.in_ok-numbering.ensures) c.requires.second;
+      variables = omega (arith, c.end.ensures.value, c.count_helpers.ensures, c.count_reached.ensures, variables_in_all q.circuit q.f q.g);
+      clauses = c.len.ensures ∙ ap length all;
+    }
+
+pub returns-clause-ok : goal.returns-clause-ok
+returns-clause-ok c =
+    let q = c.in_ok-numbering.numbering in
+    let first = lines_part q.circuit q.f q.g in
+    let left = differences_part q.circuit q.f q.g in
+    let adds = both_parts c.args.pool.now c.write_lines.new.pool c.write_differences.new.pool (first ++ left) first left refl c.in_ok-write_lines.ensures.ok c.in_ok-write_differences.ensures.ok in
+    subst (λ (p : Miter). Adds c.args.pool.now c.write_differences.new.pool (miter p.circuit p.f p.g)) c.in_ok-numbering.ensures
+    (subst (Adds c.args.pool.now c.write_differences.new.pool) (sym (miter_parts q.circuit q.f q.g)) adds)

@@ -1,0 +1,50 @@
+use Rattle.std.proofs.Common.{◌∙◌, length, arith, ap, sym, subst}
+use Rattle.std.proofs.lemmas.List.{length-append}
+use Rattle.pair_miter.specs.Adds.{Adds}
+use Rattle.pair_miter.specs.Miter.{copy_clauses, tidy}
+use Rattle.pair_miter.specs.Variables.{first_copy, second_copy}
+use Rattle.pair_miter.proofs.AddSteps.{adds_both}
+use Rattle.pair_miter.proofs.LineClauses.{clauses_of_split, clauses_of_shared, first_copy_few, length-tidy}
+use Rattle.pair_miter.proofs.Numbers.{second_helper, helpers_of_relevant, helpers_of_shared}
+use Rattle.pair_miter.proofs.TidyParts.{tidy-append}
+use Rattle.pair_miter.proofs.writer.Writer.write_line.Goals as goal
+
+pub write_copy-requires-clause-few : goal.write_copy-requires-clause-few
+write_copy-requires-clause-few c = let p = c.args.numbering.now in omega (arith, c.requires.few, first_copy_few p.circuit p.f p.g c.args.line)
+
+pub write_copy-requires-then-split-clause-helper : goal.write_copy-requires-then-split-clause-helper
+write_copy-requires-then-split-clause-helper c = let p = c.args.numbering.now in omega (arith, c.in_ok-write_copy.ensures.helper, c.requires.helper, second_helper p.circuit p.f p.g c.args.line)
+
+pub write_copy-requires-then-split-clause-few : goal.write_copy-requires-then-split-clause-few
+write_copy-requires-then-split-clause-few c =
+    let p = c.args.numbering.now in
+    let first = copy_clauses p.circuit p.f p.g first_copy c.args.line in
+    let second = copy_clauses p.circuit p.f p.g second_copy c.args.line in
+    let parts = ap (λ xs. length (tidy xs)) (clauses_of_split p.circuit p.f p.g c.args.line (sym c.split.ensures.value ∙ c.if-split.true)) in
+    omega (arith, c.requires.few, parts, length-tidy first second, ap length c.in_ok-write_copy.ensures.ok.written, length-append c.args.pool.now.clauses (tidy first))
+
+pub returns-in_ok-write_copy-2-clause-ok : goal.returns-in_ok-write_copy-2-clause-ok
+returns-in_ok-write_copy-2-clause-ok c =
+    let p = c.args.numbering.now in
+    let first = copy_clauses p.circuit p.f p.g first_copy c.args.line in
+    let second = copy_clauses p.circuit p.f p.g second_copy c.args.line in
+    let parts = sym (tidy-append first second) ∙ ap tidy (sym (clauses_of_split p.circuit p.f p.g c.args.line (sym c.split.ensures.value ∙ c.if-split.true))) in
+    subst (Adds c.args.pool.now c.write_copy-then-split.new.pool) parts
+    (adds_both c.args.pool.now c.write_copy.new.pool c.write_copy-then-split.new.pool (tidy first) (tidy second) c.in_ok-write_copy.ensures.ok c.in_ok-write_copy-2.ensures.ok)
+
+pub returns-in_ok-write_copy-2-clause-helper : goal.returns-in_ok-write_copy-2-clause-helper
+returns-in_ok-write_copy-2-clause-helper c =
+    let p = c.args.numbering.now in
+    omega (arith, c.in_ok-write_copy.ensures.helper, c.in_ok-write_copy-2.ensures.helper, helpers_of_relevant p.circuit p.f p.g c.args.line c.requires.relevant)
+
+pub returns-else-split-clause-ok : goal.returns-else-split-clause-ok
+returns-else-split-clause-ok c =
+    let p = c.args.numbering.now in
+    let same = clauses_of_shared p.circuit p.f p.g c.args.line (sym c.split.ensures.value ∙ c.if-split.false) in
+    subst (Adds c.args.pool.now c.write_copy.new.pool) (ap tidy (sym same)) c.in_ok-write_copy.ensures.ok
+
+pub returns-else-split-clause-helper : goal.returns-else-split-clause-helper
+returns-else-split-clause-helper c =
+    let p = c.args.numbering.now in
+    let none = helpers_of_shared p.circuit p.f p.g c.args.line (sym c.split.ensures.value ∙ c.if-split.false) in
+    omega (arith, c.in_ok-write_copy.ensures.helper, none, helpers_of_relevant p.circuit p.f p.g c.args.line c.requires.relevant)

@@ -1,0 +1,36 @@
+-- Marks of literals, and the variables that a writer may name.
+use Rattle.std.specs.Prelude.{◌≡◌, ◌<◌, ◌≤◌, ◌+◌, ◌*◌, ◌^◌, ℕ, Bool, List, [], length, All}
+use Rattle.net_model.specs.Answer.{bit_at}
+use Rattle.clause_pool.specs.Literal.{Literal}
+use Rattle.clause_pool.specs.LiteralCode.{code_of}
+use Rattle.clause_pool.specs.Clauses.{Clause}
+use Rattle.pair_miter.specs.Miter.{has_literal}
+use Rattle.pair_miter.specs.declared.operand.Operand.{Operand}
+use Rattle.pair_miter.specs.declared.operand.Operand.TheVariants.{Constant, Variable}
+
+-- the marked literals are those of the clause
+abbrev pub AreMarks : List Bool → Clause → Type 0
+AreMarks marks clause = (l : Literal) → bit_at marks (code_of l) ≡ has_literal clause l
+
+-- both literals of each of the clause's variables have a place
+abbrev pub HavePlaces : List Bool → Clause → Type 0
+HavePlaces marks clause = All (λ l. 2 * l.variable + 1 < length marks) clause
+
+-- There is a place for each literal of the variables, and none is marked.
+pub record AreClear (variables : ℕ) (marks : List Bool) : Type 0 where
+  pub few : variables < 2 ^ 31
+  pub places : length marks ≡ 2 * variables + 2
+  pub none : AreMarks marks []
+
+-- a variable from 1 to this number
+abbrev pub IsVariable : ℕ → ℕ → Type 0
+IsVariable variables x = (0 < x) × (x ≤ variables)
+
+-- a constant, or one of the variables
+abbrev pub IsOperand : ℕ → Operand → Type 0
+IsOperand variables (Constant bit) = Unit {0}
+IsOperand variables (Variable x) = IsVariable variables x
+
+-- the helpers of an exclusive or of so many variables, two fewer than these, are variables
+abbrev pub AreHelpers : ℕ → ℕ → ℕ → Type 0
+AreHelpers variables helper count = 2 < count → (0 < helper) × (helper + count ≤ variables + 3)

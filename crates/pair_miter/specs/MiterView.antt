@@ -1,0 +1,12 @@
+-- The miter of a pair of faults, as the calls that build it and read its models see it.
+use Rattle.net_model.specs.declared.fault.Fault.{Fault}
+use Rattle.net_model.specs.Circuit.{Circuit}
+
+-- a circuit with two faults
+pub record Miter : Type 0 where
+  pub circuit : Circuit
+  pub f : Fault
+  pub g : Fault
+
+abbrev pub miter_with : Circuit → Fault → Fault → Miter
+miter_with circuit f g = record { circuit = circuit; f = f; g = g }

@@ -1,0 +1,137 @@
+//! The miter of a pair of faults, built into a pool of clauses.
+
+ghost use Rattle.std.specs.Prelude.{◌≡◌, ◌+◌, ◌<◌, ◌^◌, [], ◌∷◌, ◌++◌, flat_map, length, map, IfOk, OnOk, OnErr};
+ghost use Rattle.net_model.specs.Fault.{IsFaultOf};
+ghost use Rattle.net_model.specs.Scope.{relevant_lines, reached_positions};
+ghost use Rattle.clause_pool.specs.Literal.{pos_literal};
+ghost use Rattle.pair_miter.specs.Adds.{Adds, HasRoom, Keeps, SamePlaces};
+ghost use Rattle.pair_miter.specs.Miter.{difference_clauses, line_clauses, miter, tidy};
+ghost use Rattle.pair_miter.specs.MiterView.{miter_with};
+ghost use Rattle.pair_miter.specs.Variables.{difference_variable, first_copy, first_helper, variable_count};
+
+use crate::helpers::count_helpers;
+use crate::miter::Miter;
+use crate::numbering::Numbering;
+use crate::writer::Writer;
+use clause_pool::Pool;
+use net_model::{Circuit, Fault};
+use std::alloc::{AllocError, Global};
+
+/// Builds the miter of two faults of a circuit: an empty pool then has its clauses. The pool grows only where it has too
+/// little room, and it is empty again after an error.
+pub fn build<'a>(
+    alloc: Global,
+    circuit: &'a Circuit,
+    f: &Fault,
+    g: &Fault,
+    pool: &mut Pool,
+) -> Result<Miter<'a>, AllocError>
+    requires empty { pool.old.clauses ≡ [] }
+    requires first { IsFaultOf circuit.now f.now }
+    requires second { IsFaultOf circuit.now g.now }
+    ensures miter { IfOk result (λ built. built ≡ miter_with circuit.now f.now g.now) }
+    ensures clauses { OnOk result (pool.new.clauses ≡ miter circuit.now f.now g.now) }
+    ensures in_room { OnOk result (HasRoom pool.old (miter circuit.now f.now g.now) → SamePlaces pool.old pool.new) }
+    ensures err { OnErr result (pool.new.clauses ≡ []) }
+{
+    let empty = pool.mark();
+    let built = write_miter(alloc, circuit, f, g, pool);
+    if built.is_err() {
+        pool.release(empty);
+    }
+    built
+}
+
+// Writes the clauses of a miter.
+fn write_miter<'a>(
+    alloc: Global,
+    circuit: &'a Circuit,
+    f: &Fault,
+    g: &Fault,
+    pool: &mut Pool,
+) -> Result<Miter<'a>, AllocError>
+    requires empty { pool.old.clauses ≡ [] }
+    requires first { IsFaultOf circuit.now f.now }
+    requires second { IsFaultOf circuit.now g.now }
+    ensures miter { IfOk result (λ built. built ≡ miter_with circuit.now f.now g.now) }
+    ensures ok { OnOk result (Adds pool.old pool.new (miter circuit.now f.now g.now)) }
+    ensures err { OnErr result (Keeps pool.old pool.new) }
+{
+    let numbering = Numbering::new(alloc, circuit, f, g)?;
+    let first_difference = numbering.end() + count_helpers(&numbering);
+    let variables = first_difference - 1 + count_reached(&numbering);
+    let mut writer = Writer::new(alloc, variables, numbering.end())?;
+    write_lines(&mut writer, pool, &numbering)?;
+    write_differences(alloc, &mut writer, pool, &numbering, first_difference)?;
+    Ok(Miter {
+        alloc,
+        numbering,
+        variables,
+        clauses: pool.len(),
+    })
+}
+
+// How many positions are reached.
+fn count_reached(numbering: &Numbering) -> u32
+    ensures { result ≡ length (reached_positions numbering.now.circuit numbering.now.f numbering.now.g) }
+{
+    let mut count = 0;
+    for at in 0..numbering.circuit().positions().len() {
+        if numbering.reached(at as u32) {
+            count += 1;
+        }
+    }
+    count
+}
+
+// Writes the clauses of all relevant lines.
+fn write_lines(
+    writer: &mut Writer,
+    pool: &mut Pool,
+    numbering: &Numbering,
+) -> Result<(), AllocError>
+    requires variables { writer.old.tidier ≡ variable_count numbering.now.circuit numbering.now.f numbering.now.g }
+    requires helper { writer.old.helper ≡ first_helper numbering.now.circuit numbering.now.f numbering.now.g first_copy 0 }
+    requires few { let p = numbering.now in
+        length pool.old.clauses + length (tidy (flat_map (line_clauses p.circuit p.f p.g) (relevant_lines p.circuit p.f p.g))) < 2 ^ 30 }
+    ensures ok { let p = numbering.now in
+        OnOk result (Adds pool.old pool.new (tidy (flat_map (line_clauses p.circuit p.f p.g) (relevant_lines p.circuit p.f p.g)))) }
+    ensures err { OnErr result (Keeps pool.old pool.new) }
+    ensures variables { writer.new.tidier ≡ writer.old.tidier }
+{
+    for line in 0..numbering.circuit().lines() {
+        if numbering.relevant(line) {
+            writer.write_line(pool, numbering, line)?;
+        }
+    }
+    Ok(())
+}
+
+// Writes the clauses of all differences, and that there is a difference.
+fn write_differences(
+    alloc: Global,
+    writer: &mut Writer,
+    pool: &mut Pool,
+    numbering: &Numbering,
+    first_difference: u32,
+) -> Result<(), AllocError>
+    requires variables { writer.old.tidier ≡ variable_count numbering.now.circuit numbering.now.f numbering.now.g }
+    requires difference { first_difference ≡ difference_variable numbering.now.circuit numbering.now.f numbering.now.g 0 }
+    requires few { let p = numbering.now in let reached = reached_positions p.circuit p.f p.g in
+        length pool.old.clauses + length (tidy (flat_map (difference_clauses p.circuit p.f p.g) reached ++ map (λ at. pos_literal (difference_variable p.circuit p.f p.g at)) reached ∷ [])) < 2 ^ 30 }
+    ensures ok { let p = numbering.now in let reached = reached_positions p.circuit p.f p.g in
+        OnOk result (Adds pool.old pool.new (tidy (flat_map (difference_clauses p.circuit p.f p.g) reached ++ map (λ at. pos_literal (difference_variable p.circuit p.f p.g at)) reached ∷ []))) }
+    ensures err { OnErr result (Keeps pool.old pool.new) }
+    ensures variables { writer.new.tidier ≡ writer.old.tidier }
+{
+    let mut differences = Vec::new(alloc);
+    let mut difference = first_difference;
+    for at in 0..numbering.circuit().positions().len() {
+        if numbering.reached(at as u32) {
+            writer.write_difference(pool, numbering, at as u32, difference)?;
+            differences.push(writer.tidier.literal(difference, true))?;
+            difference += 1;
+        }
+    }
+    writer.tidier.write(pool, differences.as_slice())
+}

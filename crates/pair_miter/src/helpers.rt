@@ -1,0 +1,80 @@
+//! How many helpers the gates of a miter have.
+
+ghost use Rattle.std.specs.Prelude.{◌≡◌, ◌-◌, ◌<◌, ◌^◌, true, count_by, is_none, length, if◌then◌else◌};
+ghost use Rattle.net_model.specs.Circuit.{line_count};
+ghost use Rattle.net_model.specs.Fault.{stuck_pin, readings};
+ghost use Rattle.net_model.specs.Scope.{is_relevant};
+ghost use Rattle.pair_miter.specs.Numbering.{copy_of, HasCopy};
+ghost use Rattle.pair_miter.specs.Variables.{copy_helpers, line_helpers, helpers_below, is_parity};
+
+use crate::numbering::{Numbering, Side};
+use net_model::{Fault, Gate, Kind, stuck_pin, stuck_stem};
+
+/// How many helpers all lines have.
+pub(crate) fn count_helpers(numbering: &Numbering) -> u32
+    ensures { result ≡ helpers_below numbering.now.circuit numbering.now.f numbering.now.g (line_count numbering.now.circuit) }
+{
+    let mut count = 0;
+    for line in 0..numbering.circuit().lines() {
+        if numbering.relevant(line) {
+            count += line_helpers(numbering, line);
+        }
+    }
+    count
+}
+
+// How many helpers a line has in both copies.
+fn line_helpers(numbering: &Numbering, line: u32) -> u32
+    requires line { line < line_count numbering.now.circuit }
+    requires relevant { is_relevant numbering.now.circuit numbering.now.f numbering.now.g line ≡ true }
+    ensures { result ≡ line_helpers numbering.now.circuit numbering.now.f numbering.now.g line }
+{
+    let first = copy_helpers(numbering, Side::First, line);
+    if numbering.split(line) {
+        first + copy_helpers(numbering, Side::Second, line)
+    } else {
+        first
+    }
+}
+
+/// How many helpers a line has in a copy.
+pub(crate) fn copy_helpers(numbering: &Numbering, side: Side, line: u32) -> u32
+    requires line { line < line_count numbering.now.circuit }
+    requires copy { HasCopy numbering.now.circuit numbering.now.f numbering.now.g (copy_of side) line }
+    ensures { result ≡ copy_helpers numbering.now.circuit numbering.now.f numbering.now.g (copy_of side) line }
+{
+    let circuit = numbering.circuit();
+    let fault = numbering.fault(side);
+    if stuck_stem(fault, line).is_some() {
+        return 0;
+    }
+    if line < circuit.sources() {
+        return 0;
+    }
+    gate_helpers(fault, line, circuit.gate(line))
+}
+
+// How many helpers a line's gate has under a fault: an exclusive or has two fewer than it has pins that aren't stuck.
+fn gate_helpers(fault: Fault, line: u32, gate: &Gate) -> u32
+    requires { length gate.now.pins < 2 ^ 32 }
+    ensures { result ≡ (if is_parity gate.now.kind then count_by (λ b. b) (readings (λ pin read. is_none (stuck_pin fault line pin)) gate.now.pins) - 2 else 0) }
+{
+    match gate.kind {
+        Kind::Xor | Kind::Xnor => free_pins(fault, line, gate.pins.as_slice()).saturating_sub(2),
+        _ => 0,
+    }
+}
+
+// How many pins of a line's gate a fault doesn't stick.
+fn free_pins(fault: Fault, line: u32, pins: &[u32]) -> u32
+    requires { length pins.now < 2 ^ 32 }
+    ensures { result ≡ count_by (λ b. b) (readings (λ pin read. is_none (stuck_pin fault line pin)) pins.now) }
+{
+    let mut count = 0;
+    for pin in 0..pins.len() {
+        if stuck_pin(fault, line, pin as u32).is_none() {
+            count += 1;
+        }
+    }
+    count
+}

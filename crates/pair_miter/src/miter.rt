@@ -1,0 +1,97 @@
+//! The miter of a pair of faults, and the vectors of its models.
+
+ghost use Rattle.std.specs.Prelude.{◌≡◌, ◌<◌, true, length, IfOk};
+ghost use Rattle.net_model.specs.Answer.{Separates};
+ghost use Rattle.net_model.specs.Circuit.{line_count};
+ghost use Rattle.net_model.specs.Scope.{is_relevant};
+ghost use Rattle.pair_miter.specs.Numbering.{copy_of};
+ghost use Rattle.pair_miter.specs.Miter.{miter, is_model, copy_bit, source_bit, vector_of};
+ghost use Rattle.pair_miter.specs.Variables.{variable_count};
+
+use crate::numbering::{Numbering, Side};
+use net_model::{Bits, Vector, stuck_stem};
+use std::alloc::{AllocError, Global};
+use std::marker::Model;
+
+/// The miter of two faults of a circuit. It borrows the circuit and keeps copies of the faults.
+#[derive(Drop)]
+pub struct Miter<'a> {
+    pub(crate) alloc: Global,
+    pub(crate) numbering: Numbering<'a>,
+    pub(crate) variables: u32,
+    pub(crate) clauses: u32,
+}
+
+impl<'a> Model for Miter<'a> {
+    ghost use Rattle.pair_miter.specs.MiterView as spec;
+    ghost use Rattle.pair_miter.specs.MiterFields.{miter_of, IsCounted};
+
+    ghost Value = { spec.Miter };
+
+    ghost view = { miter_of };
+
+    ghost invariant = { IsCounted };
+}
+
+impl<'a> Miter<'a> {
+    /// How many variables there are. They are numbered from 1.
+    pub fn variables(&self) -> u32
+        ensures { result ≡ variable_count self.now.circuit self.now.f self.now.g }
+    {
+        self.variables
+    }
+
+    pub fn clause_count(&self) -> u32
+        ensures { result ≡ length (miter self.now.circuit self.now.f self.now.g) }
+    {
+        self.clauses
+    }
+
+    /// The vector of a model of the miter. The faults answer differently to it.
+    ///
+    /// The model has a bit for each variable, that of variable 1 first.
+    pub fn vector_of(&self, model: &Bits) -> Result<Vector, AllocError>
+        requires whole { length model.now ≡ variable_count self.now.circuit self.now.f self.now.g }
+        requires satisfies { is_model model.now (miter self.now.circuit self.now.f self.now.g) ≡ true }
+        ensures value { IfOk result (λ v. v ≡ vector_of self.now.circuit self.now.f self.now.g model.now) }
+        ensures separates { IfOk result (λ v. Separates self.now.circuit v self.now.f self.now.g) }
+    {
+        let sources = self.numbering.circuit().sources();
+        let mut v = Bits::zeros(self.alloc, sources as usize)?;
+        for source in 0..sources {
+            v.set(source as usize, source_bit(&self.numbering, model, source));
+        }
+        Ok(v)
+    }
+}
+
+// The bit of a source in the vector of a model.
+fn source_bit(numbering: &Numbering, model: &Bits, source: u32) -> bool
+    requires whole { length model.now ≡ variable_count numbering.now.circuit numbering.now.f numbering.now.g }
+    requires source { source < numbering.now.circuit.sources }
+    ensures { result ≡ source_bit numbering.now.circuit numbering.now.f numbering.now.g model.now source }
+{
+    if !numbering.relevant(source) {
+        return false;
+    }
+    if !numbering.split(source) {
+        return copy_bit(numbering, model, Side::First, source);
+    }
+    if stuck_stem(numbering.fault(Side::First), source).is_none() {
+        return copy_bit(numbering, model, Side::First, source);
+    }
+    if stuck_stem(numbering.fault(Side::Second), source).is_none() {
+        return copy_bit(numbering, model, Side::Second, source);
+    }
+    false
+}
+
+// The bit of a relevant line in a copy.
+fn copy_bit(numbering: &Numbering, model: &Bits, side: Side, line: u32) -> bool
+    requires whole { length model.now ≡ variable_count numbering.now.circuit numbering.now.f numbering.now.g }
+    requires line { line < line_count numbering.now.circuit }
+    requires relevant { is_relevant numbering.now.circuit numbering.now.f numbering.now.g line ≡ true }
+    ensures { result ≡ copy_bit numbering.now.circuit numbering.now.f numbering.now.g model.now (copy_of side) line }
+{
+    model.get(numbering.variable(side, line) as usize - 1)
+}

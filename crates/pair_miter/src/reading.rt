@@ -1,0 +1,54 @@
+//! What the pins of gates and the positions read in one copy.
+
+ghost use Rattle.std.specs.Prelude.{◌≡◌, ◌<◌, ◌^◌, All, OnOk, length};
+ghost use Rattle.net_model.specs.Circuit.{IsCircuit, line_count};
+ghost use Rattle.pair_miter.specs.Miter.{operand_of, gate_operands, shown_operand};
+ghost use Rattle.pair_miter.specs.Numbering.{copy_of};
+
+use crate::numbering::{Numbering, Side};
+use crate::operand::Operand;
+use net_model::{Gate, stuck_pin, stuck_position};
+use std::alloc::AllocError;
+
+/// Reads what the pins of a line's gate give.
+pub(crate) fn read_pins(
+    operands: &mut Vec<Operand>,
+    numbering: &Numbering,
+    side: Side,
+    line: u32,
+    gate: &Gate,
+) -> Result<(), AllocError>
+    requires inside { All (λ read. read < line_count numbering.now.circuit) gate.now.pins }
+    requires few { length gate.now.pins < 2 ^ 32 }
+    ensures { OnOk result (operands.new.items ≡ gate_operands numbering.now.circuit numbering.now.f numbering.now.g (copy_of side) line gate.now) }
+{
+    let fault = numbering.fault(side);
+    operands.clear();
+    for (pin, read) in gate.pins.as_slice().iter().enumerate() {
+        let stuck = stuck_pin(fault, line, pin as u32);
+        operands.push(operand(numbering, side, stuck, *read))?;
+    }
+    Ok(())
+}
+
+/// What a position shows.
+pub(crate) fn shown(numbering: &Numbering, side: Side, position: u32) -> Operand
+    requires { position < length numbering.now.circuit.positions }
+    ensures value { result ≡ shown_operand numbering.now.circuit numbering.now.f numbering.now.g position (copy_of side) }
+    ensures circuit { IsCircuit numbering.now.circuit }
+{
+    let line = numbering.circuit().positions()[position as usize];
+    let stuck = stuck_position(numbering.fault(side), position);
+    operand(numbering, side, stuck, line)
+}
+
+// What a reader of a line gives: the value at which it is stuck, or else the line's variable.
+fn operand(numbering: &Numbering, side: Side, stuck: Option<bool>, line: u32) -> Operand
+    requires { line < line_count numbering.now.circuit }
+    ensures { result ≡ operand_of numbering.now.circuit numbering.now.f numbering.now.g (copy_of side) stuck line }
+{
+    match stuck {
+        Some(bit) => Operand::Constant(bit),
+        None => Operand::Variable(numbering.variable(side, line)),
+    }
+}

@@ -1,0 +1,204 @@
+//! A writer that tidies each clause: a repeated literal is kept once, and a clause with opposite literals is left out.
+
+ghost use Rattle.std.specs.Prelude.{◌≡◌, ◌+◌, ◌-◌, ◌<◌, ◌≤◌, ◌^◌, [], ◌∷◌, ◌++◌, length, All, vec_capacity, IfOk, OnOk, OnErr};
+ghost use Rattle.clause_pool.specs.LiteralCode.{code_of};
+ghost use Rattle.pair_miter.specs.Adds.{Adds, Keeps};
+ghost use Rattle.pair_miter.specs.Marks.{AreMarks, HavePlaces, IsVariable, IsOperand};
+ghost use Rattle.pair_miter.specs.Miter.{tidy, without_repeats, is_tautology};
+ghost use Rattle.pair_miter.specs.Parts.{with_all};
+ghost use Rattle.pair_miter.specs.Rows.{variables};
+
+use crate::operand::Operand;
+use clause_pool::{Full, Lit, Pool};
+use std::alloc::{AllocError, Global};
+use std::marker::Model;
+
+/// Writes tidied clauses over so many variables. No literal is marked between two clauses.
+#[derive(Drop)]
+pub(crate) struct Tidier {
+    variables: u32,
+    // by the literal's code
+    marks: Vec<bool>,
+    kept: Vec<Lit>,
+    row: Vec<Lit>,
+}
+
+impl Model for Tidier {
+    ghost use Rattle.std.specs.Prelude.{ℕ};
+    ghost use Rattle.pair_miter.specs.Marks.{AreClear};
+
+    ghost Value = { ℕ };
+
+    ghost view = { λ a. a.variables };
+
+    ghost invariant = { λ a. AreClear a.variables a.marks.items };
+}
+
+impl Tidier {
+    pub(crate) fn new(alloc: Global, variables: u32) -> Result<Tidier, AllocError>
+        requires { variables < 2 ^ 31 }
+        ensures { IfOk result (λ tidier. tidier ≡ variables) }
+    {
+        let marks = vec![in alloc; false; 2 * variables as usize + 2]?;
+        Ok(Tidier {
+            variables,
+            marks,
+            kept: Vec::new(alloc),
+            row: Vec::new(alloc),
+        })
+    }
+
+    /// The literal of one of the variables.
+    pub(crate) fn literal(&self, variable: u32, positive: bool) -> Lit
+        requires { IsVariable self.now variable }
+        ensures { result ≡ record { variable = variable; positive = positive } }
+    {
+        prove!(variable <= self.variables);
+        Lit::new(variable, positive)
+    }
+
+    /// Writes a clause.
+    pub(crate) fn write(&mut self, pool: &mut Pool, clause: &[Lit]) -> Result<(), AllocError>
+        requires variables { All (λ l. l.variable ≤ self.old) clause.now }
+        requires few { length pool.old.clauses + length (tidy (clause.now ∷ [])) < 2 ^ 30 }
+        ensures ok { OnOk result (Adds pool.old pool.new (tidy (clause.now ∷ []))) }
+        ensures err { OnErr result (Keeps pool.old pool.new) }
+        ensures variables { self.new ≡ self.old }
+    {
+        write_once(&mut self.marks, &mut self.kept, pool, clause)
+    }
+
+    /// Writes the clause of a literal and of the variables among operands, all with one sign.
+    pub(crate) fn write_all(
+        &mut self,
+        pool: &mut Pool,
+        first: Lit,
+        positive: bool,
+        operands: &[Operand],
+    ) -> Result<(), AllocError>
+        requires first { first.variable ≤ self.old }
+        requires operands { All (IsOperand self.old) operands.now }
+        requires few { length pool.old.clauses + length (tidy (with_all first positive (variables operands.now) ∷ [])) < 2 ^ 30 }
+        ensures ok { OnOk result (Adds pool.old pool.new (tidy (with_all first positive (variables operands.now) ∷ []))) }
+        ensures err { OnErr result (Keeps pool.old pool.new) }
+        ensures variables { self.new ≡ self.old }
+    {
+        fill(&mut self.row, first, positive, operands)?;
+        write_once(&mut self.marks, &mut self.kept, pool, self.row.as_slice())
+    }
+}
+
+// Makes a row of a literal and of the variables among operands, all with one sign.
+fn fill(
+    row: &mut Vec<Lit>,
+    first: Lit,
+    positive: bool,
+    operands: &[Operand],
+) -> Result<(), AllocError>
+    requires { All (IsOperand (2 ^ 31 - 1)) operands.now }
+    ensures { OnOk result (row.new.items ≡ with_all first positive (variables operands.now)) }
+{
+    row.clear();
+    row.push(first)?;
+    for operand in operands {
+        if let Operand::Variable(x) = operand {
+            row.push(Lit::new(*x, positive))?;
+        }
+    }
+    Ok(())
+}
+
+// Writes a clause, without marks before and after.
+fn write_once(
+    marks: &mut Vec<bool>,
+    kept: &mut Vec<Lit>,
+    pool: &mut Pool,
+    clause: &[Lit],
+) -> Result<(), AllocError>
+    requires places { HavePlaces marks.old.items clause.now }
+    requires clear { AreMarks marks.old.items [] }
+    requires few { length pool.old.clauses + length (tidy (clause.now ∷ [])) < 2 ^ 30 }
+    ensures ok { OnOk result (Adds pool.old pool.new (tidy (clause.now ∷ []))) }
+    ensures err { OnErr result (Keeps pool.old pool.new) }
+    ensures places { length marks.new.items ≡ length marks.old.items }
+    ensures clear { AreMarks marks.new.items [] }
+{
+    kept.clear();
+    kept.reserve(clause.len())?;
+    let tautology = keep_once(marks, kept, clause);
+    clear_marks(marks, clause);
+    if tautology {
+        Ok(())
+    } else {
+        push(pool, kept.as_slice())
+    }
+}
+
+// Keeps and marks the literals of a clause, each once. Answers whether there are opposite ones.
+fn keep_once(marks: &mut Vec<bool>, kept: &mut Vec<Lit>, clause: &[Lit]) -> bool
+    requires places { HavePlaces marks.old.items clause.now }
+    requires clear { AreMarks marks.old.items [] }
+    requires none { kept.old.items ≡ [] }
+    requires room { length clause.now ≤ vec_capacity kept.old }
+    ensures kept { kept.new.items ≡ without_repeats clause.now }
+    ensures opposites { result ≡ is_tautology clause.now }
+    ensures places { length marks.new.items ≡ length marks.old.items }
+    ensures marked { AreMarks marks.new.items clause.now }
+{
+    let mut opposites = false;
+    for lit in clause {
+        let at = place(*lit);
+        if !marks[at] {
+            marks[at] = true;
+            kept.push_reserved(*lit);
+        }
+        opposites |= marks[place(lit.opposite())];
+    }
+    opposites
+}
+
+// Takes the marks of a clause's literals away.
+fn clear_marks(marks: &mut Vec<bool>, clause: &[Lit])
+    requires places { HavePlaces marks.old.items clause.now }
+    requires marked { AreMarks marks.old.items clause.now }
+    ensures places { length marks.new.items ≡ length marks.old.items }
+    ensures clear { AreMarks marks.new.items [] }
+{
+    for lit in clause {
+        marks[place(*lit)] = false;
+    }
+}
+
+// The place of a literal's mark.
+fn place(lit: Lit) -> usize
+    ensures { result ≡ code_of lit }
+{
+    let sign = if lit.positive() { 1 } else { 0 };
+    2 * lit.variable() as usize + sign
+}
+
+// Adds a clause to a pool, which grows only where it lacks room.
+fn push(pool: &mut Pool, clause: &[Lit]) -> Result<(), AllocError>
+    requires { length pool.old.clauses < 2 ^ 30 }
+    ensures ok { OnOk result (Adds pool.old pool.new (clause.now ∷ [])) }
+    ensures err { OnErr result (Keeps pool.old pool.new) }
+{
+    match pool.push(clause) {
+        Ok(_) => Ok(()),
+        Err(Full) => push_grown(pool, clause),
+    }
+}
+
+// Adds a clause to a pool that lacks room for it. The room at least doubles.
+fn push_grown(pool: &mut Pool, clause: &[Lit]) -> Result<(), AllocError>
+    requires { length pool.old.clauses < 2 ^ 30 }
+    ensures ok { OnOk result (pool.new.clauses ≡ pool.old.clauses ++ clause.now ∷ []) }
+    ensures err { OnErr result (Keeps pool.old pool.new) }
+{
+    let used = pool.mark();
+    pool.grow(used.clauses + 1, used.literals.max(clause.len()))?;
+    match pool.push(clause) {
+        Ok(_) => Ok(()),
+        Err(Full) => unreachable!(),
+    }
+}

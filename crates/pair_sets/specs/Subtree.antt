@@ -1,0 +1,18 @@
+-- Trees of a cube, as the halves of a split are.
+use Rattle.std.specs.Prelude.{◌≡◌, List, [], ◌∷◌, fold, ⊤}
+use Rattle.net_model.specs.declared.fault.Fault.{Fault}
+use Rattle.net_model.specs.Circuit.{Circuit}
+use Rattle.pair_sets.specs.declared.tree.Token.{Token}
+use Rattle.pair_sets.specs.Cube.{Cube}
+use Rattle.pair_sets.specs.Tree.{after_token, IsRightAt}
+
+-- Each token is right at the first of the cubes that wait for it.
+abbrev pub AreRight : Circuit → Fault → Fault → List Cube → List Token → Type 0
+AreRight c f g waiting [] = ⊤
+AreRight c f g [] (token ∷ tokens) = ⊥
+AreRight c f g (cube ∷ waiting) (token ∷ tokens) = IsRightAt c f g token cube × AreRight c f g (after_token (cube ∷ waiting) token) tokens
+
+-- The tokens are one whole tree of the cube, whatever waits behind it, and each is right at its own cube.
+pub record IsSubtree (c : Circuit) (f g : Fault) (cube : Cube) (tokens : List Token) : Type 0 where
+  pub whole : (waiting : List Cube) → fold after_token (cube ∷ waiting) tokens ≡ waiting
+  pub right : (waiting : List Cube) → AreRight c f g (cube ∷ waiting) tokens

@@ -1,0 +1,110 @@
+-- What right lines say of their evidence.
+use Rattle.std.proofs.Common.{◌≡◌, ◌∙◌, ℕ, zero, suc, Bool, true, false, cond, List, [], ◌∷◌, take, Option, Some, None, refl, sym, ap, subst}
+use Rattle.std.specs.Prelude.{◌==◌, ◌&&◌, ◌⊎◌, if◌then◌else◌}
+use Rattle.std.specs.Option.{option_map}
+use Rattle.std.specs.List.{find, slice_get}
+use Rattle.std.proofs.Common.{inl, inr, arith}
+use Rattle.std.proofs.lemmas.Bool.Decides.{nat_tests}
+use Rattle.std.proofs.lemmas.Option.{same_Some, get_or_from_slice_get, slice_get_within}
+use Rattle.net_model.specs.Circuit.{Circuit}
+use Rattle.net_model.specs.FaultList.{fault_numbered}
+use Rattle.net_model.specs.ClassTable.{ClassTable, class_at, representative}
+use Rattle.result_file.specs.declared.record.Budgets.{Budgets}
+use Rattle.result_file.specs.declared.record.Mark.{Mark}
+use Rattle.result_file.specs.declared.record.Mark.TheVariants as mark
+use Rattle.result_file.specs.declared.record.Evidence.{Evidence}
+use Rattle.result_file.specs.declared.record.Record.{Record}
+use Rattle.result_file.specs.declared.record.Record.TheVariants.{Head, Budget, Pattern, Same, Class, Member, End}
+use Rattle.result_file.specs.Marks.{evidence_in, is_about, number_mark, mark_of}
+use Rattle.result_file.specs.Lines.{IsRightLine, HasRightRoots, IsRightProof}
+use Rattle.result_file.specs.Valid.{AreRightLines}
+use Rattle.result_file.proofs.Marked.{found_at}
+
+-- evidence stands on a line of its own
+pub evidence_line : (lines : List Record) (k : ℕ) (e : Evidence) → slice_get (evidence_in lines) k ≡ Some e → (at : ℕ) × (slice_get lines at ≡ Some (Same e))
+evidence_line [] k e there = absurd (cc)
+evidence_line (Head s p n ∷ lines) k e there = let w = evidence_line lines k e there in (suc w.0, w.1)
+evidence_line (Budget b ∷ lines) k e there = let w = evidence_line lines k e there in (suc w.0, w.1)
+evidence_line (Pattern v ∷ lines) k e there = let w = evidence_line lines k e there in (suc w.0, w.1)
+evidence_line (Same x ∷ lines) zero e there = (0, ap (λ (y : Evidence). Some (Same y)) (same_Some x e there))
+evidence_line (Same x ∷ lines) (suc k) e there = let w = evidence_line lines k e there in (suc w.0, w.1)
+evidence_line (Class n b ∷ lines) k e there = let w = evidence_line lines k e there in (suc w.0, w.1)
+evidence_line (Member n k' m ∷ lines) k e there = let w = evidence_line lines k e there in (suc w.0, w.1)
+evidence_line (End ∷ lines) k e there = let w = evidence_line lines k e there in (suc w.0, w.1)
+
+-- The roots and the proof of evidence are right for its pair and the budgets.
+pub record IsRightFor (c : Circuit) (budgets : Budgets) (e : Evidence) : Type 0 where
+  pub roots : HasRightRoots c (fault_numbered c e.partner) (fault_numbered c e.member) e.proof
+  pub right : IsRightProof c (fault_numbered c e.partner) (fault_numbered c e.member) budgets e.proof
+
+module _ (c : Circuit) (budgets : Budgets) (sources positions numbers : ℕ) (rest : List Record) where
+  abbrev lines : List Record
+  lines = Head sources positions numbers ∷ Budget budgets ∷ rest
+
+  line_right : AreRightLines c lines → (at : ℕ) (e : Evidence) → slice_get lines at ≡ Some (Same e) → IsRightLine c (take at lines) (Same e)
+  line_right right at e there = subst (IsRightLine c (take at lines)) (get_or_from_slice_get lines at (Same e) End there) (right.right at (slice_get_within lines at (Same e) there))
+
+  evidence_right : AreRightLines c lines → (at : ℕ) (e : Evidence) → slice_get lines at ≡ Some (Same e) → IsRightFor c budgets e
+  evidence_right right zero e there = absurd (cc)
+  evidence_right right (suc zero) e there = absurd (cc)
+  evidence_right right (suc (suc k)) e there =
+      let content = (line_right right (suc (suc k)) e there).content in
+      record { roots = content.roots; right = content.right }
+
+  -- each evidence of right lines is right
+  pub all_right : AreRightLines c lines → (k : ℕ) (e : Evidence) → slice_get (evidence_in lines) k ≡ Some e → IsRightFor c budgets e
+  all_right right k e there = let line = evidence_line lines k e there in evidence_right right line.0 e line.1
+
+-- ---- marks
+
+pub same_number : (m n : ℕ) → (m == n) ≡ true → m ≡ n
+same_number m n same = grind (arith, nat_tests)
+
+both : (a b : Bool) → (a && b) ≡ true → (a ≡ true) × (b ≡ true)
+both true b e = (refl, e)
+both false b e = cc
+
+find_by : {X : Type 0} (p : X → Bool) (b : Bool) (y : X) (rest : Option X) (x : X) → p y ≡ b → cond b (Some y) rest ≡ Some x → (rest ≡ Some x → p x ≡ true) → p x ≡ true
+find_by p true y rest x is found later = ap p (sym (same_Some y x found)) ∙ is
+find_by p false y rest x is found later = later found
+
+pub found_passes : {X : Type 0} (p : X → Bool) (xs : List X) (x : X) → find p xs ≡ Some x → p x ≡ true
+found_passes p [] x found = absurd (cc)
+found_passes p (y ∷ xs) x found = find_by p (p y) y (find p xs) x refl found (found_passes p xs x)
+
+-- Some evidence names the number with its representative, and gives this mark.
+pub record IsMarkedBy (t : ClassTable) (evidence : List Evidence) (n : ℕ) (m : Mark) : Type 0 where
+  pub at : ℕ
+  pub e : Evidence
+  pub there : slice_get evidence at ≡ Some e
+  pub member : e.member ≡ n
+  pub partner : e.partner ≡ representative t (class_at t n)
+  pub gives : mark_of e.proof ≡ m
+
+module _ (t : ClassTable) (evidence : List Evidence) (n : ℕ) where
+  abbrev lead : ℕ
+  lead = representative t (class_at t n)
+
+  found_marked : (m : Mark) (o : Option Evidence) → find (is_about t n) evidence ≡ o → option_map (λ (e : Evidence). mark_of e.proof) o ≡ Some m → IsMarkedBy t evidence n m
+  found_marked m None found is = absurd (cc)
+  found_marked m (Some e) found is =
+      let about = both (e.member == n) (e.partner == lead) (found_passes (is_about t n) evidence e found) in
+      let place = found_at (is_about t n) evidence e found in
+      record {
+        at = place.0;
+        e = e;
+        there = place.1;
+        member = same_number e.member n about.0;
+        partner = same_number e.partner lead about.1;
+        gives = same_Some (mark_of e.proof) m is;
+      }
+
+  marked_by : (m : Mark) (b : Bool) → (lead == n) ≡ b → (if b then Some mark.Rep else option_map (λ (e : Evidence). mark_of e.proof) (find (is_about t n) evidence)) ≡ Some m
+      → ((lead ≡ n) × (mark.Rep ≡ m)) ⊎ IsMarkedBy t evidence n m
+  marked_by m true same is = inl (same_number lead n same, same_Some mark.Rep m is)
+  marked_by m false same is = inr (found_marked m (find (is_about t n) evidence) refl is)
+
+  -- a number with a mark is a representative, or some evidence gives the mark
+  pub mark_cases : (m : Mark) → number_mark t evidence n ≡ Some m → ((lead ≡ n) × (mark.Rep ≡ m)) ⊎ IsMarkedBy t evidence n m
+  unfolding number_mark
+  mark_cases m is = marked_by m (lead == n) refl is
