@@ -1,26 +1,23 @@
 -- The members of the classes, one list for each.
-use Rattle.std.proofs.Common.{◌≡◌, ◌≢◌, ◌∙◌, ℕ, zero, suc, ◌+◌, ◌-◌, ◌<◌, ◌≤◌, Bool, List, [], ◌∷◌, length, get_or, map, take, set, ◌++◌, eqb, ltb, true, false, refl, sym, ap, subst, arith}
-use Rattle.std.specs.Prelude.{Some, None, find, filter, position, unwrap_or, cond}
-use Rattle.std.specs.List.{position_or_len}
-use Rattle.std.specs.Option.{option_map_or}
-use Rattle.std.proofs.lemmas.List.{get_or-take, length-take-le, length-set, get_or-set_same, get_or-set_other, append-nil, map-set, get_or_append_left, get_or-append_right, length-append}
-use Rattle.std.proofs.lemmas.List.Elements.{filter-append}
-use Rattle.std.proofs.lemmas.List.Quantifiers.{position-Some}
-use Rattle.std.proofs.lemmas.List.Sums.{position_or_len_is}
-use Rattle.std.proofs.lemmas.Bool.{cases_lt, cases_eq, ne_eqb, lt-ltb, le-ltb, ltb-true}
-use Rattle.class_refine.specs.Steps.{class_beside, is_in, numbers_of}
-use Rattle.class_refine.proofs.Ranges.{AreDistinct, position_cases, range_more, same_tests, filter_where, filter-same, range_below}
+use Rattle.std.proofs.Common.{◌≡◌, ◌≢◌, ◌∙◌, ℕ, zero, suc, ◌+◌, ◌-◌, ◌<◌, Bool, List, [], ◌∷◌, length, get_or, map, set, ◌++◌, eqb, refl, sym, ap, subst, arith, All, ◌&&◌, Contains}
+use Rattle.std.specs.Prelude.{find, filter, unwrap_or, All, Contains}
+use Rattle.std.proofs.lemmas.List.{get_or-set_same, get_or-set_other, map-set, get_or_append_left, get_or-append_right, length-append, get_or_default}
+use Rattle.std.proofs.lemmas.List.Elements.{filter_passes}
+use Rattle.std.proofs.lemmas.Bool.{cases_lt, cases_eq, and_parts, eqb-true, and_from}
+use Rattle.class_refine.specs.Steps.{is_in, piece_of}
+use Rattle.class_refine.proofs.Ranges.{same_tests, filter_where, filter-same, range_below, contains_more, filter_all, contains_or, filter-filter}
 use Rattle.std.specs.List.{range_with_len}
 use Rattle.std.proofs.lemmas.Bool.{cases_Bool, eq-eqb}
 use Rattle.std.proofs.Common.{inl, inr}
 use Rattle.std.proofs.lemmas.List.{length-map, get_or-map}
 use Rattle.std.proofs.lemmas.List.FromFn.{fill_by_all, length-map-range_with_len, get_or-map-range_with_len}
-use Rattle.net_model.specs.ClassTable.{ClassTable, class_count, class_at, members, representative, new_lowest, refined_table}
-use Rattle.net_model.proofs.Elements.{true_false}
+use Rattle.net_model.specs.ClassTable.{ClassTable, class_count, class_at, members, representative, new_lowest, refined_table, piece_lowest, class_after}
+use Rattle.net_model.proofs.Elements.{true_false, Contains-filter}
 use Rattle.class_refine.specs.Fields.{IsWhole}
-use Rattle.class_refine.proofs.Pieces.{IsSound, members-All, members-contains, representative_lowest}
+use Rattle.class_refine.proofs.Pieces.{IsSound, members-All, members-contains, representative_lowest, after_cases, piece_is, moves_into, new_lowest-All, moved_from, new_lowest_distinct}
 use Rattle.class_refine.proofs.Ranges.{IsLowest}
-use Rattle.class_refine.proofs.Refined.{representative-member, numbers-refined, count-refined, members-refined}
+use Rattle.class_refine.proofs.Refined.{representative-member, numbers-refined, count-refined, members-refined, class-refined}
+use Rattle.std.proofs.Math.Seq.{get_or-append_seam}
 
 first-filter : (p : ℕ → Bool) (xs : List ℕ) → get_or (filter p xs) 0 0 ≡ unwrap_or (find p xs) 0
 first-filter p [] = refl
@@ -71,93 +68,6 @@ module _ {V : Type 0} (items : V → List ℕ) (groups : List V) (f : ℕ → Li
       ∙ (sym (get_or-map items groups k group (items group) (omega (arith, length-groups)))
       ∙ (ap (λ xs. get_or xs k (items group)) are ∙ get_or-map-range_with_len f 0 count k k (items group) h (omega arith)))
 
--- ---- the classes that numbers come into
-
-position_first : (p : ℕ → Bool) (xs : List ℕ) (k : ℕ) → k < length xs → p (get_or xs k 0) ≡ true → ((j : ℕ) → j < k → p (get_or xs j 0) ≡ false) → position p xs ≡ Some k
-position_first p xs k h t before =
-    let first : position_or_len p xs ≡ k = position_or_len_is p xs k 0 (omega arith) before (λ _. t) in
-    (λ i. cond (ltb (first i) (length xs)) (Some (first i)) None) ∙ ap (λ b. cond b (Some k) None) (lt-ltb k (length xs) h)
-
-position_none : (p : ℕ → Bool) (xs : List ℕ) → ((j : ℕ) → j < length xs → p (get_or xs j 0) ≡ false) → position p xs ≡ None
-position_none p xs all =
-    let first : position_or_len p xs ≡ length xs = position_or_len_is p xs (length xs) 0 (omega arith) all (λ l. absurd (omega (arith, l))) in
-    (λ i. cond (ltb (first i) (length xs)) (Some (first i)) None) ∙ ap (λ b. cond b (Some (length xs)) None) (le-ltb (length xs) (length xs) (omega arith))
-
--- the place of a number among the listed ones, where one more is listed
-module _ (t : ClassTable) (xs : List ℕ) (k : ℕ) (h : k < length xs) where
-  longer : length (take (k + 1) xs) ≡ k + 1
-  longer = length-take-le (k + 1) xs (omega arith)
-
-  shorter : length (take k xs) ≡ k
-  shorter = length-take-le k xs (omega arith)
-
-  pub beside_here : AreDistinct xs → class_beside t (take (k + 1) xs) (get_or xs k 0) ≡ class_count t + k
-  beside_here distinct =
-      let n = get_or xs k 0 in
-      let last : get_or (take (k + 1) xs) k 0 ≡ n = get_or-take (k + 1) xs k 0 (omega arith) in
-      ap (λ o. option_map_or (λ k. class_count t + k) o (class_at t n))
-      (position_first (λ m. eqb m n) (take (k + 1) xs) k (omega (arith, longer)) (eq-eqb (get_or (take (k + 1) xs) k 0) n last)
-      (λ j l. ne_eqb (get_or (take (k + 1) xs) j 0) n (λ e. distinct j k 0 l h (sym (get_or-take (k + 1) xs j 0 (omega arith)) ∙ e))))
-
-  pub beside_other : (n : ℕ) → get_or xs k 0 ≢ n → class_beside t (take (k + 1) xs) n ≡ class_beside t (take k xs) n
-  beside_other n ne =
-      let p : ℕ → Bool = λ m. eqb m n in
-      let at : (j : ℕ) → j < k → get_or (take (k + 1) xs) j 0 ≡ get_or (take k xs) j 0 = λ j l. get_or-take (k + 1) xs j 0 (omega arith) ∙ sym (get_or-take k xs j 0 l) in
-      let same : position p (take (k + 1) xs) ≡ position p (take k xs) = elim (position_cases p (take k xs)) [
-        | inl (none, all) ↦
-            position_none p (take (k + 1) xs)
-            (λ j l. elim (cases_eq j k) [
-              | inl last ↦ ne_eqb (get_or (take (k + 1) xs) j 0) n (λ e. ne (ap (λ i. get_or xs i 0) (sym last) ∙ (sym (get_or-take (k + 1) xs j 0 (omega (arith, l, longer))) ∙ e)))
-              | inr early ↦ let before : j < k = omega (arith, l, longer, early) in ap p (at j before) ∙ all j 0 (omega (arith, before, shorter))
-            ])
-            ∙ sym none
-        | inr (j, l, passes, found) ↦
-            let first = position-Some p (take k xs) j 0 found in
-            position_first p (take (k + 1) xs) j (omega (arith, l, shorter, longer)) (ap p (at j (omega (arith, l, shorter))) ∙ passes)
-            (λ i m. ap p (at i (omega (arith, m, l, shorter))) ∙ first.2 i m)
-            ∙ sym found
-      ] in
-      ap (λ o. option_map_or (λ k. class_count t + k) o (class_at t n)) same
-
--- ---- numbers grouped by class, one after another
-
-module _ (class_of : List ℕ) (first : ℕ) where
-  -- the numbers below n of the k-th class from the first one on
-  abbrev pub numbers_upto : ℕ → ℕ → List ℕ
-  numbers_upto n k = filter (λ m. eqb (get_or class_of m 0) (first + k)) (range_with_len 0 n)
-
-  numbers_more : (n k : ℕ) → numbers_upto (n + 1) k ≡ numbers_upto n k ++ cond (eqb (get_or class_of n 0) (first + k)) (n ∷ []) []
-  numbers_more n k =
-      let p : ℕ → Bool = λ m. eqb (get_or class_of m 0) (first + k) in
-      ap (filter p) (range_more n) ∙ filter-append p (range_with_len 0 n) (n ∷ [])
-
-  numbers_other : (n k : ℕ) → get_or class_of n 0 ≢ first + k → numbers_upto n k ≡ numbers_upto (n + 1) k
-  numbers_other n k ne =
-      sym (numbers_more n k ∙ (ap (λ b. numbers_upto n k ++ cond b (n ∷ []) []) (ne_eqb (get_or class_of n 0) (first + k) ne) ∙ append-nil (numbers_upto n k)))
-
-  numbers_here : (n k : ℕ) → get_or class_of n 0 ≡ first + k → numbers_upto n k ++ n ∷ [] ≡ numbers_upto (n + 1) k
-  numbers_here n k e =
-      sym (numbers_more n k ∙ ap (λ b. numbers_upto n k ++ cond b (n ∷ []) []) (eq-eqb (get_or class_of n 0) (first + k) e))
-
-  pub grouped_other : (n count : ℕ) → get_or class_of n 0 < first → map (numbers_upto n) (range_with_len 0 count) ≡ map (numbers_upto (n + 1)) (range_with_len 0 count)
-  grouped_other n count less =
-      fill_by_all (numbers_upto (n + 1)) (map (numbers_upto n) (range_with_len 0 count)) count [] (length-map-range_with_len (numbers_upto n) 0 count)
-      (λ k h. get_or-map-range_with_len (numbers_upto n) 0 count k k [] h (omega arith) ∙ numbers_other n k (λ e. omega (arith, e, less)))
-
-  pub grouped_more : (n count j : ℕ) (groups : List (List ℕ)) → groups ≡ map (numbers_upto n) (range_with_len 0 count) → j < count → get_or class_of n 0 ≡ first + j
-      → set groups j (get_or groups j [] ++ n ∷ []) ≡ map (numbers_upto (n + 1)) (range_with_len 0 count)
-  grouped_more n count j groups are h e =
-      let long : length groups ≡ count = ap length are ∙ length-map-range_with_len (numbers_upto n) 0 count in
-      let at : (k : ℕ) → k < count → get_or groups k [] ≡ numbers_upto n k = λ k l. ap (λ gs. get_or gs k []) are ∙ get_or-map-range_with_len (numbers_upto n) 0 count k k [] l (omega arith) in
-      fill_by_all (numbers_upto (n + 1)) (set groups j (get_or groups j [] ++ n ∷ [])) count [] (length-set groups j (get_or groups j [] ++ n ∷ []) ∙ long)
-      (λ k l. elim (cases_eq k j) [
-        | inl same ↦
-            ap (λ i. get_or (set groups j (get_or groups j [] ++ n ∷ [])) i []) same
-            ∙ (get_or-set_same groups j (get_or groups j [] ++ n ∷ []) [] (omega (arith, long, h))
-            ∙ (ap (λ g. g ++ n ∷ []) (at j h) ∙ (numbers_here n j e ∙ ap (numbers_upto (n + 1)) (sym same))))
-        | inr ne ↦ get_or-set_other groups j k (get_or groups j [] ++ n ∷ []) [] ne ∙ (at k l ∙ numbers_other n k (λ f. ne (omega (arith, e, f))))
-      ])
-
 -- ---- numbers that stay in their class
 
 pub is_in-inside : (class_of : List ℕ) (class n : ℕ) → n < length class_of → is_in class_of class n ≡ eqb (get_or class_of n 0) class
@@ -165,81 +75,206 @@ is_in-inside [] class n h = absurd (omega arith)
 is_in-inside (x ∷ xs) class zero h = refl
 is_in-inside (x ∷ xs) class (suc n) h = is_in-inside xs class n (omega arith)
 
--- groups of which the first i are filtered already
+-- ---- groups of which those of some classes were filtered
+
 module _ {V : Type 0} (items : V → List ℕ) (test : ℕ → ℕ → Bool) (before : List (List ℕ)) where
-  abbrev pub FilteredUpto : ℕ → List V → Type 0
-  FilteredUpto i groups = (k : ℕ) → get_or (map items groups) k [] ≡ cond (ltb k i) (filter (test k) (get_or before k [])) (get_or before k [])
+  pub record AreKept (classes : List ℕ) (groups : List V) : Type 0 where
+    pub kept : (class : ℕ) → Contains classes class → get_or (map items groups) class [] ≡ filter (test class) (get_or before class [])
+    pub others : (class : ℕ) → All (λ other. other ≢ class) classes → get_or (map items groups) class [] ≡ get_or before class []
 
-  pub filtered_more : (i : ℕ) (groups : List V) (d group : V) → i < length groups → FilteredUpto i groups → items group ≡ filter (test i) (items (get_or groups i d)) → FilteredUpto (i + 1) (set groups i group)
-  filtered_more i groups d group h so_far new k =
-      let one : map items (set groups i group) ≡ set (map items groups) i (items group) = map-set items groups i group in
-      ap (λ gs. get_or gs k []) one
-      ∙ elim (cases_eq k i) [
-        | inl same ↦
-            let was : items (get_or groups i d) ≡ get_or before i [] = sym (get_or-map items groups i d [] h) ∙ (so_far i ∙ ap (λ b. cond b (filter (test i) (get_or before i [])) (get_or before i [])) (le-ltb i i (omega arith))) in
-            ap (λ j. get_or (set (map items groups) i (items group)) j []) same
-            ∙ (get_or-set_same (map items groups) i (items group) [] (omega (arith, length-map groups items))
-            ∙ (new ∙ (ap (filter (test i)) was
-            ∙ ((λ j. filter (test (sym same j)) (get_or before (sym same j) []))
-            ∙ sym (ap (λ b. cond b (filter (test k) (get_or before k [])) (get_or before k [])) (lt-ltb k (i + 1) (omega arith)))))))
-        | inr ne ↦
-            let same : ltb k i ≡ ltb k (i + 1) = same_tests (ltb k i) (ltb k (i + 1))
-            (λ t. lt-ltb k (i + 1) (let l = ltb-true k i t in omega (arith, l))) (λ t. lt-ltb k i (let l = ltb-true k (i + 1) t in omega (arith, l, ne))) in
-            get_or-set_other (map items groups) i k (items group) [] ne ∙ (so_far k ∙ ap (λ b. cond b (filter (test k) (get_or before k [])) (get_or before k [])) same)
-      ]
+  -- the group of one more class is filtered, perhaps once more
+  pub kept_more : (classes : List ℕ) (class : ℕ) (groups : List V) (d group : V) → class < length groups → AreKept classes groups → items group ≡ filter (test class) (items (get_or groups class d))
+      → AreKept (classes ++ class ∷ []) (set groups class group)
+  kept_more classes class groups d group h are new =
+      let one : map items (set groups class group) ≡ set (map items groups) class (items group) = map-set items groups class group in
+      let was : items (get_or groups class d) ≡ get_or (map items groups) class [] = sym (get_or-map items groups class d [] h) in
+      let own : items group ≡ filter (test class) (get_or before class []) = new ∙ (ap (filter (test class)) was
+      ∙ elim (contains_or classes class) [
+        | inl has ↦ ap (filter (test class)) (are.kept class has) ∙ filter-same (test class) (test class) (get_or before class []) (λ k d h. refl)
+        | inr none ↦ ap (filter (test class)) (are.others class none)
+      ]) in
+      let here : get_or (map items (set groups class group)) class [] ≡ filter (test class) (get_or before class []) =
+      ap (λ gs. get_or gs class []) one ∙ (get_or-set_same (map items groups) class (items group) [] (omega (arith, h, length-map groups items)) ∙ own) in
+      let there : (other : ℕ) → other ≢ class → get_or (map items (set groups class group)) other [] ≡ get_or (map items groups) other [] =
+      λ other ne. ap (λ gs. get_or gs other []) one ∙ get_or-set_other (map items groups) class other (items group) [] ne in
+      record {
+        kept = λ other has. elim (cases_eq other class) [
+          | inl same ↦ subst (λ k. get_or (map items (set groups class group)) k [] ≡ filter (test k) (get_or before k [])) (sym same) here
+          | inr ne ↦ elim (contains_more classes class other has) [
+            | inl before ↦ there other ne ∙ are.kept other before
+            | inr last ↦ absurd (ne (sym last))
+          ]
+        ];
+        others = λ other none.
+            let long = length-append classes (class ∷ []) in
+            let last : class ≢ other = λ e. none (length classes) 0 (omega (arith, long)) (get_or-append_seam classes class [] 0 ∙ e) in
+            there other (λ e. last (sym e)) ∙ are.others other (λ k d l. subst (λ x. x ≢ other) (get_or_append_left classes (class ∷ []) d k l) (none k d (omega (arith, l, long))));
+      }
 
-  pub filtered_all : (i : ℕ) (groups : List V) → length groups ≤ i → FilteredUpto i groups → map items groups ≡ map (λ k. filter (test k) (get_or before k [])) (range_with_len 0 (length groups))
-  filtered_all i groups h so_far =
-      fill_by_all (λ k. filter (test k) (get_or before k [])) (map items groups) (length groups) [] (length-map groups items)
-      (λ k l. so_far k ∙ ap (λ b. cond b (filter (test k) (get_or before k [])) (get_or before k [])) (lt-ltb k i (omega arith)))
+  -- the class was filtered already
+  pub kept_again : (classes : List ℕ) (class : ℕ) (groups : List V) → Contains classes class → AreKept classes groups → AreKept (classes ++ class ∷ []) groups
+  kept_again classes class groups has are = record {
+    kept = λ other h. elim (contains_more classes class other h) [
+      | inl before ↦ are.kept other before
+      | inr last ↦ are.kept other (subst (Contains classes) last has)
+    ];
+    others = λ other none. are.others other
+        (λ k d l. subst (λ x. x ≢ other) (get_or_append_left classes (class ∷ []) d k l) (none k d (omega (arith, l, length-append classes (class ∷ [])))));
+  }
+
+  pub kept_all : (classes : List ℕ) (groups : List V) → AreKept classes groups → ((class : ℕ) → class < length groups → All (λ other. other ≢ class) classes → filter (test class) (get_or before class []) ≡ get_or before class [])
+      → map items groups ≡ map (λ class. filter (test class) (get_or before class [])) (range_with_len 0 (length groups))
+  kept_all classes groups are stay =
+      fill_by_all (λ class. filter (test class) (get_or before class [])) (map items groups) (length groups) [] (length-map groups items)
+      (λ class h. elim (contains_or classes class) [
+        | inl has ↦ are.kept class has
+        | inr none ↦ are.others class none ∙ sym (stay class h none)
+      ])
 
 -- ---- the groups after a cut
 
-module _ (t : ClassTable) (row : List (List Bool)) (sound : IsSound t) (groups fresh : List (List ℕ))
-    (were : groups ≡ map (members t) (range_with_len 0 (class_count t)))
-    (new : fresh ≡ map (λ k. numbers_of (refined_table t row).class_of (class_count t + k)) (range_with_len 0 (length (new_lowest t row)))) where
-  abbrev pub kept : ℕ → List ℕ
-  kept class = filter (is_in (refined_table t row).class_of class) (get_or (groups ++ fresh) class [])
+module _ (t : ClassTable) (row : List (List Bool)) (sound : IsSound t) where
+  pub after_at : (n d : ℕ) → n < length t.class_of → get_or (refined_table t row).class_of n d ≡ class_after t row n
+  after_at n d h = get_or_default (refined_table t row).class_of n d 0 (omega (arith, h, numbers-refined t row)) ∙ class-refined t row n h
 
-  many : length groups ≡ class_count t
-  many = ap length were ∙ length-map-range_with_len (members t) 0 (class_count t)
+  -- the numbers of a piece come into the class that it begins, and no others do
+  piece_test : (k n : ℕ) → k < length (new_lowest t row) → n < length t.class_of
+      → (eqb (class_at t n) (class_at t (get_or (new_lowest t row) k 0)) && eqb (piece_lowest t row n) (get_or (new_lowest t row) k 0)) ≡ eqb (class_at (refined_table t row) n) (class_count t + k)
+  piece_test k n h inside =
+      let low = get_or (new_lowest t row) k 0 in
+      let begins = new_lowest-All t row k 0 h in
+      let piece = piece_is t row n inside in
+      same_tests (eqb (class_at t n) (class_at t low) && eqb (piece_lowest t row n) low) (eqb (class_at (refined_table t row) n) (class_count t + k))
+      (λ e.
+      let own = eqb-true (piece_lowest t row n) low (and_parts (eqb (class_at t n) (class_at t low)) (eqb (piece_lowest t row n) low) e).1 in
+      let moves = moves_into t row sound k n h inside own in
+      eq-eqb (class_at (refined_table t row) n) (class_count t + k) (class-refined t row n inside ∙ moves))
+      (λ e.
+      let after : class_after t row n ≡ class_count t + k = sym (class-refined t row n inside) ∙ eqb-true (class_at (refined_table t row) n) (class_count t + k) e in
+      let own = moved_from t row sound k n inside after in
+      and_from (eqb (class_at t n) (class_at t low)) (eqb (piece_lowest t row n) low) (eq-eqb (class_at t n) (class_at t low) (sym piece.class ∙ ap (class_at t) (sym own)))
+      (eq-eqb (piece_lowest t row n) low (sym own)))
 
-  added : length fresh ≡ length (new_lowest t row)
-  added = ap length new ∙ length-map-range_with_len (λ k. numbers_of (refined_table t row).class_of (class_count t + k)) 0 (length (new_lowest t row))
-
-  kept_old : (class : ℕ) → class < class_count t → kept class ≡ members (refined_table t row) class
-  kept_old class old =
-      let group : get_or (groups ++ fresh) class [] ≡ members t class =
-      get_or_append_left groups fresh [] class (omega (arith, many))
-      ∙ (ap (λ gs. get_or gs class []) were ∙ get_or-map-range_with_len (members t) 0 (class_count t) class class [] old (omega arith)) in
-      ap (filter (is_in (refined_table t row).class_of class)) group
-      ∙ (filter_where (is_in (refined_table t row).class_of class) (λ n. eqb (class_at (refined_table t row) n) class) (members t class)
-      (λ k d h. is_in-inside (refined_table t row).class_of class (get_or (members t class) k d) (omega (arith, (members-All t class k d h).0, numbers-refined t row)))
-      ∙ sym (members-refined t row sound class old))
-
-  kept_new : (k : ℕ) → k < length (new_lowest t row) → kept (class_count t + k) ≡ members (refined_table t row) (class_count t + k)
+  pub piece_members : (k : ℕ) → k < length (new_lowest t row) → piece_of t row (get_or (new_lowest t row) k 0) ≡ members (refined_table t row) (class_count t + k)
   unfolding members
-  kept_new k h =
-      let class = class_count t + k in
-      let place : class - class_count t ≡ k = omega arith in
-      let group : get_or (groups ++ fresh) class [] ≡ numbers_of (refined_table t row).class_of class =
-      get_or-append_right groups fresh (class_count t) class [] many (omega arith)
-      ∙ (ap (λ i. get_or fresh i []) place
-      ∙ (ap (λ gs. get_or gs k []) new ∙ get_or-map-range_with_len (λ k. numbers_of (refined_table t row).class_of (class_count t + k)) 0 (length (new_lowest t row)) k k [] h (omega arith))) in
-      ap (filter (is_in (refined_table t row).class_of class)) group
-      ∙ filter-same (is_in (refined_table t row).class_of class) (λ n. eqb (class_at (refined_table t row) n) class) (range_with_len 0 (length (refined_table t row).class_of))
-      (λ i d l. is_in-inside (refined_table t row).class_of class (get_or (range_with_len 0 (length (refined_table t row).class_of)) i d) (range_below (length (refined_table t row).class_of) i d l))
+  piece_members k h =
+      let low = get_or (new_lowest t row) k 0 in
+      filter-filter (λ n. eqb (class_at t n) (class_at t low)) (λ n. eqb (piece_lowest t row n) low) (range_with_len 0 (length t.class_of))
+      ∙ (filter_where (λ n. eqb (class_at t n) (class_at t low) && eqb (piece_lowest t row n) low) (λ n. eqb (class_at (refined_table t row) n) (class_count t + k)) (range_with_len 0 (length t.class_of))
+      (λ i d l. piece_test k (get_or (range_with_len 0 (length t.class_of)) i d) h (range_below (length t.class_of) i d l))
+      ∙ ap (λ n. filter (λ m. eqb (class_at (refined_table t row) m) (class_count t + k)) (range_with_len 0 n)) (sym (numbers-refined t row)))
 
-  pub groups-refined : map kept (range_with_len 0 (length (groups ++ fresh))) ≡ map (members (refined_table t row)) (range_with_len 0 (class_count (refined_table t row)))
-  groups-refined =
-      let count : length (groups ++ fresh) ≡ class_count (refined_table t row) = omega (arith, length-append groups fresh, many, added, count-refined t row) in
-      fill_by_all (members (refined_table t row)) (map kept (range_with_len 0 (length (groups ++ fresh)))) (class_count (refined_table t row)) []
-      (length-map-range_with_len kept 0 (length (groups ++ fresh)) ∙ count)
-      (λ class h.
-      get_or-map-range_with_len kept 0 (length (groups ++ fresh)) class class [] (omega (arith, h, count)) (omega arith)
-      ∙ elim (cases_lt class (class_count t)) [
-        | inl old ↦ kept_old class old
-        | inr late ↦
-            let place : class_count t + (class - class_count t) ≡ class = omega arith in
-            subst (λ c. kept c ≡ members (refined_table t row) c) place (kept_new (class - class_count t) (omega (arith, h, count-refined t row)))
-      ])
+  -- all members of a class are in it
+  all_in : (class : ℕ) → filter (is_in (refined_table t row).class_of class) (members (refined_table t row) class) ≡ members (refined_table t row) class
+  all_in class =
+      filter_all (is_in (refined_table t row).class_of class) (members (refined_table t row) class)
+      (λ k d h.
+      let n = get_or (members (refined_table t row) class) k d in
+      let member = members-All (refined_table t row) class k d h in
+      is_in-inside (refined_table t row).class_of class n member.0 ∙ eq-eqb (get_or (refined_table t row).class_of n 0) class member.1)
+
+  -- those that stay are the members of the class
+  kept_members : (class : ℕ) → class < class_count t → filter (is_in (refined_table t row).class_of class) (members t class) ≡ members (refined_table t row) class
+  kept_members class old =
+      filter_where (is_in (refined_table t row).class_of class) (λ n. eqb (class_at (refined_table t row) n) class) (members t class)
+      (λ k d h. is_in-inside (refined_table t row).class_of class (get_or (members t class) k d) (omega (arith, (members-All t class k d h).0, numbers-refined t row)))
+      ∙ sym (members-refined t row sound class old)
+
+  module _ (groups fresh : List (List ℕ)) (were : groups ≡ map (members t) (range_with_len 0 (class_count t))) (new : fresh ≡ map (piece_of t row) (new_lowest t row)) where
+    many : length groups ≡ class_count t
+    many = ap length were ∙ length-map-range_with_len (members t) 0 (class_count t)
+
+    added : length fresh ≡ length (new_lowest t row)
+    added = ap length new ∙ length-map (new_lowest t row) (piece_of t row)
+
+    -- the group of an old class, and of a new one
+    group_old : (class : ℕ) → class < class_count t → get_or (groups ++ fresh) class [] ≡ members t class
+    group_old class old =
+        get_or_append_left groups fresh [] class (omega (arith, many, old))
+        ∙ (ap (λ gs. get_or gs class []) were ∙ get_or-map-range_with_len (members t) 0 (class_count t) class class [] old (omega arith))
+
+    group_new : (k : ℕ) → k < length (new_lowest t row) → get_or (groups ++ fresh) (class_count t + k) [] ≡ members (refined_table t row) (class_count t + k)
+    group_new k h =
+        let place : class_count t + k - class_count t ≡ k = omega arith in
+        get_or-append_right groups fresh (class_count t) (class_count t + k) [] many (omega arith)
+        ∙ (ap (λ i. get_or fresh i []) place ∙ (ap (λ gs. get_or gs k []) new ∙ (get_or-map (piece_of t row) (new_lowest t row) k 0 [] h ∙ piece_members k h)))
+
+    -- the members of each class are left where those that aren't in it are taken away
+    pub kept_are : (class : ℕ) → class < class_count t + length (new_lowest t row) → filter (is_in (refined_table t row).class_of class) (get_or (groups ++ fresh) class []) ≡ members (refined_table t row) class
+    kept_are class h =
+        elim (cases_lt class (class_count t)) [
+          | inl old ↦ ap (filter (is_in (refined_table t row).class_of class)) (group_old class old) ∙ kept_members class old
+          | inr late ↦
+              let k = class - class_count t in
+              let place : class_count t + k ≡ class = omega (arith, late) in
+              ap (filter (is_in (refined_table t row).class_of class)) (subst (λ c. get_or (groups ++ fresh) c [] ≡ members (refined_table t row) c) place (group_new k (omega (arith, h, late)))) ∙ all_in class
+        ]
+
+    -- of a class that is the parent of no new one none has left
+    pub none_left : (parents : List ℕ) → parents ≡ map (class_at t) (new_lowest t row) → (class : ℕ) → class < class_count t + length (new_lowest t row) → All (λ parent. parent ≢ class) parents
+        → filter (is_in (refined_table t row).class_of class) (get_or (groups ++ fresh) class []) ≡ get_or (groups ++ fresh) class []
+    none_left parents are class h none =
+        elim (cases_lt class (class_count t)) [
+          | inl old ↦
+              let group = group_old class old in
+              ap (filter (is_in (refined_table t row).class_of class)) group
+              ∙ (filter_all (is_in (refined_table t row).class_of class) (members t class)
+              (λ i d l.
+              let n = get_or (members t class) i d in
+              let member = members-All t class i d l in
+              is_in-inside (refined_table t row).class_of class n (omega (arith, member.0, numbers-refined t row))
+              ∙ eq-eqb (get_or (refined_table t row).class_of n 0) class (after_at n 0 member.0 ∙ elim (after_cases t row sound n member.0) [
+                | inl s ↦ s.after ∙ member.1
+                | inr (k, m) ↦
+                    let parent : get_or parents k 0 ≡ class =
+                    ap (λ ps. get_or ps k 0) are ∙ (get_or-map (class_at t) (new_lowest t row) k 0 0 m.within ∙ (ap (class_at t) m.lowest ∙ ((piece_is t row n member.0).class ∙ member.1))) in
+                    absurd (none k 0 (omega (arith, m.within, ap length are, length-map (new_lowest t row) (class_at t))) parent)
+              ]))
+              ∙ sym group)
+          | inr late ↦
+              let k = class - class_count t in
+              let place : class_count t + k ≡ class = omega (arith, late) in
+              let group = subst (λ c. get_or (groups ++ fresh) c [] ≡ members (refined_table t row) c) place (group_new k (omega (arith, h, late))) in
+              ap (filter (is_in (refined_table t row).class_of class)) group ∙ (all_in class ∙ sym group)
+        ]
+
+    pub groups-refined : map (λ class. filter (is_in (refined_table t row).class_of class) (get_or (groups ++ fresh) class [])) (range_with_len 0 (length (groups ++ fresh)))
+        ≡ map (members (refined_table t row)) (range_with_len 0 (class_count (refined_table t row)))
+    groups-refined =
+        let kept : ℕ → List ℕ = λ class. filter (is_in (refined_table t row).class_of class) (get_or (groups ++ fresh) class []) in
+        let count : length (groups ++ fresh) ≡ class_count (refined_table t row) = omega (arith, length-append groups fresh, many, added, count-refined t row) in
+        fill_by_all (members (refined_table t row)) (map kept (range_with_len 0 (length (groups ++ fresh)))) (class_count (refined_table t row)) []
+        (length-map-range_with_len kept 0 (length (groups ++ fresh)) ∙ count)
+        (λ class h. get_or-map-range_with_len kept 0 (length (groups ++ fresh)) class class [] (omega (arith, h, count)) (omega arith) ∙ kept_are class (omega (arith, h, count-refined t row)))
+
+    -- the classes that numbers are in after the numbers of each piece entered one
+    pub classes_are : (was now : List ℕ) → was ≡ t.class_of → length now ≡ length was
+        → ((k n : ℕ) → k < length fresh → Contains (get_or fresh k []) n → ((j : ℕ) → k < j → j < length fresh → All (λ m. m ≢ n) (get_or fresh j [])) → get_or now n 0 ≡ class_count t + k)
+        → ((n : ℕ) → ((j : ℕ) → j < length fresh → All (λ m. m ≢ n) (get_or fresh j [])) → get_or now n 0 ≡ get_or was n 0) → now ≡ (refined_table t row).class_of
+    unfolding refined_table
+    classes_are was now same long entered others =
+        let group : (k : ℕ) → k < length fresh → get_or fresh k [] ≡ piece_of t row (get_or (new_lowest t row) k 0) =
+        λ k h. ap (λ gs. get_or gs k []) new ∙ get_or-map (piece_of t row) (new_lowest t row) k 0 [] (omega (arith, h, added)) in
+        let own : (j n : ℕ) → j < length fresh → piece_lowest t row n ≢ get_or (new_lowest t row) j 0 → All (λ m. m ≢ n) (get_or fresh j []) =
+        λ j n h ne i d l e.
+        let low = get_or (new_lowest t row) j 0 in
+        let is = subst (λ g. All (λ m. piece_lowest t row m ≡ low) g) (sym (group j h)) (λ a b c. eqb-true (piece_lowest t row (get_or (piece_of t row low) a b)) low (filter_passes (λ m. eqb (piece_lowest t row m) low) (members t (class_at t low)) a b c)) in
+        ne (ap (piece_lowest t row) (sym e) ∙ is i d l) in
+        fill_by_all (class_after t row) now (length t.class_of) 0 (long ∙ ap length same)
+        (λ n h. elim (after_cases t row sound n h) [
+          | inl s ↦
+              others n (λ j l. own j n l (λ e.
+              let begins = new_lowest-All t row j 0 (omega (arith, l, added)) in
+              let class : class_at t (get_or (new_lowest t row) j 0) ≡ class_at t n = ap (class_at t) (sym e) ∙ (piece_is t row n h).class in
+              begins.leaves (ap (representative t) class ∙ (sym s.lowest ∙ e))))
+              ∙ (ap (λ xs. get_or xs n 0) same ∙ sym s.after)
+          | inr (k, m) ↦
+              let inside : k < length fresh = omega (arith, m.within, added) in
+              let low = get_or (new_lowest t row) k 0 in
+              let class : class_at t n ≡ class_at t low = sym (ap (class_at t) m.lowest ∙ (piece_is t row n h).class) in
+              let has : Contains (piece_of t row low) n =
+              Contains-filter (λ x. eqb (piece_lowest t row x) low) (members t (class_at t low)) n (subst (λ c. Contains (members t c) n) class (members-contains t n h)) (eq-eqb (piece_lowest t row n) low (sym m.lowest)) in
+              entered k n inside (subst (λ g. Contains g n) (sym (group k inside)) has)
+              (λ j l in_j. own j n in_j (λ e. new_lowest_distinct t row k j 0 l (omega (arith, in_j, added)) (m.lowest ∙ e)))
+              ∙ sym m.after
+        ])

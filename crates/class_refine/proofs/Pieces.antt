@@ -1,5 +1,5 @@
 -- The pieces into which a row of answers cuts the classes of a table.
-use Rattle.std.proofs.Common.{◌≡◌, ◌≢◌, ◌∙◌, ℕ, ◌+◌, ◌<◌, Bool, true, false, not, eqb, ◌⊎◌, List, length, get_or, refl, sym, ap, subst, arith, inl, inr}
+use Rattle.std.proofs.Common.{◌≡◌, ◌≢◌, ◌∙◌, ℕ, ◌+◌, ◌<◌, Bool, true, false, not, eqb, ◌⊎◌, List, length, get_or, refl, sym, ap, subst, arith, inl, inr, AllPairs}
 use Rattle.std.specs.Prelude.{Option, None, filter, MatchOption, All, Contains}
 use Rattle.std.specs.Option.{option_map_or}
 use Rattle.std.proofs.lemmas.Bool.{cases_lt, cases_eq, cases_Bool, and_parts, and_from, eqb-true, eq-eqb, ne_eqb, not_from_false, not-true, eqb-false}
@@ -9,7 +9,7 @@ use Rattle.std.proofs.lemmas.List.Kept.{AllPairs-filter}
 use Rattle.std.proofs.lemmas.Slice.Eq.{slice_eq-Decides}
 use Rattle.net_model.specs.ClassTable.{ClassTable, same_bits, number_range, class_count, class_at, members, representative, answer_at, stay_together, piece_lowest, begins_class, new_lowest, class_after}
 use Rattle.net_model.proofs.Elements.{true_false, Contains-filter}
-use Rattle.class_refine.proofs.Ranges.{IsLowest, found_lowest, lowest_once, range_below, range-contains, AreDistinct, range_distinct, parts-All, parts-contains, parts-distinct, position_cases}
+use Rattle.class_refine.proofs.Ranges.{IsLowest, found_lowest, lowest_once, range_below, range-contains, AreDistinct, range_distinct, parts-All, parts-contains, parts-distinct, position_cases, range_ascends}
 
 -- each number has a class that is counted, and each class but class 0 was cut from a lower one by one of the patterns
 pub record IsSound (t : ClassTable) : Type 0 where
@@ -40,7 +40,11 @@ module _ (t : ClassTable) where
   unfolding members
   members-contains n h = Contains-filter (λ m. eqb (class_at t m) (class_at t n)) (number_range t) n (range-contains (length t.class_of) n h) (eq-eqb (class_at t n) (class_at t n) refl)
 
-  members_distinct : (class : ℕ) → AreDistinct (members t class)
+  pub members_ascend : (class : ℕ) → AllPairs (λ x y. x < y) (members t class)
+  unfolding members
+  members_ascend class = AllPairs-filter (λ x y. x < y) (λ n. eqb (class_at t n) class) (number_range t) (range_ascends (length t.class_of))
+
+  pub members_distinct : (class : ℕ) → AreDistinct (members t class)
   unfolding members
   members_distinct class = AllPairs-filter (λ x y. x ≢ y) (λ n. eqb (class_at t n) class) (number_range t) (range_distinct (length t.class_of))
 
@@ -119,13 +123,13 @@ module _ (t : ClassTable) where
       pub own : piece_lowest t row n ≡ n
       pub leaves : representative t (class_at t n) ≢ n
 
-    begins-true : (n : ℕ) → Begins n → begins_class t row n ≡ true
+    pub begins-true : (n : ℕ) → Begins n → begins_class t row n ≡ true
     unfolding begins_class
     begins-true n b =
         and_from (eqb (piece_lowest t row n) n) (not (eqb (representative t (class_at t n)) n)) (eq-eqb (piece_lowest t row n) n b.own)
         (not_from_false (eqb (representative t (class_at t n)) n) (ne_eqb (representative t (class_at t n)) n b.leaves))
 
-    begins_from : (n : ℕ) → n < length t.class_of → begins_class t row n ≡ true → Begins n
+    pub begins_from : (n : ℕ) → n < length t.class_of → begins_class t row n ≡ true → Begins n
     unfolding begins_class
     begins_from n h e =
         let parts = and_parts (eqb (piece_lowest t row n) n) (not (eqb (representative t (class_at t n)) n)) e in
@@ -196,23 +200,37 @@ module _ (t : ClassTable) where
           })
         ]
 
-    -- the lowest of the k-th new class is in it
-    pub moved_at : IsSound t → (k : ℕ) → k < length (new_lowest t row) → Moves (get_or (new_lowest t row) k 0) k
-    moved_at sound k h =
-        let n = get_or (new_lowest t row) k 0 in
-        let b = new_lowest-All k 0 h in
-        elim (after_cases sound n b.inside) [
-          | inl s ↦ absurd (b.leaves (sym s.lowest ∙ b.own))
+    -- a number of the piece that begins the k-th new class comes into it, and no other does
+    pub moves_into : IsSound t → (k n : ℕ) → k < length (new_lowest t row) → n < length t.class_of → piece_lowest t row n ≡ get_or (new_lowest t row) k 0 → class_after t row n ≡ class_count t + k
+    moves_into sound k n h inside own =
+        elim (after_cases sound n inside) [
+          | inl s ↦
+              let begins = new_lowest-All k 0 h in
+              let class : class_at t (get_or (new_lowest t row) k 0) ≡ class_at t n = ap (class_at t) (sym own) ∙ (piece_is n inside).class in
+              absurd (begins.leaves (ap (representative t) class ∙ (sym s.lowest ∙ own)))
           | inr (j, m) ↦ elim (cases_eq j k) [
-            | inl same ↦ subst (Moves n) same m
+            | inl same ↦ m.after ∙ ap (λ i. class_count t + i) same
             | inr ne ↦
-                let same : get_or (new_lowest t row) j 0 ≡ n = m.lowest ∙ b.own in
+                let same : get_or (new_lowest t row) j 0 ≡ get_or (new_lowest t row) k 0 = m.lowest ∙ own in
                 absurd (elim (cases_lt j k) [
                   | inl l ↦ new_lowest_distinct j k 0 l h same
-                  | inr le ↦ new_lowest_distinct k j 0 (omega (arith, ne)) m.within (sym same)
+                  | inr le ↦ new_lowest_distinct k j 0 (omega (arith, le, ne)) m.within (sym same)
                 ])
           ]
         ]
+
+    pub moved_from : IsSound t → (k n : ℕ) → n < length t.class_of → class_after t row n ≡ class_count t + k → get_or (new_lowest t row) k 0 ≡ piece_lowest t row n
+    moved_from sound k n inside after =
+        elim (after_cases sound n inside) [
+          | inl s ↦ absurd (omega (arith, after, s.after, sound.classes n inside))
+          | inr (j, m) ↦ let same : k ≡ j = omega (arith, after, m.after) in ap (λ i. get_or (new_lowest t row) i 0) same ∙ m.lowest
+        ]
+
+    -- the lowest of the k-th new class is in it
+    pub moved_at : IsSound t → (k : ℕ) → k < length (new_lowest t row) → Moves (get_or (new_lowest t row) k 0) k
+    moved_at sound k h =
+        let b = new_lowest-All k 0 h in
+        record { within = h; lowest = sym b.own; after = moves_into sound k (get_or (new_lowest t row) k 0) h b.inside b.own }
 
     -- the representative of a class stays in it
     pub stays_at : IsSound t → (n : ℕ) → n < length t.class_of → class_after t row (representative t (class_at t n)) ≡ class_at t n

@@ -1,28 +1,19 @@
 -- What the steps of a cut make.
-use Rattle.std.specs.Prelude.{ℕ, ◌+◌, ◌==◌, ◌&&◌, Bool, not, List, Some, filter, position, length, slice_index, slice_get, nat_eq}
+use Rattle.std.specs.Prelude.{ℕ, ◌==◌, Bool, List, Some, filter, slice_get, nat_eq}
 use Rattle.std.specs.Borrow.{Bor}
 use Rattle.std.specs.Cmp.Lexicographic.{slice_cmp}
-use Rattle.std.specs.List.{range_with_len}
-use Rattle.std.specs.Ordering.{nat_cmp, ordering_then}
+use Rattle.std.specs.Ordering.{nat_cmp}
 use Rattle.std.specs.declared.cmp.Ordering.{Ordering}
-use Rattle.std.specs.Option.{option_map_or, option_eq}
-use Rattle.net_model.specs.ClassTable.{ClassTable, class_count, class_at, members, representative}
+use Rattle.std.specs.Option.{option_eq}
+use Rattle.net_model.specs.ClassTable.{ClassTable, class_at, members, piece_lowest}
 
--- the order of the keys of pieces: by class, and then by the words of the row
-abbrev pub key_order : ℕ × Bor (List ℕ) → ℕ × Bor (List ℕ) → Ordering
-key_order a b = ordering_then (nat_cmp a.0 b.0) (slice_cmp nat_cmp a.1.now b.1.now)
+-- the order of the words of rows
+abbrev pub words_order : Bor (List ℕ) → Bor (List ℕ) → Ordering
+words_order a b = slice_cmp nat_cmp a.now b.now
 
--- the members of a class, but for the representative, that stand at their own place in the list
-abbrev pub own_places : ClassTable → List ℕ → ℕ → List ℕ
-own_places t list class = filter (λ n. slice_index list n == n && not (representative t class == n)) (members t class)
-
--- the class of a number where the listed ones come into classes of their own
-abbrev pub class_beside : ClassTable → List ℕ → ℕ → ℕ
-class_beside t listed n = option_map_or (λ k. class_count t + k) (position (λ m. m == n) listed) (class_at t n)
-
--- the numbers of a class
-abbrev pub numbers_of : List ℕ → ℕ → List ℕ
-numbers_of class_of class = filter (λ n. slice_index class_of n == class) (range_with_len 0 (length class_of))
+-- the piece of a class that has this lowest number
+abbrev pub piece_of : ClassTable → List (List Bool) → ℕ → List ℕ
+piece_of t row low = filter (λ n. piece_lowest t row n == low) (members t (class_at t low))
 
 -- whether a number is of a class
 abbrev pub is_in : List ℕ → ℕ → ℕ → Bool

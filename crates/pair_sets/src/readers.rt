@@ -2,13 +2,14 @@
 
 ghost use Rattle.std.specs.Prelude.{◌≡◌, [], ◌∷◌, ◌++◌, OnOk, OnErr};
 
+use smallvec::SmallVec;
 use std::alloc::{AllocError, Global};
 use std::marker::Model;
 
 /// The places of what reads a line: of gates in an order, or of reached positions that show it.
 #[derive(Drop)]
 pub(crate) struct Readers {
-    places: Vec<u32>,
+    places: SmallVec<u32, 4>,
 }
 
 impl Model for Readers {
@@ -24,7 +25,7 @@ impl Readers {
         ensures { result ≡ [] }
     {
         Readers {
-            places: Vec::new(alloc),
+            places: SmallVec::new(alloc),
         }
     }
 

@@ -47,7 +47,7 @@ pub(crate) fn no_readers(alloc: Global, lines: u32) -> Result<Vec<Readers>, Allo
     ensures none { IfOk result (λ readers. (line : ℕ) → slice_index_or readers.items line [] ≡ []) }
     ensures whole { IfOk result (λ readers. length readers.items ≡ lines) }
 {
-    let mut readers = Vec::new(alloc);
+    let mut readers = Vec::with_capacity(alloc, lines as usize)?;
     for _line in 0..lines {
         readers.push(Readers::new(alloc))?;
     }
