@@ -7,29 +7,11 @@ use Rattle.std.proofs.lemmas.Bool.{and_parts}
 use Rattle.clause_pool.specs.Literal.{Literal, opposite, same_literal}
 use Rattle.clause_pool.specs.Clauses.{Clause}
 use Rattle.clause_pool.specs.Partial.{IsQuiet}
+use Rattle.clause_pool.proofs.Literals.{same_is, literal_cases}
 use Rattle.net_model.specs.Answer.{bit_at}
 use Rattle.net_model.proofs.Elements.{any_from, passing}
 use Rattle.pair_miter.specs.Miter.{has_literal, without_repeats, is_tautology, tidy, literal_bit, is_satisfied_by, is_model}
 use Rattle.pair_miter.specs.Fresh.{IsFresh}
-
--- ---- literals
-
-same_is : (l m : Literal) → same_literal l m ≡ true → l ≡ m
-same_is l m e =
-    let both = and_parts (l.variable == m.variable) (beq l.positive m.positive) e in
-    let variables : l.variable ≡ m.variable = eqb-true l.variable m.variable both.0 in
-    let signs : l.positive ≡ m.positive = (booleans_Decides l.positive m.positive).0 both.1 in
-    λ i. record { variable = variables i; positive = signs i }
-
-same_literal-same : (l m : Literal) → l ≡ m → same_literal l m ≡ true
-same_literal-same l m e = subst (λ n. same_literal l n ≡ true) e (rw (eq-eqb l.variable l.variable refl) ((booleans_Decides l.positive l.positive).1 refl))
-
-literal_cases : (l m : Literal) → (l ≡ m) ⊎ (l ≢ m)
-literal_cases l m = by (same_literal l m) refl
-  where
-    by : (b : Bool) → same_literal l m ≡ b → (l ≡ m) ⊎ (l ≢ m)
-    by true e = inl (same_is l m e)
-    by false e = inr (λ same. let t = same_literal-same l m same in let wrong : ◌≡◌ {A = Bool} true false = sym t ∙ e in cc)
 
 -- ---- freshness
 

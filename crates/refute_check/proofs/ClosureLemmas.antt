@@ -1,0 +1,287 @@
+-- Unit propagation, step by step.
+use Rattle.std.proofs.Common.{◌≡◌, ◌≢◌, ◌∙◌, ℕ, zero, suc, ◌<◌, ◌≤◌, ◌+◌, ◌-◌, inl, inr, refl, sym, ap, arith, subst, get_or}
+use Rattle.std.specs.Prelude.{Bool, true, false, List, [], ◌∷◌, length, take, Option, None, Some, Contains, All, slice_get, if◌then◌else◌, ◌==◌, IsTrue, IsFalse, ◌↔◌}
+use Rattle.std.proofs.lemmas.Bool.{cases_eq}
+use Rattle.std.proofs.lemmas.List.{length-set, get_or_default, take_all}
+use Rattle.std.proofs.lemmas.List.Elements.{All-contains, All-more, All-weaker}
+use Rattle.std.proofs.lemmas.Option.{slice_get_within, get_or_from_slice_get}
+use Rattle.clause_pool.specs.Literal.{Literal, opposite}
+use Rattle.clause_pool.specs.Clauses.{Clause, numbered_clause}
+use Rattle.clause_pool.specs.Partial.{IsQuiet, IsUndetermined}
+use Rattle.net_model.proofs.Copies.{later}
+use Rattle.net_model.proofs.Elements.{none_in, first_or_later}
+use Rattle.pair_miter.specs.Fresh.{IsFresh}
+use Rattle.refute_check.specs.Held.{IsTrueAt, IsFalseAt, IsOpenAt, IsQuietAt, satisfied, two_open, IsUnitAt}
+use Rattle.refute_check.specs.Closure.{IsClosure, IsStep, IsPass, HoldsOthers, AreOthersFalse, open_count}
+use Rattle.refute_check.specs.declared.freshness.Pass.{Pass}
+use Rattle.refute_check.specs.declared.freshness.Pass.TheVariants.{Quiet, Refused, More}
+use Rattle.refute_check.proofs.HeldLemmas.{same_literals, same_or_opposite, true_is, is_true, opposite_true, opposite_false, opposite_open, open_not_true, open_not_false, true_not_false, hold, hold_open, hold_holds, hold_kept, hold_kept_false, hold_cases, open_less}
+use Rattle.clause_pool.proofs.Literals.{opposite_opposite, literal_cases}
+
+-- ---- steps
+
+module _ (clauses : List Clause) (at : Literal) where
+  pub two_steps : (before between after : List (Option Bool)) → IsStep clauses at before between → IsStep clauses at between after → IsStep clauses at before after
+  two_steps before between after first second = record {
+    size = second.size ∙ first.size;
+    at_open = second.at_open;
+    kept = λ l t. second.kept l (first.kept l t);
+    closes = λ held c. second.closes held (first.closes held c);
+  }
+
+-- ---- what a set of literals holds that closes the true ones
+
+module _ (clauses : List Clause) (at : Literal) (values : List (Option Bool)) (held : List Literal) (closure : IsClosure clauses at values held) where
+  holds_opposite : (l : Literal) → IsFalseAt values l → Contains held (opposite l)
+  holds_opposite l f = closure.within (opposite l) (opposite_true values l f)
+
+  unit_held_by : (clause : Clause) (unit : Literal) → IsUnitAt values clause unit → IsQuiet held clause → Contains held unit
+  unit_held_by clause unit is (inl s) = elim (literal_cases s.literal unit) [
+    | inl e ↦ subst (Contains held) e s.is_held
+    | inr ne ↦ absurd (closure.consistent s.literal s.is_held (holds_opposite s.literal (is.others s.literal s.inside ne)))
+  ]
+  unit_held_by clause unit is (inr t) = absurd (t.different (must_be t.first t.first_inside t.first_undetermined ∙ sym (must_be t.second t.second_inside t.second_undetermined)))
+    where
+      must_be : (l : Literal) → Contains clause l → IsUndetermined held l → l ≡ unit
+      must_be l m n = elim (literal_cases l unit) [
+        | inl e ↦ e
+        | inr ne ↦ absurd (n.opposite_not_held (holds_opposite l (is.others l m ne)))
+      ]
+
+  not_false_by : (clause : Clause) → All (IsFalseAt values) clause → IsQuiet held clause → ⊥
+  not_false_by clause all (inl s) = closure.consistent s.literal s.is_held (holds_opposite s.literal (All-contains (IsFalseAt values) clause s.literal all s.inside))
+  not_false_by clause all (inr t) = t.first_undetermined.opposite_not_held (holds_opposite t.first (All-contains (IsFalseAt values) clause t.first all t.first_inside))
+
+  module _ (clause : Clause) (is_in : Contains clauses clause) where
+    pub unit_held : (unit : Literal) → IsUnitAt values clause unit → Contains held unit
+    unit_held unit is = unit_held_by clause unit is (All-contains (IsQuiet held) clauses clause closure.quiet is_in)
+
+    pub not_false : All (IsFalseAt values) clause → ⊥
+    not_false all = not_false_by clause all (All-contains (IsQuiet held) clauses clause closure.quiet is_in)
+
+    pub not_at : (unit : Literal) → IsUnitAt values clause unit → unit.variable ≡ at.variable → ⊥
+    not_at unit is v = elim (same_or_opposite unit at v) [
+      | inl e ↦ closure.undetermined.not_held (subst (Contains held) e (unit_held unit is))
+      | inr w ↦ closure.undetermined.opposite_not_held (subst (Contains held) w.0 (unit_held unit is))
+    ]
+
+pub unit_step : (clauses : List Clause) (at : Literal) (values : List (Option Bool)) (clause : Clause) (unit : Literal) → Contains clauses clause → IsUnitAt values clause unit → IsOpenAt values at → unit.variable < length values → unit.variable ≢ at.variable
+    → IsStep clauses at values (hold values unit)
+unit_step clauses at values clause unit is_in is o within ne = record {
+  size = length-set values unit.variable (Some unit.positive);
+  at_open = hold_open values unit at (λ e. ne (sym e)) o;
+  kept = hold_kept values unit within (open_not_false values unit is.is_open);
+  closes = λ held closure. record {
+    consistent = closure.consistent;
+    undetermined = closure.undetermined;
+    quiet = closure.quiet;
+    within = λ l t. elim (hold_cases values unit within l t) [
+      | inl was ↦ closure.within l was
+      | inr e ↦ subst (Contains held) (sym e) (unit_held clauses at values held closure clause is_in unit is)
+    ];
+  };
+}
+
+-- ---- a pass
+
+not_none : (clauses : List Clause) (clause : Clause) (n : ℕ) (test : Bool) → (if test then None else slice_get clauses n) ≡ Some clause → slice_get clauses n ≡ Some clause
+not_none clauses clause n true e = cc
+not_none clauses clause n false e = e
+
+-- the clause of the number after a place stands there
+numbered_at : (clauses : List Clause) (k : ℕ) (clause : Clause) → numbered_clause clauses (k + 1) ≡ Some clause → slice_get clauses k ≡ Some clause
+numbered_at clauses k clause e =
+    let place : k + 1 - 1 ≡ k = omega arith in
+    subst (λ n. slice_get clauses n ≡ Some clause) place (not_none clauses clause (k + 1 - 1) (k + 1 == 0) e)
+
+pub found_at : (clauses : List Clause) (k : ℕ) (clause : Clause) → numbered_clause clauses (k + 1) ≡ Some clause → Contains clauses clause
+found_at clauses k clause e = let at = numbered_at clauses k clause e in (k, slice_get_within clauses k clause at, get_or_from_slice_get clauses k clause clause at)
+
+-- the variables of a unit are in range as those of all clauses
+pub unit_within : (clauses : List Clause) (clause : Clause) (unit : Literal) (before after : List (Option Bool)) → All (All (λ (l : Literal). l.variable < length before)) clauses → Contains clauses clause → IsUnitAt after clause unit → length after ≡ length before → unit.variable < length after
+unit_within clauses clause unit before after all is_in is size =
+    let inside = All-contains (λ (l : Literal). l.variable < length before) clause unit (All-contains (All (λ (l : Literal). l.variable < length before)) clauses clause all is_in) is.inside in
+    omega (arith, inside, size)
+
+-- what the pass has found at the first clauses
+abbrev pub IsFound : List Clause → ℕ → List (Option Bool) → List (Option Bool) → Pass → Type 0
+IsFound clauses k before after Quiet = (after ≡ before) × All (IsQuietAt before) (take k clauses)
+IsFound clauses k before after Refused = ⊥
+IsFound clauses k before after More = open_count after < open_count before
+
+pub record IsAhead (clauses : List Clause) (at : Literal) (k : ℕ) (before after : List (Option Bool)) (found : Pass) : Type 0 where
+  pub step : IsStep clauses at before after
+  pub is_found : IsFound clauses k before after found
+
+module _ (clauses : List Clause) (k : ℕ) (before after : List (Option Bool)) where
+  quiet_found : (found : Pass) (clause : Clause) → slice_get clauses k ≡ Some clause → IsQuietAt after clause → IsFound clauses k before after found → IsFound clauses (k + 1) before after found
+  quiet_found Quiet clause e q is =
+      let here : IsQuietAt before (get_or clauses k []) = subst (IsQuietAt before) (sym (get_or_from_slice_get clauses k clause [] e)) (subst (λ values. IsQuietAt values clause) is.0 q) in
+      (is.0, All-more (IsQuietAt before) clauses k [] (slice_get_within clauses k clause e) is.1 here)
+  quiet_found Refused clause e q is = is
+  quiet_found More clause e q is = is
+
+  fewer_open : (found : Pass) → IsFound clauses k before after found → open_count after ≤ open_count before
+  fewer_open Quiet is = let e : open_count after ≡ open_count before = ap open_count is.0 in omega (arith, e)
+  fewer_open Refused is = absurd is
+  fewer_open More is = omega (arith, is)
+
+  module _ (at : Literal) (found : Pass) (clause : Clause) (here : numbered_clause clauses (k + 1) ≡ Some clause) (a : IsAhead clauses at k before after found) where
+    pub quiet_more : IsQuietAt after clause → IsAhead clauses at (k + 1) before after found
+    quiet_more q = record {
+      step = a.step;
+      is_found = quiet_found found clause (numbered_at clauses k clause here) q a.is_found;
+    }
+
+    pub unit_more : (unit : Literal) → All (All (λ (l : Literal). l.variable < length before)) clauses → IsUnitAt after clause unit → unit.variable ≢ at.variable → IsAhead clauses at (k + 1) before (hold after unit) More
+    unit_more unit all is ne =
+        let is_in = found_at clauses k clause here in
+        let within = unit_within clauses clause unit before after all is_in is a.step.size in
+        record {
+          step = two_steps clauses at before after (hold after unit) a.step (unit_step clauses at after clause unit is_in is a.step.at_open within ne);
+          is_found = omega (arith, open_less after unit within is.is_open, fewer_open found a.is_found);
+        }
+
+  pub pass_is : (at : Literal) (found : Pass) → length clauses ≤ k → IsAhead clauses at k before after found → IsPass clauses at before after found
+  pass_is at Quiet h a = (a.is_found.0, subst (All (IsQuietAt before)) (take_all k clauses h) a.is_found.1)
+  pass_is at Refused h a = absurd a.is_found
+  pass_is at More h a = (a.step, a.is_found)
+
+-- ---- the clause's other literals
+
+-- What is true before a place of the clause: the other literals there are false, and no more literals are true.
+pub record AreOthersFalseBefore (clause : Clause) (at : Literal) (k : ℕ) (values : List (Option Bool)) : Type 0 where
+  pub at_open : IsOpenAt values at
+  pub others : (j : ℕ) (d : Literal) → j < k → get_or clause j d ≢ at → IsFalseAt values (get_or clause j d)
+  pub no_more : (l : Literal) → IsTrueAt values l → Contains clause (opposite l) × (opposite l ≢ at)
+
+module _ (clause : Clause) (at : Literal) where
+  module _ (k : ℕ) (values : List (Option Bool)) (are : AreOthersFalseBefore clause at k values) (l : Literal) (inside : k < length clause) (is : l ≡ get_or clause k l) where
+    at_place : (d : Literal) → get_or clause k d ≡ l
+    at_place d = get_or_default clause k d l inside ∙ sym is
+
+    pub others_more : l.variable ≢ at.variable → (IsTrueAt values l → ⊥) → l.variable < length values → AreOthersFalseBefore clause at (k + 1) (hold values (opposite l))
+    others_more apart untrue within =
+        let free : IsFalseAt values (opposite l) → ⊥ = λ f. untrue (subst (IsTrueAt values) (opposite_opposite l) (opposite_true values (opposite l) f)) in
+        let now : IsFalseAt (hold values (opposite l)) l = opposite_false (hold values (opposite l)) l (hold_holds values (opposite l) within) in
+        record {
+          at_open = hold_open values (opposite l) at (λ e. apart (sym e)) are.at_open;
+          others = λ j d h ne. elim (cases_eq j k) [
+            | inl e ↦ subst (IsFalseAt (hold values (opposite l))) (sym (ap (λ n. get_or clause n d) e ∙ at_place d)) now
+            | inr late ↦ hold_kept_false values (opposite l) within free (get_or clause j d) (are.others j d (omega (arith, h, late)) ne)
+          ];
+          no_more = λ m t. elim (hold_cases values (opposite l) within m t) [
+            | inl was ↦ are.no_more m was
+            | inr e ↦
+                let back : opposite m ≡ l = ap opposite e ∙ opposite_opposite l in
+                (subst (Contains clause) (sym back) (k, inside, sym is), λ q. apart (ap (λ (x : Literal). x.variable) (sym back ∙ q)))
+          ];
+        }
+
+    module _ (set : List Literal) (holds : HoldsOthers clause at set) (other : l ≢ at) where
+      pub not_of_at : l.variable ≡ at.variable → ⊥
+      not_of_at v = elim (same_or_opposite l at v) [
+        | inl e ↦ other e
+        | inr w ↦ holds.undetermined.not_held (subst (Contains set) (ap opposite w.0 ∙ opposite_opposite at) (holds.others l (k, inside, sym is) other))
+      ]
+
+      pub not_true : IsTrueAt values l → ⊥
+      not_true t =
+          let o = are.no_more l t in
+          holds.consistent l (subst (Contains set) (opposite_opposite l) (holds.others (opposite l) o.0 o.1)) (holds.others l (k, inside, sym is) other)
+
+-- ---- the true literals
+
+literals_from : ℕ → List (Option Bool) → List Literal
+literals_from n [] = []
+literals_from n (None ∷ values) = literals_from (n + 1) values
+literals_from n (Some bit ∷ values) = record { variable = n; positive = bit } ∷ literals_from (n + 1) values
+
+in_literals : (n : ℕ) (values : List (Option Bool)) (l : Literal) (k : ℕ) → get_or values k None ≡ Some l.positive → l.variable ≡ n + k → Contains (literals_from n values) l
+unfolding literals_from
+in_literals n [] l k e v = cc
+in_literals n (None ∷ values) l zero e v = cc
+in_literals n (None ∷ values) l (suc k) e v = in_literals (n + 1) values l k e (omega arith)
+in_literals n (Some bit ∷ values) l zero e v =
+    let place : n ≡ l.variable = omega arith in
+    let sign : bit ≡ l.positive = cc in
+    (0, omega arith, same_literals (record { variable = n; positive = bit }) l place sign)
+in_literals n (Some bit ∷ values) l (suc k) e v = later (record { variable = n; positive = bit }) (literals_from (n + 1) values) l (in_literals (n + 1) values l k e (omega arith))
+
+from_literals : (n : ℕ) (values : List (Option Bool)) (l : Literal) → Contains (literals_from n values) l → (k : ℕ) × (l.variable ≡ n + k) × (get_or values k None ≡ Some l.positive)
+unfolding literals_from
+from_literals n [] l m = absurd (none_in l m)
+from_literals n (None ∷ values) l m = let w = from_literals (n + 1) values l m in (suc w.0, omega (arith, w.1), w.2)
+from_literals n (Some bit ∷ values) l m = elim (first_or_later (record { variable = n; positive = bit }) (literals_from (n + 1) values) l m) [
+  | inl e ↦ let place : n ≡ l.variable = ap (λ (x : Literal). x.variable) e in (0, omega arith, ap (λ (x : Literal). Some x.positive) e)
+  | inr more ↦ let w = from_literals (n + 1) values l more in (suc w.0, omega (arith, w.1), w.2)
+]
+
+module _ (values : List (Option Bool)) where
+  true_literals : List Literal
+  true_literals = literals_from 0 values
+
+  true_in : (l : Literal) → IsTrueAt values l → Contains true_literals l
+  unfolding true_literals
+  true_in l t = in_literals 0 values l l.variable (true_is values l t) (omega arith)
+
+  in_true : (l : Literal) → Contains true_literals l → IsTrueAt values l
+  unfolding true_literals
+  in_true l m =
+      let w = from_literals 0 values l m in
+      let place : l.variable ≡ w.0 = omega (arith, w.1) in
+      is_true values l (ap (λ n. get_or values n None) place ∙ w.2)
+
+  open_in_true : (l : Literal) → IsOpenAt values l → IsUndetermined true_literals l
+  open_in_true l o = record {
+    not_held = λ m. open_not_true values l o (in_true l m);
+    opposite_not_held = λ m. open_not_true values (opposite l) (opposite_open values l o) (in_true (opposite l) m);
+  }
+
+  quiet_in_true : (clause : Clause) → IsQuietAt values clause → IsQuiet true_literals clause
+  quiet_in_true clause (satisfied l m t) = inl (record { literal = l; inside = m; is_held = true_in l t })
+  quiet_in_true clause (two_open l m ne in_l in_m o_l o_m) = inr (record {
+    first = l;
+    second = m;
+    different = ne;
+    first_inside = in_l;
+    second_inside = in_m;
+    first_undetermined = open_in_true l o_l;
+    second_undetermined = open_in_true m o_m;
+  })
+
+-- ---- freshness
+
+module _ (clauses : List Clause) (clause : Clause) (at : Literal) where
+  is_fresh : (before after : List (Option Bool)) → Contains clause at → AreOthersFalse clause at before → IsStep clauses at before after → All (IsQuietAt after) clauses → IsFresh clauses clause at
+  is_fresh before after inside are step quiet = record {
+    inside = inside;
+    held = true_literals after;
+    consistent = λ l m n. true_not_false after l (in_true after l m) (opposite_false after l (in_true after (opposite l) n));
+    others = λ l m ne. true_in after (opposite l) (step.kept (opposite l) (opposite_true before l (are.others l m ne)));
+    undetermined = open_in_true after at step.at_open;
+    quiet = All-weaker (IsQuietAt after) (IsQuiet (true_literals after)) (quiet_in_true after) clauses quiet;
+  }
+
+  pub others_is_fresh : ((set : List Literal) → ¬ HoldsOthers clause at set) → IsTrue false ↔ IsFresh clauses clause at
+  others_is_fresh none = (
+    λ t. cc,
+    λ fresh. absurd (none fresh.held (record {
+      consistent = fresh.consistent;
+      others = fresh.others;
+      undetermined = fresh.undetermined;
+    })),
+  )
+
+  fresh_closes : (values : List (Option Bool)) → AreOthersFalse clause at values → (fresh : IsFresh clauses clause at) → IsClosure clauses at values fresh.held
+  fresh_closes values are fresh = record {
+    consistent = fresh.consistent;
+    undetermined = fresh.undetermined;
+    quiet = fresh.quiet;
+    within = λ l t. let o = are.no_more l t in subst (Contains fresh.held) (opposite_opposite l) (fresh.others (opposite l) o.0 o.1);
+  }
+
+  pub closed_is_fresh : (closed : Bool) (before after : List (Option Bool)) → Contains clause at → AreOthersFalse clause at before → (IsTrue closed → IsStep clauses at before after) → (IsTrue closed → All (IsQuietAt after) clauses)
+      → (IsFalse closed → (set : List Literal) → ¬ IsClosure clauses at before set) → IsTrue closed ↔ IsFresh clauses clause at
+  closed_is_fresh true before after inside are step quiet none = (λ t. is_fresh before after inside are (step t) (quiet t), λ fresh. refl)
+  closed_is_fresh false before after inside are step quiet none = (λ t. cc, λ fresh. absurd (none refl fresh.held (fresh_closes before are fresh)))

@@ -1,0 +1,10 @@
+pub mod SameLiterals
+pub mod Alike
+pub mod Chains
+pub mod LogSteps
+pub mod Sets
+pub mod Steps
+pub mod HeldLemmas
+pub mod ClosureLemmas
+pub mod WalkLemmas
+pub mod Sound

@@ -1,0 +1,59 @@
+-- One chain of a log after another, over a pool whose clauses count as those of the miter and the ends so far.
+use Rattle.std.proofs.Common.{◌≡◌, ◌∙◌, ℕ, ◌+◌, ◌++◌, List, [], ◌∷◌, sym, ap, subst}
+use Rattle.std.specs.Prelude.{Some, slice_get, All}
+use Rattle.std.proofs.lemmas.List.{append_assoc}
+use Rattle.clause_pool.specs.Clauses.{Clause}
+use Rattle.pair_miter.specs.ChainView.{ChainView}
+use Rattle.pair_miter.specs.Resolution.{chain_end}
+use Rattle.refute_check.specs.ClauseView.{SameLiterals}
+use Rattle.refute_check.specs.declared.refusal.EvidenceKind.{EvidenceKind}
+use Rattle.refute_check.specs.declared.refusal.RefusalKind.{RefusalKind}
+use Rattle.refute_check.specs.declared.refusal.Refusal.{Refusal}
+use Rattle.refute_check.specs.LogRefusal.{AreRightBefore, AreUpTo, ChainStops, EndsAs, HasRightLength, IsRightEnd, LogRefused, at_step, at_end, end_refusal, is_last}
+use Rattle.refute_check.proofs.Alike.{AreAlike, alike_some, alike_sym, alike_more, chain_alike, chain_within, refusal_alike, right_alike, stops_alike, within_alike}
+use Rattle.refute_check.proofs.SameLiterals.{same_sym, same_trans}
+use Rattle.refute_check.proofs.Chains.{before_next, next_ends}
+
+pub end_within : (variable : ℕ) (pool : List Clause) (chain : ChainView) (literals : Clause) → All (AreUpTo variable) pool → EndsAs pool chain literals → AreUpTo variable literals
+end_within variable pool chain literals all (end, is, same) = within_alike variable literals end same (chain_within variable pool all chain end is)
+
+module _ (kind : EvidenceKind) (clauses : List Clause) (limit : ℕ) (log : List ChainView) (at : ℕ) (chain : ChainView) (pool : List Clause) (long : HasRightLength kind limit log)
+    (b : AreRightBefore kind clauses log at) (chain_is : slice_get log at ≡ Some chain) (are : AreAlike (clauses ++ b.ends) pool) where
+  pub refused_step : (refusal : Refusal) → refusal.step ≡ at → ChainStops pool chain refusal.kind → LogRefused kind clauses limit log refusal
+  refused_step refusal here stops =
+      at_step at refusal.kind long (record { before = b; chain = chain; chain_is = chain_is; stops = stops_alike (clauses ++ b.ends) pool are chain refusal.kind stops })
+      (λ i. record { kind = refusal.kind; step = here i })
+
+  module _ (literals : Clause) (ends : EndsAs pool chain literals) where
+    -- the end over the clauses and the ends so far
+    pub own_end : (end : Clause) × (chain_end (clauses ++ b.ends) chain ≡ Some end) × SameLiterals end literals
+    own_end =
+        let own = alike_some (chain_end (clauses ++ b.ends) chain) (chain_end pool chain) ends.0 (chain_alike (clauses ++ b.ends) pool are chain) ends.1 in
+        (own.0, own.1, same_trans own.0 ends.0 literals own.2 (same_sym literals ends.0 ends.2))
+
+    pub refused_end : (refusal : Refusal) (rule : RefusalKind) → (IsRightEnd kind (is_last log at) pool chain literals → ⊥) → rule ≡ end_refusal kind (is_last log at) literals → refusal ≡ record { kind = rule; step = at }
+        → LogRefused kind clauses limit log refusal
+    refused_end refusal rule wrong rule_is is =
+        let own = own_end in
+        at_end at own.0 long (record {
+          before = b;
+          chain = chain;
+          chain_is = chain_is;
+          end_is = own.1;
+          wrong = λ right. wrong (right_alike pool (clauses ++ b.ends) (alike_sym are) kind (is_last log at) chain literals own.0 (same_sym own.0 literals own.2) right);
+        })
+        (is ∙ ap (λ rule. record { kind = rule; step = at }) (rule_is ∙ sym (refusal_alike kind (is_last log at) own.0 literals own.2)))
+
+    pub right_step : IsRightEnd kind (is_last log at) pool chain literals → AreRightBefore kind clauses log (at + 1)
+    right_step right =
+        let own = own_end in
+        before_next kind clauses log at chain own.0 b chain_is own.1 (right_alike (clauses ++ b.ends) pool are kind (is_last log at) chain own.0 literals own.2 right)
+
+    pub alike_next : (right : IsRightEnd kind (is_last log at) pool chain literals) → AreAlike (clauses ++ (right_step right).ends) (pool ++ literals ∷ [])
+    unfolding right_step
+    alike_next right =
+        let own = own_end in
+        let here = right_alike (clauses ++ b.ends) pool are kind (is_last log at) chain own.0 literals own.2 right in
+        subst (λ cs. AreAlike cs (pool ++ literals ∷ []))
+        (append_assoc clauses b.ends (own.0 ∷ []) ∙ ap (λ ends. clauses ++ ends) (sym (next_ends kind clauses log at chain own.0 b chain_is own.1 here)))
+        (alike_more (clauses ++ b.ends) pool own.0 literals are own.2)

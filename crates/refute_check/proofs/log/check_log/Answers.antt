@@ -1,0 +1,114 @@
+use Rattle.std.proofs.Common.{◌≡◌, ◌∙◌, ◌<◌, ◌+◌, ◌++◌, ◌∷◌, ◌==◌, [], length, get_or, rules, refl, sym, ap, subst, arith}
+use Rattle.std.specs.Prelude.{List, Some, slice_get, All, Result, Err}
+use Rattle.std.proofs.lemmas.List.{append-nil, append_assoc, length-append}
+use Rattle.std.proofs.lemmas.List.Elements.{All-append, All-cons, All-nil}
+use Rattle.std.proofs.lemmas.Option.{slice_get_read}
+use Rattle.clause_pool.specs.Clauses.{Clause, Clauses}
+use Rattle.pair_miter.specs.ChainView.{ChainView}
+use Rattle.refute_check.specs.declared.refusal.CheckFault.{CheckFault}
+use Rattle.refute_check.specs.declared.refusal.CheckFault.TheVariants.{Refused}
+use Rattle.refute_check.specs.LogRefusal.{AreRightBefore, AreUpTo, HasRightLength, IsRuleFor, is_last}
+use Rattle.refute_check.proofs.Alike.{AreAlike, alike_first}
+use Rattle.refute_check.proofs.Chains.{before_first, first_ends, right_log}
+use Rattle.refute_check.proofs.LogSteps.{end_within, refused_step, refused_end, right_step, alike_next}
+use Rattle.refute_check.proofs.log.check_log.Goals as goal
+use Rattle.refute_check.proofs.log.check_log.Goals.{then-not-last+in_ok-add, else-not-last}
+
+pub loop-at-init : goal.loop-at-init
+loop-at-init c = record {
+  before = before_first c.args.kind c.args.pool.now.clauses c.args.log.now;
+  begins = ([], sym (append-nil c.args.pool.now.clauses));
+  alike = λ _. subst (λ ends. AreAlike (c.args.pool.now.clauses ++ ends) c.args.pool.now.clauses) (sym (first_ends c.args.kind c.args.pool.now.clauses c.args.log.now)) (alike_first c.args.pool.now.clauses);
+  within = c.greatest_variable-variables.ensures;
+  few = omega arith;
+}
+
+pub wrong_end-requires-clause-end : goal.wrong_end-requires-clause-end
+wrong_end-requires-clause-end c = end_within c.greatest_variable-variables.result c.loop-at.pool.clauses c.index-chains-at.result c.in_ok-end.end.literals c.loop-at.invariant.within c.in_ok-end.ensures.ended
+
+pub returns-in_err-end-clause-refused : goal.returns-in_err-end-clause-refused
+returns-in_err-end-clause-refused c refusal e =
+    let log = c.args.log.now in
+    let at = c.loop-at.at in
+    let same = c.as_slice-chains.ensures in
+    let inside : at < length log = omega (arith, c.loop-at-test.true, ap length same) in
+    let chain_is : slice_get log at ≡ Some c.index-chains-at.result = slice_get_read log (length log) at c.index-chains-at.result refl inside (c.index-chains-at.is ∙ ap (λ xs. get_or xs at c.index-chains-at.result) same) in
+    let long : HasRightLength c.args.kind c.args.conflicts log = subst (λ xs. HasRightLength c.args.kind c.args.conflicts xs) same (c.has_right_length.ensures.0 c.if-not-has_right_length.false) in
+    let own = c.in_err-end.ensures.refused refusal (search rules) in
+    refused_step c.args.kind c.args.pool.now.clauses c.args.conflicts log at c.index-chains-at.result c.loop-at.pool.clauses long c.loop-at.invariant.before chain_is (c.loop-at.invariant.alike inside) refusal own.0 own.1
+
+pub returns-in-Some-clause-refused : goal.returns-in-Some-clause-refused
+returns-in-Some-clause-refused c refusal e =
+    let clauses = c.args.pool.now.clauses in
+    let log = c.args.log.now in
+    let at = c.loop-at.at in
+    let same = c.as_slice-chains.ensures in
+    let inside : at < length log = omega (arith, c.loop-at-test.true, ap length same) in
+    let chain = c.index-chains-at.result in
+    let chain_is : slice_get log at ≡ Some chain = slice_get_read log (length log) at chain refl inside (c.index-chains-at.is ∙ ap (λ xs. get_or xs at chain) same) in
+    let long : HasRightLength c.args.kind c.args.conflicts log = subst (λ xs. HasRightLength c.args.kind c.args.conflicts xs) same (c.has_right_length.ensures.0 c.if-not-has_right_length.false) in
+    let b = c.loop-at.invariant.before in
+    let pool = c.loop-at.pool.clauses in
+    let are = c.loop-at.invariant.alike inside in
+    let literals = c.in_ok-end.end.literals in
+    let ends = c.in_ok-end.ensures.ended in
+    let rule : IsRuleFor c.args.kind (is_last log at) pool chain literals c.in_ok-rule.field-0 =
+    subst (λ (xs : List ChainView). IsRuleFor c.args.kind (at + 1 == length xs) pool chain literals c.in_ok-rule.field-0) same c.in_ok-rule.ensures in
+    let some = subst (IsRuleFor c.args.kind (is_last log at) pool chain literals) c.in-Some.is rule in
+    let is : record { kind = c.in-Some.rule; step = at } ≡ refusal =
+    (let w : ◌≡◌ {A = Result (Unit {0}) CheckFault} (Err (Refused (record { kind = c.in-Some.rule; step = at }))) (Err (Refused refusal)) = sym (ap Err c.refused-in-Some.ensures) ∙ e in cc) in
+    refused_end c.args.kind clauses c.args.conflicts log at chain pool long b chain_is are literals ends refusal c.in-Some.rule some.0 some.1 (sym is)
+
+pub loop-at-preserved : goal.loop-at-preserved
+loop-at-preserved c =
+    let clauses = c.args.pool.now.clauses in
+    let log = c.args.log.now in
+    let at = c.loop-at.at in
+    let same = c.as_slice-chains.ensures in
+    let inside : at < length log = omega (arith, c.loop-at-test.true, ap length same) in
+    let chain = c.index-chains-at.result in
+    let chain_is : slice_get log at ≡ Some chain = slice_get_read log (length log) at chain refl inside (c.index-chains-at.is ∙ ap (λ xs. get_or xs at chain) same) in
+    let long : HasRightLength c.args.kind c.args.conflicts log = subst (λ xs. HasRightLength c.args.kind c.args.conflicts xs) same (c.has_right_length.ensures.0 c.if-not-has_right_length.false) in
+    let b = c.loop-at.invariant.before in
+    let pool = c.loop-at.pool.clauses in
+    let are = c.loop-at.invariant.alike inside in
+    let literals = c.in_ok-end.end.literals in
+    let ends = c.in_ok-end.ensures.ended in
+    let rule : IsRuleFor c.args.kind (is_last log at) pool chain literals c.in_ok-rule.field-0 =
+    subst (λ (xs : List ChainView). IsRuleFor c.args.kind (at + 1 == length xs) pool chain literals c.in_ok-rule.field-0) same c.in_ok-rule.ensures in
+    let right = subst (IsRuleFor c.args.kind (is_last log at) pool chain literals) c.in_default.is rule in
+    let next = right_step c.args.kind clauses c.args.conflicts log at chain pool long b chain_is are literals ends right in
+    elim c.if-not-last.branch [
+      | then-not-last+in_ok-add w ↦
+          let added : c.if-not-last.pool.clauses ≡ pool ++ literals ∷ [] = ap (λ (p : Clauses). p.clauses) w.pool-is ∙ (w.in_ok-add.ensures.ok ∙ ap (λ (l : Clause). pool ++ l ∷ []) w.as_slice.ensures) in
+          let bound = end_within c.greatest_variable-variables.result pool chain literals c.loop-at.invariant.within ends in
+          let (more, is) = c.loop-at.invariant.begins in
+          record {
+            before = next;
+            begins = (more ++ literals ∷ [], added ∙ (ap (λ cs. cs ++ literals ∷ []) is ∙ append_assoc clauses more (literals ∷ [])));
+            alike = λ _. subst (AreAlike (clauses ++ next.ends)) (sym added) (alike_next c.args.kind clauses c.args.conflicts log at chain pool long b chain_is are literals ends right);
+            within = subst (All (AreUpTo c.greatest_variable-variables.result)) (sym added)
+                (All-append (AreUpTo c.greatest_variable-variables.result) pool (literals ∷ []) c.loop-at.invariant.within
+                (All-cons (AreUpTo c.greatest_variable-variables.result) literals [] bound (All-nil (AreUpTo c.greatest_variable-variables.result))));
+            few = omega (arith, ap length added, length-append pool (literals ∷ []), c.loop-at.invariant.few);
+          }
+      | else-not-last w ↦
+          let kept : c.if-not-last.pool.clauses ≡ pool = ap (λ (p : Clauses). p.clauses) w.pool-is in
+          let last : at + 1 ≡ length c.as_slice-chains.result.now = w.if-not-last.false in
+          let (more, is) = c.loop-at.invariant.begins in
+          record {
+            before = next;
+            begins = (more, kept ∙ is);
+            alike = λ h. absurd (omega (arith, h, last, ap length same));
+            within = subst (All (AreUpTo c.greatest_variable-variables.result)) (sym kept) c.loop-at.invariant.within;
+            few = omega (arith, ap length kept, c.loop-at.invariant.few);
+          }
+    ]
+
+pub returns-clause-right : goal.returns-clause-right
+returns-clause-right c =
+    let log = c.args.log.now in
+    let same = c.as_slice-chains.ensures in
+    let long : HasRightLength c.args.kind c.args.conflicts log = subst (λ xs. HasRightLength c.args.kind c.args.conflicts xs) same (c.has_right_length.ensures.0 c.if-not-has_right_length.false) in
+    let all : c.loop-at.at ≡ length log = omega (arith, c.loop-at-test.false, c.loop-at.auto.at-end, ap length same) in
+    right_log c.args.kind c.args.pool.now.clauses c.args.conflicts log long (subst (AreRightBefore c.args.kind c.args.pool.now.clauses log) all c.loop-at.invariant.before)

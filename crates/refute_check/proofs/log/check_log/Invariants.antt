@@ -1,0 +1,14 @@
+use Rattle.std.proofs.Common.{◌<◌, ◌≤◌, ◌+◌, ◌++◌, length}
+use Rattle.std.specs.Prelude.{All}
+use Rattle.refute_check.specs.LogRefusal.{AreRightBefore, AreUpTo, BeginsWith}
+use Rattle.refute_check.proofs.Alike.{AreAlike}
+use Rattle.refute_check.proofs.log.check_log.Given as goal
+
+abbrev pub invariant-loop-at : goal.invariant-loop-at
+invariant-loop-at l = record {
+  before : AreRightBefore l.kind l.initial.pool.clauses l.log l.at;
+  begins : BeginsWith l.pool.clauses l.initial.pool.clauses;
+  alike : l.at < length l.log → AreAlike (l.initial.pool.clauses ++ before.ends) l.pool.clauses;
+  within : All (AreUpTo l.variables) l.pool.clauses;
+  few : length l.pool.clauses ≤ length l.initial.pool.clauses + l.at;
+}

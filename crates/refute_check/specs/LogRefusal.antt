@@ -1,0 +1,99 @@
+-- How a log that isn't right is refused: for its number of chains, else at its first wrong chain.
+use Rattle.std.specs.Prelude.{◌≡◌, ◌≢◌, ◌<◌, ◌≤◌, ◌+◌, ℕ, Bool, List, [], ◌∷◌, ◌++◌, length, take, None, Some, slice_get, ◌==◌, ⊤, true, false, All, Option, MatchOption}
+use Rattle.std.specs.Bool.{MatchBool}
+use Rattle.clause_pool.specs.Literal.{Literal}
+use Rattle.clause_pool.specs.Clauses.{Clause, numbered_clause}
+use Rattle.pair_miter.specs.ChainView.{ChainView}
+use Rattle.pair_miter.specs.Resolution.{can_resolve, chain_end, log_ends}
+use Rattle.pair_miter.specs.Log.{IsRefutation, IsSpentLog, EndsFresh}
+use Rattle.refute_check.specs.ClauseView.{SameLiterals}
+use Rattle.refute_check.specs.declared.refusal.EvidenceKind.{EvidenceKind}
+use Rattle.refute_check.specs.declared.refusal.EvidenceKind.TheVariants.{Covered, Refuted, Spent}
+use Rattle.refute_check.specs.declared.refusal.Refusal.{Refusal}
+use Rattle.refute_check.specs.declared.refusal.RefusalKind.{RefusalKind}
+use Rattle.refute_check.specs.declared.refusal.RefusalKind.TheVariants.{NoSuchClause, NoPivot, NotEmpty, EmptyEarly, NotFresh, WrongCount}
+
+-- The log is what this kind of evidence needs; a covering tree needs none.
+abbrev pub IsRightLog : EvidenceKind → List Clause → ℕ → List ChainView → Type 0
+IsRightLog Covered clauses limit log = ⊤
+IsRightLog Refuted clauses limit log = IsRefutation clauses limit log
+IsRightLog Spent clauses limit log = IsSpentLog clauses limit log
+
+-- ---- a chain that can't be followed
+
+-- the chain with its first steps alone
+abbrev pub chain_before : ℕ → ChainView → ChainView
+chain_before at chain = record chain { steps = take at chain.steps }
+
+-- The chain stops so, at the first thing that can't be done: a number without a clause, or a pivot at which the clauses can't be resolved.
+pub data ChainStops (clauses : List Clause) (chain : ChainView) (kind : RefusalKind) : Type 0 where
+  no_start : numbered_clause clauses chain.start ≡ None → kind ≡ NoSuchClause → ChainStops clauses chain kind
+  no_clause : (at : ℕ) (step : Literal × ℕ) (clause : Clause) → chain_end clauses (chain_before at chain) ≡ Some clause → slice_get chain.steps at ≡ Some step → numbered_clause clauses step.1 ≡ None → kind ≡ NoSuchClause → ChainStops clauses chain kind
+  no_pivot : (at : ℕ) (step : Literal × ℕ) (clause other : Clause) → chain_end clauses (chain_before at chain) ≡ Some clause → slice_get chain.steps at ≡ Some step → numbered_clause clauses step.1 ≡ Some other → can_resolve step.0 clause other ≡ false → kind ≡ NoPivot → ChainStops clauses chain kind
+
+-- The chain ends in a clause with these literals.
+abbrev pub EndsAs : List Clause → ChainView → List Literal → Type 0
+EndsAs clauses chain literals = (end : Clause) × (chain_end clauses chain ≡ Some end) × SameLiterals literals end
+
+-- ---- the chains in order
+
+-- The end of a chain is what the kind asks at its place; the flag says that it is the last chain.
+abbrev pub IsRightEnd : EvidenceKind → Bool → List Clause → ChainView → Clause → Type 0
+IsRightEnd Covered last clauses chain end = ⊤
+IsRightEnd Refuted last clauses chain end = MatchBool last (end ≡ []) (end ≢ [])
+IsRightEnd Spent last clauses chain end = EndsFresh clauses chain end
+
+-- the rule that a wrong end breaks
+abbrev pub end_refusal : EvidenceKind → Bool → Clause → RefusalKind
+end_refusal Spent last [] = EmptyEarly
+end_refusal Spent last (l ∷ ls) = NotFresh
+end_refusal _ true end = NotEmpty
+end_refusal _ false end = EmptyEarly
+
+-- The log has as many chains as its kind may have.
+abbrev pub HasRightLength : EvidenceKind → ℕ → List ChainView → Type 0
+HasRightLength Covered limit log = ⊤
+HasRightLength Refuted limit log = (0 < length log) × (length log ≤ limit + 1)
+HasRightLength Spent limit log = length log ≡ limit
+
+abbrev pub is_last : List ChainView → ℕ → Bool
+is_last log at = at + 1 == length log
+
+-- The rule is the one that the end breaks, or there is none where the end is right.
+abbrev pub IsRuleFor : EvidenceKind → Bool → List Clause → ChainView → Clause → Option RefusalKind → Type 0
+IsRuleFor kind last clauses chain end rule = MatchOption rule (IsRightEnd kind last clauses chain end) (λ rule. (¬ IsRightEnd kind last clauses chain end) × (rule ≡ end_refusal kind last end))
+
+-- The variables of a clause are at most this one.
+abbrev pub AreUpTo : ℕ → Clause → Type 0
+AreUpTo variable clause = All (λ (l : Literal). l.variable ≤ variable) clause
+
+-- The clauses begin with these.
+abbrev pub BeginsWith : List Clause → List Clause → Type 0
+BeginsWith clauses first = (more : List Clause) × (clauses ≡ first ++ more)
+
+-- The chains before a place are right.
+pub record AreRightBefore (kind : EvidenceKind) (clauses : List Clause) (log : List ChainView) (at : ℕ) : Type 0 where
+  pub ends : List Clause
+  pub are : log_ends clauses (take at log) ≡ Some ends
+  pub each : (k : ℕ) (chain : ChainView) (end : Clause) → slice_get log k ≡ Some chain → slice_get ends k ≡ Some end → IsRightEnd kind (is_last log k) (clauses ++ take k ends) chain end
+
+-- A chain stops, all before it being right.
+pub record StopsAt (kind : EvidenceKind) (clauses : List Clause) (log : List ChainView) (at : ℕ) (refusal : RefusalKind) : Type 0 where
+  pub before : AreRightBefore kind clauses log at
+  pub chain : ChainView
+  pub chain_is : slice_get log at ≡ Some chain
+  pub stops : ChainStops (clauses ++ before.ends) chain refusal
+
+-- A chain has a wrong end, all before it being right.
+pub record EndsWrong (kind : EvidenceKind) (clauses : List Clause) (log : List ChainView) (at : ℕ) (end : Clause) : Type 0 where
+  pub before : AreRightBefore kind clauses log at
+  pub chain : ChainView
+  pub chain_is : slice_get log at ≡ Some chain
+  pub end_is : chain_end (clauses ++ before.ends) chain ≡ Some end
+  pub wrong : ¬ IsRightEnd kind (is_last log at) (clauses ++ before.ends) chain end
+
+-- The log is refused so.
+pub data LogRefused (kind : EvidenceKind) (clauses : List Clause) (limit : ℕ) (log : List ChainView) (refusal : Refusal) : Type 0 where
+  wrong_count : ¬ HasRightLength kind limit log → refusal ≡ record { kind = WrongCount; step = length log } → LogRefused kind clauses limit log refusal
+  at_step : (at : ℕ) (rule : RefusalKind) → HasRightLength kind limit log → StopsAt kind clauses log at rule → refusal ≡ record { kind = rule; step = at } → LogRefused kind clauses limit log refusal
+  at_end : (at : ℕ) (end : Clause) → HasRightLength kind limit log → EndsWrong kind clauses log at end → refusal ≡ record { kind = end_refusal kind (is_last log at) end; step = at } → LogRefused kind clauses limit log refusal

@@ -1,0 +1,52 @@
+-- A walk through a tree: where it stands, and which cubes still wait.
+use Rattle.std.specs.Prelude.{◌≡◌, ℕ, ◌≤◌, true, false, List, [], ◌∷◌, reverse, Option, None, Some, slice_get, Contains, if◌then◌else◌}
+use Rattle.net_model.specs.Circuit.{IsCircuit}
+use Rattle.fault_list.specs.Scope.{IsScopeOf}
+use Rattle.pair_sets.specs.declared.tree.Token.{Token}
+use Rattle.pair_sets.specs.declared.tree.Token.TheVariants.{Rest}
+use Rattle.pair_sets.specs.Cube.{Cube, FixesOnce}
+use Rattle.pair_sets.specs.PairSim.{with_cube}
+use Rattle.pair_sets.specs.Tree.{IsRightAt, closed_count}
+use Rattle.refute_check.specs.declared.refusal.EvidenceKind.{EvidenceKind}
+use Rattle.refute_check.specs.declared.refusal.EvidenceKind.TheVariants.{Covered, Refuted, Spent}
+use Rattle.refute_check.specs.declared.refusal.RefusalKind.{RefusalKind}
+use Rattle.refute_check.specs.declared.tree.Walk.{Walk}
+use Rattle.refute_check.specs.TreeRefusal.{token_refusal}
+
+-- the second halves of the splits of which a cube is in the first half
+abbrev pub second_halves : Cube → List Cube
+second_halves [] = []
+second_halves (fixed ∷ cube) = if fixed.1 then second_halves cube else ((fixed.0, true) ∷ cube) ∷ second_halves cube
+
+-- the cube of a walk's path, and the second halves that wait; none once the tree is whole
+abbrev pub waiting_in : Walk → List Cube
+waiting_in walk = if walk.whole then [] else reverse walk.path.items ∷ second_halves (reverse walk.path.items)
+
+-- A walk's parts belong together.
+pub record IsWalk (walk : Walk) : Type 0 where
+  pub circuit : IsCircuit walk.sim.circuit
+  pub stands : walk.sim.cube ≡ reverse walk.path.items
+  pub once : FixesOnce walk.sim.circuit.sources walk.sim.cube
+  pub scope : IsScopeOf walk.sim.circuit walk.sim.f walk.sim.g walk.scope
+  pub sources : walk.sources ≡ walk.sim.circuit.sources
+
+-- A token is right for a walk that isn't at its end.
+abbrev pub IsRightIn : Walk → Token → Type 0
+IsRightIn walk token = (walk.whole ≡ false) × IsRightAt walk.sim.circuit walk.sim.f walk.sim.g token walk.sim.cube
+
+-- Which rule a token breaks in a walk, if it isn't right.
+abbrev pub IsVerdict : Walk → Token → Option RefusalKind → Type 0
+IsVerdict walk token None = IsRightIn walk token
+IsVerdict walk token (Some kind) = (kind ≡ token_refusal (slice_get (waiting_in walk) 0) token) × ¬ IsRightIn walk token
+
+-- A walk of the same faults has gone on, and these cubes wait.
+pub record GoesOn (old new : Walk) (cubes : List Cube) : Type 0 where
+  pub walk : IsWalk new
+  pub same : new.sim ≡ with_cube old.sim new.sim.cube
+  pub waiting : waiting_in new ≡ cubes
+
+-- There are as many closed leaves, and open ones, as a kind of evidence needs.
+abbrev pub AreRightCounts : EvidenceKind → ℕ → List Token → Type 0
+AreRightCounts Covered limit tokens = (¬ Contains tokens Rest) × (closed_count tokens ≤ limit)
+AreRightCounts Refuted limit tokens = Contains tokens Rest × (closed_count tokens ≡ limit)
+AreRightCounts Spent limit tokens = Contains tokens Rest × (closed_count tokens ≡ limit)

@@ -1,0 +1,44 @@
+//! The end of a chain of resolutions.
+
+ghost use Rattle.std.specs.Prelude.{◌≡◌, None, Some, IfOk, IsErrOf, MatchOption};
+ghost use Rattle.clause_pool.specs.Clauses.{numbered_clause};
+ghost use Rattle.refute_check.specs.declared.refusal.RefusalKind.{RefusalKind};
+ghost use Rattle.refute_check.specs.LogRefusal.{ChainStops, EndsAs};
+
+use crate::clause::{Clause, resolve};
+use crate::refusal::ChainFault;
+use clause_pool::{Lit, Pool};
+use pair_miter::Chain;
+use std::alloc::Global;
+
+/// The last clause of a chain over the clauses of a pool, as a set. Where a clause isn't there, or can't be resolved with,
+/// the first such step is answered: of one step the number of its clause is tried before its pivot.
+pub fn run_chain(alloc: Global, pool: &Pool, chain: &Chain) -> Result<Clause, ChainFault>
+    ensures ended { IfOk result (λ clause. EndsAs pool.now.clauses chain.now clause.literals) }
+    ensures no_clause { IsErrOf result ChainFault.NoSuchClause → ChainStops pool.now.clauses chain.now RefusalKind.NoSuchClause }
+    ensures no_pivot { IsErrOf result ChainFault.NoPivot → ChainStops pool.now.clauses chain.now RefusalKind.NoPivot }
+{
+    let Some(start) = named(pool, chain.start()) else {
+        return Err(ChainFault::NoSuchClause);
+    };
+    let mut clause = Clause::with_room(alloc, start.len())?;
+    clause.load(start);
+    for (pivot, number) in chain.steps() {
+        let Some(other) = named(pool, *number) else {
+            return Err(ChainFault::NoSuchClause);
+        };
+        clause.make_room(other.len())?;
+        resolve(&mut clause, *pivot, other)?;
+    }
+    Ok(clause)
+}
+
+// The clause of a number, where there is one.
+fn named<'a>(pool: &'a Pool, number: u32) -> Option<&'a [Lit]>
+    ensures { MatchOption result (numbered_clause pool.now.clauses number ≡ None) (λ clause. numbered_clause pool.now.clauses number ≡ Some clause.now) }
+{
+    if number == 0 || pool.len() < number {
+        return None;
+    }
+    Some(pool.get(number))
+}

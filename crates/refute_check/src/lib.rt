@@ -1,0 +1,21 @@
+//! The checker of evidence: trees of cubes, and logs of resolutions. It uses nothing of the search or of a solver.
+#![tactic(auto)]
+
+mod assignment;
+mod chain;
+mod clause;
+mod freshness;
+mod laws;
+mod log;
+mod refusal;
+#[cfg(test)]
+mod tests;
+mod tree;
+
+pub use chain::run_chain;
+pub use clause::{Clause, resolve};
+pub use freshness::fresh;
+pub use laws::refutation_is_equal;
+pub use log::check_log;
+pub use refusal::{ChainFault, CheckFault, EvidenceKind, NoPivot, Refusal, RefusalKind};
+pub use tree::check_tree;

@@ -1,0 +1,171 @@
+//! The check of a log of resolutions.
+
+ghost use Rattle.std.specs.Prelude.{◌≡◌, ◌≢◌, ◌↔◌, ◌+◌, ◌<◌, ◌≤◌, ◌^◌, [], ◌∷◌, ◌++◌, All, IfOk, IsTrue, OnOk, OnErr, IsErrOf, length};
+ghost use Rattle.pair_miter.specs.Log.{EndsFresh};
+ghost use Rattle.pair_miter.specs.Miter as spec;
+ghost use Rattle.refute_check.specs.declared.refusal.Refusal.{Refusal};
+ghost use Rattle.refute_check.specs.declared.refusal.EvidenceKind.{EvidenceKind};
+ghost use Rattle.refute_check.specs.LogRefusal.{AreUpTo, BeginsWith, ChainStops, EndsAs, HasRightLength, IsRightLog, IsRuleFor, LogRefused};
+
+use crate::chain::run_chain;
+use crate::clause::Clause;
+use crate::freshness::fresh;
+use crate::refusal::{ChainFault, CheckFault, EvidenceKind, RefusalKind, refused};
+use clause_pool::{Lit, Pool};
+use pair_miter::{Chain, Log, Miter};
+use std::alloc::{AllocError, Global};
+
+/// Checks the log of evidence over the clauses of a miter, with a budget of so many clauses that aren't empty. It is accepted
+/// exactly where it is what this kind of evidence needs; else its number of chains is answered, or the first chain that
+/// breaks a rule. The ends of its chains are added to the pool.
+pub fn check_log(
+    alloc: Global,
+    miter: &Miter,
+    pool: &mut Pool,
+    log: &Log,
+    kind: EvidenceKind,
+    conflicts: u32,
+) -> Result<(), CheckFault>
+    requires kind { kind ≢ EvidenceKind.Covered }
+    requires clauses { pool.old.clauses ≡ spec.miter miter.now.circuit miter.now.f miter.now.g }
+    requires few { length pool.old.clauses + conflicts < 2 ^ 32 }
+    ensures right { OnOk result (IsRightLog kind pool.old.clauses conflicts log.now) }
+    ensures refused { (refusal : Refusal) → IsErrOf result (CheckFault.Refused refusal) → LogRefused kind pool.old.clauses conflicts log.now refusal }
+    ensures begins { BeginsWith pool.new.clauses pool.old.clauses }
+{
+    let chains = log.as_slice();
+    if !has_right_length(kind, chains, conflicts) {
+        return Err(refused(RefusalKind::WrongCount, chains.len()));
+    }
+    let variables = greatest_variable(pool);
+    for (at, chain) in chains.iter().enumerate() {
+        let end = end_of(alloc, pool, chain, at)?;
+        let last = at + 1 == chains.len();
+        if let Some(rule) = wrong_end(alloc, pool, variables, chain, &end, kind, last)? {
+            return Err(refused(rule, at));
+        }
+        if !last {
+            add(pool, end.as_slice())?;
+        }
+    }
+    Ok(())
+}
+
+// Whether the log may have so many chains.
+fn has_right_length(kind: EvidenceKind, chains: &[Chain], conflicts: u32) -> bool
+    ensures { IsTrue result ↔ HasRightLength kind conflicts chains.now }
+{
+    match kind {
+        EvidenceKind::Covered => true,
+        EvidenceKind::Refuted => !chains.is_empty() && chains.len() <= conflicts as usize + 1,
+        EvidenceKind::Spent => chains.len() == conflicts as usize,
+    }
+}
+
+// The greatest variable of the clauses, 0 where there is none.
+fn greatest_variable(pool: &Pool) -> u32
+    ensures { All (AreUpTo result) pool.now.clauses }
+{
+    let mut greatest = 0;
+    for number in 1..=pool.len() {
+        greatest = with_variables(greatest, pool.get(number));
+    }
+    greatest
+}
+
+// The greatest of a number and the variables of a clause.
+fn with_variables(least: u32, clause: &[Lit]) -> u32
+    ensures least { least ≤ result }
+    ensures clause { AreUpTo result clause.now }
+{
+    let mut greatest = least;
+    for lit in clause {
+        greatest = greatest.max(lit.variable());
+    }
+    greatest
+}
+
+// The end of the chain at a place of the log.
+fn end_of(alloc: Global, pool: &Pool, chain: &Chain, at: usize) -> Result<Clause, CheckFault>
+    ensures ended { IfOk result (λ end. EndsAs pool.now.clauses chain.now end.literals) }
+    ensures refused { (refusal : Refusal) → IsErrOf result (CheckFault.Refused refusal) → (refusal.step ≡ at) × ChainStops pool.now.clauses chain.now refusal.kind }
+{
+    match run_chain(alloc, pool, chain) {
+        Ok(end) => Ok(end),
+        Err(ChainFault::NoSuchClause) => Err(refused(RefusalKind::NoSuchClause, at)),
+        Err(ChainFault::NoPivot) => Err(refused(RefusalKind::NoPivot, at)),
+        Err(ChainFault::NoMemory) => Err(CheckFault::NoMemory),
+    }
+}
+
+// The rule that the end of a chain breaks, if it breaks one.
+fn wrong_end(
+    alloc: Global,
+    pool: &Pool,
+    variables: u32,
+    chain: &Chain,
+    end: &Clause,
+    kind: EvidenceKind,
+    last: bool,
+) -> Result<Option<RefusalKind>, AllocError>
+    requires kind { kind ≢ EvidenceKind.Covered }
+    requires clauses { All (AreUpTo variables) pool.now.clauses }
+    requires end { AreUpTo variables end.now.literals }
+    ensures { IfOk result (IsRuleFor kind last pool.now.clauses chain.now end.now.literals) }
+{
+    let literals = end.as_slice();
+    if kind == EvidenceKind::Spent {
+        if literals.is_empty() {
+            return Ok(Some(RefusalKind::EmptyEarly));
+        }
+        let fresh = ends_fresh(alloc, pool, variables, chain, literals)?;
+        return Ok(if fresh {
+            None
+        } else {
+            Some(RefusalKind::NotFresh)
+        });
+    }
+    if literals.is_empty() == last {
+        return Ok(None);
+    }
+    Ok(Some(if last {
+        RefusalKind::NotEmpty
+    } else {
+        RefusalKind::EmptyEarly
+    }))
+}
+
+// Whether the end of a chain is fresh at the chain's literal.
+fn ends_fresh(
+    alloc: Global,
+    pool: &Pool,
+    variables: u32,
+    chain: &Chain,
+    end: &[Lit],
+) -> Result<bool, AllocError>
+    requires clauses { All (AreUpTo variables) pool.now.clauses }
+    requires end { AreUpTo variables end.now }
+    ensures { IfOk result (λ fresh. IsTrue fresh ↔ EndsFresh pool.now.clauses chain.now end.now) }
+{
+    let Some(at) = chain.at() else {
+        return Ok(false);
+    };
+    if !end.contains(&at) {
+        return Ok(false);
+    }
+    fresh(alloc, pool, variables, end, at)
+}
+
+// Adds a clause to the pool, which grows where it has no room.
+fn add(pool: &mut Pool, clause: &[Lit]) -> Result<(), AllocError>
+    requires { length pool.old.clauses + 1 < 2 ^ 32 }
+    ensures ok { OnOk result (pool.new.clauses ≡ pool.old.clauses ++ clause.now ∷ []) }
+    ensures err { OnErr result (pool.new.clauses ≡ pool.old.clauses) }
+{
+    if pool.spare_clauses() == 0 || pool.spare_literals() < clause.len() {
+        pool.grow(1, clause.len())?;
+    }
+    let pushed = pool.push(clause);
+    prove!(pushed.is_ok());
+    Ok(())
+}

@@ -1,0 +1,184 @@
+//! The check of a tree of cubes.
+
+ghost use Rattle.std.specs.Prelude.{◌≡◌, ◌==◌, ◌↔◌, IsTrue, IsErrOf, OnOk, false};
+ghost use Rattle.std.specs.List.{list_any};
+ghost use Rattle.net_model.specs.Fault.{IsFaultOf};
+ghost use Rattle.pair_sets.specs.declared.state.PairState.TheVariants.{Undecided};
+ghost use Rattle.pair_sets.specs.declared.tree.Token.TheVariants.{Split};
+ghost use Rattle.pair_sets.specs.CubeState.{IsState};
+ghost use Rattle.pair_sets.specs.Tree.{IsRightAt, after_token, closed_count};
+ghost use Rattle.refute_check.specs.declared.refusal.Refusal.{Refusal};
+ghost use Rattle.refute_check.specs.TreeRefusal.{IsRightTree, TreeRefused};
+ghost use Rattle.refute_check.specs.Walk.{IsWalk, IsRightIn, IsVerdict, GoesOn, AreRightCounts, waiting_in, second_halves};
+
+use crate::refusal::{CheckFault, EvidenceKind, RefusalKind, refused};
+use fault_list::Scope;
+use net_model::{Circuit, Fault};
+use pair_sets::{PairSim, PairState, Token, Tree};
+use std::alloc::{AllocError, Global};
+
+/// Checks the tree of evidence about two faults, with a budget of so many closed leaves. It is accepted exactly where it is
+/// what this kind of evidence needs; else the first token that breaks a rule is answered, or that the tree isn't whole, or
+/// that the counts are wrong.
+pub fn check_tree(
+    alloc: Global,
+    circuit: &Circuit,
+    f: &Fault,
+    g: &Fault,
+    tree: &Tree,
+    kind: EvidenceKind,
+    cubes: u32,
+) -> Result<(), CheckFault>
+    requires first { IsFaultOf circuit.now f.now }
+    requires second { IsFaultOf circuit.now g.now }
+    ensures right { OnOk result (IsRightTree circuit.now f.now g.now kind cubes tree.now) }
+    ensures refused { (refusal : Refusal) → IsErrOf result (CheckFault.Refused refusal) → TreeRefused circuit.now f.now g.now kind cubes tree.now refusal }
+{
+    let mut walk = Walk {
+        sim: PairSim::new(alloc, circuit, f, g)?,
+        scope: Scope::of(alloc, circuit, f, g)?,
+        path: Vec::new(alloc),
+        sources: circuit.sources(),
+        whole: false,
+    };
+    let tokens = tree.as_slice();
+    for (step, token) in tokens.iter().enumerate() {
+        if let Some(kind) = walk.wrong(*token) {
+            return Err(refused(kind, step));
+        }
+        walk.go_on(*token)?;
+    }
+    if !walk.whole {
+        return Err(refused(RefusalKind::BadTree, tokens.len()));
+    }
+    if !has_right_counts(tokens, kind, cubes) {
+        return Err(refused(RefusalKind::WrongCount, tokens.len()));
+    }
+    Ok(())
+}
+
+// A cube on the way through a tree: the splits above it with their bits, the last one last. Once the tree is whole there is
+// none.
+#[derive(Drop)]
+struct Walk<'a> {
+    sim: PairSim<'a>,
+    scope: Scope,
+    path: Vec<(u32, bool)>,
+    sources: u32,
+    whole: bool,
+}
+
+impl<'a> Walk<'a> {
+    // The rule that a token breaks at the cube, if it breaks one.
+    fn wrong(&self, token: Token) -> Option<RefusalKind>
+        requires { IsWalk self.now }
+        ensures { IsVerdict self.now token result }
+    {
+        if self.whole {
+            return Some(RefusalKind::BadTree);
+        }
+        match token {
+            Token::Split(source) => {
+                if self.can_split(source) {
+                    None
+                } else {
+                    Some(RefusalKind::BadTree)
+                }
+            }
+            Token::Closed => match self.sim.state() {
+                PairState::AllSame => None,
+                _ => Some(RefusalKind::LeafOpen),
+            },
+            Token::Rest => None,
+        }
+    }
+
+    // Whether a source can be split at the cube.
+    fn can_split(&self, source: u32) -> bool
+        requires { IsWalk self.now }
+        ensures { IsTrue result ↔ IsRightAt self.now.sim.circuit self.now.sim.f self.now.sim.g (Split source) self.now.sim.cube }
+    {
+        source < self.sources
+            && self.scope.relevant(source)
+            && !is_on_path(self.path.as_slice(), source)
+            && self.is_undecided()
+    }
+
+    // Whether the cube is undecided.
+    fn is_undecided(&self) -> bool
+        requires { IsWalk self.now }
+        ensures { IsTrue result ↔ IsState self.now.sim.circuit self.now.sim.f self.now.sim.g self.now.sim.cube Undecided }
+    {
+        matches!(self.sim.state(), PairState::Undecided)
+    }
+
+    // Goes on to the cube of the next token.
+    fn go_on(&mut self, token: Token) -> Result<(), AllocError>
+        requires walk { IsWalk self.old }
+        requires right { IsRightIn self.old token }
+        ensures { OnOk result (GoesOn self.old self.new (after_token (waiting_in self.old) token)) }
+    {
+        match token {
+            Token::Split(source) => self.go_down(source),
+            Token::Closed | Token::Rest => self.go_up(),
+        }
+    }
+
+    // Goes down to the first half of the cube.
+    fn go_down(&mut self, source: u32) -> Result<(), AllocError>
+        requires walk { IsWalk self.old }
+        requires right { IsRightIn self.old (Split source) }
+        ensures { OnOk result (GoesOn self.old self.new (after_token (waiting_in self.old) (Split source))) }
+    {
+        self.path.push((source, false))?;
+        self.sim.assign(source, false);
+        Ok(())
+    }
+
+    // Goes up to the last split of whose second half nothing is read, and to that half. If there is none the tree is whole.
+    fn go_up(&mut self) -> Result<(), AllocError>
+        requires walk { IsWalk self.old }
+        requires inside { self.old.whole ≡ false }
+        ensures { OnOk result (GoesOn self.old self.new (second_halves self.old.sim.cube)) }
+    {
+        while let Some((source, bit)) = self.path.pop() {
+            self.sim.undo();
+            if !bit {
+                self.path.push((source, true))?;
+                self.sim.assign(source, true);
+                return Ok(());
+            }
+        }
+        self.whole = true;
+        Ok(())
+    }
+}
+
+// Whether a path has a split of a source.
+fn is_on_path(path: &[(u32, bool)], source: u32) -> bool
+    ensures { result ≡ list_any (λ half. half.0 == source) path.now }
+{
+    path.iter().any(|half| half.0 == source)
+}
+
+// Whether the tree has as many closed leaves, and open ones, as this kind of evidence needs.
+fn has_right_counts(tokens: &[Token], kind: EvidenceKind, cubes: u32) -> bool
+    ensures { IsTrue result ↔ AreRightCounts kind cubes tokens.now }
+{
+    let closed = closed_leaves(tokens);
+    let has_open = tokens.contains(&Token::Rest);
+    match kind {
+        EvidenceKind::Covered => !has_open && closed <= cubes as usize,
+        EvidenceKind::Refuted | EvidenceKind::Spent => has_open && closed == cubes as usize,
+    }
+}
+
+// How many closed leaves a tree has.
+fn closed_leaves(tokens: &[Token]) -> usize
+    ensures { result ≡ closed_count tokens.now }
+{
+    tokens
+        .iter()
+        .filter(|token| **token == Token::Closed)
+        .count()
+}
