@@ -22,3 +22,4 @@ pub mod MarkSteps
 pub mod AddSteps
 pub mod OperandSteps
 pub mod Families
+pub mod Within

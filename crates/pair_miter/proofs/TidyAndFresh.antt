@@ -1,9 +1,6 @@
 -- Laws of tidying and of freshness.
-use Rattle.std.proofs.Common.{◌≡◌, ◌≢◌, ◌⊎◌, refl, sym, ◌∙◌, ap, subst, inl, inr, eqb-true, eq-eqb, ◌-◌}
-use Rattle.std.specs.Prelude.{Bool, true, false, not, List, [], ◌∷◌, map, filter, cond, ◌||◌, ◌&&◌, ◌==◌, Contains, if◌then◌else◌}
-use Rattle.std.specs.Bool.{beq}
-use Rattle.std.specs.Cmp.{booleans_Decides}
-use Rattle.std.proofs.lemmas.Bool.{and_parts}
+use Rattle.std.proofs.Common.{◌≡◌, ◌≢◌, ◌⊎◌, refl, sym, ◌∙◌, ap, subst, inl, inr, ◌-◌}
+use Rattle.std.specs.Prelude.{Bool, true, false, not, List, [], ◌∷◌, map, filter, cond, ◌||◌, ◌&&◌, Contains, if◌then◌else◌}
 use Rattle.clause_pool.specs.Literal.{Literal, opposite, same_literal}
 use Rattle.clause_pool.specs.Clauses.{Clause}
 use Rattle.clause_pool.specs.Partial.{IsQuiet}

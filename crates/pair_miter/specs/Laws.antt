@@ -1,5 +1,5 @@
 -- Laws of tidying, of freshness and of the miter.
-use Rattle.std.specs.Prelude.{◌≡◌, ◌<◌, ◌^◌, Bool, true, List, Contains, length}
+use Rattle.std.specs.Prelude.{◌≡◌, ◌<◌, ◌^◌, Bool, true, List, Contains, length, ℕ, All}
 use Rattle.net_model.specs.declared.fault.Fault.{Fault}
 use Rattle.net_model.specs.Circuit.{Circuit, IsCircuit}
 use Rattle.net_model.specs.Fault.{IsFaultOf}
@@ -9,6 +9,7 @@ use Rattle.clause_pool.specs.Clauses.{Clause}
 use Rattle.pair_miter.specs.Variables.{variable_count}
 use Rattle.pair_miter.specs.Miter.{tidy, miter, is_model, vector_of}
 use Rattle.pair_miter.specs.Fresh.{IsFresh}
+use Rattle.pair_miter.specs.Marks.{IsVariable}
 
 -- an assignment satisfies clauses exactly where it satisfies them tidied
 abbrev pub TidyKeepsModels : Type 0
@@ -18,6 +19,10 @@ TidyKeepsModels = (bits : List Bool) (clauses : List Clause) → is_model bits (
 abbrev pub SupersetIsNotFresh : Type 0
 SupersetIsNotFresh = (clauses : List Clause) (clause smaller : Clause) (at : Literal) → Contains clauses smaller
     → ((l : Literal) → Contains smaller l → Contains clause l) → ¬ IsFresh clauses clause at
+
+-- The literals of a clause have variables from 1 to this one.
+abbrev pub HaveVariables : ℕ → Clause → Type 0
+HaveVariables variables clause = All (λ (l : Literal). IsVariable variables l.variable) clause
 
 -- Some assignment of all variables satisfies the miter.
 pub record HasModel (c : Circuit) (f g : Fault) : Type 0 where

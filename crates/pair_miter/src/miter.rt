@@ -1,9 +1,10 @@
 //! The miter of a pair of faults, and the vectors of its models.
 
-ghost use Rattle.std.specs.Prelude.{◌≡◌, ◌<◌, true, length, IfOk};
+ghost use Rattle.std.specs.Prelude.{◌≡◌, ◌<◌, true, length, All, IfOk};
 ghost use Rattle.net_model.specs.Answer.{Separates};
 ghost use Rattle.net_model.specs.Circuit.{line_count};
 ghost use Rattle.net_model.specs.Scope.{is_relevant};
+ghost use Rattle.pair_miter.specs.Laws.{HaveVariables};
 ghost use Rattle.pair_miter.specs.Numbering.{copy_of};
 ghost use Rattle.pair_miter.specs.Miter.{miter, is_model, copy_bit, source_bit, vector_of};
 ghost use Rattle.pair_miter.specs.Variables.{variable_count};
@@ -34,9 +35,10 @@ impl<'a> Model for Miter<'a> {
 }
 
 impl<'a> Miter<'a> {
-    /// How many variables there are. They are numbered from 1.
+    /// How many variables there are. They are numbered from 1, and the clauses have no others.
     pub fn variables(&self) -> u32
-        ensures { result ≡ variable_count self.now.circuit self.now.f self.now.g }
+        ensures value { result ≡ variable_count self.now.circuit self.now.f self.now.g }
+        ensures within { All (HaveVariables result) (miter self.now.circuit self.now.f self.now.g) }
     {
         self.variables
     }

@@ -37,7 +37,7 @@ pub fn check_log(
     if !has_right_length(kind, chains, conflicts) {
         return Err(refused(RefusalKind::WrongCount, chains.len()));
     }
-    let variables = greatest_variable(pool);
+    let variables = miter.variables();
     for (at, chain) in chains.iter().enumerate() {
         let end = end_of(alloc, pool, chain, at)?;
         let last = at + 1 == chains.len();
@@ -60,29 +60,6 @@ fn has_right_length(kind: EvidenceKind, chains: &[Chain], conflicts: u32) -> boo
         EvidenceKind::Refuted => !chains.is_empty() && chains.len() <= conflicts as usize + 1,
         EvidenceKind::Spent => chains.len() == conflicts as usize,
     }
-}
-
-// The greatest variable of the clauses, 0 where there is none.
-fn greatest_variable(pool: &Pool) -> u32
-    ensures { All (AreUpTo result) pool.now.clauses }
-{
-    let mut greatest = 0;
-    for number in 1..=pool.len() {
-        greatest = with_variables(greatest, pool.get(number));
-    }
-    greatest
-}
-
-// The greatest of a number and the variables of a clause.
-fn with_variables(least: u32, clause: &[Lit]) -> u32
-    ensures least { least ≤ result }
-    ensures clause { AreUpTo result clause.now }
-{
-    let mut greatest = least;
-    for lit in clause {
-        greatest = greatest.max(lit.variable());
-    }
-    greatest
 }
 
 // The end of the chain at a place of the log.

@@ -68,6 +68,7 @@ invariant_of-result c =
     let adds = both_parts c.args.pool.now c.write_lines.new.pool c.write_differences.new.pool (first ++ left) first left refl c.in_ok-write_lines.ensures.ok c.in_ok-write_differences.ensures.ok in
     let all = adds.written ∙ ap (λ xs. xs ++ tidy (first ++ left)) c.requires.empty ∙ sym (miter_parts q.circuit q.f q.g) in
     record {
+      circuit = c.end.ensures.circuit;
       first = subst (λ (p : Miter). IsFaultOf p.circuit p.f) (sym c.in_ok-numbering.ensures) c.requires.first;
       second = subst (λ (p : Miter). IsFaultOf p.circuit p.g) (sym c.in_ok-numbering.ensures) c.requires.second;
       variables = omega (arith, c.end.ensures.value, c.count_helpers.ensures, c.count_reached.ensures, variables_in_all q.circuit q.f q.g);

@@ -19,12 +19,12 @@ loop-at-init c = record {
   before = before_first c.args.kind c.args.pool.now.clauses c.args.log.now;
   begins = ([], sym (append-nil c.args.pool.now.clauses));
   alike = λ _. subst (λ ends. AreAlike (c.args.pool.now.clauses ++ ends) c.args.pool.now.clauses) (sym (first_ends c.args.kind c.args.pool.now.clauses c.args.log.now)) (alike_first c.args.pool.now.clauses);
-  within = c.greatest_variable-variables.ensures;
+  within = subst (All (AreUpTo c.variables-variables.result)) (sym c.requires.clauses) (λ k d h i e l. (c.variables-variables.ensures.within k d h i e l).1);
   few = omega arith;
 }
 
 pub wrong_end-requires-clause-end : goal.wrong_end-requires-clause-end
-wrong_end-requires-clause-end c = end_within c.greatest_variable-variables.result c.loop-at.pool.clauses c.index-chains-at.result c.in_ok-end.end.literals c.loop-at.invariant.within c.in_ok-end.ensures.ended
+wrong_end-requires-clause-end c = end_within c.variables-variables.result c.loop-at.pool.clauses c.index-chains-at.result c.in_ok-end.end.literals c.loop-at.invariant.within c.in_ok-end.ensures.ended
 
 pub returns-in_err-end-clause-refused : goal.returns-in_err-end-clause-refused
 returns-in_err-end-clause-refused c refusal e =
@@ -81,15 +81,15 @@ loop-at-preserved c =
     elim c.if-not-last.branch [
       | then-not-last+in_ok-add w ↦
           let added : c.if-not-last.pool.clauses ≡ pool ++ literals ∷ [] = ap (λ (p : Clauses). p.clauses) w.pool-is ∙ (w.in_ok-add.ensures.ok ∙ ap (λ (l : Clause). pool ++ l ∷ []) w.as_slice.ensures) in
-          let bound = end_within c.greatest_variable-variables.result pool chain literals c.loop-at.invariant.within ends in
+          let bound = end_within c.variables-variables.result pool chain literals c.loop-at.invariant.within ends in
           let (more, is) = c.loop-at.invariant.begins in
           record {
             before = next;
             begins = (more ++ literals ∷ [], added ∙ (ap (λ cs. cs ++ literals ∷ []) is ∙ append_assoc clauses more (literals ∷ [])));
             alike = λ _. subst (AreAlike (clauses ++ next.ends)) (sym added) (alike_next c.args.kind clauses c.args.conflicts log at chain pool long b chain_is are literals ends right);
-            within = subst (All (AreUpTo c.greatest_variable-variables.result)) (sym added)
-                (All-append (AreUpTo c.greatest_variable-variables.result) pool (literals ∷ []) c.loop-at.invariant.within
-                (All-cons (AreUpTo c.greatest_variable-variables.result) literals [] bound (All-nil (AreUpTo c.greatest_variable-variables.result))));
+            within = subst (All (AreUpTo c.variables-variables.result)) (sym added)
+                (All-append (AreUpTo c.variables-variables.result) pool (literals ∷ []) c.loop-at.invariant.within
+                (All-cons (AreUpTo c.variables-variables.result) literals [] bound (All-nil (AreUpTo c.variables-variables.result))));
             few = omega (arith, ap length added, length-append pool (literals ∷ []), c.loop-at.invariant.few);
           }
       | else-not-last w ↦
@@ -100,7 +100,7 @@ loop-at-preserved c =
             before = next;
             begins = (more, kept ∙ is);
             alike = λ h. absurd (omega (arith, h, last, ap length same));
-            within = subst (All (AreUpTo c.greatest_variable-variables.result)) (sym kept) c.loop-at.invariant.within;
+            within = subst (All (AreUpTo c.variables-variables.result)) (sym kept) c.loop-at.invariant.within;
             few = omega (arith, ap length kept, c.loop-at.invariant.few);
           }
     ]
