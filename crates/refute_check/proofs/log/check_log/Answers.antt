@@ -80,7 +80,7 @@ loop-at-preserved c =
     let next = right_step c.args.kind clauses c.args.conflicts log at chain pool long b chain_is are literals ends right in
     elim c.if-not-last.branch [
       | then-not-last+in_ok-add w ↦
-          let added : c.if-not-last.pool.clauses ≡ pool ++ literals ∷ [] = ap (λ (p : Clauses). p.clauses) w.pool-is ∙ (w.in_ok-add.ensures.ok ∙ ap (λ (l : Clause). pool ++ l ∷ []) w.as_slice.ensures) in
+          let added : c.if-not-last.pool.clauses ≡ pool ++ literals ∷ [] = ap (λ (p : Clauses). p.clauses) w.pool-is ∙ (w.in_ok-add.ensures.ok ∙ ap (λ (l : Clause). pool ++ l ∷ []) w.as_slice.ensures.value) in
           let bound = end_within c.variables-variables.result pool chain literals c.loop-at.invariant.within ends in
           let (more, is) = c.loop-at.invariant.begins in
           record {
