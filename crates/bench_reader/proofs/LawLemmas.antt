@@ -1,13 +1,14 @@
 -- Tokens are statements in one way, and stop in one way.
-use Rattle.std.proofs.Common.{◌≡◌, ◌∙◌, ℕ, false, List, [], ◌∷◌, ◌++◌, length, refl, sym, append_assoc, ◌⊎◌, inl, inr, Option, None, Some}
+use Rattle.std.proofs.Common.{◌≡◌, ◌∙◌, ℕ, false, List, [], ◌∷◌, ◌++◌, length, refl, sym, ap, append_assoc, ◌⊎◌, inl, inr, Option, None, Some}
 use Rattle.std.specs.Prelude.{option_map, option_and_then, IsTrue}
 use Rattle.std.proofs.lemmas.List.{append-nil}
 use Rattle.bench_reader.specs.declared.fault.NetKind.{NetKind}
 use Rattle.bench_reader.specs.Tokens.{Text, Token, open_bracket, close_bracket, comma_mark, equals_mark, name_run, tokens_of}
-use Rattle.bench_reader.specs.Grammar.{Named, Driver, Phrase, gate_phrase, driver_of, pins_of, driven_phrase, phrase_of, has_right_pins, CanBegin}
+use Rattle.bench_reader.specs.Grammar.{Named, Driver, Phrase, gate_phrase, driver_of, driver_pins, pins_of, driven_phrase, phrase_of, has_right_pins, CanBegin}
 use Rattle.bench_reader.specs.Reading.{joined_tokens, ArePhrases, IsText}
 use Rattle.bench_reader.specs.Refusal.{stop_of, StopsAt, at_token, at_end, at_pins}
 use Rattle.bench_reader.specs.Stops.{StopsIn, in_token, in_end, in_pins}
+use Rattle.bench_reader.proofs.DriverPins.{name_first, Pins, no_pins, some_pins, pins_are}
 
 -- ---- lists that agree where they are joined
 
@@ -35,15 +36,27 @@ pins_end ((name_run text, at) ∷ (comma_mark, b) ∷ tokens) x more pins e = by
     by (Some ps) g e = rw (g ps refl) refl
 pins_end _ x more pins e = cc
 
+driver_end : (driver : Driver) (tokens : List Token) (x : Token) (more : List Token) (pins : List Named) → driver_pins driver tokens ≡ Some pins → driver_pins driver (tokens ++ x ∷ more) ≡ None
+unfolding driver_pins pins_of
+driver_end driver tokens x more pins e = by (pins_are driver tokens pins e)
+  where
+    by : Pins driver tokens pins → driver_pins driver (tokens ++ x ∷ more) ≡ None
+    by (no_pins b e f) = rw e refl
+    by (some_pins t m rest e f) =
+        let g : pins_of ((name_run t, m) ∷ (rest ++ x ∷ more)) ≡ None = rw e at (pins_end tokens x more pins f) in
+        rw e (name_first driver t m (rest ++ x ∷ more) ∙ g)
+
 driven_end : (n w : Named) (tokens : List Token) (x : Token) (more : List Token) (p : Phrase) → driven_phrase n w tokens ≡ Some p → driven_phrase n w (tokens ++ x ∷ more) ≡ None
 unfolding driven_phrase
-driven_end n w tokens x more p e = by (driver_of w.0) (pins_of tokens) (λ pins f. pins_end tokens x more pins f) e
+driven_end n w tokens x more p e = by (driver_of w.0) e
   where
-    by : (d : Option Driver) (o : Option (List Named)) → ((pins : List Named) → o ≡ Some pins → pins_of (tokens ++ x ∷ more) ≡ None) → option_and_then (λ driver. option_map (gate_phrase n driver w) o) d ≡ Some p
-        → option_and_then (λ driver. option_map (gate_phrase n driver w) (pins_of (tokens ++ x ∷ more))) d ≡ None
-    by None o g e = refl
-    by (Some driver) None g e = cc
-    by (Some driver) (Some pins) g e = rw (g pins refl) refl
+    in_driver : (driver : Driver) (o : Option (List Named)) → ((pins : List Named) → o ≡ Some pins → driver_pins driver (tokens ++ x ∷ more) ≡ None) → option_map (gate_phrase n driver w) o ≡ Some p → option_map (gate_phrase n driver w) (driver_pins driver (tokens ++ x ∷ more)) ≡ None
+    in_driver driver None g e = cc
+    in_driver driver (Some pins) g e = rw (g pins refl) refl
+
+    by : (d : Option Driver) → option_and_then (λ driver. option_map (gate_phrase n driver w) (driver_pins driver tokens)) d ≡ Some p → option_and_then (λ driver. option_map (gate_phrase n driver w) (driver_pins driver (tokens ++ x ∷ more))) d ≡ None
+    by None e = refl
+    by (Some driver) e = in_driver driver (driver_pins driver tokens) (λ pins f. driver_end driver tokens x more pins f) e
 
 pub phrase_end : (tokens : List Token) (x : Token) (more : List Token) (p : Phrase) → phrase_of tokens ≡ Some p → phrase_of (tokens ++ x ∷ more) ≡ None
 unfolding phrase_of
@@ -196,6 +209,12 @@ stopped : (text : Text) (before : List (List Token)) (stop : NetKind × ℕ) →
 stopped text before stop (at_token part token more e begins wrong partial is) = (part ++ token ∷ more, e ∙ append_assoc (joined_tokens before) part (token ∷ more), in_token part token more refl begins wrong partial is)
 stopped text before stop (at_end part e some begins partial is) = (part, e, in_end some begins partial is)
 stopped text before stop (at_pins part n driver word pins more e whole wrong is) = (part ++ more, e ∙ append_assoc (joined_tokens before) part more, in_pins part n driver word pins more refl whole wrong is)
+
+-- tokens that stop so do it behind whole statements too
+pub stops_behind : (text : Text) (before : List (List Token)) (tokens : List Token) (stop : NetKind × ℕ) → tokens_of text ≡ joined_tokens before ++ tokens → StopsIn (length text) tokens stop → StopsAt text before stop
+stops_behind text before tokens stop e (in_token part token more f begins wrong partial is) = at_token part token more (e ∙ ap (λ ts. joined_tokens before ++ ts) f ∙ sym (append_assoc (joined_tokens before) part (token ∷ more))) begins wrong partial is
+stops_behind text before tokens stop e (in_end some begins partial is) = at_end tokens e some begins partial is
+stops_behind text before tokens stop e (in_pins part n driver word pins more f whole wrong is) = at_pins part n driver word pins more (e ∙ ap (λ ts. joined_tokens before ++ ts) f ∙ sym (append_assoc (joined_tokens before) part more)) whole wrong is
 
 pub same_phrases : (text : Text) (phrases qs : List Phrase) → IsText text phrases → IsText text qs → phrases ≡ qs
 same_phrases text phrases qs a b = one_reading a.groups b.groups phrases qs (sym a.whole ∙ b.whole) a.each b.each

@@ -2,12 +2,15 @@ pub mod Pieces
 pub mod ScanLemmas
 pub mod StopLemmas
 pub mod StateLemmas
+pub mod DriverPins
 pub mod PinLemmas
 pub mod Positions
 pub mod NameLemmas
 pub mod SizeLemmas
 pub mod ReadLemmas
 pub mod LawLemmas
+pub mod BeginLemmas
+pub mod OutcomeLemmas
 pub mod AllLemmas
 pub mod NumberLemmas
 pub mod PhraseLemmas

@@ -14,15 +14,16 @@ use Rattle.bench_reader.specs.declared.shape.Shape.{Shape}
 use Rattle.bench_reader.specs.Tokens.{Text, Token, tokens_of}
 use Rattle.bench_reader.specs.Grammar.{Phrase, phrase_of, phrase_names, has_right_pins}
 use Rattle.bench_reader.specs.Reading.{place_of, names_of, statement_of, joined_tokens, ArePhrases}
-use Rattle.bench_reader.specs.Refusal.{StopsAt, at_token, at_end, at_pins, TextRefused, too_long, by_grammar}
+use Rattle.bench_reader.specs.Refusal.{TextRefused, too_long, by_grammar}
 use Rattle.bench_reader.specs.Parsed.{IsParsed}
 use Rattle.bench_reader.specs.Scanning.{tokens_at, IsPlace}
 use Rattle.bench_reader.specs.Shapes.{phrase_in, IsStatement}
-use Rattle.bench_reader.specs.Stops.{StopsIn, in_token, in_end, in_pins, IsStop, IsGrammarFault, IsTextFault}
+use Rattle.bench_reader.specs.Stops.{IsStop, IsGrammarFault, IsTextFault}
 use Rattle.bench_reader.specs.Numbering.{with_names}
 use Rattle.bench_reader.specs.Netlist.{Netlist}
 use Rattle.bench_reader.specs.Drivers.{driver_fault}
 use Rattle.bench_reader.proofs.DriverLemmas.{refused}
+use Rattle.bench_reader.proofs.LawLemmas.{stops_behind}
 use Rattle.bench_reader.proofs.ScanLemmas.{whole_text}
 use Rattle.bench_reader.proofs.NameLemmas.{AllKnown, known_more, known_push, statements_stay, names_more, no_names, names_grow}
 use Rattle.bench_reader.proofs.SizeLemmas.{small_phrase, few_names_of, few_tokens}
@@ -39,7 +40,7 @@ pub record ReadSoFar (text : Text) (byte : ℕ) (statements : List Statement) (n
 pub nothing_read : (text : Text) → ReadSoFar text 0 [] []
 nothing_read text = record { groups = []; phrases = []; whole = whole_text text; each = tt; statements_are = refl; names_are = sym no_names; known = tt }
 
-some_token : (group : List Token) (p : Phrase) → phrase_of group ≡ Some p → 0 < length group
+pub some_token : (group : List Token) (p : Phrase) → phrase_of group ≡ Some p → 0 < length group
 unfolding phrase_of
 some_token [] p e = cc
 some_token (t ∷ ts) p e = omega arith
@@ -53,13 +54,8 @@ module _ (text : Text) (byte : ℕ) (statements : List Statement) (names : List 
   }
 
   module _ (tokens : List Token) (same : tokens_at text byte ≡ tokens) where
-    stops_at : (stop : NetKind × ℕ) → StopsIn (length text) tokens stop → StopsAt text r.groups stop
-    stops_at stop (in_token part token more e begins wrong partial is) = at_token part token more (r.whole ∙ ap (λ ts. joined_tokens r.groups ++ ts) (same ∙ e) ∙ sym (append_assoc (joined_tokens r.groups) part (token ∷ more))) begins wrong partial is
-    stops_at stop (in_end some begins partial is) = at_end tokens (r.whole ∙ ap (λ ts. joined_tokens r.groups ++ ts) same) some begins partial is
-    stops_at stop (in_pins part n driver word pins more e whole wrong is) = at_pins part n driver word pins more (r.whole ∙ ap (λ ts. joined_tokens r.groups ++ ts) (same ∙ e) ∙ sym (append_assoc (joined_tokens r.groups) part more)) whole wrong is
-
     pub refused_here : (f : NetFault) → IsStop text tokens f → IsGrammarFault text f
-    refused_here (At kind place) h = (h.0, record { before = r.groups; phrases = r.phrases; whole = r.each; stops = stops_at (kind, place.byte) h.1 })
+    refused_here (At kind place) h = (h.0, record { before = r.groups; phrases = r.phrases; whole = r.each; stops = stops_behind text r.groups tokens (kind, place.byte) (r.whole ∙ ap (λ ts. joined_tokens r.groups ++ ts) same) h.1 })
     refused_here (Loop place walk) h = h
     refused_here NoMemory h = tt
 

@@ -5,12 +5,13 @@ use Rattle.std.specs.Str.{bytes_eq}
 use Rattle.std.proofs.lemmas.List.{length-map}
 use Rattle.std.proofs.lemmas.List.Sums.{sum_by-cons}
 use Rattle.bench_reader.specs.Tokens.{Text, without_comments, Piece, pieces, piece_length, placed_pieces, is_blank_piece, Token, tokens_of, open_bracket, close_bracket, comma_mark, equals_mark, name_run}
-use Rattle.bench_reader.specs.Grammar.{Named, Driver, gate_driver, flip_flop_driver, driver_of, is_word, Phrase, input_phrase, output_phrase, gate_phrase, phrase_of, pins_of, observed_phrase, driven_phrase, phrase_names}
+use Rattle.bench_reader.specs.Grammar.{Named, Driver, gate_driver, flip_flop_driver, driver_of, is_word, Phrase, input_phrase, output_phrase, gate_phrase, phrase_of, driver_pins, pins_of, observed_phrase, driven_phrase, phrase_names}
 use Rattle.bench_reader.specs.Reading.{distinct_names, names_of, statement_of, joined_tokens, ArePhrases}
 use Rattle.bench_reader.specs.Driven.{statement_size}
 use Rattle.bench_reader.specs.Netlist.{Netlist}
 use Rattle.bench_reader.specs.Parsed.{IsParsed}
 use Rattle.bench_reader.proofs.Pieces.{few_pieces}
+use Rattle.bench_reader.proofs.DriverPins.{Pins, no_pins, some_pins, pins_are}
 
 -- ---- tokens and bytes
 
@@ -70,17 +71,27 @@ small_observed word n size p e h = by (is_word (codes "INPUT") word) (is_word (c
     by false true e = let g : output_phrase n ≡ p = cc in rw (← g) (record { names = h; statement = λ text names. h })
     by false false e = cc
 
+driver_size : (driver : Driver) (tokens : List Token) (pins : List Named) → driver_pins driver tokens ≡ Some pins → length pins ≤ length tokens
+driver_size driver tokens pins e = by (pins_are driver tokens pins e)
+  where
+    by : Pins driver tokens pins → length pins ≤ length tokens
+    by (no_pins b e f) = rw f (omega arith)
+    by (some_pins t m rest e f) = pins_size tokens pins f
+
 small_driven : (n w : Named) (tokens : List Token) (size : ℕ) (p : Phrase) → driven_phrase n w tokens ≡ Some p → suc (length tokens) ≤ size → IsSmall size p
 unfolding driven_phrase
-small_driven n w tokens size p e h = by (driver_of w.0) (pins_of tokens) (λ pins f. pins_size tokens pins f) e
+small_driven n w tokens size p e h = by (driver_of w.0) e
   where
-    by : (d : Option Driver) (o : Option (List Named)) → ((pins : List Named) → o ≡ Some pins → length pins ≤ length tokens) → option_and_then (λ driver. option_map (gate_phrase n driver w) o) d ≡ Some p → IsSmall size p
-    by None o more e = cc
-    by (Some driver) None more e = cc
-    by (Some driver) (Some pins) more e =
+    in_driver : (driver : Driver) (o : Option (List Named)) → ((pins : List Named) → o ≡ Some pins → length pins ≤ length tokens) → option_map (gate_phrase n driver w) o ≡ Some p → IsSmall size p
+    in_driver driver None more e = cc
+    in_driver driver (Some pins) more e =
         let g : gate_phrase n driver w pins ≡ p = cc in
         let few : suc (length pins) ≤ size = omega (arith, h, more pins refl) in
         rw (← g) (record { names = few; statement = λ text names. gate_size text names size n driver w pins few })
+
+    by : (d : Option Driver) → option_and_then (λ driver. option_map (gate_phrase n driver w) (driver_pins driver tokens)) d ≡ Some p → IsSmall size p
+    by None e = cc
+    by (Some driver) e = in_driver driver (driver_pins driver tokens) (λ pins f. driver_size driver tokens pins f) e
 
 pub small_phrase : (group : List Token) (p : Phrase) → phrase_of group ≡ Some p → IsSmall (length group) p
 unfolding phrase_of

@@ -5,10 +5,10 @@ use Rattle.std.proofs.lemmas.List.{append-nil}
 use Rattle.bench_reader.specs.declared.fault.NetFault.{NetFault}
 use Rattle.bench_reader.specs.declared.fault.NetFault.TheVariants.{At}
 use Rattle.bench_reader.specs.declared.scanner.LexemeKind.{LexemeKind}
-use Rattle.bench_reader.specs.declared.scanner.LexemeKind.TheVariants.{OpenBracket, CloseBracket, Comma, Equals, Name, BadByte, End}
+use Rattle.bench_reader.specs.declared.scanner.LexemeKind.TheVariants.{OpenBracket, CloseBracket, Equals, Name, BadByte, End}
 use Rattle.bench_reader.specs.declared.scanner.Lexeme.{Lexeme}
 use Rattle.bench_reader.specs.Tokens.{Text, open_bracket, close_bracket, equals_mark, name_run, Token}
-use Rattle.bench_reader.specs.Grammar.{Named, Driver, driver_of, Phrase, input_phrase, gate_phrase, pins_of, observed_phrase, driven_phrase, phrase_of, CanBegin}
+use Rattle.bench_reader.specs.Grammar.{Named, Driver, driver_of, Phrase, input_phrase, gate_phrase, driver_pins, pins_of, observed_phrase, driven_phrase, phrase_of, CanBegin}
 use Rattle.bench_reader.specs.Refusal.{stop_of}
 use Rattle.bench_reader.specs.Scanning.{tokens_at, tokens_with, tokens_from, piece_of, text_in, token_in, IsPlace, IsNext}
 use Rattle.bench_reader.specs.Shapes.{stop_kind}
@@ -28,37 +28,32 @@ pub stop_at : (text : Text) (tokens part : List Token) (from : ℕ) (a : Lexeme)
 stop_at text tokens part from a f next e is some b n w s =
     rw is (next.lexeme.place, stops (length text) tokens part a.kind (text_in text a) a.place.byte (tokens_at text a.end) (e ∙ ap (λ ts. part ++ ts) next.tokens) (λ k. (some, next.lexeme.end k)) b n w s)
 
+pub nothing_begins : CanBegin []
+unfolding phrase_of observed_phrase
+nothing_begins = record { more = (name_run (codes "INPUT"), 0) ∷ (open_bracket, 0) ∷ (name_run [], 0) ∷ (close_bracket, 0) ∷ []; phrase = input_phrase ([], 0); is = refl }
+
+pub nothing_partial : phrase_of [] ≡ None
+unfolding phrase_of
+nothing_partial = refl
+
 -- the same where nothing stands before
 pub stop_first : (text : Text) (a : Lexeme) (f : NetFault) → IsPlace text a.place → f ≡ At (stop_kind a.kind) a.place → a.kind ≢ End → a.kind ≢ Name → IsStop text (tokens_from text a) f
-unfolding phrase_of observed_phrase
-stop_first text a f p is some other = rw is (p, stops (length text) (tokens_from text a) [] a.kind (text_in text a) a.place.byte (tokens_at text a.end) refl (λ k. absurd (some k)) first refl (wrong a.kind (text_in text a) a.place.byte other) (stop a.kind (text_in text a) a.place.byte))
+unfolding phrase_of
+stop_first text a f p is some other = rw is (p, stops (length text) (tokens_from text a) [] a.kind (text_in text a) a.place.byte (tokens_at text a.end) refl (λ k. absurd (some k)) nothing_begins nothing_partial (wrong a.kind (text_in text a) a.place.byte other) (stop a.kind (text_in text a) a.place.byte))
   where
-    first : CanBegin []
-    first = record { more = (name_run (codes "INPUT"), 0) ∷ (open_bracket, 0) ∷ (name_run [], 0) ∷ (close_bracket, 0) ∷ []; phrase = input_phrase ([], 0); is = refl }
-
     wrong : (kind : LexemeKind) (run : Text) (byte : ℕ) → kind ≢ Name → ¬ CanBegin ((piece_of kind run, byte) ∷ [])
     wrong Name run byte h c = h refl
-    wrong OpenBracket run byte h c = let e = c.is in cc
-    wrong CloseBracket run byte h c = let e = c.is in cc
-    wrong Comma run byte h c = let e = c.is in cc
-    wrong Equals run byte h c = let e = c.is in cc
-    wrong BadByte run byte h c = let e = c.is in cc
-    wrong End run byte h c = let e = c.is in cc
+    wrong _ run byte h c = let e = c.is in cc
 
     stop : (kind : LexemeKind) (run : Text) (byte : ℕ) → stop_of [] (piece_of kind run, byte) ≡ (stop_kind kind, byte)
-    stop Name run byte = refl
-    stop OpenBracket run byte = refl
-    stop CloseBracket run byte = refl
-    stop Comma run byte = refl
-    stop Equals run byte = refl
     stop BadByte run byte = refl
-    stop End run byte = refl
+    stop _ run byte = refl
 
 -- ---- a name
 
 module _ (w : Text) (a : ℕ) where
   pub one_begins : CanBegin ((name_run w, a) ∷ [])
-  unfolding phrase_of driven_phrase driver_of pins_of
+  unfolding phrase_of driven_phrase driver_of driver_pins pins_of
   one_begins = record { more = (equals_mark, 0) ∷ (name_run (codes "AND"), 0) ∷ (open_bracket, 0) ∷ (name_run [], 0) ∷ (close_bracket, 0) ∷ []; phrase = _; is = refl }
 
   pub one_partial : phrase_of ((name_run w, a) ∷ []) ≡ None
@@ -69,24 +64,19 @@ module _ (w : Text) (a : ℕ) where
   unfolding phrase_of
   one_wrong OpenBracket run byte g h c = g refl
   one_wrong Equals run byte g h c = h refl
-  one_wrong Name run byte g h c = let e = c.is in cc
-  one_wrong CloseBracket run byte g h c = let e = c.is in cc
-  one_wrong Comma run byte g h c = let e = c.is in cc
-  one_wrong BadByte run byte g h c = let e = c.is in cc
-  one_wrong End run byte g h c = let e = c.is in cc
+  one_wrong _ run byte g h c = let e = c.is in cc
 
   pub one_stop : (kind : LexemeKind) (run : Text) (byte : ℕ) → kind ≢ OpenBracket → stop_of ((name_run w, a) ∷ []) (piece_of kind run, byte) ≡ (stop_kind kind, byte)
   one_stop OpenBracket run byte g = absurd (g refl)
-  one_stop Equals run byte g = refl
-  one_stop Name run byte g = refl
-  one_stop CloseBracket run byte g = refl
-  one_stop Comma run byte g = refl
-  one_stop BadByte run byte g = refl
-  one_stop End run byte g = refl
+  one_stop _ run byte g = refl
 
 -- ---- inputs and observed names
 
-no_word : (w : Text) (a b : ℕ) (more : List Token) (p : Phrase) → ((n : Named) → observed_phrase w n ≡ None) → phrase_of ((name_run w, a) ∷ (open_bracket, b) ∷ more) ≡ Some p → ⊥
+-- with a name in brackets the word is a statement
+abbrev pub Observes : Text → Type 0
+Observes w = (n : Named) → (p : Phrase) × (observed_phrase w n ≡ Some p)
+
+pub no_word : (w : Text) (a b : ℕ) (more : List Token) (p : Phrase) → ((n : Named) → observed_phrase w n ≡ None) → phrase_of ((name_run w, a) ∷ (open_bracket, b) ∷ more) ≡ Some p → ⊥
 unfolding phrase_of
 no_word w a b ((name_run text, at) ∷ (close_bracket, d) ∷ []) p o h = let n = o (text, at) in cc
 no_word w a b _ p o h = cc
@@ -96,11 +86,7 @@ module _ (w : Text) (a b : ℕ) where
   pub word_wrong : ((n : Named) → observed_phrase w n ≡ None) → ¬ CanBegin ((name_run w, a) ∷ (open_bracket, b) ∷ [])
   word_wrong o c = no_word w a b c.more c.phrase o c.is
 
-  -- some statement begins so
-  abbrev pub Observes : Type 0
-  Observes = (n : Named) → (p : Phrase) × (observed_phrase w n ≡ Some p)
-
-  pub two_begins : Observes → CanBegin ((name_run w, a) ∷ (open_bracket, b) ∷ [])
+  pub two_begins : Observes w → CanBegin ((name_run w, a) ∷ (open_bracket, b) ∷ [])
   unfolding phrase_of
   two_begins o = let h = o ([], 0) in record { more = (name_run [], 0) ∷ (close_bracket, 0) ∷ []; phrase = h.0; is = h.1 }
 
@@ -111,24 +97,14 @@ module _ (w : Text) (a b : ℕ) where
   pub two_wrong : (kind : LexemeKind) (run : Text) (byte : ℕ) → kind ≢ Name → ¬ CanBegin ((name_run w, a) ∷ (open_bracket, b) ∷ (piece_of kind run, byte) ∷ [])
   unfolding phrase_of
   two_wrong Name run byte g c = g refl
-  two_wrong OpenBracket run byte g c = let e = c.is in cc
-  two_wrong CloseBracket run byte g c = let e = c.is in cc
-  two_wrong Comma run byte g c = let e = c.is in cc
-  two_wrong Equals run byte g c = let e = c.is in cc
-  two_wrong BadByte run byte g c = let e = c.is in cc
-  two_wrong End run byte g c = let e = c.is in cc
+  two_wrong _ run byte g c = let e = c.is in cc
 
   pub two_stop : (kind : LexemeKind) (run : Text) (byte : ℕ) → stop_of ((name_run w, a) ∷ (open_bracket, b) ∷ []) (piece_of kind run, byte) ≡ (stop_kind kind, byte)
-  two_stop Name run byte = refl
-  two_stop OpenBracket run byte = refl
-  two_stop CloseBracket run byte = refl
-  two_stop Comma run byte = refl
-  two_stop Equals run byte = refl
   two_stop BadByte run byte = refl
-  two_stop End run byte = refl
+  two_stop _ run byte = refl
 
   module _ (n : Text) (m : ℕ) where
-    pub three_begins : Observes → CanBegin ((name_run w, a) ∷ (open_bracket, b) ∷ (name_run n, m) ∷ [])
+    pub three_begins : Observes w → CanBegin ((name_run w, a) ∷ (open_bracket, b) ∷ (name_run n, m) ∷ [])
     unfolding phrase_of
     three_begins o = let h = o (n, m) in record { more = (close_bracket, 0) ∷ []; phrase = h.0; is = h.1 }
 
@@ -139,21 +115,11 @@ module _ (w : Text) (a b : ℕ) where
     pub three_wrong : (kind : LexemeKind) (run : Text) (byte : ℕ) → kind ≢ CloseBracket → ¬ CanBegin ((name_run w, a) ∷ (open_bracket, b) ∷ (name_run n, m) ∷ (piece_of kind run, byte) ∷ [])
     unfolding phrase_of
     three_wrong CloseBracket run byte g c = g refl
-    three_wrong Name run byte g c = let e = c.is in cc
-    three_wrong OpenBracket run byte g c = let e = c.is in cc
-    three_wrong Comma run byte g c = let e = c.is in cc
-    three_wrong Equals run byte g c = let e = c.is in cc
-    three_wrong BadByte run byte g c = let e = c.is in cc
-    three_wrong End run byte g c = let e = c.is in cc
+    three_wrong _ run byte g c = let e = c.is in cc
 
     pub three_stop : (kind : LexemeKind) (run : Text) (byte : ℕ) → stop_of ((name_run w, a) ∷ (open_bracket, b) ∷ (name_run n, m) ∷ []) (piece_of kind run, byte) ≡ (stop_kind kind, byte)
-    three_stop Name run byte = refl
-    three_stop OpenBracket run byte = refl
-    three_stop CloseBracket run byte = refl
-    three_stop Comma run byte = refl
-    three_stop Equals run byte = refl
     three_stop BadByte run byte = refl
-    three_stop End run byte = refl
+    three_stop _ run byte = refl
 
     pub observed_whole : (close : ℕ) → phrase_of ((name_run w, a) ∷ (open_bracket, b) ∷ (name_run n, m) ∷ (close_bracket, close) ∷ []) ≡ observed_phrase w (n, m)
     unfolding phrase_of
@@ -163,7 +129,7 @@ module _ (w : Text) (a b : ℕ) where
 
 module _ (n : Text) (a b : ℕ) where
   pub equals_begins : CanBegin ((name_run n, a) ∷ (equals_mark, b) ∷ [])
-  unfolding phrase_of driven_phrase driver_of pins_of
+  unfolding phrase_of driven_phrase driver_of driver_pins pins_of
   equals_begins = record { more = (name_run (codes "AND"), 0) ∷ (open_bracket, 0) ∷ (name_run [], 0) ∷ (close_bracket, 0) ∷ []; phrase = _; is = refl }
 
   pub equals_partial : phrase_of ((name_run n, a) ∷ (equals_mark, b) ∷ []) ≡ None
@@ -173,24 +139,14 @@ module _ (n : Text) (a b : ℕ) where
   pub equals_wrong : (kind : LexemeKind) (run : Text) (byte : ℕ) → kind ≢ Name → ¬ CanBegin ((name_run n, a) ∷ (equals_mark, b) ∷ (piece_of kind run, byte) ∷ [])
   unfolding phrase_of
   equals_wrong Name run byte g c = g refl
-  equals_wrong OpenBracket run byte g c = let e = c.is in cc
-  equals_wrong CloseBracket run byte g c = let e = c.is in cc
-  equals_wrong Comma run byte g c = let e = c.is in cc
-  equals_wrong Equals run byte g c = let e = c.is in cc
-  equals_wrong BadByte run byte g c = let e = c.is in cc
-  equals_wrong End run byte g c = let e = c.is in cc
+  equals_wrong _ run byte g c = let e = c.is in cc
 
   pub equals_stop : (kind : LexemeKind) (run : Text) (byte : ℕ) → kind ≢ Name → stop_of ((name_run n, a) ∷ (equals_mark, b) ∷ []) (piece_of kind run, byte) ≡ (stop_kind kind, byte)
   equals_stop Name run byte g = absurd (g refl)
-  equals_stop OpenBracket run byte g = refl
-  equals_stop CloseBracket run byte g = refl
-  equals_stop Comma run byte g = refl
-  equals_stop Equals run byte g = refl
-  equals_stop BadByte run byte g = refl
-  equals_stop End run byte g = refl
+  equals_stop _ run byte g = refl
 
   module _ (word : Text) (w : ℕ) where
-    no_gate : (more : List Token) (p : Phrase) → driver_of word ≡ None → phrase_of ((name_run n, a) ∷ (equals_mark, b) ∷ (name_run word, w) ∷ more) ≡ Some p → ⊥
+    pub no_gate : (more : List Token) (p : Phrase) → driver_of word ≡ None → phrase_of ((name_run n, a) ∷ (equals_mark, b) ∷ (name_run word, w) ∷ more) ≡ Some p → ⊥
     unfolding phrase_of driven_phrase
     no_gate ((open_bracket, d) ∷ tokens) p e h = let f = rw e at h in cc
     no_gate _ p e h = cc
@@ -199,7 +155,7 @@ module _ (n : Text) (a b : ℕ) where
     gate_wrong e c = no_gate c.more c.phrase e c.is
 
     pub gate_begins : (driver : Driver) → driver_of word ≡ Some driver → CanBegin ((name_run n, a) ∷ (equals_mark, b) ∷ (name_run word, w) ∷ [])
-    unfolding phrase_of driven_phrase pins_of
+    unfolding phrase_of driven_phrase driver_pins pins_of
     gate_begins driver e = record { more = (open_bracket, 0) ∷ (name_run [], 0) ∷ (close_bracket, 0) ∷ []; phrase = gate_phrase (n, a) driver (word, w) (([], 0) ∷ []); is = rw e refl }
 
     pub gate_partial : phrase_of ((name_run n, a) ∷ (equals_mark, b) ∷ (name_run word, w) ∷ []) ≡ None
@@ -209,21 +165,11 @@ module _ (n : Text) (a b : ℕ) where
     pub bracket_wrong : (kind : LexemeKind) (run : Text) (byte : ℕ) → kind ≢ OpenBracket → ¬ CanBegin ((name_run n, a) ∷ (equals_mark, b) ∷ (name_run word, w) ∷ (piece_of kind run, byte) ∷ [])
     unfolding phrase_of
     bracket_wrong OpenBracket run byte g c = g refl
-    bracket_wrong Name run byte g c = let e = c.is in cc
-    bracket_wrong CloseBracket run byte g c = let e = c.is in cc
-    bracket_wrong Comma run byte g c = let e = c.is in cc
-    bracket_wrong Equals run byte g c = let e = c.is in cc
-    bracket_wrong BadByte run byte g c = let e = c.is in cc
-    bracket_wrong End run byte g c = let e = c.is in cc
+    bracket_wrong _ run byte g c = let e = c.is in cc
 
     pub bracket_stop : (kind : LexemeKind) (run : Text) (byte : ℕ) → stop_of ((name_run n, a) ∷ (equals_mark, b) ∷ (name_run word, w) ∷ []) (piece_of kind run, byte) ≡ (stop_kind kind, byte)
-    bracket_stop Name run byte = refl
-    bracket_stop OpenBracket run byte = refl
-    bracket_stop CloseBracket run byte = refl
-    bracket_stop Comma run byte = refl
-    bracket_stop Equals run byte = refl
     bracket_stop BadByte run byte = refl
-    bracket_stop End run byte = refl
+    bracket_stop _ run byte = refl
 
 -- a name with which nothing can go on
 pub stop_second : (text : Text) (word a : Lexeme) (f : NetFault) → word.kind ≡ Name → IsNext text word.end a → a.kind ≢ OpenBracket → a.kind ≢ Equals → f ≡ At (stop_kind a.kind) a.place → IsStop text (tokens_from text word) f

@@ -2,7 +2,7 @@
 use Rattle.std.specs.Prelude.{◌≡◌, ℕ, Bool, true, List, [], ◌∷◌, ◌++◌, length, find, codes, Option, None, Some, option_map, option_and_then, ◌==◌, if◌then◌else◌}
 use Rattle.std.specs.Str.{str_eq_ignore_ascii_case}
 use Rattle.net_model.specs.declared.gate.Kind.{Kind}
-use Rattle.net_model.specs.declared.gate.Kind.TheVariants.{And, Nand, Or, Nor, Xor, Xnor, Not, Buff}
+use Rattle.net_model.specs.declared.gate.Kind.TheVariants.{And, Nand, Or, Nor, Xor, Xnor, Not, Buff, Mux, Const0, Const1}
 use Rattle.net_model.specs.Gate.{takes_pins}
 use Rattle.bench_reader.specs.Tokens.{Text, open_bracket, close_bracket, comma_mark, equals_mark, name_run, Token}
 
@@ -15,7 +15,8 @@ pub data Driver : Type 0 where
 abbrev pub drivers : List (Text × Driver)
 drivers =
     (codes "AND", gate_driver And) ∷ (codes "NAND", gate_driver Nand) ∷ (codes "OR", gate_driver Or) ∷ (codes "NOR", gate_driver Nor) ∷ (codes "XOR", gate_driver Xor) ∷ (codes "XNOR", gate_driver Xnor)
-    ∷ (codes "NOT", gate_driver Not) ∷ (codes "BUFF", gate_driver Buff) ∷ (codes "BUF", gate_driver Buff) ∷ (codes "DFF", flip_flop_driver) ∷ []
+    ∷ (codes "NOT", gate_driver Not) ∷ (codes "BUFF", gate_driver Buff) ∷ (codes "BUF", gate_driver Buff) ∷ (codes "DFF", flip_flop_driver)
+    ∷ (codes "MUX", gate_driver Mux) ∷ (codes "CONST0", gate_driver Const0) ∷ (codes "CONST1", gate_driver Const1) ∷ []
 
 -- what a gate word says, in any case
 unfoldable pub driver_of : Text → Option Driver
@@ -47,11 +48,16 @@ pins_of ((name_run text, at) ∷ (close_bracket, b) ∷ []) = Some ((text, at) �
 pins_of ((name_run text, at) ∷ (comma_mark, b) ∷ tokens) = option_map (λ pins. (text, at) ∷ pins) (pins_of tokens)
 pins_of _ = None
 
+-- the same of what a gate word says: a gate that takes no pins may have none
+unfoldable pub driver_pins : Driver → List Token → Option (List Named)
+driver_pins driver ((close_bracket, b) ∷ []) = if takes driver 0 then Some [] else None
+driver_pins driver tokens = pins_of tokens
+
 unfoldable pub observed_phrase : Text → Named → Option Phrase
 observed_phrase word n = if is_word (codes "INPUT") word then Some (input_phrase n) else if is_word (codes "OUTPUT") word then Some (output_phrase n) else None
 
 unfoldable pub driven_phrase : Named → Named → List Token → Option Phrase
-driven_phrase n word tokens = option_and_then (λ driver. option_map (gate_phrase n driver word) (pins_of tokens)) (driver_of word.0)
+driven_phrase n word tokens = option_and_then (λ driver. option_map (gate_phrase n driver word) (driver_pins driver tokens)) (driver_of word.0)
 
 -- the statement that a whole list of tokens is, with any number of pins, if it is one
 unfoldable pub phrase_of : List Token → Option Phrase

@@ -1,14 +1,18 @@
 -- Laws of the definitions.
-use Rattle.std.specs.Prelude.{◌≡◌, ℕ}
+use Rattle.std.specs.Prelude.{◌≡◌, ◌⊎◌, ℕ}
 use Rattle.bench_reader.specs.declared.fault.NetKind.{NetKind}
 use Rattle.bench_reader.specs.Netlist.{Netlist}
 use Rattle.bench_reader.specs.Tokens.{Text}
 use Rattle.bench_reader.specs.Reading.{IsNetlist}
 use Rattle.bench_reader.specs.Refusal.{TextRefused}
 
--- no text is both accepted and refused
+-- each text is accepted or refused
 abbrev pub AcceptedOrRefused : Type 0
-AcceptedOrRefused = (text : Text) (netlist : Netlist) (refusal : NetKind × ℕ) → IsNetlist text netlist → TextRefused text refusal → ⊥
+AcceptedOrRefused = (text : Text) → ((netlist : Netlist) × IsNetlist text netlist) ⊎ ((refusal : NetKind × ℕ) × TextRefused text refusal)
+
+-- no text is both
+abbrev pub NeverAcceptedAndRefused : Type 0
+NeverAcceptedAndRefused = (text : Text) (netlist : Netlist) (refusal : NetKind × ℕ) → IsNetlist text netlist → TextRefused text refusal → ⊥
 
 -- a text is refused by one rule at one byte
 abbrev pub OneRefusal : Type 0

@@ -15,7 +15,7 @@ use Rattle.bench_reader.specs.declared.shape.Shape.{Shape}
 use Rattle.bench_reader.specs.declared.shape.Shape.TheVariants as shape
 use Rattle.bench_reader.specs.declared.shape.GateHead.{GateHead}
 use Rattle.bench_reader.specs.Tokens.{Text, Token}
-use Rattle.bench_reader.specs.Grammar.{Named, gate_driver, flip_flop_driver, driver_of, Phrase, input_phrase, output_phrase, gate_phrase, phrase_of, pins_of, has_right_pins}
+use Rattle.bench_reader.specs.Grammar.{Named, gate_driver, flip_flop_driver, driver_of, Phrase, input_phrase, output_phrase, gate_phrase, phrase_of, driver_pins, has_right_pins}
 use Rattle.bench_reader.specs.Grammar as grammar
 use Rattle.bench_reader.specs.Scanning.{tokens_at, IsPlace, text_in, named_in, token_in, IsLexeme}
 
@@ -71,7 +71,7 @@ pub record IsHead (text : Text) (head : GateHead) : Type 0 where
 pub record ArePins (text : Text) (head : GateHead) (found : Vec Lexeme Global × Place) : Type 0 where
   pub group : List Token
   pub whole : tokens_at text head.bracket.end ≡ group ++ tokens_at text found.1.byte
-  pub are : pins_of group ≡ Some (map (named_in text) found.0.items)
+  pub are : driver_pins (driver_in head.driver) group ≡ Some (map (named_in text) found.0.items)
   pub names : All (IsLexeme text) found.0.items
   pub place : IsPlace text found.1
   pub within : found.1.byte ≤ length text

@@ -1,9 +1,14 @@
 //! Laws over the definitions: each function has an empty body, and its contract is the law.
-ghost use Rattle.bench_reader.specs.Laws.{AcceptedOrRefused, OneRefusal, OneNetlist};
+ghost use Rattle.bench_reader.specs.Laws.{AcceptedOrRefused, NeverAcceptedAndRefused, OneRefusal, OneNetlist};
 
-/// No text is both accepted and refused.
+/// Each text is accepted or refused.
 pub fn accepted_or_refused()
     ensures { AcceptedOrRefused }
+{}
+
+/// No text is both accepted and refused.
+pub fn never_accepted_and_refused()
+    ensures { NeverAcceptedAndRefused }
 {}
 
 /// A text is refused by one rule at one byte.

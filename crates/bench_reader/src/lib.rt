@@ -11,11 +11,9 @@ mod reading;
 mod scanner;
 mod shape;
 mod statement;
-#[cfg(test)]
-mod tests;
 mod word;
 
 pub use fault::{NetFault, NetKind, Place};
-pub use laws::{accepted_or_refused, one_netlist, one_refusal};
+pub use laws::{accepted_or_refused, never_accepted_and_refused, one_netlist, one_refusal};
 pub use reading::read;
 pub use statement::{Statement, Statements, Word, Words};

@@ -1,6 +1,6 @@
 //! One statement, by the places of its names.
 ghost use Rattle.std.specs.Prelude.{◌≡◌, ◌≢◌, ◌<◌, ◌^◌, ◌∷◌, ◌++◌, length, IfOk, IfErr};
-ghost use Rattle.bench_reader.specs.Scanning.{tokens_at, tokens_from, token_in, IsLexeme};
+ghost use Rattle.bench_reader.specs.Scanning.{tokens_at, tokens_from, token_in, IsLexeme, IsNext};
 ghost use Rattle.bench_reader.specs.Shapes.{stop_kind, head_tokens, IsHead, ArePins, IsStatement};
 ghost use Rattle.bench_reader.specs.Stops.{IsStop};
 
@@ -142,27 +142,49 @@ fn gate_head(bytes: &[u8], name: Lexeme, equals: Lexeme) -> Result<GateHead, Net
     })
 }
 
-// The pins of a gate, and the place behind the closing bracket.
+// The pins of a gate, and the place behind the closing bracket. A gate that takes no pins may have none.
 fn pins(alloc: Global, bytes: &[u8], head: GateHead) -> Result<(Vec<Lexeme>, Place), NetFault>
     requires room { length bytes.now < 2 ^ 31 }
     requires head { IsHead bytes.now head }
     ensures ok { IfOk result (ArePins bytes.now head) }
     ensures refused { IfErr result (IsStop bytes.now (head_tokens bytes.now head ++ tokens_at bytes.now head.bracket.end)) }
 {
+    let first = next_lexeme(bytes, behind(head.bracket));
+    match first.kind {
+        LexemeKind::Name => some_pins(alloc, bytes, head, first),
+        LexemeKind::CloseBracket if takes(head.driver, 0) => Ok((Vec::new(alloc), behind(first))),
+        _ => Err(stop(first)),
+    }
+}
+
+// The pins of a gate from its first one on, and the place behind the closing bracket.
+fn some_pins(
+    alloc: Global,
+    bytes: &[u8],
+    head: GateHead,
+    first: Lexeme,
+) -> Result<(Vec<Lexeme>, Place), NetFault>
+    requires room { length bytes.now < 2 ^ 31 }
+    requires head { IsHead bytes.now head }
+    requires first { IsNext bytes.now head.bracket.end first }
+    requires is_name { first.kind ≡ LexemeKind.Name }
+    ensures ok { IfOk result (ArePins bytes.now head) }
+    ensures refused { IfErr result (IsStop bytes.now (head_tokens bytes.now head ++ tokens_at bytes.now head.bracket.end)) }
+{
     let mut pins = Vec::new(alloc);
-    let mut place = behind(head.bracket);
+    let mut pin = first;
     'pins: loop {
-        let pin = next_lexeme(bytes, place);
-        match pin.kind {
-            LexemeKind::Name => pins.push(pin)?,
-            _ => return Err(stop(pin)),
-        }
+        pins.push(pin)?;
         let mark = next_lexeme(bytes, behind(pin));
-        place = behind(mark);
         match mark.kind {
             LexemeKind::Comma => {}
-            LexemeKind::CloseBracket => return Ok((pins, place)),
+            LexemeKind::CloseBracket => return Ok((pins, behind(mark))),
             _ => return Err(stop(mark)),
+        }
+        pin = next_lexeme(bytes, behind(mark));
+        match pin.kind {
+            LexemeKind::Name => {}
+            _ => return Err(stop(pin)),
         }
     }
 }

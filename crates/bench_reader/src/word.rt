@@ -1,7 +1,7 @@
 //! The words that the format fixes.
-ghost use Rattle.std.specs.Prelude.{◌≡◌, option_map};
+ghost use Rattle.std.specs.Prelude.{◌≡◌, option_map, Some, if◌then◌else◌};
 ghost use Rattle.std.specs.Str.{str_eq_ignore_ascii_case};
-ghost use Rattle.bench_reader.specs.Grammar.{Named, driver_of, takes, observed_phrase};
+ghost use Rattle.bench_reader.specs.Grammar.{Named, driver_of, is_word, takes, observed_phrase};
 ghost use Rattle.bench_reader.specs.Shapes.{driver_in, port_phrase};
 
 use net_model::Kind;
@@ -24,37 +24,42 @@ fn same_word(word: &[u8], other: &[u8]) -> bool
 pub(crate) fn driver_of(word: &[u8]) -> Option<Driver>
     ensures { option_map driver_in result ≡ driver_of word.now }
 {
-    if same_word(word, b"AND".as_slice()) {
-        return Some(Driver::Gate(Kind::And));
+    let found = None;
+    let found = says(
+        word,
+        b"CONST1".as_slice(),
+        Driver::Gate(Kind::Const1),
+        found,
+    );
+    let found = says(
+        word,
+        b"CONST0".as_slice(),
+        Driver::Gate(Kind::Const0),
+        found,
+    );
+    let found = says(word, b"MUX".as_slice(), Driver::Gate(Kind::Mux), found);
+    let found = says(word, b"DFF".as_slice(), Driver::FlipFlop, found);
+    let found = says(word, b"BUF".as_slice(), Driver::Gate(Kind::Buff), found);
+    let found = says(word, b"BUFF".as_slice(), Driver::Gate(Kind::Buff), found);
+    let found = says(word, b"NOT".as_slice(), Driver::Gate(Kind::Not), found);
+    let found = says(word, b"XNOR".as_slice(), Driver::Gate(Kind::Xnor), found);
+    let found = says(word, b"XOR".as_slice(), Driver::Gate(Kind::Xor), found);
+    let found = says(word, b"NOR".as_slice(), Driver::Gate(Kind::Nor), found);
+    let found = says(word, b"OR".as_slice(), Driver::Gate(Kind::Or), found);
+    let found = says(word, b"NAND".as_slice(), Driver::Gate(Kind::Nand), found);
+    let found = says(word, b"AND".as_slice(), Driver::Gate(Kind::And), found);
+    found
+}
+
+// What a word says if it is this keyword, and else what was found.
+fn says(word: &[u8], keyword: &[u8], driver: Driver, found: Option<Driver>) -> Option<Driver>
+    ensures { option_map driver_in result ≡ (if is_word keyword.now word.now then Some (driver_in driver) else option_map driver_in found) }
+{
+    if same_word(word, keyword) {
+        Some(driver)
+    } else {
+        found
     }
-    if same_word(word, b"NAND".as_slice()) {
-        return Some(Driver::Gate(Kind::Nand));
-    }
-    if same_word(word, b"OR".as_slice()) {
-        return Some(Driver::Gate(Kind::Or));
-    }
-    if same_word(word, b"NOR".as_slice()) {
-        return Some(Driver::Gate(Kind::Nor));
-    }
-    if same_word(word, b"XOR".as_slice()) {
-        return Some(Driver::Gate(Kind::Xor));
-    }
-    if same_word(word, b"XNOR".as_slice()) {
-        return Some(Driver::Gate(Kind::Xnor));
-    }
-    if same_word(word, b"NOT".as_slice()) {
-        return Some(Driver::Gate(Kind::Not));
-    }
-    if same_word(word, b"BUFF".as_slice()) {
-        return Some(Driver::Gate(Kind::Buff));
-    }
-    if same_word(word, b"BUF".as_slice()) {
-        return Some(Driver::Gate(Kind::Buff));
-    }
-    if same_word(word, b"DFF".as_slice()) {
-        return Some(Driver::FlipFlop);
-    }
-    None
 }
 
 /// Whether a gate may have so many pins.
@@ -62,8 +67,12 @@ pub(crate) fn takes(driver: Driver, pins: usize) -> bool
     ensures { result ≡ takes (driver_in driver) pins }
 {
     match driver {
+        Driver::Gate(Kind::Const0 | Kind::Const1) => pins == 0,
         Driver::FlipFlop | Driver::Gate(Kind::Not | Kind::Buff) => pins == 1,
-        Driver::Gate(_) => pins > 0,
+        Driver::Gate(Kind::Mux) => pins == 3,
+        Driver::Gate(Kind::And | Kind::Nand | Kind::Or | Kind::Nor | Kind::Xor | Kind::Xnor) => {
+            pins > 0
+        }
     }
 }
 

@@ -1,5 +1,5 @@
 -- What the steps of a cut make.
-use Rattle.std.specs.Prelude.{ℕ, ◌==◌, Bool, List, Some, filter, slice_get, nat_eq}
+use Rattle.std.specs.Prelude.{◌≡◌, ◌<◌, ◌≤◌, ℕ, ◌==◌, ◌++◌, ◌⊎◌, Bool, List, [], ◌∷◌, Some, map, filter, length, slice_get, slice_set, slice_index, slice_index_or, if◌then◌else◌, nat_eq, All, Contains}
 use Rattle.std.specs.Borrow.{Bor}
 use Rattle.std.specs.Cmp.Lexicographic.{slice_cmp}
 use Rattle.std.specs.Ordering.{nat_cmp}
@@ -15,6 +15,24 @@ words_order a b = slice_cmp nat_cmp a.now b.now
 abbrev pub piece_of : ClassTable → List (List Bool) → ℕ → List ℕ
 piece_of t row low = filter (λ n. piece_lowest t row n == low) (members t (class_at t low))
 
+-- The groups are the pieces that have these lowest numbers, and the parents the classes that they leave.
+pub record ArePieces (t : ClassTable) (row : List (List Bool)) (lows : List ℕ) (groups : List (List ℕ)) (parents : List ℕ) : Type 0 where
+  pub groups_are : groups ≡ map (piece_of t row) lows
+  pub parents_are : parents ≡ map (class_at t) lows
+
+-- the groups after a number came into the one at a place, or into a new one behind them
+abbrev pub put_in : List (List ℕ) → ℕ → ℕ → List (List ℕ)
+put_in groups place n = if place == length groups then groups ++ (n ∷ []) ∷ [] else slice_set groups place (slice_index_or groups place [] ++ n ∷ [])
+
 -- whether a number is of a class
 abbrev pub is_in : List ℕ → ℕ → ℕ → Bool
 is_in class_of class n = option_eq nat_eq (slice_get class_of n) (Some class)
+
+-- those of a class's group that are of the class
+abbrev pub staying : List ℕ → List (List ℕ) → ℕ → List ℕ
+staying class_of groups class = filter (is_in class_of class) (slice_index_or groups class [])
+
+-- After the move a number of a group from the first one on is in the class of that number, and any other is where it was.
+pub record IsMove (before : List ℕ) (groups : List (List ℕ)) (first : ℕ) (after : ℕ → ℕ) : Type 0 where
+  pub moved : (class : ℕ) → first ≤ class → class < length groups → All (λ n. after n ≡ class) (slice_index_or groups class [])
+  pub others : (n : ℕ) → n < length before → (after n ≡ slice_index before n) ⊎ ((class : ℕ) × (first ≤ class) × (class < length groups) × Contains (slice_index_or groups class []) n)

@@ -1,5 +1,5 @@
 -- Clauses, and what a pool of them shows.
-use Rattle.std.specs.Prelude.{◌≡◌, ◌⊎◌, ℕ, ◌+◌, ◌-◌, ◌<◌, List, [], ◌∷◌, take, drop, length, Option, None, slice_get, ◌==◌, if◌then◌else◌}
+use Rattle.std.specs.Prelude.{◌≡◌, ◌⊎◌, ℕ, ◌+◌, ◌-◌, ◌<◌, List, [], ◌∷◌, ◌++◌, take, drop, length, Option, None, slice_get, ◌==◌, if◌then◌else◌}
 use Rattle.std.specs.List.{sum_by}
 use Rattle.clause_pool.specs.Literal.{Literal}
 
@@ -36,3 +36,8 @@ clauses_of from (end ∷ ends) literals = take (end - from) literals ∷ clauses
 -- the clause of a number; the first has number 1
 abbrev pub numbered_clause : List Clause → ℕ → Option Clause
 numbered_clause clauses number = if number == 0 then None else slice_get clauses (number - 1)
+
+-- The clauses begin with these.
+pub record BeginsWith (clauses first : List Clause) : Type 0 where
+  pub more : List Clause
+  pub are : clauses ≡ first ++ more

@@ -3,3 +3,4 @@ pub mod LiteralCode
 pub mod Clauses
 pub mod PoolFields
 pub mod Partial
+pub mod Proper

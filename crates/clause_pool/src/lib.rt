@@ -1,10 +1,9 @@
-//! Clauses of literals, kept in one region with room for more.
+//! Clauses of literals, kept in one region with room for more. What is said of clauses everywhere, such as which variables
+//! they have, is defined here.
 #![tactic(auto)]
 
 mod lit;
 mod pool;
-#[cfg(test)]
-mod tests;
 
 pub use lit::Lit;
 pub use pool::{Full, Mark, Pool};

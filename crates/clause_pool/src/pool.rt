@@ -7,9 +7,11 @@ ghost use Rattle.clause_pool.specs.Clauses.{clause_places, literal_places, liter
 use crate::lit::Lit;
 use std::alloc::{AllocError, Global};
 use std::marker::Model;
+use thiserror::Error;
 
 /// No room is left for a clause.
-#[derive(Clone, Copy, Debug, PartialEq, Eq)]
+#[derive(Clone, Copy, Debug, PartialEq, Eq, Error)]
+#[error("no room is left for the clause")]
 pub struct Full;
 
 /// How many clauses and literals a pool had.

@@ -10,19 +10,20 @@ use Rattle.std.proofs.Math.Seq.{take-append_seam}
 use Rattle.net_model.specs.Circuit.{Circuit}
 use Rattle.net_model.specs.FaultList.{fault_count}
 use Rattle.net_model.specs.ClassTable.{ClassTable, class_at, representative}
-use Rattle.net_model.specs.PatternRows.{IsTableOf}
+use Rattle.net_model.specs.PatternRows.{IsTableOf, SplitsClass}
 use Rattle.result_file.specs.declared.record.Budgets.{Budgets}
 use Rattle.result_file.specs.declared.record.Evidence.{Evidence}
 use Rattle.result_file.specs.declared.record.Record.{Record}
 use Rattle.result_file.specs.declared.record.Record.TheVariants.{Head, Budget, Pattern, Same, Class, Member, End}
 use Rattle.result_file.specs.Marks.{pattern_of, evidence_of, patterns_in, evidence_in, is_class, class_lines, next_member}
-use Rattle.result_file.specs.Lines.{AreWithinLimits, IsRightPattern, AreRightPatterns}
+use Rattle.result_file.specs.Lines.{AreWithinLimits}
 use Rattle.result_file.specs.Meaning.{is_body_record}
 use Rattle.result_file.proofs.RecordLists.{read_all, read_none, count_kept}
 use Rattle.result_file.proofs.RightLines.{IsNextLine, right_next, right_head, right_patterns}
+use Rattle.kept_vectors.specs.Kept.{SplitInTurn}
 use Rattle.dia_gen.specs.Settled.{IsApartBy, IsProofFor}
-use Rattle.dia_gen.specs.Draft.{head_lines, lines_with, AreDraftLines}
-use Rattle.dia_gen.specs.Made.{SeparatesNext, HasNoSearch}
+use Rattle.dia_gen.specs.Draft.{AreDraftLines}
+use Rattle.dia_gen.specs.Made.{head_lines, lines_with, SeparatesNext, HasNoSearch}
 
 -- ---- one element more
 
@@ -101,7 +102,7 @@ module _ (c : Circuit) (budgets : Budgets) (kept : List (List Bool)) where
       ];
     }
 
-    module _ (t : ClassTable) (table : IsTableOf c (kept ++ patterns_in later) t) (few : fault_count c < 2 ^ 32) (so_far : AreDraftLines c budgets kept later) where
+    module _ (t : ClassTable) (table : IsTableOf c (kept ++ patterns_in later) t) (few : fault_count c < 2 ^ 27) (so_far : AreDraftLines c budgets kept later) where
       lines_table : IsTableOf c (patterns_in (lines_with c budgets kept later)) t
       lines_table = rw lines_patterns table
 
@@ -126,12 +127,12 @@ module _ (c : Circuit) (budgets : Budgets) (kept : List (List Bool)) where
           same_evidence e x is = cc
 
       -- a pattern that tells the next number from its representative
-      pub pattern_added : (v : List Bool) (member : ℕ) → next_member t (evidence_in later) ≡ Some member → IsApartBy c budgets (representative t (class_at t member)) member v → IsRightPattern c t v
+      pub pattern_added : (v : List Bool) (member : ℕ) → next_member t (evidence_in later) ≡ Some member → IsApartBy c budgets (representative t (class_at t member)) member v → SplitsClass c (kept ++ patterns_in later) v
           → AreDraftLines c budgets kept (later ++ Pattern v ∷ [])
       pattern_added v member next apart right =
           draft_more so_far (Pattern v) (record {
             spelled = tt;
-            right = record { t = t; table = lines_table; place = (lines_two, no_class); content = right };
+            right = record { t = t; table = lines_table; place = (lines_two, no_class); content = record { width = apart.width; splits = rw lines_patterns right } };
           }) refl
           (λ w is.
           let same : v ≡ w = same_pattern v w is in
@@ -143,11 +144,11 @@ module _ (c : Circuit) (budgets : Budgets) (kept : List (List Bool)) where
           same_pattern v w is = cc
 
   -- the kept vectors alone
-  pub draft_first : c.sources < 2 ^ 32 → length c.positions < 2 ^ 32 → fault_count c < 2 ^ 32 → AreWithinLimits budgets → AreRightPatterns c kept → AreDraftLines c budgets kept []
+  pub draft_first : c.sources < 2 ^ 32 → length c.positions < 2 ^ 32 → fault_count c < 2 ^ 27 → AreWithinLimits budgets → SplitInTurn c kept → AreDraftLines c budgets kept []
   draft_first sources positions few limits right =
       let two : 2 ≤ length (head_lines c budgets) = omega arith in
       record {
-        right = rw (append-nil before) (right_patterns (right_head (sources, positions, few) (omega (arith, limits.blocks), omega (arith, limits.cubes), omega (arith, limits.conflicts)) limits) refl refl two right);
+        right = rw (append-nil before) (right_patterns (right_head (sources, positions, omega arith) (omega (arith, limits.blocks), omega (arith, limits.cubes), omega (arith, limits.conflicts)) limits) refl refl two right.widths right.splits);
         body = λ k d below. absurd (omega arith);
         patterns = λ at v there. absurd (cc);
         no_search = λ at e none there. absurd (cc);

@@ -1,14 +1,15 @@
 -- A draft in which each number is marked, with the lines of its classes and numbers and the end: the generator may write it, and it is true.
-use Rattle.std.proofs.Common.{◌≡◌, ℕ, zero, suc, ◌<◌, ◌^◌, Bool, false, cond, List, [], ◌∷◌, ◌++◌, map, length, take, get_or, Option, Some, None, refl, sym, ap, subst, ◌∙◌, inl, inr, arith, IsTrue}
-use Rattle.std.specs.Prelude.{◌⊎◌, MatchOption, unwrap_or, IsSome}
-use Rattle.std.specs.List.{cons_option, slice_get, count_by, enumerate_from}
-use Rattle.std.proofs.lemmas.List.{append_assoc, append-nil, map-id, take-append-le}
+use Rattle.std.proofs.Common.{◌≡◌, ℕ, ◌<◌, ◌≤◌, ◌^◌, Bool, false, cond, List, [], ◌∷◌, ◌++◌, map, length, get_or, Option, Some, None, refl, sym, ap, ◌∙◌, arith, IsTrue}
+use Rattle.std.specs.Prelude.{All, MatchOption, unwrap_or, IsSome}
+use Rattle.std.specs.List.{slice_get, count_by, enumerate_from}
+use Rattle.std.proofs.lemmas.List.{append-nil, map-id}
 use Rattle.std.proofs.lemmas.List.Elements.{All-append, All-map, filter_map-append}
 use Rattle.std.proofs.lemmas.List.FromFn.{length-enumerate_from, length-map-range_with_len, get_or-map-range_with_len}
 use Rattle.std.proofs.lemmas.List.Sums.{sum_by-append}
 use Rattle.std.proofs.lemmas.Option.{slice_get-get_or, get_or_from_slice_get, slice_get_within}
 use Rattle.net_model.specs.Circuit.{Circuit, IsCircuit}
-use Rattle.net_model.specs.Fault.{IsFaultOf}
+use Rattle.net_model.specs.declared.fault.Fault.TheVariants.{Free}
+use Rattle.net_model.proofs.Listed.{listed as all_stand}
 use Rattle.net_model.specs.FaultList.{fault_count, fault_numbered}
 use Rattle.net_model.specs.ClassTable.{ClassTable, class_at, class_count, number_range}
 use Rattle.net_model.specs.PatternRows.{IsTableOf}
@@ -16,7 +17,7 @@ use Rattle.class_refine.specs.Fields.{IsWhole}
 use Rattle.class_refine.specs.Laws.{NamedSeparatesFaults}
 use Rattle.class_refine.proofs.Refined.{few_classes}
 use Rattle.fault_collapse.specs.Laws.{SameRootEqual}
-use Rattle.pair_sets.specs.Laws.{CoveringEqual, LeavesClosed}
+use Rattle.pair_sets.specs.Laws.{CoveringEqual, LeavesClosed, SpendingBounded}
 use Rattle.result_file.specs.declared.record.Budgets.{Budgets}
 use Rattle.result_file.specs.declared.record.Evidence.{Evidence}
 use Rattle.result_file.specs.declared.record.Mark.{Mark}
@@ -30,49 +31,15 @@ use Rattle.result_file.specs.Summary.{is_equal, is_open, summary_of}
 use Rattle.result_file.specs.Meaning.{StatedResult, stated_records, class_records, member_records, is_body_record, IsTrueResult}
 use Rattle.result_file.proofs.RecordLists.{read_none, read_all, read_kept, count_kept, count_more}
 use Rattle.result_file.proofs.RightLines.{IsBody, HasSmallClasses, AreMembers, right_table}
-use Rattle.result_file.proofs.Truth.{AreSound, IsSoundTable, lines_true}
+use Rattle.result_file.proofs.Truth.{AreSound, IsSoundTable, lines_true, none_open as closed_lines}
 use Rattle.dia_gen.specs.declared.marks.Given.{Given}
-use Rattle.dia_gen.specs.Kept.{IsKept}
+use Rattle.kept_vectors.specs.Kept.{IsKept}
 use Rattle.dia_gen.specs.Given.{given_mark, member_for, AreGiven, AreAllMarked}
-use Rattle.dia_gen.specs.Draft.{head_lines, lines_with, AreDraftLines}
-use Rattle.dia_gen.specs.Made.{AreMade}
-use Rattle.dia_gen.proofs.KeepLemmas.{table_numbers, table_patterns}
+use Rattle.dia_gen.specs.Draft.{AreDraftLines}
+use Rattle.dia_gen.specs.Made.{head_lines, lines_with, MayState}
+use Rattle.kept_vectors.proofs.KeepLemmas.{table_numbers, table_patterns}
 use Rattle.dia_gen.proofs.MarkLemmas.{all_marked_none, lead_inside}
 use Rattle.dia_gen.proofs.DraftLemmas.{lines_patterns, lines_evidence, lines_two, lines_count}
-use Rattle.dia_gen.proofs.RootLemmas.{one_root_equal}
-
--- ---- lines behind other lines
-
-in_parts : {X : Type 0} (xs ys : List X) (at : ℕ) (x : X) → slice_get (xs ++ ys) at ≡ Some x → (slice_get xs at ≡ Some x) ⊎ ((k : ℕ) × (slice_get ys k ≡ Some x))
-in_parts [] ys at x there = inr (at, there)
-in_parts (z ∷ xs) ys zero x there = inl there
-in_parts (z ∷ xs) ys (suc at) x there = in_parts xs ys at x there
-
-rest_none : {X : Type 0} (o : Option X) (xs : List X) → cons_option o xs ≡ [] → xs ≡ []
-rest_none None xs none = none
-rest_none (Some x) xs none = absurd (cc)
-
--- a list without patterns, or without evidence, has none at any place
-no_pattern : (rs : List Record) (at : ℕ) (v : List Bool) → patterns_in rs ≡ [] → slice_get rs at ≡ Some (Pattern v) → ⊥
-no_pattern [] at v none is = absurd (cc)
-no_pattern (r ∷ rs) zero v none is =
-    let e : r ≡ Pattern v = cc in
-    let P : Record → Type 0 = λ x. patterns_in (x ∷ rs) ≡ [] in
-    let some : v ∷ patterns_in rs ≡ [] = subst P e none in
-    cc
-no_pattern (r ∷ rs) (suc at) v none is = no_pattern rs at v (rest_none (pattern_of r) (patterns_in rs) none) is
-
-no_evidence : (rs : List Record) (at : ℕ) (e : Evidence) → evidence_in rs ≡ [] → slice_get rs at ≡ Some (Same e) → ⊥
-no_evidence [] at e none is = absurd (cc)
-no_evidence (r ∷ rs) zero e none is =
-    let same : r ≡ Same e = cc in
-    let P : Record → Type 0 = λ x. evidence_in (x ∷ rs) ≡ [] in
-    let some : e ∷ evidence_in rs ≡ [] = subst P same none in
-    cc
-no_evidence (r ∷ rs) (suc at) e none is = no_evidence rs at e (rest_none (evidence_of r) (evidence_in rs) none) is
-
-regroup : (h p l c m e : List Record) → h ++ (p ++ l) ++ c ++ m ++ e ≡ h ++ p ++ (l ++ c ++ m) ++ e
-regroup h p l c m e = simp append_assoc
 
 -- ---- births
 
@@ -97,11 +64,12 @@ small_birth t whole small class (Some birth) at =
     (omega (arith, known.0), omega (arith, known.1, whole.patterns))
 
 -- the laws of a circuit's faults that its results rest on
-pub sound_circuit : (c : Circuit) → IsCircuit c → ((n : ℕ) → n < fault_count c → IsFaultOf c (fault_numbered c n)) → SameRootEqual → CoveringEqual → LeavesClosed → AreSound c
-sound_circuit c is stand roots covering closed = record {
-  roots = one_root_equal roots c is stand;
+pub sound_circuit : (c : Circuit) → IsCircuit c → SameRootEqual → CoveringEqual → LeavesClosed → SpendingBounded → AreSound c
+sound_circuit c is roots covering closed bounded = record {
+  roots = λ m n low high same. roots c (fault_numbered c m) (fault_numbered c n) is (all_stand c m Free low) (all_stand c n Free high) same;
   covered = λ f g limit tokens right. covering c f g limit tokens is right;
   leaves = λ f g tokens tree at below leaf. let here = tree.each at below in (here.0, here.1, closed c f g tokens at here.0 is tree below leaf here.1);
+  bounded = λ f g limit tokens spending. bounded c f g limit tokens is spending;
 }
 
 some_mark : (o : Option Mark) → IsSome o → o ≡ Some (unwrap_or o Rep)
@@ -124,19 +92,13 @@ module _ (c : Circuit) (budgets : Budgets) (kept : List (List Bool)) (later : Li
   abbrev members : List Record
   members = member_records (map (member_for t given) (number_range t))
 
-  table_none : patterns_in (classes ++ members) ≡ []
-  table_none = read_kept (λ x. Member x.0 x.1.0 x.1.1) classes pattern_of (λ x. refl) (enumerate_from 0 (map (member_for t given) (number_range t))) ∙ read_none (λ x. Class x.0 x.1) pattern_of (λ x. refl) (enumerate_from 0 t.births)
-
-  table_unevidenced : evidence_in (classes ++ members) ≡ []
-  table_unevidenced = read_kept (λ x. Member x.0 x.1.0 x.1.1) classes evidence_of (λ x. refl) (enumerate_from 0 (map (member_for t given) (number_range t))) ∙ read_none (λ x. Class x.0 x.1) evidence_of (λ x. refl) (enumerate_from 0 t.births)
-
   body_patterns : patterns_in stated.body ≡ kept ++ patterns_in later
   body_patterns = filter_map-append pattern_of (map Pattern kept) later ∙ ap (λ (vs : List (List Bool)). vs ++ patterns_in later) (read_all Pattern pattern_of (λ v. v) (λ v. refl) kept ∙ map-id kept)
 
   body_evidence : evidence_in stated.body ≡ evidence_in later
   body_evidence = filter_map-append evidence_of (map Pattern kept) later ∙ ap (λ (es : List Evidence). es ++ evidence_in later) (read_none Pattern evidence_of (λ v. refl) kept)
 
-  module _ (lines : AreDraftLines c budgets kept later) (table : IsTableOf c (kept ++ patterns_in later) t) (whole : IsWhole t) (few : fault_count c < 2 ^ 32)
+  module _ (lines : AreDraftLines c budgets kept later) (table : IsTableOf c (kept ++ patterns_in later) t) (whole : IsWhole t) (few : fault_count c < 2 ^ 27)
       (are : AreGiven t (evidence_in later) given) (all : AreAllMarked t given) where
     numbers : length t.class_of ≡ fault_count c
     numbers = table_numbers table
@@ -170,39 +132,23 @@ module _ (c : Circuit) (budgets : Budgets) (kept : List (List Bool)) (later : Li
     pub result_right : AreRightLines c (stated_records c stated)
     result_right = right_table body small (all_members (evidence_in (lines_with c budgets kept later)) (lines_evidence c budgets kept later))
 
-    -- a line behind the kept patterns that is no line of the table
-    in_later : (at : ℕ) (r : Record) → slice_get (later ++ classes ++ members) at ≡ Some r → (slice_get later at ≡ Some r) ⊎ ((k : ℕ) × (slice_get (classes ++ members) k ≡ Some r))
-    in_later at r there = in_parts later (classes ++ members) at r (ap (λ (rs : List Record). slice_get rs at) (sym (append_assoc later classes members)) ∙ there)
-
-    taken : (at : ℕ) (r : Record) → slice_get later at ≡ Some r → take at (later ++ classes ++ members) ≡ take at later
-    taken at r there = ap (take at) (append_assoc later classes members) ∙ take-append-le at later (classes ++ members) (let h = slice_get_within later at r there in omega arith)
-
-    pub result_made : IsKept c budgets.blocks kept → AreMade c budgets (stated_records c stated)
+    pub result_made : IsKept c budgets.blocks kept → MayState c stated
     result_made first = record {
-      head = head_lines c budgets;
+      valid = record { lines = result_right; before = lines_with c budgets kept later ++ classes ++ members; ended = refl };
       kept = kept;
-      later = later ++ classes ++ members;
-      parts = regroup (head_lines c budgets) (map Pattern kept) later classes members (End ∷ []);
-      right = result_right;
-      two_lines = refl;
-      budgets_are = refl;
+      later = later;
+      body = refl;
       kept_are = first;
-      patterns = λ at v there. elim (in_later at (Pattern v) there) [
-        | inl old ↦ rw (taken at (Pattern v) old) (lines.patterns at v old)
-        | inr tabled ↦ absurd (no_pattern (classes ++ members) tabled.0 v table_none tabled.1)
-      ];
-      no_search = λ at e none there. elim (in_later at (Same e) there) [
-        | inl old ↦ lines.no_search at e none old
-        | inr tabled ↦ absurd (no_evidence (classes ++ members) tabled.0 e table_unevidenced tabled.1)
-      ];
-      no_choice = λ at v cubes conflicts there. elim (in_later at (Pattern v) there) [
-        | inl old ↦ lines.no_choice at v cubes old
-        | inr tabled ↦ no_pattern (classes ++ members) tabled.0 v table_none tabled.1
-      ];
+      patterns = lines.patterns;
+      no_search = lines.no_search;
+      no_choice = λ at v cubes conflicts there. lines.no_choice at v cubes there;
     }
 
-    sound_table : NamedSeparatesFaults → IsSoundTable c (patterns_in stated.body) t
-    sound_table law = record {
+    abbrev pub Widths : Type 0
+    Widths = All (λ v. length v ≡ c.sources) (kept ++ patterns_in later)
+
+    sound_table : NamedSeparatesFaults → Widths → IsSoundTable c (patterns_in stated.body) t
+    sound_table law widths = record {
       numbers = numbers;
       some = whole.some;
       classes = whole.classes;
@@ -210,15 +156,16 @@ module _ (c : Circuit) (budgets : Budgets) (kept : List (List Bool)) (later : Li
       later = λ k some below.
           let found = later_by (get_or t.births k None) k t.patterns (whole.births k below) some in
           (found.0, slice_get-get_or t.births k None below ∙ ap Some found.1, found.2, rw body_patterns (omega (arith, found.3, table_patterns table)));
-      apart = λ m n low high differ. rw body_patterns (law c (kept ++ patterns_in later) t (class_at t m) (class_at t n) m n table (whole.classes m (omega (arith, numbers))) (whole.classes n (omega (arith, numbers))) differ low high refl refl);
+      apart = λ m n low high differ. rw body_patterns (law c (kept ++ patterns_in later) t (class_at t m) (class_at t n) m n table widths (whole.classes m (omega (arith, numbers))) (whole.classes n (omega (arith, numbers))) differ low high refl refl);
       leads = lead_inside t whole;
     }
 
-    pub result_true : AreSound c → NamedSeparatesFaults → IsTrueResult c stated
-    result_true sound law =
-        lines_true c budgets (map Pattern kept ++ later) t (map (member_for t given) (number_range t)) sound result_right
-        (All-append (λ r. IsTrue (is_body_record r)) (map Pattern kept) later (All-map (λ r. IsTrue (is_body_record r)) Pattern kept (λ k d below. refl)) lines.body)
-        (sound_table law) (all_members (evidence_in stated.body) body_evidence)
+    body_records : All (λ r. IsTrue (is_body_record r)) stated.body
+    body_records = All-append (λ r. IsTrue (is_body_record r)) (map Pattern kept) later (All-map (λ r. IsTrue (is_body_record r)) Pattern kept (λ k d below. refl)) lines.body
+
+    pub result_true : AreSound c → NamedSeparatesFaults → Widths → IsTrueResult c stated
+    result_true sound law widths =
+        lines_true c budgets (map Pattern kept ++ later) t (map (member_for t given) (number_range t)) sound result_right body_records (sound_table law widths) (all_members (evidence_in stated.body) body_evidence)
 
     -- ---- what it amounts to
 
@@ -264,3 +211,9 @@ module _ (c : Circuit) (budgets : Budgets) (kept : List (List Bool)) (later : Li
         let equal = count_marked is_equal (count_tabled is_equal refl (λ v. refl) (λ e. refl) (λ x. refl)) refl in
         let spent = count_marked is_open (count_tabled is_open refl (λ v. refl) (λ e. refl) (λ x. refl)) refl in
         cc
+
+    -- with as many cubes as there are vectors no member is left open
+    pub none_open : AreSound c → 2 ^ c.sources ≤ budgets.cubes → count_by is_open members ≡ 0
+    none_open sound enough =
+        sym (count_marked is_open (count_tabled is_open refl (λ v. refl) (λ e. refl) (λ x. refl)) refl)
+        ∙ closed_lines c budgets sound c.sources (length c.positions) (fault_count c) (map Pattern kept ++ later ++ classes ++ members ++ End ∷ []) result_right enough

@@ -1,15 +1,7 @@
-pub mod AnswerLemmas
-pub mod NoteLemmas
-pub mod SpanLemmas
-pub mod RowLemmas
-pub mod SameCuts
-pub mod KeepLemmas
 pub mod LineLemmas
 pub mod MarkLemmas
 pub mod DraftLemmas
-pub mod NextPattern
 pub mod PairLemmas
 pub mod DraftResult
 pub mod Written
 pub mod MarkedLemmas
-pub mod RootLemmas

@@ -3,8 +3,7 @@ use Rattle.std.proofs.Common.{◌≡◌, ℕ, zero, suc, ◌<◌, ◌≤◌, Boo
 use Rattle.std.specs.Prelude.{◌==◌, ◌&&◌, is_none, is_some, option_and_then, All, IsSome, if◌then◌else◌}
 use Rattle.std.specs.Option.{option_map, option_or}
 use Rattle.std.specs.List.{find}
-use Rattle.std.proofs.lemmas.Bool.{cases_eq}
-use Rattle.std.proofs.lemmas.Bool.Decides.{nat_tests}
+use Rattle.std.proofs.lemmas.Bool.{cases_eq, eqb-true, eq-eqb, ne_eqb}
 use Rattle.std.proofs.lemmas.List.{length-set, get_or-set_same, get_or-set_other, length-replicate}
 use Rattle.std.proofs.lemmas.List.Elements.{All-append, All-head, All-tail}
 use Rattle.std.proofs.lemmas.List.Folds.{find-append}
@@ -19,10 +18,9 @@ use Rattle.result_file.specs.declared.record.Mark.TheVariants.{Rep}
 use Rattle.result_file.specs.declared.record.Proof.{Proof}
 use Rattle.result_file.specs.Marks.{number_mark, next_member, mark_of}
 use Rattle.result_file.proofs.Marked.{next_is, none_next}
-use Rattle.result_file.proofs.RightEvidence.{same_number}
 use Rattle.dia_gen.specs.declared.marks.Given.{Given}
 use Rattle.dia_gen.specs.Given.{given_to, given_mark, AreGiven, AreAllMarked, IsLowestOpen}
-use Rattle.dia_gen.specs.Notes.{IsFiner}
+use Rattle.kept_vectors.specs.Kept.{IsFiner}
 
 some_is : {X : Type 0} (o : Option X) → IsSome o → is_none o ≡ false
 some_is None some = absurd (cc)
@@ -60,12 +58,6 @@ map_none : (o : Option Evidence) → option_map (λ (e : Evidence). mark_of e.pr
 map_none None none = refl
 map_none (Some e) none = absurd (cc)
 
-is_same : (n : ℕ) → (n == n) ≡ true
-is_same n = grind (arith, nat_tests)
-
-is_other : (m n : ℕ) → (m ≡ n → ⊥) → (m == n) ≡ false
-is_other m n other = grind (arith, nat_tests)
-
 module _ (lead member : ℕ) (proof : Proof) (evidence : List Evidence) where
   abbrev more : Evidence
   more = record { member = member; partner = lead; proof = proof }
@@ -79,13 +71,13 @@ module _ (lead member : ℕ) (proof : Proof) (evidence : List Evidence) where
 
   find_other : (n r : ℕ) → (member ≡ n → ⊥) → find (λ e. e.member == n && e.partner == r) (evidence ++ more ∷ []) ≡ find (λ e. e.member == n && e.partner == r) evidence
   find_other n r other =
-      let no : (member == n) ≡ false = is_other member n other in
+      let no : (member == n) ≡ false = ne_eqb member n other in
       let last : find (λ (e : Evidence). e.member == n && e.partner == r) (more ∷ []) ≡ None = ap (λ (b : Bool). cond (b && (lead == r)) (Some more) None) no in
       find_more n r ∙ ap (option_or (find (λ (e : Evidence). e.member == n && e.partner == r) evidence)) last ∙ or_none (find (λ (e : Evidence). e.member == n && e.partner == r) evidence)
 
   find_own : find (λ e. e.member == member && e.partner == lead) evidence ≡ None → find (λ e. e.member == member && e.partner == lead) (evidence ++ more ∷ []) ≡ Some more
   find_own none =
-      let last : find (λ (e : Evidence). e.member == member && e.partner == lead) (more ∷ []) ≡ Some more = ap₂ (λ (a b : Bool). cond (a && b) (Some more) None) (is_same member) (is_same lead) in
+      let last : find (λ (e : Evidence). e.member == member && e.partner == lead) (more ∷ []) ≡ Some more = ap₂ (λ (a b : Bool). cond (a && b) (Some more) None) (eq-eqb member member refl) (eq-eqb lead lead refl) in
       find_more member lead ∙ ap₂ option_or none last
 
   own_mark : (b : Bool) → (lead == member) ≡ b → by_evidence lead evidence member ≡ None → by_evidence lead (evidence ++ more ∷ []) member ≡ Some (mark_of proof)
@@ -104,7 +96,7 @@ module _ (lead member : ℕ) (proof : Proof) (evidence : List Evidence) where
       let some : by_given lead g member ≡ Some Rep = ap (λ (b : Bool). if b then Some Rep else option_and_then (λ (g : Given). if g.partner == lead then Some g.mark else None) g) same in
       let clash : ◌≡◌ {A = Option Mark} None (Some Rep) = sym none ∙ some in
       absurd (cc)
-  given_own false same g none = ap₂ (λ (a b : Bool). if a then Some Rep else (if b then Some (mark_of proof) else None)) same (is_same lead)
+  given_own false same g none = ap₂ (λ (a b : Bool). if a then Some Rep else (if b then Some (mark_of proof) else None)) same (eq-eqb lead lead refl)
 
 -- evidence for the lowest open number, and the mark that it gives
 pub given_more : {t : ClassTable} {evidence : List Evidence} {given : List (Option Given)} (lead member : ℕ) (proof : Proof) → AreGiven t evidence given → member < length t.class_of
@@ -198,14 +190,14 @@ module _ {t u : ClassTable} {evidence : List Evidence} {given : List (Option Giv
   no_evidence n r higher = none_found r n evidence (λ k d below.
       let e = get_or evidence k d in
       not_both (e.member == n) (e.partner == r) (λ same.
-      let is : e.member ≡ n = same_number e.member n same in
+      let is : e.member ≡ n = eqb-true e.member n same in
       let low : e.partner ≤ representative t (class_at t n) = rw is at (are.partners k d below) in
-      is_other e.partner r (λ equal. omega arith)))
+      ne_eqb e.partner r (λ equal. omega arith)))
 
   not_given : (n r : ℕ) (o : Option Given) → ((g : Given) → o ≡ Some g → g.partner < r) → option_and_then (λ (g : Given). if g.partner == r then Some g.mark else None) o ≡ None
   not_given n r None lower = refl
   not_given n r (Some g) lower =
-      let other : (g.partner == r) ≡ false = is_other g.partner r (λ equal. let less = lower g refl in omega arith) in
+      let other : (g.partner == r) ≡ false = ne_eqb g.partner r (λ equal. let less = lower g refl in omega arith) in
       ap (λ (b : Bool). if b then Some g.mark else None) other
 
   mark_after : (n : ℕ) → n < length t.class_of → (b : Bool) → (representative u (class_at u n) == n) ≡ b → representative t (class_at t n) < representative u (class_at u n)

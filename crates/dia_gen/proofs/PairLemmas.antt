@@ -27,24 +27,23 @@ module _ (c : Circuit) (f g : Fault) (small : c.sources < 2 ^ 32) where
 
   tree_spelling : (tokens : List Token) → IsTree c f g tokens → HasTreeSpelling tokens
   tree_spelling tokens tree = record {
-    nonempty = some_token tokens tree.whole;
+    nonempty = some_token tokens tree.shape.whole;
     each = All-from_get_or HasTokenSpelling tokens Rest (λ at below. let right = tree.each at below in token_spelling (token_at tokens at) right.0 right.2);
   }
 
-  pub covered_for : (budgets : Budgets) (m n : ℕ) (tokens : List Token) → fault_numbered c m ≡ f → fault_numbered c n ≡ g → (root c (fault_numbered c m) ≢ root c (fault_numbered c n)) → (budgets.cubes ≡ 0 → ⊥) → IsCovering c f g budgets.cubes tokens
-      → IsProofFor c budgets m n (proof.Covered tokens)
-  covered_for budgets m n tokens first second roots some right = record {
-    spelled = tree_spelling tokens right.tree;
-    roots = roots;
-    right = rw (first, second) right;
+module _ (c : Circuit) (small : c.sources < 2 ^ 32) (budgets : Budgets) (m n : ℕ) (tokens : List Token) (apart : root c (fault_numbered c m) ≢ root c (fault_numbered c n)) (some : budgets.cubes ≡ 0 → ⊥) where
+  pub covered_for : IsCovering c (fault_numbered c m) (fault_numbered c n) budgets.cubes tokens → IsProofFor c budgets m n (proof.Covered tokens)
+  covered_for right = record {
+    spelled = tree_spelling c (fault_numbered c m) (fault_numbered c n) small tokens right.tree;
+    roots = apart;
+    right = right;
     no_search = λ none. absurd (some none);
   }
 
-  pub spent_for : (budgets : Budgets) (m n : ℕ) (tokens : List Token) → fault_numbered c m ≡ f → fault_numbered c n ≡ g → (root c (fault_numbered c m) ≢ root c (fault_numbered c n)) → budgets.conflicts ≡ 0 → (budgets.cubes ≡ 0 → ⊥) → IsSpending c f g budgets.cubes tokens
-      → IsProofFor c budgets m n (proof.Searched tokens)
-  spent_for budgets m n tokens first second roots conflicts some right = record {
-    spelled = tree_spelling tokens right.tree;
-    roots = roots;
-    right = (rw (first, second) right, conflicts);
+  pub spent_for : budgets.conflicts ≡ 0 → IsSpending c (fault_numbered c m) (fault_numbered c n) budgets.cubes tokens → IsProofFor c budgets m n (proof.Searched tokens)
+  spent_for conflicts right = record {
+    spelled = tree_spelling c (fault_numbered c m) (fault_numbered c n) small tokens right.tree;
+    roots = apart;
+    right = (right, conflicts);
     no_search = λ none. absurd (some none);
   }

@@ -1,8 +1,6 @@
-pub mod Notes
-pub mod Kept
-pub mod Keeping
 pub mod Made
 pub mod Setting
+pub mod SettingFields
 pub mod Settled
 pub mod Given
 pub mod Draft

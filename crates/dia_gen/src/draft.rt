@@ -3,18 +3,17 @@
 ghost use Rattle.std.specs.Prelude.{◌≡◌, ◌<◌, ◌+◌, ℕ, IfOk, OnOk, IsSome, IsTrue};
 ghost use Rattle.net_model.specs.ClassTable.{class_at, class_count, representative};
 ghost use Rattle.result_file.specs.Marks.{mark_of};
-ghost use Rattle.dia_gen.specs.Setting.{IsSetting};
 ghost use Rattle.dia_gen.specs.Settled.{IsApartBy, IsProofFor};
 ghost use Rattle.dia_gen.specs.Given.{given_mark, AreAllMarked, IsLowestOpen};
 ghost use Rattle.dia_gen.specs.Draft.{IsDraft};
 
-use crate::kept::Keeper;
-use crate::lines::{push_head, push_pattern, push_patterns, push_same};
+use crate::lines::{push_head, push_patterns, push_same};
 use crate::marks::Marks;
 use crate::pair::{Settled, settle_pair};
 use crate::setting::Setting;
+use kept_vectors::Keeper;
 use net_model::Vector;
-use result_file::{Evidence, Mark, Proof};
+use result_file::{Evidence, Mark, Proof, push_pattern};
 use std::alloc::{AllocError, Global};
 
 // What is kept, the marks that are given, and the lines so far.
@@ -22,23 +21,20 @@ use std::alloc::{AllocError, Global};
 pub(crate) struct Draft<'a> {
     pub(crate) keeper: Keeper<'a>,
     pub(crate) marks: Marks,
-    pub(crate) text: Vec<u8>,
+    pub(crate) text: String,
 }
 
 impl<'a> Draft<'a> {
     // The first two lines, and a line for each vector of the stream that is kept.
     pub(crate) fn start(alloc: Global, setting: &Setting<'a>) -> Result<Draft<'a>, AllocError>
-        requires { IsSetting setting.now }
         ensures { IfOk result (IsDraft setting.now) }
     {
-        let circuit = setting.circuit;
-        let numbers = setting.listed.len();
-        let mut keeper = Keeper::new(alloc, circuit, numbers)?;
-        keeper.keep_stream(setting)?;
-        let mut text = Vec::new(alloc);
+        let mut keeper = setting.keeper(alloc)?;
+        keeper.keep_stream(setting.budgets().blocks)?;
+        let mut text = String::new(alloc);
         push_head(&mut text, setting)?;
-        push_patterns(&mut text, &keeper.kept.vectors)?;
-        let marks = Marks::none(alloc, numbers)?;
+        push_patterns(&mut text, keeper.vectors())?;
+        let marks = Marks::none(alloc, setting.numbers())?;
         Ok(Draft {
             keeper,
             marks,
@@ -48,10 +44,9 @@ impl<'a> Draft<'a> {
 
     // Writes evidence or patterns until each number is a representative or marked.
     pub(crate) fn mark_all(&mut self, alloc: Global, setting: &Setting) -> Result<(), AllocError>
-        requires setting { IsSetting setting.now }
         requires draft { IsDraft setting.now self.old }
         ensures draft { OnOk result (IsDraft setting.now self.new) }
-        ensures marked { OnOk result (AreAllMarked self.new.keeper.kept.classes self.new.marks.given.items) }
+        ensures marked { OnOk result (AreAllMarked self.new.keeper.kept.table self.new.marks.given.items) }
     {
         while self.mark_round(alloc, setting)? {}
         Ok(())
@@ -60,14 +55,13 @@ impl<'a> Draft<'a> {
     // Writes evidence for one number after another, up to the first that a new pattern tells from its representative.
     // Answers whether there was one, since it may take marks away; else all numbers are marked.
     fn mark_round(&mut self, alloc: Global, setting: &Setting) -> Result<bool, AllocError>
-        requires setting { IsSetting setting.now }
         requires draft { IsDraft setting.now self.old }
         ensures draft { OnOk result (IsDraft setting.now self.new) }
-        ensures more { IfOk result (λ more. IsTrue more → class_count self.old.keeper.kept.classes < class_count self.new.keeper.kept.classes) }
-        ensures marked { IfOk result (λ more. ¬ IsTrue more → AreAllMarked self.new.keeper.kept.classes self.new.marks.given.items) }
+        ensures more { IfOk result (λ more. IsTrue more → class_count self.old.keeper.kept.table < class_count self.new.keeper.kept.table) }
+        ensures marked { IfOk result (λ more. ¬ IsTrue more → AreAllMarked self.new.keeper.kept.table self.new.marks.given.items) }
     {
-        for number in 0..setting.listed.len() {
-            if self.marks.of(&self.keeper.kept.classes, number).is_none()
+        for number in 0..setting.numbers() {
+            if self.marks.of(self.keeper.classes(), number).is_none()
                 && self.settle(alloc, setting, number)?
             {
                 return Ok(true);
@@ -79,15 +73,14 @@ impl<'a> Draft<'a> {
     // Writes evidence for the lowest number that isn't marked, or the pattern that tells it from its representative.
     // Answers whether it was a pattern.
     fn settle(&mut self, alloc: Global, setting: &Setting, member: u32) -> Result<bool, AllocError>
-        requires setting { IsSetting setting.now }
         requires draft { IsDraft setting.now self.old }
-        requires lowest { IsLowestOpen self.old.keeper.kept.classes self.old.marks.given.items member }
+        requires lowest { IsLowestOpen self.old.keeper.kept.table self.old.marks.given.items member }
         ensures draft { OnOk result (IsDraft setting.now self.new) }
-        ensures more { IfOk result (λ apart. IsTrue apart → class_count self.old.keeper.kept.classes < class_count self.new.keeper.kept.classes) }
+        ensures more { IfOk result (λ apart. IsTrue apart → class_count self.old.keeper.kept.table < class_count self.new.keeper.kept.table) }
         ensures same { IfOk result (λ apart. ¬ IsTrue apart → self.new.keeper.kept ≡ self.old.keeper.kept) }
-        ensures marked { IfOk result (λ apart. ¬ IsTrue apart → (n : ℕ) → n < member + 1 → IsSome (given_mark self.new.keeper.kept.classes self.new.marks.given.items n)) }
+        ensures marked { IfOk result (λ apart. ¬ IsTrue apart → (n : ℕ) → n < member + 1 → IsSome (given_mark self.new.keeper.kept.table self.new.marks.given.items n)) }
     {
-        let classes = &self.keeper.kept.classes;
+        let classes = self.keeper.classes();
         let lead = classes.representative(classes.class_of(member));
         match settle_pair(alloc, setting, lead, member)? {
             Settled::Apart(v) => {
@@ -103,15 +96,14 @@ impl<'a> Draft<'a> {
 
     // Adds a pattern that tells a number from its representative.
     fn add_pattern(&mut self, setting: &Setting, member: u32, v: Vector) -> Result<(), AllocError>
-        requires setting { IsSetting setting.now }
         requires draft { IsDraft setting.now self.old }
-        requires lowest { IsLowestOpen self.old.keeper.kept.classes self.old.marks.given.items member }
-        requires apart { IsApartBy setting.now.circuit.now setting.now.budgets (representative self.old.keeper.kept.classes (class_at self.old.keeper.kept.classes member)) member v }
+        requires lowest { IsLowestOpen self.old.keeper.kept.table self.old.marks.given.items member }
+        requires apart { IsApartBy setting.now.circuit setting.now.budgets (representative self.old.keeper.kept.table (class_at self.old.keeper.kept.table member)) member v }
         ensures draft { OnOk result (IsDraft setting.now self.new) }
-        ensures more { OnOk result (class_count self.old.keeper.kept.classes < class_count self.new.keeper.kept.classes) }
+        ensures more { OnOk result (class_count self.old.keeper.kept.table < class_count self.new.keeper.kept.table) }
     {
-        self.keeper.keep_vector(setting, &v)?;
-        push_pattern(&mut self.text, v)?;
+        self.keeper.keep(&v)?;
+        push_pattern(&mut self.text, &v)?;
         Ok(())
     }
 
@@ -123,14 +115,13 @@ impl<'a> Draft<'a> {
         member: u32,
         proof: Proof,
     ) -> Result<(), AllocError>
-        requires setting { IsSetting setting.now }
         requires draft { IsDraft setting.now self.old }
-        requires lowest { IsLowestOpen self.old.keeper.kept.classes self.old.marks.given.items member }
-        requires lead { lead ≡ representative self.old.keeper.kept.classes (class_at self.old.keeper.kept.classes member) }
-        requires right { IsProofFor setting.now.circuit.now setting.now.budgets lead member proof }
+        requires lowest { IsLowestOpen self.old.keeper.kept.table self.old.marks.given.items member }
+        requires lead { lead ≡ representative self.old.keeper.kept.table (class_at self.old.keeper.kept.table member) }
+        requires right { IsProofFor setting.now.circuit setting.now.budgets lead member proof }
         ensures draft { OnOk result (IsDraft setting.now self.new) }
         ensures kept { OnOk result (self.new.keeper.kept ≡ self.old.keeper.kept) }
-        ensures marked { OnOk result ((n : ℕ) → n < member + 1 → IsSome (given_mark self.new.keeper.kept.classes self.new.marks.given.items n)) }
+        ensures marked { OnOk result ((n : ℕ) → n < member + 1 → IsSome (given_mark self.new.keeper.kept.table self.new.marks.given.items n)) }
     {
         let mark = mark_of(&proof);
         let evidence = Evidence {

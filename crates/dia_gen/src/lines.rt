@@ -1,74 +1,57 @@
 //! The lines of a result, appended to its text.
 
 ghost use Rattle.std.specs.Prelude.{◌≡◌, ◌≤◌, ◌<◌, ◌+◌, ◌^◌, ◌++◌, ◌∷◌, [], map, length, OnOk, IfOk};
+ghost use Rattle.std.specs.String.{string_bytes};
 ghost use Rattle.net_model.specs.ClassTable.{ClassTable, number_range, class_count};
 ghost use Rattle.result_file.specs.declared.record.Record.TheVariants.{Pattern, Same};
 ghost use Rattle.result_file.specs.Spelling.{text_of};
 ghost use Rattle.result_file.specs.Meaning.{class_records, member_records};
 ghost use Rattle.result_file.specs.Summary.{is_equal, is_open};
-ghost use Rattle.dia_gen.specs.Setting.{IsSetting};
-ghost use Rattle.dia_gen.specs.Draft.{head_lines};
+ghost use Rattle.dia_gen.specs.Made.{head_lines};
 ghost use Rattle.dia_gen.specs.Given.{AreAllMarked, member_for};
 ghost use Rattle.dia_gen.specs.Marked.{marked_with, AreMarkedBelow};
 
 use crate::marks::Marks;
 use crate::setting::Setting;
 use class_refine::Classes;
-use net_model::{Vector, Vectors};
-use result_file::{Evidence, Mark, Record, write_record};
+use net_model::Vector;
+use result_file::{Evidence, Mark, Record, push_pattern, push_record};
 use std::alloc::AllocError;
 
-// The line of a record.
-pub(crate) fn push_line(text: &mut Vec<u8>, line: &Record) -> Result<(), AllocError>
-    ensures { OnOk result (text.new.items ≡ text.old.items ++ text_of (line.now ∷ [])) }
-{
-    let bytes = write_record(*text.allocator(), line)?;
-    text.extend_from_slice(&bytes)?;
-    Ok(())
-}
-
 // The first two lines.
-pub(crate) fn push_head(text: &mut Vec<u8>, setting: &Setting) -> Result<(), AllocError>
-    requires { IsSetting setting.now }
-    ensures { OnOk result (text.new.items ≡ text.old.items ++ text_of (head_lines setting.now.circuit.now setting.now.budgets)) }
+pub(crate) fn push_head(text: &mut String, setting: &Setting) -> Result<(), AllocError>
+    ensures { OnOk result (string_bytes text.new ≡ string_bytes text.old ++ text_of (head_lines setting.now.circuit setting.now.budgets)) }
 {
-    let circuit = setting.circuit;
+    let circuit = setting.circuit();
     let positions = circuit.positions().len() as u32;
-    let head = Record::Head(circuit.sources(), positions, setting.listed.len());
-    push_line(text, &head)?;
-    push_line(text, &Record::Budget(setting.budgets))
-}
-
-// The line of a pattern.
-pub(crate) fn push_pattern(text: &mut Vec<u8>, pattern: Vector) -> Result<(), AllocError>
-    ensures { OnOk result (text.new.items ≡ text.old.items ++ text_of (Pattern pattern ∷ [])) }
-{
-    push_line(text, &Record::Pattern(pattern))
+    let head = Record::Head(circuit.sources(), positions, setting.numbers());
+    push_record(text, &head)?;
+    push_record(text, &Record::Budget(setting.budgets()))
 }
 
 // A line for each pattern.
-pub(crate) fn push_patterns(text: &mut Vec<u8>, patterns: &Vectors) -> Result<(), AllocError>
-    ensures { OnOk result (text.new.items ≡ text.old.items ++ text_of (map Pattern patterns.now)) }
+pub(crate) fn push_patterns(text: &mut String, patterns: &[Vector]) -> Result<(), AllocError>
+    ensures { OnOk result (string_bytes text.new ≡ string_bytes text.old ++ text_of (map Pattern patterns.now)) }
 {
-    for pattern in patterns.as_slice() {
-        push_pattern(text, pattern.copy()?)?;
+    for pattern in patterns {
+        push_pattern(text, pattern)?;
     }
     Ok(())
 }
 
 // The line of evidence.
-pub(crate) fn push_same(text: &mut Vec<u8>, evidence: Evidence) -> Result<(), AllocError>
-    ensures { OnOk result (text.new.items ≡ text.old.items ++ text_of (Same evidence ∷ [])) }
+pub(crate) fn push_same(text: &mut String, evidence: Evidence) -> Result<(), AllocError>
+    ensures { OnOk result (string_bytes text.new ≡ string_bytes text.old ++ text_of (Same evidence ∷ [])) }
 {
-    push_line(text, &Record::Same(evidence))
+    push_record(text, &Record::Same(evidence))
 }
 
 // A line for each class.
-pub(crate) fn push_classes(text: &mut Vec<u8>, classes: &Classes) -> Result<(), AllocError>
-    ensures { OnOk result (text.new.items ≡ text.old.items ++ text_of (class_records classes.now.births)) }
+pub(crate) fn push_classes(text: &mut String, classes: &Classes) -> Result<(), AllocError>
+    ensures { OnOk result (string_bytes text.new ≡ string_bytes text.old ++ text_of (class_records classes.now.births)) }
 {
     for class in 0..classes.count() {
-        push_line(text, &Record::Class(class, classes.born(class)))?;
+        push_record(text, &Record::Class(class, classes.born(class)))?;
     }
     Ok(())
 }
@@ -97,7 +80,7 @@ impl Marked {
 
 // A line for each number. Answers how many are marked equal, and how many are left open.
 pub(crate) fn push_members(
-    text: &mut Vec<u8>,
+    text: &mut String,
     classes: &Classes,
     marks: &Marks,
     numbers: u32,
@@ -105,14 +88,14 @@ pub(crate) fn push_members(
     requires numbers { numbers ≡ length classes.now.class_of }
     requires whole { length marks.now.given.items ≡ length classes.now.class_of }
     requires marked { AreAllMarked classes.now marks.now.given.items }
-    ensures text { OnOk result (text.new.items ≡ text.old.items ++ text_of (member_records (map (member_for classes.now marks.now.given.items) (number_range classes.now)))) }
+    ensures text { OnOk result (string_bytes text.new ≡ string_bytes text.old ++ text_of (member_records (map (member_for classes.now marks.now.given.items) (number_range classes.now)))) }
     ensures marked { IfOk result (AreMarkedBelow classes.now marks.now.given.items numbers) }
 {
     let mut marked = Marked { equal: 0, spent: 0 };
     for number in 0..numbers {
         let mark = marks.of(classes, number).unwrap();
         marked.count(mark);
-        push_line(
+        push_record(
             text,
             &Record::Member(number, classes.class_of(number), mark),
         )?;

@@ -3,7 +3,6 @@
 ghost use Rattle.std.specs.Prelude.{◌≡◌, ◌<◌, ◌≤◌, ◌∷◌, [], IfOk};
 ghost use Rattle.net_model.specs.FaultList.{fault_count, fault_numbered};
 ghost use Rattle.pair_sets.specs.declared.tree.Token.TheVariants.{Rest};
-ghost use Rattle.dia_gen.specs.Setting.{IsSetting};
 ghost use Rattle.dia_gen.specs.Settled.{IsSettledFor};
 
 use crate::setting::Setting;
@@ -27,20 +26,20 @@ pub(crate) fn settle_pair(
     lead: u32,
     member: u32,
 ) -> Result<Settled, AllocError>
-    requires setting { IsSetting setting.now }
-    requires lead { lead < fault_count setting.now.circuit.now }
-    requires member { member < fault_count setting.now.circuit.now }
-    ensures { IfOk result (IsSettledFor setting.now.circuit.now setting.now.budgets lead member) }
+    requires lead { lead < fault_count setting.now.circuit }
+    requires member { member < fault_count setting.now.circuit }
+    ensures { IfOk result (IsSettledFor setting.now.circuit setting.now.budgets lead member) }
 {
-    if setting.forest.same_root(lead, member) {
+    if setting.same_root(lead, member) {
         return Ok(Settled::By(Proof::Collapse));
     }
-    if setting.budgets.cubes == 0 {
+    let budgets = setting.budgets();
+    if budgets.cubes == 0 {
         return Ok(Settled::By(Proof::Searched(open_leaf(alloc)?)));
     }
-    let f = setting.listed.get(lead);
-    let g = setting.listed.get(member);
-    match search(alloc, setting.circuit, &f, &g, setting.budgets.cubes)? {
+    let f = setting.fault(lead);
+    let g = setting.fault(member);
+    match search(alloc, setting.circuit(), &f, &g, budgets.cubes)? {
         Found::Vector(v) => Ok(Settled::Apart(v)),
         Found::Covered(tree) => Ok(Settled::By(Proof::Covered(tree))),
         Found::Spent(tree) => Ok(Settled::By(Proof::Searched(tree))),

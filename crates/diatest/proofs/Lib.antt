@@ -4,3 +4,5 @@ pub mod Refusals
 pub mod Generated
 pub mod Clauses
 pub mod NumberWords
+pub mod WordLemmas
+pub mod CellLemmas

@@ -1,5 +1,5 @@
 -- What is judged of the bytes that were read is judged of the whole file, and nothing is both accepted and refused.
-use Rattle.std.proofs.Common.{◌≡◌, ℕ, ◌+◌, ◌≤◌, ◌<◌, List, [], ◌∷◌, length, take, length-take, refl, ap, subst, ◌∙◌, inl, inr, arith}
+use Rattle.std.proofs.Common.{◌≡◌, ℕ, ◌+◌, ◌≤◌, ◌<◌, List, [], ◌∷◌, length, take, length-take, refl, ap, subst, ◌∙◌, inl, inr, arith, sym}
 use Rattle.std.specs.Prelude.{◌==◌, Contains}
 use Rattle.std.specs.List.{count_by}
 use Rattle.std.proofs.lemmas.Bool.{cases_lt}
@@ -14,11 +14,15 @@ use Rattle.bench_reader.specs.declared.fault.NetKind.{NetKind}
 use Rattle.bench_reader.specs.Netlist.{Netlist}
 use Rattle.bench_reader.specs.Reading.{place_of}
 use Rattle.bench_reader.specs.Refusal.{TextRefused, too_long, by_grammar, by_second, by_missing}
-use Rattle.bench_reader.specs.Laws.{AcceptedOrRefused, OneNetlist}
-use Rattle.scan_cut.specs.Cut.{cut_circuit}
+use Rattle.bench_reader.specs.Laws.{NeverAcceptedAndRefused, OneNetlist}
+use Rattle.scan_cut.specs.Cut.{cut_circuit, cut_design}
 use Rattle.diatest.specs.Request.{Text}
 use Rattle.diatest.specs.Texts.{refusal_text}
 use Rattle.diatest.specs.Netlists.{IsDesign, IsRefused, by_text, by_loop}
+use Rattle.fault_collapse.specs.Laws.{SameRootEqual}
+use Rattle.pair_sets.specs.Laws.{CoveringEqual, LeavesClosed, SpendingBounded}
+use Rattle.result_file.proofs.Truth.{AreSound}
+use Rattle.dia_gen.proofs.DraftResult.{sound_circuit}
 
 -- all was read, or one byte more than the limit
 read_whole : (limit : ℕ) (all : List ℕ) → length all ≤ limit → read_of limit all ≡ all
@@ -73,7 +77,7 @@ walk_first {c} {walk} is = first_of walk is.nonempty
 
 -- The laws by which nothing is both accepted and refused.
 pub record HasLaws : Type 0 where
-  pub text : AcceptedOrRefused
+  pub text : NeverAcceptedAndRefused
   pub one : OneNetlist
   pub none : NoneReachesItself
   pub walk : WalkReachesItself
@@ -85,3 +89,17 @@ accepted_not_refused laws {bytes} {console} {design} is (by_loop netlist place n
     let circuit : IsCircuit (cut_circuit netlist) = subst (λ (n : Netlist). IsCircuit (cut_circuit n)) same is.circuit in
     let first = walk_first loops.is_walk in
     laws.none (cut_circuit netlist) first.0 circuit (laws.walk (cut_circuit netlist) loops.walk first.0 loops.is_walk first.1)
+
+-- ---- what evidence means
+
+-- the laws by which evidence is sound
+pub record EvidenceLaws : Type 0 where
+  pub roots : SameRootEqual
+  pub covering : CoveringEqual
+  pub leaves : LeavesClosed
+  pub bounded : SpendingBounded
+
+pub sound_design : EvidenceLaws → {bytes : Text} {design : Design} → IsDesign bytes design → AreSound design.circuit
+unfolding cut_design
+sound_design laws {bytes} {design} is =
+    subst (λ (d : Design). AreSound d.circuit) (sym is.cut) (sound_circuit (cut_circuit is.netlist) is.circuit laws.roots laws.covering laws.leaves laws.bounded)

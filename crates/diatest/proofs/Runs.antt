@@ -1,16 +1,16 @@
 -- From what the last steps of a run do to what the whole run promises.
-use Rattle.std.proofs.Common.{◌≡◌, ◌≢◌, ℕ, Bool, true, false, ◌<◌, ◌⊎◌, List, [], ◌∷◌, ◌++◌, take, length, Option, Some, None, Ok, Err, refl, sym, ap, subst, ◌∙◌, inl, inr, arith, zero-le, IsTrue}
+use Rattle.std.proofs.Common.{◌≡◌, ◌≢◌, ℕ, Bool, true, false, ◌<◌, ◌⊎◌, List, [], ◌∷◌, ◌++◌, take, length, Option, Some, None, Result, Ok, Err, refl, sym, ap, subst, ◌∙◌, inl, inr, arith, zero-le, IsTrue}
 use Rattle.std.specs.FinMap.{get, insert}
 use Rattle.diag_shelf.specs.World.{Files, World, State, appended}
 use Rattle.diag_shelf.specs.declared.shelf.ShelfFault.{ShelfFault}
 use Rattle.diag_shelf.specs.declared.shelf.ShelfFault.TheVariants.{Failed, NoMemory}
 use Rattle.std.proofs.Math.Nat.{le_refl}
 use Rattle.std.proofs.lemmas.List.{append-nil, take_all}
-use Rattle.diag_shelf.specs.Calls.{Told, OfSome, Same, SameFacts, OnlyReads, Creates, Writes, Prints, IsWriteCall}
+use Rattle.diag_shelf.specs.Calls.{Told, OfSome, Same, SameFacts, OnlyReads, Creates, Writes, Prints, IsReadCall, IsWriteCall}
 use Rattle.diag_shelf.proofs.FileMaps.{get_off_insert, insert_again, held_at_insert}
-use Rattle.diatest.specs.Request.{Text, Request, outputs_of}
-use Rattle.diatest.specs.Outcome.{Outcome, CallsFor, MayLeave, IsCut, IsCutText, IsPartOf, Leaves, after_made, said, saved}
-use Rattle.diatest.specs.Ran.{IsAmong, Ends, Ran}
+use Rattle.diatest.specs.Request.{Text, Request, gen, list_faults, synth, input_of, outputs_of}
+use Rattle.diatest.specs.Outcome.{Outcome, CallsFor, MayLeave, IsCut, IsCutText, IsPartOf, Leaves, after_made, written_after, said, saved}
+use Rattle.diatest.specs.Ran.{IsAmong, statuses_of, Stays, Ends, Ran}
 
 -- all files of the outcome have these names
 abbrev pub MadeAmong : List (Text × List ℕ) → List Text → Type 0
@@ -20,9 +20,52 @@ MadeAmong (m ∷ made) names = IsAmong m.0 names × MadeAmong made names
 -- an outcome that these words may have
 pub record Fits (request : Option Request) (o : Outcome) (Part : List (Text × List ℕ) → List ℕ → Type 0) : Type 0 where
   pub below : o.status < 7
-  pub words : o.status ≡ 2 → request ≡ None
-  pub not_understood : request ≡ None → o.status ≡ 2
+  pub answers : IsAmong o.status (statuses_of request)
   pub names : (made : List (Text × List ℕ)) (text : List ℕ) → Part made text → MadeAmong made (outputs_of request)
+
+-- ---- statuses
+
+-- a run may break off whatever it is asked
+pub breaks_among : (request : Option Request) → IsAmong 8 (statuses_of request) × IsAmong 9 (statuses_of request)
+breaks_among None = (inr (inl refl), inr (inr (inl refl)))
+breaks_among (Some (gen bench result budgets)) = (inr (inr (inr (inl refl))), inr (inr (inr (inr (inl refl)))))
+breaks_among (Some (list_faults bench)) = (inr (inr (inr (inl refl))), inr (inr (inr (inr (inl refl)))))
+breaks_among (Some (synth n bench result)) = (inr (inr (inl refl)), inr (inr (inr (inl refl))))
+
+-- the work of a request may be done, and its netlist refused
+pub judged_among : (request : Request) → IsAmong 0 (statuses_of (Some request)) × IsAmong 3 (statuses_of (Some request))
+judged_among (gen bench result budgets) = (inl refl, inr (inl refl))
+judged_among (list_faults bench) = (inl refl, inr (inl refl))
+judged_among (synth n bench result) = (inl refl, inr (inl refl))
+
+-- a netlist that is read may fail to be
+pub unread_among : (bench : Text) (request : Request) → input_of request ≡ Some bench → IsAmong 7 (statuses_of (Some request))
+unread_among name (gen bench result budgets) is = inr (inr (inl refl))
+unread_among name (list_faults bench) is = inr (inr (inl refl))
+unread_among name (synth n bench result) is = absurd (cc)
+
+pub not_broken : (status : ℕ) → status < 8 → (status ≡ 8) ⊎ (status ≡ 9) → ⊥
+not_broken status low (inl e) = omega arith
+not_broken status low (inr e) = omega arith
+
+-- ---- what stays
+
+pub stays_same : (a : State) → Stays a a
+stays_same a = record { tells = refl; sure = refl; reads = le_refl a.read_faults; writes = le_refl a.write_faults }
+
+pub stays_then : {a b c : State} → Stays a b → Stays b c → Stays a c
+stays_then s t = record { tells = t.tells ∙ s.tells; sure = t.sure ∙ s.sure; reads = omega (arith, s.reads, t.reads); writes = omega (arith, s.writes, t.writes) }
+
+pub stays_facts : {a b : State} → SameFacts a b → Stays a b
+stays_facts s = record { tells = s.tells; sure = s.sure; reads = omega (arith, s.reads); writes = omega (arith, s.writes) }
+
+pub stays_read : {T : Type 0} {r : Result T ShelfFault} {a b : State} → IsReadCall r a b → Stays a b
+stays_read call = record { tells = call.tells; sure = call.sure; reads = call.later; writes = omega (arith, call.writes) }
+
+pub stays_written : {T : Type 0} {r : Result T ShelfFault} {a b : State} → IsWriteCall r a b → Stays a b
+stays_written call = record { tells = call.tells; sure = call.sure; reads = omega (arith, call.reads); writes = call.later }
+
+-- ---- files
 
 apart : (name x : Text) (names : List Text) → IsAmong x names → ¬ IsAmong name names → name ≢ x
 apart name x names among off e = off (subst (λ (n : Text). IsAmong n names) (sym e) among)
@@ -41,13 +84,13 @@ cut_among (c ∷ d ∷ cs) (m ∷ whole) names cut among =
     (subst (λ (n : Text × List ℕ). IsAmong n.0 names) (sym cut.0) among.0, cut_among (d ∷ cs) whole names cut.1 among.1)
 
 leaves_moved : {made : List (Text × List ℕ)} {text : List ℕ} {u v w : World} → OnlyReads u v → Leaves made text v w → Leaves made text u w
-leaves_moved {made} {text} only l = record { files = l.files ∙ ap (after_made made) only.files; console = l.console ∙ ap (λ (x : List ℕ). x ++ text) only.console }
+leaves_moved {made} {text} only l = record { files = l.files ∙ ap (after_made made) only.files; written = l.written ∙ ap (written_after made) only.written; console = l.console ∙ ap (λ (x : List ℕ). x ++ text) only.console }
 
 -- what was read before doesn't matter
 pub ends_moved : {o : Outcome} {Part : List (Text × List ℕ) → List ℕ → Type 0} {status : ℕ} {a b c : State} → SameFacts a b → Told a b OnlyReads → Ends o Part status b c → Ends o Part status a c
 ends_moved {o} {Part} {status} {a} {b} {c} s r e = record {
+  stays = stays_then (stays_facts s) e.stays;
   reads = e.reads ∙ s.reads;
-  later = omega (arith, e.later, s.writes);
   answered = e.answered;
   write_fault = λ h. omega (arith, e.write_fault h, s.writes);
   writes_failed = λ h. e.writes_failed (omega (arith, s.writes));
@@ -66,12 +109,12 @@ made_anew : {name bytes : List ℕ} {a b c : World} → Creates name a b → Wri
 made_anew {name} {bytes} {a} {b} {c} created w =
     w.files ∙ ap (λ (o : Option (List ℕ)). appended o b.files bytes) created.written ∙ ap (λ (f : Files). appended (Some name) f bytes) created.files ∙ written_anew a.files name bytes
 
-saved_then : {name bytes text : List ℕ} {a b c d : World} → Creates name a b → Writes bytes b c → Leaves [] text c d → Leaves ((name, bytes) ∷ []) text a d
-saved_then {name} {bytes} {text} k w l = record { files = l.files ∙ made_anew k w; console = l.console ∙ ap (λ (s : List ℕ). s ++ text) (w.console ∙ k.console) }
-
-nothing_made : (made : List (Text × List ℕ)) {text : List ℕ} {u v : World} → IsCut made [] → Leaves made text u v → Leaves [] text u v
-nothing_made [] cut l = l
-nothing_made (m ∷ made) cut l = absurd cut
+leaves_after : {name bytes text : List ℕ} {made : List (Text × List ℕ)} {a b c d : World} → Creates name a b → Writes bytes b c → Leaves made text c d → Leaves ((name, bytes) ∷ made) text a d
+leaves_after {name} {bytes} {text} {made} k w l = record {
+  files = l.files ∙ ap (after_made made) (made_anew k w);
+  written = l.written ∙ ap (written_after made) (w.written ∙ k.written);
+  console = l.console ∙ ap (λ (s : List ℕ). s ++ text) (w.console ∙ k.console);
+}
 
 -- the status of a fault of a write
 pub record IsWriteStatus (fault : ShelfFault) (status : ℕ) : Type 0 where
@@ -101,51 +144,51 @@ still NoMemory a b call s n = call.memory s refl
 -- a text was said
 pub ends_said : {T : Type 0} {x : T} {status : ℕ} {text : List ℕ} {a b : State} → status < 7 → IsWriteCall (Ok x) a b → Told a b (Prints text) → Ends (said status text) (IsPartOf (said status text)) status a b
 ends_said {T} {x} {status} {text} {a} {b} below call printed = record {
+  stays = stays_written call;
   reads = call.reads;
-  later = call.later;
   answered = inl refl;
   write_fault = λ e. absurd (omega arith);
   writes_failed = λ h. absurd (omega (arith, call.ok));
-  whole = λ e told. let p = printed told in record { files = p.files; console = p.console };
+  whole = λ e told. let p = printed told in record { files = p.files; written = p.written; console = p.console };
   part = λ told.
       let p = printed told in
-      ([], text, record { files = tt; console = (length text, le_refl (length text), sym (take_all (length text) text (le_refl (length text)))); order = λ _. refl }, record { files = p.files; console = p.console });
+      ([], text, record { files = tt; console = (length text, le_refl (length text), sym (take_all (length text) text (le_refl (length text)))); order = λ _. refl }, record { files = p.files; written = p.written; console = p.console });
   sure = λ s. call.ok;
 }
 
 -- a beginning of a text was said
 pub ends_said_part : {T : Type 0} {fault : ShelfFault} {meant status : ℕ} {text : List ℕ} {a b : State} → meant < 7 → IsWriteCall {T = T} (Err fault) a b → Told a b (OfSome Prints text) → (IsTrue a.sure → fault ≡ Failed → ⊥) → IsWriteStatus fault status → Ends (said meant text) (IsPartOf (said meant text)) status a b
 ends_said_part {T} {fault} {meant} {status} {text} {a} {b} below call printed never is = record {
+  stays = stays_written call;
   reads = call.reads;
-  later = call.later;
   answered = inr (status_of fault status is);
   write_fault = λ e. call.failed (ap Err (failed_of fault status is e));
   writes_failed = λ _. status_of fault status is;
   whole = λ e. absurd (apart_from meant status below (status_of fault status is) e);
   part = λ told.
       let p = printed told in
-      ([], take p.0 text, record { files = tt; console = (p.0, p.1, refl); order = λ _. refl }, record { files = p.2.files; console = p.2.console });
+      ([], take p.0 text, record { files = tt; console = (p.0, p.1, refl); order = λ _. refl }, record { files = p.2.files; written = p.2.written; console = p.2.console });
   sure = λ s. still fault a b call s (never s);
 }
 
 -- no file was made
-pub ends_unmade : {T : Type 0} {fault : ShelfFault} {name bytes text : List ℕ} {Part : List (Text × List ℕ) → List ℕ → Type 0} {status : ℕ} {a b : State} → Part [] [] → IsWriteCall {T = T} (Err fault) a b → Told a b Same → (IsTrue a.sure → fault ≡ Failed → ⊥) → IsWriteStatus fault status → Ends (saved name bytes text) Part status a b
-ends_unmade {T} {fault} {name} {bytes} {text} {Part} {status} {a} {b} none call same never is = record {
+pub ends_unmade : {T : Type 0} {fault : ShelfFault} {whole : List (Text × List ℕ)} {text : List ℕ} {Part : List (Text × List ℕ) → List ℕ → Type 0} {status : ℕ} {a b : State} → Part [] [] → IsWriteCall {T = T} (Err fault) a b → Told a b Same → (IsTrue a.sure → fault ≡ Failed → ⊥) → IsWriteStatus fault status → Ends (saved whole text) Part status a b
+ends_unmade {T} {fault} {whole} {text} {Part} {status} {a} {b} none call same never is = record {
+  stays = stays_written call;
   reads = call.reads;
-  later = call.later;
   answered = inr (status_of fault status is);
   write_fault = λ e. call.failed (ap Err (failed_of fault status is e));
   writes_failed = λ _. status_of fault status is;
   whole = λ e. absurd (not_done status (status_of fault status is) e);
-  part = λ told. let p = same told in ([], [], none, record { files = p.files; console = p.console ∙ sym (append-nil a.world.console) });
+  part = λ told. let p = same told in ([], [], none, record { files = p.files; written = p.written; console = p.console ∙ sym (append-nil a.world.console) });
   sure = λ s. still fault a b call s (never s);
 }
 
 -- a new file was made, and a part of it was written
-pub ends_cut : {T U : Type 0} {x : T} {fault : ShelfFault} {name bytes text : List ℕ} {Part : List (Text × List ℕ) → List ℕ → Type 0} {status : ℕ} {a b c : State} → (IsTrue b.sure → IsTrue b.tells) → IsWriteCall (Ok x) a b → Told a b (Creates name) → IsWriteCall {T = U} (Err fault) b c → Told b c (λ u v. (part : List ℕ) × Part ((name, part) ∷ []) [] × Writes part u v) → (IsTrue b.sure → fault ≡ Failed → b.world.written ≡ None) → IsWriteStatus fault status → Ends (saved name bytes text) Part status a c
-ends_cut {T} {U} {x} {fault} {name} {bytes} {text} {Part} {status} {a} {b} {c} law made created wrote cut absent is = record {
+pub ends_cut : {T U : Type 0} {x : T} {fault : ShelfFault} {name : Text} {whole : List (Text × List ℕ)} {text : List ℕ} {Part : List (Text × List ℕ) → List ℕ → Type 0} {status : ℕ} {a b c : State} → (IsTrue b.sure → IsTrue b.tells) → IsWriteCall (Ok x) a b → Told a b (Creates name) → IsWriteCall {T = U} (Err fault) b c → Told b c (λ u v. (part : List ℕ) × Part ((name, part) ∷ []) [] × Writes part u v) → (IsTrue b.sure → fault ≡ Failed → b.world.written ≡ None) → IsWriteStatus fault status → Ends (saved whole text) Part status a c
+ends_cut {T} {U} {x} {fault} {name} {whole} {text} {Part} {status} {a} {b} {c} law made created wrote cut absent is = record {
+  stays = stays_then (stays_written made) (stays_written wrote);
   reads = wrote.reads ∙ made.reads;
-  later = omega (arith, wrote.later, made.later);
   answered = inr (status_of fault status is);
   write_fault = λ e. omega (arith, wrote.failed (ap Err (failed_of fault status is e)), made.ok);
   writes_failed = λ _. status_of fault status is;
@@ -153,31 +196,39 @@ ends_cut {T} {U} {x} {fault} {name} {bytes} {text} {Part} {status} {a} {b} {c} l
   part = λ told.
       let k = created told in
       let w = cut (made.tells ∙ told) in
-      ((name, w.0) ∷ [], [], w.1, record { files = made_anew k w.2; console = w.2.console ∙ k.console ∙ sym (append-nil a.world.console) });
+      ((name, w.0) ∷ [], [], w.1, record { files = made_anew k w.2; written = w.2.written ∙ k.written; console = w.2.console ∙ k.console ∙ sym (append-nil a.world.console) });
   sure = λ s.
       let sb = made.sure ∙ s in
       let none : fault ≡ Failed → ⊥ = λ e. let w = absent sb e in let k = (created (sym made.tells ∙ law sb)).written in cc in
       still fault b c wrote sb none ∙ made.ok;
 }
 
--- a new file was made whole, and then a text was said
-pub ends_saved : {T U : Type 0} {x : T} {y : U} {name bytes text : List ℕ} {Part : List (Text × List ℕ) → List ℕ → Type 0} {status : ℕ} {a b c d : State} → (IsTrue a.tells → (t : List ℕ) → IsCutText t text → Part ((name, bytes) ∷ []) t) → IsWriteCall (Ok x) a b → Told a b (Creates name) → IsWriteCall (Ok y) b c → Told b c (Writes bytes) → Ends (said 0 text) (IsPartOf (said 0 text)) status c d → Ends (saved name bytes text) Part status a d
-ends_saved {T} {U} {x} {y} {name} {bytes} {text} {Part} {status} {a} {b} {c} {d} parts made created wrote written e = record {
-  reads = e.reads ∙ wrote.reads ∙ made.reads;
-  later = omega (arith, e.later, wrote.later, made.later);
+-- a new file was made whole before the rest was done
+pub ends_after : {T U : Type 0} {x : T} {y : U} {name bytes text : List ℕ} {made : List (Text × List ℕ)} {Part Whole : List (Text × List ℕ) → List ℕ → Type 0} {status : ℕ} {a b c d : State} → (IsTrue a.tells → (m : List (Text × List ℕ)) (t : List ℕ) → Part m t → Whole ((name, bytes) ∷ m) t) → IsWriteCall (Ok x) a b → Told a b (Creates name) → IsWriteCall (Ok y) b c → Told b c (Writes bytes) → Ends (saved made text) Part status c d → Ends (saved ((name, bytes) ∷ made) text) Whole status a d
+ends_after {T} {U} {x} {y} {name} {bytes} {text} {made} {Part} {Whole} {status} {a} {b} {c} {d} parts create created write written e = record {
+  stays = stays_then (stays_written create) (stays_then (stays_written write) e.stays);
+  reads = e.reads ∙ write.reads ∙ create.reads;
   answered = e.answered;
-  write_fault = λ h. omega (arith, e.write_fault h, wrote.ok, made.ok);
-  writes_failed = λ h. e.writes_failed (omega (arith, wrote.ok, made.ok));
-  whole = λ h told. saved_then (created told) (written (made.tells ∙ told)) (e.whole h (wrote.tells ∙ made.tells ∙ told));
+  write_fault = λ h. omega (arith, e.write_fault h, write.ok, create.ok);
+  writes_failed = λ h. e.writes_failed (omega (arith, write.ok, create.ok));
+  whole = λ h told. leaves_after (created told) (written (create.tells ∙ told)) (e.whole h (write.tells ∙ create.tells ∙ told));
   part = λ told.
-      let l = e.part (wrote.tells ∙ made.tells ∙ told) in
-      ((name, bytes) ∷ [], l.1, parts told l.1 l.2.console, saved_then (created told) (written (made.tells ∙ told)) (nothing_made l.0 l.2.files l.3));
-  sure = λ s. e.sure (wrote.sure ∙ made.sure ∙ s) ∙ wrote.ok ∙ made.ok;
+      let l = e.part (write.tells ∙ create.tells ∙ told) in
+      ((name, bytes) ∷ l.0, l.1, parts told l.0 l.1 l.2, leaves_after (created told) (written (create.tells ∙ told)) l.3);
+  sure = λ s. e.sure (write.sure ∙ create.sure ∙ s) ∙ write.ok ∙ create.ok;
 }
 
--- what is there where a file was saved and a text was cut
-pub parts_saved : (name bytes text t : List ℕ) → IsCutText t text → IsPartOf (saved name bytes text) ((name, bytes) ∷ []) t
-parts_saved name bytes text t cut = record { files = (refl, (length bytes, le_refl (length bytes), sym (take_all (length bytes) bytes (le_refl (length bytes))))); console = cut; order = λ _. refl }
+-- a file that is whole comes before what is cut
+pub cut_after : (name : Text) (bytes : List ℕ) (made whole : List (Text × List ℕ)) → IsCut made whole → IsCut ((name, bytes) ∷ made) ((name, bytes) ∷ whole)
+cut_after name bytes [] whole cut = (refl, (length bytes, le_refl (length bytes), sym (take_all (length bytes) bytes (le_refl (length bytes)))))
+cut_after name bytes (m ∷ made) whole cut = (refl, cut)
+
+pub part_after : (name : Text) (bytes text : List ℕ) (whole made : List (Text × List ℕ)) (t : List ℕ) → IsPartOf (saved whole text) made t → IsPartOf (saved ((name, bytes) ∷ whole) text) ((name, bytes) ∷ made) t
+part_after name bytes text whole made t part = record {
+  files = cut_after name bytes made whole part.files;
+  console = part.console;
+  order = λ some. ap (λ (m : List (Text × List ℕ)). (name, bytes) ∷ m) (part.order some);
+}
 
 -- ---- the whole run
 
@@ -186,43 +237,31 @@ done_status o status (inl e) lt = e
 done_status o status (inr (inl e)) lt = absurd (omega arith)
 done_status o status (inr (inr e)) lt = absurd (omega arith)
 
+answered_among : (request : Option Request) (meant status : ℕ) → IsAmong meant (statuses_of request) → (status ≡ meant) ⊎ ((status ≡ 8) ⊎ (status ≡ 9)) → IsAmong status (statuses_of request)
+answered_among request meant status among (inl e) = subst (λ (n : ℕ). IsAmong n (statuses_of request)) (sym e) among
+answered_among request meant status among (inr (inl e)) = subst (λ (n : ℕ). IsAmong n (statuses_of request)) (sym e) (breaks_among request).0
+answered_among request meant status among (inr (inr e)) = subst (λ (n : ℕ). IsAmong n (statuses_of request)) (sym e) (breaks_among request).1
+
 -- what the last steps do is what the whole run promises
 pub ran : {request : Option Request} {o : Outcome} {Part : List (Text × List ℕ) → List ℕ → Type 0} {status : ℕ} {a b : State} → Fits request o Part → (status ≡ o.status → IsTrue a.tells → CallsFor request a.world.files o) → (IsTrue a.tells → (made : List (Text × List ℕ)) (text : List ℕ) → Part made text → MayLeave request a.world.files made text) → Ends o Part status a b → Ran request status a b
 ran {request} {o} {Part} {status} {a} {b} fits called may e = record {
-  known = elim e.answered [ inl s ↦ omega (arith, fits.below) | inr f ↦ elim f [ inl x ↦ omega arith | inr x ↦ omega arith ] ];
+  answers = answered_among request o.status status fits.answers e.answered;
+  stays = e.stays;
   causes = record {
     read_fault = λ h. let s = done_status o status e.answered (omega arith) in absurd (omega (arith, fits.below));
     write_fault = e.write_fault;
     reads_failed = λ h. absurd (omega (arith, e.reads));
     writes_failed = e.writes_failed;
   };
-  words = λ h. fits.words (sym (done_status o status e.answered (omega arith)) ∙ h);
-  not_understood = λ h. elim e.answered [ inl s ↦ inl (s ∙ fits.not_understood h) | inr f ↦ inr f ];
   done = λ told lt.
       let s = done_status o status e.answered (omega arith) in
       (o, called s told, sym s, e.whole s told);
   unread = λ told h. let s = done_status o status e.answered (omega arith) in absurd (omega (arith, fits.below));
-  broken_off = λ told lt. let l = e.part told in inr (l.0, l.1, may told l.0 l.1 l.2, l.3);
+  broken_off = λ told broke. let l = e.part told in inr (l.0, l.1, may told l.0 l.1 l.2, l.3);
   others = λ told name off.
       let l = e.part told in
       ap (λ (f : Files). get f name) l.3.files ∙ others_after l.0 (outputs_of request) a.world.files name (fits.names l.0 l.1 l.2) off;
   sure = λ s held. record { reads = e.reads; writes = e.sure s };
-}
-
--- a new file was made whole, and memory was wanting for its text
-pub ends_quiet : {T U : Type 0} {x : T} {y : U} {name bytes text : List ℕ} {Part : List (Text × List ℕ) → List ℕ → Type 0} {a b c : State} → (IsTrue a.tells → Part ((name, bytes) ∷ []) []) → IsWriteCall (Ok x) a b → Told a b (Creates name) → IsWriteCall (Ok y) b c → Told b c (Writes bytes) → Ends (saved name bytes text) Part 9 a c
-ends_quiet {T} {U} {x} {y} {name} {bytes} {text} {Part} {a} {b} {c} part made created wrote written = record {
-  reads = wrote.reads ∙ made.reads;
-  later = omega (arith, wrote.ok, made.ok);
-  answered = inr (inr refl);
-  write_fault = λ e. absurd (omega arith);
-  writes_failed = λ h. absurd (omega (arith, wrote.ok, made.ok));
-  whole = λ e. absurd (omega arith);
-  part = λ told.
-      let k = created told in
-      let w = written (made.tells ∙ told) in
-      ((name, bytes) ∷ [], [], part told, record { files = made_anew k w; console = w.console ∙ k.console ∙ sym (append-nil a.world.console) });
-  sure = λ s. wrote.ok ∙ made.ok;
 }
 
 file_by : (P : List ℕ → Type 0) (a b : State) (tells : Bool) → a.tells ≡ tells → Told a b (λ u v. (file : List ℕ) × P file × Writes file u v) → (file : List ℕ) × Told a b (Writes file) × (IsTrue a.tells → P file)
@@ -236,12 +275,12 @@ told_file P a b written = file_by P a b a.tells refl written
 -- memory was wanting for a text, and nothing was said
 pub ends_silent : {meant : ℕ} {text : List ℕ} {a : State} → meant < 7 → Ends (said meant text) (IsPartOf (said meant text)) 9 a a
 ends_silent {meant} {text} {a} below = record {
+  stays = stays_same a;
   reads = refl;
-  later = le_refl a.write_faults;
   answered = inr (inr refl);
   write_fault = λ e. absurd (omega arith);
   writes_failed = λ h. inr refl;
   whole = λ e. absurd (omega arith);
-  part = λ told. ([], [], record { files = tt; console = (0, zero-le, refl); order = λ n. absurd (n refl) }, record { files = refl; console = sym (append-nil a.world.console) });
+  part = λ told. ([], [], record { files = tt; console = (0, zero-le, refl); order = λ n. absurd (n refl) }, record { files = refl; written = refl; console = sym (append-nil a.world.console) });
   sure = λ s. refl;
 }

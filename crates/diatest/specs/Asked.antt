@@ -1,21 +1,17 @@
 -- The request that the code's own type stands for.
-use Rattle.std.specs.Prelude.{◌≡◌, ℕ, List, map, Option, String, string_bytes, ⊤}
-use Rattle.std.specs.Borrow.{Bor}
-use Rattle.std.specs.declared.alloc.Global.{Global}
+use Rattle.std.specs.Prelude.{◌≡◌, ◌≤◌}
 use Rattle.result_file.specs.Lines.{AreWithinLimits}
 use Rattle.diatest.specs.Request as spec
 use Rattle.diatest.specs.declared.request.Request.{Request}
-use Rattle.diatest.specs.declared.request.Request.TheVariants.{Gen, ListFaults}
+use Rattle.diatest.specs.declared.request.Request.TheVariants.{Gen, ListFaults, Synth}
 
 abbrev pub asked : Request → spec.Request
 asked (Gen bench result budgets) = spec.gen bench.now result.now budgets
 asked (ListFaults bench) = spec.list_faults bench.now
+asked (Synth n bench result) = spec.synth n bench.now result.now
 
--- The budgets of a request are within their limits, and that of conflicts is 0.
+-- The numbers of a request are within their limits, and the budget of conflicts is 0.
 abbrev pub HasLimits : Request → Type 0
 HasLimits (Gen bench result budgets) = AreWithinLimits budgets × (budgets.conflicts ≡ 0)
-HasLimits (ListFaults bench) = ⊤
-
--- what is read of an option
-abbrev pub option_read : Option ℕ × Bor (List (String Global)) → Option ℕ × List spec.Text
-option_read read = (read.0, map string_bytes read.1.now)
+HasLimits (ListFaults bench) = Unit {0}
+HasLimits (Synth n bench result) = (1 ≤ n) × (n ≤ 2000)

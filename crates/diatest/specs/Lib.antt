@@ -1,3 +1,5 @@
+pub mod Arguments
+pub mod Synth
 pub mod Request
 pub mod Texts
 pub mod Faults
@@ -5,6 +7,5 @@ pub mod Netlists
 pub mod Outcome
 pub mod Ran
 pub mod Asked
-pub mod Padded
 pub mod Steps
 pub mod Real

@@ -1,8 +1,12 @@
--- What the words ask for.
-use Rattle.std.specs.Prelude.{ℕ, ◌+◌, List, [], ◌∷◌, Option, Some, None, option_map, option_and_then, unwrap_or, find, codes, decimal, if◌then◌else◌}
-use Rattle.std.specs.List.{range_with_len}
+-- What the words ask for. Each command's words behind its first are read by one simple command of `clap`.
+use Rattle.std.specs.Prelude.{ℕ, List, [], ◌∷◌, Option, Some, None, codes, if◌then◌else◌}
 use Rattle.std.specs.Str.{bytes_eq}
+use Rattle.std.specs.FinMap.{get}
+use Rattle.clap.specs.Words.{App, Row, matches_of, with_rule}
+use Rattle.diag_shelf.specs.World.{Files}
 use Rattle.result_file.specs.declared.record.Budgets.{Budgets}
+use Rattle.diatest.specs.Arguments.{bare_app, name_rule, number_rule, option_rule, is_taken, name_in, number_in}
+use Rattle.diatest.specs.Synth.{synth_text}
 
 abbrev pub Text : Type 0
 Text = List ℕ
@@ -12,66 +16,87 @@ pub data Request : Type 0 where
   gen : (bench result : Text) (budgets : Budgets) → Request
   -- list the faults of a netlist
   list_faults : (bench : Text) → Request
+  -- write the netlist of a number, and generate a result for it
+  synth : (n : ℕ) (bench result : Text) → Request
 
--- the budgets where no option is given
-abbrev pub default_budgets : Budgets
-default_budgets = record { blocks = 4; cubes = 64; conflicts = 0 }
+-- ---- each command: how its words are read, and what they ask for
 
--- the number of at most this limit that a word is, in decimal digits without a sign or leading zeros
-unfoldable pub number_in : ℕ → Text → Option ℕ
-number_in limit word = find (λ n. bytes_eq (decimal n) word) (range_with_len 0 (limit + 1))
+unfoldable pub gen_app : App
+gen_app = with_rule (with_rule (with_rule (with_rule (bare_app (codes "gen")) (name_rule (codes "bench"))) (name_rule (codes "result")))
+    (option_rule (codes "blocks") (codes "4") 65536)) (option_rule (codes "cubes") (codes "64") 1048576)
 
--- the number that the word behind an option is, and the words behind it
-abbrev pub number_of : ℕ → List Text → Option (Option ℕ × List Text)
-number_of limit [] = None
-number_of limit (word ∷ words) = option_map (λ n. (Some n, words)) (number_in limit word)
+abbrev pub gen_by : List Row → Request
+gen_by rows = gen (name_in (codes "bench") rows) (name_in (codes "result") rows)
+    (record { blocks = number_in (codes "blocks") 0 65536 rows; cubes = number_in (codes "cubes") 0 1048576 rows; conflicts = 0 })
 
--- the number of the option of this name, none where the words don't begin with it, and the words behind it
-abbrev pub option_of : Text → ℕ → List Text → Option (Option ℕ × List Text)
-option_of name limit [] = Some (None, [])
-option_of name limit (word ∷ words) = if bytes_eq word name then number_of limit words else Some (None, word ∷ words)
+unfoldable pub faults_app : App
+faults_app = with_rule (bare_app (codes "faults")) (name_rule (codes "bench"))
 
--- the budgets, where no word is left
-abbrev pub at_end : Budgets → List Text → Option Budgets
-at_end budgets [] = Some budgets
-at_end budgets (word ∷ words) = None
+abbrev pub faults_by : List Row → Request
+faults_by rows = list_faults (name_in (codes "bench") rows)
 
--- the budgets with the cubes that the words ask for
-abbrev pub with_cubes : Budgets → List Text → Option Budgets
-with_cubes budgets words = option_and_then (λ x. at_end (record budgets { cubes = unwrap_or x.0 budgets.cubes }) x.1) (option_of (codes "--cubes") 1048576 words)
+unfoldable pub synth_app : App
+synth_app = with_rule (with_rule (with_rule (bare_app (codes "synth")) (number_rule (codes "n") 2000)) (name_rule (codes "bench"))) (name_rule (codes "result"))
 
--- the budgets with the blocks that the words ask for, and what the words behind them ask for
-abbrev pub with_blocks : Budgets → List Text → Option Budgets
-with_blocks budgets words = option_and_then (λ x. with_cubes (record budgets { blocks = unwrap_or x.0 budgets.blocks }) x.1) (option_of (codes "--blocks") 65536 words)
+abbrev pub synth_by : List Row → Request
+synth_by rows = synth (number_in (codes "n") 1 2000 rows) (name_in (codes "bench") rows) (name_in (codes "result") rows)
 
--- the budgets that the options ask for
-abbrev pub budgets_of : List Text → Option Budgets
-budgets_of words = with_blocks default_budgets words
+-- ---- the table of commands
 
-abbrev pub gen_of : List Text → Option Request
-gen_of (bench ∷ result ∷ options) = option_map (gen bench result) (budgets_of options)
-gen_of _ = None
+-- what the words behind a command's first ask for, where its definition takes them
+abbrev pub asked_by : App → (List Row → Request) → List Text → Option Request
+asked_by app by words = if is_taken app words then Some (by (matches_of app words)) else None
 
-abbrev pub faults_of : List Text → Option Request
-faults_of (bench ∷ []) = Some (list_faults bench)
-faults_of _ = None
+unfoldable pub gen_of : List Text → Option Request
+gen_of words = asked_by gen_app gen_by words
 
-abbrev pub request_of : List Text → Option Request
+unfoldable pub faults_of : List Text → Option Request
+faults_of words = asked_by faults_app faults_by words
+
+unfoldable pub synth_of : List Text → Option Request
+synth_of words = asked_by synth_app synth_by words
+
+abbrev pub command_of : Text → List Text → Option Request
+command_of command words =
+    if bytes_eq command (codes "gen") then gen_of words
+    else if bytes_eq command (codes "faults") then faults_of words
+    else if bytes_eq command (codes "synth") then synth_of words
+    else None
+
+unfoldable pub request_of : List Text → Option Request
 request_of [] = None
-request_of (command ∷ words) = if bytes_eq command (codes "gen") then gen_of words else if bytes_eq command (codes "faults") then faults_of words else None
+request_of (command ∷ words) = command_of command words
 
--- the name of the netlist that a request reads
-abbrev pub bench_of : Request → Text
-bench_of (gen bench result budgets) = bench
-bench_of (list_faults bench) = bench
+-- ---- what a request reads and writes
+
+-- the budgets of `synth`
+abbrev pub synth_budgets : Budgets
+synth_budgets = record { blocks = 4; cubes = 16; conflicts = 0 }
+
+-- the name of the netlist that a request reads, if it reads one
+abbrev pub input_of : Request → Option Text
+input_of (gen bench result budgets) = Some bench
+input_of (list_faults bench) = Some bench
+input_of (synth n bench result) = None
+
+-- the bytes of the netlist that a request is about
+abbrev pub netlist_of : Request → Files → Option Text
+netlist_of (gen bench result budgets) files = get files bench
+netlist_of (list_faults bench) files = get files bench
+netlist_of (synth n bench result) files = Some (synth_text n)
 
 -- the names that a request may create
 abbrev pub outputs_of : Option Request → List Text
 outputs_of None = []
 outputs_of (Some (gen bench result budgets)) = result ∷ []
 outputs_of (Some (list_faults bench)) = []
+outputs_of (Some (synth n bench result)) = bench ∷ result ∷ []
+
+abbrev pub named_input : Option Text → List Text
+named_input None = []
+named_input (Some name) = name ∷ []
 
 -- the names that a request reads
 abbrev pub inputs_of : Option Request → List Text
 inputs_of None = []
-inputs_of (Some request) = bench_of request ∷ []
+inputs_of (Some request) = named_input (input_of request)

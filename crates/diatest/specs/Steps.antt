@@ -6,7 +6,7 @@ use Rattle.diag_shelf.specs.Calls.{SameFacts, OnlyReads, Told}
 use Rattle.net_model.specs.declared.circuit.Design.{Design}
 use Rattle.bench_reader.specs.declared.fault.NetFault.{NetFault}
 use Rattle.bench_reader.specs.declared.fault.NetFault.TheVariants as fault
-use Rattle.diatest.specs.Request.{Text, Request, bench_of}
+use Rattle.diatest.specs.Request.{Text, Request, input_of}
 use Rattle.diatest.specs.Texts.{refusal_text, loop_text}
 use Rattle.diatest.specs.Netlists.{IsDesign}
 use Rattle.diatest.specs.Ran.{Ran}
@@ -25,4 +25,4 @@ pub record HasDesign (bench : Text) (design : Design) (old new : State) : Type 0
 
 -- Whatever is asked of the netlist under this name, the run is over.
 abbrev pub IsOver : Text → ℕ → State → State → Type 0
-IsOver bench status old new = (request : Request) → bench_of request ≡ bench → Ran (Some request) status old new
+IsOver bench status old new = (request : Request) → input_of request ≡ Some bench → Ran (Some request) status old new

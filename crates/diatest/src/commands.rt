@@ -3,39 +3,41 @@
 ghost use Rattle.std.specs.Prelude.{◌≡◌, ◌⊎◌, map, string_bytes, IsTrue, None};
 ghost use Rattle.diag_shelf.specs.Calls.{Told};
 ghost use Rattle.diatest.specs.Request.{request_of, inputs_of};
-ghost use Rattle.diatest.specs.Ran.{HasCauses, IsDone, IsUnread, IsBrokenOff, OnlyOutputs, AreHeld, NoneFailed, Ran, GeneratesFile, IsMadeFile, HasApartClasses, HasEqualMarked, HasOpenSpent, HasLowestUnmarked, PrintsFaults, RefusesNetlist, KeepsRefused, IsComplete};
+ghost use Rattle.diatest.specs.Ran.{IsAmong, statuses_of, Stays, HasCauses, IsDone, IsUnread, IsBrokenOff, OnlyOutputs, AreHeld, NoneFailed, Ran, KeepsUnlessDone, GeneratesResult, Synthesizes, PrintsFaults, RefusesNetlist, KeepsRefused, IsComplete};
 
+use crate::arguments::WordsFault;
 use crate::ends::say;
 use crate::generates::generate_file;
 use crate::listing::list_faults;
 use crate::request::{Request, read_words};
-use bench_reader::{accepted_or_refused, one_netlist};
+use crate::synths::synthesize;
+use bench_reader::{never_accepted_and_refused, one_netlist};
 use diag_shelf::Shelf;
+use fault_collapse::same_root_equal;
 use net_model::{none_reaches_itself, walk_reaches_itself};
+use pair_sets::{covering_is_equal, full_tree_is_covered, leaves_are_closed};
 use std::alloc::Global;
 
 /// Does what the words ask for, and answers a status: 0 where the work is done, 2 where the words aren't understood,
 /// 3 where the netlist is refused, 7 or 8 where a read or a write failed, 9 for want of memory.
 pub fn run<S: Shelf>(alloc: Global, words: &[String], shelf: &mut S) -> u8
-    // Each status has its cause, on every shelf.
-    ensures causes { HasCauses result (S.state shelf.old) (S.state shelf.new) }
+    // The status, on every shelf.
+    ensures status { IsAmong result (statuses_of (request_of (map string_bytes words.now))) }
     ensures words { result ≡ 2 → request_of (map string_bytes words.now) ≡ None }
     ensures not_understood { request_of (map string_bytes words.now) ≡ None → (result ≡ 2) ⊎ ((result ≡ 8) ⊎ (result ≡ 9)) }
+    ensures causes { HasCauses result (S.state shelf.old) (S.state shelf.new) }
+    ensures stays { Stays (S.state shelf.old) (S.state shelf.new) }
 
     // What is done to a shelf that tells.
     ensures done { Told (S.state shelf.old) (S.state shelf.new) (IsDone (request_of (map string_bytes words.now)) result) }
     ensures unread { Told (S.state shelf.old) (S.state shelf.new) (IsUnread result) }
     ensures broken_off { Told (S.state shelf.old) (S.state shelf.new) (IsBrokenOff (request_of (map string_bytes words.now)) result) }
     ensures others { Told (S.state shelf.old) (S.state shelf.new) (OnlyOutputs (request_of (map string_bytes words.now))) }
+    ensures kept { Told (S.state shelf.old) (S.state shelf.new) (KeepsUnlessDone result) }
 
-    // The file of a generated result.
-    ensures made { Told (S.state shelf.old) (S.state shelf.new) (GeneratesFile IsMadeFile (request_of (map string_bytes words.now)) result) }
-    ensures apart { Told (S.state shelf.old) (S.state shelf.new) (GeneratesFile HasApartClasses (request_of (map string_bytes words.now)) result) }
-    ensures equal { Told (S.state shelf.old) (S.state shelf.new) (GeneratesFile HasEqualMarked (request_of (map string_bytes words.now)) result) }
-    ensures spent { Told (S.state shelf.old) (S.state shelf.new) (GeneratesFile HasOpenSpent (request_of (map string_bytes words.now)) result) }
-    ensures lowest { Told (S.state shelf.old) (S.state shelf.new) (GeneratesFile HasLowestUnmarked (request_of (map string_bytes words.now)) result) }
-
-    // The faults of a circuit.
+    // What each command does.
+    ensures made { Told (S.state shelf.old) (S.state shelf.new) (GeneratesResult (request_of (map string_bytes words.now)) result) }
+    ensures synth { Told (S.state shelf.old) (S.state shelf.new) (Synthesizes (request_of (map string_bytes words.now)) result) }
     ensures faults { Told (S.state shelf.old) (S.state shelf.new) (PrintsFaults (request_of (map string_bytes words.now)) result) }
 
     // Refusals, and their absence.
@@ -46,7 +48,11 @@ pub fn run<S: Shelf>(alloc: Global, words: &[String], shelf: &mut S) -> u8
     // A sure shelf that holds the inputs has no fault.
     ensures sure { IsTrue (S.state shelf.old).sure → AreHeld (inputs_of (request_of (map string_bytes words.now))) (S.state shelf.old).world.files → NoneFailed (S.state shelf.old) (S.state shelf.new) }
 {
-    accepted_or_refused();
+    never_accepted_and_refused();
+    same_root_equal();
+    covering_is_equal();
+    leaves_are_closed();
+    full_tree_is_covered();
     one_netlist();
     none_reaches_itself();
     walk_reaches_itself();
@@ -56,12 +62,14 @@ pub fn run<S: Shelf>(alloc: Global, words: &[String], shelf: &mut S) -> u8
 fn dispatch<S: Shelf>(alloc: Global, words: &[String], shelf: &mut S) -> u8
     ensures { Ran (request_of (map string_bytes words.now)) result (S.state shelf.old) (S.state shelf.new) }
 {
-    match read_words(words) {
-        None => refuse(shelf),
-        Some(Request::Gen(bench, result, budgets)) => {
-            generate_file(alloc, shelf, bench, result, budgets)
+    match read_words(alloc, words) {
+        Ok(Request::Gen(bench, output, budgets)) => {
+            generate_file(alloc, shelf, bench, output, budgets)
         }
-        Some(Request::ListFaults(bench)) => list_faults(alloc, shelf, bench),
+        Ok(Request::ListFaults(bench)) => list_faults(alloc, shelf, bench),
+        Ok(Request::Synth(n, bench, output)) => synthesize(alloc, shelf, n, bench, output),
+        Err(WordsFault::NotUnderstood) => refuse(shelf),
+        Err(WordsFault::NoMemory) => 9,
     }
 }
 

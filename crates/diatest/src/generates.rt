@@ -1,18 +1,61 @@
 //! The command `gen`: from a netlist's bytes to a result file.
 
-ghost use Rattle.std.specs.Prelude.{◌≡◌, Some};
+ghost use Rattle.std.specs.Prelude.{◌≡◌, [], Err, IfOk, Some, None, map, string_bytes};
+ghost use Rattle.clap.specs.Words.{app_of};
 ghost use Rattle.result_file.specs.Lines.{AreWithinLimits};
-ghost use Rattle.diatest.specs.Request.{gen};
+ghost use Rattle.diatest.specs.Request.{gen, gen_app, gen_of};
+ghost use Rattle.diatest.specs.Asked.{asked, HasLimits};
 ghost use Rattle.diatest.specs.Ran.{Ran, SavesResult};
 
+use crate::arguments::{WordsFault, bare_command, name_arg, name_in, number_in, option_arg, parse};
 use crate::ends::{say, write_status};
 use crate::netlists::read_design;
+use crate::request::Request;
 use crate::texts::summary_text;
+use clap::Command;
 use dia_gen::generate;
 use diag_shelf::Shelf;
 use net_model::Circuit;
 use result_file::Budgets;
-use std::alloc::Global;
+use std::alloc::{AllocError, Global};
+
+// The most blocks of the stream.
+const BLOCKS_LIMIT: u32 = 65_536;
+
+// The most cubes for a pair of faults.
+const CUBES_LIMIT: u32 = 1_048_576;
+
+// Two names and two options.
+fn gen_command<'a>(alloc: Global) -> Result<Command<'a>, AllocError>
+    ensures { IfOk result (λ c. app_of c ≡ gen_app) }
+{
+    let bench = name_arg(alloc, "bench");
+    let output = name_arg(alloc, "result");
+    let blocks = option_arg(alloc, "blocks", "4", BLOCKS_LIMIT);
+    let cubes = option_arg(alloc, "cubes", "64", CUBES_LIMIT);
+    let named = bare_command(alloc, "gen").arg(bench)?.arg(output)?;
+    let whole = named.arg(blocks)?.arg(cubes)?;
+    Ok(whole)
+}
+
+/// The request of the words behind `gen`.
+pub(crate) fn read_gen(alloc: Global, words: &[String]) -> Result<Request<'_>, WordsFault>
+    ensures asked { IfOk result (λ request. gen_of (map string_bytes words.now) ≡ Some (asked request)) }
+    ensures limits { IfOk result HasLimits }
+    ensures refused { result ≡ Err WordsFault.NotUnderstood → gen_of (map string_bytes words.now) ≡ None }
+{
+    let matches = parse(gen_command(alloc)?, words)?;
+    let budgets = Budgets {
+        blocks: number_in(&matches, "blocks", 0, BLOCKS_LIMIT),
+        cubes: number_in(&matches, "cubes", 0, CUBES_LIMIT),
+        conflicts: 0,
+    };
+    Ok(Request::Gen(
+        name_in(&matches, "bench"),
+        name_in(&matches, "result"),
+        budgets,
+    ))
+}
 
 /// Reads and judges the netlist, and generates a result for its circuit under the result's name.
 pub(crate) fn generate_file<S: Shelf>(
@@ -33,8 +76,8 @@ pub(crate) fn generate_file<S: Shelf>(
     save_result(alloc, shelf, &design.circuit, output, budgets)
 }
 
-// Generates a result of the circuit under this name, and prints what it amounts to.
-fn save_result<S: Shelf>(
+/// Generates a result of the circuit under this name, and prints what it amounts to.
+pub(crate) fn save_result<S: Shelf>(
     alloc: Global,
     shelf: &mut S,
     circuit: &Circuit,
@@ -43,7 +86,7 @@ fn save_result<S: Shelf>(
 ) -> u8
     requires limits { AreWithinLimits budgets }
     requires conflicts { budgets.conflicts ≡ 0 }
-    ensures { SavesResult circuit.now budgets output.now result (S.state shelf.old) (S.state shelf.new) }
+    ensures { SavesResult circuit.now budgets [] output.now result (S.state shelf.old) (S.state shelf.new) }
 {
     if let Err(fault) = shelf.create_file(output) {
         return write_status(fault);

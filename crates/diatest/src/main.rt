@@ -1,6 +1,8 @@
 //! DIATEST: tests that tell single stuck-at faults apart.
 #![tactic(auto)]
 
+mod arguments;
+mod cells;
 mod commands;
 mod ends;
 mod generates;
@@ -8,6 +10,7 @@ mod listing;
 mod netlists;
 mod real;
 mod request;
+mod synths;
 #[cfg(test)]
 mod tests;
 mod texts;

@@ -44,8 +44,8 @@ pub(crate) fn read_design<S: Shelf>(alloc: Global, shelf: &mut S, bench: &str) -
     }
 }
 
-// The cut of a netlist's text.
-fn judge(alloc: Global, bytes: &[u8]) -> Result<Design, Stop>
+/// The cut of a netlist's text.
+pub(crate) fn judge(alloc: Global, bytes: &[u8]) -> Result<Design, Stop>
     ensures named { IfOk result (λ design. length design.names ≡ line_count design.circuit) }
     ensures ok { IfOk result (IsDesign bytes.now) }
     ensures refused { (text : Vec ℕ Global) → result ≡ Err (Stop.Refused text) → IsRefused bytes.now text.items }
@@ -55,10 +55,7 @@ fn judge(alloc: Global, bytes: &[u8]) -> Result<Design, Stop>
         Err(fault) => return Err(refusal(alloc, fault)),
     };
     match cut(alloc, &statements) {
-        Ok(design) => {
-            let _ = design.circuit.sources();
-            Ok(design)
-        }
+        Ok(design) => Ok(design),
         Err(fault) => Err(refusal(alloc, fault)),
     }
 }

@@ -1,5 +1,6 @@
 //! Runs over shelves in memory, with files worked out by hand.
 
+use crate::cells::synth_text;
 use crate::commands::run;
 use diag_shelf::{MemoryShelf, SureShelf};
 use std::alloc::{AllocError, Global};
@@ -302,23 +303,101 @@ fn refusals_create_no_file(rt: HostRuntime) -> Result<(), Fail> {
         assert_eq!(rt; console.len(), refusal.len() + 10);
         assert!(rt; has(console, *refusal));
     }
+    Ok(())
+}
+
+#[test]
+fn words_that_are_not_understood(rt: HostRuntime) -> Result<(), Fail> {
     let alloc = rt.alloc();
-    let wrong: [&[&str]; 9] = [
+    let wrong: [&[&str]; 16] = [
         &[],
-        &["gen", "a"],
+        &["generate", "n", "r"],
+        &["gen", "n"],
+        &["gen", "n", "r", "s"],
         &["faults"],
-        &["faults", "a", "b"],
-        &["gen", "a", "b", "--blocks", "65537"],
-        &["gen", "a", "b", "--blocks", "01"],
-        &["gen", "a", "b", "--blocks"],
-        &["gen", "a", "b", "--cubes", "1048577"],
-        &["gen", "a", "b", "--cubes", "5", "--blocks", "1"],
+        &["faults", "n", "r"],
+        &["faults", "n", "--cubes", "1"],
+        &["gen", "n", "r", "--blocks", "65537"],
+        &["gen", "n", "r", "--cubes", "1048577"],
+        &["gen", "n", "r", "--cubes", "-0"],
+        &["gen", "n", "r", "--blocks="],
+        &["gen", "n", "r", "--cubes", "5", "--cubes", "5"],
+        &["gen", "n", "--r"],
+        &["gen", "--help"],
+        &["synth", "0", "n", "r"],
+        &["synth", "2001", "n", "r"],
     ];
     for all in &wrong {
         let mut shelf = SureShelf::new(alloc, 7);
         assert_eq!(rt; run(alloc, &words(alloc, *all)?, &mut shelf), 2);
         assert_eq!(rt; shelf.console(), b"words: not understood\n".as_slice());
+        assert!(rt; shelf.file("n").is_none() && shelf.file("r").is_none());
     }
+    Ok(())
+}
+
+// Options stand before, between and behind the names, and numbers may have zeros or a sign before them.
+#[test]
+fn words_that_are_understood(rt: HostRuntime) -> Result<(), Fail> {
+    let taken: [(&[&str], &[u8]); 7] = [
+        (&["gen", "--cubes", "8", "n", "r"], b"budget 4 8 0\n"),
+        (&["gen", "n", "r", "--cubes", "8"], b"budget 4 8 0\n"),
+        (
+            &["gen", "--cubes=007", "n", "--blocks", "65536", "r"],
+            b"budget 65536 7 0\n",
+        ),
+        (&["gen", "n", "--cubes", "+7", "r"], b"budget 4 7 0\n"),
+        (&["gen", "n", "r", "--cubes=-0"], b"budget 4 0 0\n"),
+        (
+            &["gen", "--blocks", "0", "--", "n", "r"],
+            b"budget 0 64 0\n",
+        ),
+        (
+            &["gen", "n", "--cubes", "1048576", "r"],
+            b"budget 4 1048576 0\n",
+        ),
+    ];
+    for (all, line) in &taken {
+        let left = generated_by(rt.alloc(), b"", *all)?;
+        assert_eq!(rt; left.status, 0);
+        assert!(rt; has(left.result.ok_or("no file")?.as_slice(), *line));
+    }
+    Ok(())
+}
+
+// The netlist of 2, by the first two outputs of SplitMix64 from the seed 2.
+#[test]
+fn a_netlist_of_two_cells(rt: HostRuntime) -> Result<(), Fail> {
+    let text: &[u8] =
+        b"INPUT(c0)\nINPUT(x0)\nINPUT(y0)\nOUTPUT(s0)\np0=NAND(x0,y0)\nq0=NAND(x0,c0)\ns0=NOR(p0,q0)\nc1=NOR(p0,c0)\nINPUT(x1)\nINPUT(y1)\nOUTPUT(s1)\np1=OR(x1,y1)\nq1=AND(x1,c1)\ns1=NAND(p1,q1)\nc2=NOR(p1,c1)\nOUTPUT(c2)\n";
+    assert!(rt; synth_text(rt.alloc(), 2)?.as_slice() == text);
+    Ok(())
+}
+
+// One name for both: the result replaces the netlist.
+#[test]
+fn results_of_a_netlist_by_number(rt: HostRuntime) -> Result<(), Fail> {
+    let alloc = rt.alloc();
+    let mut first = MemoryShelf::new(alloc, 1000, Vec::new(alloc));
+    let mut second = MemoryShelf::new(alloc, 1000, Vec::new(alloc));
+    assert_eq!(rt;
+        run(alloc, &words(alloc, &["synth", "8", "n", "r"])?, &mut first),
+        0
+    );
+    assert_eq!(rt;
+        run(
+            alloc,
+            &words(alloc, &["synth", "8", "r", "r"])?,
+            &mut second
+        ),
+        0
+    );
+    assert_eq!(rt; first.console(), second.console());
+    let result = first.file("r").ok_or("no file")?;
+    assert!(rt; result.starts_with(b"diatest 1 17 9 195\nbudget 4 16 0\n"));
+    assert!(rt; second.file("r").ok_or("no file")? == result);
+    assert!(rt; second.file("n").is_none());
+    assert!(rt; first.file("n").ok_or("no file")? == synth_text(alloc, 8)?.as_slice());
     Ok(())
 }
 

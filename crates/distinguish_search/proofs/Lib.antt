@@ -1,4 +1,4 @@
-pub mod Several
 pub mod Walks
 pub mod FrameLemmas
 pub mod Leaves
+pub mod SearchSteps

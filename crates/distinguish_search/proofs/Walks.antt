@@ -1,34 +1,35 @@
 -- Why a walk from an undecided position ends at a free source.
-use Rattle.std.proofs.Common.{◌≡◌, ℕ, suc, ◌+◌, ◌<◌, ◌≤◌, refl, sym, ◌∙◌, ap, arith, subst, length, get_or, below_more, inl, inr}
-use Rattle.std.specs.Prelude.{Bool, true, false, List, [], ◌∷◌, Option, None, Some, Contains, ◌||◌}
+use Rattle.std.proofs.Common.{◌≡◌, ℕ, ◌+◌, ◌<◌, ◌≤◌, refl, sym, ◌∙◌, ap, arith, subst, length, get_or, below_more, inl, inr}
+use Rattle.std.specs.Prelude.{Bool, true, false, List, [], Option, None, Some, Contains, ◌||◌}
 use Rattle.std.specs.Option.{option_map_or}
-use Rattle.std.proofs.lemmas.Bool.{cases_lt}
+use Rattle.std.proofs.lemmas.Bool.{cases_lt, false≢true}
 use Rattle.std.proofs.lemmas.List.{get_or_default}
 use Rattle.std.proofs.lemmas.List.Elements.{Contains-get_or}
 use Rattle.net_model.specs.declared.gate.Gate.{Gate}
 use Rattle.net_model.specs.declared.fault.Fault.{Fault}
 use Rattle.net_model.specs.Circuit.{Circuit, IsCircuit, gate_at, pins_of, Feeds}
+use Rattle.net_model.specs.Gate.{gate_value}
 use Rattle.net_model.specs.Fault.{stuck_stem, stuck_pin, stuck_position}
 use Rattle.net_model.specs.Scope.{reached_positions}
 use Rattle.net_model.proofs.Copies.{pins_inside}
 use Rattle.net_model.proofs.Relevance.{listed_reached, relevant_back, relevant_shown}
-use Rattle.pair_sets.specs.declared.pair_set.PairSet.{PairSet}
+use Rattle.pair_sets.specs.PairSet.{PairSet}
 use Rattle.pair_sets.specs.declared.state.PairState.TheVariants.{Undecided}
 use Rattle.pair_sets.specs.Cube.{Cube, fixed_bit}
 use Rattle.pair_sets.specs.PairSet.{has_several, free_pairs, fixed_pairs, gate_pairs, only_equal, only_unequal}
 use Rattle.pair_sets.specs.CubeState.{set_at, seen_pairs, source_pairs, line_pairs, ArePairSets, position_pairs, IsState, IsPart}
 use Rattle.pair_sets.proofs.SeenLemmas.{pin_set, length-seen, seen_at, source_line_pairs, gate_is_at}
-use Rattle.pair_sets.proofs.StateLemmas.{not_all, none_found, undecided_is}
+use Rattle.pair_sets.proofs.StateLemmas.{undecided_mixed}
 use Rattle.pair_sets.proofs.ReadLemmas.{part_is}
 use Rattle.distinguish_search.specs.Open.{IsOpen, IsDecided, AreDecided, IsOpenAt}
-use Rattle.distinguish_search.proofs.Several.{IsSingle, AllSingle, not_several, no_single, several_before, single_gate, not_fixed, mixed_several}
+use Rattle.pair_sets.proofs.SingleLemmas.{AllSingle, not_several, no_single, several_before, single_fixed, single_each, single_value, mixed_several}
 
 module _ (c : Circuit) (f g : Fault) (cube : Cube) where
   -- ---- the end of a walk
 
   free_source : (o : Option Bool) → has_several (option_map_or fixed_pairs o free_pairs) ≡ true → o ≡ None
   free_source None e = refl
-  free_source (Some bit) e = absurd (not_fixed bit e)
+  free_source (Some bit) e = absurd (no_single (fixed_pairs bit) e (single_fixed bit))
 
   -- an open source is free
   pub open_is_free : (line : ℕ) → IsOpen c f g cube line → line < c.sources → fixed_bit cube line ≡ None
@@ -67,22 +68,16 @@ module _ (c : Circuit) (f g : Fault) (cube : Cube) where
         (sym (ap (λ s. only_equal s || only_unequal s) (part_is c f g cube (λ sets. position_pairs c f g sets at) pairs sets w part are)) ∙ e)
   ]
 
-  or_false : (a b : Bool) → a ≡ false → b ≡ false → (a || b) ≡ true → ⊥
-  or_false a b d e t = cc
-
   -- of an undecided cube some reached position isn't decided
   pub not_all_decided : (middle : ℕ) → IsState c f g cube Undecided → AreDecided c f g cube middle (length (reached_positions c f g)) → AreDecided c f g cube 0 middle → ⊥
   not_all_decided middle state late early =
       let sets = state.sets in
       let reached = reached_positions c f g in
-      let is = undecided_is c f g sets state.is in
-      let found = not_all (λ at. only_equal (position_pairs c f g sets at)) reached is.0 in
-      let unequal = none_found (λ at. only_unequal (position_pairs c f g sets at)) reached is.1 found.0 found.1 in
+      let found = undecided_mixed c f g sets state.is in
       let place = found.1.0 in
       let here : get_or reached place 0 ≡ found.0 = get_or_default reached place 0 found.0 found.1.1 ∙ found.1.2 in
       let decided : IsDecided c f g cube (get_or reached place 0) = elim (cases_lt place middle) [ inl under ↦ early place (omega arith) under | inr over ↦ late place over found.1.1 ] in
-      or_false (only_equal (position_pairs c f g sets found.0)) (only_unequal (position_pairs c f g sets found.0)) found.2 unequal
-      (subst (λ at. (only_equal (position_pairs c f g sets at) || only_unequal (position_pairs c f g sets at)) ≡ true) here (decided sets state.are))
+      false≢true (sym found.2 ∙ subst (λ at. (only_equal (position_pairs c f g sets at) || only_unequal (position_pairs c f g sets at)) ≡ true) here (decided sets state.are))
 
   -- ---- its steps
 
@@ -98,10 +93,6 @@ module _ (c : Circuit) (f g : Fault) (cube : Cube) where
   -- none of the first pins sees several pairs
   abbrev pub NoneSeveral : ℕ → List ℕ → ℕ → Type 0
   NoneSeveral line pins n = (sets : List PairSet) → ArePairSets c f g cube sets → (k : ℕ) → k < n → has_several (pin_set f g sets line k (get_or pins k 0)) ≡ false
-
-  single_each : (sets : List PairSet) → ((k : ℕ) → k < length sets → IsSingle (get_or sets k free_pairs)) → AllSingle sets
-  single_each [] h = tt
-  single_each (s ∷ sets) h = (h 0 (omega arith), single_each sets (λ k l. h (suc k) (omega (arith, l))))
 
   -- some pin of an open line does
   pub some_several : (line : ℕ) → IsOpen c f g cube line → c.sources ≤ line → NoneSeveral line (pins_of c line) (length (pins_of c line)) → ⊥
@@ -119,7 +110,7 @@ module _ (c : Circuit) (f g : Fault) (cube : Cube) where
       ∙ none sets here.are k (subst (λ (ps : List ℕ). k < length ps) (sym pins) within))) in
       let is : set_at sets line ≡ _ = here.are.each line here.inside in
       let driven = several_before (stuck_stem f line) (stuck_stem g line) (option_map_or (λ (gate : Gate). gate_pairs gate.kind (seen_pairs f g sets line gate.pins)) (gate_at c line) (source_pairs cube line)) (subst (λ s. has_several s ≡ true) is here.several) in
-      no_single (gate_pairs gate.0.kind seen) (subst (λ o. has_several (option_map_or (λ (gate : Gate). gate_pairs gate.kind (seen_pairs f g sets line gate.pins)) o (source_pairs cube line)) ≡ true) gate.1 driven) (single_gate gate.0.kind seen all)
+      no_single (gate_pairs gate.0.kind seen) (subst (λ o. has_several (option_map_or (λ (gate : Gate). gate_pairs gate.kind (seen_pairs f g sets line gate.pins)) o (source_pairs cube line)) ≡ true) gate.1 driven) (single_value (gate_value gate.0.kind) seen all)
 
   -- a pin that sees several pairs reads an open line, and one that doesn't is passed
   pub pin_found : (line pin : ℕ) (pins : List ℕ) (pairs : PairSet) → IsCircuit c → IsOpen c f g cube line → pins ≡ pins_of c line → pin < length pins
@@ -134,3 +125,7 @@ module _ (c : Circuit) (f g : Fault) (cube : Cube) where
   pin_passed line pin pins pairs w none part e sets are =
       below_more (λ (k : ℕ). has_several (pin_set f g sets line k (get_or pins k 0)) ≡ false) pin (none sets are)
       (sym (ap has_several (part_is c f g cube (λ sets. pin_set f g sets line pin (get_or pins pin 0)) pairs sets w part are)) ∙ e)
+
+-- the pins are those of the circuit's gate
+pub pins_are : (circuit other : Circuit) (line : ℕ) (pins own : List ℕ) → other ≡ circuit → pins ≡ own → pins_of other line ≡ own → pins ≡ pins_of circuit line
+pins_are circuit other line pins own same e d = e ∙ sym d ∙ ap (λ c. pins_of c line) same

@@ -1,5 +1,5 @@
 -- What a search finds for a pair of faults.
-use Rattle.std.specs.Prelude.{◌≡◌, ℕ, length}
+use Rattle.std.specs.Prelude.{ℕ}
 use Rattle.net_model.specs.declared.fault.Fault.{Fault}
 use Rattle.net_model.specs.Circuit.{Circuit}
 use Rattle.net_model.specs.Answer.{Separates}
@@ -7,8 +7,8 @@ use Rattle.pair_sets.specs.Tree.{IsCovering, IsSpending}
 use Rattle.distinguish_search.specs.declared.found.Found.{Found}
 use Rattle.distinguish_search.specs.declared.found.Found.TheVariants.{Vector, Covered, Spent}
 
--- A vector is one that separates the faults. A covered tree has no open leaf, and at most so many closed ones; a spent one has an open leaf, and just so many closed ones.
+-- A vector is one that separates the faults, and so has the circuit's width. A covered tree has no open leaf, and at most so many closed ones; a spent one has an open leaf, and just so many closed ones.
 abbrev pub IsFound : Circuit → Fault → Fault → ℕ → Found → Type 0
-IsFound c f g leaves (Vector v) = (length v ≡ c.sources) × Separates c v f g
+IsFound c f g leaves (Vector v) = Separates c v f g
 IsFound c f g leaves (Covered tree) = IsCovering c f g leaves tree
 IsFound c f g leaves (Spent tree) = IsSpending c f g leaves tree

@@ -3,7 +3,7 @@ use Rattle.std.specs.Prelude.{◌≡◌, ℕ, ◌<◌, ◌≤◌, true, List, Is
 use Rattle.net_model.specs.declared.fault.Fault.{Fault}
 use Rattle.net_model.specs.Circuit.{Circuit, line_count}
 use Rattle.net_model.specs.Scope.{is_relevant, reached_positions}
-use Rattle.pair_sets.specs.declared.pair_set.PairSet.{PairSet}
+use Rattle.pair_sets.specs.PairSet.{PairSet}
 use Rattle.pair_sets.specs.Cube.{Cube}
 use Rattle.pair_sets.specs.PairSet.{has_several, only_equal, only_unequal}
 use Rattle.pair_sets.specs.CubeState.{set_at, position_pairs, ArePairSets}

@@ -8,8 +8,7 @@ mod end;
 mod found;
 mod frames;
 mod stack;
-#[cfg(test)]
-mod tests;
+mod step;
 mod walk;
 
 pub use depth_first::search;

@@ -1,17 +1,15 @@
 //! From a reached position that is undecided back to a free source that can still decide it.
 
 ghost use Rattle.std.specs.Prelude.{◌≡◌, ◌≤◌, MatchOption, length};
-ghost use Rattle.net_model.specs.Circuit.{Feeds};
 ghost use Rattle.net_model.specs.Scope.{reached_positions};
 ghost use Rattle.pair_sets.specs.declared.state.PairState.TheVariants.{Undecided};
 ghost use Rattle.pair_sets.specs.declared.tree.Token.TheVariants.{Split};
 ghost use Rattle.pair_sets.specs.CubeState.{IsState};
 ghost use Rattle.pair_sets.specs.Tree.{IsRightAt};
-ghost use Rattle.distinguish_search.specs.Asked.{inverts, passing_bit, asked_bit};
-ghost use Rattle.distinguish_search.specs.Open.{IsOpen, IsOpenAt, AreDecided};
+ghost use Rattle.distinguish_search.specs.Open.{IsOpenAt, AreDecided};
 
-use net_model::Kind;
-use pair_sets::{PairSet, PairSim};
+use crate::step::{Step, asked_bit, step_back};
+use pair_sets::PairSim;
 
 /// A free source to split, the bit at which it is tried first, and the place of the reached position that asks for it.
 #[derive(Clone, Copy)]
@@ -30,20 +28,20 @@ pub(crate) fn choose(sim: &PairSim, from: usize) -> Choice
     let circuit = sim.circuit();
     let place = open_place(sim, from);
     let at = sim.reached()[place];
-    let mut line = circuit.positions()[at as usize];
-    let mut bit = true;
+    let mut here = Step {
+        line: circuit.positions()[at as usize],
+        bit: true,
+    };
     for _step in 0..circuit.lines() + 1 {
-        let pairs = sim.pairs(line);
+        let Step { line, bit } = here;
         if line < circuit.sources() {
             return Choice {
                 source: line,
-                bit: asked_bit(pairs, bit, bit),
+                bit: asked_bit(sim.pairs(line), bit, bit),
                 place,
             };
         }
-        let kind = circuit.gate(line).kind;
-        bit = asked_bit(pairs, passing_bit(kind, bit), bit) != inverts(kind);
-        line = open_pin(sim, line, bit);
+        here = step_back(sim, here);
     }
     unreachable!()
 }
@@ -77,58 +75,4 @@ fn first_open(sim: &PairSim, from: usize, end: usize) -> Option<usize>
         }
     }
     None
-}
-
-// A line that the gate of an open line reads, and of which the pin sees two pairs or more; where there are several such
-// pins, one that may have the bit.
-fn open_pin(sim: &PairSim, line: u32, bit: bool) -> u32
-    requires gate { sim.now.circuit.sources ≤ line }
-    requires open { IsOpen sim.now.circuit sim.now.f sim.now.g sim.now.cube line }
-    ensures feeds { Feeds sim.now.circuit result line }
-    ensures open { IsOpen sim.now.circuit sim.now.f sim.now.g sim.now.cube result }
-{
-    let pins = sim.circuit().gate(line).pins.as_slice();
-    let mut found = None;
-    for (pin, read) in pins.iter().enumerate() {
-        let pairs = sim.pin_pairs(line, pin as u32, *read);
-        if pairs.has_several() {
-            if pairs.has(bit, bit) {
-                return *read;
-            }
-            found = Some(*read);
-        }
-    }
-    match found {
-        Some(read) => read,
-        None => unreachable!(),
-    }
-}
-
-// The bit to ask of a line with these pairs.
-fn asked_bit(pairs: PairSet, passing: bool, bit: bool) -> bool
-    ensures { result ≡ asked_bit pairs passing bit }
-{
-    let zero = pairs.has(false, false);
-    if zero != pairs.has(true, true) {
-        return zero;
-    }
-    if pairs.only_equal() { bit } else { passing }
-}
-
-// The bit of a gate of this kind that lets a difference pass.
-fn passing_bit(kind: Kind, bit: bool) -> bool
-    ensures { result ≡ passing_bit kind bit }
-{
-    match kind {
-        Kind::And | Kind::Nor => true,
-        Kind::Or | Kind::Nand => false,
-        _ => bit,
-    }
-}
-
-// Whether a gate of this kind turns the bit that its pins agree on.
-fn inverts(kind: Kind) -> bool
-    ensures { result ≡ inverts kind }
-{
-    matches!(kind, Kind::Nand | Kind::Nor | Kind::Xnor | Kind::Not)
 }

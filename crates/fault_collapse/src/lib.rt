@@ -5,8 +5,6 @@ mod forest;
 mod laws;
 mod roots;
 mod successors;
-#[cfg(test)]
-mod tests;
 
 pub use forest::{Forest, collapse};
 pub use laws::{root_is_last, same_root_equal};

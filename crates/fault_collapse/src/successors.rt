@@ -1,16 +1,16 @@
 //! The successor of each fault, by the gate that it stands at.
 
-ghost use Rattle.std.specs.Prelude.{◌≡◌, ◌+◌, ◌<◌, ◌≤◌, ◌∷◌, [], IfOk, IfSome, None, false, length, replicate};
-ghost use Rattle.net_model.specs.Gate.{gate_value};
+ghost use Rattle.std.specs.Prelude.{◌≡◌, ◌+◌, ◌<◌, ◌≤◌, ◌==◌, IfOk, IfSome, IsTrue, None, Some, false, length, replicate, if◌then◌else◌};
+ghost use Rattle.net_model.specs.Gate.{takes_pins};
 ghost use Rattle.net_model.specs.Fault.{IsFaultOf};
 ghost use Rattle.net_model.specs.Circuit.{line_count};
 ghost use Rattle.net_model.specs.FaultList.{faults as faults_of};
-ghost use Rattle.net_model.specs.Collapse.{carried_value, carried_fault, entered_gate, successor};
+ghost use Rattle.net_model.specs.Collapse.{controlled_fold, carried_value, carried_fault, entered_gate, successor};
 ghost use Rattle.fault_collapse.specs.Forest.{AreSuccessors, IsNumberOf};
 ghost use Rattle.fault_collapse.specs.Underway.{sole_gates, AreSoleBefore};
 
 use fault_list::FaultList;
-use net_model::{Circuit, Fault, Gate, Kind, Site};
+use net_model::{Circuit, Fault, Fold, Gate, Operation, Site};
 use std::alloc::{AllocError, Global};
 
 // For each line the gate at whose pin its sole destination stands, if it has such a one.
@@ -122,26 +122,28 @@ fn carried_fault(circuit: &Circuit, faults: &FaultList, bit: bool, gate: u32) ->
 
 // The value that a bit stuck at one pin puts on the gate, if it alone decides.
 fn carried_value(gate: &Gate, bit: bool) -> Option<bool>
+    requires { IsTrue (takes_pins gate.now.kind (length gate.now.pins)) }
     ensures { result ≡ carried_value gate.now.kind (length gate.now.pins) bit }
 {
-    if gate.pins.as_slice().len() == 1 {
-        return Some(single_pin_value(gate.kind, bit));
-    }
-    match (gate.kind, bit) {
-        (Kind::And, false) => Some(false),
-        (Kind::Nand, false) => Some(true),
-        (Kind::Or, true) => Some(true),
-        (Kind::Nor, true) => Some(false),
-        _ => None,
+    let pins = gate.pins.as_slice().len();
+    match gate.kind.operation() {
+        Operation::Folded(fold) => {
+            let value = decided_fold(fold, pins, bit)?;
+            Some(value != gate.kind.inverts())
+        }
+        Operation::Chosen => None,
     }
 }
 
-// The value of a gate with one pin.
-fn single_pin_value(kind: Kind, bit: bool) -> bool
-    ensures { result ≡ gate_value kind (bit ∷ []) }
+// What a fold of so many bits gives, if one of them alone decides.
+fn decided_fold(fold: Fold, bits: usize, bit: bool) -> Option<bool>
+    ensures { result ≡ (if bits == 1 then Some bit else controlled_fold fold bit) }
 {
-    match kind {
-        Kind::And | Kind::Or | Kind::Xor | Kind::Buff => bit,
-        Kind::Nand | Kind::Nor | Kind::Xnor | Kind::Not => !bit,
+    if bits == 1 {
+        return Some(bit);
+    }
+    match (fold, bit) {
+        (Fold::AllOf, false) | (Fold::AnyOf, true) => Some(bit),
+        (Fold::AllOf, true) | (Fold::AnyOf, false) | (Fold::OddOf, _) => None,
     }
 }

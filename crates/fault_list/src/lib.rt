@@ -7,8 +7,6 @@ mod names;
 mod numbers;
 mod scope;
 mod slots;
-#[cfg(test)]
-mod tests;
 
 pub use laws::{one_number, unreached_positions_agree, unsplit_lines_agree};
 pub use names::name_text;

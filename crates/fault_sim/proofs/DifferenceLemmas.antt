@@ -10,18 +10,18 @@ use Rattle.net_model.specs.Answer.{bit_at, IsAnswer, shown_bits, Agrees}
 use Rattle.net_model.proofs.Copies.{Agrees-unique}
 use Rattle.word_sim.specs.declared.lanes.TheConstants.{LANES}
 use Rattle.word_sim.specs.GoodSim.{GoodSim, vectors_of}
-use Rattle.fault_sim.specs.Pending.{IsEmpty}
-use Rattle.fault_sim.specs.FaultyLanes.{turned, faulty_bits, vector_at, IsFreeLane}
+use Rattle.net_model.specs.Gate.{inverted}
+use Rattle.fault_sim.specs.FaultyLanes.{faulty_bits, vector_at, IsFreeLane}
 use Rattle.fault_sim.specs.Events.{AreSettled, IsShown}
 use Rattle.fault_sim.specs.FaultSim.{AreDifferences}
 use Rattle.fault_sim.proofs.FaultyLemmas.{seen_at}
 use Rattle.fault_sim.proofs.SettledLemmas.{settled_all}
 
-turned_differs : (bit turn : Bool) → IsTrue turn ↔ (turned bit turn ≢ bit)
-turned_differs true true = (λ t e. false≢true e, λ ne. refl)
-turned_differs true false = (λ t e. false≢true t, λ ne. absurd (ne refl))
-turned_differs false true = (λ t e. false≢true (sym e), λ ne. refl)
-turned_differs false false = (λ t e. false≢true t, λ ne. absurd (ne refl))
+inverted_differs : (bit turn : Bool) → IsTrue turn ↔ (inverted bit turn ≢ bit)
+inverted_differs true true = (λ t e. false≢true e, λ ne. refl)
+inverted_differs true false = (λ t e. false≢true t, λ ne. absurd (ne refl))
+inverted_differs false true = (λ t e. false≢true (sym e), λ ne. refl)
+inverted_differs false false = (λ t e. false≢true t, λ ne. absurd (ne refl))
 
 -- what an answer has at a position
 answer_at : (c : Circuit) → IsCircuit c → (f : Fault) (v answer bits : List Bool) → IsAnswer c f v answer → Agrees c f v bits → (position : ℕ) → position < length c.positions
@@ -30,10 +30,10 @@ answer_at c is f v answer bits a agrees position h =
     ap (λ xs. bit_at xs position) (a.shows ∙ ap (shown_bits c f) (Agrees-unique c is f v a.bits bits a.agrees agrees))
     ∙ seen_at (stuck_position f) bits c.positions position h
 
-module _ (good : GoodSim) (is : IsCircuit good.circuit) (few : length (vectors_of good) ≤ LANES) (f : Fault) (order queue : List ℕ) (lines rows : List (List Bool)) where
-  pub differences_are : length lines ≡ line_count good.circuit → IsEmpty queue → AreSettled good f order queue lines → length rows ≡ length good.circuit.positions
+module _ (good : GoodSim) (is : IsCircuit good.circuit) (few : length (vectors_of good) ≤ LANES) (f : Fault) (lines rows : List (List Bool)) where
+  pub differences_are : length lines ≡ line_count good.circuit → AreSettled good f lines → length rows ≡ length good.circuit.positions
       → ((position : ℕ) → position < length good.circuit.positions → IsShown good f lines position (get_or rows position [])) → AreDifferences good.circuit f (vectors_of good) rows
-  differences_are width none settled whole shown = record {
+  differences_are width settled whole shown = record {
     whole = whole;
     live = λ position lane h live answer without a b.
         let c = good.circuit in
@@ -44,10 +44,10 @@ module _ (good : GoodSim) (is : IsCircuit good.circuit) (few : length (vectors_o
         let line = get_or c.positions position 0 in
         let row = get_or rows position [] in
         let faulty : bit_at answer position ≡ unwrap_or (stuck_position f position) (bit_at bits line) =
-        answer_at c is f v answer bits a (settled_all good f order queue lines width none settled lane free at) position h in
+        answer_at c is f v answer bits a (settled_all good f lines width settled lane free at) position h in
         let plain : bit_at without position ≡ bit_at free line = answer_at c is Free v without free b b.agrees position h in
-        let is_turned : turned (bit_at free line) (bit_at row lane) ≡ bit_at answer position = (shown position h).live lane free at ∙ sym faulty in
+        let is_turned : inverted (bit_at free line) (bit_at row lane) ≡ bit_at answer position = (shown position h).live lane free at ∙ sym faulty in
         let P : Bool → Bool → Type 0 = λ x y. IsTrue (bit_at row lane) ↔ (x ≢ y) in
-        subst (λ y. P (bit_at answer position) y) (sym plain) (subst (λ x. P x (bit_at free line)) is_turned (turned_differs (bit_at free line) (bit_at row lane)));
+        subst (λ y. P (bit_at answer position) y) (sym plain) (subst (λ x. P x (bit_at free line)) is_turned (inverted_differs (bit_at free line) (bit_at row lane)));
     past = λ position lane h past within. (shown position h).past lane past within;
   }

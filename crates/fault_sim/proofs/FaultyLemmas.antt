@@ -1,35 +1,34 @@
 -- The bits of lines under a fault, and what readers see of them.
 use Rattle.std.proofs.Common.{◌≡◌, ℕ, zero, suc, ◌+◌, ◌-◌, ◌<◌, List, [], ◌∷◌, length, get_or, refl, sym, ◌∙◌, ap, arith}
-use Rattle.std.specs.Prelude.{Bool, true, false, Option, Some, None, ◌&&◌, unwrap_or, nat_lt, slice_get, IsTrue, if◌then◌else◌}
+use Rattle.std.specs.Prelude.{Bool, true, false, Option, Some, None, ◌&&◌, unwrap_or, nat_lt, slice_get, if◌then◌else◌}
 use Rattle.std.specs.Option.{option_map_or}
 use Rattle.std.proofs.lemmas.List.FromFn.{length-map-range_with_len, get_or-map-range_with_len}
 use Rattle.std.proofs.lemmas.Bool.Decides.{nat_tests}
 use Rattle.net_model.specs.declared.fault.Fault.{Fault}
 use Rattle.net_model.specs.declared.fault.Fault.TheVariants.{Free}
 use Rattle.net_model.specs.declared.gate.Gate.{Gate}
-use Rattle.net_model.specs.declared.gate.Kind.{Kind}
-use Rattle.net_model.specs.declared.gate.Kind.TheVariants.{And, Nand, Or, Nor, Xor, Xnor, Not, Buff}
-use Rattle.net_model.specs.Gate.{gate_value, takes_pins}
+use Rattle.net_model.specs.Gate.{gate_value}
 use Rattle.net_model.specs.Fault.{stuck_pin, stuck_stem}
 use Rattle.net_model.specs.Circuit.{Circuit, gate_at}
 use Rattle.net_model.specs.Answer.{bit_at, seen_bits, driven_bit, line_bit, Agrees}
 use Rattle.net_model.proofs.Seen.{seen_from, seen_from-all}
-use Rattle.fault_sim.specs.FaultyLanes.{turned, faulty_bits}
+use Rattle.net_model.specs.Gate.{inverted}
+use Rattle.fault_sim.specs.FaultyLanes.{faulty_bits}
 
 pub length-faulty : (free : List Bool) (rows : List (List Bool)) (lane : ℕ) → length (faulty_bits free rows lane) ≡ length rows
 unfolding faulty_bits
-length-faulty free rows lane = length-map-range_with_len (λ line. turned (bit_at free line) (bit_at (get_or rows line []) lane)) 0 (length rows)
+length-faulty free rows lane = length-map-range_with_len (λ line. inverted (bit_at free line) (bit_at (get_or rows line []) lane)) 0 (length rows)
 
-pub faulty_at : (free : List Bool) (rows : List (List Bool)) (lane line : ℕ) → line < length rows → bit_at (faulty_bits free rows lane) line ≡ turned (bit_at free line) (bit_at (get_or rows line []) lane)
+pub faulty_at : (free : List Bool) (rows : List (List Bool)) (lane line : ℕ) → line < length rows → bit_at (faulty_bits free rows lane) line ≡ inverted (bit_at free line) (bit_at (get_or rows line []) lane)
 unfolding faulty_bits
-faulty_at free rows lane line h = get_or-map-range_with_len (λ line. turned (bit_at free line) (bit_at (get_or rows line []) lane)) 0 (length rows) line line false h (omega arith)
+faulty_at free rows lane line h = get_or-map-range_with_len (λ line. inverted (bit_at free line) (bit_at (get_or rows line []) lane)) 0 (length rows) line line false h (omega arith)
 
--- a bit is turned to another where the two differ
-pub turned_to : (bit value : Bool) → turned bit (turned value bit && true) ≡ value
-turned_to true true = refl
-turned_to true false = refl
-turned_to false true = refl
-turned_to false false = refl
+-- a bit is inverted to another where the two differ
+pub inverted_to : (bit value : Bool) → inverted bit (inverted value bit && true) ≡ value
+inverted_to true true = refl
+inverted_to true false = refl
+inverted_to false true = refl
+inverted_to false false = refl
 
 seen_from-at : (stuck : ℕ → Option Bool) (bits : List Bool) (k : ℕ) (lines : List ℕ) (i : ℕ) → i < length lines → get_or (seen_from stuck bits k lines) i false ≡ unwrap_or (stuck (k + i)) (bit_at bits (get_or lines i 0))
 seen_from-at stuck bits k [] i h = absurd (omega arith)
@@ -41,17 +40,6 @@ seen_from-at stuck bits k (line ∷ lines) (suc i) h =
 pub seen_at : (stuck : ℕ → Option Bool) (bits : List Bool) (lines : List ℕ) (i : ℕ) → i < length lines → bit_at (seen_bits stuck bits lines) i ≡ unwrap_or (stuck i) (bit_at bits (get_or lines i 0))
 seen_at stuck bits lines i h =
     ap (λ xs. bit_at xs i) (sym (seen_from-all stuck bits lines)) ∙ seen_from-at stuck bits 0 lines i h ∙ ap (λ n. unwrap_or (stuck n) (bit_at bits (get_or lines i 0))) (omega arith)
-
--- a gate whose kind takes some pins has one
-pub some_pin : (kind : Kind) (n : ℕ) → IsTrue (takes_pins kind n) → 0 < n
-some_pin And n h = grind (arith, nat_tests)
-some_pin Nand n h = grind (arith, nat_tests)
-some_pin Or n h = grind (arith, nat_tests)
-some_pin Nor n h = grind (arith, nat_tests)
-some_pin Xor n h = grind (arith, nat_tests)
-some_pin Xnor n h = grind (arith, nat_tests)
-some_pin Not n h = grind (arith, nat_tests)
-some_pin Buff n h = grind (arith, nat_tests)
 
 -- ---- the right side of a line's equation
 

@@ -18,28 +18,28 @@ use Rattle.net_model.proofs.SetSoFar.{fits_from}
 use Rattle.net_model.proofs.Elements.{true_false}
 use Rattle.word_sim.specs.declared.lanes.TheConstants.{LANES}
 use Rattle.word_sim.specs.GoodSim.{GoodSim}
-use Rattle.fault_sim.specs.declared.wiring.Wiring.{Wiring}
-use Rattle.fault_sim.specs.Pending.{is_pending, IsEmpty, IsLowest}
+use Rattle.event_queue.specs.Pending.{is_pending}
 use Rattle.fault_sim.specs.Rows.{IsFalse, AreFalseBut}
-use Rattle.fault_sim.specs.Wiring.{IsWiring}
-use Rattle.fault_sim.specs.FaultyLanes.{turned, faulty_bits, vector_at, IsFreeLane, IsFalsePast, IsSettledLine}
-use Rattle.fault_sim.specs.Events.{IsIdle, AreSettled, AreSettledBut, AreFalsePast}
+use Rattle.net_model.specs.Wiring.{Wiring, IsWiring}
+use Rattle.net_model.specs.Gate.{inverted}
+use Rattle.fault_sim.specs.FaultyLanes.{faulty_bits, vector_at, IsFreeLane, IsSettledLine}
+use Rattle.fault_sim.specs.Events.{IsIdle, AreSettled, AreIdleSettled, AreIdleSettledBut}
 use Rattle.fault_sim.proofs.FaultyLemmas.{length-faulty, faulty_at}
-use Rattle.fault_sim.proofs.UsersLemmas.{none_of}
+use Rattle.net_model.proofs.Elements.{none_in}
 
 -- ---- bits
 
-pub turned_false : (a b : Bool) → turned a b ≡ false → a ≡ b
-turned_false true true e = refl
-turned_false true false e = e
-turned_false false true e = sym e
-turned_false false false e = refl
+pub inverted_false : (a b : Bool) → inverted a b ≡ false → a ≡ b
+inverted_false true true e = refl
+inverted_false true false e = e
+inverted_false false true e = sym e
+inverted_false false false e = refl
 
-pub turned_none : (a b : Bool) → b ≡ false → turned a b ≡ a
-turned_none true true e = sym e
-turned_none true false e = refl
-turned_none false true e = e
-turned_none false false e = refl
+pub inverted_none : (a b : Bool) → b ≡ false → inverted a b ≡ a
+inverted_none true true e = sym e
+inverted_none true false e = refl
+inverted_none false true e = e
+inverted_none false false e = refl
 
 -- no lane has 1
 pub none_true : (row : List Bool) (some : Bool) → IsTrue some ↔ ((lane : ℕ) × (lane < LANES) × IsTrue (bit_at row lane)) → some ≡ false → IsFalse row
@@ -71,13 +71,13 @@ pins_free (Stuck (Position at) bit) line pin h = refl
 
 -- ---- before the first event
 
-module _ (good : GoodSim) (f : Fault) (order : List ℕ) where
+module _ (good : GoodSim) (f : Fault) where
   same_bits : (rows : List (List Bool)) (lane : ℕ) (free : List Bool) → length rows ≡ line_count good.circuit → AreFalseBut [] rows → IsFreeLane good lane free → faulty_bits free rows lane ≡ free
   same_bits rows lane free width clear at =
       ext_get_or false (faulty_bits free rows lane) free (length-faulty free rows lane ∙ width ∙ sym at.agrees.whole)
       (λ line h.
       let inside : line < length rows = subst (λ n. line < n) (length-faulty free rows lane) h in
-      faulty_at free rows lane line inside ∙ turned_none (bit_at free line) (bit_at (get_or rows line []) lane) (clear line inside (none_of line) lane at.within))
+      faulty_at free rows lane line inside ∙ inverted_none (bit_at free line) (bit_at (get_or rows line []) lane) (clear line inside (none_in line) lane at.within))
 
   pub settled_start : (rows : List (List Bool)) → length rows ≡ line_count good.circuit → AreFalseBut [] rows
       → (lane : ℕ) (free : List Bool) → IsFreeLane good lane free → (line : ℕ) → line < line_count good.circuit → (first_changed f ≡ Some line → ⊥) → IsSettledLine good f rows lane free line
@@ -89,31 +89,31 @@ module _ (good : GoodSim) (f : Fault) (order : List ℕ) where
 
   -- ---- one line is settled
 
-  pub settled_same : (queue : List ℕ) (rows : List (List Bool)) (line : ℕ) (row : List Bool) → line < length rows → AreSettledBut good f order line queue rows
-      → ((lane : ℕ) (free : List Bool) → IsFreeLane good lane free → turned (bit_at free line) (bit_at row lane) ≡ line_bit good.circuit f (vector_at good lane) (faulty_bits free rows lane) line)
-      → ((lane : ℕ) → lane < LANES → bit_at (get_or rows line []) lane ≡ bit_at row lane) → AreSettled good f order queue rows
-  settled_same queue rows line row inside settled change same lane free at l within idle =
+  pub settled_same : (order : List ℕ) (queue : List Bool) (rows : List (List Bool)) (line : ℕ) (row : List Bool) → line < length rows → AreIdleSettledBut good f order line queue rows
+      → ((lane : ℕ) (free : List Bool) → IsFreeLane good lane free → inverted (bit_at free line) (bit_at row lane) ≡ line_bit good.circuit f (vector_at good lane) (faulty_bits free rows lane) line)
+      → ((lane : ℕ) → lane < LANES → bit_at (get_or rows line []) lane ≡ bit_at row lane) → AreIdleSettled good f order queue rows
+  settled_same order queue rows line row inside settled change same lane free at l within idle =
       elim (cases_eq l line) [
         | inl here ↦
             let P : ℕ → Type 0 = λ k. IsSettledLine good f rows lane free k in
-            subst P (sym here) (faulty_at free rows lane line inside ∙ ap (turned (bit_at free line)) (same lane at.within) ∙ change lane free at)
+            subst P (sym here) (faulty_at free rows lane line inside ∙ ap (inverted (bit_at free line)) (same lane at.within) ∙ change lane free at)
         | inr ne ↦ settled lane free at l within ne idle
       ]
 
-module _ (good : GoodSim) (f : Fault) (w : Wiring) (is : IsCircuit good.circuit) (wired : IsWiring good.circuit w) (queue more : List ℕ) (rows : List (List Bool)) (line : ℕ) (row : List Bool) where
-  woken_idle : ((n : ℕ) → Contains (get_or w.readers.items line []) n → is_pending more n ≡ true) → (l : ℕ) → Feeds good.circuit line l → IsIdle w.order.items more l → ⊥
+module _ (good : GoodSim) (f : Fault) (w : Wiring) (is : IsCircuit good.circuit) (wired : IsWiring good.circuit w) (queue more : List Bool) (rows : List (List Bool)) (line : ℕ) (row : List Bool) where
+  woken_idle : ((n : ℕ) → Contains (get_or w.readers line []) n → is_pending more n ≡ true) → (l : ℕ) → Feeds good.circuit line l → IsIdle w.order more l → ⊥
   woken_idle woken l feeds idle =
-      let order = w.order.items in
+      let order = w.order in
       let gate = reader_is_gate good.circuit line l feeds in
       let found = order_has good.circuit (fits_from good.circuit is) order wired.order l gate.0 gate.1 in
       let place = found.0 in
       let there : get_or order place 0 ≡ l = get_or_default order place 0 l found.1 ∙ found.2 in
       true_false (is_pending more place) (woken place (wired.readers.all line place found.1 (subst (λ r. Feeds good.circuit line r) (sym there) feeds))) (idle place found.1 there)
 
-  pub settled_changed : length rows ≡ line_count good.circuit → line < length rows → AreSettledBut good f w.order.items line queue rows
-      → ((lane : ℕ) (free : List Bool) → IsFreeLane good lane free → turned (bit_at free line) (bit_at row lane) ≡ line_bit good.circuit f (vector_at good lane) (faulty_bits free rows lane) line)
-      → ((n : ℕ) → is_pending queue n ≡ true → is_pending more n ≡ true) → ((n : ℕ) → Contains (get_or w.readers.items line []) n → is_pending more n ≡ true)
-      → AreSettled good f w.order.items more (set rows line row)
+  pub settled_changed : length rows ≡ line_count good.circuit → line < length rows → AreIdleSettledBut good f w.order line queue rows
+      → ((lane : ℕ) (free : List Bool) → IsFreeLane good lane free → inverted (bit_at free line) (bit_at row lane) ≡ line_bit good.circuit f (vector_at good lane) (faulty_bits free rows lane) line)
+      → ((n : ℕ) → is_pending queue n ≡ true → is_pending more n ≡ true) → ((n : ℕ) → Contains (get_or w.readers line []) n → is_pending more n ≡ true)
+      → AreIdleSettled good f w.order more (set rows line row)
   settled_changed width inside settled change kept woken lane free at l within idle =
       let new = set rows line row in
       let bits = faulty_bits free rows lane in
@@ -122,30 +122,30 @@ module _ (good : GoodSim) (f : Fault) (w : Wiring) (is : IsCircuit good.circuit)
       λ k h ne.
       let before : k < length rows = omega (arith, width) in
       let there : k < length new = omega (arith, length-set rows line row) in
-      faulty_at free new lane k there ∙ ap (λ r. turned (bit_at free k) (bit_at r lane)) (get_or-set_other rows line k row [] ne) ∙ sym (faulty_at free rows lane k before) in
+      faulty_at free new lane k there ∙ ap (λ r. inverted (bit_at free k) (bit_at r lane)) (get_or-set_other rows line k row [] ne) ∙ sym (faulty_at free rows lane k before) in
       elim (cases_eq l line) [
         | inl here ↦
             let P : ℕ → Type 0 = λ k. IsSettledLine good f new lane free k in
             let there : line < length new = omega (arith, length-set rows line row) in
             subst P (sym here)
-            (faulty_at free new lane line there ∙ ap (λ r. turned (bit_at free line) (bit_at r lane)) (get_or-set_same rows line row [] inside) ∙ change lane free at
+            (faulty_at free new lane line there ∙ ap (λ r. inverted (bit_at free line) (bit_at r lane)) (get_or-set_same rows line row [] inside) ∙ change lane free at
             ∙ stays good.circuit f (vector_at good lane) bits after line
             (λ read m. sym (other read (pins_inside good.circuit is line read m)
             (λ own. let rises = is.acyclic.rises line line (subst (λ r. Feeds good.circuit r line) own m) in omega (arith, rises)))))
         | inr ne ↦
-            let was_idle : IsIdle w.order.items queue l = λ place h e. false_from_ne_true (is_pending queue place) (λ t. true_false (is_pending more place) (kept place t) (idle place h e)) in
+            let was_idle : IsIdle w.order queue l = λ place h e. false_from_ne_true (is_pending queue place) (λ t. true_false (is_pending more place) (kept place t) (idle place h e)) in
             other l within ne ∙ settled lane free at l within ne was_idle
             ∙ stays good.circuit f (vector_at good lane) bits after l
             (λ read m. sym (other read (pins_inside good.circuit is l read m) (λ own. woken_idle woken l (subst (λ r. Feeds good.circuit r l) own m) idle)))
       ]
 
--- ---- no gate waits
+-- ---- all lines are settled
 
-pub settled_all : (good : GoodSim) (f : Fault) (order queue : List ℕ) (rows : List (List Bool)) → length rows ≡ line_count good.circuit → IsEmpty queue → AreSettled good f order queue rows
+pub settled_all : (good : GoodSim) (f : Fault) (rows : List (List Bool)) → length rows ≡ line_count good.circuit → AreSettled good f rows
     → (lane : ℕ) (free : List Bool) → IsFreeLane good lane free → Agrees good.circuit f (vector_at good lane) (faulty_bits free rows lane)
-settled_all good f order queue rows width none settled lane free at = record {
+settled_all good f rows width settled lane free at = record {
   whole = length-faulty free rows lane ∙ width;
-  each = λ line h. settled lane free at line h (λ place inside e. none place);
+  each = λ line h. settled lane free at line h;
 }
 
 -- the first line that a fault of the circuit changes is a line

@@ -14,14 +14,14 @@ use Rattle.net_model.specs.Fault.{stuck_position}
 use Rattle.net_model.specs.Answer.{bit_at}
 use Rattle.word_sim.specs.declared.lanes.TheConstants.{LANES}
 use Rattle.word_sim.specs.GoodSim.{GoodSim}
-use Rattle.fault_sim.specs.declared.wiring.Wiring.{Wiring}
-use Rattle.fault_sim.specs.Wiring.{IsWiring}
-use Rattle.fault_sim.specs.Pending.{is_pending, IsLowest}
+use Rattle.net_model.specs.Wiring.{Wiring, IsWiring}
+use Rattle.event_queue.specs.Pending.{is_pending, IsLowest}
 use Rattle.fault_sim.specs.Rows.{IsFalse, IsTrueSomewhere, AreFalseBut}
-use Rattle.fault_sim.specs.FaultyLanes.{turned, faulty_bits}
+use Rattle.net_model.specs.Gate.{inverted}
+use Rattle.fault_sim.specs.FaultyLanes.{faulty_bits}
 use Rattle.fault_sim.specs.Events.{IsShown, IsUntouched, stands_at}
 use Rattle.fault_sim.proofs.FaultyLemmas.{faulty_at}
-use Rattle.fault_sim.proofs.SettledLemmas.{turned_none}
+use Rattle.fault_sim.proofs.SettledLemmas.{inverted_none}
 
 pub position_free : (f : Fault) (position : ℕ) → (stands_at f ≡ Some position → ⊥) → stuck_position f position ≡ None
 position_free Free position h = refl
@@ -34,18 +34,18 @@ module _ (good : GoodSim) (f : Fault) (lines : List (List Bool)) where
   shown_untouched position row inside still none = record {
     live = λ lane free at.
         let line = get_or good.circuit.positions position 0 in
-        turned_none (bit_at free line) (bit_at row lane) (none lane at.within)
-        ∙ sym (ap (λ o. unwrap_or o (bit_at (faulty_bits free lines lane) line)) still.free ∙ faulty_at free lines lane line inside ∙ turned_none (bit_at free line) (bit_at (get_or lines line []) lane) (still.same lane at.within));
+        inverted_none (bit_at free line) (bit_at row lane) (none lane at.within)
+        ∙ sym (ap (λ o. unwrap_or o (bit_at (faulty_bits free lines lane) line)) still.free ∙ faulty_at free lines lane line inside ∙ inverted_none (bit_at free line) (bit_at (get_or lines line []) lane) (still.same lane at.within));
     past = λ lane h within. none lane within;
   }
 
   pub shown_same : (position : ℕ) (row other : List Bool) → ((lane : ℕ) → lane < LANES → bit_at other lane ≡ bit_at row lane) → IsShown good f lines position row → IsShown good f lines position other
   shown_same position row other same shown = record {
-    live = λ lane free at. ap (turned (bit_at free (get_or good.circuit.positions position 0))) (same lane at.within) ∙ shown.live lane free at;
+    live = λ lane free at. ap (inverted (bit_at free (get_or good.circuit.positions position 0))) (same lane at.within) ∙ shown.live lane free at;
     past = λ lane h within. same lane within ∙ shown.past lane h within;
   }
 
-  module _ (rows : List (List Bool)) (queue less : List ℕ) (at : ℕ) (lowest : IsLowest queue less at) (count : ℕ)
+  module _ (rows : List (List Bool)) (queue less : List Bool) (at : ℕ) (lowest : IsLowest queue less at) (count : ℕ)
       (shown : (position : ℕ) → position < count → is_pending queue position ≡ false → IsShown good f lines position (get_or rows position [])) where
     pub shown_more : (row : List Bool) → at < length rows → IsShown good f lines at row → (position : ℕ) → position < count → is_pending less position ≡ false → IsShown good f lines position (get_or (set rows at row) position [])
     shown_more row inside here position h idle =
@@ -63,16 +63,16 @@ module _ (good : GoodSim) (f : Fault) (lines : List (List Bool)) where
           | inr ne ↦ shown position h (sym (lowest.others position ne) ∙ idle)
         ]
 
--- what shows a listed line is marked, so the other positions show lines that aren't turned
+-- what shows a listed line is marked, so the other positions show lines that aren't inverted
 pub untouched_idle : (c : Circuit) (w : Wiring) → IsWiring c w → (f : Fault) (lines : List (List Bool)) (listed : List ℕ) → length lines ≡ line_count c → AreFalseBut listed lines
     → (position : ℕ) → position < length c.positions → (stands_at f ≡ Some position → ⊥)
-    → ((line : ℕ) → Contains listed line → Contains (get_or w.shown.items line []) position → ⊥) → IsUntouched c f lines position
+    → ((line : ℕ) → Contains listed line → Contains (get_or w.showing line []) position → ⊥) → IsUntouched c f lines position
 untouched_idle c w wired f lines listed width others position h apart unmarked =
     let line = get_or c.positions position 0 in
     let inside : line < length lines = omega (arith, width, wired.circuit.positions position 0 h) in
     record {
       free = position_free f position apart;
-      same = others line inside (λ has. unmarked line has (wired.shown.all line position h (0, omega arith, refl)));
+      same = others line inside (λ has. unmarked line has (wired.showing.all line position h (0, omega arith, refl)));
     }
 
 -- ---- rows that are set in ascending order

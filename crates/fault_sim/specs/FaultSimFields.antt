@@ -1,23 +1,22 @@
 -- What the fields of a `FaultSim` show, and what is true of them.
-use Rattle.std.specs.Prelude.{◌≡◌, ◌*◌, ◌<◌, ◌≤◌, [], length, All, AllPairs, slice_index_or}
-use Rattle.net_model.specs.Circuit.{line_count}
+use Rattle.std.specs.Prelude.{◌≡◌, ◌<◌, ◌≤◌, [], length, All, AllPairs, slice_index_or}
+use Rattle.net_model.specs.Circuit.{IsCircuit, line_count}
+use Rattle.event_queue.specs.Pending.{IsEmpty}
 use Rattle.fault_sim.specs.declared.sim.FaultSim.TheInside.{Inside}
-use Rattle.fault_sim.specs.Pending.{IsEmpty}
 use Rattle.fault_sim.specs.Rows.{IsTrueSomewhere}
-use Rattle.fault_sim.specs.Wiring.{IsWiring}
 use Rattle.fault_sim.specs.FaultSim.{FaultSim}
 
 abbrev pub fault_sim_of : Inside → FaultSim
 fault_sim_of a = record { circuit = a.circuit.now; differences = a.positions.rows }
 
 pub record IsReady (a : Inside) : Type 0 where
-  pub wiring : IsWiring a.circuit.now a.wiring
+  pub circuit : IsCircuit a.circuit.now
   pub none_waits : IsEmpty a.queue
   pub none_marked : IsEmpty a.marks
-  pub queue_room : length a.wiring.order.items ≤ 64 * length a.queue
-  pub marks_room : length a.circuit.now.positions ≤ 64 * length a.marks
+  pub queue_room : length a.circuit.now.gates ≤ length a.queue
+  pub marks_room : length a.circuit.now.positions ≤ length a.marks
   pub lines_whole : length a.lines.rows ≡ line_count a.circuit.now
-  pub lines_room : length a.wiring.order.items < a.lines.room
+  pub lines_room : length a.circuit.now.gates < a.lines.room
   pub positions_whole : length a.positions.rows ≡ length a.circuit.now.positions
   pub positions_room : length a.circuit.now.positions ≤ a.positions.room
   pub positions_some : All (λ at. IsTrueSomewhere (slice_index_or a.positions.rows at [])) a.positions.listed

@@ -1,19 +1,16 @@
 -- The bits of all lines under a fault in one lane, as changes of the fault-free ones.
-use Rattle.std.specs.Prelude.{◌≡◌, ℕ, ◌<◌, ◌≤◌, Bool, false, not, List, [], map, length, slice_index_or, nat_lt, if◌then◌else◌}
+use Rattle.std.specs.Prelude.{◌≡◌, ℕ, ◌<◌, ◌≤◌, Bool, false, List, [], map, length, slice_index_or, nat_lt}
 use Rattle.std.specs.List.{range_with_len}
 use Rattle.net_model.specs.declared.fault.Fault.{Fault}
 use Rattle.net_model.specs.declared.fault.Fault.TheVariants.{Free}
+use Rattle.net_model.specs.Gate.{inverted}
 use Rattle.net_model.specs.Answer.{bit_at, line_bit, Agrees}
 use Rattle.word_sim.specs.declared.lanes.TheConstants.{LANES}
 use Rattle.word_sim.specs.GoodSim.{GoodSim, vectors_of}
 
--- the bit, or the other one
-abbrev pub turned : Bool → Bool → Bool
-turned bit turn = if bit then not turn else turn
-
 -- the fault-free bits of all lines, turned where the row of the line has the lane
 unfoldable pub faulty_bits : List Bool → List (List Bool) → ℕ → List Bool
-faulty_bits free rows lane = map (λ line. turned (bit_at free line) (bit_at (slice_index_or rows line []) lane)) (range_with_len 0 (length rows))
+faulty_bits free rows lane = map (λ line. inverted (bit_at free line) (bit_at (slice_index_or rows line []) lane)) (range_with_len 0 (length rows))
 
 -- the vector of a lane of the last block
 abbrev pub vector_at : GoodSim → ℕ → List Bool

@@ -1,9 +1,6 @@
-pub mod Pending
-pub mod PendingFields
 pub mod Rows
 pub mod RowsFields
 pub mod FaultyLanes
-pub mod Wiring
 pub mod Events
 pub mod FaultSim
 pub mod FaultSimFields

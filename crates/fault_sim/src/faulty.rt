@@ -2,12 +2,12 @@
 
 ghost use Rattle.std.specs.Prelude.{◌≡◌, ℕ, ◌<◌, ◌^◌, Bool, List, [], length, All, IsTrue, unwrap_or, slice_index_or};
 ghost use Rattle.net_model.specs.Fault.{stuck_pin, stuck_stem, stuck_position};
-ghost use Rattle.net_model.specs.Gate.{takes_pins, gate_value, all_ones, some_one, odd_ones};
+ghost use Rattle.net_model.specs.Gate.{takes_pins, gate_value, folded_bit, chosen_bit, inverted};
 ghost use Rattle.net_model.specs.Circuit.{line_count};
 ghost use Rattle.net_model.specs.Answer.{bit_at, seen_bits, driven_bit, line_bit};
-ghost use Rattle.fault_sim.specs.FaultyLanes.{faulty_bits, turned, vector_at, IsLive, IsFreeLane, IsFalsePast};
+ghost use Rattle.fault_sim.specs.FaultyLanes.{faulty_bits, vector_at, IsLive, IsFreeLane, IsFalsePast};
 
-use net_model::{Circuit, Fault, Gate, Kind, stuck_pin, stuck_position, stuck_stem};
+use net_model::{Fault, Fold, Gate, Operation, stuck_pin, stuck_position, stuck_stem};
 use word_sim::{GoodSim, Lanes};
 
 // The bits of a line under the fault.
@@ -31,46 +31,38 @@ fn pin_lanes(good: &GoodSim, rows: &[Lanes], fault: Fault, line: u32, pin: u32, 
     }
 }
 
-// 1 in the lanes where all pins see 1.
-fn all(good: &GoodSim, rows: &[Lanes], fault: Fault, line: u32, pins: &[u32]) -> Lanes
+// What a fold makes of the pins of a line's gate.
+fn folded_lanes(
+    good: &GoodSim,
+    rows: &[Lanes],
+    fault: Fault,
+    line: u32,
+    fold: Fold,
+    pins: &[u32],
+) -> Lanes
     requires width { length rows.now ≡ line_count good.now.circuit }
     requires inside { All (λ pin. pin < length rows.now) pins.now }
     requires few { length pins.now < 2 ^ 32 }
-    ensures { (lane : ℕ) (free : List Bool) → IsFreeLane good.now lane free → bit_at result lane ≡ all_ones (seen_bits (stuck_pin fault line) (faulty_bits free rows.now lane) pins.now) }
+    ensures { (lane : ℕ) (free : List Bool) → IsFreeLane good.now lane free → bit_at result lane ≡ folded_bit fold (seen_bits (stuck_pin fault line) (faulty_bits free rows.now lane) pins.now) }
 {
-    let mut lanes = Lanes::all(true);
+    let mut lanes = Lanes::folded_none(fold);
     for (k, read) in pins.iter().enumerate() {
-        lanes = lanes.and(pin_lanes(good, rows, fault, line, k as u32, *read));
+        let seen = pin_lanes(good, rows, fault, line, k as u32, *read);
+        lanes = lanes.folded_more(fold, seen);
     }
     lanes
 }
 
-// 1 in the lanes where some pin sees 1.
-fn any(good: &GoodSim, rows: &[Lanes], fault: Fault, line: u32, pins: &[u32]) -> Lanes
+// The pin of a line's gate that the first one chooses.
+fn chosen_lanes(good: &GoodSim, rows: &[Lanes], fault: Fault, line: u32, pins: &[u32]) -> Lanes
     requires width { length rows.now ≡ line_count good.now.circuit }
     requires inside { All (λ pin. pin < length rows.now) pins.now }
-    requires few { length pins.now < 2 ^ 32 }
-    ensures { (lane : ℕ) (free : List Bool) → IsFreeLane good.now lane free → bit_at result lane ≡ some_one (seen_bits (stuck_pin fault line) (faulty_bits free rows.now lane) pins.now) }
+    requires three { length pins.now ≡ 3 }
+    ensures { (lane : ℕ) (free : List Bool) → IsFreeLane good.now lane free → bit_at result lane ≡ chosen_bit (seen_bits (stuck_pin fault line) (faulty_bits free rows.now lane) pins.now) }
 {
-    let mut lanes = Lanes::all(false);
-    for (k, read) in pins.iter().enumerate() {
-        lanes = lanes.or(pin_lanes(good, rows, fault, line, k as u32, *read));
-    }
-    lanes
-}
-
-// 1 in the lanes where an odd number of pins sees 1.
-fn odd(good: &GoodSim, rows: &[Lanes], fault: Fault, line: u32, pins: &[u32]) -> Lanes
-    requires width { length rows.now ≡ line_count good.now.circuit }
-    requires inside { All (λ pin. pin < length rows.now) pins.now }
-    requires few { length pins.now < 2 ^ 32 }
-    ensures { (lane : ℕ) (free : List Bool) → IsFreeLane good.now lane free → bit_at result lane ≡ odd_ones (seen_bits (stuck_pin fault line) (faulty_bits free rows.now lane) pins.now) }
-{
-    let mut lanes = Lanes::all(false);
-    for (k, read) in pins.iter().enumerate() {
-        lanes = lanes.xor(pin_lanes(good, rows, fault, line, k as u32, *read));
-    }
-    lanes
+    let zero = pin_lanes(good, rows, fault, line, 1, pins[1]);
+    let one = pin_lanes(good, rows, fault, line, 2, pins[2]);
+    pin_lanes(good, rows, fault, line, 0, pins[0]).select(zero, one)
 }
 
 // The value of a line's gate on what its pins see.
@@ -82,25 +74,20 @@ fn gate_lanes(good: &GoodSim, rows: &[Lanes], fault: Fault, line: u32, gate: &Ga
     ensures { (lane : ℕ) (free : List Bool) → IsFreeLane good.now lane free → bit_at result lane ≡ gate_value gate.now.kind (seen_bits (stuck_pin fault line) (faulty_bits free rows.now lane) gate.now.pins) }
 {
     let pins = gate.pins.as_slice();
-    match gate.kind {
-        Kind::And => all(good, rows, fault, line, pins),
-        Kind::Nand => all(good, rows, fault, line, pins).not(),
-        Kind::Or => any(good, rows, fault, line, pins),
-        Kind::Nor => any(good, rows, fault, line, pins).not(),
-        Kind::Xor => odd(good, rows, fault, line, pins),
-        Kind::Xnor => odd(good, rows, fault, line, pins).not(),
-        Kind::Not => pin_lanes(good, rows, fault, line, 0, pins[0]).not(),
-        Kind::Buff => pin_lanes(good, rows, fault, line, 0, pins[0]),
-    }
+    let lanes = match gate.kind.operation() {
+        Operation::Folded(fold) => folded_lanes(good, rows, fault, line, fold, pins),
+        Operation::Chosen => chosen_lanes(good, rows, fault, line, pins),
+    };
+    lanes.inverted(gate.kind.inverts())
 }
 
 // The bits of a line whose stem isn't stuck: its gate's value, or what the vectors give a source.
-fn driven_lanes(circuit: &Circuit, good: &GoodSim, rows: &[Lanes], fault: Fault, line: u32) -> Lanes
-    requires circuit { good.now.circuit ≡ circuit.now }
-    requires width { length rows.now ≡ line_count circuit.now }
+fn driven_lanes(good: &GoodSim, rows: &[Lanes], fault: Fault, line: u32) -> Lanes
+    requires width { length rows.now ≡ line_count good.now.circuit }
     requires line { line < length rows.now }
-    ensures { (lane : ℕ) (free : List Bool) → IsFreeLane good.now lane free → bit_at result lane ≡ driven_bit circuit.now fault (vector_at good.now lane) (faulty_bits free rows.now lane) line }
+    ensures { (lane : ℕ) (free : List Bool) → IsFreeLane good.now lane free → bit_at result lane ≡ driven_bit good.now.circuit fault (vector_at good.now lane) (faulty_bits free rows.now lane) line }
 {
+    let circuit = good.circuit();
     if line < circuit.sources() {
         good.lanes(line)
     } else {
@@ -110,23 +97,21 @@ fn driven_lanes(circuit: &Circuit, good: &GoodSim, rows: &[Lanes], fault: Fault,
 
 /// In which live lanes the fault turns the bit of a line, from what its gate reads under the fault.
 pub(crate) fn line_change(
-    circuit: &Circuit,
     good: &GoodSim,
     live: Lanes,
     rows: &[Lanes],
     fault: Fault,
     line: u32,
 ) -> Lanes
-    requires circuit { good.now.circuit ≡ circuit.now }
     requires live { IsLive good.now live }
-    requires width { length rows.now ≡ line_count circuit.now }
+    requires width { length rows.now ≡ line_count good.now.circuit }
     requires line { line < length rows.now }
-    ensures live { (lane : ℕ) (free : List Bool) → IsFreeLane good.now lane free → turned (bit_at free line) (bit_at result lane) ≡ line_bit circuit.now fault (vector_at good.now lane) (faulty_bits free rows.now lane) line }
+    ensures live { (lane : ℕ) (free : List Bool) → IsFreeLane good.now lane free → inverted (bit_at free line) (bit_at result lane) ≡ line_bit good.now.circuit fault (vector_at good.now lane) (faulty_bits free rows.now lane) line }
     ensures past { IsFalsePast good.now result }
 {
     let lanes = match stuck_stem(fault, line) {
         Some(bit) => Lanes::all(bit),
-        None => driven_lanes(circuit, good, rows, fault, line),
+        None => driven_lanes(good, rows, fault, line),
     };
     lanes.xor(good.lanes(line)).and(live)
 }
@@ -144,7 +129,7 @@ pub(crate) fn position_change(
     requires width { length rows.now ≡ line_count good.now.circuit }
     requires line { line < length rows.now }
     requires past { IsFalsePast good.now (slice_index_or rows.now line []) }
-    ensures live { (lane : ℕ) (free : List Bool) → IsFreeLane good.now lane free → turned (bit_at free line) (bit_at result lane) ≡ unwrap_or (stuck_position fault position) (bit_at (faulty_bits free rows.now lane) line) }
+    ensures live { (lane : ℕ) (free : List Bool) → IsFreeLane good.now lane free → inverted (bit_at free line) (bit_at result lane) ≡ unwrap_or (stuck_position fault position) (bit_at (faulty_bits free rows.now lane) line) }
     ensures past { IsFalsePast good.now result }
 {
     match stuck_position(fault, position) {

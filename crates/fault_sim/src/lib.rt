@@ -3,12 +3,7 @@
 
 mod events;
 mod faulty;
-mod pending;
 mod rows;
 mod sim;
-#[cfg(test)]
-mod tests;
-mod users;
-mod wiring;
 
 pub use sim::FaultSim;

@@ -8,9 +8,8 @@ ghost use Rattle.fault_sim.specs.Rows.{IsFalse, IsTrueSomewhere};
 ghost use Rattle.fault_sim.specs.FaultSim.{row_at, AreDifferences, IsSomeDifference};
 
 use crate::events::{change_lines, mark_positions, show_positions};
-use crate::pending::Pending;
 use crate::rows::Rows;
-use crate::wiring::{Wiring, wiring_of};
+use event_queue::NumberQueue;
 use net_model::{Circuit, Fault};
 use std::alloc::{AllocError, Global};
 use std::marker::Model;
@@ -20,9 +19,8 @@ use word_sim::{GoodSim, LANES, Lanes};
 #[derive(Drop)]
 pub struct FaultSim<'a> {
     circuit: &'a Circuit,
-    wiring: Wiring,
-    queue: Pending,
-    marks: Pending,
+    queue: NumberQueue,
+    marks: NumberQueue,
     lines: Rows,
     positions: Rows,
 }
@@ -50,9 +48,8 @@ impl<'a> FaultSim<'a> {
         let positions = circuit.positions().len();
         Ok(FaultSim {
             circuit,
-            wiring: wiring_of(alloc, circuit)?,
-            queue: Pending::new(alloc, lines)?,
-            marks: Pending::new(alloc, positions)?,
+            queue: NumberQueue::new(alloc, lines)?,
+            marks: NumberQueue::new(alloc, positions)?,
             lines: Rows::new(alloc, lines, lines + 1)?,
             positions: Rows::new(alloc, positions, positions)?,
         })
@@ -67,31 +64,17 @@ impl<'a> FaultSim<'a> {
         ensures circuit { self.new.circuit ≡ self.old.circuit }
         ensures differences { AreDifferences self.new.circuit fault.now (vectors_of good.now) self.new.differences }
     {
-        let live = good.live();
+        let (live, fault) = (good.live(), *fault);
         self.lines.clear();
         self.positions.clear();
-        change_lines(
-            self.circuit,
-            &self.wiring,
-            good,
-            live,
-            *fault,
-            &mut self.queue,
-            &mut self.lines,
-        );
-        mark_positions(
-            self.circuit,
-            &self.wiring,
-            *fault,
-            &self.lines,
-            &mut self.marks,
-        );
+        change_lines(good, live, fault, &mut self.queue, &mut self.lines);
+        mark_positions(self.circuit, fault, &self.lines, &mut self.marks);
+        let lines = self.lines.as_slice();
         show_positions(
-            self.circuit,
             good,
             live,
-            *fault,
-            self.lines.as_slice(),
+            fault,
+            lines,
             &mut self.marks,
             &mut self.positions,
         );

@@ -1,5 +1,5 @@
 -- How often a number stands in a list, and the pins of a gate that are still open.
-use Rattle.std.proofs.Common.{◌≡◌, ◌≢◌, ◌∙◌, ℕ, ◌+◌, ◌-◌, ◌<◌, ◌⊎◌, inl, inr, true, false, not, ◌||◌, cond, List, [], ◌∷◌, ◌++◌, get_or, eqb, refl, sym, ap, arith}
+use Rattle.std.proofs.Common.{◌≡◌, ◌≢◌, ◌∙◌, ℕ, ◌+◌, ◌<◌, ◌⊎◌, inl, inr, true, false, not, ◌||◌, cond, List, [], ◌∷◌, ◌++◌, get_or, eqb, refl, sym, ap, arith}
 use Rattle.std.specs.Prelude.{Bool, Contains, nat_lt}
 use Rattle.std.specs.List.{list_any}
 use Rattle.std.proofs.Math.Bool.{or-false}

@@ -62,7 +62,7 @@ module _ (c : Circuit) where
   removed_by n zero line t = let e : n + zero ≡ n = omega arith in rw e t
   removed_by n (suc m) line t = let e : n + suc m ≡ suc (n + m) = omega arith in rw e (removed_more (n + m) line (removed_by n m line t))
 
-  removed_later : (n m line : ℕ) → n ≤ m → is_removed_within c n line ≡ true → is_removed_within c m line ≡ true
+  pub removed_later : (n m line : ℕ) → n ≤ m → is_removed_within c n line ≡ true → is_removed_within c m line ≡ true
   removed_later n m line le t = let e : n + (m - n) ≡ m = omega arith in subst (λ k. is_removed_within c k line ≡ true) e (removed_by n (m - n) line t)
 
 -- no more gates are in order than there are

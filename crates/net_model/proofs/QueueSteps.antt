@@ -6,7 +6,7 @@ use Rattle.std.proofs.lemmas.List.{length-set, get_or-set_same, get_or-set_other
 use Rattle.std.proofs.lemmas.List.Elements.{Contains-push_cases, Contains-push, Contains-append_left, Contains-append_cases, Contains-get_or}
 use Rattle.std.proofs.lemmas.List.Sums.{sum_by-take-le}
 use Rattle.net_model.specs.Circuit.{Circuit, line_count, pins_of, Feeds}
-use Rattle.net_model.specs.Topological.{count_of, readers_at, AreReaders, is_told, open_pins, AreReady, IsTold, IsQueue}
+use Rattle.net_model.specs.Topological.{count_of, users_at, AreReaders, is_told, open_pins, AreReady, IsTold, IsQueue}
 use Rattle.net_model.proofs.Orders.{reader_is_gate}
 use Rattle.net_model.proofs.OpenPins.{count_has, count_if, count_other, count_same, has_count, none_open, open_split, told_is}
 
@@ -162,20 +162,20 @@ module _ (c : Circuit) (readers : List (List ℕ)) (are : AreReaders c readers) 
       open_split c.sources (take head order) (get_or order head 0) untold (pins_of c line)
       ∙ ap (λ told. open_pins c.sources told (pins_of c line) + count_of (get_or order head 0) (pins_of c line)) (sym (take_more order head 0 here))
 
-  reads : (line : ℕ) → 0 < count_of line (readers_at readers (get_or order head 0)) → (c.sources ≤ line) × (line < line_count c)
+  reads : (line : ℕ) → 0 < count_of line (users_at readers (get_or order head 0)) → (c.sources ≤ line) × (line < line_count c)
   reads line some =
       reader_is_gate c (get_or order head 0) line (count_has (get_or order head 0) (pins_of c line) (omega (arith, some, are.each (get_or order head 0) line head_gate.1)))
 
-  pub enough : (line : ℕ) → count_of line (readers_at readers (get_or order head 0)) ≤ get_or waits line 0
+  pub enough : (line : ℕ) → count_of line (users_at readers (get_or order head 0)) ≤ get_or waits line 0
   enough line =
-      elim (cases_eq (count_of line (readers_at readers (get_or order head 0))) 0) [
+      elim (cases_eq (count_of line (users_at readers (get_or order head 0))) 0) [
         | inl none ↦ omega (arith, none)
         | inr some ↦
             let gate = reads line (omega (arith, some)) in
             omega (arith, are.each (get_or order head 0) line head_gate.1, is.counts line gate.1, split line)
       ]
 
-  module _ (fewer longer : List ℕ) (told : IsTold (readers_at readers (get_or order head 0)) waits fewer order longer) where
+  module _ (fewer longer : List ℕ) (told : IsTold (users_at readers (get_or order head 0)) waits fewer order longer) where
     prefix : take (head + 1) longer ≡ take (head + 1) order
     prefix = ap (take (head + 1)) told.extends ∙ take-append-le (head + 1) order told.more (omega arith)
 
@@ -189,7 +189,7 @@ module _ (c : Circuit) (readers : List (List ℕ)) (are : AreReaders c readers) 
     gates line m =
         elim (Contains-append_cases order told.more line (subst (λ xs. Contains xs line) told.extends m)) [
           | inl before ↦ is.gates line before
-          | inr new ↦ reads line (has_count line (readers_at readers (get_or order head 0)) (told.only line new))
+          | inr new ↦ reads line (has_count line (users_at readers (get_or order head 0)) (told.only line new))
         ]
 
     pub queue_step : IsQueue c (take (head + 1) longer) fewer longer
@@ -198,11 +198,11 @@ module _ (c : Circuit) (readers : List (List ℕ)) (are : AreReaders c readers) 
       counts = counts;
       gates = gates;
       all = λ line above below none.
-          elim (cases_eq (count_of line (readers_at readers (get_or order head 0))) 0) [
+          elim (cases_eq (count_of line (users_at readers (get_or order head 0))) 0) [
             | inl unread ↦
                 subst (λ xs. Contains xs line) (sym told.extends)
                 (Contains-append_left order told.more line (is.all line above below (omega (arith, told.fewer line, unread, none))))
-            | inr some ↦ told.all line (count_has line (readers_at readers (get_or order head 0)) (omega (arith, some))) none
+            | inr some ↦ told.all line (count_has line (users_at readers (get_or order head 0)) (omega (arith, some))) none
           ];
       ready = told.ready;
       after = λ at pin h m.

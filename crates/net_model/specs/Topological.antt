@@ -1,5 +1,5 @@
 -- Gates on the way into an order, each after those that it reads.
-use Rattle.std.specs.Prelude.{◌≡◌, ◌≢◌, ℕ, ◌+◌, ◌<◌, ◌≤◌, ◌⊎◌, Bool, true, false, not, List, [], ◌++◌, length, take, slice_index, slice_index_or, Contains, Some, count_by, nat_lt, ◌==◌, ◌||◌, if◌then◌else◌}
+use Rattle.std.specs.Prelude.{◌≡◌, ◌≢◌, ℕ, ◌+◌, ◌<◌, ◌≤◌, ◌⊎◌, Bool, true, false, not, List, [], ◌++◌, length, take, slice_index, slice_index_or, sum_by, Contains, Some, count_by, nat_lt, ◌==◌, ◌||◌, if◌then◌else◌}
 use Rattle.std.specs.List.{list_all, list_any}
 use Rattle.net_model.specs.declared.topological.Parts.{Parts}
 use Rattle.net_model.specs.Circuit.{Circuit, circuit_with, line_count, pins_of, Feeds}
@@ -12,20 +12,22 @@ parts_circuit parts = circuit_with parts.sources parts.gates.items parts.positio
 abbrev pub count_of : ℕ → List ℕ → ℕ
 count_of x xs = count_by (λ y. y == x) xs
 
--- ---- the readers of each line
+-- ---- the users of each line
 
-abbrev pub readers_at : List (List ℕ) → ℕ → List ℕ
-readers_at readers line = slice_index_or readers line []
+abbrev pub users_at : List (List ℕ) → ℕ → List ℕ
+users_at users line = slice_index_or users line []
 
--- The reader is added to each of these lines, as often as the line stands among them.
-pub record AddsReader (reader : ℕ) (lines : List ℕ) (old new : List (List ℕ)) : Type 0 where
+-- The user is added to each of these lines, as often as the line stands among them.
+pub record AddsUser (user : ℕ) (lines : List ℕ) (old new : List (List ℕ)) : Type 0 where
   pub whole : length new ≡ length old
-  pub each : (line other : ℕ) → line < length old → count_of other (readers_at new line) ≡ count_of other (readers_at old line) + (if other == reader then count_of line lines else 0)
+  pub total : sum_by length new ≡ sum_by length old + length lines
+  pub each : (line other : ℕ) → line < length old → count_of other (users_at new line) ≡ count_of other (users_at old line) + (if other == user then count_of line lines else 0)
 
 -- A line has each reader as often as the reader's gate reads it.
 pub record AreReaders (c : Circuit) (readers : List (List ℕ)) : Type 0 where
   pub whole : length readers ≡ line_count c
-  pub each : (line reader : ℕ) → line < line_count c → count_of reader (readers_at readers line) ≡ count_of line (pins_of c reader)
+  pub total : sum_by length readers ≡ sum_by (λ gate. length gate.pins) c.gates
+  pub each : (line reader : ℕ) → line < line_count c → count_of reader (users_at readers line) ≡ count_of line (pins_of c reader)
 
 -- ---- the queue of ready gates
 

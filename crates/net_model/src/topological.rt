@@ -2,12 +2,12 @@
 
 ghost use Rattle.std.specs.Prelude.{◌≡◌, ◌≤◌, ◌<◌, ◌+◌, ◌^◌, ℕ, not, false, [], length, drop, find, IfOk, OnOk, All};
 ghost use Rattle.std.specs.List.{range_with_len};
-ghost use Rattle.net_model.specs.Circuit.{FitsTogether, line_count, pins_of};
+ghost use Rattle.net_model.specs.Circuit.{FitsTogether, Reaches, line_count, pins_of};
 ghost use Rattle.net_model.specs.LoopWalk.{IsLoopWalk};
 ghost use Rattle.net_model.specs.Topological.{parts_circuit, count_of, AreReaders, open_pins, waits_at, AreReady, IsTold, IsQueue, is_placed, IsRest, AreVisits};
 
 use crate::gate::{Gate, Pins};
-use crate::readers::Readers;
+use crate::users::Users;
 use std::alloc::{AllocError, Global};
 
 // What a circuit is built of.
@@ -45,11 +45,11 @@ impl Queue {
 }
 
 // Orders the gates topologically (Kahn 1962): the order is itself the queue of the gates whose readers are still to be told.
-pub(crate) fn sorted(alloc: Global, parts: &Parts) -> Result<Queue, AllocError>
-    requires { FitsTogether (parts_circuit parts.now) }
+pub(crate) fn sorted(alloc: Global, parts: &Parts, readers: &Users) -> Result<Queue, AllocError>
+    requires fits { FitsTogether (parts_circuit parts.now) }
+    requires readers { AreReaders (parts_circuit parts.now) readers.now }
     ensures { IfOk result (λ queue. IsQueue (parts_circuit parts.now) queue.order.items queue.waits.items queue.order.items) }
 {
-    let readers = readers_of(alloc, parts)?;
     let mut queue = ready_gates(alloc, parts)?;
     let mut head = 0;
     while head < queue.order.len() {
@@ -61,12 +61,12 @@ pub(crate) fn sorted(alloc: Global, parts: &Parts) -> Result<Queue, AllocError>
 }
 
 // The gates that read each line.
-fn readers_of(alloc: Global, parts: &Parts) -> Result<Readers, AllocError>
+pub(crate) fn readers_of(alloc: Global, parts: &Parts) -> Result<Users, AllocError>
     requires { FitsTogether (parts_circuit parts.now) }
     ensures { IfOk result (λ readers. AreReaders (parts_circuit parts.now) readers) }
 {
     let lines = parts.sources + parts.gates.len() as u32;
-    let mut readers = Readers::none(alloc, lines)?;
+    let mut readers = Users::none(alloc, lines)?;
     for line in parts.sources..lines {
         readers.add_all(line, pins_of(parts, line))?;
     }
@@ -125,7 +125,8 @@ pub(crate) fn walk(alloc: Global, parts: &Parts, waits: &[u32]) -> Result<Pins, 
     requires fits { FitsTogether (parts_circuit parts.now) }
     requires rest { IsRest (parts_circuit parts.now) waits.now }
     requires some { (line : ℕ) × (line < line_count (parts_circuit parts.now)) × (is_placed waits.now line ≡ false) }
-    ensures { IfOk result (λ walk. IsLoopWalk (parts_circuit parts.now) walk) }
+    ensures walk { IfOk result (λ walk. IsLoopWalk (parts_circuit parts.now) walk) }
+    ensures reaching { IfOk result (λ walk. All (λ line. Reaches (parts_circuit parts.now) line line) walk) }
 {
     let visits = visited_lines(alloc, parts, waits)?;
     pins_from(alloc, visits.lines.as_slice(), visits.back as usize)

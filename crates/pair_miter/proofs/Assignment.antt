@@ -13,8 +13,11 @@ use Rattle.net_model.specs.Fault.{stuck_stem, stuck_pin, readings}
 use Rattle.net_model.specs.Answer.{bit_at, shown_bits}
 use Rattle.net_model.specs.Scope.{is_split, is_relevant, is_reached, reached_positions}
 use Rattle.net_model.proofs.Copies.{later}
-use Rattle.pair_miter.specs.Variables.{Copy, first_copy, second_copy, fault_of, is_parity, line_variables, variables_below, line_variable, free_pins, gate_helpers, copy_helpers, line_helpers, helpers_below, first_helper, difference_variable, variable_count}
-use Rattle.pair_miter.specs.Rows.{variable_of, variables}
+use Rattle.pair_miter.specs.Variables.{fault_of, is_parity, line_variables, variables_below, line_variable, free_pins, gate_helpers, copy_helpers, line_helpers, helpers_below, first_helper, difference_variable, variable_count}
+use Rattle.pair_miter.specs.declared.side.Side.TheVariants.{First, Second}
+use Rattle.pair_miter.specs.declared.side.Side.{Side}
+use Rattle.pair_miter.specs.Rows.{variables}
+use Rattle.pair_miter.specs.Operand.{variable_of}
 use Rattle.pair_miter.specs.Miter.{operand_of, gate_operands, copy_bit}
 use Rattle.pair_miter.proofs.Bits.{flip}
 use Rattle.pair_miter.proofs.GateRows.{Carry, variable_bits, helper_bits, length-helper_bits}
@@ -43,19 +46,19 @@ free_count stuck z n (line ∷ lines) =
 
 module _ (c : Circuit) (f g : Fault) (x y : List Bool) where
   -- the valuation of a copy
-  abbrev pub bits_in : Copy → List Bool
-  bits_in first_copy = x
-  bits_in second_copy = y
+  abbrev pub bits_in : Side → List Bool
+  bits_in First = x
+  bits_in Second = y
 
-  length-free_bits : (copy : Copy) (line : ℕ) (gate : Gate) → length (free_bits (stuck_pin (fault_of c f g copy) line) (bits_in copy) gate.pins) ≡ free_pins c f g copy line gate
+  length-free_bits : (copy : Side) (line : ℕ) (gate : Gate) → length (free_bits (stuck_pin (fault_of c f g copy) line) (bits_in copy) gate.pins) ≡ free_pins c f g copy line gate
   unfolding free_bits free_pins readings
   length-free_bits copy line gate = free_count (stuck_pin (fault_of c f g copy) line) (bits_in copy) 0 gate.pins
 
   -- what the helpers of a gate carry in a copy
-  gate_parts : Copy → ℕ → Gate → List Bool
+  gate_parts : Side → ℕ → Gate → List Bool
   gate_parts copy line gate = if is_parity gate.kind then helper_bits (free_bits (stuck_pin (fault_of c f g copy) line) (bits_in copy) gate.pins) else []
 
-  length-gate_parts : (copy : Copy) (line : ℕ) (gate : Gate) → length (gate_parts copy line gate) ≡ gate_helpers c f g copy line gate
+  length-gate_parts : (copy : Side) (line : ℕ) (gate : Gate) → length (gate_parts copy line gate) ≡ gate_helpers c f g copy line gate
   unfolding gate_parts gate_helpers
   length-gate_parts copy line gate = by (is_parity gate.kind)
     where
@@ -63,45 +66,45 @@ module _ (c : Circuit) (f g : Fault) (x y : List Bool) where
       by true = length-helper_bits (free_bits (stuck_pin (fault_of c f g copy) line) (bits_in copy) gate.pins) ∙ ap (λ n. n - 2) (length-free_bits copy line gate)
       by false = refl
 
-  driver_parts : Copy → ℕ → Option Gate → List Bool
+  driver_parts : Side → ℕ → Option Gate → List Bool
   driver_parts copy line None = []
   driver_parts copy line (Some gate) = gate_parts copy line gate
 
-  length-driver_parts : (copy : Copy) (line : ℕ) (gate : Option Gate) → length (driver_parts copy line gate) ≡ option_map_or (gate_helpers c f g copy line) gate 0
+  length-driver_parts : (copy : Side) (line : ℕ) (gate : Option Gate) → length (driver_parts copy line gate) ≡ option_map_or (gate_helpers c f g copy line) gate 0
   unfolding driver_parts
   length-driver_parts copy line None = refl
   length-driver_parts copy line (Some gate) = length-gate_parts copy line gate
 
   -- whether a copy of a line has clauses of its own for its gate
-  abbrev has_gate : Copy → ℕ → Bool
-  has_gate first_copy line = is_none (stuck_stem f line)
-  has_gate second_copy line = is_split c f g line && is_none (stuck_stem g line)
+  abbrev has_gate : Side → ℕ → Bool
+  has_gate First line = is_none (stuck_stem f line)
+  has_gate Second line = is_split c f g line && is_none (stuck_stem g line)
 
-  copy_parts : Copy → ℕ → List Bool
+  copy_parts : Side → ℕ → List Bool
   copy_parts copy line = if has_gate copy line then driver_parts copy line (gate_at c line) else []
 
-  length-copy_parts : (copy : Copy) (line : ℕ) → length (copy_parts copy line) ≡ copy_helpers c f g copy line
+  length-copy_parts : (copy : Side) (line : ℕ) → length (copy_parts copy line) ≡ copy_helpers c f g copy line
   unfolding copy_parts copy_helpers
-  length-copy_parts first_copy line = by (is_none (stuck_stem f line))
+  length-copy_parts First line = by (is_none (stuck_stem f line))
     where
-      by : (b : Bool) → length (if b then driver_parts first_copy line (gate_at c line) else []) ≡ (if b then option_map_or (gate_helpers c f g first_copy line) (gate_at c line) 0 else 0)
-      by true = length-driver_parts first_copy line (gate_at c line)
+      by : (b : Bool) → length (if b then driver_parts First line (gate_at c line) else []) ≡ (if b then option_map_or (gate_helpers c f g First line) (gate_at c line) 0 else 0)
+      by true = length-driver_parts First line (gate_at c line)
       by false = refl
-  length-copy_parts second_copy line = by (is_split c f g line && is_none (stuck_stem g line))
+  length-copy_parts Second line = by (is_split c f g line && is_none (stuck_stem g line))
     where
-      by : (b : Bool) → length (if b then driver_parts second_copy line (gate_at c line) else []) ≡ (if b then option_map_or (gate_helpers c f g second_copy line) (gate_at c line) 0 else 0)
-      by true = length-driver_parts second_copy line (gate_at c line)
+      by : (b : Bool) → length (if b then driver_parts Second line (gate_at c line) else []) ≡ (if b then option_map_or (gate_helpers c f g Second line) (gate_at c line) 0 else 0)
+      by true = length-driver_parts Second line (gate_at c line)
       by false = refl
 
   line_parts : ℕ → List Bool
-  line_parts line = if is_relevant c f g line then copy_parts first_copy line ++ copy_parts second_copy line else []
+  line_parts line = if is_relevant c f g line then copy_parts First line ++ copy_parts Second line else []
 
   length-line_parts : (line : ℕ) → length (line_parts line) ≡ line_helpers c f g line
   unfolding line_parts line_helpers
   length-line_parts line = by (is_relevant c f g line)
     where
-      by : (b : Bool) → length (if b then copy_parts first_copy line ++ copy_parts second_copy line else []) ≡ (if b then copy_helpers c f g first_copy line + copy_helpers c f g second_copy line else 0)
-      by true = length-append (copy_parts first_copy line) (copy_parts second_copy line) ∙ (λ i. length-copy_parts first_copy line i + length-copy_parts second_copy line i)
+      by : (b : Bool) → length (if b then copy_parts First line ++ copy_parts Second line else []) ≡ (if b then copy_helpers c f g First line + copy_helpers c f g Second line else 0)
+      by true = length-append (copy_parts First line) (copy_parts Second line) ∙ (λ i. length-copy_parts First line i + length-copy_parts Second line i)
       by false = refl
 
   line_values : ℕ → List Bool
@@ -167,7 +170,7 @@ module _ (c : Circuit) (f g : Fault) (x y : List Bool) where
     unfolding line_values
     values_are s e = (λ i. if relevant i then (if e i then bit_at x line ∷ bit_at y line ∷ [] else bit_at x line ∷ []) else [])
 
-    pub first_copy_carries : copy_bit c f g assignment first_copy line ≡ bit_at x line
+    pub first_copy_carries : copy_bit c f g assignment First line ≡ bit_at x line
     unfolding line_variable
     first_copy_carries = by (is_split c f g line) refl
       where
@@ -178,7 +181,7 @@ module _ (c : Circuit) (f g : Fault) (x y : List Bool) where
         by true e = ap (bit_at assignment) index ∙ (first_values 0 (let n = ap length (values_are true e) in omega (arith, n)) ∙ ap (λ bits. bit_at bits 0) (values_are true e))
         by false e = ap (bit_at assignment) index ∙ (first_values 0 (let n = ap length (values_are false e) in omega (arith, n)) ∙ ap (λ bits. bit_at bits 0) (values_are false e))
 
-    pub second_copy_carries : is_split c f g line ≡ true → copy_bit c f g assignment second_copy line ≡ bit_at y line
+    pub second_copy_carries : is_split c f g line ≡ true → copy_bit c f g assignment Second line ≡ bit_at y line
     unfolding line_variable
     second_copy_carries e =
         ap (λ b. bit_at assignment (1 + variables_below c f g line + (if b then 1 else 0) - 1)) e
@@ -198,33 +201,33 @@ module _ (c : Circuit) (f g : Fault) (x y : List Bool) where
         ∙ (ap (bit_at (all_parts ++ all_differences)) (let e : variables_below c f g (line_count c) + (helpers_below c f g line + k) - variables_below c f g (line_count c) ≡ helpers_below c f g line + k = omega arith in e)
         ∙ parts_in_parts k h)
 
-    copy_parts_are : line_parts line ≡ copy_parts first_copy line ++ copy_parts second_copy line
+    copy_parts_are : line_parts line ≡ copy_parts First line ++ copy_parts Second line
     unfolding line_parts
-    copy_parts_are = ap (λ b. if b then copy_parts first_copy line ++ copy_parts second_copy line else []) relevant
+    copy_parts_are = ap (λ b. if b then copy_parts First line ++ copy_parts Second line else []) relevant
 
-    copy_parts_carry : (copy : Copy) → Carry assignment (first_helper c f g copy line) (copy_parts copy line)
+    copy_parts_carry : (copy : Side) → Carry assignment (first_helper c f g copy line) (copy_parts copy line)
     unfolding first_helper
-    copy_parts_carry first_copy k h =
-        let whole = ap length copy_parts_are ∙ length-append (copy_parts first_copy line) (copy_parts second_copy line) in
+    copy_parts_carry First k h =
+        let whole = ap length copy_parts_are ∙ length-append (copy_parts First line) (copy_parts Second line) in
         let place : 1 + variables_below c f g (line_count c) + helpers_below c f g line + k - 1 ≡ variables_below c f g (line_count c) + (helpers_below c f g line + k) = omega arith in
         ap (bit_at assignment) place
         ∙ (parts_at k (omega (arith, whole, h))
         ∙ (ap (λ bits. bit_at bits k) copy_parts_are
-        ∙ get_or_append_left (copy_parts first_copy line) (copy_parts second_copy line) false k h))
-    copy_parts_carry second_copy k h =
-        let first = copy_helpers c f g first_copy line in
-        let long = length-copy_parts first_copy line in
-        let whole = ap length copy_parts_are ∙ length-append (copy_parts first_copy line) (copy_parts second_copy line) in
+        ∙ get_or_append_left (copy_parts First line) (copy_parts Second line) false k h))
+    copy_parts_carry Second k h =
+        let first = copy_helpers c f g First line in
+        let long = length-copy_parts First line in
+        let whole = ap length copy_parts_are ∙ length-append (copy_parts First line) (copy_parts Second line) in
         let place : 1 + variables_below c f g (line_count c) + helpers_below c f g line + first + k - 1 ≡ variables_below c f g (line_count c) + (helpers_below c f g line + (first + k)) = omega arith in
         let off : first + k - first ≡ k = omega arith in
         ap (bit_at assignment) place
         ∙ (parts_at (first + k) (omega (arith, whole, long, h))
         ∙ (ap (λ bits. bit_at bits (first + k)) copy_parts_are
-        ∙ (get_or-append_right (copy_parts first_copy line) (copy_parts second_copy line) first (first + k) false long (omega arith)
-        ∙ ap (bit_at (copy_parts second_copy line)) off)))
+        ∙ (get_or-append_right (copy_parts First line) (copy_parts Second line) first (first + k) false long (omega arith)
+        ∙ ap (bit_at (copy_parts Second line)) off)))
 
     -- the helpers of a gate's copy carry the parts of the exclusive or
-    pub gate_parts_carry : (copy : Copy) (gate : Gate) → gate_at c line ≡ Some gate → has_gate copy line ≡ true → is_parity gate.kind ≡ true
+    pub gate_parts_carry : (copy : Side) (gate : Gate) → gate_at c line ≡ Some gate → has_gate copy line ≡ true → is_parity gate.kind ≡ true
         → Carry assignment (first_helper c f g copy line) (helper_bits (free_bits (stuck_pin (fault_of c f g copy) line) (bits_in copy) gate.pins))
     unfolding copy_parts driver_parts gate_parts
     gate_parts_carry copy gate is own parity = subst (Carry assignment (first_helper c f g copy line)) (
@@ -258,7 +261,7 @@ module _ (c : Circuit) (f g : Fault) (x y : List Bool) where
       ∙ ap (λ bits. bit_at bits 0) here)))))))
 
 -- the operands that are variables carry the bits at the pins that aren't stuck
-Variables : (c : Circuit) (f g : Fault) (bits : List Bool) (copy : Copy) (stuck : ℕ → Option Bool) (z : List Bool) (n : ℕ) (lines : List ℕ)
+Variables : (c : Circuit) (f g : Fault) (bits : List Bool) (copy : Side) (stuck : ℕ → Option Bool) (z : List Bool) (n : ℕ) (lines : List ℕ)
     → ((read : ℕ) → Contains lines read → bit_at z read ≡ copy_bit c f g bits copy read)
     → variable_bits bits (filter_map variable_of (map (λ x. operand_of c f g copy (stuck x.0) x.1) (enumerate_from n lines))) ≡ filter_map (λ o. o) (map (λ x. free_bit (stuck x.0) (bit_at z x.1)) (enumerate_from n lines))
 unfolding free_bit
@@ -272,7 +275,7 @@ Variables c f g bits copy stuck z n (line ∷ lines) h =
     one_operand None rest = λ i. sym (h line (0, omega arith, refl)) i ∷ rest i
     one_operand (Some b) rest = rest
 
-pub variables_carry : (c : Circuit) (f g : Fault) (bits : List Bool) (copy : Copy) (z : List Bool) (line : ℕ) (gate : Gate)
+pub variables_carry : (c : Circuit) (f g : Fault) (bits : List Bool) (copy : Side) (z : List Bool) (line : ℕ) (gate : Gate)
     → ((read : ℕ) → Contains gate.pins read → bit_at z read ≡ copy_bit c f g bits copy read)
     → variable_bits bits (variables (gate_operands c f g copy line gate)) ≡ free_bits (stuck_pin (fault_of c f g copy) line) z gate.pins
 unfolding readings free_bits

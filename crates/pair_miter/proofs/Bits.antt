@@ -21,18 +21,6 @@ holds-same false = refl
 pub is-holds : (y b : Bool) → y ≡ b → holds y b ≡ true
 is-holds y b e = subst (λ x. holds y x ≡ true) e (holds-same y)
 
-pub not_is : (a b : Bool) → not a ≡ b → a ≡ not b
-not_is true true e = cc
-not_is true false e = refl
-not_is false true e = refl
-not_is false false e = cc
-
-pub is_not : (a b : Bool) → a ≡ not b → not a ≡ b
-is_not true true e = cc
-is_not true false e = refl
-is_not false true e = refl
-is_not false false e = cc
-
 -- exclusive or
 abbrev pub flip : Bool → Bool → Bool
 flip a b = if a then not b else b
@@ -55,36 +43,26 @@ flip-inner true false c = refl
 flip-inner false true c = refl
 flip-inner false false c = refl
 
-pub flip_back : (p c v o : Bool) → flip (flip p c) v ≡ o → v ≡ flip c (flip p o)
-flip_back true true true true e = e
-flip_back true true true false e = cc
-flip_back true true false true e = cc
-flip_back true true false false e = e
-flip_back true false true true e = cc
-flip_back true false true false e = refl
-flip_back true false false true e = refl
-flip_back true false false false e = cc
-flip_back false true true true e = cc
-flip_back false true true false e = refl
-flip_back false true false true e = refl
-flip_back false true false false e = cc
-flip_back false false v o e = e
+pub flip_back : (p v o : Bool) → flip p v ≡ o → v ≡ flip p o
+flip_back true true true e = cc
+flip_back true true false e = refl
+flip_back true false true e = refl
+flip_back true false false e = cc
+flip_back false v o e = e
 
-pub flip_on : (p c v o : Bool) → v ≡ flip c (flip p o) → flip (flip p c) v ≡ o
-flip_on p c v o e = subst (λ w. flip (flip p c) w ≡ o) (sym e) (twice p c o)
-  where
-    twice : (p c o : Bool) → flip (flip p c) (flip c (flip p o)) ≡ o
-    twice true true true = refl
-    twice true true false = refl
-    twice true false true = refl
-    twice true false false = refl
-    twice false true true = refl
-    twice false true false = refl
-    twice false false o = refl
+pub flip_on : (p v o : Bool) → v ≡ flip p o → flip p v ≡ o
+flip_on p v o e = sym (flip_back p o v (sym e))
 
 next_odd : (n : ℕ) → ((1 + n) % 2 == 1) ≡ not (n % 2 == 1)
 next_odd n = grind (arith, nat_tests)
 
+-- one more element, of which a test says whether it counts
+pub odd_count-cons : {A : Type 0} (test : A → Bool) (x : A) (xs : List A) → (count_by test (x ∷ xs) % 2 == 1) ≡ flip (test x) (count_by test xs % 2 == 1)
+odd_count-cons {A = A} test x xs = ap (λ n. n % 2 == 1) (sum_by-cons (λ (y : A). if test y then 1 else 0) x xs) ∙ by (test x)
+  where
+    by : (b : Bool) → (((if b then 1 else 0) + count_by test xs) % 2 == 1) ≡ flip b (count_by test xs % 2 == 1)
+    by true = next_odd (count_by test xs)
+    by false = let e : 0 + count_by test xs ≡ count_by test xs = omega arith in ap (λ n. n % 2 == 1) e
+
 pub odd_ones-cons : (b : Bool) (bits : List Bool) → odd_ones (b ∷ bits) ≡ flip b (odd_ones bits)
-odd_ones-cons true bits = ap (λ n. n % 2 == 1) (sum_by-cons (λ (x : Bool). if x then 1 else 0) true bits) ∙ next_odd (count_by (λ x. x) bits)
-odd_ones-cons false bits = ap (λ n. n % 2 == 1) (let e : 0 + count_by (λ x. x) bits ≡ count_by (λ x. x) bits = omega arith in sum_by-cons (λ (x : Bool). if x then 1 else 0) false bits ∙ e)
+odd_ones-cons b bits = odd_count-cons (λ (x : Bool). x) b bits

@@ -1,7 +1,7 @@
 -- A miter has fewer than 2^30 clauses and fewer than 2^31 variables: each line has at most eight clauses for itself and
 -- for each pin of its gate, and there are not too many lines, pins and positions.
 use Rattle.std.proofs.Common.{◌≡◌, ◌∙◌, ℕ, zero, suc, ◌+◌, ◌-◌, ◌*◌, ◌<◌, ◌≤◌, ◌^◌, refl, sym, ap, arith, drop, get_or}
-use Rattle.std.specs.Prelude.{Bool, true, false, not, List, [], ◌∷◌, ◌++◌, map, filter, flat_map, length, Option, None, Some, slice_get, nat_lt, is_none, ◌&&◌, sum_by, if◌then◌else◌}
+use Rattle.std.specs.Prelude.{Bool, true, false, not, List, [], ◌∷◌, ◌++◌, map, filter, flat_map, length, Option, None, Some, slice_get, nat_lt, is_none, ◌||◌, ◌&&◌, sum_by, if◌then◌else◌}
 use Rattle.std.specs.Option.{option_map_or}
 use Rattle.std.specs.List.{range_with_len, filter_map, cons_option}
 use Rattle.std.proofs.lemmas.List.FromFn.{length-range_with_len}
@@ -10,22 +10,27 @@ use Rattle.std.proofs.lemmas.List.{length-append, length-map, drop_more, drop_al
 use Rattle.std.proofs.lemmas.List.Sums.{sum_by-cons, sum_by-append, length-filter, count_by-le-length}
 use Rattle.std.proofs.lemmas.Option.{get_or_from_slice_get}
 use Rattle.net_model.specs.declared.gate.Kind.{Kind}
-use Rattle.net_model.specs.declared.gate.Kind.TheVariants.{And, Nand, Or, Nor, Xor, Xnor, Not, Buff}
+use Rattle.net_model.specs.declared.gate.Kind.TheVariants.{Xor}
+use Rattle.net_model.specs.declared.operation.Fold.{Fold}
+use Rattle.net_model.specs.declared.operation.Fold.TheVariants.{AllOf, AnyOf, OddOf}
+use Rattle.net_model.specs.declared.operation.Operation.{Operation}
+use Rattle.net_model.specs.declared.operation.Operation.TheVariants.{Folded, Chosen}
 use Rattle.net_model.specs.declared.gate.Gate.{Gate}
 use Rattle.net_model.specs.declared.fault.Fault.{Fault}
-use Rattle.net_model.specs.Gate.{odd_ones}
+use Rattle.net_model.specs.Gate.{operation_of, inverts}
 use Rattle.net_model.specs.Circuit.{Circuit, IsCircuit, line_count, all_lines, pins_of, gate_at}
 use Rattle.net_model.specs.Fault.{stuck_stem, stuck_pin, readings}
 use Rattle.net_model.specs.Scope.{is_split, is_relevant, is_reached, relevant_lines, reached_positions}
 use Rattle.net_model.proofs.QueueSteps.{source_pins}
 use Rattle.net_model.proofs.Elements.{slice_get-none}
-use Rattle.clause_pool.specs.Literal.{Literal, pos_literal, neg_literal, opposite}
+use Rattle.clause_pool.specs.Literal.{Literal, pos_literal, opposite}
 use Rattle.clause_pool.specs.Clauses.{Clause}
-use Rattle.pair_miter.specs.Variables.{Copy, first_copy, second_copy, fault_of, is_parity, line_variables, variables_below, line_variable, free_pins, gate_helpers, copy_helpers, line_helpers, helpers_below, first_helper, difference_variable, variable_count}
-use Rattle.pair_miter.specs.declared.operand.Operand.{Operand}
-use Rattle.pair_miter.specs.declared.operand.Operand.TheVariants.{Constant, Variable}
-use Rattle.pair_miter.specs.Rows.{variable_of, variables, constants, has_constant, and_of, or_of, xor_of_two, xor_onward, xor_of, buffer_of, and_rows, or_rows, output_literal, xor_rows, gate_rows}
-use Rattle.pair_miter.specs.Miter.{operand_of, gate_operands, gate_clauses, stuck_clauses, copy_clauses, line_clauses, shown_operand, difference_clauses, raw_clauses, without_repeats, is_tautology, tidy, miter}
+use Rattle.pair_miter.specs.Variables.{fault_of, is_parity, line_variables, variables_below, line_variable, free_pins, gate_helpers, copy_helpers, line_helpers, helpers_below, first_helper, difference_variable, variable_count}
+use Rattle.pair_miter.specs.declared.side.Side.TheVariants.{First, Second}
+use Rattle.pair_miter.specs.declared.side.Side.{Side}
+use Rattle.pair_miter.specs.Operand.{Operand, variable_of, is_constant}
+use Rattle.pair_miter.specs.Rows.{variables, has_constant, has_odd_constants, signed_literal, with_each, with_all, decided_of, decided_rows, xor_of_two, xor_onward, xor_of, odd_rows, operand_literals, case_clause, case_rows, operand_at, chosen_rows, folded_rows, operation_rows, output_literal, gate_rows}
+use Rattle.pair_miter.specs.Miter.{operand_of, gate_operands, gate_clauses, stuck_clauses, copy_clauses, line_clauses, shown_operand, difference_clauses, lines_part, differences_part, raw_clauses, without_repeats, is_tautology, tidy, miter}
 use Rattle.pair_miter.proofs.CopyClauses.{length-readings}
 
 -- ---- sums
@@ -71,11 +76,8 @@ length-filter_map-le {A = A} {B = B} h (x ∷ xs) = by (h x) (length-filter_map-
 
 -- ---- the rows of a gate
 
-and_of-few : (y : Literal) (xs : List ℕ) → length (and_of y xs) ≤ length xs + 1
-and_of-few y xs = omega (arith, length-append (map (λ x. opposite y ∷ pos_literal x ∷ []) xs) ((y ∷ map neg_literal xs) ∷ []), length-map xs (λ (x : ℕ). opposite y ∷ pos_literal x ∷ []))
-
-or_of-few : (y : Literal) (xs : List ℕ) → length (or_of y xs) ≤ length xs + 1
-or_of-few y xs = omega (arith, length-append (map (λ x. y ∷ neg_literal x ∷ []) xs) ((opposite y ∷ map pos_literal xs) ∷ []), length-map xs (λ (x : ℕ). y ∷ neg_literal x ∷ []))
+decided_of-few : (decides : Bool) (l : Literal) (xs : List ℕ) → length (decided_of decides l xs) ≤ length xs + 1
+decided_of-few decides l xs = omega (arith, length-append (with_each l (not decides) xs) (with_all (opposite l) decides xs ∷ []), length-map xs (λ (x : ℕ). l ∷ signed_literal (not decides) x ∷ []))
 
 xor_onward-few : (y : Literal) (helper : ℕ) (before : Literal) (xs : List ℕ) → length (xor_onward y helper before xs) ≤ 4 * length xs
 xor_onward-few y helper before [] = omega arith
@@ -93,38 +95,51 @@ module _ (operands : List Operand) where
   few_variables : length (variables operands) ≤ length operands
   few_variables = length-filter_map-le variable_of operands
 
-  and_rows-few : (y : Literal) → length (and_rows y operands) ≤ 4 * length operands + 1
-  and_rows-few y = by (has_constant false operands)
+  decided_rows-few : (decides : Bool) (l : Literal) → length (decided_rows decides l operands) ≤ 4 * length operands + 1
+  decided_rows-few decides l = by (has_constant decides operands)
     where
-      by : (b : Bool) → length (if b then (opposite y ∷ []) ∷ [] else and_of y (variables operands)) ≤ 4 * length operands + 1
+      by : (b : Bool) → length (if b then (l ∷ []) ∷ [] else decided_of decides l (variables operands)) ≤ 4 * length operands + 1
       by true = omega arith
-      by false = omega (arith, and_of-few y (variables operands), few_variables)
+      by false = omega (arith, decided_of-few decides l (variables operands), few_variables)
 
-  or_rows-few : (y : Literal) → length (or_rows y operands) ≤ 4 * length operands + 1
-  or_rows-few y = by (has_constant true operands)
-    where
-      by : (b : Bool) → length (if b then (y ∷ []) ∷ [] else or_of y (variables operands)) ≤ 4 * length operands + 1
-      by true = omega arith
-      by false = omega (arith, or_of-few y (variables operands), few_variables)
+  odd_rows-few : (y : Literal) (helper : ℕ) → length (odd_rows y helper operands) ≤ 4 * length operands + 1
+  odd_rows-few y helper = omega (arith, xor_of-few (if has_odd_constants operands then opposite y else y) helper (variables operands), few_variables)
 
-  xor_rows-few : (complemented : Bool) (y helper : ℕ) → length (xor_rows complemented y helper operands) ≤ 4 * length operands + 1
-  xor_rows-few complemented y helper = omega (arith, xor_of-few (output_literal (if odd_ones (constants operands) then not complemented else complemented) y) helper (variables operands), few_variables)
+case_clause-few : (l : Literal) (unless : Bool) (chooser : Operand) (positive : Bool) (chosen : Operand) → length (case_clause l unless chooser positive chosen) ≤ 1
+case_clause-few l unless chooser positive chosen = by (is_constant unless chooser || is_constant positive chosen)
+  where
+    by : (b : Bool) → length (if b then [] else (l ∷ operand_literals unless chooser ++ operand_literals positive chosen) ∷ []) ≤ 1
+    by true = omega arith
+    by false = omega arith
 
-buffer_of-few : (y : Literal) (operands : List Operand) → length (buffer_of y operands) ≤ 4 * length operands + 1
-buffer_of-few y [] = omega arith
-buffer_of-few y (Constant b ∷ operands) = omega arith
-buffer_of-few y (Variable x ∷ operands) = omega arith
+case_rows-few : (y : Literal) (unless : Bool) (chooser chosen : Operand) → length (case_rows y unless chooser chosen) ≤ 2
+case_rows-few y unless chooser chosen =
+    omega (
+      arith,
+      length-append (case_clause (opposite y) unless chooser true chosen) (case_clause y unless chooser false chosen),
+      case_clause-few (opposite y) unless chooser true chosen,
+      case_clause-few y unless chooser false chosen,
+    )
+
+chosen_rows-few : (y : Literal) (operands : List Operand) → length (chosen_rows y operands) ≤ 4 * length operands + 1
+chosen_rows-few y [] = omega arith
+chosen_rows-few y (s ∷ operands) =
+    let a = operand_at (s ∷ operands) 1 in
+    let b = operand_at (s ∷ operands) 2 in
+    omega (arith, length-append (case_rows y true s a) (case_rows y false s b), case_rows-few y true s a, case_rows-few y false s b)
+
+folded_rows-few : (fold : Fold) (y : Literal) (helper : ℕ) (operands : List Operand) → length (folded_rows fold y helper operands) ≤ 4 * length operands + 1
+folded_rows-few AllOf y helper operands = decided_rows-few operands false (opposite y)
+folded_rows-few AnyOf y helper operands = decided_rows-few operands true y
+folded_rows-few OddOf y helper operands = odd_rows-few operands y helper
+
+operation_rows-few : (operation : Operation) (y : Literal) (helper : ℕ) (operands : List Operand) → length (operation_rows operation y helper operands) ≤ 4 * length operands + 1
+operation_rows-few (Folded fold) y helper operands = folded_rows-few fold y helper operands
+operation_rows-few Chosen y helper operands = chosen_rows-few y operands
 
 pub gate_rows-few : (kind : Kind) (y helper : ℕ) (operands : List Operand) → length (gate_rows kind y helper operands) ≤ 4 * length operands + 1
 unfolding gate_rows
-gate_rows-few And y helper operands = and_rows-few operands (output_literal false y)
-gate_rows-few Nand y helper operands = and_rows-few operands (output_literal true y)
-gate_rows-few Or y helper operands = or_rows-few operands (output_literal false y)
-gate_rows-few Nor y helper operands = or_rows-few operands (output_literal true y)
-gate_rows-few Xor y helper operands = xor_rows-few operands false y helper
-gate_rows-few Xnor y helper operands = xor_rows-few operands true y helper
-gate_rows-few Not y helper operands = buffer_of-few (output_literal true y) operands
-gate_rows-few Buff y helper operands = buffer_of-few (output_literal false y) operands
+gate_rows-few kind y helper operands = operation_rows-few (operation_of kind) (output_literal (inverts kind) y) helper operands
 
 -- ---- lines, pins and positions
 
@@ -179,7 +194,7 @@ module _ (c : Circuit) where
       omega (arith, parts, source_weights 0 c.sources (omega arith), gate_weights (length c.gates) 0 (0 + c.sources) (omega arith) (omega arith))
 
   module _ (f g : Fault) where
-    copy_clauses-few : (copy : Copy) (line : ℕ) → length (copy_clauses c f g copy line) ≤ 4 * length (pins_of c line) + 1
+    copy_clauses-few : (copy : Side) (line : ℕ) → length (copy_clauses c f g copy line) ≤ 4 * length (pins_of c line) + 1
     unfolding copy_clauses
     copy_clauses-few copy line = by (stuck_stem (fault_of c f g copy) line) (gate_at c line)
       where
@@ -194,13 +209,13 @@ module _ (c : Circuit) where
     unfolding line_clauses weight
     line_clauses-few line = by (is_split c f g line)
       where
-        by : (b : Bool) → length (copy_clauses c f g first_copy line ++ (if b then copy_clauses c f g second_copy line else [])) ≤ 8 * (1 + length (pins_of c line))
-        by true = omega (arith, length-append (copy_clauses c f g first_copy line) (copy_clauses c f g second_copy line), copy_clauses-few first_copy line, copy_clauses-few second_copy line)
-        by false = omega (arith, length-append {A = Clause} (copy_clauses c f g first_copy line) [], copy_clauses-few first_copy line)
+        by : (b : Bool) → length (copy_clauses c f g First line ++ (if b then copy_clauses c f g Second line else [])) ≤ 8 * (1 + length (pins_of c line))
+        by true = omega (arith, length-append (copy_clauses c f g First line) (copy_clauses c f g Second line), copy_clauses-few First line, copy_clauses-few Second line)
+        by false = omega (arith, length-append {A = Clause} (copy_clauses c f g First line) [], copy_clauses-few First line)
 
     difference_clauses-few : (at : ℕ) → length (difference_clauses c f g at) ≤ 9
     unfolding difference_clauses
-    difference_clauses-few at = gate_rows-few Xor (difference_variable c f g at) 0 (shown_operand c f g at first_copy ∷ shown_operand c f g at second_copy ∷ [])
+    difference_clauses-few at = gate_rows-few Xor (difference_variable c f g at) 0 (shown_operand c f g at First ∷ shown_operand c f g at Second ∷ [])
 
     all_lines-few : length (flat_map (line_clauses c f g) (relevant_lines c f g)) ≤ 8 * sum_by weight (all_lines c)
     unfolding relevant_lines
@@ -228,10 +243,9 @@ module _ (c : Circuit) where
     raw_clauses-few : IsCircuit c → length (raw_clauses c f g) < 2 ^ 30
     unfolding raw_clauses
     raw_clauses-few w =
-        let line_part = flat_map (line_clauses c f g) (relevant_lines c f g) in
-        let difference_part = flat_map (difference_clauses c f g) (reached_positions c f g) in
+        let rows = flat_map (difference_clauses c f g) (reached_positions c f g) in
         let last = map (λ at. pos_literal (difference_variable c f g at)) (reached_positions c f g) ∷ [] in
-        omega (arith, length-append (line_part ++ difference_part) last, length-append line_part difference_part, all_lines-few, all_differences-few, all_weights, w.small)
+        omega (arith, length-append (lines_part c f g) (differences_part c f g), length-append rows last, all_lines-few, all_differences-few, all_weights, w.small)
 
     -- ---- variables
 
@@ -244,13 +258,13 @@ module _ (c : Circuit) where
         by true false = omega arith
         by false s = omega arith
 
-    free_pins-few : (copy : Copy) (line : ℕ) (gate : Gate) → free_pins c f g copy line gate ≤ length gate.pins
+    free_pins-few : (copy : Side) (line : ℕ) (gate : Gate) → free_pins c f g copy line gate ≤ length gate.pins
     unfolding free_pins
     free_pins-few copy line gate =
         let free = readings (λ pin read. is_none (stuck_pin (fault_of c f g copy) line pin)) gate.pins in
         omega (arith, count_by-le-length (λ b. b) free, length-readings (λ pin read. is_none (stuck_pin (fault_of c f g copy) line pin)) gate.pins)
 
-    gate_helpers-few : (copy : Copy) (line : ℕ) (gate : Option Gate) → option_map_or (gate_helpers c f g copy line) gate 0 ≤ length (option_map_or (λ (d : Gate). d.pins) gate [])
+    gate_helpers-few : (copy : Side) (line : ℕ) (gate : Option Gate) → option_map_or (gate_helpers c f g copy line) gate 0 ≤ length (option_map_or (λ (d : Gate). d.pins) gate [])
     unfolding gate_helpers
     gate_helpers-few copy line None = omega arith
     gate_helpers-few copy line (Some gate) = by (is_parity gate.kind)
@@ -259,25 +273,25 @@ module _ (c : Circuit) where
         by true = omega (arith, free_pins-few copy line gate)
         by false = omega arith
 
-    copy_helpers-few : (copy : Copy) (line : ℕ) → copy_helpers c f g copy line ≤ length (pins_of c line)
+    copy_helpers-few : (copy : Side) (line : ℕ) → copy_helpers c f g copy line ≤ length (pins_of c line)
     unfolding copy_helpers
-    copy_helpers-few first_copy line = by (is_none (stuck_stem f line))
+    copy_helpers-few First line = by (is_none (stuck_stem f line))
       where
-        by : (b : Bool) → (if b then option_map_or (gate_helpers c f g first_copy line) (gate_at c line) 0 else 0) ≤ length (pins_of c line)
-        by true = gate_helpers-few first_copy line (gate_at c line)
+        by : (b : Bool) → (if b then option_map_or (gate_helpers c f g First line) (gate_at c line) 0 else 0) ≤ length (pins_of c line)
+        by true = gate_helpers-few First line (gate_at c line)
         by false = omega arith
-    copy_helpers-few second_copy line = by (is_split c f g line && is_none (stuck_stem g line))
+    copy_helpers-few Second line = by (is_split c f g line && is_none (stuck_stem g line))
       where
-        by : (b : Bool) → (if b then option_map_or (gate_helpers c f g second_copy line) (gate_at c line) 0 else 0) ≤ length (pins_of c line)
-        by true = gate_helpers-few second_copy line (gate_at c line)
+        by : (b : Bool) → (if b then option_map_or (gate_helpers c f g Second line) (gate_at c line) 0 else 0) ≤ length (pins_of c line)
+        by true = gate_helpers-few Second line (gate_at c line)
         by false = omega arith
 
     line_helpers-few : (line : ℕ) → line_helpers c f g line ≤ 2 * weight line
     unfolding line_helpers weight
     line_helpers-few line = by (is_relevant c f g line)
       where
-        by : (b : Bool) → (if b then copy_helpers c f g first_copy line + copy_helpers c f g second_copy line else 0) ≤ 2 * (1 + length (pins_of c line))
-        by true = omega (arith, copy_helpers-few first_copy line, copy_helpers-few second_copy line)
+        by : (b : Bool) → (if b then copy_helpers c f g First line + copy_helpers c f g Second line else 0) ≤ 2 * (1 + length (pins_of c line))
+        by true = omega (arith, copy_helpers-few First line, copy_helpers-few Second line)
         by false = omega arith
 
     few_variables_in_all : variable_count c f g ≤ 4 * sum_by weight (all_lines c) + length c.positions

@@ -1,5 +1,5 @@
 -- Clauses of the numbers below one that pass a test, one number more at a time.
-use Rattle.std.proofs.Common.{◌≡◌, ◌∙◌, ℕ, zero, suc, ◌+◌, ◌-◌, ◌≤◌, Bool, true, false, List, [], ◌∷◌, ◌++◌, length, refl, ap, arith}
+use Rattle.std.proofs.Common.{◌≡◌, ◌∙◌, ℕ, zero, suc, ◌+◌, ◌-◌, ◌≤◌, Bool, true, false, List, [], ◌∷◌, ◌++◌, refl, sym, ap, arith, append_assoc}
 use Rattle.std.specs.Prelude.{filter, flat_map, cond}
 use Rattle.std.specs.List.{range_with_len}
 use Rattle.std.proofs.lemmas.Grind.{flat_map-append}
@@ -7,8 +7,6 @@ use Rattle.std.proofs.lemmas.List.{append-nil}
 use Rattle.std.proofs.lemmas.List.Elements.{filter-append}
 use Rattle.net_model.proofs.Orders.{range_with_len_more}
 use Rattle.clause_pool.specs.Clauses.{Clause}
-use Rattle.pair_miter.specs.Miter.{tidy}
-use Rattle.pair_miter.proofs.LineClauses.{length-tidy}
 
 module _ (test : ℕ → Bool) where
   -- the numbers below one that pass
@@ -41,20 +39,21 @@ module _ (test : ℕ → Bool) where
     pub clauses_no : (n : ℕ) → test n ≡ false → clauses_below (n + 1) ≡ clauses_below n
     clauses_no n e = ap (flat_map clauses) (passing_no n e)
 
-    next_few : (n : ℕ) (b : Bool) → test n ≡ b → length (tidy (clauses_below n)) ≤ length (tidy (clauses_below (n + 1)))
-    next_few n true e = let more = ap (λ xs. length (tidy xs)) (clauses_yes n e) in omega (arith, more, length-tidy (clauses_below n) (clauses n))
-    next_few n false e = let same = ap (λ xs. length (tidy xs)) (clauses_no n e) in omega (arith, same)
+    rest_by : (n more : ℕ) → (rest : List Clause) × (clauses_below (n + more) ≡ clauses_below n ++ rest)
+    rest_by n zero = let e : n + 0 ≡ n = omega arith in ([], ap clauses_below e ∙ sym (append-nil (clauses_below n)))
+    rest_by n (suc more) = by (test (n + more)) refl (rest_by n more)
+      where
+        e : n + suc more ≡ (n + more) + 1
+        e = omega arith
 
-    few_by : (n more : ℕ) → length (tidy (clauses_below n)) ≤ length (tidy (clauses_below (n + more)))
-    few_by n zero = let e : n + 0 ≡ n = omega arith in let same = ap (λ k. length (tidy (clauses_below k))) e in omega (arith, same)
-    few_by n (suc more) =
-        let e : n + suc more ≡ (n + more) + 1 = omega arith in
-        let same = ap (λ k. length (tidy (clauses_below k))) e in
-        omega (arith, same, next_few (n + more) (test (n + more)) refl, few_by n more)
+        by : (b : Bool) → test (n + more) ≡ b → (rest : List Clause) × (clauses_below (n + more) ≡ clauses_below n ++ rest) → (rest : List Clause) × (clauses_below (n + suc more) ≡ clauses_below n ++ rest)
+        by true passes (rest, is) =
+            (rest ++ clauses (n + more), ap clauses_below e ∙ (clauses_yes (n + more) passes ∙ (ap (λ xs. xs ++ clauses (n + more)) is ∙ append_assoc (clauses_below n) rest (clauses (n + more)))))
+        by false fails (rest, is) = (rest, ap clauses_below e ∙ (clauses_no (n + more) fails ∙ is))
 
-    -- a beginning has no more clauses than the whole
-    pub clauses_few : (n m : ℕ) → n ≤ m → length (tidy (clauses_below n)) ≤ length (tidy (clauses_below m))
-    clauses_few n m le =
+    -- the whole begins with each beginning
+    pub clauses_rest : (n m : ℕ) → n ≤ m → (rest : List Clause) × (clauses_below m ≡ clauses_below n ++ rest)
+    clauses_rest n m le =
         let e : n + (m - n) ≡ m = omega arith in
-        let same = ap (λ k. length (tidy (clauses_below k))) e in
-        omega (arith, same, few_by n (m - n))
+        let r = rest_by n (m - n) in
+        (r.0, ap clauses_below (sym e) ∙ r.1)

@@ -1,6 +1,6 @@
 -- Where a vector separates, the miter has a model: the one that stands for the two valuations.
 use Rattle.std.proofs.Common.{◌≡◌, ◌≢◌, ◌∙◌, ℕ, suc, ◌-◌, ◌<◌, refl, sym, ap, arith, subst, get_or}
-use Rattle.std.specs.Prelude.{Bool, true, false, List, [], ◌∷◌, ◌++◌, map, flat_map, length, None, Some, Contains, unwrap_or, is_none, if◌then◌else◌}
+use Rattle.std.specs.Prelude.{Bool, true, false, List, [], ◌∷◌, map, flat_map, length, None, Some, Contains, unwrap_or, is_none, if◌then◌else◌}
 use Rattle.std.specs.Option.{option_map_or}
 use Rattle.std.proofs.lemmas.Bool.{and_from}
 use Rattle.net_model.specs.declared.gate.Gate.{Gate}
@@ -18,11 +18,12 @@ use Rattle.net_model.proofs.Elements.{any_from}
 use Rattle.net_model.proofs.Relevance.{relevant_back, reached_listed, listed_reached, relevant_shown, listed_relevant}
 use Rattle.fault_list.proofs.Pair.{same_unreached}
 use Rattle.clause_pool.specs.Literal.{pos_literal}
-use Rattle.pair_miter.specs.Variables.{Copy, first_copy, second_copy, fault_of, first_helper, is_parity, difference_variable}
-use Rattle.pair_miter.specs.declared.operand.Operand.{Operand}
-use Rattle.pair_miter.specs.declared.operand.Operand.TheVariants.{Constant, Variable}
+use Rattle.pair_miter.specs.Variables.{fault_of, first_helper, is_parity, difference_variable}
+use Rattle.pair_miter.specs.declared.side.Side.TheVariants.{First, Second}
+use Rattle.pair_miter.specs.declared.side.Side.{Side}
+use Rattle.pair_miter.specs.Operand.{Operand, constant, variable}
 use Rattle.pair_miter.specs.Rows.{variables}
-use Rattle.pair_miter.specs.Miter.{copy_clauses, line_clauses, shown_operand, difference_clauses, raw_clauses, miter, literal_bit, is_satisfied_by, is_model, copy_bit}
+use Rattle.pair_miter.specs.Miter.{copy_clauses, line_clauses, shown_operand, difference_clauses, lines_part, differences_part, raw_clauses, miter, literal_bit, is_satisfied_by, is_model, copy_bit}
 use Rattle.pair_miter.specs.Laws.{HasModel}
 use Rattle.pair_miter.proofs.TidyAndFresh.{is_model-tidy}
 use Rattle.pair_miter.proofs.Bits.{flip}
@@ -52,50 +53,50 @@ differ_flips false false n = absurd (n refl)
 
 -- an exclusive or of two operands has no helpers
 no_helpers : (bits : List Bool) (o p : Operand) → Carry bits 0 (helper_bits (variable_bits bits (variables (o ∷ p ∷ []))))
-no_helpers bits (Constant a) (Constant b) k h = absurd (omega arith)
-no_helpers bits (Constant a) (Variable y) k h = absurd (omega arith)
-no_helpers bits (Variable x) (Constant b) k h = absurd (omega arith)
-no_helpers bits (Variable x) (Variable y) k h = absurd (omega arith)
+no_helpers bits (constant a) (constant b) k h = absurd (omega arith)
+no_helpers bits (constant a) (variable y) k h = absurd (omega arith)
+no_helpers bits (variable x) (constant b) k h = absurd (omega arith)
+no_helpers bits (variable x) (variable y) k h = absurd (omega arith)
 
 module _ (c : Circuit) (w : IsCircuit c) (f g : Fault) (v x y : List Bool) (a : Agrees c f v x) (b : Agrees c g v y) where
   abbrev bits : List Bool
   bits = assignment c f g x y
 
-  abbrev fault : Copy → Fault
+  abbrev fault : Side → Fault
   fault copy = fault_of c f g copy
 
   -- ---- what the variables of lines carry
 
-  first_carries : (line : ℕ) → line < line_count c → is_relevant c f g line ≡ true → bit_at x line ≡ copy_bit c f g bits first_copy line
+  first_carries : (line : ℕ) → line < line_count c → is_relevant c f g line ≡ true → bit_at x line ≡ copy_bit c f g bits First line
   first_carries line inside relevant = sym (first_copy_carries c f g x y line inside relevant)
 
-  second_carries : (line : ℕ) → line < line_count c → is_relevant c f g line ≡ true → bit_at y line ≡ copy_bit c f g bits second_copy line
+  second_carries : (line : ℕ) → line < line_count c → is_relevant c f g line ≡ true → bit_at y line ≡ copy_bit c f g bits Second line
   second_carries line inside relevant = by (is_split c f g line) refl
     where
-      by : (s : Bool) → is_split c f g line ≡ s → bit_at y line ≡ copy_bit c f g bits second_copy line
+      by : (s : Bool) → is_split c f g line ≡ s → bit_at y line ≡ copy_bit c f g bits Second line
       by true split = sym (second_copy_carries c f g x y line inside relevant split)
       by false split =
           sym (same_unsplit c w f g v x y a b line inside split)
           ∙ (first_carries line inside relevant ∙ ap (λ n. bit_at bits (n - 1)) (one_variable c f g line split))
 
-  carries : (copy : Copy) (line : ℕ) → line < line_count c → is_relevant c f g line ≡ true → bit_at (bits_in c f g x y copy) line ≡ copy_bit c f g bits copy line
-  carries first_copy line inside relevant = first_carries line inside relevant
-  carries second_copy line inside relevant = second_carries line inside relevant
+  carries : (copy : Side) (line : ℕ) → line < line_count c → is_relevant c f g line ≡ true → bit_at (bits_in c f g x y copy) line ≡ copy_bit c f g bits copy line
+  carries First line inside relevant = first_carries line inside relevant
+  carries Second line inside relevant = second_carries line inside relevant
 
-  agrees : (copy : Copy) → Agrees c (fault copy) v (bits_in c f g x y copy)
-  agrees first_copy = a
-  agrees second_copy = b
+  agrees : (copy : Side) → Agrees c (fault copy) v (bits_in c f g x y copy)
+  agrees First = a
+  agrees Second = b
 
   -- ---- the clauses of a line
 
   module _ (line : ℕ) (inside : line < line_count c) (relevant : is_relevant c f g line ≡ true) where
-    pins_carry : (copy : Copy) (read : ℕ) → Feeds c read line → bit_at (bits_in c f g x y copy) read ≡ copy_bit c f g bits copy read
+    pins_carry : (copy : Side) (read : ℕ) → Feeds c read line → bit_at (bits_in c f g x y copy) read ≡ copy_bit c f g bits copy read
     pins_carry copy read m = carries copy read (pins_inside c w line read m) (relevant_back c f g w.acyclic read line m relevant)
 
     gate_feeds : (gate : Gate) → gate_at c line ≡ Some gate → (read : ℕ) → Contains gate.pins read → Feeds c read line
     gate_feeds gate is read m = subst (λ driver. Contains (option_map_or (λ (d : Gate). d.pins) driver []) read) (sym is) m
 
-    copy_holds : (copy : Copy) → ((gate : Gate) → gate_at c line ≡ Some gate → stuck_stem (fault copy) line ≡ None → is_parity gate.kind ≡ true
+    copy_holds : (copy : Side) → ((gate : Gate) → gate_at c line ≡ Some gate → stuck_stem (fault copy) line ≡ None → is_parity gate.kind ≡ true
         → Carry bits (first_helper c f g copy line) (helper_bits (free_bits (stuck_pin (fault copy) line) (bits_in c f g x y copy) gate.pins)))
         → is_model bits (copy_clauses c f g copy line) ≡ true
     copy_holds copy helpers =
@@ -104,18 +105,18 @@ module _ (c : Circuit) (w : IsCircuit c) (f g : Fault) (v x y : List Bool) (a : 
         (sym (variables_carry c f g bits copy (bits_in c f g x y copy) line gate (λ read m. pins_carry copy read (gate_feeds gate is read m))))
         (helpers gate is free parity))
 
-    first_holds : is_model bits (copy_clauses c f g first_copy line) ≡ true
-    first_holds = copy_holds first_copy (λ gate is free parity. gate_parts_carry c f g x y line inside relevant first_copy gate is (ap is_none free) parity)
+    first_holds : is_model bits (copy_clauses c f g First line) ≡ true
+    first_holds = copy_holds First (λ gate is free parity. gate_parts_carry c f g x y line inside relevant First gate is (ap is_none free) parity)
 
-    second_holds : is_split c f g line ≡ true → is_model bits (copy_clauses c f g second_copy line) ≡ true
+    second_holds : is_split c f g line ≡ true → is_model bits (copy_clauses c f g Second line) ≡ true
     second_holds split =
-        copy_holds second_copy (λ gate is free parity. gate_parts_carry c f g x y line inside relevant second_copy gate is (and_from (is_split c f g line) (is_none (stuck_stem g line)) split (ap is_none free)) parity)
+        copy_holds Second (λ gate is free parity. gate_parts_carry c f g x y line inside relevant Second gate is (and_from (is_split c f g line) (is_none (stuck_stem g line)) split (ap is_none free)) parity)
 
     line_holds : is_model bits (line_clauses c f g line) ≡ true
     unfolding line_clauses
-    line_holds = model_both bits (copy_clauses c f g first_copy line) (if is_split c f g line then copy_clauses c f g second_copy line else []) first_holds (by (is_split c f g line) refl)
+    line_holds = model_both bits (copy_clauses c f g First line) (if is_split c f g line then copy_clauses c f g Second line else []) first_holds (by (is_split c f g line) refl)
       where
-        by : (s : Bool) → is_split c f g line ≡ s → is_model bits (if s then copy_clauses c f g second_copy line else []) ≡ true
+        by : (s : Bool) → is_split c f g line ≡ s → is_model bits (if s then copy_clauses c f g Second line else []) ≡ true
         by true split = second_holds split
         by false split = refl
 
@@ -127,14 +128,14 @@ module _ (c : Circuit) (w : IsCircuit c) (f g : Fault) (v x y : List Bool) (a : 
       let line = get_or c.positions at 0 in
       let inside : line < line_count c = w.positions at 0 h in
       let relevant = relevant_shown c f g at h reached in
-      let first : unwrap_or (stuck_position f at) (copy_bit c f g bits first_copy line) ≡ bit_at (shown_bits c f x) at = ap (unwrap_or (stuck_position f at)) (sym (first_carries line inside relevant)) ∙ sym (at_position c f x at h) in
-      let second : unwrap_or (stuck_position g at) (copy_bit c f g bits second_copy line) ≡ bit_at (shown_bits c g y) at = ap (unwrap_or (stuck_position g at)) (sym (second_carries line inside relevant)) ∙ sym (at_position c g y at h) in
-      gate_rows-complete bits Xor (difference_variable c f g at) 0 (shown_operand c f g at first_copy ∷ shown_operand c f g at second_copy ∷ []) refl
-      (λ parity. no_helpers bits (shown_operand c f g at first_copy) (shown_operand c f g at second_copy))
+      let first : unwrap_or (stuck_position f at) (copy_bit c f g bits First line) ≡ bit_at (shown_bits c f x) at = ap (unwrap_or (stuck_position f at)) (sym (first_carries line inside relevant)) ∙ sym (at_position c f x at h) in
+      let second : unwrap_or (stuck_position g at) (copy_bit c f g bits Second line) ≡ bit_at (shown_bits c g y) at = ap (unwrap_or (stuck_position g at)) (sym (second_carries line inside relevant)) ∙ sym (at_position c g y at h) in
+      gate_rows-complete bits Xor (difference_variable c f g at) 0 (shown_operand c f g at First ∷ shown_operand c f g at Second ∷ [])
+      (λ parity. no_helpers bits (shown_operand c f g at First) (shown_operand c f g at Second))
       (difference_at c f g x y at h reached
       ∙ ((λ i. flip (sym first i) (sym second i))
-      ∙ (sym (odd_two (unwrap_or (stuck_position f at) (copy_bit c f g bits first_copy line)) (unwrap_or (stuck_position g at) (copy_bit c f g bits second_copy line)))
-      ∙ (λ i. odd_ones (sym (operand_carries c f g bits first_copy (stuck_position f at) line) i ∷ sym (operand_carries c f g bits second_copy (stuck_position g at) line) i ∷ [])))))
+      ∙ (sym (odd_two (unwrap_or (stuck_position f at) (copy_bit c f g bits First line)) (unwrap_or (stuck_position g at) (copy_bit c f g bits Second line)))
+      ∙ (λ i. odd_ones (sym (operand_carries c f g bits First (stuck_position f at) line) i ∷ sym (operand_carries c f g bits Second (stuck_position g at) line) i ∷ [])))))
 
   module _ (differ : shown_bits c f x ≢ shown_bits c g y) where
     shown_alike_long : length (shown_bits c f x) ≡ length (shown_bits c g y)
@@ -160,13 +161,13 @@ module _ (c : Circuit) (w : IsCircuit c) (f g : Fault) (v x y : List Bool) (a : 
     raw_holds : is_model bits (raw_clauses c f g) ≡ true
     unfolding raw_clauses
     raw_holds =
-        let line_part = flat_map (line_clauses c f g) (relevant_lines c f g) in
-        let difference_part = flat_map (difference_clauses c f g) (reached_positions c f g) in
-        model_both bits (line_part ++ difference_part) (map (λ at. pos_literal (difference_variable c f g at)) (reached_positions c f g) ∷ [])
-        (model_both bits line_part difference_part
+        let rows = flat_map (difference_clauses c f g) (reached_positions c f g) in
+        let some = map (λ at. pos_literal (difference_variable c f g at)) (reached_positions c f g) in
+        model_both bits (lines_part c f g) (differences_part c f g)
         (model_all bits (line_clauses c f g) (relevant_lines c f g) (λ line m. let h = listed_relevant c f g line m in line_holds line h.0 h.1))
-        (model_all bits (difference_clauses c f g) (reached_positions c f g) (λ at m. let h = listed_reached c f g at m in difference_holds at h.0 h.1)))
-        (and_from (is_satisfied_by bits (map (λ at. pos_literal (difference_variable c f g at)) (reached_positions c f g))) true some_holds refl)
+        (model_both bits rows (some ∷ [])
+        (model_all bits (difference_clauses c f g) (reached_positions c f g) (λ at m. let h = listed_reached c f g at m in difference_holds at h.0 h.1))
+        (and_from (is_satisfied_by bits some) true some_holds refl))
 
 pub separated_has_model : (c : Circuit) (f g : Fault) (v : List Bool) → IsCircuit c → Separates c v f g → HasModel c f g
 unfolding miter

@@ -1,19 +1,20 @@
 -- The clauses of a line in a copy hold exactly where the line's variable carries the line's bit in the valuation of
 -- that copy, given that the variables of the lines that it reads do.
-use Rattle.std.proofs.Common.{◌≡◌, ◌∙◌, ℕ, suc, ◌+◌, ◌-◌, ◌<◌, refl, sym, ap}
-use Rattle.std.specs.Prelude.{Bool, true, false, not, List, [], ◌∷◌, map, length, Option, None, Some, Contains, ◌||◌, ◌&&◌, slice_get, nat_lt, unwrap_or, IsTrue, if◌then◌else◌}
+use Rattle.std.proofs.Common.{◌≡◌, ◌∙◌, ℕ, suc, ◌+◌, ◌<◌, refl, sym, ap}
+use Rattle.std.specs.Prelude.{Bool, true, false, not, List, [], ◌∷◌, map, length, Option, None, Some, Contains, ◌||◌, ◌&&◌, unwrap_or}
 use Rattle.std.specs.Option.{option_map_or}
 use Rattle.std.specs.List.{enumerate_from}
 use Rattle.net_model.specs.declared.gate.Gate.{Gate}
 use Rattle.net_model.specs.declared.fault.Fault.{Fault}
-use Rattle.net_model.specs.Gate.{gate_value, takes_pins}
+use Rattle.net_model.specs.Gate.{gate_value}
 use Rattle.net_model.specs.Circuit.{Circuit, IsCircuit, line_count, gate_at, Feeds}
 use Rattle.net_model.specs.Fault.{stuck_stem, stuck_pin, readings}
 use Rattle.net_model.specs.Answer.{bit_at, seen_bits, driven_bit, line_bit, Agrees}
-use Rattle.net_model.proofs.Copies.{same_readings, All-at, map-readings}
+use Rattle.net_model.proofs.Copies.{same_readings, map-readings}
 use Rattle.clause_pool.specs.Clauses.{Clause}
-use Rattle.pair_miter.specs.Variables.{Copy, fault_of, line_variable, first_helper, is_parity}
-use Rattle.pair_miter.specs.Rows.{variables, output_literal}
+use Rattle.pair_miter.specs.Variables.{fault_of, line_variable, first_helper, is_parity}
+use Rattle.pair_miter.specs.declared.side.Side.{Side}
+use Rattle.pair_miter.specs.Rows.{variables, signed_literal}
 use Rattle.pair_miter.specs.Miter.{operand_of, gate_operands, gate_clauses, stuck_clauses, copy_clauses, is_model, copy_bit}
 use Rattle.pair_miter.proofs.Bits.{holds, holds-is, is-holds}
 use Rattle.pair_miter.proofs.GateRows.{operand_value, Carry, variable_bits, helper_bits, gate_rows-sound, gate_rows-complete, unit_true}
@@ -26,15 +27,7 @@ pub length-readings : {A : Type 0} (read : ℕ → ℕ → A) (lines : List ℕ)
 unfolding readings
 length-readings read lines = length_pairs read 0 lines
 
--- a gate's kind takes as many pins as it has
-gate_arity : (c : Circuit) → IsCircuit c → (line : ℕ) (gate : Gate) → gate_at c line ≡ Some gate → IsTrue (takes_pins gate.kind (length gate.pins))
-gate_arity c w line gate e = by (nat_lt line c.sources) e
-  where
-    by : (b : Bool) → (if b then None else slice_get c.gates (line - c.sources)) ≡ Some gate → IsTrue (takes_pins gate.kind (length gate.pins))
-    by true e = cc
-    by false e = All-at (λ g. IsTrue (takes_pins g.kind (length g.pins))) c.gates (line - c.sources) gate w.arities e
-
-module _ (c : Circuit) (f g : Fault) (bits : List Bool) (copy : Copy) where
+module _ (c : Circuit) (f g : Fault) (bits : List Bool) (copy : Side) where
   -- what a reader carries
   pub operand_carries : (stuck : Option Bool) (read : ℕ) → operand_value bits (operand_of c f g copy stuck read) ≡ unwrap_or stuck (copy_bit c f g bits copy read)
   operand_carries None read = refl
@@ -48,11 +41,8 @@ module _ (c : Circuit) (f g : Fault) (bits : List Bool) (copy : Copy) where
         ∙ same_readings (λ pin read. operand_value bits (operand_of c f g copy (stuck_pin (fault_of c f g copy) line pin) read)) (λ pin read. unwrap_or (stuck_pin (fault_of c f g copy) line pin) (bit_at z read)) gate.pins
         (λ pin read m. operand_carries (stuck_pin (fault_of c f g copy) line pin) read ∙ ap (unwrap_or (stuck_pin (fault_of c f g copy) line pin)) (sym (lines read m)))
 
-    arity : (gate : Gate) → gate_at c line ≡ Some gate → IsTrue (takes_pins gate.kind (length (gate_operands c f g copy line gate)))
-    arity gate e = ap (takes_pins gate.kind) (length-readings (λ pin read. operand_of c f g copy (stuck_pin (fault_of c f g copy) line pin) read) gate.pins) ∙ gate_arity c w line gate e
-
     stuck_holds : (b : Bool) → is_model bits (stuck_clauses c f g copy line b) ≡ holds (copy_bit c f g bits copy line) b
-    stuck_holds true = unit_true bits (output_literal false (line_variable c f g copy line))
+    stuck_holds true = unit_true bits (signed_literal true (line_variable c f g copy line))
     stuck_holds false = by (copy_bit c f g bits copy line)
       where
         by : (b : Bool) → ((not b || false) && true) ≡ holds b false
@@ -78,7 +68,7 @@ module _ (c : Circuit) (f g : Fault) (bits : List Bool) (copy : Copy) where
     sound_by None None is e lines source = source refl refl
     sound_by None (Some gate) is e lines source =
         ap (gate_value gate.kind) (sym (operands_carry gate lines))
-        ∙ sym (gate_rows-sound bits gate.kind (line_variable c f g copy line) (first_helper c f g copy line) (gate_operands c f g copy line gate) (arity gate is) e)
+        ∙ sym (gate_rows-sound bits gate.kind (line_variable c f g copy line) (first_helper c f g copy line) (gate_operands c f g copy line gate) e)
 
     complete_by : (stem : Option Bool) (gate : Option Gate) → gate_at c line ≡ gate → line_is stem gate ≡ copy_bit c f g bits copy line
         → ((read : ℕ) → reads gate read → bit_at z read ≡ copy_bit c f g bits copy read)
@@ -88,7 +78,7 @@ module _ (c : Circuit) (f g : Fault) (bits : List Bool) (copy : Copy) where
     complete_by (Some b) gate is e lines helpers = stuck_holds b ∙ is-holds (copy_bit c f g bits copy line) b (sym e)
     complete_by None None is e lines helpers = refl
     complete_by None (Some gate) is e lines helpers =
-        gate_rows-complete bits gate.kind (line_variable c f g copy line) (first_helper c f g copy line) (gate_operands c f g copy line gate) (arity gate is) (helpers gate refl refl)
+        gate_rows-complete bits gate.kind (line_variable c f g copy line) (first_helper c f g copy line) (gate_operands c f g copy line gate) (helpers gate refl refl)
         (sym e ∙ ap (gate_value gate.kind) (sym (operands_carry gate lines)))
 
     -- where the clauses hold, the variable carries the line's bit

@@ -1,28 +1,31 @@
 -- The rows of a gate hold exactly where the output has the gate's value on what the operands carry. Only an exclusive
 -- or of three variables or more asks more of an assignment: that the helpers carry the parts before.
-use Rattle.std.proofs.Common.{◌≡◌, refl, sym, ap, ◌∙◌, subst, ℕ, suc, ◌+◌, ◌-◌, ◌<◌, arith}
-use Rattle.std.specs.Prelude.{Bool, true, false, not, List, [], ◌∷◌, length, map, ◌||◌, ◌&&◌, if◌then◌else◌, IsTrue}
+use Rattle.std.proofs.Common.{◌≡◌, refl, sym, ap, ◌∙◌, subst, ℕ, zero, suc, ◌+◌, ◌-◌, ◌<◌, arith}
+use Rattle.std.specs.Prelude.{Bool, true, false, not, List, [], ◌∷◌, ◌++◌, length, map, slice_index_or, ◌||◌, ◌&&◌, if◌then◌else◌}
+use Rattle.std.specs.Bool.{beq}
 use Rattle.std.specs.List.{list_any}
-use Rattle.std.proofs.lemmas.List.Folds.{list_all-append}
-use Rattle.std.proofs.Math.Bool.{or-true}
+use Rattle.std.proofs.lemmas.List.Folds.{list_all-append, list_any-append}
+use Rattle.std.proofs.Math.Bool.{or-true, or-false}
 use Rattle.std.proofs.lemmas.Bool.{and_parts, and_from}
 use Rattle.net_model.specs.declared.gate.Kind.{Kind}
-use Rattle.net_model.specs.declared.gate.Kind.TheVariants.{And, Nand, Or, Nor, Xor, Xnor, Not, Buff}
-use Rattle.net_model.specs.Gate.{all_ones, some_one, odd_ones, gate_value, takes_pins}
+use Rattle.net_model.specs.declared.operation.Fold.{Fold}
+use Rattle.net_model.specs.declared.operation.Fold.TheVariants.{AllOf, AnyOf, OddOf}
+use Rattle.net_model.specs.declared.operation.Operation.{Operation}
+use Rattle.net_model.specs.declared.operation.Operation.TheVariants.{Folded, Chosen}
+use Rattle.net_model.specs.Gate.{all_ones, some_one, odd_ones, chosen_bit, folded_bit, operation_value, operation_of, inverts, gate_value}
 use Rattle.net_model.specs.Answer.{bit_at}
-use Rattle.clause_pool.specs.Literal.{Literal, pos_literal, neg_literal, opposite}
-use Rattle.pair_miter.specs.Variables.{is_parity}
-use Rattle.pair_miter.specs.declared.operand.Operand.{Operand}
-use Rattle.pair_miter.specs.declared.operand.Operand.TheVariants.{Constant, Variable}
-use Rattle.pair_miter.specs.Rows.{constants, variables, has_constant, and_of, or_of, same_value, xor_of_two, xor_onward, xor_of, buffer_of, and_rows, or_rows, output_literal, xor_rows, gate_rows}
+use Rattle.clause_pool.specs.Literal.{Literal, pos_literal, opposite}
+use Rattle.pair_miter.specs.Variables.{is_parity, is_parity_fold, is_parity_operation}
+use Rattle.pair_miter.specs.Operand.{Operand, constant, variable, is_constant}
+use Rattle.pair_miter.specs.Rows.{variables, has_constant, has_odd_constants, signed_literal, with_each, decided_of, decided_rows, same_value, xor_of_two, xor_onward, xor_of, odd_rows, operand_literals, case_clause, case_rows, operand_at, chosen_rows, folded_rows, operation_rows, output_literal, gate_rows}
 use Rattle.pair_miter.specs.Miter.{literal_bit, is_satisfied_by, is_model}
 use Rattle.pair_miter.proofs.TidyAndFresh.{opposite_bit}
-use Rattle.pair_miter.proofs.Bits.{holds, holds-is, is-holds, not_is, is_not, flip, flip-false, flip-assoc, flip-inner, flip_back, flip_on, odd_ones-cons}
+use Rattle.pair_miter.proofs.Bits.{holds, holds-is, is-holds, flip, flip-false, flip-assoc, flip-inner, flip_back, flip_on, odd_count-cons, odd_ones-cons}
 
 -- what an operand carries
 abbrev pub operand_value : List Bool → Operand → Bool
-operand_value bits (Constant b) = b
-operand_value bits (Variable x) = bit_at bits (x - 1)
+operand_value bits (constant b) = b
+operand_value bits (variable x) = bit_at bits (x - 1)
 
 -- ---- helpers
 
@@ -54,65 +57,47 @@ module _ (bits : List Bool) where
   abbrev pub variable_bits : List ℕ → List Bool
   variable_bits xs = map (λ x. bit_at bits (x - 1)) xs
 
-  -- ---- and, or
+  -- ---- all and any
 
-  not_or_step : (y v a : Bool) → ((not y || (v || false)) && (not y || a)) ≡ (not y || (v && a))
-  not_or_step true true a = refl
-  not_or_step true false a = refl
-  not_or_step false v a = refl
+  or_not_step : (y u v a : Bool) → u ≡ not v → ((y || (u || false)) && (y || not a)) ≡ (y || not (v || a))
+  or_not_step true u v a e = refl
+  or_not_step false true true a e = cc
+  or_not_step false true false a e = refl
+  or_not_step false false true a e = refl
+  or_not_step false false false a e = cc
 
-  or_not_step : (y v a : Bool) → ((y || (not v || false)) && (y || not a)) ≡ (y || not (v || a))
-  or_not_step true v a = refl
-  or_not_step false true a = refl
-  or_not_step false false a = refl
+  not_holds : (d v : Bool) → holds (not d) v ≡ not (holds d v)
+  not_holds true v = refl
+  not_holds false true = refl
+  not_holds false false = refl
 
-  each_implied : (y : Literal) (xs : List ℕ) → is_model bits (map (λ x. opposite y ∷ pos_literal x ∷ []) xs) ≡ (not (literal_bit bits y) || all_ones (variable_bits xs))
-  each_implied y [] = sym (or-true (not (literal_bit bits y)))
-  each_implied y (x ∷ xs) =
-      (λ i. (opposite_bit bits y i || (bit_at bits (x - 1) || false)) && each_implied y xs i)
-      ∙ not_or_step (literal_bit bits y) (bit_at bits (x - 1)) (all_ones (variable_bits xs))
+  -- whether some variable carries the deciding value
+  is_decided : Bool → List Bool → Bool
+  is_decided decides vs = list_any (holds decides) vs
 
-  each_implies : (y : Literal) (xs : List ℕ) → is_model bits (map (λ x. y ∷ neg_literal x ∷ []) xs) ≡ (literal_bit bits y || not (some_one (variable_bits xs)))
-  each_implies y [] = sym (or-true (literal_bit bits y))
-  each_implies y (x ∷ xs) =
-      ap (λ b. (literal_bit bits y || (not (bit_at bits (x - 1)) || false)) && b) (each_implies y xs)
-      ∙ or_not_step (literal_bit bits y) (bit_at bits (x - 1)) (some_one (variable_bits xs))
+  each_decides : (decides : Bool) (l : Literal) (xs : List ℕ) → is_model bits (with_each l (not decides) xs) ≡ (literal_bit bits l || not (is_decided decides (variable_bits xs)))
+  unfolding is_decided
+  each_decides decides l [] = sym (or-true (literal_bit bits l))
+  each_decides decides l (x ∷ xs) =
+      ap (λ b. (literal_bit bits l || (holds (not decides) (bit_at bits (x - 1)) || false)) && b) (each_decides decides l xs)
+      ∙ or_not_step (literal_bit bits l) (holds (not decides) (bit_at bits (x - 1))) (holds decides (bit_at bits (x - 1))) (list_any (holds decides) (variable_bits xs)) (not_holds decides (bit_at bits (x - 1)))
 
-  not_and : (a b : Bool) → (not a || not b) ≡ not (a && b)
-  not_and true b = refl
-  not_and false b = refl
+  some_decides : (decides : Bool) (xs : List ℕ) → list_any (literal_bit bits) (map (signed_literal decides) xs) ≡ is_decided decides (variable_bits xs)
+  unfolding is_decided
+  some_decides decides [] = refl
+  some_decides decides (x ∷ xs) = ap (λ b. holds decides (bit_at bits (x - 1)) || b) (some_decides decides xs)
 
-  some_negated : (xs : List ℕ) → list_any (literal_bit bits) (map neg_literal xs) ≡ not (all_ones (variable_bits xs))
-  some_negated [] = refl
-  some_negated (x ∷ xs) = ap (λ b. not (bit_at bits (x - 1)) || b) (some_negated xs) ∙ not_and (bit_at bits (x - 1)) (all_ones (variable_bits xs))
+  decided_table : (y a : Bool) → ((y || not a) && ((not y || a) && true)) ≡ holds y a
+  decided_table true true = refl
+  decided_table true false = refl
+  decided_table false true = refl
+  decided_table false false = refl
 
-  some_positive : (xs : List ℕ) → list_any (literal_bit bits) (map pos_literal xs) ≡ some_one (variable_bits xs)
-  some_positive [] = refl
-  some_positive (x ∷ xs) = ap (λ b. bit_at bits (x - 1) || b) (some_positive xs)
-
-  and_table : (y a : Bool) → ((not y || a) && ((y || not a) && true)) ≡ holds y a
-  and_table true true = refl
-  and_table true false = refl
-  and_table false true = refl
-  and_table false false = refl
-
-  or_table : (y a : Bool) → ((y || not a) && ((not y || a) && true)) ≡ holds y a
-  or_table true true = refl
-  or_table true false = refl
-  or_table false true = refl
-  or_table false false = refl
-
-  and_of-holds : (y : Literal) (xs : List ℕ) → is_model bits (and_of y xs) ≡ holds (literal_bit bits y) (all_ones (variable_bits xs))
-  and_of-holds y xs =
-      list_all-append (is_satisfied_by bits) (map (λ x. opposite y ∷ pos_literal x ∷ []) xs) ((y ∷ map neg_literal xs) ∷ [])
-      ∙ (λ i. each_implied y xs i && ((literal_bit bits y || some_negated xs i) && true))
-      ∙ and_table (literal_bit bits y) (all_ones (variable_bits xs))
-
-  or_of-holds : (y : Literal) (xs : List ℕ) → is_model bits (or_of y xs) ≡ holds (literal_bit bits y) (some_one (variable_bits xs))
-  or_of-holds y xs =
-      list_all-append (is_satisfied_by bits) (map (λ x. y ∷ neg_literal x ∷ []) xs) ((opposite y ∷ map pos_literal xs) ∷ [])
-      ∙ (λ i. each_implies y xs i && ((opposite_bit bits y i || some_positive xs i) && true))
-      ∙ or_table (literal_bit bits y) (some_one (variable_bits xs))
+  decided_of-holds : (decides : Bool) (l : Literal) (xs : List ℕ) → is_model bits (decided_of decides l xs) ≡ holds (literal_bit bits l) (is_decided decides (variable_bits xs))
+  decided_of-holds decides l xs =
+      list_all-append (is_satisfied_by bits) (with_each l (not decides) xs) ((opposite l ∷ map (signed_literal decides) xs) ∷ [])
+      ∙ (λ i. each_decides decides l xs i && ((opposite_bit bits l i || some_decides decides xs i) && true))
+      ∙ decided_table (literal_bit bits l) (is_decided decides (variable_bits xs))
 
   pub unit_true : (y : Literal) → is_model bits ((y ∷ []) ∷ []) ≡ holds (literal_bit bits y) true
   unit_true y = by (literal_bit bits y)
@@ -128,47 +113,57 @@ module _ (bits : List Bool) where
       by true = refl
       by false = refl
 
-  and_through : (v h a : Bool) → (v && (if h then false else a)) ≡ (if h then false else (v && a))
-  and_through true h a = refl
-  and_through false true a = refl
-  and_through false false a = refl
-
   or_through : (v h a : Bool) → (v || (if h then true else a)) ≡ (if h then true else (v || a))
   or_through true true a = refl
   or_through true false a = refl
   or_through false h a = refl
 
-  all_of_operands : (operands : List Operand) → all_ones (map (operand_value bits) operands) ≡ (if has_constant false operands then false else all_ones (variable_bits (variables operands)))
-  all_of_operands [] = refl
-  all_of_operands (Constant true ∷ operands) = all_of_operands operands
-  all_of_operands (Constant false ∷ operands) = refl
-  all_of_operands (Variable x ∷ operands) =
-      ap (λ b. bit_at bits (x - 1) && b) (all_of_operands operands)
-      ∙ and_through (bit_at bits (x - 1)) (has_constant false operands) (all_ones (variable_bits (variables operands)))
+  decided_operands : (decides : Bool) (operands : List Operand) → is_decided decides (map (operand_value bits) operands) ≡ (if has_constant decides operands then true else is_decided decides (variable_bits (variables operands)))
+  unfolding is_decided
+  decided_operands decides [] = refl
+  decided_operands true (constant true ∷ operands) = refl
+  decided_operands true (constant false ∷ operands) = decided_operands true operands
+  decided_operands false (constant true ∷ operands) = decided_operands false operands
+  decided_operands false (constant false ∷ operands) = refl
+  decided_operands decides (variable x ∷ operands) =
+      ap (λ b. holds decides (bit_at bits (x - 1)) || b) (decided_operands decides operands)
+      ∙ or_through (holds decides (bit_at bits (x - 1))) (has_constant decides operands) (is_decided decides (variable_bits (variables operands)))
 
-  some_of_operands : (operands : List Operand) → some_one (map (operand_value bits) operands) ≡ (if has_constant true operands then true else some_one (variable_bits (variables operands)))
-  some_of_operands [] = refl
-  some_of_operands (Constant true ∷ operands) = refl
-  some_of_operands (Constant false ∷ operands) = some_of_operands operands
-  some_of_operands (Variable x ∷ operands) =
-      ap (λ b. bit_at bits (x - 1) || b) (some_of_operands operands)
-      ∙ or_through (bit_at bits (x - 1)) (has_constant true operands) (some_one (variable_bits (variables operands)))
-
-  and_rows-holds : (y : Literal) (operands : List Operand) → is_model bits (and_rows y operands) ≡ holds (literal_bit bits y) (all_ones (map (operand_value bits) operands))
-  and_rows-holds y operands = by (has_constant false operands) ∙ ap (holds (literal_bit bits y)) (sym (all_of_operands operands))
+  decided_rows-holds : (decides : Bool) (l : Literal) (operands : List Operand) → is_model bits (decided_rows decides l operands) ≡ holds (literal_bit bits l) (is_decided decides (map (operand_value bits) operands))
+  decided_rows-holds decides l operands = by (has_constant decides operands) ∙ ap (holds (literal_bit bits l)) (sym (decided_operands decides operands))
     where
-      by : (b : Bool) → is_model bits (if b then (opposite y ∷ []) ∷ [] else and_of y (variables operands)) ≡ holds (literal_bit bits y) (if b then false else all_ones (variable_bits (variables operands)))
-      by true = unit_false y
-      by false = and_of-holds y (variables operands)
+      by : (b : Bool) → is_model bits (if b then (l ∷ []) ∷ [] else decided_of decides l (variables operands)) ≡ holds (literal_bit bits l) (if b then true else is_decided decides (variable_bits (variables operands)))
+      by true = unit_true l
+      by false = decided_of-holds decides l (variables operands)
 
-  or_rows-holds : (y : Literal) (operands : List Operand) → is_model bits (or_rows y operands) ≡ holds (literal_bit bits y) (some_one (map (operand_value bits) operands))
-  or_rows-holds y operands = by (has_constant true operands) ∙ ap (holds (literal_bit bits y)) (sym (some_of_operands operands))
-    where
-      by : (b : Bool) → is_model bits (if b then (y ∷ []) ∷ [] else or_of y (variables operands)) ≡ holds (literal_bit bits y) (if b then true else some_one (variable_bits (variables operands)))
-      by true = unit_true y
-      by false = or_of-holds y (variables operands)
+  -- all are 1 where none is 0
+  none_is_zero : (vs : List Bool) → not (is_decided false vs) ≡ all_ones vs
+  unfolding is_decided
+  none_is_zero [] = refl
+  none_is_zero (true ∷ vs) = none_is_zero vs
+  none_is_zero (false ∷ vs) = refl
 
-  -- ---- one operand
+  one_is_one : (vs : List Bool) → is_decided true vs ≡ some_one vs
+  unfolding is_decided
+  one_is_one [] = refl
+  one_is_one (v ∷ vs) = ap (λ b. v || b) (one_is_one vs)
+
+  holds-not : (a b : Bool) → holds (not a) b ≡ holds a (not b)
+  holds-not true b = refl
+  holds-not false true = refl
+  holds-not false false = refl
+
+  all_rows-holds : (y : Literal) (operands : List Operand) → is_model bits (decided_rows false (opposite y) operands) ≡ holds (literal_bit bits y) (all_ones (map (operand_value bits) operands))
+  all_rows-holds y operands =
+      let values = map (operand_value bits) operands in
+      decided_rows-holds false (opposite y) operands
+      ∙ (ap (λ b. holds b (is_decided false values)) (opposite_bit bits y)
+      ∙ (holds-not (literal_bit bits y) (is_decided false values) ∙ ap (holds (literal_bit bits y)) (none_is_zero values)))
+
+  any_rows-holds : (y : Literal) (operands : List Operand) → is_model bits (decided_rows true y operands) ≡ holds (literal_bit bits y) (some_one (map (operand_value bits) operands))
+  any_rows-holds y operands = decided_rows-holds true y operands ∙ ap (holds (literal_bit bits y)) (one_is_one (map (operand_value bits) operands))
+
+  -- ---- one variable
 
   same_table : (y v : Bool) → ((not y || (v || false)) && ((y || (not v || false)) && true)) ≡ holds y v
   same_table true true = refl
@@ -180,11 +175,6 @@ module _ (bits : List Bool) where
   same_value-holds y x =
       (λ i. (opposite_bit bits y i || (bit_at bits (x - 1) || false)) && ((literal_bit bits y || (not (bit_at bits (x - 1)) || false)) && true))
       ∙ same_table (literal_bit bits y) (bit_at bits (x - 1))
-
-  buffer_of-holds : (y : Literal) (operand : Operand) (operands : List Operand) → is_model bits (buffer_of y (operand ∷ operands)) ≡ holds (literal_bit bits y) (operand_value bits operand)
-  buffer_of-holds y (Constant true) operands = unit_true y
-  buffer_of-holds y (Constant false) operands = unit_false y
-  buffer_of-holds y (Variable x) operands = same_value-holds y x
 
   -- ---- exclusive or
 
@@ -262,68 +252,138 @@ module _ (bits : List Bool) where
   xor_of-complete y helper (x ∷ x' ∷ xs) carry e =
       xor_onward-complete y helper (pos_literal x) x' xs carry (e ∙ odd_ones-cons (bit_at bits (x - 1)) (variable_bits (x' ∷ xs)))
 
-  odd_of_operands : (operands : List Operand) → odd_ones (map (operand_value bits) operands) ≡ flip (odd_ones (constants operands)) (odd_ones (variable_bits (variables operands)))
+  odd_of_operands : (operands : List Operand) → odd_ones (map (operand_value bits) operands) ≡ flip (has_odd_constants operands) (odd_ones (variable_bits (variables operands)))
   odd_of_operands [] = refl
-  odd_of_operands (Constant b ∷ operands) =
+  odd_of_operands (constant b ∷ operands) =
       odd_ones-cons b (map (operand_value bits) operands)
       ∙ (ap (flip b) (odd_of_operands operands)
-      ∙ (sym (flip-assoc b (odd_ones (constants operands)) (odd_ones (variable_bits (variables operands))))
-      ∙ ap (λ o. flip o (odd_ones (variable_bits (variables operands)))) (sym (odd_ones-cons b (constants operands)))))
-  odd_of_operands (Variable x ∷ operands) =
+      ∙ (sym (flip-assoc b (has_odd_constants operands) (odd_ones (variable_bits (variables operands))))
+      ∙ ap (λ o. flip o (odd_ones (variable_bits (variables operands)))) (ap (λ t. flip t (has_odd_constants operands)) (sym (is_one b)) ∙ sym (odd_count-cons (is_constant true) (constant b) operands))))
+    where
+      is_one : (b : Bool) → beq b true ≡ b
+      is_one true = refl
+      is_one false = refl
+  odd_of_operands (variable x ∷ operands) =
       odd_ones-cons (bit_at bits (x - 1)) (map (operand_value bits) operands)
       ∙ (ap (flip (bit_at bits (x - 1))) (odd_of_operands operands)
-      ∙ (flip-inner (bit_at bits (x - 1)) (odd_ones (constants operands)) (odd_ones (variable_bits (variables operands)))
-      ∙ ap (flip (odd_ones (constants operands))) (sym (odd_ones-cons (bit_at bits (x - 1)) (variable_bits (variables operands))))))
+      ∙ (flip-inner (bit_at bits (x - 1)) (has_odd_constants operands) (odd_ones (variable_bits (variables operands)))
+      ∙ ((λ i. flip (sym (odd_count-cons (is_constant true) (variable x) operands) i) (sym (odd_ones-cons (bit_at bits (x - 1)) (variable_bits (variables operands))) i)))))
 
-  -- ---- outputs
+  turned_bit : (turned : Bool) (y : Literal) → literal_bit bits (if turned then opposite y else y) ≡ flip turned (literal_bit bits y)
+  turned_bit true y = opposite_bit bits y
+  turned_bit false y = refl
+
+  odd_rows-sound : (y : Literal) (helper : ℕ) (operands : List Operand) → is_model bits (odd_rows y helper operands) ≡ true → literal_bit bits y ≡ odd_ones (map (operand_value bits) operands)
+  odd_rows-sound y helper operands e =
+      let p = has_odd_constants operands in
+      let out : Literal = if p then opposite y else y in
+      flip_back p (literal_bit bits y) (odd_ones (variable_bits (variables operands))) (sym (turned_bit p y) ∙ xor_of-sound out helper (variables operands) e) ∙ sym (odd_of_operands operands)
+
+  odd_rows-complete : (y : Literal) (helper : ℕ) (operands : List Operand) → Carry helper (helper_bits (variable_bits (variables operands)))
+      → literal_bit bits y ≡ odd_ones (map (operand_value bits) operands) → is_model bits (odd_rows y helper operands) ≡ true
+  odd_rows-complete y helper operands carry e =
+      let p = has_odd_constants operands in
+      let out : Literal = if p then opposite y else y in
+      xor_of-complete out helper (variables operands) carry (turned_bit p y ∙ flip_on p (literal_bit bits y) (odd_ones (variable_bits (variables operands))) (e ∙ odd_of_operands operands))
+
+  -- ---- a choice
+
+  -- an operand with a sign holds as a constant or by its literal
+  operand_holds : (positive : Bool) (operand : Operand) → (is_constant positive operand || list_any (literal_bit bits) (operand_literals positive operand)) ≡ holds positive (operand_value bits operand)
+  operand_holds true (constant true) = refl
+  operand_holds true (constant false) = refl
+  operand_holds false (constant true) = refl
+  operand_holds false (constant false) = refl
+  operand_holds positive (variable x) = or-false (holds positive (bit_at bits (x - 1)))
+
+  case_clause-holds : (l : Literal) (unless : Bool) (chooser : Operand) (positive : Bool) (chosen : Operand)
+      → is_model bits (case_clause l unless chooser positive chosen) ≡ (literal_bit bits l || (holds unless (operand_value bits chooser) || holds positive (operand_value bits chosen)))
+  case_clause-holds l unless chooser positive chosen =
+      by (is_constant unless chooser) (is_constant positive chosen) ∙ (λ i. literal_bit bits l || (operand_holds unless chooser i || operand_holds positive chosen i))
+    where
+      by : (s t : Bool) → is_model bits (if s || t then [] else (l ∷ operand_literals unless chooser ++ operand_literals positive chosen) ∷ [])
+          ≡ (literal_bit bits l || ((s || list_any (literal_bit bits) (operand_literals unless chooser)) || (t || list_any (literal_bit bits) (operand_literals positive chosen))))
+      by true t = sym (or-true (literal_bit bits l))
+      by false true = sym (ap (λ b. literal_bit bits l || b) (or-true (list_any (literal_bit bits) (operand_literals unless chooser))) ∙ or-true (literal_bit bits l))
+      by false false = and_true (literal_bit bits l || list_any (literal_bit bits) (operand_literals unless chooser ++ operand_literals positive chosen)) ∙ ap (λ b. literal_bit bits l || b) (list_any-append (literal_bit bits) (operand_literals unless chooser) (operand_literals positive chosen))
+        where
+          and_true : (b : Bool) → (b && true) ≡ b
+          and_true true = refl
+          and_true false = refl
+
+  case_table : (y c v : Bool) → ((not y || (c || v)) && (y || (c || not v))) ≡ (c || holds y v)
+  case_table true true v = refl
+  case_table true false true = refl
+  case_table true false false = refl
+  case_table false true v = refl
+  case_table false false true = refl
+  case_table false false false = refl
+
+  case_rows-holds : (y : Literal) (unless : Bool) (chooser chosen : Operand) → is_model bits (case_rows y unless chooser chosen) ≡ (holds unless (operand_value bits chooser) || holds (literal_bit bits y) (operand_value bits chosen))
+  case_rows-holds y unless chooser chosen =
+      list_all-append (is_satisfied_by bits) (case_clause (opposite y) unless chooser true chosen) (case_clause y unless chooser false chosen)
+      ∙ ((λ i. case_clause-holds (opposite y) unless chooser true chosen i && case_clause-holds y unless chooser false chosen i)
+      ∙ ((λ i. (opposite_bit bits y i || (holds unless (operand_value bits chooser) || operand_value bits chosen)) && (literal_bit bits y || (holds unless (operand_value bits chooser) || not (operand_value bits chosen))))
+      ∙ case_table (literal_bit bits y) (holds unless (operand_value bits chooser)) (operand_value bits chosen)))
+
+  choice_table : (y s a b : Bool) → ((s || holds y a) && (not s || holds y b)) ≡ holds y (if s then b else a)
+  choice_table y true a b = refl
+  choice_table true false true b = refl
+  choice_table true false false b = refl
+  choice_table false false true b = refl
+  choice_table false false false b = refl
+
+  carried_at : (operands : List Operand) (place : ℕ) → slice_index_or (map (operand_value bits) operands) place false ≡ operand_value bits (operand_at operands place)
+  carried_at [] place = refl
+  carried_at (operand ∷ operands) zero = refl
+  carried_at (operand ∷ operands) (suc place) = carried_at operands place
+
+  chosen_rows-holds : (y : Literal) (operands : List Operand) → is_model bits (chosen_rows y operands) ≡ holds (literal_bit bits y) (chosen_bit (map (operand_value bits) operands))
+  chosen_rows-holds y operands =
+      let s = operand_at operands 0 in
+      let a = operand_at operands 1 in
+      let b = operand_at operands 2 in
+      list_all-append (is_satisfied_by bits) (case_rows y true s a) (case_rows y false s b)
+      ∙ ((λ i. case_rows-holds y true s a i && case_rows-holds y false s b i)
+      ∙ (choice_table (literal_bit bits y) (operand_value bits s) (operand_value bits a) (operand_value bits b)
+      ∙ (λ i. holds (literal_bit bits y) (if sym (carried_at operands 0) i then sym (carried_at operands 2) i else sym (carried_at operands 1) i))))
+
+  -- ---- gates
+
+  folded_rows-sound : (fold : Fold) (y : Literal) (helper : ℕ) (operands : List Operand) → is_model bits (folded_rows fold y helper operands) ≡ true → literal_bit bits y ≡ folded_bit fold (map (operand_value bits) operands)
+  folded_rows-sound AllOf y helper operands e = holds-is (literal_bit bits y) (all_ones (map (operand_value bits) operands)) (sym (all_rows-holds y operands) ∙ e)
+  folded_rows-sound AnyOf y helper operands e = holds-is (literal_bit bits y) (some_one (map (operand_value bits) operands)) (sym (any_rows-holds y operands) ∙ e)
+  folded_rows-sound OddOf y helper operands e = odd_rows-sound y helper operands e
+
+  operation_rows-sound : (operation : Operation) (y : Literal) (helper : ℕ) (operands : List Operand) → is_model bits (operation_rows operation y helper operands) ≡ true
+      → literal_bit bits y ≡ operation_value operation (map (operand_value bits) operands)
+  operation_rows-sound (Folded fold) y helper operands e = folded_rows-sound fold y helper operands e
+  operation_rows-sound Chosen y helper operands e = holds-is (literal_bit bits y) (chosen_bit (map (operand_value bits) operands)) (sym (chosen_rows-holds y operands) ∙ e)
 
   output_bit : (complemented : Bool) (y : ℕ) → literal_bit bits (output_literal complemented y) ≡ flip complemented (bit_at bits (y - 1))
   output_bit true y = refl
   output_bit false y = refl
 
-  xor_rows-sound : (complemented : Bool) (y helper : ℕ) (operands : List Operand) → is_model bits (xor_rows complemented y helper operands) ≡ true
-      → bit_at bits (y - 1) ≡ flip complemented (odd_ones (map (operand_value bits) operands))
-  xor_rows-sound complemented y helper operands e =
-      let p = odd_ones (constants operands) in
-      let odd = odd_ones (variable_bits (variables operands)) in
-      flip_back p complemented (bit_at bits (y - 1)) odd (sym (output_bit (flip p complemented) y) ∙ xor_of-sound (output_literal (flip p complemented) y) helper (variables operands) e)
-      ∙ ap (flip complemented) (sym (odd_of_operands operands))
-
-  xor_rows-complete : (complemented : Bool) (y helper : ℕ) (operands : List Operand) → Carry helper (helper_bits (variable_bits (variables operands)))
-      → bit_at bits (y - 1) ≡ flip complemented (odd_ones (map (operand_value bits) operands)) → is_model bits (xor_rows complemented y helper operands) ≡ true
-  xor_rows-complete complemented y helper operands carry e =
-      let p = odd_ones (constants operands) in
-      let odd = odd_ones (variable_bits (variables operands)) in
-      xor_of-complete (output_literal (flip p complemented) y) helper (variables operands) carry
-      (output_bit (flip p complemented) y ∙ flip_on p complemented (bit_at bits (y - 1)) odd (e ∙ ap (flip complemented) (odd_of_operands operands)))
-
-  -- ---- gates
-
-  pub gate_rows-sound : (kind : Kind) (y helper : ℕ) (operands : List Operand) → IsTrue (takes_pins kind (length operands)) → is_model bits (gate_rows kind y helper operands) ≡ true
-      → bit_at bits (y - 1) ≡ gate_value kind (map (operand_value bits) operands)
+  pub gate_rows-sound : (kind : Kind) (y helper : ℕ) (operands : List Operand) → is_model bits (gate_rows kind y helper operands) ≡ true → bit_at bits (y - 1) ≡ gate_value kind (map (operand_value bits) operands)
   unfolding gate_rows
-  gate_rows-sound And y helper operands t e = holds-is (bit_at bits (y - 1)) (all_ones (map (operand_value bits) operands)) (sym (and_rows-holds (output_literal false y) operands) ∙ e)
-  gate_rows-sound Nand y helper operands t e = not_is (bit_at bits (y - 1)) (all_ones (map (operand_value bits) operands)) (holds-is (not (bit_at bits (y - 1))) (all_ones (map (operand_value bits) operands)) (sym (and_rows-holds (output_literal true y) operands) ∙ e))
-  gate_rows-sound Or y helper operands t e = holds-is (bit_at bits (y - 1)) (some_one (map (operand_value bits) operands)) (sym (or_rows-holds (output_literal false y) operands) ∙ e)
-  gate_rows-sound Nor y helper operands t e = not_is (bit_at bits (y - 1)) (some_one (map (operand_value bits) operands)) (holds-is (not (bit_at bits (y - 1))) (some_one (map (operand_value bits) operands)) (sym (or_rows-holds (output_literal true y) operands) ∙ e))
-  gate_rows-sound Xor y helper operands t e = xor_rows-sound false y helper operands e
-  gate_rows-sound Xnor y helper operands t e = xor_rows-sound true y helper operands e
-  gate_rows-sound Not y helper [] t e = cc
-  gate_rows-sound Not y helper (operand ∷ operands) t e = not_is (bit_at bits (y - 1)) (operand_value bits operand) (holds-is (not (bit_at bits (y - 1))) (operand_value bits operand) (sym (buffer_of-holds (output_literal true y) operand operands) ∙ e))
-  gate_rows-sound Buff y helper [] t e = cc
-  gate_rows-sound Buff y helper (operand ∷ operands) t e = holds-is (bit_at bits (y - 1)) (operand_value bits operand) (sym (buffer_of-holds (output_literal false y) operand operands) ∙ e)
+  gate_rows-sound kind y helper operands e =
+      flip_back (inverts kind) (bit_at bits (y - 1)) (operation_value (operation_of kind) (map (operand_value bits) operands))
+      (sym (output_bit (inverts kind) y) ∙ operation_rows-sound (operation_of kind) (output_literal (inverts kind) y) helper operands e)
 
-  pub gate_rows-complete : (kind : Kind) (y helper : ℕ) (operands : List Operand) → IsTrue (takes_pins kind (length operands))
-      → (is_parity kind ≡ true → Carry helper (helper_bits (variable_bits (variables operands))))
+  folded_rows-complete : (fold : Fold) (y : Literal) (helper : ℕ) (operands : List Operand) → (is_parity_fold fold ≡ true → Carry helper (helper_bits (variable_bits (variables operands))))
+      → literal_bit bits y ≡ folded_bit fold (map (operand_value bits) operands) → is_model bits (folded_rows fold y helper operands) ≡ true
+  folded_rows-complete AllOf y helper operands carry e = all_rows-holds y operands ∙ is-holds (literal_bit bits y) (all_ones (map (operand_value bits) operands)) e
+  folded_rows-complete AnyOf y helper operands carry e = any_rows-holds y operands ∙ is-holds (literal_bit bits y) (some_one (map (operand_value bits) operands)) e
+  folded_rows-complete OddOf y helper operands carry e = odd_rows-complete y helper operands (carry refl) e
+
+  operation_rows-complete : (operation : Operation) (y : Literal) (helper : ℕ) (operands : List Operand) → (is_parity_operation operation ≡ true → Carry helper (helper_bits (variable_bits (variables operands))))
+      → literal_bit bits y ≡ operation_value operation (map (operand_value bits) operands) → is_model bits (operation_rows operation y helper operands) ≡ true
+  operation_rows-complete (Folded fold) y helper operands carry e = folded_rows-complete fold y helper operands carry e
+  operation_rows-complete Chosen y helper operands carry e = chosen_rows-holds y operands ∙ is-holds (literal_bit bits y) (chosen_bit (map (operand_value bits) operands)) e
+
+  pub gate_rows-complete : (kind : Kind) (y helper : ℕ) (operands : List Operand) → (is_parity kind ≡ true → Carry helper (helper_bits (variable_bits (variables operands))))
       → bit_at bits (y - 1) ≡ gate_value kind (map (operand_value bits) operands) → is_model bits (gate_rows kind y helper operands) ≡ true
   unfolding gate_rows
-  gate_rows-complete And y helper operands t carry e = and_rows-holds (output_literal false y) operands ∙ is-holds (bit_at bits (y - 1)) (all_ones (map (operand_value bits) operands)) e
-  gate_rows-complete Nand y helper operands t carry e = and_rows-holds (output_literal true y) operands ∙ is-holds (not (bit_at bits (y - 1))) (all_ones (map (operand_value bits) operands)) (is_not (bit_at bits (y - 1)) (all_ones (map (operand_value bits) operands)) e)
-  gate_rows-complete Or y helper operands t carry e = or_rows-holds (output_literal false y) operands ∙ is-holds (bit_at bits (y - 1)) (some_one (map (operand_value bits) operands)) e
-  gate_rows-complete Nor y helper operands t carry e = or_rows-holds (output_literal true y) operands ∙ is-holds (not (bit_at bits (y - 1))) (some_one (map (operand_value bits) operands)) (is_not (bit_at bits (y - 1)) (some_one (map (operand_value bits) operands)) e)
-  gate_rows-complete Xor y helper operands t carry e = xor_rows-complete false y helper operands (carry refl) e
-  gate_rows-complete Xnor y helper operands t carry e = xor_rows-complete true y helper operands (carry refl) e
-  gate_rows-complete Not y helper [] t carry e = cc
-  gate_rows-complete Not y helper (operand ∷ operands) t carry e = buffer_of-holds (output_literal true y) operand operands ∙ is-holds (not (bit_at bits (y - 1))) (operand_value bits operand) (is_not (bit_at bits (y - 1)) (operand_value bits operand) e)
-  gate_rows-complete Buff y helper [] t carry e = cc
-  gate_rows-complete Buff y helper (operand ∷ operands) t carry e = buffer_of-holds (output_literal false y) operand operands ∙ is-holds (bit_at bits (y - 1)) (operand_value bits operand) e
+  gate_rows-complete kind y helper operands carry e =
+      operation_rows-complete (operation_of kind) (output_literal (inverts kind) y) helper operands carry
+      (output_bit (inverts kind) y ∙ flip_on (inverts kind) (bit_at bits (y - 1)) (operation_value (operation_of kind) (map (operand_value bits) operands)) e)

@@ -21,5 +21,9 @@ pub mod TidyParts
 pub mod MarkSteps
 pub mod AddSteps
 pub mod OperandSteps
-pub mod Families
+pub mod RowParts
 pub mod Within
+pub mod SameLiterals
+pub mod Alike
+pub mod EndVariables
+pub mod LogEnds

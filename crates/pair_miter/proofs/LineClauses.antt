@@ -9,25 +9,23 @@ use Rattle.net_model.specs.Circuit.{Circuit, gate_at}
 use Rattle.net_model.specs.Fault.{stuck_stem}
 use Rattle.net_model.specs.Scope.{is_split}
 use Rattle.clause_pool.specs.Clauses.{Clause}
-use Rattle.pair_miter.specs.declared.operand.Operand.{Operand}
-use Rattle.pair_miter.specs.Variables.{Copy, first_copy, second_copy, fault_of, line_variable, first_helper}
+use Rattle.pair_miter.specs.Operand.{Operand}
+use Rattle.pair_miter.specs.Variables.{fault_of, line_variable, first_helper}
+use Rattle.pair_miter.specs.declared.side.Side.TheVariants.{First, Second}
+use Rattle.pair_miter.specs.declared.side.Side.{Side}
 use Rattle.pair_miter.specs.Rows.{gate_rows}
 use Rattle.pair_miter.specs.Miter.{gate_operands, gate_clauses, stuck_clauses, copy_clauses, line_clauses, tidy}
 use Rattle.pair_miter.proofs.TidyParts.{tidy-append}
 
 module _ (c : Circuit) (f g : Fault) where
-  module _ (copy : Copy) (line : ℕ) where
+  module _ (copy : Side) (line : ℕ) where
     -- the unit of a stuck stem
     abbrev pub unit_of : Bool → Clause
     unit_of bit = record { variable = line_variable c f g copy line; positive = bit } ∷ []
 
-    signed : (bit : Bool) → stuck_clauses c f g copy line bit ≡ unit_of bit ∷ []
-    signed true = refl
-    signed false = refl
-
     pub clauses_of_stuck : (bit : Bool) → stuck_stem (fault_of c f g copy) line ≡ Some bit → copy_clauses c f g copy line ≡ unit_of bit ∷ []
     unfolding copy_clauses
-    clauses_of_stuck bit e = ap (λ o. option_map_or (stuck_clauses c f g copy line) o (option_map_or (gate_clauses c f g copy line) (gate_at c line) [])) e ∙ signed bit
+    clauses_of_stuck bit e = ap (λ o. option_map_or (stuck_clauses c f g copy line) o (option_map_or (gate_clauses c f g copy line) (gate_at c line) [])) e
 
     pub clauses_of_source : stuck_stem (fault_of c f g copy) line ≡ None → gate_at c line ≡ None → copy_clauses c f g copy line ≡ []
     unfolding copy_clauses
@@ -51,21 +49,26 @@ module _ (c : Circuit) (f g : Fault) where
         ∙ ap (gate_rows gate.kind output helper) (sym are)))
 
   module _ (line : ℕ) where
-    pub clauses_of_split : is_split c f g line ≡ true → line_clauses c f g line ≡ copy_clauses c f g first_copy line ++ copy_clauses c f g second_copy line
+    -- a line's clauses begin with those of its first copy
+    pub clauses_of_line : (rest : List Clause) × (line_clauses c f g line ≡ copy_clauses c f g First line ++ rest)
     unfolding line_clauses
-    clauses_of_split e = ap (λ b. copy_clauses c f g first_copy line ++ (if b then copy_clauses c f g second_copy line else [])) e
+    clauses_of_line = (if is_split c f g line then copy_clauses c f g Second line else [], refl)
 
-    pub clauses_of_shared : is_split c f g line ≡ false → line_clauses c f g line ≡ copy_clauses c f g first_copy line
+    pub clauses_of_split : is_split c f g line ≡ true → line_clauses c f g line ≡ copy_clauses c f g First line ++ copy_clauses c f g Second line
     unfolding line_clauses
-    clauses_of_shared e = ap (λ b. copy_clauses c f g first_copy line ++ (if b then copy_clauses c f g second_copy line else [])) e ∙ append-nil (copy_clauses c f g first_copy line)
+    clauses_of_split e = ap (λ b. copy_clauses c f g First line ++ (if b then copy_clauses c f g Second line else [])) e
+
+    pub clauses_of_shared : is_split c f g line ≡ false → line_clauses c f g line ≡ copy_clauses c f g First line
+    unfolding line_clauses
+    clauses_of_shared e = ap (λ b. copy_clauses c f g First line ++ (if b then copy_clauses c f g Second line else [])) e ∙ append-nil (copy_clauses c f g First line)
 
 -- ---- how many clauses are left of parts
 
 pub length-tidy : (first rest : List Clause) → length (tidy (first ++ rest)) ≡ length (tidy first) + length (tidy rest)
 length-tidy first rest = ap length (tidy-append first rest) ∙ length-append (tidy first) (tidy rest)
 
-pub first_copy_few : (c : Circuit) (f g : Fault) (line : ℕ) → length (tidy (copy_clauses c f g first_copy line)) ≤ length (tidy (line_clauses c f g line))
+pub first_copy_few : (c : Circuit) (f g : Fault) (line : ℕ) → length (tidy (copy_clauses c f g First line)) ≤ length (tidy (line_clauses c f g line))
 unfolding line_clauses
 first_copy_few c f g line =
-    let rest = if is_split c f g line then copy_clauses c f g second_copy line else [] in
-    omega (arith, length-tidy (copy_clauses c f g first_copy line) rest)
+    let rest = if is_split c f g line then copy_clauses c f g Second line else [] in
+    omega (arith, length-tidy (copy_clauses c f g First line) rest)

@@ -14,7 +14,7 @@ use Rattle.std.proofs.Math.Bool.{or-true, or-false}
 use Rattle.pair_miter.proofs.TidyParts.{has_literal-push, kept_with, without_repeats-push}
 
 -- different literals have different codes
-same_code : (l m : Literal) → (code_of l == code_of m) ≡ same_literal l m
+pub same_code : (l m : Literal) → (code_of l == code_of m) ≡ same_literal l m
 same_code l m = by l.positive m.positive
   where
     by : (a b : Bool) → (2 * l.variable + (if a then 1 else 0) == 2 * m.variable + (if b then 1 else 0)) ≡ ((l.variable == m.variable) && beq a b)
@@ -52,27 +52,6 @@ marks_more marks xs m are room l = by (same_literal l m) refl
 -- all marked literals are of the clause
 abbrev pub AreWithin : List Bool → Clause → Type 0
 AreWithin marks clause = (l : Literal) → bit_at marks (code_of l) ≡ true → has_literal clause l ≡ true
-
--- the first literal's mark is taken away
-pub marks_fewer : (marks : List Bool) (m : Literal) (xs : Clause) → AreWithin marks (m ∷ xs) → code_of m < length marks → AreWithin (set marks (code_of m) false) xs
-marks_fewer marks m xs within room l marked = by (same_literal l m) refl
-  where
-    by : (b : Bool) → same_literal l m ≡ b → has_literal xs l ≡ true
-    by true e =
-        let gone = get_or-set_same marks (code_of m) false false room in
-        let here = ap (bit_at (set marks (code_of m) false)) (same_code_of l m e) in
-        cc
-    by false e =
-        let other = get_or-set_other marks (code_of m) (code_of l) false false (other_code l m e) in
-        ap (λ b. b || has_literal xs l) (sym e) ∙ within l (sym other ∙ marked)
-
--- no mark is left
-pub marks_gone : (marks : List Bool) → AreWithin marks [] → AreMarks marks []
-marks_gone marks within l = by (bit_at marks (code_of l)) refl
-  where
-    by : (b : Bool) → bit_at marks (code_of l) ≡ b → b ≡ false
-    by true e = let wrong : ◌≡◌ {A = Bool} false true = within l e in cc
-    by false e = refl
 
 -- ---- a literal is kept where it isn't marked
 

@@ -15,8 +15,10 @@ use Rattle.net_model.specs.Fault.{stuck_stem}
 use Rattle.net_model.specs.Scope.{is_split, is_relevant, is_reached, reached_positions}
 use Rattle.net_model.proofs.Orders.{range_with_len_more}
 use Rattle.fault_list.specs.Scope.{Scope, IsScopeOf}
-use Rattle.pair_miter.specs.Variables.{Copy, first_copy, second_copy, fault_of, is_second, line_variables, variables_below, line_variable, gate_helpers, copy_helpers, line_helpers, helpers_below, first_helper, difference_variable, variable_count}
-use Rattle.pair_miter.specs.Marks.{IsVariable}
+use Rattle.pair_miter.specs.Variables.{fault_of, is_second, line_variables, variables_below, line_variable, gate_helpers, copy_helpers, line_helpers, helpers_below, first_helper, difference_variable, variable_count}
+use Rattle.pair_miter.specs.declared.side.Side.TheVariants.{First, Second}
+use Rattle.pair_miter.specs.declared.side.Side.{Side}
+use Rattle.clause_pool.specs.Proper.{IsVariable}
 use Rattle.pair_miter.specs.Numbering.{AreFirstVariables, HasCopy}
 use Rattle.pair_miter.proofs.Bounds.{few_variables_of}
 
@@ -47,12 +49,12 @@ module _ (c : Circuit) (f g : Fault) where
   unfolding variables_below
   variables_below-rises n m le = sum_rises (line_variables c f g) n m le
 
-  pub first_variable : (line : ℕ) → line_variable c f g first_copy line ≡ 1 + variables_below c f g line
+  pub first_variable : (line : ℕ) → line_variable c f g First line ≡ 1 + variables_below c f g line
   unfolding line_variable
   first_variable line = omega arith
 
   -- a relevant line has its variables below those that no line has
-  pub line_variable-below : (copy : Copy) (line : ℕ) → line < line_count c → is_relevant c f g line ≡ true
+  pub line_variable-below : (copy : Side) (line : ℕ) → line < line_count c → is_relevant c f g line ≡ true
       → line_variable c f g copy line ≤ variables_below c f g (line_count c)
   unfolding line_variable line_variables
   line_variable-below copy line h e = by (is_relevant c f g line) (is_split c f g line) (is_second copy) e (variables_below-more line)
@@ -66,11 +68,11 @@ module _ (c : Circuit) (f g : Fault) where
       by true false false e more = omega (arith, more, variables_below-rises (line + 1) (line_count c) (omega arith))
 
   -- the second copy of a line that isn't split has the first's variable, and that of a split line the next one
-  pub shared_variable : (line : ℕ) → is_split c f g line ≡ false → line_variable c f g second_copy line ≡ line_variable c f g first_copy line
+  pub shared_variable : (line : ℕ) → is_split c f g line ≡ false → line_variable c f g Second line ≡ line_variable c f g First line
   unfolding line_variable
   shared_variable line e = ap (λ s. 1 + variables_below c f g line + (if s then 1 else 0)) e
 
-  pub own_variable : (line : ℕ) → is_split c f g line ≡ true → line_variable c f g second_copy line ≡ line_variable c f g first_copy line + 1
+  pub own_variable : (line : ℕ) → is_split c f g line ≡ true → line_variable c f g Second line ≡ line_variable c f g First line + 1
   unfolding line_variable
   own_variable line e = let own = ap (λ s. 1 + variables_below c f g line + (if s then 1 else 0)) e in omega (arith, own)
 
@@ -95,7 +97,7 @@ module _ (c : Circuit) (f g : Fault) where
           | inl below ↦ get_or_append_left firsts (first ∷ []) 0 n (omega (arith, so_far.whole)) ∙ so_far.each n below
           | inr above ↦
               let here : n ≡ line = omega arith in
-              get_or_at firsts first [] 0 n (omega (arith, so_far.whole)) ∙ (is ∙ (sym (first_variable line) ∙ ap (line_variable c f g first_copy) (sym here)))
+              get_or_at firsts first [] 0 n (omega (arith, so_far.whole)) ∙ (is ∙ (sym (first_variable line) ∙ ap (line_variable c f g First) (sym here)))
         ];
   }
 
@@ -103,7 +105,7 @@ module _ (c : Circuit) (f g : Fault) where
   unfolding variables_below
   variables_below-none = refl
 
-  pub line_variable-from : (copy : Copy) (line : ℕ) → 1 ≤ line_variable c f g copy line
+  pub line_variable-from : (copy : Side) (line : ℕ) → 1 ≤ line_variable c f g copy line
   unfolding line_variable
   line_variable-from copy line = omega arith
 
@@ -130,22 +132,22 @@ module _ (c : Circuit) (f g : Fault) where
   unfolding line_helpers
   helpers_of_irrelevant line e = rw e refl
 
-  pub helpers_of_relevant : (line : ℕ) → is_relevant c f g line ≡ true → line_helpers c f g line ≡ copy_helpers c f g first_copy line + copy_helpers c f g second_copy line
+  pub helpers_of_relevant : (line : ℕ) → is_relevant c f g line ≡ true → line_helpers c f g line ≡ copy_helpers c f g First line + copy_helpers c f g Second line
   unfolding line_helpers
   helpers_of_relevant line e = rw e refl
 
   -- a copy's helpers, by its stem and its gate
-  pub helpers_of_copy : (copy : Copy) (line : ℕ) → HasCopy c f g copy line
+  pub helpers_of_copy : (copy : Side) (line : ℕ) → HasCopy c f g copy line
       → copy_helpers c f g copy line ≡ (if is_none (stuck_stem (fault_of c f g copy) line) then option_map_or (gate_helpers c f g copy line) (gate_at c line) 0 else 0)
   unfolding copy_helpers
-  helpers_of_copy first_copy line own = refl
-  helpers_of_copy second_copy line own = ap (λ s. if (s && is_none (stuck_stem g line)) then option_map_or (gate_helpers c f g second_copy line) (gate_at c line) 0 else 0) own
+  helpers_of_copy First line own = refl
+  helpers_of_copy Second line own = ap (λ s. if (s && is_none (stuck_stem g line)) then option_map_or (gate_helpers c f g Second line) (gate_at c line) 0 else 0) own
 
-  pub helpers_of_shared : (line : ℕ) → is_split c f g line ≡ false → copy_helpers c f g second_copy line ≡ 0
+  pub helpers_of_shared : (line : ℕ) → is_split c f g line ≡ false → copy_helpers c f g Second line ≡ 0
   unfolding copy_helpers
-  helpers_of_shared line shared = ap (λ s. if (s && is_none (stuck_stem g line)) then option_map_or (gate_helpers c f g second_copy line) (gate_at c line) 0 else 0) shared
+  helpers_of_shared line shared = ap (λ s. if (s && is_none (stuck_stem g line)) then option_map_or (gate_helpers c f g Second line) (gate_at c line) 0 else 0) shared
 
-  module _ (copy : Copy) (line : ℕ) (own : HasCopy c f g copy line) where
+  module _ (copy : Side) (line : ℕ) (own : HasCopy c f g copy line) where
     pub helpers_of_stuck : is_none (stuck_stem (fault_of c f g copy) line) ≡ false → copy_helpers c f g copy line ≡ 0
     helpers_of_stuck e = helpers_of_copy copy line own ∙ ap (λ b. if b then option_map_or (gate_helpers c f g copy line) (gate_at c line) 0 else 0) e
 
@@ -173,30 +175,30 @@ module _ (c : Circuit) (f g : Fault) where
   few_line_helpers w line h = omega (arith, helpers_below-more line, few_helpers_below w (line + 1) (omega arith))
 
   -- the helpers of a relevant line's copy come before the differences
-  pub first_helper-from : (copy : Copy) (line : ℕ) → 1 ≤ first_helper c f g copy line
+  pub first_helper-from : (copy : Side) (line : ℕ) → 1 ≤ first_helper c f g copy line
   unfolding first_helper
-  first_helper-from first_copy line = omega arith
-  first_helper-from second_copy line = omega arith
+  first_helper-from First line = omega arith
+  first_helper-from Second line = omega arith
 
-  pub first_helper-below : (copy : Copy) (line : ℕ) → HasCopy c f g copy line → line < line_count c → is_relevant c f g line ≡ true
+  pub first_helper-below : (copy : Side) (line : ℕ) → HasCopy c f g copy line → line < line_count c → is_relevant c f g line ≡ true
       → first_helper c f g copy line + copy_helpers c f g copy line ≤ 1 + variables_below c f g (line_count c) + helpers_below c f g (line_count c)
   unfolding first_helper
-  first_helper-below first_copy line own h e = omega (arith, helpers_of_relevant line e, helpers_below-more line, helpers_below-rises (line + 1) (line_count c) (omega arith))
-  first_helper-below second_copy line own h e = omega (arith, helpers_of_relevant line e, helpers_below-more line, helpers_below-rises (line + 1) (line_count c) (omega arith))
+  first_helper-below First line own h e = omega (arith, helpers_of_relevant line e, helpers_below-more line, helpers_below-rises (line + 1) (line_count c) (omega arith))
+  first_helper-below Second line own h e = omega (arith, helpers_of_relevant line e, helpers_below-more line, helpers_below-rises (line + 1) (line_count c) (omega arith))
 
   pub few_of_parts : variables_below c f g (line_count c) + helpers_below c f g (line_count c) ≤ variable_count c f g
   unfolding variable_count
   few_of_parts = omega arith
 
   -- the variable of a relevant line is one
-  pub variable_within : (copy : Copy) (line x n : ℕ) → x ≡ line_variable c f g copy line → n ≡ variable_count c f g → line < line_count c → is_relevant c f g line ≡ true → IsVariable n x
+  pub variable_within : (copy : Side) (line x n : ℕ) → x ≡ line_variable c f g copy line → n ≡ variable_count c f g → line < line_count c → is_relevant c f g line ≡ true → IsVariable n x
   variable_within copy line x n is all h e = (
     omega (arith, is, line_variable-from copy line),
     omega (arith, is, all, line_variable-below copy line h e, few_of_lines),
   )
 
   -- the second copy's helpers follow the first's
-  pub second_helper : (line : ℕ) → first_helper c f g second_copy line ≡ first_helper c f g first_copy line + copy_helpers c f g first_copy line
+  pub second_helper : (line : ℕ) → first_helper c f g Second line ≡ first_helper c f g First line + copy_helpers c f g First line
   unfolding first_helper
   second_helper line = refl
 
@@ -240,11 +242,11 @@ module _ (c : Circuit) (f g : Fault) where
   pub reached_few : (at : ℕ) → reached_below at ≤ at
   reached_few at = omega (arith, count_by-le-length (is_reached c f g) (range_with_len 0 at), length-range_with_len 0 at)
 
-  pub helper_more : (line : ℕ) → first_helper c f g first_copy (line + 1) ≡ first_helper c f g first_copy line + line_helpers c f g line
+  pub helper_more : (line : ℕ) → first_helper c f g First (line + 1) ≡ first_helper c f g First line + line_helpers c f g line
   unfolding first_helper
   helper_more line = omega (arith, helpers_below-more line)
 
-  pub helpers_begin : first_helper c f g first_copy 0 ≡ 1 + variables_below c f g (line_count c)
+  pub helpers_begin : first_helper c f g First 0 ≡ 1 + variables_below c f g (line_count c)
   unfolding first_helper
   helpers_begin = omega (arith, helpers_below-none)
 

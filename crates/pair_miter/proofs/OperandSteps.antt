@@ -1,27 +1,27 @@
--- The variables among operands.
-use Rattle.std.proofs.Common.{◌≡◌, ℕ, ◌+◌, ◌*◌, ◌<◌, ◌≤◌, ap, ◌∙◌, subst, arith, length, get_or, drop}
-use Rattle.std.specs.Prelude.{Bool, false, List, [], ◌∷◌, All, map}
+-- Operands: their variables, and the variables from an operand on.
+use Rattle.std.proofs.Common.{◌≡◌, ℕ, ◌+◌, ◌*◌, ◌<◌, ◌≤◌, ap, ◌∙◌, sym, subst, arith, length, get_or, drop}
+use Rattle.std.specs.Prelude.{Bool, Option, None, Some, IfSome, List, [], ◌∷◌, All, map}
+use Rattle.std.specs.List.{cons_option}
 use Rattle.std.proofs.lemmas.List.{drop_more, drop_all}
 use Rattle.std.proofs.lemmas.List.Elements.{All-cons, All-head, All-tail, All-nil, All-map}
 use Rattle.clause_pool.specs.Literal.{Literal}
-use Rattle.pair_miter.specs.declared.operand.Operand.{Operand}
-use Rattle.pair_miter.specs.declared.operand.Operand.TheVariants.{Constant, Variable}
-use Rattle.pair_miter.specs.Marks.{IsVariable, IsOperand, HavePlaces}
-use Rattle.pair_miter.specs.Parts.{signed_literal, with_all}
-use Rattle.pair_miter.specs.Rows.{variables}
+use Rattle.clause_pool.specs.Proper.{IsVariable}
+use Rattle.pair_miter.specs.Operand.{Operand, constant, variable, variable_of}
+use Rattle.pair_miter.specs.Marks.{IsOperand, HavePlaces}
+use Rattle.pair_miter.specs.Rows.{variables, signed_literal, with_all}
 
 -- operands are within where their variables are
 pub variables_within : (n : ℕ) (operands : List Operand) → All (IsOperand n) operands → All (IsVariable n) (variables operands)
 variables_within n [] h = All-nil (IsVariable n)
-variables_within n (Constant b ∷ operands) h = variables_within n operands (All-tail (IsOperand n) (Constant b) operands h)
-variables_within n (Variable x ∷ operands) h =
-    All-cons (IsVariable n) x (variables operands) (All-head (IsOperand n) (Variable x) operands h) (variables_within n operands (All-tail (IsOperand n) (Variable x) operands h))
+variables_within n (constant b ∷ operands) h = variables_within n operands (All-tail (IsOperand n) (constant b) operands h)
+variables_within n (variable x ∷ operands) h =
+    All-cons (IsVariable n) x (variables operands) (All-head (IsOperand n) (variable x) operands h) (variables_within n operands (All-tail (IsOperand n) (variable x) operands h))
 
 pub operands_within : (n : ℕ) (operands : List Operand) → All (IsVariable n) (variables operands) → All (IsOperand n) operands
 operands_within n [] h = All-nil (IsOperand n)
-operands_within n (Constant b ∷ operands) h = All-cons (IsOperand n) (Constant b) operands tt (operands_within n operands h)
-operands_within n (Variable x ∷ operands) h =
-    All-cons (IsOperand n) (Variable x) operands (All-head (IsVariable n) x (variables operands) h) (operands_within n operands (All-tail (IsVariable n) x (variables operands) h))
+operands_within n (constant b ∷ operands) h = All-cons (IsOperand n) (constant b) operands tt (operands_within n operands h)
+operands_within n (variable x ∷ operands) h =
+    All-cons (IsOperand n) (variable x) operands (All-head (IsVariable n) x (variables operands) h) (operands_within n operands (All-tail (IsVariable n) x (variables operands) h))
 
 -- what is known of the first variable, and of the operands after it
 pub first_within : (n x : ℕ) (operands rest : List Operand) → All (IsOperand n) operands → variables operands ≡ x ∷ variables rest → IsVariable n x
@@ -39,11 +39,22 @@ row_places n marks first positive operands places f h =
 
 -- ---- the variables from an operand on
 
-pub variable_at : (operands : List Operand) (i x : ℕ) → i < length operands → get_or operands i (Constant false) ≡ Variable x → variables (drop i operands) ≡ x ∷ variables (drop (i + 1) operands)
-variable_at operands i x h e = ap variables (drop_more operands i (Constant false) h) ∙ ap (λ (o : Operand). variables (o ∷ drop (i + 1) operands)) e
+module _ (operands : List Operand) (i : ℕ) (operand : Operand) (h : i < length operands) (is : operand ≡ get_or operands i operand) where
+  one_more : variables (drop i operands) ≡ cons_option (variable_of operand) (variables (drop (i + 1) operands))
+  one_more = ap variables (drop_more operands i operand h) ∙ ap (λ (o : Operand). variables (o ∷ drop (i + 1) operands)) (sym is)
 
-pub constant_at : (operands : List Operand) (i : ℕ) (b : Bool) → i < length operands → get_or operands i (Constant false) ≡ Constant b → variables (drop i operands) ≡ variables (drop (i + 1) operands)
-constant_at operands i b h e = ap variables (drop_more operands i (Constant false) h) ∙ ap (λ (o : Operand). variables (o ∷ drop (i + 1) operands)) e
+  pub variable_at : (x : ℕ) → variable_of operand ≡ Some x → variables (drop i operands) ≡ x ∷ variables (drop (i + 1) operands)
+  variable_at x e = one_more ∙ ap (λ (o : Option ℕ). cons_option o (variables (drop (i + 1) operands))) e
+
+  pub constant_at : variable_of operand ≡ None → variables (drop i operands) ≡ variables (drop (i + 1) operands)
+  constant_at e = one_more ∙ ap (λ (o : Option ℕ). cons_option o (variables (drop (i + 1) operands))) e
+
+  pub operand_within : (n : ℕ) → All (IsOperand n) operands → IsOperand n operand
+  operand_within n all = subst (IsOperand n) (sym is) (all i operand h)
+
+-- the variable of an operand that is within
+pub variable_within : (n x : ℕ) (operand : Operand) → IsOperand n operand → variable_of operand ≡ Some x → IsVariable n x
+variable_within n x operand h e = subst (λ (o : Option ℕ). IfSome o (IsVariable n)) e h
 
 pub variables_end : (operands : List Operand) (i : ℕ) → length operands ≤ i → variables (drop i operands) ≡ []
 variables_end operands i h = ap variables (drop_all i operands h)

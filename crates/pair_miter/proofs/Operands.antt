@@ -2,7 +2,6 @@
 -- many as pins that aren't stuck.
 use Rattle.std.proofs.Common.{◌≡◌, ◌∙◌, ℕ, zero, suc, ◌+◌, ◌-◌, ◌<◌, ◌≤◌, Bool, true, false, List, [], ◌∷◌, ◌++◌, length, take, get_or, refl, sym, ap, arith, subst}
 use Rattle.std.specs.Prelude.{All, Contains, Option, None, Some, map, count_by, is_none, if◌then◌else◌}
-use Rattle.std.specs.Option.{option_map_or}
 use Rattle.std.specs.List.{enumerate_from, filter_map}
 use Rattle.std.proofs.lemmas.List.{take_more, take_all, get_or_default}
 use Rattle.std.proofs.lemmas.List.Sums.{sum_by-cons}
@@ -11,13 +10,13 @@ use Rattle.net_model.specs.declared.fault.Fault.{Fault}
 use Rattle.net_model.specs.Circuit.{Circuit, IsAcyclic, line_count, gate_at, pins_of, Feeds}
 use Rattle.net_model.specs.Fault.{stuck_stem, stuck_pin, readings}
 use Rattle.net_model.specs.Scope.{is_relevant}
-use Rattle.pair_miter.specs.declared.operand.Operand.{Operand}
-use Rattle.pair_miter.specs.declared.operand.Operand.TheVariants.{Constant, Variable}
+use Rattle.pair_miter.specs.Operand.{Operand, constant, operand_where, variable_of}
 use Rattle.pair_miter.specs.Marks.{IsOperand, AreHelpers}
 use Rattle.pair_miter.specs.Miter.{operand_of, gate_operands}
 use Rattle.pair_miter.specs.Numbering.{HasCopy}
-use Rattle.pair_miter.specs.Rows.{variable_of, variables}
-use Rattle.pair_miter.specs.Variables.{Copy, fault_of, line_variable, free_pins, gate_helpers, first_helper, is_parity, variable_count}
+use Rattle.pair_miter.specs.Rows.{variables}
+use Rattle.pair_miter.specs.Variables.{fault_of, line_variable, free_pins, gate_helpers, first_helper, is_parity, variable_count}
+use Rattle.pair_miter.specs.declared.side.Side.{Side}
 use Rattle.pair_miter.proofs.CopyClauses.{length-readings}
 use Rattle.net_model.proofs.Relevance.{relevant_back}
 use Rattle.pair_miter.proofs.Numbers.{variable_within, few_of_parts, helpers_of_driven, first_helper-from, first_helper-below}
@@ -36,7 +35,7 @@ get_or-readings read lines at d h =
     let e : 0 + at ≡ at = omega arith in
     get_or_pair read 0 lines at d h ∙ ap (λ m. read m (get_or lines at 0)) e
 
-module _ (c : Circuit) (f g : Fault) (copy : Copy) (line : ℕ) (gate : Gate) where
+module _ (c : Circuit) (f g : Fault) (copy : Side) (line : ℕ) (gate : Gate) where
   -- what a pin gives
   abbrev pub pin_operand : ℕ → Operand
   pin_operand at = operand_of c f g copy (stuck_pin (fault_of c f g copy) line at) (get_or gate.pins at 0)
@@ -44,7 +43,7 @@ module _ (c : Circuit) (f g : Fault) (copy : Copy) (line : ℕ) (gate : Gate) wh
   operands_more : (at : ℕ) → at < length gate.pins → take (at + 1) (gate_operands c f g copy line gate) ≡ take at (gate_operands c f g copy line gate) ++ pin_operand at ∷ []
   operands_more at h =
       let read : ℕ → ℕ → Operand = λ pin line_read. operand_of c f g copy (stuck_pin (fault_of c f g copy) line pin) line_read in
-      let none : Operand = Constant false in
+      let none : Operand = constant false in
       let few : at < length (readings read gate.pins) = omega (arith, length-readings read gate.pins, h) in
       take_more (readings read gate.pins) at none few ∙ ap (λ o. take at (readings read gate.pins) ++ o ∷ []) (get_or-readings read gate.pins at none h)
 
@@ -57,21 +56,24 @@ module _ (c : Circuit) (f g : Fault) (copy : Copy) (line : ℕ) (gate : Gate) wh
       let read : ℕ → ℕ → Operand = λ pin line_read. operand_of c f g copy (stuck_pin (fault_of c f g copy) line pin) line_read in
       take_all at (readings read gate.pins) (omega (arith, length-readings read gate.pins, h))
 
--- ---- how many of them are variables
+-- ---- how many there are, and how many of them are variables
+
+pub length-gate_operands : (c : Circuit) (f g : Fault) (copy : Side) (line : ℕ) (gate : Gate) → length (gate_operands c f g copy line gate) ≡ length gate.pins
+length-gate_operands c f g copy line gate = length-readings (λ pin read. operand_of c f g copy (stuck_pin (fault_of c f g copy) line pin) read) gate.pins
 
 one_variable : (o : Option Bool) (x : ℕ) (rest : List Operand) (free : List Bool) → length (filter_map variable_of rest) ≡ count_by (λ b. b) free
-    → length (filter_map variable_of (option_map_or Constant o (Variable x) ∷ rest)) ≡ count_by (λ b. b) (is_none o ∷ free)
+    → length (filter_map variable_of (operand_where o x ∷ rest)) ≡ count_by (λ b. b) (is_none o ∷ free)
 one_variable None x rest free e = omega (arith, sum_by-cons (λ (b : Bool). if b then 1 else 0) true free, e)
 one_variable (Some bit) x rest free e = omega (arith, sum_by-cons (λ (b : Bool). if b then 1 else 0) false free, e)
 
-count_variables : (variable : ℕ → ℕ) (stuck : ℕ → Option Bool) (n : ℕ) (lines : List ℕ)
-    → length (filter_map variable_of (map (λ x. option_map_or Constant (stuck x.0) (Variable (variable x.1))) (enumerate_from n lines))) ≡ count_by (λ b. b) (map (λ x. is_none (stuck x.0)) (enumerate_from n lines))
-count_variables variable stuck n [] = refl
-count_variables variable stuck n (line ∷ lines) =
-    one_variable (stuck n) (variable line) (map (λ x. option_map_or Constant (stuck x.0) (Variable (variable x.1))) (enumerate_from (n + 1) lines)) (map (λ x. is_none (stuck x.0)) (enumerate_from (n + 1) lines))
-    (count_variables variable stuck (n + 1) lines)
+count_variables : (number : ℕ → ℕ) (stuck : ℕ → Option Bool) (n : ℕ) (lines : List ℕ)
+    → length (filter_map variable_of (map (λ x. operand_where (stuck x.0) (number x.1)) (enumerate_from n lines))) ≡ count_by (λ b. b) (map (λ x. is_none (stuck x.0)) (enumerate_from n lines))
+count_variables number stuck n [] = refl
+count_variables number stuck n (line ∷ lines) =
+    one_variable (stuck n) (number line) (map (λ x. operand_where (stuck x.0) (number x.1)) (enumerate_from (n + 1) lines)) (map (λ x. is_none (stuck x.0)) (enumerate_from (n + 1) lines))
+    (count_variables number stuck (n + 1) lines)
 
-module _ (c : Circuit) (f g : Fault) (copy : Copy) (line : ℕ) where
+module _ (c : Circuit) (f g : Fault) (copy : Side) (line : ℕ) where
   pub length-variables : (gate : Gate) → length (variables (gate_operands c f g copy line gate)) ≡ free_pins c f g copy line gate
   unfolding readings free_pins
   length-variables gate = count_variables (line_variable c f g copy) (stuck_pin (fault_of c f g copy) line) 0 gate.pins

@@ -43,7 +43,7 @@ same_sign true false = refl
 same_sign false true = refl
 same_sign false false = refl
 
-same_literal-comm : (l m : Literal) → same_literal l m ≡ same_literal m l
+pub same_literal-comm : (l m : Literal) → same_literal l m ≡ same_literal m l
 same_literal-comm l m = λ i. same_number l.variable m.variable i && same_sign l.positive m.positive i
 
 opposite_sign : (a b : Bool) → beq (not a) b ≡ beq (not b) a
@@ -59,9 +59,6 @@ pub has_literal-push : (xs : Clause) (l m : Literal) → has_literal (xs ++ l �
 has_literal-push xs l m = list_any-append (same_literal m) xs (l ∷ []) ∙ ap (λ b. has_literal xs m || b) (or-false (same_literal m l))
 
 -- ---- a clause with one more literal
-
-or_of_true : (a b : Bool) → b ≡ true → true ≡ (a || b)
-or_of_true a b e = sym (ap (λ c. a || c) e ∙ or-true a)
 
 or_of_false : (a b : Bool) → b ≡ false → (a || b) ≡ a
 or_of_false a b e = ap (λ c. a || c) e ∙ or-false a

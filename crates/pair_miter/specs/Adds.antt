@@ -1,6 +1,6 @@
 -- What writing clauses does to a pool.
-use Rattle.std.specs.Prelude.{◌≡◌, ◌≤◌, List, ◌++◌, length}
-use Rattle.clause_pool.specs.Clauses.{Clause, Clauses, literal_count, clause_places, literal_places}
+use Rattle.std.specs.Prelude.{◌≡◌, ◌≤◌, List, ◌++◌, length, Result, Ok, Err}
+use Rattle.clause_pool.specs.Clauses.{BeginsWith, Clause, Clauses, literal_count, clause_places, literal_places}
 
 -- As many clauses and literals are spare as these clauses have.
 pub record HasRoom (pool : Clauses) (clauses : List Clause) : Type 0 where
@@ -17,7 +17,12 @@ pub record Adds (old new : Clauses) (clauses : List Clause) : Type 0 where
   pub written : new.clauses ≡ old.clauses ++ clauses
   pub in_room : HasRoom old clauses → SamePlaces old new
 
--- The old clauses stand as before, and some may stand after them.
-pub record Keeps (old new : Clauses) : Type 0 where
-  pub more : List Clause
-  pub written : new.clauses ≡ old.clauses ++ more
+-- The old clauses stand as before, and some may stand after them. Where there was room for these clauses, the pool didn't grow.
+pub record Keeps (old new : Clauses) (clauses : List Clause) : Type 0 where
+  pub begins : BeginsWith new.clauses old.clauses
+  pub in_room : HasRoom old clauses → SamePlaces old new
+
+-- A call that answers so has written the clauses, or after an error perhaps some.
+abbrev pub Writes : {T E : Type 0} → Result T E → Clauses → Clauses → List Clause → Type 0
+Writes (Ok x) old new clauses = Adds old new clauses
+Writes (Err e) old new clauses = Keeps old new clauses

@@ -1,15 +1,15 @@
 -- Laws of tidying, of freshness and of the miter.
-use Rattle.std.specs.Prelude.{◌≡◌, ◌<◌, ◌^◌, Bool, true, List, Contains, length, ℕ, All}
+use Rattle.std.specs.Prelude.{◌≡◌, ◌<◌, ◌^◌, Bool, true, List, Contains, length, All}
 use Rattle.net_model.specs.declared.fault.Fault.{Fault}
 use Rattle.net_model.specs.Circuit.{Circuit, IsCircuit}
 use Rattle.net_model.specs.Fault.{IsFaultOf}
 use Rattle.net_model.specs.Answer.{Separates}
 use Rattle.clause_pool.specs.Literal.{Literal}
 use Rattle.clause_pool.specs.Clauses.{Clause}
+use Rattle.clause_pool.specs.Proper.{IsProper}
 use Rattle.pair_miter.specs.Variables.{variable_count}
 use Rattle.pair_miter.specs.Miter.{tidy, miter, is_model, vector_of}
 use Rattle.pair_miter.specs.Fresh.{IsFresh}
-use Rattle.pair_miter.specs.Marks.{IsVariable}
 
 -- an assignment satisfies clauses exactly where it satisfies them tidied
 abbrev pub TidyKeepsModels : Type 0
@@ -19,10 +19,6 @@ TidyKeepsModels = (bits : List Bool) (clauses : List Clause) → is_model bits (
 abbrev pub SupersetIsNotFresh : Type 0
 SupersetIsNotFresh = (clauses : List Clause) (clause smaller : Clause) (at : Literal) → Contains clauses smaller
     → ((l : Literal) → Contains smaller l → Contains clause l) → ¬ IsFresh clauses clause at
-
--- The literals of a clause have variables from 1 to this one.
-abbrev pub HaveVariables : ℕ → Clause → Type 0
-HaveVariables variables clause = All (λ (l : Literal). IsVariable variables l.variable) clause
 
 -- Some assignment of all variables satisfies the miter.
 pub record HasModel (c : Circuit) (f g : Fault) : Type 0 where
@@ -42,3 +38,7 @@ SeparatedHasModel = (c : Circuit) (f g : Fault) (v : List Bool) → IsCircuit c 
 -- the miter has fewer clauses and variables than there are numbers for
 abbrev pub MiterIsSmall : Type 0
 MiterIsSmall = (c : Circuit) (f g : Fault) → IsCircuit c → (length (miter c f g) < 2 ^ 30) × (variable_count c f g < 2 ^ 31)
+
+-- each clause of a miter is over its variables, and has none of them twice
+abbrev pub MiterIsProper : Type 0
+MiterIsProper = (c : Circuit) (f g : Fault) → IsCircuit c → All (IsProper (variable_count c f g)) (miter c f g)

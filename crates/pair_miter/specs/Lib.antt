@@ -1,5 +1,6 @@
 -- The clauses of a pair
 pub mod Variables
+pub mod Operand
 pub mod Rows
 pub mod Miter
 pub mod MiterView
@@ -8,7 +9,6 @@ pub mod MiterFields
 -- Writing clauses into a pool
 pub mod Adds
 pub mod Marks
-pub mod Parts
 -- Logs of resolutions
 pub mod ChainView
 pub mod Resolution

@@ -1,12 +1,12 @@
 -- Marks of literals, and the variables that a writer may name.
-use Rattle.std.specs.Prelude.{◌≡◌, ◌<◌, ◌≤◌, ◌+◌, ◌*◌, ◌^◌, ℕ, Bool, List, [], length, All}
+use Rattle.std.specs.Prelude.{◌≡◌, ◌<◌, ◌≤◌, ◌+◌, ◌*◌, ◌^◌, ℕ, IfSome, Bool, List, [], length, All}
 use Rattle.net_model.specs.Answer.{bit_at}
 use Rattle.clause_pool.specs.Literal.{Literal}
 use Rattle.clause_pool.specs.LiteralCode.{code_of}
 use Rattle.clause_pool.specs.Clauses.{Clause}
 use Rattle.pair_miter.specs.Miter.{has_literal}
-use Rattle.pair_miter.specs.declared.operand.Operand.{Operand}
-use Rattle.pair_miter.specs.declared.operand.Operand.TheVariants.{Constant, Variable}
+use Rattle.clause_pool.specs.Proper.{IsVariable}
+use Rattle.pair_miter.specs.Operand.{Operand, variable_of}
 
 -- the marked literals are those of the clause
 abbrev pub AreMarks : List Bool → Clause → Type 0
@@ -22,14 +22,9 @@ pub record AreClear (variables : ℕ) (marks : List Bool) : Type 0 where
   pub places : length marks ≡ 2 * variables + 2
   pub none : AreMarks marks []
 
--- a variable from 1 to this number
-abbrev pub IsVariable : ℕ → ℕ → Type 0
-IsVariable variables x = (0 < x) × (x ≤ variables)
-
 -- a constant, or one of the variables
 abbrev pub IsOperand : ℕ → Operand → Type 0
-IsOperand variables (Constant bit) = Unit {0}
-IsOperand variables (Variable x) = IsVariable variables x
+IsOperand variables operand = IfSome (variable_of operand) (IsVariable variables)
 
 -- the helpers of an exclusive or of so many variables, two fewer than these, are variables
 abbrev pub AreHelpers : ℕ → ℕ → ℕ → Type 0

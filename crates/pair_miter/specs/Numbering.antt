@@ -4,26 +4,21 @@ use Rattle.net_model.specs.declared.fault.Fault.{Fault}
 use Rattle.net_model.specs.Circuit.{Circuit, IsCircuit, line_count}
 use Rattle.net_model.specs.Scope.{is_split}
 use Rattle.fault_list.specs.Scope.{IsScopeOf}
-use Rattle.pair_miter.specs.declared.numbering.Side.{Side}
-use Rattle.pair_miter.specs.declared.numbering.Side.TheVariants.{First, Second}
 use Rattle.pair_miter.specs.declared.numbering.Numbering.TheInside.{Inside}
-use Rattle.pair_miter.specs.Variables.{Copy, first_copy, second_copy, line_variable, variables_below}
+use Rattle.pair_miter.specs.Variables.{line_variable, variables_below}
+use Rattle.pair_miter.specs.declared.side.Side.TheVariants.{First, Second}
+use Rattle.pair_miter.specs.declared.side.Side.{Side}
 use Rattle.pair_miter.specs.MiterView.{Miter, miter_with}
 
--- the copy on a side of the pair
-abbrev pub copy_of : Side → Copy
-copy_of First = first_copy
-copy_of Second = second_copy
-
 -- The line has variables of its own in the copy: in the second one only where it is split.
-abbrev pub HasCopy : Circuit → Fault → Fault → Copy → ℕ → Type 0
-HasCopy c f g first_copy line = Unit {0}
-HasCopy c f g second_copy line = is_split c f g line ≡ true
+abbrev pub HasCopy : Circuit → Fault → Fault → Side → ℕ → Type 0
+HasCopy c f g First line = Unit {0}
+HasCopy c f g Second line = is_split c f g line ≡ true
 
 -- The list has the variable of each line in the first copy.
 pub record AreFirstVariables (c : Circuit) (f g : Fault) (count : ℕ) (firsts : List ℕ) : Type 0 where
   pub whole : length firsts ≡ count
-  pub each : (line : ℕ) → line < count → slice_index firsts line ≡ line_variable c f g first_copy line
+  pub each : (line : ℕ) → line < count → slice_index firsts line ≡ line_variable c f g First line
 
 abbrev pub numbering_of : Inside → Miter
 numbering_of a = miter_with a.circuit.now a.f a.g

@@ -1,13 +1,13 @@
 //! The miter of a pair of faults, built into a pool of clauses.
 
-ghost use Rattle.std.specs.Prelude.{◌≡◌, ◌+◌, ◌<◌, ◌^◌, [], ◌∷◌, ◌++◌, flat_map, length, map, IfOk, OnOk, OnErr};
+ghost use Rattle.std.specs.Prelude.{◌≡◌, ◌+◌, ◌<◌, ◌^◌, [], length, IfOk, OnOk, OnErr};
 ghost use Rattle.net_model.specs.Fault.{IsFaultOf};
-ghost use Rattle.net_model.specs.Scope.{relevant_lines, reached_positions};
-ghost use Rattle.clause_pool.specs.Literal.{pos_literal};
-ghost use Rattle.pair_miter.specs.Adds.{Adds, HasRoom, Keeps, SamePlaces};
-ghost use Rattle.pair_miter.specs.Miter.{difference_clauses, line_clauses, miter, tidy};
+ghost use Rattle.net_model.specs.Scope.{reached_positions};
+ghost use Rattle.pair_miter.specs.declared.side.Side.TheVariants.{First};
+ghost use Rattle.pair_miter.specs.Adds.{HasRoom, SamePlaces, Writes};
+ghost use Rattle.pair_miter.specs.Miter.{differences_part, lines_part, miter, tidy};
 ghost use Rattle.pair_miter.specs.MiterView.{miter_with};
-ghost use Rattle.pair_miter.specs.Variables.{difference_variable, first_copy, first_helper, variable_count};
+ghost use Rattle.pair_miter.specs.Variables.{difference_variable, first_helper, variable_count};
 
 use crate::helpers::count_helpers;
 use crate::miter::Miter;
@@ -31,11 +31,11 @@ pub fn build<'a>(
     requires second { IsFaultOf circuit.now g.now }
     ensures miter { IfOk result (λ built. built ≡ miter_with circuit.now f.now g.now) }
     ensures clauses { OnOk result (pool.new.clauses ≡ miter circuit.now f.now g.now) }
-    ensures in_room { OnOk result (HasRoom pool.old (miter circuit.now f.now g.now) → SamePlaces pool.old pool.new) }
     ensures err { OnErr result (pool.new.clauses ≡ []) }
+    ensures in_room { HasRoom pool.old (miter circuit.now f.now g.now) → SamePlaces pool.old pool.new }
 {
     let empty = pool.mark();
-    let built = write_miter(alloc, circuit, f, g, pool);
+    let built = write_miter(alloc, circuit, *f, *g, pool);
     if built.is_err() {
         pool.release(empty);
     }
@@ -46,16 +46,15 @@ pub fn build<'a>(
 fn write_miter<'a>(
     alloc: Global,
     circuit: &'a Circuit,
-    f: &Fault,
-    g: &Fault,
+    f: Fault,
+    g: Fault,
     pool: &mut Pool,
 ) -> Result<Miter<'a>, AllocError>
     requires empty { pool.old.clauses ≡ [] }
-    requires first { IsFaultOf circuit.now f.now }
-    requires second { IsFaultOf circuit.now g.now }
-    ensures miter { IfOk result (λ built. built ≡ miter_with circuit.now f.now g.now) }
-    ensures ok { OnOk result (Adds pool.old pool.new (miter circuit.now f.now g.now)) }
-    ensures err { OnErr result (Keeps pool.old pool.new) }
+    requires first { IsFaultOf circuit.now f }
+    requires second { IsFaultOf circuit.now g }
+    ensures miter { IfOk result (λ built. built ≡ miter_with circuit.now f g) }
+    ensures written { Writes result pool.old pool.new (miter circuit.now f g) }
 {
     let numbering = Numbering::new(alloc, circuit, f, g)?;
     let first_difference = numbering.end() + count_helpers(&numbering);
@@ -91,12 +90,9 @@ fn write_lines(
     numbering: &Numbering,
 ) -> Result<(), AllocError>
     requires variables { writer.old.tidier ≡ variable_count numbering.now.circuit numbering.now.f numbering.now.g }
-    requires helper { writer.old.helper ≡ first_helper numbering.now.circuit numbering.now.f numbering.now.g first_copy 0 }
-    requires few { let p = numbering.now in
-        length pool.old.clauses + length (tidy (flat_map (line_clauses p.circuit p.f p.g) (relevant_lines p.circuit p.f p.g))) < 2 ^ 30 }
-    ensures ok { let p = numbering.now in
-        OnOk result (Adds pool.old pool.new (tidy (flat_map (line_clauses p.circuit p.f p.g) (relevant_lines p.circuit p.f p.g)))) }
-    ensures err { OnErr result (Keeps pool.old pool.new) }
+    requires helper { writer.old.helper ≡ first_helper numbering.now.circuit numbering.now.f numbering.now.g First 0 }
+    requires few { length pool.old.clauses + length (tidy (lines_part numbering.now.circuit numbering.now.f numbering.now.g)) < 2 ^ 30 }
+    ensures written { Writes result pool.old pool.new (tidy (lines_part numbering.now.circuit numbering.now.f numbering.now.g)) }
     ensures variables { writer.new.tidier ≡ writer.old.tidier }
 {
     for line in 0..numbering.circuit().lines() {
@@ -117,11 +113,8 @@ fn write_differences(
 ) -> Result<(), AllocError>
     requires variables { writer.old.tidier ≡ variable_count numbering.now.circuit numbering.now.f numbering.now.g }
     requires difference { first_difference ≡ difference_variable numbering.now.circuit numbering.now.f numbering.now.g 0 }
-    requires few { let p = numbering.now in let reached = reached_positions p.circuit p.f p.g in
-        length pool.old.clauses + length (tidy (flat_map (difference_clauses p.circuit p.f p.g) reached ++ map (λ at. pos_literal (difference_variable p.circuit p.f p.g at)) reached ∷ [])) < 2 ^ 30 }
-    ensures ok { let p = numbering.now in let reached = reached_positions p.circuit p.f p.g in
-        OnOk result (Adds pool.old pool.new (tidy (flat_map (difference_clauses p.circuit p.f p.g) reached ++ map (λ at. pos_literal (difference_variable p.circuit p.f p.g at)) reached ∷ []))) }
-    ensures err { OnErr result (Keeps pool.old pool.new) }
+    requires few { length pool.old.clauses + length (tidy (differences_part numbering.now.circuit numbering.now.f numbering.now.g)) < 2 ^ 30 }
+    ensures written { Writes result pool.old pool.new (tidy (differences_part numbering.now.circuit numbering.now.f numbering.now.g)) }
     ensures variables { writer.new.tidier ≡ writer.old.tidier }
 {
     let mut differences = Vec::new(alloc);

@@ -4,11 +4,12 @@ ghost use Rattle.std.specs.Prelude.{◌≡◌, ◌-◌, ◌<◌, ◌^◌, true, 
 ghost use Rattle.net_model.specs.Circuit.{line_count};
 ghost use Rattle.net_model.specs.Fault.{stuck_pin, readings};
 ghost use Rattle.net_model.specs.Scope.{is_relevant};
-ghost use Rattle.pair_miter.specs.Numbering.{copy_of, HasCopy};
+ghost use Rattle.pair_miter.specs.Numbering.{HasCopy};
 ghost use Rattle.pair_miter.specs.Variables.{copy_helpers, line_helpers, helpers_below, is_parity};
 
-use crate::numbering::{Numbering, Side};
-use net_model::{Fault, Gate, Kind, stuck_pin, stuck_stem};
+use crate::numbering::Numbering;
+use crate::side::Side;
+use net_model::{Fault, Fold, Gate, Operation, stuck_pin, stuck_stem};
 
 /// How many helpers all lines have.
 pub(crate) fn count_helpers(numbering: &Numbering) -> u32
@@ -40,8 +41,8 @@ fn line_helpers(numbering: &Numbering, line: u32) -> u32
 /// How many helpers a line has in a copy.
 pub(crate) fn copy_helpers(numbering: &Numbering, side: Side, line: u32) -> u32
     requires line { line < line_count numbering.now.circuit }
-    requires copy { HasCopy numbering.now.circuit numbering.now.f numbering.now.g (copy_of side) line }
-    ensures { result ≡ copy_helpers numbering.now.circuit numbering.now.f numbering.now.g (copy_of side) line }
+    requires copy { HasCopy numbering.now.circuit numbering.now.f numbering.now.g side line }
+    ensures { result ≡ copy_helpers numbering.now.circuit numbering.now.f numbering.now.g side line }
 {
     let circuit = numbering.circuit();
     let fault = numbering.fault(side);
@@ -59,9 +60,11 @@ fn gate_helpers(fault: Fault, line: u32, gate: &Gate) -> u32
     requires { length gate.now.pins < 2 ^ 32 }
     ensures { result ≡ (if is_parity gate.now.kind then count_by (λ b. b) (readings (λ pin read. is_none (stuck_pin fault line pin)) gate.now.pins) - 2 else 0) }
 {
-    match gate.kind {
-        Kind::Xor | Kind::Xnor => free_pins(fault, line, gate.pins.as_slice()).saturating_sub(2),
-        _ => 0,
+    match gate.kind.operation() {
+        Operation::Folded(Fold::OddOf) => {
+            free_pins(fault, line, gate.pins.as_slice()).saturating_sub(2)
+        }
+        Operation::Folded(Fold::AllOf | Fold::AnyOf) | Operation::Chosen => 0,
     }
 }
 

@@ -1,6 +1,6 @@
 //! Laws over the definitions: each function has an empty body, and its contract is the law.
 
-ghost use Rattle.pair_miter.specs.Laws.{TidyKeepsModels, SupersetIsNotFresh, ModelSeparates, SeparatedHasModel, MiterIsSmall};
+ghost use Rattle.pair_miter.specs.Laws.{TidyKeepsModels, SupersetIsNotFresh, ModelSeparates, SeparatedHasModel, MiterIsSmall, MiterIsProper};
 
 /// An assignment makes a list of clauses true exactly where it does so once the list is tidied.
 pub fn tidy_keeps_models()
@@ -25,4 +25,9 @@ pub fn separated_pair_has_model()
 /// The miter of two faults of a circuit has fewer than 2^30 clauses, and fewer than 2^31 variables.
 pub fn miter_is_small()
     ensures { MiterIsSmall }
+{}
+
+/// Each clause of the miter of two faults of a circuit is over the miter's variables, and has none of them twice.
+pub fn miter_is_proper()
+    ensures { MiterIsProper }
 {}

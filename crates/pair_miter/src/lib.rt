@@ -10,15 +10,15 @@ mod numbering;
 mod operand;
 mod reading;
 mod rows;
-#[cfg(test)]
-mod tests;
+mod side;
 mod tidier;
 mod writer;
 
 pub use building::build;
 pub use laws::{
-    miter_is_small, model_separates, separated_pair_has_model, superset_is_not_fresh,
-    tidy_keeps_models,
+    miter_is_proper, miter_is_small, model_separates, separated_pair_has_model,
+    superset_is_not_fresh, tidy_keeps_models,
 };
 pub use log::{Chain, Log};
 pub use miter::Miter;
+pub use side::Side;

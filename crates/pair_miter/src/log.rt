@@ -44,6 +44,13 @@ impl Chain {
         Ok(())
     }
 
+    /// Sets the literal at which the chain's clause is fresh, or takes it away.
+    pub fn set_at(&mut self, at: Option<Lit>)
+        ensures { self.new ≡ record self.old { fresh_at = at } }
+    {
+        self.at = at;
+    }
+
     /// The number of the clause that the chain begins with.
     pub fn start(&self) -> u32
         ensures { result ≡ self.now.start }

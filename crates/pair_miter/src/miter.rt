@@ -1,15 +1,15 @@
 //! The miter of a pair of faults, and the vectors of its models.
 
-ghost use Rattle.std.specs.Prelude.{◌≡◌, ◌<◌, true, length, All, IfOk};
+ghost use Rattle.std.specs.Prelude.{◌≡◌, ◌<◌, ◌^◌, true, length, All, IfOk};
 ghost use Rattle.net_model.specs.Answer.{Separates};
 ghost use Rattle.net_model.specs.Circuit.{line_count};
 ghost use Rattle.net_model.specs.Scope.{is_relevant};
-ghost use Rattle.pair_miter.specs.Laws.{HaveVariables};
-ghost use Rattle.pair_miter.specs.Numbering.{copy_of};
+ghost use Rattle.clause_pool.specs.Proper.{IsProper};
 ghost use Rattle.pair_miter.specs.Miter.{miter, is_model, copy_bit, source_bit, vector_of};
 ghost use Rattle.pair_miter.specs.Variables.{variable_count};
 
-use crate::numbering::{Numbering, Side};
+use crate::numbering::Numbering;
+use crate::side::Side;
 use net_model::{Bits, Vector, stuck_stem};
 use std::alloc::{AllocError, Global};
 use std::marker::Model;
@@ -35,16 +35,18 @@ impl<'a> Model for Miter<'a> {
 }
 
 impl<'a> Miter<'a> {
-    /// How many variables there are. They are numbered from 1, and the clauses have no others.
+    /// How many variables there are. They are numbered from 1. The clauses have no others, and none of them twice.
     pub fn variables(&self) -> u32
         ensures value { result ≡ variable_count self.now.circuit self.now.f self.now.g }
-        ensures within { All (HaveVariables result) (miter self.now.circuit self.now.f self.now.g) }
+        ensures below { result < 2 ^ 31 }
+        ensures proper { All (IsProper result) (miter self.now.circuit self.now.f self.now.g) }
     {
         self.variables
     }
 
     pub fn clause_count(&self) -> u32
-        ensures { result ≡ length (miter self.now.circuit self.now.f self.now.g) }
+        ensures value { result ≡ length (miter self.now.circuit self.now.f self.now.g) }
+        ensures below { result < 2 ^ 30 }
     {
         self.clauses
     }
@@ -93,7 +95,7 @@ fn copy_bit(numbering: &Numbering, model: &Bits, side: Side, line: u32) -> bool
     requires whole { length model.now ≡ variable_count numbering.now.circuit numbering.now.f numbering.now.g }
     requires line { line < line_count numbering.now.circuit }
     requires relevant { is_relevant numbering.now.circuit numbering.now.f numbering.now.g line ≡ true }
-    ensures { result ≡ copy_bit numbering.now.circuit numbering.now.f numbering.now.g model.now (copy_of side) line }
+    ensures { result ≡ copy_bit numbering.now.circuit numbering.now.f numbering.now.g model.now side line }
 {
     model.get(numbering.variable(side, line) as usize - 1)
 }

@@ -7,17 +7,11 @@ ghost use Rattle.net_model.specs.Scope.{is_relevant, is_split, is_reached};
 ghost use Rattle.pair_miter.specs.MiterView.{miter_with};
 ghost use Rattle.pair_miter.specs.Variables.{fault_of, line_variable, variables_below};
 
+use crate::side::Side;
 use fault_list::Scope;
 use net_model::{Circuit, Fault};
 use std::alloc::{AllocError, Global};
 use std::marker::Model;
-
-/// A side of the pair: the copy of the circuit under the first fault, or the one under the second.
-#[derive(Clone, Copy, Debug, PartialEq, Eq)]
-pub(crate) enum Side {
-    First,
-    Second,
-}
 
 /// The variables of the lines of the miter of two faults.
 #[derive(Drop)]
@@ -44,17 +38,15 @@ impl<'a> Model for Numbering<'a> {
 }
 
 impl<'a> Numbering<'a> {
-    ghost use Rattle.pair_miter.specs.Numbering.{copy_of};
-
     pub(crate) fn new(
         alloc: Global,
         circuit: &'a Circuit,
-        f: &Fault,
-        g: &Fault,
+        f: Fault,
+        g: Fault,
     ) -> Result<Numbering<'a>, AllocError>
-        ensures { IfOk result (λ numbering. numbering ≡ miter_with circuit.now f.now g.now) }
+        ensures { IfOk result (λ numbering. numbering ≡ miter_with circuit.now f g) }
     {
-        let scope = Scope::of(alloc, circuit, f, g)?;
+        let scope = Scope::of(alloc, circuit, &f, &g)?;
         let mut firsts = Vec::with_capacity(alloc, circuit.lines() as usize)?;
         let mut end = 1;
         for line in 0..circuit.lines() {
@@ -63,8 +55,8 @@ impl<'a> Numbering<'a> {
         }
         Ok(Numbering {
             circuit,
-            f: *f,
-            g: *g,
+            f,
+            g,
             scope,
             firsts,
             end,
@@ -80,7 +72,7 @@ impl<'a> Numbering<'a> {
 
     /// The fault of a copy.
     pub(crate) fn fault(&self, side: Side) -> Fault
-        ensures { result ≡ fault_of self.now.circuit self.now.f self.now.g (copy_of side) }
+        ensures { result ≡ fault_of self.now.circuit self.now.f self.now.g side }
     {
         match side {
             Side::First => self.f,
@@ -116,7 +108,7 @@ impl<'a> Numbering<'a> {
     /// The variable of a line in a copy.
     pub(crate) fn variable(&self, side: Side, line: u32) -> u32
         requires { line < line_count self.now.circuit }
-        ensures { result ≡ line_variable self.now.circuit self.now.f self.now.g (copy_of side) line }
+        ensures { result ≡ line_variable self.now.circuit self.now.f self.now.g side line }
     {
         let first = self.firsts[line as usize];
         match side {

@@ -3,10 +3,10 @@
 ghost use Rattle.std.specs.Prelude.{◌≡◌, ◌<◌, ◌^◌, All, OnOk, length};
 ghost use Rattle.net_model.specs.Circuit.{IsCircuit, line_count};
 ghost use Rattle.pair_miter.specs.Miter.{operand_of, gate_operands, shown_operand};
-ghost use Rattle.pair_miter.specs.Numbering.{copy_of};
 
-use crate::numbering::{Numbering, Side};
+use crate::numbering::Numbering;
 use crate::operand::Operand;
+use crate::side::Side;
 use net_model::{Gate, stuck_pin, stuck_position};
 use std::alloc::AllocError;
 
@@ -20,7 +20,7 @@ pub(crate) fn read_pins(
 ) -> Result<(), AllocError>
     requires inside { All (λ read. read < line_count numbering.now.circuit) gate.now.pins }
     requires few { length gate.now.pins < 2 ^ 32 }
-    ensures { OnOk result (operands.new.items ≡ gate_operands numbering.now.circuit numbering.now.f numbering.now.g (copy_of side) line gate.now) }
+    ensures { OnOk result (operands.new.items ≡ gate_operands numbering.now.circuit numbering.now.f numbering.now.g side line gate.now) }
 {
     let fault = numbering.fault(side);
     operands.clear();
@@ -34,7 +34,7 @@ pub(crate) fn read_pins(
 /// What a position shows.
 pub(crate) fn shown(numbering: &Numbering, side: Side, position: u32) -> Operand
     requires { position < length numbering.now.circuit.positions }
-    ensures value { result ≡ shown_operand numbering.now.circuit numbering.now.f numbering.now.g position (copy_of side) }
+    ensures value { result ≡ shown_operand numbering.now.circuit numbering.now.f numbering.now.g position side }
     ensures circuit { IsCircuit numbering.now.circuit }
 {
     let line = numbering.circuit().positions()[position as usize];
@@ -45,10 +45,7 @@ pub(crate) fn shown(numbering: &Numbering, side: Side, position: u32) -> Operand
 // What a reader of a line gives: the value at which it is stuck, or else the line's variable.
 fn operand(numbering: &Numbering, side: Side, stuck: Option<bool>, line: u32) -> Operand
     requires { line < line_count numbering.now.circuit }
-    ensures { result ≡ operand_of numbering.now.circuit numbering.now.f numbering.now.g (copy_of side) stuck line }
+    ensures { result ≡ operand_of numbering.now.circuit numbering.now.f numbering.now.g side stuck line }
 {
-    match stuck {
-        Some(bit) => Operand::Constant(bit),
-        None => Operand::Variable(numbering.variable(side, line)),
-    }
+    Operand::new(stuck, numbering.variable(side, line))
 }

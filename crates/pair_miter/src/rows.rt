@@ -1,39 +1,23 @@
 //! The rows of a gate, written into a pool.
 
-ghost use Rattle.std.specs.Prelude.{◌≡◌, ◌+◌, ◌<◌, ◌≤◌, ◌^◌, true, [], ◌∷◌, length, All, MatchOption, OnOk, OnErr, if◌then◌else◌};
-ghost use Rattle.net_model.specs.Gate.{odd_ones};
-ghost use Rattle.clause_pool.specs.Literal.{opposite, pos_literal};
-ghost use Rattle.pair_miter.specs.Adds.{Adds, Keeps};
-ghost use Rattle.pair_miter.specs.Marks.{IsVariable, IsOperand, AreHelpers};
+ghost use Rattle.std.specs.Prelude.{◌≡◌, ◌+◌, ◌<◌, ◌≤◌, ◌^◌, true, not, [], ◌∷◌, length, All, IsTrue, MatchOption, OnOk, OnErr};
+ghost use Rattle.net_model.specs.Gate.{takes_pins};
+ghost use Rattle.clause_pool.specs.Literal.{Literal, opposite, pos_literal};
+ghost use Rattle.clause_pool.specs.Proper.{IsVariable};
+ghost use Rattle.pair_miter.specs.Adds.{Writes};
+ghost use Rattle.pair_miter.specs.Marks.{IsOperand, AreHelpers};
 ghost use Rattle.pair_miter.specs.Miter.{tidy};
-ghost use Rattle.pair_miter.specs.Parts.{with_each};
-ghost use Rattle.pair_miter.specs.Rows.{constants, variables, has_constant, same_value, xor_of_two, xor_onward, xor_of, buffer_of, and_rows, or_rows, gate_rows};
-ghost use Rattle.pair_miter.specs.Variables.{is_parity};
+ghost use Rattle.pair_miter.specs.Rows.{variables, has_constant, has_odd_constants, with_each, same_value, xor_of_two, xor_onward, odd_rows, decided_rows, case_rows, chosen_rows, folded_rows, gate_rows};
+ghost use Rattle.pair_miter.specs.Variables.{is_parity, is_parity_fold};
 
 use crate::operand::Operand;
 use crate::tidier::Tidier;
 use clause_pool::{Lit, Pool};
-use net_model::Kind;
+use net_model::{Fold, Kind, Operation};
 use std::alloc::AllocError;
-
-/// Writes one clause.
-pub(crate) fn write_clause(
-    tidier: &mut Tidier,
-    pool: &mut Pool,
-    clause: &[Lit],
-) -> Result<(), AllocError>
-    requires variables { All (λ l. l.variable ≤ tidier.old) clause.now }
-    requires few { length pool.old.clauses + length (tidy (clause.now ∷ [])) < 2 ^ 30 }
-    ensures ok { OnOk result (Adds pool.old pool.new (tidy (clause.now ∷ []))) }
-    ensures err { OnErr result (Keeps pool.old pool.new) }
-    ensures variables { tidier.new ≡ tidier.old }
-{
-    tidier.write(pool, clause)
-}
 
 /// Writes the rows of a gate: its output's variable, and its first helper, which only an exclusive or of three variables
 /// or more has.
-#[tactic(auto, unfolding(crate::specs::Rows::gate_rows))]
 pub(crate) fn write_gate(
     tidier: &mut Tidier,
     pool: &mut Pool,
@@ -45,65 +29,60 @@ pub(crate) fn write_gate(
     requires output { IsVariable tidier.old output }
     requires operands { All (IsOperand tidier.old) operands.now }
     requires helpers { is_parity kind ≡ true → AreHelpers tidier.old helper (length (variables operands.now)) }
+    requires pins { IsTrue (takes_pins kind (length operands.now)) }
     requires few { length pool.old.clauses + length (tidy (gate_rows kind output helper operands.now)) < 2 ^ 30 }
-    ensures ok { OnOk result (Adds pool.old pool.new (tidy (gate_rows kind output helper operands.now))) }
-    ensures err { OnErr result (Keeps pool.old pool.new) }
+    ensures written { Writes result pool.old pool.new (tidy (gate_rows kind output helper operands.now)) }
     ensures variables { tidier.new ≡ tidier.old }
 {
-    let plain = tidier.literal(output, true);
-    let turned = tidier.literal(output, false);
-    match kind {
-        Kind::And => write_and(tidier, pool, plain, operands),
-        Kind::Nand => write_and(tidier, pool, turned, operands),
-        Kind::Or => write_or(tidier, pool, plain, operands),
-        Kind::Nor => write_or(tidier, pool, turned, operands),
-        Kind::Xor => write_xor(tidier, pool, plain, helper, operands),
-        Kind::Xnor => write_xor(tidier, pool, turned, helper, operands),
-        Kind::Not => write_buffer(tidier, pool, turned, operands),
-        Kind::Buff => write_buffer(tidier, pool, plain, operands),
+    let y = tidier.literal(output, !kind.inverts());
+    match kind.operation() {
+        Operation::Folded(fold) => write_folded(tidier, pool, fold, y, helper, operands),
+        Operation::Chosen => write_chosen(tidier, pool, y, operands),
     }
 }
 
-// A literal is the AND of the operands.
-fn write_and(
+// A literal is a fold of the operands.
+fn write_folded(
     tidier: &mut Tidier,
     pool: &mut Pool,
+    fold: Fold,
     y: Lit,
+    helper: u32,
     operands: &[Operand],
 ) -> Result<(), AllocError>
     requires output { y.variable ≤ tidier.old }
     requires operands { All (IsOperand tidier.old) operands.now }
-    requires few { length pool.old.clauses + length (tidy (and_rows y operands.now)) < 2 ^ 30 }
-    ensures ok { OnOk result (Adds pool.old pool.new (tidy (and_rows y operands.now))) }
-    ensures err { OnErr result (Keeps pool.old pool.new) }
+    requires helpers { is_parity_fold fold ≡ true → AreHelpers tidier.old helper (length (variables operands.now)) }
+    requires few { length pool.old.clauses + length (tidy (folded_rows fold y helper operands.now)) < 2 ^ 30 }
+    ensures written { Writes result pool.old pool.new (tidy (folded_rows fold y helper operands.now)) }
     ensures variables { tidier.new ≡ tidier.old }
 {
-    if has_constant(false, operands) {
-        return tidier.write(pool, &[y.opposite()]);
+    match fold {
+        Fold::AllOf => write_decided(tidier, pool, false, y.opposite(), operands),
+        Fold::AnyOf => write_decided(tidier, pool, true, y, operands),
+        Fold::OddOf => write_odd(tidier, pool, y, helper, operands),
     }
-    write_each(tidier, pool, y.opposite(), true, operands)?;
-    tidier.write_all(pool, y, false, operands)
 }
 
-// A literal is the OR of the operands.
-fn write_or(
+// A literal holds exactly where one of the operands has the deciding value.
+fn write_decided(
     tidier: &mut Tidier,
     pool: &mut Pool,
-    y: Lit,
+    decides: bool,
+    l: Lit,
     operands: &[Operand],
 ) -> Result<(), AllocError>
-    requires output { y.variable ≤ tidier.old }
+    requires output { l.variable ≤ tidier.old }
     requires operands { All (IsOperand tidier.old) operands.now }
-    requires few { length pool.old.clauses + length (tidy (or_rows y operands.now)) < 2 ^ 30 }
-    ensures ok { OnOk result (Adds pool.old pool.new (tidy (or_rows y operands.now))) }
-    ensures err { OnErr result (Keeps pool.old pool.new) }
+    requires few { length pool.old.clauses + length (tidy (decided_rows decides l operands.now)) < 2 ^ 30 }
+    ensures written { Writes result pool.old pool.new (tidy (decided_rows decides l operands.now)) }
     ensures variables { tidier.new ≡ tidier.old }
 {
-    if has_constant(true, operands) {
-        return tidier.write(pool, &[y]);
+    if has_constant(decides, operands) {
+        return tidier.write(pool, &[l]);
     }
-    write_each(tidier, pool, y, false, operands)?;
-    tidier.write_all(pool, y.opposite(), true, operands)
+    write_each(tidier, pool, l, !decides, operands)?;
+    tidier.write_all(pool, l.opposite(), decides, operands)
 }
 
 // Clauses of a literal and each of the variables among operands.
@@ -117,41 +96,16 @@ fn write_each(
     requires first { first.variable ≤ tidier.old }
     requires operands { All (IsOperand tidier.old) operands.now }
     requires few { length pool.old.clauses + length (tidy (with_each first positive (variables operands.now))) < 2 ^ 30 }
-    ensures ok { OnOk result (Adds pool.old pool.new (tidy (with_each first positive (variables operands.now)))) }
-    ensures err { OnErr result (Keeps pool.old pool.new) }
+    ensures written { Writes result pool.old pool.new (tidy (with_each first positive (variables operands.now))) }
     ensures variables { tidier.new ≡ tidier.old }
 {
     for operand in operands {
-        if let Operand::Variable(x) = operand {
-            let lit = tidier.literal(*x, positive);
+        if let Some(x) = operand.variable() {
+            let lit = tidier.literal(x, positive);
             tidier.write(pool, &[first, lit])?;
         }
     }
     Ok(())
-}
-
-// A literal is the one operand.
-fn write_buffer(
-    tidier: &mut Tidier,
-    pool: &mut Pool,
-    y: Lit,
-    operands: &[Operand],
-) -> Result<(), AllocError>
-    requires output { y.variable ≤ tidier.old }
-    requires operands { All (IsOperand tidier.old) operands.now }
-    requires few { length pool.old.clauses + length (tidy (buffer_of y operands.now)) < 2 ^ 30 }
-    ensures ok { OnOk result (Adds pool.old pool.new (tidy (buffer_of y operands.now))) }
-    ensures err { OnErr result (Keeps pool.old pool.new) }
-    ensures variables { tidier.new ≡ tidier.old }
-{
-    match operands {
-        [] => Ok(()),
-        [Operand::Constant(bit), ..] => {
-            let unit = if *bit { y } else { y.opposite() };
-            tidier.write(pool, &[unit])
-        }
-        [Operand::Variable(x), ..] => write_same(tidier, pool, y, *x),
-    }
 }
 
 // A literal and a variable have one value.
@@ -159,17 +113,15 @@ fn write_same(tidier: &mut Tidier, pool: &mut Pool, y: Lit, variable: u32) -> Re
     requires output { y.variable ≤ tidier.old }
     requires variable { IsVariable tidier.old variable }
     requires few { length pool.old.clauses + length (tidy (same_value y variable)) < 2 ^ 30 }
-    ensures ok { OnOk result (Adds pool.old pool.new (tidy (same_value y variable))) }
-    ensures err { OnErr result (Keeps pool.old pool.new) }
+    ensures written { Writes result pool.old pool.new (tidy (same_value y variable)) }
     ensures variables { tidier.new ≡ tidier.old }
 {
     let x = tidier.literal(variable, true);
-    tidier.write(pool, &[y.opposite(), x])?;
-    tidier.write(pool, &[y, x.opposite()])
+    write_clauses(tidier, pool, &[[y.opposite(), x], [y, x.opposite()]])
 }
 
-// A literal is the exclusive or of the operands. An odd number of constants 1 complements it.
-fn write_xor(
+// A literal tells whether an odd number of operands is 1. An odd number of constants 1 turns it.
+fn write_odd(
     tidier: &mut Tidier,
     pool: &mut Pool,
     y: Lit,
@@ -179,14 +131,15 @@ fn write_xor(
     requires output { y.variable ≤ tidier.old }
     requires operands { All (IsOperand tidier.old) operands.now }
     requires helpers { AreHelpers tidier.old helper (length (variables operands.now)) }
-    requires few { let out = if odd_ones (constants operands.now) then opposite y else y in
-        length pool.old.clauses + length (tidy (xor_of out helper (variables operands.now))) < 2 ^ 30 }
-    ensures ok { let out = if odd_ones (constants operands.now) then opposite y else y in
-        OnOk result (Adds pool.old pool.new (tidy (xor_of out helper (variables operands.now)))) }
-    ensures err { OnErr result (Keeps pool.old pool.new) }
+    requires few { length pool.old.clauses + length (tidy (odd_rows y helper operands.now)) < 2 ^ 30 }
+    ensures written { Writes result pool.old pool.new (tidy (odd_rows y helper operands.now)) }
     ensures variables { tidier.new ≡ tidier.old }
 {
-    let out = if is_odd(operands) { y.opposite() } else { y };
+    let out = if has_odd_constants(operands) {
+        y.opposite()
+    } else {
+        y
+    };
     let Some((first, rest)) = next_variable(operands) else {
         return tidier.write(pool, &[out.opposite()]);
     };
@@ -213,20 +166,19 @@ fn write_xor_onward(
     requires operands { All (IsOperand tidier.old) operands.now }
     requires helpers { AreHelpers tidier.old helper (2 + length (variables operands.now)) }
     requires few { length pool.old.clauses + length (tidy (xor_onward y helper first (second ∷ variables operands.now))) < 2 ^ 30 }
-    ensures ok { OnOk result (Adds pool.old pool.new (tidy (xor_onward y helper first (second ∷ variables operands.now)))) }
-    ensures err { OnErr result (Keeps pool.old pool.new) }
+    ensures written { Writes result pool.old pool.new (tidy (xor_onward y helper first (second ∷ variables operands.now))) }
     ensures variables { tidier.new ≡ tidier.old }
 {
     let mut part = helper;
     let mut before = first;
     let mut last = second;
     for operand in operands {
-        if let Operand::Variable(x) = operand {
+        if let Some(x) = operand.variable() {
             let here = tidier.literal(part, true);
             write_xor_of_two(tidier, pool, here, before, last)?;
             part += 1;
             before = here;
-            last = *x;
+            last = x;
         }
     }
     write_xor_of_two(tidier, pool, y, before, last)
@@ -244,42 +196,93 @@ fn write_xor_of_two(
     requires first { b.variable ≤ tidier.old }
     requires second { IsVariable tidier.old variable }
     requires few { length pool.old.clauses + length (tidy (xor_of_two a b (pos_literal variable))) < 2 ^ 30 }
-    ensures ok { OnOk result (Adds pool.old pool.new (tidy (xor_of_two a b (pos_literal variable)))) }
-    ensures err { OnErr result (Keeps pool.old pool.new) }
+    ensures written { Writes result pool.old pool.new (tidy (xor_of_two a b (pos_literal variable))) }
     ensures variables { tidier.new ≡ tidier.old }
 {
     let c = tidier.literal(variable, true);
-    tidier.write(pool, &[a.opposite(), b, c])?;
-    tidier.write(pool, &[a.opposite(), b.opposite(), c.opposite()])?;
-    tidier.write(pool, &[a, b.opposite(), c])?;
-    tidier.write(pool, &[a, b, c.opposite()])
+    let (not_a, not_b, not_c) = (a.opposite(), b.opposite(), c.opposite());
+    let clauses = [
+        [not_a, b, c],
+        [not_a, not_b, not_c],
+        [a, not_b, c],
+        [a, b, not_c],
+    ];
+    write_clauses(tidier, pool, &clauses)
+}
+
+// Writes clauses of so many literals.
+fn write_clauses<const N: usize>(
+    tidier: &mut Tidier,
+    pool: &mut Pool,
+    clauses: &[[Lit; N]],
+) -> Result<(), AllocError>
+    requires variables { All (All (λ (l : Literal). l.variable ≤ tidier.old)) clauses.now }
+    requires few { length pool.old.clauses + length (tidy clauses.now) < 2 ^ 30 }
+    ensures written { Writes result pool.old pool.new (tidy clauses.now) }
+    ensures variables { tidier.new ≡ tidier.old }
+{
+    for clause in clauses {
+        tidier.write(pool, clause)?;
+    }
+    Ok(())
+}
+
+// A literal is the second operand where the first is 0, and the third where it is 1.
+fn write_chosen(
+    tidier: &mut Tidier,
+    pool: &mut Pool,
+    y: Lit,
+    operands: &[Operand],
+) -> Result<(), AllocError>
+    requires output { y.variable ≤ tidier.old }
+    requires operands { All (IsOperand tidier.old) operands.now }
+    requires three { length operands.now ≡ 3 }
+    requires few { length pool.old.clauses + length (tidy (chosen_rows y operands.now)) < 2 ^ 30 }
+    ensures written { Writes result pool.old pool.new (tidy (chosen_rows y operands.now)) }
+    ensures variables { tidier.new ≡ tidier.old }
+{
+    let (chooser, first, second) = (&operands[0], &operands[1], &operands[2]);
+    write_case(tidier, pool, y, true, chooser, first)?;
+    write_case(tidier, pool, y, false, chooser, second)
+}
+
+// A literal is the chosen operand, unless the chooser has a value.
+fn write_case(
+    tidier: &mut Tidier,
+    pool: &mut Pool,
+    y: Lit,
+    unless: bool,
+    chooser: &Operand,
+    chosen: &Operand,
+) -> Result<(), AllocError>
+    requires output { y.variable ≤ tidier.old }
+    requires chooser { IsOperand tidier.old chooser.now }
+    requires chosen { IsOperand tidier.old chosen.now }
+    requires few { length pool.old.clauses + length (tidy (case_rows y unless chooser.now chosen.now)) < 2 ^ 30 }
+    ensures written { Writes result pool.old pool.new (tidy (case_rows y unless chooser.now chosen.now)) }
+    ensures variables { tidier.new ≡ tidier.old }
+{
+    tidier.write_case(pool, y.opposite(), unless, chooser, true, chosen)?;
+    tidier.write_case(pool, y, unless, chooser, false, chosen)
 }
 
 // Whether an operand is this constant.
 fn has_constant(bit: bool, operands: &[Operand]) -> bool
     ensures { result ≡ has_constant bit operands.now }
 {
-    for operand in operands {
-        if let Operand::Constant(constant) = operand
-            && *constant == bit
-        {
-            return true;
-        }
-    }
-    false
+    operands.iter().any(|operand| operand.is_constant(bit))
 }
 
 // Whether an odd number of operands is the constant 1.
-fn is_odd(operands: &[Operand]) -> bool
-    ensures { result ≡ odd_ones (constants operands.now) }
+fn has_odd_constants(operands: &[Operand]) -> bool
+    ensures { result ≡ has_odd_constants operands.now }
 {
-    let mut odd = false;
-    for operand in operands {
-        if let Operand::Constant(true) = operand {
-            odd = !odd;
-        }
-    }
-    odd
+    operands
+        .iter()
+        .filter(|operand| operand.is_constant(true))
+        .count()
+        % 2
+        == 1
 }
 
 // The first variable, and the operands after it.
@@ -287,8 +290,8 @@ fn next_variable(operands: &[Operand]) -> Option<(u32, &[Operand])>
     ensures { MatchOption result (variables operands.now ≡ []) (λ found. variables operands.now ≡ found.0 ∷ variables found.1.now) }
 {
     for (at, operand) in operands.iter().enumerate() {
-        if let Operand::Variable(x) = operand {
-            return Some((*x, &operands[at + 1..]));
+        if let Some(x) = operand.variable() {
+            return Some((x, &operands[at + 1..]));
         }
     }
     None

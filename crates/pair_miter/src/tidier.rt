@@ -2,11 +2,11 @@
 
 ghost use Rattle.std.specs.Prelude.{◌≡◌, ◌+◌, ◌-◌, ◌<◌, ◌≤◌, ◌^◌, [], ◌∷◌, ◌++◌, length, All, vec_capacity, IfOk, OnOk, OnErr};
 ghost use Rattle.clause_pool.specs.LiteralCode.{code_of};
-ghost use Rattle.pair_miter.specs.Adds.{Adds, Keeps};
-ghost use Rattle.pair_miter.specs.Marks.{AreMarks, HavePlaces, IsVariable, IsOperand};
+ghost use Rattle.pair_miter.specs.Adds.{Writes};
+ghost use Rattle.pair_miter.specs.Marks.{AreMarks, HavePlaces, IsOperand};
+ghost use Rattle.clause_pool.specs.Proper.{IsVariable};
 ghost use Rattle.pair_miter.specs.Miter.{tidy, without_repeats, is_tautology};
-ghost use Rattle.pair_miter.specs.Parts.{with_all};
-ghost use Rattle.pair_miter.specs.Rows.{variables};
+ghost use Rattle.pair_miter.specs.Rows.{variables, operand_literals, case_clause, with_all};
 
 use crate::operand::Operand;
 use clause_pool::{Full, Lit, Pool};
@@ -61,8 +61,7 @@ impl Tidier {
     pub(crate) fn write(&mut self, pool: &mut Pool, clause: &[Lit]) -> Result<(), AllocError>
         requires variables { All (λ l. l.variable ≤ self.old) clause.now }
         requires few { length pool.old.clauses + length (tidy (clause.now ∷ [])) < 2 ^ 30 }
-        ensures ok { OnOk result (Adds pool.old pool.new (tidy (clause.now ∷ []))) }
-        ensures err { OnErr result (Keeps pool.old pool.new) }
+        ensures written { Writes result pool.old pool.new (tidy (clause.now ∷ [])) }
         ensures variables { self.new ≡ self.old }
     {
         write_once(&mut self.marks, &mut self.kept, pool, clause)
@@ -79,11 +78,35 @@ impl Tidier {
         requires first { first.variable ≤ self.old }
         requires operands { All (IsOperand self.old) operands.now }
         requires few { length pool.old.clauses + length (tidy (with_all first positive (variables operands.now) ∷ [])) < 2 ^ 30 }
-        ensures ok { OnOk result (Adds pool.old pool.new (tidy (with_all first positive (variables operands.now) ∷ []))) }
-        ensures err { OnErr result (Keeps pool.old pool.new) }
+        ensures written { Writes result pool.old pool.new (tidy (with_all first positive (variables operands.now) ∷ [])) }
         ensures variables { self.new ≡ self.old }
     {
         fill(&mut self.row, first, positive, operands)?;
+        write_once(&mut self.marks, &mut self.kept, pool, self.row.as_slice())
+    }
+
+    /// Writes the clause of a literal and two operands with signs: a constant that is false is left out, and with one that
+    /// is true so is the clause.
+    pub(crate) fn write_case(
+        &mut self,
+        pool: &mut Pool,
+        l: Lit,
+        unless: bool,
+        chooser: &Operand,
+        positive: bool,
+        chosen: &Operand,
+    ) -> Result<(), AllocError>
+        requires first { l.variable ≤ self.old }
+        requires chooser { IsOperand self.old chooser.now }
+        requires chosen { IsOperand self.old chosen.now }
+        requires few { length pool.old.clauses + length (tidy (case_clause l unless chooser.now positive chosen.now)) < 2 ^ 30 }
+        ensures written { Writes result pool.old pool.new (tidy (case_clause l unless chooser.now positive chosen.now)) }
+        ensures variables { self.new ≡ self.old }
+    {
+        if chooser.is_constant(unless) || chosen.is_constant(positive) {
+            return Ok(());
+        }
+        fill_case(&mut self.row, l, unless, chooser, positive, chosen)?;
         write_once(&mut self.marks, &mut self.kept, pool, self.row.as_slice())
     }
 }
@@ -101,9 +124,37 @@ fn fill(
     row.clear();
     row.push(first)?;
     for operand in operands {
-        if let Operand::Variable(x) = operand {
-            row.push(Lit::new(*x, positive))?;
-        }
+        push_literal(row, positive, operand)?;
+    }
+    Ok(())
+}
+
+// Makes a row of a literal and of the variables among two operands with signs.
+fn fill_case(
+    row: &mut Vec<Lit>,
+    l: Lit,
+    unless: bool,
+    chooser: &Operand,
+    positive: bool,
+    chosen: &Operand,
+) -> Result<(), AllocError>
+    requires chooser { IsOperand (2 ^ 31 - 1) chooser.now }
+    requires chosen { IsOperand (2 ^ 31 - 1) chosen.now }
+    ensures { OnOk result (row.new.items ≡ l ∷ operand_literals unless chooser.now ++ operand_literals positive chosen.now) }
+{
+    row.clear();
+    row.push(l)?;
+    push_literal(row, unless, chooser)?;
+    push_literal(row, positive, chosen)
+}
+
+// Adds the literal of an operand with a sign, unless it is a constant.
+fn push_literal(row: &mut Vec<Lit>, positive: bool, operand: &Operand) -> Result<(), AllocError>
+    requires { IsOperand (2 ^ 31 - 1) operand.now }
+    ensures { OnOk result (row.new.items ≡ row.old.items ++ operand_literals positive operand.now) }
+{
+    if let Some(x) = operand.variable() {
+        row.push(Lit::new(x, positive))?;
     }
     Ok(())
 }
@@ -118,8 +169,7 @@ fn write_once(
     requires places { HavePlaces marks.old.items clause.now }
     requires clear { AreMarks marks.old.items [] }
     requires few { length pool.old.clauses + length (tidy (clause.now ∷ [])) < 2 ^ 30 }
-    ensures ok { OnOk result (Adds pool.old pool.new (tidy (clause.now ∷ []))) }
-    ensures err { OnErr result (Keeps pool.old pool.new) }
+    ensures written { Writes result pool.old pool.new (tidy (clause.now ∷ [])) }
     ensures places { length marks.new.items ≡ length marks.old.items }
     ensures clear { AreMarks marks.new.items [] }
 {
@@ -180,8 +230,7 @@ fn place(lit: Lit) -> usize
 // Adds a clause to a pool, which grows only where it lacks room.
 fn push(pool: &mut Pool, clause: &[Lit]) -> Result<(), AllocError>
     requires { length pool.old.clauses < 2 ^ 30 }
-    ensures ok { OnOk result (Adds pool.old pool.new (clause.now ∷ [])) }
-    ensures err { OnErr result (Keeps pool.old pool.new) }
+    ensures written { Writes result pool.old pool.new (clause.now ∷ []) }
 {
     match pool.push(clause) {
         Ok(_) => Ok(()),
@@ -193,7 +242,7 @@ fn push(pool: &mut Pool, clause: &[Lit]) -> Result<(), AllocError>
 fn push_grown(pool: &mut Pool, clause: &[Lit]) -> Result<(), AllocError>
     requires { length pool.old.clauses < 2 ^ 30 }
     ensures ok { OnOk result (pool.new.clauses ≡ pool.old.clauses ++ clause.now ∷ []) }
-    ensures err { OnErr result (Keeps pool.old pool.new) }
+    ensures err { OnErr result (pool.new ≡ pool.old) }
 {
     let used = pool.mark();
     pool.grow(used.clauses + 1, used.literals.max(clause.len()))?;

@@ -4,16 +4,17 @@ ghost use Rattle.std.specs.Prelude.{◌≡◌, ◌+◌, ◌<◌, ◌≤◌, ◌^
 ghost use Rattle.net_model.specs.Circuit.{line_count};
 ghost use Rattle.net_model.specs.Fault.{stuck_stem};
 ghost use Rattle.net_model.specs.Scope.{is_relevant, is_reached};
-ghost use Rattle.pair_miter.specs.Adds.{Adds, Keeps};
+ghost use Rattle.pair_miter.specs.Adds.{Writes};
 ghost use Rattle.pair_miter.specs.Miter.{copy_clauses, line_clauses, difference_clauses, tidy};
-ghost use Rattle.pair_miter.specs.Numbering.{copy_of, HasCopy};
-ghost use Rattle.pair_miter.specs.Variables.{fault_of, first_copy, first_helper, copy_helpers, line_helpers, difference_variable, variable_count};
+ghost use Rattle.pair_miter.specs.Numbering.{HasCopy};
+ghost use Rattle.pair_miter.specs.Variables.{fault_of, first_helper, copy_helpers, line_helpers, difference_variable, variable_count};
 
 use crate::helpers::copy_helpers;
-use crate::numbering::{Numbering, Side};
+use crate::numbering::Numbering;
 use crate::operand::Operand;
 use crate::reading::{read_pins, shown};
 use crate::rows::write_gate;
+use crate::side::Side;
 use crate::tidier::Tidier;
 use clause_pool::Pool;
 use net_model::{Kind, stuck_stem};
@@ -50,11 +51,10 @@ impl Writer {
         requires variables { self.old.tidier ≡ variable_count numbering.now.circuit numbering.now.f numbering.now.g }
         requires line { line < line_count numbering.now.circuit }
         requires relevant { is_relevant numbering.now.circuit numbering.now.f numbering.now.g line ≡ true }
-        requires helper { self.old.helper ≡ first_helper numbering.now.circuit numbering.now.f numbering.now.g first_copy line }
+        requires helper { self.old.helper ≡ first_helper numbering.now.circuit numbering.now.f numbering.now.g Side.First line }
         requires few { length pool.old.clauses + length (tidy (line_clauses numbering.now.circuit numbering.now.f numbering.now.g line)) < 2 ^ 30 }
-        ensures ok { OnOk result (Adds pool.old pool.new (tidy (line_clauses numbering.now.circuit numbering.now.f numbering.now.g line))) }
+        ensures written { Writes result pool.old pool.new (tidy (line_clauses numbering.now.circuit numbering.now.f numbering.now.g line)) }
         ensures helper { OnOk result (self.new.helper ≡ self.old.helper + line_helpers numbering.now.circuit numbering.now.f numbering.now.g line) }
-        ensures err { OnErr result (Keeps pool.old pool.new) }
         ensures variables { self.new.tidier ≡ self.old.tidier }
     {
         self.write_copy(pool, numbering, Side::First, line)?;
@@ -75,12 +75,11 @@ impl Writer {
         requires variables { self.old.tidier ≡ variable_count numbering.now.circuit numbering.now.f numbering.now.g }
         requires line { line < line_count numbering.now.circuit }
         requires relevant { is_relevant numbering.now.circuit numbering.now.f numbering.now.g line ≡ true }
-        requires copy { HasCopy numbering.now.circuit numbering.now.f numbering.now.g (copy_of side) line }
-        requires helper { self.old.helper ≡ first_helper numbering.now.circuit numbering.now.f numbering.now.g (copy_of side) line }
-        requires few { length pool.old.clauses + length (tidy (copy_clauses numbering.now.circuit numbering.now.f numbering.now.g (copy_of side) line)) < 2 ^ 30 }
-        ensures ok { OnOk result (Adds pool.old pool.new (tidy (copy_clauses numbering.now.circuit numbering.now.f numbering.now.g (copy_of side) line))) }
-        ensures helper { OnOk result (self.new.helper ≡ self.old.helper + copy_helpers numbering.now.circuit numbering.now.f numbering.now.g (copy_of side) line) }
-        ensures err { OnErr result (Keeps pool.old pool.new) }
+        requires copy { HasCopy numbering.now.circuit numbering.now.f numbering.now.g side line }
+        requires helper { self.old.helper ≡ first_helper numbering.now.circuit numbering.now.f numbering.now.g side line }
+        requires few { length pool.old.clauses + length (tidy (copy_clauses numbering.now.circuit numbering.now.f numbering.now.g side line)) < 2 ^ 30 }
+        ensures written { Writes result pool.old pool.new (tidy (copy_clauses numbering.now.circuit numbering.now.f numbering.now.g side line)) }
+        ensures helper { OnOk result (self.new.helper ≡ self.old.helper + copy_helpers numbering.now.circuit numbering.now.f numbering.now.g side line) }
         ensures variables { self.new.tidier ≡ self.old.tidier }
     {
         if let Some(bit) = stuck_stem(numbering.fault(side), line) {
@@ -105,13 +104,12 @@ impl Writer {
         requires line { line < line_count numbering.now.circuit }
         requires gate { numbering.now.circuit.sources ≤ line }
         requires relevant { is_relevant numbering.now.circuit numbering.now.f numbering.now.g line ≡ true }
-        requires free { stuck_stem (fault_of numbering.now.circuit numbering.now.f numbering.now.g (copy_of side)) line ≡ None }
-        requires copy { HasCopy numbering.now.circuit numbering.now.f numbering.now.g (copy_of side) line }
-        requires helper { self.old.helper ≡ first_helper numbering.now.circuit numbering.now.f numbering.now.g (copy_of side) line }
-        requires few { length pool.old.clauses + length (tidy (copy_clauses numbering.now.circuit numbering.now.f numbering.now.g (copy_of side) line)) < 2 ^ 30 }
-        ensures ok { OnOk result (Adds pool.old pool.new (tidy (copy_clauses numbering.now.circuit numbering.now.f numbering.now.g (copy_of side) line))) }
-        ensures helper { OnOk result (self.new.helper ≡ self.old.helper + copy_helpers numbering.now.circuit numbering.now.f numbering.now.g (copy_of side) line) }
-        ensures err { OnErr result (Keeps pool.old pool.new) }
+        requires free { stuck_stem (fault_of numbering.now.circuit numbering.now.f numbering.now.g side) line ≡ None }
+        requires copy { HasCopy numbering.now.circuit numbering.now.f numbering.now.g side line }
+        requires helper { self.old.helper ≡ first_helper numbering.now.circuit numbering.now.f numbering.now.g side line }
+        requires few { length pool.old.clauses + length (tidy (copy_clauses numbering.now.circuit numbering.now.f numbering.now.g side line)) < 2 ^ 30 }
+        ensures written { Writes result pool.old pool.new (tidy (copy_clauses numbering.now.circuit numbering.now.f numbering.now.g side line)) }
+        ensures helper { OnOk result (self.new.helper ≡ self.old.helper + copy_helpers numbering.now.circuit numbering.now.f numbering.now.g side line) }
         ensures variables { self.new.tidier ≡ self.old.tidier }
     {
         let gate = numbering.circuit().gate(line);
@@ -142,8 +140,7 @@ impl Writer {
         requires reached { is_reached numbering.now.circuit numbering.now.f numbering.now.g position ≡ true }
         requires difference { difference ≡ difference_variable numbering.now.circuit numbering.now.f numbering.now.g position }
         requires few { length pool.old.clauses + length (tidy (difference_clauses numbering.now.circuit numbering.now.f numbering.now.g position)) < 2 ^ 30 }
-        ensures ok { OnOk result (Adds pool.old pool.new (tidy (difference_clauses numbering.now.circuit numbering.now.f numbering.now.g position))) }
-        ensures err { OnErr result (Keeps pool.old pool.new) }
+        ensures written { Writes result pool.old pool.new (tidy (difference_clauses numbering.now.circuit numbering.now.f numbering.now.g position)) }
         ensures variables { self.new.tidier ≡ self.old.tidier }
     {
         let operands = [

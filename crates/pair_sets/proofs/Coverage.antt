@@ -11,11 +11,11 @@ use Rattle.net_model.specs.Fault.{stuck_stem, stuck_pin, stuck_position, reading
 use Rattle.net_model.specs.Answer.{bit_at, seen_bits, driven_bit, line_bit, Agrees, shown_bits}
 use Rattle.net_model.proofs.Copies.{pins_inside, map-readings}
 use Rattle.fault_list.proofs.Pair.{at_reading}
-use Rattle.pair_sets.specs.declared.pair_set.PairSet.{PairSet}
+use Rattle.pair_sets.specs.PairSet.{PairSet}
 use Rattle.pair_sets.specs.Cube.{Cube, fixed_bit, InCube}
 use Rattle.pair_sets.specs.PairSet.{Pair, has_pair, gate_pairs, free_pairs, fixed_pairs}
 use Rattle.pair_sets.specs.CubeState.{source_pairs, set_at, seen_pairs, line_pairs, ArePairSets, position_pairs}
-use Rattle.pair_sets.proofs.PairLemmas.{Has, forced_from, gate_from}
+use Rattle.pair_sets.proofs.PairLemmas.{Has, forced_from, values_from}
 use Rattle.pair_sets.proofs.SeenLemmas.{pin_set, zip-readings}
 
 -- ---- readings
@@ -70,7 +70,7 @@ module _ (c : Circuit) (f g : Fault) (cube : Cube) (v x y : List Bool) (sets : L
       zip-readings Has (pin_set f g sets line) pair gate.pins (λ place read m. forced_from (stuck_pin f line place) (stuck_pin g line place) (set_at sets read) (bit_at x read, bit_at y read) (h read m)) in
       subst (λ bs. has_pair (gate_pairs gate.kind seen) (gate_value gate.kind bs) (gate_value gate.kind (seen_bits (stuck_pin g line) y gate.pins)) ≡ true) first
       (subst (λ bs. has_pair (gate_pairs gate.kind seen) (gate_value gate.kind (map (λ p. p.0) (readings pair gate.pins))) (gate_value gate.kind bs) ≡ true) second
-      (gate_from gate.kind seen (readings pair gate.pins) zipped))
+      (values_from (gate_value gate.kind) seen (readings pair gate.pins) zipped))
 
   module _ (w : IsCircuit c) (a : Agrees c f v x) (b : Agrees c g v y) (s : ArePairSets c f g cube sets) where
     covered_below : (n line : ℕ) → w.acyclic.rank line < n → line < line_count c → IsCovered line

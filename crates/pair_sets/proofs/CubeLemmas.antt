@@ -1,8 +1,8 @@
 -- Cubes that fix sources of a circuit, each once.
 use Rattle.std.proofs.Common.{◌≡◌, ◌≢◌, ℕ, ◌<◌, ◌≤◌, List, [], ◌∷◌, length, map, eqb, eq-eqb, sym, ◌∙◌, ap, subst, refl, arith, inl, inr}
-use Rattle.std.specs.Prelude.{Bool, true, false, None, Some, option_map, find, cond, slice_set, ◌==◌, ◌||◌}
+use Rattle.std.specs.Prelude.{Bool, true, false, None, Some, option_map, find, cond, slice_set, replicate, ◌==◌, ◌||◌}
 use Rattle.std.specs.List.{list_any, AllByRecursion, IsDistinct}
-use Rattle.std.proofs.lemmas.List.{get_or-set_same, get_or-set_other}
+use Rattle.std.proofs.lemmas.List.{get_or-set_same, get_or-set_other, length-set, length-replicate}
 use Rattle.std.proofs.lemmas.Bool.{cases_eq, false≢true, ne_eqb}
 use Rattle.std.proofs.lemmas.List.{length-map}
 use Rattle.std.proofs.lemmas.Map.Steps.{length-le_from_distinct_below}
@@ -59,3 +59,13 @@ set_apart v source bit (fixed ∷ cube) apart inside =
 -- a vector of a cube is one of the cube with a free source fixed, once it has the bit there
 pub set_fixed : (v : List Bool) (source : ℕ) (bit : Bool) (cube : Cube) → source < length v → fixed_bit cube source ≡ None → InCube cube v → InCube ((source, bit) ∷ cube) (slice_set v source bit)
 set_fixed v source bit cube h free inside = (get_or-set_same v source bit false h, set_apart v source bit cube (free_apart cube source free) inside)
+
+-- a cube that fixes sources once has a vector
+pub vector_of : (n : ℕ) (cube : Cube) → FixesOnce n cube → (v : List Bool) × (length v ≡ n) × InCube cube v
+vector_of n [] once = (replicate n false, length-replicate n false, tt)
+vector_of n (fixed ∷ cube) once =
+    let rest = vector_of n cube once.2 in (
+      slice_set rest.0 fixed.0 fixed.1,
+      length-set rest.0 fixed.0 fixed.1 ∙ rest.1,
+      set_fixed rest.0 fixed.0 fixed.1 cube (subst (λ k. fixed.0 < k) (sym rest.1) once.0) once.1 rest.2,
+    )

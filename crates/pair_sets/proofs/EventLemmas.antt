@@ -1,42 +1,22 @@
 -- Lines that are settled: after one event, and once no gate waits.
 use Rattle.std.proofs.Common.{◌≡◌, ◌≢◌, ℕ, ◌^◌, ◌<◌, ◌≤◌, List, [], length, get_or, set, refl, sym, ◌∙◌, ap, subst, arith, inl, inr}
-use Rattle.std.specs.Prelude.{Bool, true, false}
-use Rattle.std.proofs.lemmas.Bool.{cases_eq, cases_lt, false≢true, false_from_ne_true}
-use Rattle.std.proofs.lemmas.List.{get_or-set_same, get_or-set_other, get_or_default, get_or_past}
+use Rattle.std.specs.Prelude.{Bool, true}
+use Rattle.std.proofs.lemmas.Bool.{cases_eq, false_from_ne_true}
+use Rattle.std.proofs.lemmas.List.{get_or-set_same, get_or-set_other, get_or_default}
 use Rattle.std.proofs.lemmas.Option.{slice_get-get_or}
 use Rattle.net_model.specs.declared.fault.Fault.{Fault}
 use Rattle.net_model.specs.Circuit.{Circuit, IsCircuit, line_count, Feeds}
 use Rattle.net_model.proofs.Orders.{order_has, order_only, order_count, reader_is_gate}
 use Rattle.net_model.proofs.SetSoFar.{fits_from}
 use Rattle.net_model.proofs.Elements.{true_false}
-use Rattle.pair_sets.specs.declared.pair_set.PairSet.{PairSet}
-use Rattle.pair_sets.specs.declared.wiring.Wiring.{Wiring}
+use Rattle.pair_sets.specs.PairSet.{PairSet}
 use Rattle.pair_sets.specs.PairSet.{free_pairs, IsWithin}
 use Rattle.pair_sets.specs.CubeState.{set_at}
-use Rattle.pair_sets.specs.Pending.{is_pending, IsLowest}
-use Rattle.pair_sets.specs.Wiring.{IsWiring}
+use Rattle.event_queue.specs.Pending.{is_pending}
+use Rattle.net_model.specs.Wiring.{Wiring, IsWiring}
 use Rattle.pair_sets.specs.Events.{IsIdle, gate_line_pairs, AreSettled, AreLoose, WakesReaders}
 use Rattle.pair_sets.proofs.PairLemmas.{within_same, within_more}
 use Rattle.pair_sets.proofs.SeenLemmas.{same_line_pairs, fewer_line_pairs}
-
--- ---- bits and pending numbers
-
-pub pending_within : (queue : List Bool) (n : ℕ) → is_pending queue n ≡ true → n < length queue
-pending_within queue n t = elim (cases_lt n (length queue)) [
-  | inl under ↦ under
-  | inr over ↦ true_false (is_pending queue n) t (get_or_past queue n false over)
-]
-
-pub lowest_left : (old new : List Bool) (low : ℕ) → IsLowest old new low → (n : ℕ) → is_pending new n ≡ true → (low < n) × (is_pending old n ≡ true)
-lowest_left old new low is n t =
-    let apart : n ≢ low = λ e. false≢true (sym is.gone ∙ ap (is_pending new) (sym e) ∙ t) in
-    let was : is_pending old n ≡ true = sym (is.others n apart) ∙ t in (
-      elim (cases_lt n low) [
-        | inl under ↦ absurd (false≢true (sym (is.lower n under) ∙ was))
-        | inr over ↦ omega arith
-      ],
-      was,
-    )
 
 -- ---- one line is settled
 
@@ -78,10 +58,10 @@ module _ (c : Circuit) (f g : Fault) (w : IsCircuit c) (sets : List PairSet) (li
       omega arith
 
   module _ (wiring : Wiring) (wired : IsWiring c wiring) (queue more : List Bool) where
-    woken_idle : ((place : ℕ) → place < length wiring.order.items → Feeds c line (get_or wiring.order.items place 0) → is_pending more place ≡ true)
-        → (l : ℕ) → Feeds c line l → IsIdle wiring.order.items more l → ⊥
+    woken_idle : ((place : ℕ) → place < length wiring.order → Feeds c line (get_or wiring.order place 0) → is_pending more place ≡ true)
+        → (l : ℕ) → Feeds c line l → IsIdle wiring.order more l → ⊥
     woken_idle woken l feeds idle =
-        let order = wiring.order.items in
+        let order = wiring.order in
         let gate = reader_is_gate c line l feeds in
         let found = order_has c (fits_from c w) order wired.order l gate.0 gate.1 in
         let place = found.0 in
@@ -89,7 +69,7 @@ module _ (c : Circuit) (f g : Fault) (w : IsCircuit c) (sets : List PairSet) (li
         true_false (is_pending more place) (woken place found.1 (subst (Feeds c line) (sym there) feeds)) (idle place found.1 there)
 
     -- what a line that doesn't wait reads has stayed, or is the line itself
-    reads_stay : WakesReaders c wiring.order.items line (set_at sets line) pairs queue more → (l : ℕ) → IsIdle wiring.order.items more l → (read : ℕ) → Feeds c read l → set_at sets read ≡ set_at (set sets line pairs) read
+    reads_stay : WakesReaders c wiring.order line (set_at sets line) pairs queue more → (l : ℕ) → IsIdle wiring.order more l → (read : ℕ) → Feeds c read l → set_at sets read ≡ set_at (set sets line pairs) read
     reads_stay wakes l idle read m = elim (cases_eq read line) [
       | inl own ↦ elim wakes.readers [
         | inl same ↦
@@ -100,9 +80,9 @@ module _ (c : Circuit) (f g : Fault) (w : IsCircuit c) (sets : List PairSet) (li
       | inr ne ↦ sym (other read ne)
     ]
 
-    pub settled_after : WakesReaders c wiring.order.items line (set_at sets line) pairs queue more
-        → ((l : ℕ) → c.sources ≤ l → l < line_count c → l ≢ line → IsIdle wiring.order.items queue l → set_at sets l ≡ gate_line_pairs c f g sets l)
-        → AreSettled c f g wiring.order.items more (set sets line pairs)
+    pub settled_after : WakesReaders c wiring.order line (set_at sets line) pairs queue more
+        → ((l : ℕ) → c.sources ≤ l → l < line_count c → l ≢ line → IsIdle wiring.order queue l → set_at sets l ≡ gate_line_pairs c f g sets l)
+        → AreSettled c f g wiring.order more (set sets line pairs)
     settled_after wakes settled l above below idle =
         let new = set sets line pairs in
         elim (cases_eq l line) [
@@ -111,22 +91,34 @@ module _ (c : Circuit) (f g : Fault) (w : IsCircuit c) (sets : List PairSet) (li
               subst P (sym same) (here ∙ right (subst (λ n. c.sources ≤ n) same above)
               ∙ same_line_pairs c f g [] sets new line (λ read m. sym (other read (not_own line read refl m))))
           | inr ne ↦
-              let was_idle : IsIdle wiring.order.items queue l = λ place h e. false_from_ne_true (is_pending queue place) (λ t. true_false (is_pending more place) (wakes.kept place t) (idle place h e)) in
+              let was_idle : IsIdle wiring.order queue l = λ place h e. false_from_ne_true (is_pending queue place) (λ t. true_false (is_pending more place) (wakes.kept place t) (idle place h e)) in
               other l ne ∙ settled l above below ne was_idle ∙ same_line_pairs c f g [] sets new l (reads_stay wakes l idle)
         ]
 
 -- ---- along the order
 
+-- the line whose gate stands at a place
+pub ordered_line : (c : Circuit) (wiring : Wiring) → IsWiring c wiring → (order : List ℕ) → order ≡ wiring.order → (place : ℕ) → place < length wiring.order
+    → (c.sources ≤ get_or order place 0) × (get_or order place 0 < line_count c) × (get_or order place 0 ≡ get_or wiring.order place 0)
+ordered_line c wiring wired order e place h =
+    let is : get_or order place 0 ≡ get_or wiring.order place 0 = ap (λ o. get_or o place 0) e in
+    let range = order_only c (fits_from c wired.circuit) wiring.order wired.order place h in
+    (subst (λ l. c.sources ≤ l) (sym is) range.0, subst (λ l. l < line_count c) (sym is) range.1, is)
+
 -- a gate's readers stand after it
-pub later_place : (c : Circuit) (wiring : Wiring) → IsWiring c wiring → (place reader : ℕ) → place < length wiring.order.items → reader < length wiring.order.items
-    → Feeds c (get_or wiring.order.items place 0) (get_or wiring.order.items reader 0) → place < reader
+pub later_place : (c : Circuit) (wiring : Wiring) → IsWiring c wiring → (place reader : ℕ) → place < length wiring.order → reader < length wiring.order
+    → Feeds c (get_or wiring.order place 0) (get_or wiring.order reader 0) → place < reader
 later_place c wiring wired place reader h k feeds =
-    let order = wiring.order.items in
+    let order = wiring.order in
     wired.order.sorted reader place (get_or order place 0) (get_or order reader 0) (slice_get-get_or order reader 0 k) feeds
     (order_only c (fits_from c wired.circuit) order wired.order place h).0 (slice_get-get_or order place 0 h)
 
-pub few_places : (c : Circuit) (wiring : Wiring) → IsWiring c wiring → length wiring.order.items < 2 ^ 26
+-- there are as many places as gates
+pub places_are_gates : (c : Circuit) (wiring : Wiring) → IsWiring c wiring → length wiring.order ≡ length c.gates
+places_are_gates c wiring wired = order_count c (fits_from c wired.circuit) wiring.order wired.order
+
+pub few_places : (c : Circuit) (wiring : Wiring) → IsWiring c wiring → length wiring.order < 2 ^ 26
 few_places c wiring wired =
-    let gates : length wiring.order.items ≡ length c.gates = order_count c (fits_from c wired.circuit) wiring.order.items wired.order in
+    let gates = places_are_gates c wiring wired in
     let small = wired.circuit.small in
     omega arith

@@ -9,42 +9,44 @@ use Rattle.std.proofs.Math.Bool.{and-true, or-false}
 use Rattle.std.specs.Cmp.{booleans_Decides}
 use Rattle.std.proofs.lemmas.Bool.{and_from, and_parts}
 use Rattle.net_model.specs.declared.gate.Kind.{Kind}
-use Rattle.net_model.specs.declared.gate.Kind.TheVariants.{And, Or, Xor, Not, Buff}
-use Rattle.net_model.specs.Gate.{gate_value, odd_ones}
-use Rattle.pair_sets.specs.declared.pair_set.PairSet.{PairSet}
-use Rattle.pair_sets.specs.PairSet.{Pair, forced_pairs, gate_pairs, some_pair, fixed_pairs, IsWithin}
+use Rattle.net_model.specs.declared.gate.Kind.TheVariants.{Not}
+use Rattle.net_model.specs.declared.operation.Fold.{Fold}
+use Rattle.net_model.specs.declared.operation.Fold.TheVariants.{AllOf, AnyOf, OddOf}
+use Rattle.net_model.specs.declared.operation.Operation.TheVariants.{Folded, Chosen}
+use Rattle.net_model.specs.Gate.{gate_value, operation_value, odd_ones, folded_bit, inverted, inverts, operation_of}
+use Rattle.pair_sets.specs.PairSet.{PairSet, Pair, forced_pairs, value_pairs, gate_pairs, operation_pairs, fixed_pairs, some_pair, has_pair, has_first, has_second, IsWithin}
 use Rattle.pair_sets.specs.Trail.{pair_count}
-use Rattle.pair_sets.proofs.PairLemmas.{Has, same_set, value_pair, gate_from, gate_is, forced_pair, forced_from, forced_is}
+use Rattle.pair_sets.proofs.PairLemmas.{Has, same_set, value_pair, values_from, values_are}
 
--- ---- a gate of many pins is a gate of two, again and again
+-- ---- a fold of many pins is a fold of two, again and again
 
-module _ (kind : Kind) (op : Bool → Bool → Bool) (more : (b : Bool) (bits : List Bool) → gate_value kind (b ∷ bits) ≡ op b (gate_value kind bits)) (one : (b : Bool) → gate_value kind (b ∷ []) ≡ b) where
-  two : (b : Bool) (bits : List Bool) → gate_value kind (b ∷ gate_value kind bits ∷ []) ≡ gate_value kind (b ∷ bits)
-  two b bits = more b (gate_value kind bits ∷ []) ∙ ap (op b) (one (gate_value kind bits)) ∙ sym (more b bits)
+module _ (value : List Bool → Bool) (op : Bool → Bool → Bool) (more : (b : Bool) (bits : List Bool) → value (b ∷ bits) ≡ op b (value bits)) (one : (b : Bool) → value (b ∷ []) ≡ b) where
+  two : (b : Bool) (bits : List Bool) → value (b ∷ value bits ∷ []) ≡ value (b ∷ bits)
+  two b bits = more b (value bits ∷ []) ∙ ap (op b) (one (value bits)) ∙ sym (more b bits)
 
-  two_pairs : (p : Pair) (ps : List Pair) → value_pair kind (p ∷ value_pair kind ps ∷ []) ≡ value_pair kind (p ∷ ps)
+  two_pairs : (p : Pair) (ps : List Pair) → value_pair value (p ∷ value_pair value ps ∷ []) ≡ value_pair value (p ∷ ps)
   two_pairs p ps = λ i. (two p.0 (map (λ q. q.0) ps) i, two p.1 (map (λ q. q.1) ps) i)
 
   module _ (s : PairSet) (sets : List PairSet) where
-    splits : (p : Pair) (ps : List Pair) → AllZip Has (s ∷ sets) ps → value_pair kind ps ≡ p → Has (gate_pairs kind (s ∷ gate_pairs kind sets ∷ [])) p
+    splits : (p : Pair) (ps : List Pair) → AllZip Has (s ∷ sets) ps → value_pair value ps ≡ p → Has (value_pairs value (s ∷ value_pairs value sets ∷ [])) p
     splits p [] h e = absurd h
     splits p (q ∷ qs) h e =
-        subst (Has (gate_pairs kind (s ∷ gate_pairs kind sets ∷ []))) (two_pairs q qs ∙ e)
-        (gate_from kind (s ∷ gate_pairs kind sets ∷ []) (q ∷ value_pair kind qs ∷ []) (h.0, (gate_from kind sets qs h.1, tt)))
+        subst (Has (value_pairs value (s ∷ value_pairs value sets ∷ []))) (two_pairs q qs ∙ e)
+        (values_from value (s ∷ value_pairs value sets ∷ []) (q ∷ value_pair value qs ∷ []) (h.0, (values_from value sets qs h.1, tt)))
 
-    joins : (p : Pair) (ps : List Pair) → AllZip Has (s ∷ gate_pairs kind sets ∷ []) ps → value_pair kind ps ≡ p → Has (gate_pairs kind (s ∷ sets)) p
+    joins : (p : Pair) (ps : List Pair) → AllZip Has (s ∷ value_pairs value sets ∷ []) ps → value_pair value ps ≡ p → Has (value_pairs value (s ∷ sets)) p
     joins p [] h e = absurd h
     joins p (q ∷ []) h e = absurd h.1
     joins p (q ∷ r ∷ (t ∷ ts)) h e = absurd h.1.1
     joins p (q ∷ r ∷ []) h e =
-        let found = gate_is kind sets r h.1.0 in
-        subst (Has (gate_pairs kind (s ∷ sets))) (sym (two_pairs q found.0) ∙ ap (λ x. value_pair kind (q ∷ x ∷ [])) found.2 ∙ e)
-        (gate_from kind (s ∷ sets) (q ∷ found.0) (h.0, found.1))
+        let found = values_are value sets r h.1.0 in
+        subst (Has (value_pairs value (s ∷ sets))) (sym (two_pairs q found.0) ∙ ap (λ x. value_pair value (q ∷ x ∷ [])) found.2 ∙ e)
+        (values_from value (s ∷ sets) (q ∷ found.0) (h.0, found.1))
 
-    pub pin_by_pin : gate_pairs kind (s ∷ sets) ≡ gate_pairs kind (s ∷ gate_pairs kind sets ∷ [])
-    pin_by_pin = same_set (gate_pairs kind (s ∷ sets)) (gate_pairs kind (s ∷ gate_pairs kind sets ∷ []))
-        (λ p h. let found = gate_is kind (s ∷ sets) p h in splits p found.0 found.1 found.2)
-        (λ p h. let found = gate_is kind (s ∷ gate_pairs kind sets ∷ []) p h in joins p found.0 found.1 found.2)
+    pin_by_pin : value_pairs value (s ∷ sets) ≡ value_pairs value (s ∷ value_pairs value sets ∷ [])
+    pin_by_pin = same_set (value_pairs value (s ∷ sets)) (value_pairs value (s ∷ value_pairs value sets ∷ []))
+        (λ p h. let found = values_are value (s ∷ sets) p h in splits p found.0 found.1 found.2)
+        (λ p h. let found = values_are value (s ∷ value_pairs value sets ∷ []) p h in joins p found.0 found.1 found.2)
 
 next_odd : (n : ℕ) → ((n + 1) % 2 == 1) ≡ not (n % 2 == 1)
 next_odd n = grind (arith, nat_tests)
@@ -57,51 +59,45 @@ odd_one : (b : Bool) → odd_ones (b ∷ []) ≡ b
 odd_one true = refl
 odd_one false = refl
 
-pub and_more : (s : PairSet) (sets : List PairSet) → gate_pairs And (s ∷ sets) ≡ gate_pairs And (s ∷ gate_pairs And sets ∷ [])
-and_more = pin_by_pin And (λ a b. a && b) (λ b bits. refl) and-true
+pub fold_more : (fold : Fold) (s : PairSet) (sets : List PairSet) → operation_pairs (Folded fold) (s ∷ sets) ≡ operation_pairs (Folded fold) (s ∷ operation_pairs (Folded fold) sets ∷ [])
+fold_more AllOf = pin_by_pin (folded_bit AllOf) (λ a b. a && b) (λ b bits. refl) and-true
+fold_more AnyOf = pin_by_pin (folded_bit AnyOf) (λ a b. a || b) (λ b bits. refl) or-false
+fold_more OddOf = pin_by_pin (folded_bit OddOf) (λ a b. if a then not b else b) odd_more odd_one
 
-pub or_more : (s : PairSet) (sets : List PairSet) → gate_pairs Or (s ∷ sets) ≡ gate_pairs Or (s ∷ gate_pairs Or sets ∷ [])
-or_more = pin_by_pin Or (λ a b. a || b) (λ b bits. refl) or-false
+-- ---- a gate that inverts
 
-pub xor_more : (s : PairSet) (sets : List PairSet) → gate_pairs Xor (s ∷ sets) ≡ gate_pairs Xor (s ∷ gate_pairs Xor sets ∷ [])
-xor_more = pin_by_pin Xor (λ a b. if a then not b else b) odd_more odd_one
+module _ (value : List Bool → Bool) (sets : List PairSet) where
+  turned : (ps : List Pair) → value_pair (gate_value Not) (value_pair value ps ∷ []) ≡ value_pair (λ bits. not (value bits)) ps
+  turned ps = λ i. (not (and-true (value (map (λ q. q.0) ps)) i), not (and-true (value (map (λ q. q.1) ps)) i))
 
-pub and_none : gate_pairs And [] ≡ fixed_pairs true
-unfolding gate_pairs
-and_none = refl
-
-pub or_none : gate_pairs Or [] ≡ fixed_pairs false
-unfolding gate_pairs
-or_none = refl
-
-pub xor_none : gate_pairs Xor [] ≡ fixed_pairs false
-unfolding gate_pairs
-xor_none = refl
-
--- ---- a gate that turns what another gives
-
-module _ (kind base : Kind) (turns : (bits : List Bool) → gate_value kind bits ≡ not (gate_value base bits)) (sets : List PairSet) where
-  turned : (ps : List Pair) → value_pair Not (value_pair base ps ∷ []) ≡ value_pair kind ps
-  turned ps = λ i. (sym (turns (map (λ q. q.0) ps)) i, sym (turns (map (λ q. q.1) ps)) i)
-
-  before : (p : Pair) (ps : List Pair) → AllZip Has (gate_pairs base sets ∷ []) ps → value_pair Not ps ≡ p → Has (gate_pairs kind sets) p
+  before : (p : Pair) (ps : List Pair) → AllZip Has (value_pairs value sets ∷ []) ps → value_pair (gate_value Not) ps ≡ p → Has (value_pairs (λ bits. not (value bits)) sets) p
   before p [] h e = absurd h
   before p (q ∷ (r ∷ rs)) h e = absurd h.1
   before p (q ∷ []) h e =
-      let found = gate_is base sets q h.0 in
-      subst (Has (gate_pairs kind sets)) (sym (turned found.0) ∙ ap (λ x. value_pair Not (x ∷ [])) found.2 ∙ e) (gate_from kind sets found.0 found.1)
+      let found = values_are value sets q h.0 in
+      subst (Has (value_pairs (λ bits. not (value bits)) sets)) (sym (turned found.0) ∙ ap (λ x. value_pair (gate_value Not) (x ∷ [])) found.2 ∙ e) (values_from (λ bits. not (value bits)) sets found.0 found.1)
 
-  pub turned_pairs : gate_pairs kind sets ≡ gate_pairs Not (gate_pairs base sets ∷ [])
-  turned_pairs = same_set (gate_pairs kind sets) (gate_pairs Not (gate_pairs base sets ∷ []))
-      (λ p h. let found = gate_is kind sets p h in subst (Has (gate_pairs Not (gate_pairs base sets ∷ []))) (turned found.0 ∙ found.2) (gate_from Not (gate_pairs base sets ∷ []) (value_pair base found.0 ∷ []) (gate_from base sets found.0 found.1, tt)))
-      (λ p h. let found = gate_is Not (gate_pairs base sets ∷ []) p h in before p found.0 found.1 found.2)
+  turned_pairs : value_pairs (λ bits. not (value bits)) sets ≡ gate_pairs Not (value_pairs value sets ∷ [])
+  turned_pairs =
+      let gives : List Bool → Bool = λ bits. not (value bits) in
+      same_set (value_pairs gives sets) (gate_pairs Not (value_pairs value sets ∷ []))
+      (λ p h. let found = values_are gives sets p h in subst (Has (gate_pairs Not (value_pairs value sets ∷ []))) (turned found.0 ∙ found.2) (values_from (gate_value Not) (value_pairs value sets ∷ []) (value_pair value found.0 ∷ []) (values_from value sets found.0 found.1, tt)))
+      (λ p h. let found = values_are (gate_value Not) (value_pairs value sets ∷ []) p h in before p found.0 found.1 found.2)
+
+  inverting : (turns : Bool) → value_pairs (λ bits. inverted turns (value bits)) sets ≡ (if turns then gate_pairs Not (value_pairs value sets ∷ []) else value_pairs value sets)
+  inverting true = turned_pairs
+  inverting false = refl
+
+-- a gate's pairs are those of its operation, and the opposite ones where it inverts
+pub by_operation : (kind : Kind) (sets : List PairSet) → gate_pairs kind sets ≡ (if inverts kind then gate_pairs Not (operation_pairs (operation_of kind) sets ∷ []) else operation_pairs (operation_of kind) sets)
+by_operation kind sets = inverting (operation_value (operation_of kind)) sets (inverts kind)
 
 -- ---- tables of all sets
 
-abbrev every_bit : (Bool → Bool) → Bool
+abbrev pub every_bit : (Bool → Bool) → Bool
 every_bit test = test false && test true
 
-at_bit : (test : Bool → Bool) → every_bit test ≡ true → (b : Bool) → test b ≡ true
+pub at_bit : (test : Bool → Bool) → every_bit test ≡ true → (b : Bool) → test b ≡ true
 at_bit test e false = (and_parts (test false) (test true) e).0
 at_bit test e true = (and_parts (test false) (test true) e).1
 
@@ -144,14 +140,6 @@ and_set s t = record {
   both_one = s.both_one && t.both_one;
 }
 
-abbrev pub or_set : PairSet → PairSet → PairSet
-or_set s t = record {
-  both_zero = s.both_zero && t.both_zero;
-  zero_one = (s.zero_one && (t.zero_one || t.both_zero)) || (s.both_zero && t.zero_one);
-  one_zero = (s.one_zero && (t.one_zero || t.both_zero)) || (s.both_zero && t.one_zero);
-  both_one = (((s.both_one && some_pair t) || (some_pair s && t.both_one)) || (s.zero_one && t.one_zero)) || (s.one_zero && t.zero_one);
-}
-
 abbrev pub xor_set : PairSet → PairSet → PairSet
 xor_set s t = record {
   both_zero = (((s.both_zero && t.both_zero) || (s.zero_one && t.zero_one)) || (s.one_zero && t.one_zero)) || (s.both_one && t.both_one);
@@ -163,88 +151,112 @@ xor_set s t = record {
 abbrev pub not_set : PairSet → PairSet
 not_set s = record { both_zero = s.both_one; zero_one = s.one_zero; one_zero = s.zero_one; both_one = s.both_zero }
 
-abbrev table_of : Kind → (PairSet → PairSet → PairSet) → PairSet → PairSet → Bool
-table_of kind op s t = same_sets (op s t) (gate_pairs kind (s ∷ t ∷ []))
+abbrev table_of : Fold → (PairSet → PairSet → PairSet) → PairSet → PairSet → Bool
+table_of fold op s t = same_sets (op s t) (operation_pairs (Folded fold) (s ∷ t ∷ []))
 
-and_table : every_set (λ s. every_set (table_of And and_set s)) ≡ true
-unfolding gate_pairs
+and_table : every_set (λ s. every_set (table_of AllOf and_set s)) ≡ true
+unfolding value_pairs
 and_table = refl
 
-or_table : every_set (λ s. every_set (table_of Or or_set s)) ≡ true
-unfolding gate_pairs
+-- an OR is an AND between inverters
+abbrev pub or_set : PairSet → PairSet → PairSet
+or_set s t = not_set (and_set (not_set s) (not_set t))
+
+or_table : every_set (λ s. every_set (table_of AnyOf or_set s)) ≡ true
+unfolding value_pairs
 or_table = refl
 
-xor_table : every_set (λ s. every_set (table_of Xor xor_set s)) ≡ true
-unfolding gate_pairs
+xor_table : every_set (λ s. every_set (table_of OddOf xor_set s)) ≡ true
+unfolding value_pairs
 xor_table = refl
 
 not_table : every_set (λ s. same_sets (not_set s) (gate_pairs Not (s ∷ []))) ≡ true
-unfolding gate_pairs
+unfolding value_pairs
 not_table = refl
 
-buff_table : every_set (λ s. same_sets s (gate_pairs Buff (s ∷ []))) ≡ true
-unfolding gate_pairs
-buff_table = refl
+from_table : (fold : Fold) (op : PairSet → PairSet → PairSet) → every_set (λ s. every_set (table_of fold op s)) ≡ true → (s t : PairSet) → op s t ≡ operation_pairs (Folded fold) (s ∷ t ∷ [])
+from_table fold op e s t = same_sets_are (op s t) (operation_pairs (Folded fold) (s ∷ t ∷ [])) (at_set (table_of fold op s) (at_set (λ x. every_set (table_of fold op x)) e s) t)
 
-from_table : (kind : Kind) (op : PairSet → PairSet → PairSet) → every_set (λ s. every_set (table_of kind op s)) ≡ true → (s t : PairSet) → op s t ≡ gate_pairs kind (s ∷ t ∷ [])
-from_table kind op e s t = same_sets_are (op s t) (gate_pairs kind (s ∷ t ∷ [])) (at_set (table_of kind op s) (at_set (λ x. every_set (table_of kind op x)) e s) t)
+pub and_is : (s t : PairSet) → and_set s t ≡ operation_pairs (Folded AllOf) (s ∷ t ∷ [])
+and_is = from_table AllOf and_set and_table
 
-pub and_is : (s t : PairSet) → and_set s t ≡ gate_pairs And (s ∷ t ∷ [])
-and_is = from_table And and_set and_table
+pub or_is : (s t : PairSet) → or_set s t ≡ operation_pairs (Folded AnyOf) (s ∷ t ∷ [])
+or_is = from_table AnyOf or_set or_table
 
-pub or_is : (s t : PairSet) → or_set s t ≡ gate_pairs Or (s ∷ t ∷ [])
-or_is = from_table Or or_set or_table
-
-pub xor_is : (s t : PairSet) → xor_set s t ≡ gate_pairs Xor (s ∷ t ∷ [])
-xor_is = from_table Xor xor_set xor_table
+pub xor_is : (s t : PairSet) → xor_set s t ≡ operation_pairs (Folded OddOf) (s ∷ t ∷ [])
+xor_is = from_table OddOf xor_set xor_table
 
 pub not_is : (s : PairSet) → not_set s ≡ gate_pairs Not (s ∷ [])
 not_is s = same_sets_are (not_set s) (gate_pairs Not (s ∷ [])) (at_set (λ x. same_sets (not_set x) (gate_pairs Not (x ∷ []))) not_table s)
 
-pub buff_is : (s : PairSet) → s ≡ gate_pairs Buff (s ∷ [])
-buff_is s = same_sets_are s (gate_pairs Buff (s ∷ [])) (at_set (λ x. same_sets x (gate_pairs Buff (x ∷ []))) buff_table s)
+-- the pairs of a fold of no pins
+pub unit_is : (fold : Fold) → operation_pairs (Folded fold) [] ≡ fixed_pairs (folded_bit fold [])
+unfolding value_pairs
+unit_is AllOf = refl
+unit_is AnyOf = refl
+unit_is OddOf = refl
+
+-- whether a multiplexer has a pair, by the pairs of its first pin; each data pin is taken by itself, also where both read one line
+abbrev pub chooses : PairSet → PairSet → PairSet → Bool → Bool → Bool
+chooses s low high a b =
+    ((((s.both_zero && has_pair low a b) && some_pair high) || ((s.zero_one && has_first low a) && has_second high b)) || ((s.one_zero && has_first high a) && has_second low b)) || ((s.both_one && some_pair low) && has_pair high a b)
+
+abbrev chosen_set : PairSet → PairSet → PairSet → PairSet
+chosen_set s low high = record { both_zero = chooses s low high false false; zero_one = chooses s low high false true; one_zero = chooses s low high true false; both_one = chooses s low high true true }
+
+abbrev chosen_test : PairSet → PairSet → PairSet → Bool
+chosen_test s low high = same_sets (chosen_set s low high) (operation_pairs Chosen (s ∷ low ∷ high ∷ []))
+
+chosen_table : every_set (λ s. every_set (λ low. every_set (chosen_test s low))) ≡ true
+unfolding value_pairs
+chosen_table = refl
+
+chosen_is : (s low high : PairSet) → chosen_set s low high ≡ operation_pairs Chosen (s ∷ low ∷ high ∷ [])
+chosen_is s low high =
+    same_sets_are (chosen_set s low high) (operation_pairs Chosen (s ∷ low ∷ high ∷ []))
+    (at_set (chosen_test s low) (at_set (λ x. every_set (chosen_test s x)) (at_set (λ x. every_set (λ y. every_set (chosen_test x y))) chosen_table s) low) high)
+
+pub chooses_is : (s low high : PairSet) (a b : Bool) → chooses s low high a b ≡ has_pair (operation_pairs Chosen (s ∷ low ∷ high ∷ [])) a b
+chooses_is s low high false false = ap (λ (t : PairSet). t.both_zero) (chosen_is s low high)
+chooses_is s low high false true = ap (λ (t : PairSet). t.zero_one) (chosen_is s low high)
+chooses_is s low high true false = ap (λ (t : PairSet). t.one_zero) (chosen_is s low high)
+chooses_is s low high true true = ap (λ (t : PairSet). t.both_one) (chosen_is s low high)
 
 -- ---- values put in
 
-abbrev pub first_set : Bool → PairSet → PairSet
-first_set bit s = record { both_zero = not bit && (s.both_zero || s.one_zero); zero_one = not bit && (s.zero_one || s.both_one); one_zero = bit && (s.both_zero || s.one_zero); both_one = bit && (s.zero_one || s.both_one) }
+abbrev put_first : Option Bool → PairSet → PairSet
+put_first None s = s
+put_first (Some bit) s = record { both_zero = not bit && (s.both_zero || s.one_zero); zero_one = not bit && (s.zero_one || s.both_one); one_zero = bit && (s.both_zero || s.one_zero); both_one = bit && (s.zero_one || s.both_one) }
 
-abbrev pub second_set : Bool → PairSet → PairSet
-second_set bit s = record { both_zero = not bit && (s.both_zero || s.zero_one); zero_one = bit && (s.both_zero || s.zero_one); one_zero = not bit && (s.one_zero || s.both_one); both_one = bit && (s.one_zero || s.both_one) }
+abbrev put_second : Option Bool → PairSet → PairSet
+put_second None s = s
+put_second (Some bit) s = record { both_zero = not bit && (s.both_zero || s.zero_one); zero_one = bit && (s.both_zero || s.zero_one); one_zero = not bit && (s.one_zero || s.both_one); both_one = bit && (s.one_zero || s.both_one) }
 
-first_table : every_bit (λ b. every_set (λ s. same_sets (first_set b s) (forced_pairs (Some b) None s))) ≡ true
+abbrev every_place : (Option Bool → Bool) → Bool
+every_place test = test None && every_bit (λ b. test (Some b))
+
+at_place : (test : Option Bool → Bool) → every_place test ≡ true → (o : Option Bool) → test o ≡ true
+at_place test e None = (and_parts (test None) (every_bit (λ b. test (Some b))) e).0
+at_place test e (Some b) = at_bit (λ b. test (Some b)) (and_parts (test None) (every_bit (λ b. test (Some b))) e).1 b
+
+abbrev forced_test : Option Bool → Option Bool → PairSet → Bool
+forced_test first second s = same_sets (put_second second (put_first first s)) (forced_pairs first second s)
+
+forced_table : every_place (λ first. every_place (λ second. every_set (forced_test first second))) ≡ true
 unfolding forced_pairs
-first_table = refl
+forced_table = refl
 
-second_table : every_bit (λ b. every_set (λ s. same_sets (second_set b s) (forced_pairs None (Some b) s))) ≡ true
-unfolding forced_pairs
-second_table = refl
-
-free_table : every_set (λ s. same_sets s (forced_pairs None None s)) ≡ true
-unfolding forced_pairs
-free_table = refl
-
-pub first_is : (b : Bool) (s : PairSet) → first_set b s ≡ forced_pairs (Some b) None s
-first_is b s = same_sets_are (first_set b s) (forced_pairs (Some b) None s)
-    (at_set (λ x. same_sets (first_set b x) (forced_pairs (Some b) None x)) (at_bit (λ a. every_set (λ x. same_sets (first_set a x) (forced_pairs (Some a) None x))) first_table b) s)
-
-pub second_is : (b : Bool) (s : PairSet) → second_set b s ≡ forced_pairs None (Some b) s
-second_is b s = same_sets_are (second_set b s) (forced_pairs None (Some b) s)
-    (at_set (λ x. same_sets (second_set b x) (forced_pairs None (Some b) x)) (at_bit (λ a. every_set (λ x. same_sets (second_set a x) (forced_pairs None (Some a) x))) second_table b) s)
+pub put_is : (first second : Option Bool) (s : PairSet) → put_second second (put_first first s) ≡ forced_pairs first second s
+put_is first second s =
+    same_sets_are (put_second second (put_first first s)) (forced_pairs first second s)
+    (at_set (forced_test first second) (at_place (λ o. every_set (forced_test first o)) (at_place (λ o. every_place (λ second. every_set (forced_test o second))) forced_table first) second) s)
 
 pub free_is : (s : PairSet) → s ≡ forced_pairs None None s
-free_is s = same_sets_are s (forced_pairs None None s) (at_set (λ x. same_sets x (forced_pairs None None x)) free_table s)
+free_is s = put_is None None s
 
 -- a value put in one place and then in the other
 pub one_by_one : (first second : Option Bool) (s : PairSet) → forced_pairs None second (forced_pairs first None s) ≡ forced_pairs first second s
-one_by_one first second s = same_set (forced_pairs None second (forced_pairs first None s)) (forced_pairs first second s)
-    (λ p h.
-    let outer = forced_is None second (forced_pairs first None s) p h in
-    let inner = forced_is first None s outer.0 outer.1 in
-    subst (Has (forced_pairs first second s)) (ap (forced_pair None second) inner.2 ∙ outer.2) (forced_from first second s inner.0 inner.1))
-    (λ p h.
-    let found = forced_is first second s p h in
-    subst (Has (forced_pairs None second (forced_pairs first None s))) found.2 (forced_from None second (forced_pairs first None s) (forced_pair first None found.0) (forced_from first None s found.0 found.1)))
+one_by_one first second s = sym (put_is None second (forced_pairs first None s)) ∙ ap (put_second second) (sym (put_is first None s)) ∙ put_is first second s
 
 -- ---- numbers of pairs
 
@@ -257,7 +269,7 @@ fewer_test s t = not (within_test s t) || same_sets s t || nat_lt (pair_count s)
 fewer_table : every_set (λ s. every_set (fewer_test s)) ≡ true
 fewer_table = refl
 
-implied : (a b : Bool) → (a ≡ true → b ≡ true) → (not a || b) ≡ true
+pub implied : (a b : Bool) → (a ≡ true → b ≡ true) → (not a || b) ≡ true
 implied true b h = h refl
 implied false b h = refl
 

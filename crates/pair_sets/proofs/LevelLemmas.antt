@@ -12,7 +12,7 @@ use Rattle.net_model.specs.Fault.{stuck_stem}
 use Rattle.net_model.specs.Scope.{is_reached, reached_positions}
 use Rattle.net_model.proofs.Orders.{range-within}
 use Rattle.net_model.proofs.Elements.{Contains-from_filter}
-use Rattle.pair_sets.specs.declared.pair_set.PairSet.{PairSet}
+use Rattle.pair_sets.specs.PairSet.{PairSet}
 use Rattle.pair_sets.specs.declared.sim.Level.{Level}
 use Rattle.pair_sets.specs.declared.sim.PairSim.TheInside.{Inside}
 use Rattle.pair_sets.specs.declared.state.PairState.{PairState}
@@ -21,7 +21,7 @@ use Rattle.pair_sets.specs.declared.trail.Change.{Change}
 use Rattle.pair_sets.specs.Cube.{Cube, FixesOnce, fixed_bit}
 use Rattle.pair_sets.specs.PairSet.{forced_pairs, free_pairs, fixed_pairs, only_equal, only_unequal, IsWithin}
 use Rattle.pair_sets.specs.CubeState.{set_at, source_pairs, ArePairSets, position_pairs, state_of}
-use Rattle.pair_sets.specs.Pending.{IsEmpty}
+use Rattle.event_queue.specs.Pending.{IsEmpty}
 use Rattle.pair_sets.specs.Trail.{undone}
 use Rattle.pair_sets.specs.Events.{AreSettled, AreLoose, gate_line_pairs}
 use Rattle.pair_sets.specs.PairSimFields.{cube_of, IsLevelRight, AreLevels, IsReady}
@@ -141,5 +141,5 @@ module _ (c : Circuit) (f g : Fault) (sets : List PairSet) (reached : List ℕ) 
 -- ---- the fields of a simulation
 
 -- the pairs are those of the cube
-pub right_of : (a : Inside) → IsReady a → IsLevelRight a.circuit.now a.f a.g (cube_of (reverse a.levels.items)) (vec_capacity a.trail.changes) a.trail.changes.items a.trail.sets.items
-right_of a ready = level_right a.circuit.now a.f a.g (vec_capacity a.trail.changes) (reverse a.levels.items) a.trail.changes.items a.trail.sets.items ready.levels
+pub right_of : (a : Inside) → IsReady a → IsLevelRight a.pair.circuit.now a.pair.f a.pair.g (cube_of (reverse a.levels.items)) (vec_capacity a.trail.changes) a.trail.changes.items a.trail.sets.items
+right_of a ready = level_right a.pair.circuit.now a.pair.f a.pair.g (vec_capacity a.trail.changes) (reverse a.levels.items) a.trail.changes.items a.trail.sets.items ready.levels

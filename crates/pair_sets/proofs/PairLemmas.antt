@@ -6,12 +6,10 @@ use Rattle.std.specs.List.{list_any, AllZip}
 use Rattle.std.proofs.lemmas.List.Elements.{Contains-append_cases}
 use Rattle.std.specs.Cmp.{both_ways, booleans_Decides}
 use Rattle.std.proofs.lemmas.Bool.{and_parts}
-use Rattle.net_model.specs.declared.gate.Kind.{Kind}
-use Rattle.net_model.specs.Gate.{gate_value}
 use Rattle.net_model.proofs.Copies.{later}
 use Rattle.net_model.proofs.Elements.{none_in, first_or_later, any_from, passing, Contains-filter, Contains-from_filter, Contains-map, Contains-flat_map}
-use Rattle.pair_sets.specs.declared.pair_set.PairSet.{PairSet}
-use Rattle.pair_sets.specs.PairSet.{Pair, has_pair, set_of, pairs_of, same_pair, image_of, forced_pairs, choices, gate_pairs, IsWithin}
+use Rattle.pair_sets.specs.PairSet.{PairSet}
+use Rattle.pair_sets.specs.PairSet.{Pair, has_pair, set_of, pairs_of, same_pair, image_of, forced_pairs, choices, value_pairs, IsWithin}
 
 -- the pair is in the set
 abbrev pub Has : PairSet → Pair → Type 0
@@ -99,10 +97,11 @@ forced_is first second s p h =
     let found = image_is (forced_pair first second) (pairs_of s) p h in
     (found.0, pairs_are s found.0 found.1, found.2)
 
--- ---- gates
+-- ---- functions of bits
 
-abbrev pub value_pair : Kind → List Pair → Pair
-value_pair kind ps = (gate_value kind (map (λ p. p.0) ps), gate_value kind (map (λ p. p.1) ps))
+-- what a function of bits has in both places
+abbrev pub value_pair : (List Bool → Bool) → List Pair → Pair
+value_pair value ps = (value (map (λ p. p.0) ps), value (map (λ p. p.1) ps))
 
 choice_is : (sets : List PairSet) (ps : List Pair) → Contains (choices sets) ps → AllZip Has sets ps
 choice_is [] ps m = elim (first_or_later {A = List Pair} [] [] ps m) [
@@ -122,14 +121,14 @@ choice_from (s ∷ sets) (p ∷ ps) h =
     Contains-flat_map (λ q. map (λ qs. q ∷ qs) (choices sets)) (pairs_of s) p (p ∷ ps) (pairs_from s p h.0)
     (Contains-map (λ qs. p ∷ qs) (choices sets) ps (choice_from sets ps h.1))
 
-pub gate_from : (kind : Kind) (sets : List PairSet) (ps : List Pair) → AllZip Has sets ps → Has (gate_pairs kind sets) (value_pair kind ps)
-unfolding gate_pairs
-gate_from kind sets ps h = image_from (value_pair kind) (choices sets) ps (choice_from sets ps h)
+pub values_from : (value : List Bool → Bool) (sets : List PairSet) (ps : List Pair) → AllZip Has sets ps → Has (value_pairs value sets) (value_pair value ps)
+unfolding value_pairs
+values_from value sets ps h = image_from (value_pair value) (choices sets) ps (choice_from sets ps h)
 
-pub gate_is : (kind : Kind) (sets : List PairSet) (p : Pair) → Has (gate_pairs kind sets) p → (ps : List Pair) × AllZip Has sets ps × (value_pair kind ps ≡ p)
-unfolding gate_pairs
-gate_is kind sets p h =
-    let found = image_is (value_pair kind) (choices sets) p h in
+pub values_are : (value : List Bool → Bool) (sets : List PairSet) (p : Pair) → Has (value_pairs value sets) p → (ps : List Pair) × AllZip Has sets ps × (value_pair value ps ≡ p)
+unfolding value_pairs
+values_are value sets p h =
+    let found = image_is (value_pair value) (choices sets) p h in
     (found.0, choice_is sets found.0 found.1, found.2)
 
 -- ---- fewer pairs give fewer
@@ -152,7 +151,7 @@ wider_zip (s ∷ ss) [] ps w h = absurd w
 wider_zip (s ∷ ss) (t ∷ ts) [] w h = absurd h
 wider_zip (s ∷ ss) (t ∷ ts) (p ∷ ps) w h = (w.0 p.0 p.1 h.0, wider_zip ss ts ps w.1 h.1)
 
-pub within_gate : (kind : Kind) (sets others : List PairSet) → AllZip IsWithin sets others → IsWithin (gate_pairs kind sets) (gate_pairs kind others)
-within_gate kind sets others w a b h =
-    let found = gate_is kind sets (a, b) h in
-    subst (Has (gate_pairs kind others)) found.2 (gate_from kind others found.0 (wider_zip sets others found.0 w found.1))
+pub within_values : (value : List Bool → Bool) (sets others : List PairSet) → AllZip IsWithin sets others → IsWithin (value_pairs value sets) (value_pairs value others)
+within_values value sets others w a b h =
+    let found = values_are value sets (a, b) h in
+    subst (Has (value_pairs value others)) found.2 (values_from value others found.0 (wider_zip sets others found.0 w found.1))

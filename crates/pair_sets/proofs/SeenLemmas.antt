@@ -7,17 +7,20 @@ use Rattle.std.proofs.lemmas.Bool.Decides.{nat_tests}
 use Rattle.std.proofs.lemmas.List.{get_or-map, drop_more, length-map}
 use Rattle.std.proofs.lemmas.List.FromFn.{length-enumerate_from, get_or-enumerate_from}
 use Rattle.net_model.specs.declared.gate.Gate.{Gate}
-use Rattle.net_model.specs.declared.gate.Kind.{Kind}
+use Rattle.net_model.specs.declared.operation.Fold.{Fold}
+use Rattle.net_model.specs.declared.operation.Operation.TheVariants.{Folded}
+use Rattle.net_model.specs.Gate.{gate_value}
 use Rattle.net_model.specs.declared.fault.Fault.{Fault}
 use Rattle.net_model.specs.Circuit.{Circuit, line_count, gate_at, Feeds}
 use Rattle.net_model.specs.Fault.{stuck_stem, stuck_pin, readings}
 use Rattle.net_model.proofs.Copies.{later, same_readings}
 use Rattle.net_model.proofs.SetSoFar.{gate_at-source}
-use Rattle.pair_sets.specs.declared.pair_set.PairSet.{PairSet}
+use Rattle.pair_sets.specs.PairSet.{PairSet}
 use Rattle.pair_sets.specs.Cube.{Cube}
-use Rattle.pair_sets.specs.PairSet.{forced_pairs, gate_pairs, IsWithin}
+use Rattle.pair_sets.specs.PairSet.{forced_pairs, operation_pairs, gate_pairs, IsWithin}
 use Rattle.pair_sets.specs.CubeState.{set_at, seen_pairs, source_pairs, line_pairs}
-use Rattle.pair_sets.proofs.PairLemmas.{within_same, within_forced, within_gate}
+use Rattle.pair_sets.proofs.GateLemmas.{fold_more}
+use Rattle.pair_sets.proofs.PairLemmas.{within_same, within_forced, within_values}
 
 -- ---- pin by pin
 
@@ -35,23 +38,25 @@ module _ (f g : Fault) (sets : List PairSet) (line : ℕ) where
       get_or-map (λ (x : ℕ × ℕ). pin_set f g sets line x.0 x.1) (enumerate_from 0 pins) k (0, 0) d (omega (arith, length-enumerate_from 0 pins))
       ∙ (ap (λ (x : ℕ × ℕ). pin_set f g sets line x.0 x.1) (get_or-enumerate_from 0 pins k (0, 0) h) ∙ ap (λ n. pin_set f g sets line n (get_or pins k 0)) (let e : 0 + k ≡ k = omega arith in e))
 
-  pub seen_one : (pins : List ℕ) → length pins ≡ 1 → seen_pairs f g sets line pins ≡ pin_set f g sets line 0 (get_or pins 0 0) ∷ []
+  pub seen_three : (pins : List ℕ) → length pins ≡ 3
+      → seen_pairs f g sets line pins ≡ pin_set f g sets line 0 (get_or pins 0 0) ∷ pin_set f g sets line 1 (get_or pins 1 0) ∷ pin_set f g sets line 2 (get_or pins 2 0) ∷ []
   unfolding readings
-  seen_one [] e = absurd (omega arith)
-  seen_one (p ∷ []) e = refl
-  seen_one (p ∷ (q ∷ ps)) e = absurd (omega arith)
+  seen_three [] e = absurd (omega arith)
+  seen_three (p ∷ []) e = absurd (omega arith)
+  seen_three (p ∷ q ∷ []) e = absurd (omega arith)
+  seen_three (p ∷ q ∷ r ∷ []) e = refl
+  seen_three (p ∷ q ∷ r ∷ (x ∷ xs)) e = absurd (omega arith)
 
-  -- one pin more before those that a gate has so far
-  pub one_pin_more : (kind : Kind) → ((s : PairSet) (more : List PairSet) → gate_pairs kind (s ∷ more) ≡ gate_pairs kind (s ∷ gate_pairs kind more ∷ []))
-      → (pins : List ℕ) (k : ℕ) (s so_far : PairSet) → k < length pins → s ≡ pin_set f g sets line k (get_or pins k 0) → so_far ≡ gate_pairs kind (drop (k + 1) (seen_pairs f g sets line pins))
-      → gate_pairs kind (s ∷ so_far ∷ []) ≡ gate_pairs kind (drop k (seen_pairs f g sets line pins))
-  one_pin_more kind more pins k s so_far h is e =
+  -- one pin more before those that a fold has so far
+  pub one_pin_more : (fold : Fold) (pins : List ℕ) (k : ℕ) (s so_far : PairSet) → k < length pins → s ≡ pin_set f g sets line k (get_or pins k 0)
+      → so_far ≡ operation_pairs (Folded fold) (drop (k + 1) (seen_pairs f g sets line pins)) → operation_pairs (Folded fold) (s ∷ so_far ∷ []) ≡ operation_pairs (Folded fold) (drop k (seen_pairs f g sets line pins))
+  one_pin_more fold pins k s so_far h is e =
       let seen = seen_pairs f g sets line pins in
       let inside : k < length seen = omega (arith, length-seen pins) in
-      (λ i. gate_pairs kind (s ∷ e i ∷ []))
-      ∙ sym (more s (drop (k + 1) seen))
-      ∙ ap (λ x. gate_pairs kind (x ∷ drop (k + 1) seen)) (is ∙ sym (seen_at pins k s h))
-      ∙ ap (gate_pairs kind) (sym (drop_more seen k s inside))
+      (λ i. operation_pairs (Folded fold) (s ∷ e i ∷ []))
+      ∙ sym (fold_more fold s (drop (k + 1) seen))
+      ∙ ap (λ x. operation_pairs (Folded fold) (x ∷ drop (k + 1) seen)) (is ∙ sym (seen_at pins k s h))
+      ∙ ap (operation_pairs (Folded fold)) (sym (drop_more seen k s inside))
 
 -- ---- the pairs of a line follow the lines that its gate reads
 
@@ -78,7 +83,7 @@ module _ (c : Circuit) (f g : Fault) (cube : Cube) (x y : List PairSet) (line : 
       → IsWithin (option_map_or (λ gate. gate_pairs gate.kind (seen_pairs f g x line gate.pins)) o (source_pairs cube line)) (option_map_or (λ gate. gate_pairs gate.kind (seen_pairs f g y line gate.pins)) o (source_pairs cube line))
   fewer_driven None h = within_same (source_pairs cube line) (source_pairs cube line) refl
   fewer_driven (Some gate) h =
-      within_gate gate.kind (seen_pairs f g x line gate.pins) (seen_pairs f g y line gate.pins)
+      within_values (gate_value gate.kind) (seen_pairs f g x line gate.pins) (seen_pairs f g y line gate.pins)
       (zip-readings IsWithin (pin_set f g x line) (pin_set f g y line) gate.pins (λ place read m. within_forced (stuck_pin f line place) (stuck_pin g line place) (set_at x read) (set_at y read) (h read m)))
 
   pub fewer_line_pairs : ((read : ℕ) → Feeds c read line → IsWithin (set_at x read) (set_at y read)) → IsWithin (line_pairs c f g cube x line) (line_pairs c f g cube y line)

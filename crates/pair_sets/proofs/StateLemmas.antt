@@ -3,7 +3,7 @@ use Rattle.std.proofs.Common.{◌≡◌, ◌≢◌, ℕ, zero, suc, ◌<◌, ref
 use Rattle.std.specs.Prelude.{Bool, true, false, not, List, [], ◌∷◌, find, Option, None, Some, cond, ◌||◌, ◌&&◌, Contains, if◌then◌else◌}
 use Rattle.std.specs.Option.{option_map_or}
 use Rattle.std.specs.List.{list_all}
-use Rattle.std.proofs.lemmas.Bool.{false≢true}
+use Rattle.std.proofs.lemmas.Bool.{false≢true, or_from}
 use Rattle.net_model.specs.declared.fault.Fault.{Fault}
 use Rattle.net_model.specs.Circuit.{Circuit, IsCircuit}
 use Rattle.net_model.specs.Fault.{stuck_position}
@@ -15,7 +15,7 @@ use Rattle.net_model.proofs.Seen.{length-seen_bits}
 use Rattle.net_model.proofs.Relevance.{reached_listed, listed_reached}
 use Rattle.net_model.proofs.Elements.{none_in, all_parts}
 use Rattle.fault_list.proofs.Pair.{same_unreached}
-use Rattle.pair_sets.specs.declared.pair_set.PairSet.{PairSet}
+use Rattle.pair_sets.specs.PairSet.{PairSet}
 use Rattle.pair_sets.specs.declared.state.PairState.{PairState}
 use Rattle.pair_sets.specs.declared.state.PairState.TheVariants.{AllSame, Apart, Undecided}
 use Rattle.pair_sets.specs.Cube.{Cube, InCube, IsClosed}
@@ -26,7 +26,7 @@ use Rattle.pair_sets.proofs.Coverage.{covered_position}
 
 -- ---- tests of lists
 
-pub not_all : {A : Type 0} (test : A → Bool) (xs : List A) → list_all test xs ≡ false → (x : A) × Contains xs x × (test x ≡ false)
+not_all : {A : Type 0} (test : A → Bool) (xs : List A) → list_all test xs ≡ false → (x : A) × Contains xs x × (test x ≡ false)
 not_all test [] e = cc
 not_all {A = A} test (y ∷ ys) e = by (test y) refl e (not_all test ys)
   where
@@ -34,7 +34,7 @@ not_all {A = A} test (y ∷ ys) e = by (test y) refl e (not_all test ys)
     by true t e rest = let found = rest e in (found.0, later y ys found.0 found.1, found.2)
     by false t e rest = (y, (0, omega arith, refl), t)
 
-pub found_at : {A : Type 0} (test : A → Bool) (xs : List A) (x : A) → find test xs ≡ Some x → Contains xs x × (test x ≡ true)
+found_at : {A : Type 0} (test : A → Bool) (xs : List A) (x : A) → find test xs ≡ Some x → Contains xs x × (test x ≡ true)
 found_at test [] x e = cc
 found_at {A = A} test (y ∷ ys) x e = by (test y) refl e (found_at test ys x)
   where
@@ -42,7 +42,7 @@ found_at {A = A} test (y ∷ ys) x e = by (test y) refl e (found_at test ys x)
     by true t e rest = let same : y ≡ x = cc in ((0, omega arith, same), ap test (sym same) ∙ t)
     by false t e rest = let found = rest e in (later y ys x found.0, found.1)
 
-pub none_found : {A : Type 0} (test : A → Bool) (xs : List A) → find test xs ≡ None → (x : A) → Contains xs x → test x ≡ false
+none_found : {A : Type 0} (test : A → Bool) (xs : List A) → find test xs ≡ None → (x : A) → Contains xs x → test x ≡ false
 none_found test [] e x m = absurd (none_in x m)
 none_found {A = A} test (y ∷ ys) e x m = by (test y) refl e m (none_found test ys)
   where
@@ -79,17 +79,24 @@ module _ (c : Circuit) (f g : Fault) (sets : List PairSet) where
   abbrev unequal_at : ℕ → Bool
   unequal_at at = only_unequal (position_pairs c f g sets at)
 
-  pub same_is : AllSame ≡ state_of c f g sets → list_all (λ at. only_equal (position_pairs c f g sets at)) (reached_positions c f g) ≡ true
+  same_is : AllSame ≡ state_of c f g sets → list_all (λ at. only_equal (position_pairs c f g sets at)) (reached_positions c f g) ≡ true
   unfolding state_of
   same_is e = from_same (list_all equal_at (reached_positions c f g)) (find unequal_at (reached_positions c f g)) e
 
-  pub apart_is : (at : ℕ) → Apart at ≡ state_of c f g sets → find (λ at. only_unequal (position_pairs c f g sets at)) (reached_positions c f g) ≡ Some at
+  apart_is : (at : ℕ) → Apart at ≡ state_of c f g sets → find (λ at. only_unequal (position_pairs c f g sets at)) (reached_positions c f g) ≡ Some at
   unfolding state_of
   apart_is at e = from_apart (list_all equal_at (reached_positions c f g)) (find unequal_at (reached_positions c f g)) at e
 
-  pub undecided_is : Undecided ≡ state_of c f g sets → (list_all (λ at. only_equal (position_pairs c f g sets at)) (reached_positions c f g) ≡ false) × (find (λ at. only_unequal (position_pairs c f g sets at)) (reached_positions c f g) ≡ None)
+  undecided_is : Undecided ≡ state_of c f g sets → (list_all (λ at. only_equal (position_pairs c f g sets at)) (reached_positions c f g) ≡ false) × (find (λ at. only_unequal (position_pairs c f g sets at)) (reached_positions c f g) ≡ None)
   unfolding state_of
   undecided_is e = from_undecided (list_all equal_at (reached_positions c f g)) (find unequal_at (reached_positions c f g)) e
+
+  -- some reached position of an undecided cube shows equal and unequal pairs
+  pub undecided_mixed : Undecided ≡ state_of c f g sets → (at : ℕ) × Contains (reached_positions c f g) at × ((equal_at at || unequal_at at) ≡ false)
+  undecided_mixed e =
+      let is = undecided_is e in
+      let found = not_all equal_at (reached_positions c f g) is.0 in
+      (found.0, found.1, or_from (equal_at found.0) (unequal_at found.0) found.2 (none_found unequal_at (reached_positions c f g) is.1 found.0 found.1))
 
 -- ---- equal and unequal pairs
 
@@ -135,8 +142,8 @@ same_closed c f g cube w state v first second width inside p q =
         (covered_position c f g cube v p.bits q.bits state.sets inside w p.agrees q.agrees state.are at h)
     by_reach at h false t all = same_unreached c w f g v p.bits q.bits p.agrees q.agrees at h t
 
-pub apart_differs : (c : Circuit) (f g : Fault) (cube : Cube) (v : List Bool) (at : ℕ) → IsCircuit c → IsState c f g cube (Apart at) → InCube cube v → IsApart c f g v at
-apart_differs c f g cube v at w state inside =
+pub apart_differs : (c : Circuit) (f g : Fault) (cube : Cube) (v : List Bool) (at : ℕ) → IsCircuit c → length v ≡ c.sources → IsState c f g cube (Apart at) → InCube cube v → IsApart c f g v at
+apart_differs c f g cube v at w width state inside =
     let found = found_at (λ k. only_unequal (position_pairs c f g state.sets k)) (reached_positions c f g) at (apart_is c f g state.sets at state.is) in
     let reached = listed_reached c f g at found.0 in
     let differ : DifferAt c f g v at =
@@ -152,6 +159,7 @@ apart_differs c f g cube v at w state inside =
       position = reached.0;
       differ = differ;
       separates = record {
+        width = width;
         first = shown_bits c f x.0;
         second = shown_bits c g y.0;
         first_is = p;

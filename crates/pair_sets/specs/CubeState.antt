@@ -10,7 +10,7 @@ use Rattle.net_model.specs.Scope.{reached_positions}
 use Rattle.pair_sets.specs.declared.state.PairState.{PairState}
 use Rattle.pair_sets.specs.declared.state.PairState.TheVariants.{AllSame, Apart, Undecided}
 use Rattle.pair_sets.specs.Cube.{Cube, fixed_bit}
-use Rattle.pair_sets.specs.declared.pair_set.PairSet.{PairSet}
+use Rattle.pair_sets.specs.PairSet.{PairSet}
 use Rattle.pair_sets.specs.PairSet.{free_pairs, fixed_pairs, forced_pairs, gate_pairs, only_equal, only_unequal}
 
 -- a free source has equal pairs of both values, and a fixed one the pair of its bit

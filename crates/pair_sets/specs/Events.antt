@@ -1,11 +1,11 @@
 -- Changes under way: the gates that wait, and the lines that are settled.
 use Rattle.std.specs.Prelude.{◌≡◌, ℕ, ◌<◌, ◌≤◌, ◌⊎◌, Bool, true, false, List, [], length, slice_index}
 use Rattle.net_model.specs.declared.fault.Fault.{Fault}
-use Rattle.net_model.specs.Circuit.{Circuit, line_count, Feeds}
-use Rattle.pair_sets.specs.declared.pair_set.PairSet.{PairSet}
-use Rattle.pair_sets.specs.PairSet.{IsWithin}
+use Rattle.net_model.specs.Circuit.{Circuit, line_count, pins_of, Feeds}
+use Rattle.net_model.specs.Scope.{is_split}
+use Rattle.event_queue.specs.Pending.{is_pending}
+use Rattle.pair_sets.specs.PairSet.{PairSet, IsWithin}
 use Rattle.pair_sets.specs.CubeState.{set_at, line_pairs}
-use Rattle.pair_sets.specs.Pending.{is_pending}
 
 -- The gate of the line doesn't wait.
 abbrev pub IsIdle : List ℕ → List Bool → ℕ → Type 0
@@ -28,3 +28,8 @@ pub record WakesReaders (c : Circuit) (order : List ℕ) (line : ℕ) (was pairs
   pub kept : (place : ℕ) → is_pending old place ≡ true → is_pending new place ≡ true
   pub only : (place : ℕ) → is_pending new place ≡ true → (is_pending old place ≡ true) ⊎ ((place < length order) × Feeds c line (slice_index order place))
   pub readers : (was ≡ pairs) ⊎ ((place : ℕ) → place < length order → Feeds c line (slice_index order place) → is_pending new place ≡ true)
+
+-- The line isn't split, and its gate reads some line.
+pub record IsUnchanged (c : Circuit) (f g : Fault) (line : ℕ) : Type 0 where
+  pub unsplit : is_split c f g line ≡ false
+  pub reads : 0 < length (pins_of c line)

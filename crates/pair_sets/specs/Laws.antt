@@ -4,13 +4,13 @@ use Rattle.net_model.specs.declared.fault.Fault.{Fault}
 use Rattle.net_model.specs.Circuit.{Circuit, IsCircuit, line_count}
 use Rattle.net_model.specs.Answer.{bit_at, Agrees, IsAnswer, Separates, AreEqual}
 use Rattle.net_model.specs.Scope.{is_relevant}
-use Rattle.pair_sets.specs.declared.pair_set.PairSet.{PairSet}
+use Rattle.pair_sets.specs.PairSet.{PairSet}
 use Rattle.pair_sets.specs.declared.state.PairState.{PairState}
 use Rattle.pair_sets.specs.declared.state.PairState.TheVariants.{AllSame, Apart, Undecided}
 use Rattle.pair_sets.specs.declared.tree.Token.{Token}
 use Rattle.pair_sets.specs.declared.tree.Token.TheVariants.{Closed}
 use Rattle.pair_sets.specs.Cube.{Cube, InCube, fixed_bit, IsClosed}
-use Rattle.pair_sets.specs.Tree.{cube_at, token_at, IsTree, IsCovering, IsSpending}
+use Rattle.pair_sets.specs.Tree.{cube_at, token_at, IsLeafAt, HasTreeShape, IsTree, IsCovering, IsSpending}
 use Rattle.pair_sets.specs.PairSet.{has_pair}
 use Rattle.pair_sets.specs.CubeState.{set_at, ArePairSets, IsState}
 
@@ -27,14 +27,14 @@ AllSameClosed = (c : Circuit) (f g : Fault) (cube : Cube) → IsCircuit c → Is
 abbrev pub DifferAt : Circuit → Fault → Fault → List Bool → ℕ → Type 0
 DifferAt c f g v at = (first second : List Bool) → IsAnswer c f v first → IsAnswer c g v second → bit_at first at ≢ bit_at second at
 
--- every vector of an apart cube separates, and the answers differ at the position that is named
+-- every vector of an apart cube that is as wide as the circuit separates, and the answers differ at the position that is named
 pub record IsApart (c : Circuit) (f g : Fault) (v : List Bool) (at : ℕ) : Type 0 where
   pub position : at < length c.positions
   pub differ : DifferAt c f g v at
   pub separates : Separates c v f g
 
 abbrev pub ApartSeparates : Type 0
-ApartSeparates = (c : Circuit) (f g : Fault) (cube : Cube) (v : List Bool) (at : ℕ) → IsCircuit c → IsState c f g cube (Apart at) → InCube cube v → IsApart c f g v at
+ApartSeparates = (c : Circuit) (f g : Fault) (cube : Cube) (v : List Bool) (at : ℕ) → IsCircuit c → length v ≡ c.sources → IsState c f g cube (Apart at) → InCube cube v → IsApart c f g v at
 
 -- where all relevant sources are fixed no cube is undecided
 abbrev pub FixedDecided : Type 0
@@ -43,6 +43,30 @@ FixedDecided = (c : Circuit) (f g : Fault) (cube : Cube) → IsCircuit c → ((s
 -- a cube has one state
 abbrev pub OneState : Type 0
 OneState = (c : Circuit) (f g : Fault) (cube : Cube) (s t : PairState) → IsCircuit c → IsState c f g cube s → IsState c f g cube t → s ≡ t
+
+-- no vector lies in the cubes of two leaves
+abbrev pub LeavesApart : Type 0
+LeavesApart = (c : Circuit) (tokens : List Token) (v : List Bool) (at other : ℕ) (here there : Cube) → HasTreeShape c tokens → IsLeafAt tokens at here → IsLeafAt tokens other there
+    → InCube here v → InCube there v → at ≡ other
+
+-- each vector lies in the cube of some leaf
+pub record LiesInLeaf (tokens : List Token) (v : List Bool) : Type 0 where
+  pub at : ℕ
+  pub cube : Cube
+  pub leaf : IsLeafAt tokens at cube
+  pub inside : InCube cube v
+
+abbrev pub LeavesCover : Type 0
+LeavesCover = (c : Circuit) (tokens : List Token) (v : List Bool) → HasTreeShape c tokens → LiesInLeaf tokens v
+
+-- the cube of each leaf has a vector
+pub record HasVector (c : Circuit) (cube : Cube) : Type 0 where
+  pub vector : List Bool
+  pub width : length vector ≡ c.sources
+  pub inside : InCube cube vector
+
+abbrev pub NoLeafEmpty : Type 0
+NoLeafEmpty = (c : Circuit) (tokens : List Token) (at : ℕ) (cube : Cube) → HasTreeShape c tokens → IsLeafAt tokens at cube → HasVector c cube
 
 -- no vector of the cube of a closed leaf separates
 abbrev pub LeavesClosed : Type 0

@@ -1,15 +1,17 @@
-pub mod Cube
+-- Sets of pairs, and those of a circuit's lines under a cube
 pub mod PairSet
+pub mod PairSetFields
+pub mod Cube
 pub mod CubeState
+-- Trees of cubes
 pub mod Tree
 pub mod Subtree
-pub mod Pending
-pub mod PendingFields
-pub mod Wiring
+-- Changes, and what is kept up with them
 pub mod Trail
 pub mod Events
 pub mod ShownFields
 pub mod Tally
+-- Simulations
 pub mod PairSim
 pub mod PairSimFields
 pub mod Laws

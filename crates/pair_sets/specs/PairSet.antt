@@ -3,11 +3,18 @@ use Rattle.std.specs.Prelude.{◌≡◌, Bool, true, false, not, ◌&&◌, ◌||
 use Rattle.std.specs.Bool.{beq}
 use Rattle.std.specs.List.{list_any}
 use Rattle.net_model.specs.declared.gate.Kind.{Kind}
-use Rattle.net_model.specs.Gate.{gate_value}
-use Rattle.pair_sets.specs.declared.pair_set.PairSet.{PairSet}
+use Rattle.net_model.specs.declared.operation.Operation.{Operation}
+use Rattle.net_model.specs.Gate.{gate_value, operation_value}
 
 abbrev pub Pair : Type 0
 Pair = Bool × Bool
+
+-- whether each of the four pairs is in the set
+pub record PairSet : Type 0 where
+  pub both_zero : Bool
+  pub zero_one : Bool
+  pub one_zero : Bool
+  pub both_one : Bool
 
 -- all four pairs; the equal pairs of both values, which a free source has; and that of one value, which a fixed source has
 abbrev pub all_pairs : PairSet
@@ -25,13 +32,19 @@ has_pair s false true = s.zero_one
 has_pair s true false = s.one_zero
 has_pair s true true = s.both_one
 
+-- whether the set has a pair at all; one with this bit in its first place; and one with this bit in its second
+abbrev pub some_pair : PairSet → Bool
+some_pair s = ((s.both_zero || s.zero_one) || s.one_zero) || s.both_one
+
+abbrev pub has_first : PairSet → Bool → Bool
+has_first s bit = has_pair s bit false || has_pair s bit true
+
+abbrev pub has_second : PairSet → Bool → Bool
+has_second s bit = has_pair s false bit || has_pair s true bit
+
 -- the set of the pairs that pass a test
 abbrev pub set_of : (Pair → Bool) → PairSet
 set_of test = record { both_zero = test (false, false); zero_one = test (false, true); one_zero = test (true, false); both_one = test (true, true) }
-
--- whether the set has a pair at all
-abbrev pub some_pair : PairSet → Bool
-some_pair s = ((s.both_zero || s.zero_one) || s.one_zero) || s.both_one
 
 -- Each pair of the first set is in the second.
 abbrev pub IsWithin : PairSet → PairSet → Type 0
@@ -57,9 +70,16 @@ abbrev pub choices : List PairSet → List (List Pair)
 choices [] = [] ∷ []
 choices (s ∷ sets) = flat_map (λ p. map (λ ps. p ∷ ps) (choices sets)) (pairs_of s)
 
--- the pairs that a gate gives on the choices from what its pins see
-unfoldable pub gate_pairs : Kind → List PairSet → PairSet
-gate_pairs kind sets = image_of (λ ps. (gate_value kind (map (λ p. p.0) ps), gate_value kind (map (λ p. p.1) ps))) (choices sets)
+-- the pairs that a function of bits has in both places, on the choices from these sets
+unfoldable pub value_pairs : (List Bool → Bool) → List PairSet → PairSet
+value_pairs value sets = image_of (λ ps. (value (map (λ p. p.0) ps), value (map (λ p. p.1) ps))) (choices sets)
+
+-- the pairs that a gate gives on what its pins see, and what it makes of them before it may invert
+abbrev pub gate_pairs : Kind → List PairSet → PairSet
+gate_pairs kind sets = value_pairs (gate_value kind) sets
+
+abbrev pub operation_pairs : Operation → List PairSet → PairSet
+operation_pairs operation sets = value_pairs (operation_value operation) sets
 
 abbrev pub only_equal : PairSet → Bool
 only_equal s = not (s.zero_one || s.one_zero)

@@ -1,17 +1,16 @@
 -- What the fields of a `PairSim` show, and what is true of them.
 use Rattle.std.specs.Prelude.{◌≡◌, ℕ, ◌+◌, ◌<◌, ◌≤◌, List, [], ◌∷◌, map, reverse, length, sum_by, take, drop, vec_capacity, All, None}
 use Rattle.net_model.specs.declared.fault.Fault.{Fault}
-use Rattle.net_model.specs.Circuit.{Circuit}
-use Rattle.pair_sets.specs.declared.pair_set.PairSet.{PairSet}
+use Rattle.net_model.specs.Circuit.{Circuit, IsCircuit}
+use Rattle.event_queue.specs.Pending.{IsEmpty}
+use Rattle.pair_sets.specs.PairSet.{PairSet}
 use Rattle.pair_sets.specs.declared.sim.Level.{Level}
 use Rattle.pair_sets.specs.declared.sim.PairSim.TheInside.{Inside}
 use Rattle.pair_sets.specs.declared.trail.Change.{Change}
 use Rattle.pair_sets.specs.Cube.{Cube, fixed_bit}
 use Rattle.pair_sets.specs.CubeState.{ArePairSets}
-use Rattle.pair_sets.specs.Pending.{IsEmpty}
 use Rattle.pair_sets.specs.Tally.{IsTally, IsShown}
 use Rattle.pair_sets.specs.Trail.{pair_count, undone}
-use Rattle.pair_sets.specs.Wiring.{IsWiring}
 use Rattle.pair_sets.specs.PairSim.{PairSim, pair_sim}
 
 -- the fixed sources with their bits, the last level first
@@ -19,7 +18,7 @@ abbrev pub cube_of : List Level → Cube
 cube_of levels = map (λ level. (level.source, level.bit)) levels
 
 abbrev pub pair_sim_of : Inside → PairSim
-pair_sim_of a = pair_sim a.circuit.now a.f a.g (cube_of (reverse a.levels.items))
+pair_sim_of a = pair_sim a.pair.circuit.now a.pair.f a.pair.g (cube_of (reverse a.levels.items))
 
 -- The pairs are those of the cube, with room for a change for each of them.
 pub record IsLevelRight (c : Circuit) (f g : Fault) (cube : Cube) (room : ℕ) (changes : List Change) (sets : List PairSet) : Type 0 where
@@ -37,11 +36,11 @@ AreLevels c f g room (level ∷ levels) changes sets =
     × AreLevels c f g room levels (take level.start changes) (undone (drop level.start changes) sets)
 
 pub record IsReady (a : Inside) : Type 0 where
-  pub wiring : IsWiring a.circuit.now a.wiring
+  pub circuit : IsCircuit a.pair.circuit.now
   pub none_waits : IsEmpty a.queue
-  pub queue_room : length a.queue ≡ length a.wiring.order.items
-  pub levels : AreLevels a.circuit.now a.f a.g (vec_capacity a.trail.changes) (reverse a.levels.items) a.trail.changes.items a.trail.sets.items
+  pub queue_room : length a.queue ≡ length a.pair.circuit.now.gates
+  pub levels : AreLevels a.pair.circuit.now a.pair.f a.pair.g (vec_capacity a.trail.changes) (reverse a.levels.items) a.trail.changes.items a.trail.sets.items
   pub within : All (λ change. change.line < length a.trail.sets.items) a.trail.changes.items
-  pub levels_room : a.circuit.now.sources ≤ vec_capacity a.levels
-  pub tally : IsTally a.circuit.now a.f a.g a.tally
-  pub shown : IsShown a.circuit.now a.f a.g a.trail.sets.items a.tally
+  pub levels_room : a.pair.circuit.now.sources ≤ vec_capacity a.levels
+  pub tally : IsTally a.pair.circuit.now a.pair.f a.pair.g a.tally
+  pub shown : IsShown a.pair.circuit.now a.pair.f a.pair.g a.trail.sets.items a.tally.shown

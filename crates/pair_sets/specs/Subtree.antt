@@ -6,13 +6,13 @@ use Rattle.pair_sets.specs.declared.tree.Token.{Token}
 use Rattle.pair_sets.specs.Cube.{Cube}
 use Rattle.pair_sets.specs.Tree.{after_token, IsRightAt}
 
--- Each token is right at the first of the cubes that wait for it.
-abbrev pub AreRight : Circuit → Fault → Fault → List Cube → List Token → Type 0
-AreRight c f g waiting [] = ⊤
-AreRight c f g [] (token ∷ tokens) = ⊥
-AreRight c f g (cube ∷ waiting) (token ∷ tokens) = IsRightAt c f g token cube × AreRight c f g (after_token (cube ∷ waiting) token) tokens
+-- Each token has a property at the first of the cubes that wait for it.
+abbrev pub EachAt : (Token → Cube → Type 0) → List Cube → List Token → Type 0
+EachAt P waiting [] = ⊤
+EachAt P [] (token ∷ tokens) = ⊥
+EachAt P (cube ∷ waiting) (token ∷ tokens) = P token cube × EachAt P (after_token (cube ∷ waiting) token) tokens
 
 -- The tokens are one whole tree of the cube, whatever waits behind it, and each is right at its own cube.
 pub record IsSubtree (c : Circuit) (f g : Fault) (cube : Cube) (tokens : List Token) : Type 0 where
   pub whole : (waiting : List Cube) → fold after_token (cube ∷ waiting) tokens ≡ waiting
-  pub right : (waiting : List Cube) → AreRight c f g (cube ∷ waiting) tokens
+  pub right : (waiting : List Cube) → EachAt (IsRightAt c f g) (cube ∷ waiting) tokens

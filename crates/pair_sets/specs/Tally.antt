@@ -1,29 +1,34 @@
--- What the reached positions show, each at its place among them.
-use Rattle.std.specs.Prelude.{◌≡◌, ℕ, ◌<◌, List, [], ◌∷◌, length, slice_index, slice_index_or}
+-- What is kept of the observed positions: the pairs that the reached ones show.
+use Rattle.std.specs.Prelude.{◌≡◌, ℕ, ◌<◌, List, length, slice_index_or, if◌then◌else◌}
 use Rattle.net_model.specs.declared.fault.Fault.{Fault}
-use Rattle.net_model.specs.Circuit.{Circuit, line_count}
-use Rattle.net_model.specs.Scope.{reached_positions}
-use Rattle.pair_sets.specs.declared.pair_set.PairSet.{PairSet}
+use Rattle.net_model.specs.Circuit.{Circuit}
+use Rattle.net_model.specs.Scope.{is_reached, reached_positions}
+use Rattle.fault_list.specs.Scope.{IsScopeOf}
 use Rattle.pair_sets.specs.declared.tally.Tally.{Tally}
-use Rattle.pair_sets.specs.PairSet.{free_pairs}
+use Rattle.pair_sets.specs.PairSet.{PairSet, free_pairs}
 use Rattle.pair_sets.specs.CubeState.{position_pairs}
-use Rattle.pair_sets.specs.Wiring.{AreReaders}
 
--- the line that the position at a place shows
-abbrev pub line_at : Circuit → List ℕ → ℕ → ℕ
-line_at c reached place = slice_index c.positions (slice_index reached place)
+module _ (c : Circuit) (f g : Fault) where
+  -- what a reached position shows, and equal pairs for another
+  abbrev pub kept_pairs : List PairSet → ℕ → PairSet
+  kept_pairs sets at = if is_reached c f g at then position_pairs c f g sets at else free_pairs
 
--- What is kept at a place is what its position shows.
-abbrev pub IsShownAt : Circuit → Fault → Fault → List PairSet → List ℕ → List PairSet → ℕ → Type 0
-IsShownAt c f g sets reached shown place = slice_index_or shown place free_pairs ≡ position_pairs c f g sets (slice_index reached place)
+  -- What is kept of a position is right.
+  abbrev pub IsShownAt : List PairSet → List PairSet → ℕ → Type 0
+  IsShownAt sets shown at = slice_index_or shown at free_pairs ≡ kept_pairs sets at
 
--- So it is at each place.
-abbrev pub IsShown : Circuit → Fault → Fault → List PairSet → Tally → Type 0
-IsShown c f g sets tally = (place : ℕ) → place < length tally.reached.items → IsShownAt c f g sets tally.reached.items tally.shown place
+  -- So it is for each position.
+  abbrev pub IsShown : List PairSet → List PairSet → Type 0
+  IsShown sets shown = (at : ℕ) → at < length c.positions → IsShownAt sets shown at
 
--- The positions that two faults reach, and for each line the places of those that show it.
-pub record IsTally (c : Circuit) (f g : Fault) (tally : Tally) : Type 0 where
-  pub reached : tally.reached.items ≡ reached_positions c f g
-  pub showing : AreReaders (length tally.reached.items) (λ place. line_at c tally.reached.items place ∷ []) tally.showing.items
-  pub lines : length tally.showing.items ≡ line_count c
-  pub whole : length tally.shown ≡ length tally.reached.items
+  -- The positions that two faults reach, their scope, and something kept of each position.
+  pub record IsTally (tally : Tally) : Type 0 where
+    pub reached : tally.reached.items ≡ reached_positions c f g
+    pub scope : IsScopeOf c f g tally.scope
+    pub whole : length tally.shown ≡ length c.positions
+
+-- Nothing changes but what is kept of positions.
+pub record KeepsScope (old new : Tally) : Type 0 where
+  pub reached : new.reached ≡ old.reached
+  pub scope : new.scope ≡ old.scope
+  pub whole : length new.shown ≡ length old.shown

@@ -1,16 +1,33 @@
 //! Sets of pairs of bits: the value of a line under one fault, and under another.
 
 ghost use Rattle.std.specs.Prelude.{◌≡◌, ◌∷◌, [], Some, None};
-ghost use Rattle.net_model.specs.declared.gate.Kind.TheVariants.{And, Or, Xor, Not};
-ghost use Rattle.pair_sets.specs.PairSet.{forced_pairs, gate_pairs, fixed_pairs, free_pairs, all_pairs, some_pair, has_pair, has_several, only_equal, only_unequal};
+ghost use Rattle.net_model.specs.declared.gate.Kind.TheVariants.{Not};
+ghost use Rattle.net_model.specs.declared.operation.Operation.TheVariants.{Chosen, Folded};
+ghost use Rattle.net_model.specs.declared.operation.Fold.TheVariants.{AllOf, OddOf};
+ghost use Rattle.pair_sets.specs.PairSet.{forced_pairs, gate_pairs, operation_pairs, fixed_pairs, free_pairs, all_pairs, some_pair, has_first, has_second, has_pair, has_several, only_equal, only_unequal};
+
+use net_model::Fold;
+use std::marker::Model;
 
 /// A set of pairs of bits: whether each of the four is in it.
 #[derive(Clone, Copy, Debug, PartialEq, Eq)]
 pub struct PairSet {
-    pub(crate) both_zero: bool,
-    pub(crate) zero_one: bool,
-    pub(crate) one_zero: bool,
-    pub(crate) both_one: bool,
+    both_zero: bool,
+    zero_one: bool,
+    one_zero: bool,
+    both_one: bool,
+}
+
+impl Model for PairSet {
+    ghost use Rattle.pair_sets.specs.PairSet as spec;
+
+    ghost Value = { spec.PairSet };
+
+    ghost use Rattle.pair_sets.specs.PairSetFields.{pair_set_of, fields_of};
+
+    ghost view = { pair_set_of };
+
+    ghost inverse = { fields_of };
 }
 
 impl PairSet {
@@ -50,20 +67,37 @@ impl PairSet {
         }
     }
 
-    // Whether the set has a pair at all.
-    fn some(self) -> bool
-        ensures { result ≡ some_pair self }
+    // The pairs of a fold of no pins.
+    pub(crate) fn unit(fold: Fold) -> PairSet
+        ensures { result ≡ operation_pairs (Folded fold) [] }
     {
-        self.both_zero | self.zero_one | self.one_zero | self.both_one
+        match fold {
+            Fold::AllOf => PairSet::fixed(true),
+            Fold::AnyOf | Fold::OddOf => PairSet::fixed(false),
+        }
+    }
+
+    // The pairs of a fold of one pin, which sees this set, and of others, whose fold has the other set.
+    #[inline]
+    pub(crate) fn step(self, fold: Fold, other: PairSet) -> PairSet
+        ensures { result ≡ operation_pairs (Folded fold) (self ∷ other ∷ []) }
+    {
+        match fold {
+            Fold::AllOf => self.and(other),
+            Fold::AnyOf => self.not().and(other.not()).not(),
+            Fold::OddOf => self.xor(other),
+        }
     }
 
     // The pairs of an AND whose two pins see these sets.
-    pub(crate) fn and(self, other: PairSet) -> PairSet
-        ensures { result ≡ gate_pairs And (self ∷ other ∷ []) }
+    #[inline]
+    fn and(self, other: PairSet) -> PairSet
+        ensures { result ≡ operation_pairs (Folded AllOf) (self ∷ other ∷ []) }
     {
+        let (here, there) = (self.some(), other.some());
         PairSet {
-            both_zero: (self.both_zero & other.some())
-                | (self.some() & other.both_zero)
+            both_zero: (self.both_zero & there)
+                | (here & other.both_zero)
                 | (self.zero_one & other.one_zero)
                 | (self.one_zero & other.zero_one),
             zero_one: (self.zero_one & (other.zero_one | other.both_one))
@@ -74,26 +108,10 @@ impl PairSet {
         }
     }
 
-    // The pairs of an OR whose two pins see these sets.
-    pub(crate) fn or(self, other: PairSet) -> PairSet
-        ensures { result ≡ gate_pairs Or (self ∷ other ∷ []) }
-    {
-        PairSet {
-            both_zero: self.both_zero & other.both_zero,
-            zero_one: (self.zero_one & (other.zero_one | other.both_zero))
-                | (self.both_zero & other.zero_one),
-            one_zero: (self.one_zero & (other.one_zero | other.both_zero))
-                | (self.both_zero & other.one_zero),
-            both_one: (self.both_one & other.some())
-                | (self.some() & other.both_one)
-                | (self.zero_one & other.one_zero)
-                | (self.one_zero & other.zero_one),
-        }
-    }
-
     // The pairs of an XOR whose two pins see these sets.
-    pub(crate) fn xor(self, other: PairSet) -> PairSet
-        ensures { result ≡ gate_pairs Xor (self ∷ other ∷ []) }
+    #[inline]
+    fn xor(self, other: PairSet) -> PairSet
+        ensures { result ≡ operation_pairs (Folded OddOf) (self ∷ other ∷ []) }
     {
         PairSet {
             both_zero: (self.both_zero & other.both_zero)
@@ -116,6 +134,7 @@ impl PairSet {
     }
 
     // The pairs of a NOT whose pin sees this set.
+    #[inline]
     pub(crate) fn not(self) -> PairSet
         ensures { result ≡ gate_pairs Not (self ∷ []) }
     {
@@ -125,6 +144,52 @@ impl PairSet {
             one_zero: self.zero_one,
             both_one: self.both_zero,
         }
+    }
+
+    // The pairs of a multiplexer whose first pin sees this set.
+    pub(crate) fn chosen(self, low: PairSet, high: PairSet) -> PairSet
+        ensures { result ≡ operation_pairs Chosen (self ∷ low ∷ high ∷ []) }
+    {
+        PairSet {
+            both_zero: self.chooses(low, high, false, false),
+            zero_one: self.chooses(low, high, false, true),
+            one_zero: self.chooses(low, high, true, false),
+            both_one: self.chooses(low, high, true, true),
+        }
+    }
+
+    // Whether such a multiplexer has the pair of these two bits.
+    fn chooses(self, low: PairSet, high: PairSet, first: bool, second: bool) -> bool
+        ensures { result ≡ has_pair (operation_pairs Chosen (self ∷ low ∷ high ∷ [])) first second }
+    {
+        (self.both_zero & low.has(first, second) & high.some())
+            | (self.zero_one & low.has_first(first) & high.has_second(second))
+            | (self.one_zero & high.has_first(first) & low.has_second(second))
+            | (self.both_one & low.some() & high.has(first, second))
+    }
+
+    // Whether the set has a pair at all.
+    #[inline]
+    fn some(self) -> bool
+        ensures { result ≡ some_pair self }
+    {
+        self.both_zero | self.zero_one | self.one_zero | self.both_one
+    }
+
+    // Whether some pair has this bit in its first place.
+    #[inline]
+    fn has_first(self, bit: bool) -> bool
+        ensures { result ≡ has_first self bit }
+    {
+        self.has(bit, false) | self.has(bit, true)
+    }
+
+    // Whether some pair has this bit in its second place.
+    #[inline]
+    fn has_second(self, bit: bool) -> bool
+        ensures { result ≡ has_second self bit }
+    {
+        self.has(false, bit) | self.has(true, bit)
     }
 
     // The set with a value put in each pair's first place.
@@ -166,6 +231,7 @@ impl PairSet {
     }
 
     /// Whether the pair of these two bits is in the set.
+    #[inline]
     pub fn has(self, first: bool, second: bool) -> bool
         ensures { result ≡ has_pair self first second }
     {
@@ -178,6 +244,7 @@ impl PairSet {
     }
 
     /// Whether there are two pairs or more.
+    #[inline]
     pub fn has_several(self) -> bool
         ensures { result ≡ has_several self }
     {
@@ -187,6 +254,7 @@ impl PairSet {
     }
 
     /// Whether no pair has two values.
+    #[inline]
     pub fn only_equal(self) -> bool
         ensures { result ≡ only_equal self }
     {
@@ -194,6 +262,7 @@ impl PairSet {
     }
 
     /// Whether each pair has two values.
+    #[inline]
     pub fn only_unequal(self) -> bool
         ensures { result ≡ only_unequal self }
     {

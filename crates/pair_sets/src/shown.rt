@@ -1,6 +1,6 @@
 //! The pairs that positions show, counted.
 
-ghost use Rattle.std.specs.Prelude.{◌≡◌, ◌<◌, [], ◌∷◌, ◌++◌, OnOk, not, length, slice_set};
+ghost use Rattle.std.specs.Prelude.{◌≡◌, ◌<◌, [], ◌∷◌, ◌++◌, IfOk, OnOk, not, length, slice_set};
 ghost use Rattle.std.specs.List.{list_all};
 ghost use Rattle.pair_sets.specs.PairSet.{only_equal, only_unequal};
 
@@ -30,14 +30,15 @@ impl Model for Shown {
 }
 
 impl Shown {
-    pub(crate) fn new(alloc: Global) -> Shown
-        ensures { result ≡ [] }
+    /// None, with room for so many.
+    pub(crate) fn with_capacity(alloc: Global, count: usize) -> Result<Shown, AllocError>
+        ensures { IfOk result (λ shown. shown ≡ []) }
     {
-        Shown {
-            pairs: Vec::new(alloc),
+        Ok(Shown {
+            pairs: Vec::with_capacity(alloc, count)?,
             unlike: 0,
             apart: 0,
-        }
+        })
     }
 
     pub(crate) fn push(&mut self, pairs: PairSet) -> Result<(), AllocError>

@@ -11,15 +11,15 @@ ghost use Rattle.pair_sets.specs.CubeState.{set_at, position_pairs, IsState, IsP
 ghost use Rattle.pair_sets.specs.PairSim.{pair_sim, with_cube};
 
 use crate::events::{follow, settle};
-use crate::gate_pairs::pin_pairs;
+use crate::fault_pair::FaultPair;
 use crate::pair_set::PairSet;
-use crate::pending::Pending;
-use crate::start::first_pairs;
+use crate::start::{first_pairs, first_queue};
 use crate::state::PairState;
-use crate::tally::{Tally, first_apart, position_pairs, tally_of};
+use crate::tally::{Tally, first_apart};
 use crate::trail::Trail;
-use crate::wiring::{Wiring, wiring_of};
-use net_model::{Circuit, Fault, stuck_stem};
+use event_queue::NumberQueue;
+use fault_list::Scope;
+use net_model::{Circuit, Fault};
 use std::alloc::{AllocError, Global};
 use std::marker::Model;
 
@@ -35,11 +35,8 @@ pub(crate) struct Level {
 /// the pins of a gate see as independent. It borrows the circuit and keeps copies of the faults.
 #[derive(Drop)]
 pub struct PairSim<'a> {
-    circuit: &'a Circuit,
-    f: Fault,
-    g: Fault,
-    wiring: Wiring,
-    queue: Pending,
+    pair: FaultPair<'a>,
+    queue: NumberQueue,
     trail: Trail,
     tally: Tally,
     levels: Vec<Level>,
@@ -69,18 +66,21 @@ impl<'a> PairSim<'a> {
         requires second { IsFaultOf circuit.now g.now }
         ensures { IfOk result (λ sim. sim ≡ pair_sim circuit.now f.now g.now []) }
     {
-        let wiring = wiring_of(alloc, circuit)?;
-        let mut queue = Pending::all(alloc, wiring.order.len())?;
-        let mut trail = first_pairs(alloc, circuit, *f, *g)?;
-        let levels = Vec::with_capacity(alloc, circuit.sources() as usize)?;
-        follow(circuit, &wiring, *f, *g, &mut queue, &mut trail);
-        trail.changes.clear();
-        let tally = tally_of(alloc, circuit, trail.sets.as_slice(), f, g)?;
-        Ok(PairSim {
+        let pair = FaultPair {
             circuit,
             f: *f,
             g: *g,
-            wiring,
+        };
+        let wiring = circuit.wiring();
+        let scope = Scope::of(alloc, circuit, f, g)?;
+        let mut queue = first_queue(alloc, &pair, wiring, &scope)?;
+        let mut trail = first_pairs(alloc, &pair, &scope)?;
+        let levels = Vec::with_capacity(alloc, circuit.sources() as usize)?;
+        follow(&pair, wiring, &mut queue, &mut trail);
+        trail.changes.clear();
+        let tally = Tally::of(alloc, &pair, scope, trail.sets.as_slice())?;
+        Ok(PairSim {
+            pair,
             queue,
             trail,
             tally,
@@ -94,31 +94,22 @@ impl<'a> PairSim<'a> {
         requires free { fixed_bit self.old.cube source ≡ None }
         ensures { self.new ≡ with_cube self.old ((source, bit) ∷ self.old.cube) }
     {
-        let circuit = self.circuit;
-        let (f, g) = (self.f, self.g);
+        let wiring = self.pair.circuit.wiring();
         let start = self.trail.changes.len();
-        let pairs = PairSet::fixed(bit).forced(stuck_stem(f, source), stuck_stem(g, source));
+        let pairs = self.pair.stem_pairs(source, PairSet::fixed(bit));
         settle(
-            circuit,
-            &self.wiring,
+            &self.pair,
+            wiring,
             source,
             pairs,
             &mut self.queue,
             &mut self.trail,
         );
-        follow(
-            circuit,
-            &self.wiring,
-            f,
-            g,
-            &mut self.queue,
-            &mut self.trail,
-        );
+        follow(&self.pair, wiring, &mut self.queue, &mut self.trail);
         self.tally.recount(
-            circuit,
+            &self.pair,
+            wiring,
             self.trail.sets.as_slice(),
-            f,
-            g,
             &self.trail.changes[start..],
         );
         self.levels.push_reserved(Level { source, bit, start });
@@ -132,10 +123,9 @@ impl<'a> PairSim<'a> {
         if let Some(level) = self.levels.pop() {
             self.trail.restore(level.start);
             self.tally.recount(
-                self.circuit,
+                &self.pair,
+                self.pair.circuit.wiring(),
                 self.trail.sets.as_slice(),
-                self.f,
-                self.g,
                 &self.trail.changes[level.start..],
             );
             self.trail.changes.truncate(level.start);
@@ -155,7 +145,7 @@ impl<'a> PairSim<'a> {
         }
         let sets = self.trail.sets.as_slice();
         let reached = self.tally.reached.as_slice();
-        match first_apart(self.circuit, sets, self.f, self.g, reached) {
+        match first_apart(&self.pair, sets, reached) {
             Some(at) => PairState::Apart(at),
             None => PairState::Undecided,
         }
@@ -167,7 +157,7 @@ impl<'a> PairSim<'a> {
         ensures value { result.now ≡ self.now.circuit }
         ensures circuit { IsCircuit self.now.circuit }
     {
-        self.circuit
+        self.pair.circuit
     }
 
     /// The observed positions that the faults can change, ascending.
@@ -192,7 +182,8 @@ impl<'a> PairSim<'a> {
         requires { read < line_count self.now.circuit }
         ensures { IsPart self.now.circuit self.now.f self.now.g self.now.cube (λ sets. forced_pairs (stuck_pin self.now.f line pin) (stuck_pin self.now.g line pin) (set_at sets read)) result }
     {
-        pin_pairs(self.trail.sets.as_slice(), self.f, self.g, line, pin, read)
+        self.pair
+            .pin_pairs(self.trail.sets.as_slice(), line, pin, read)
     }
 
     /// The pairs that an observed position shows.
@@ -200,6 +191,6 @@ impl<'a> PairSim<'a> {
         requires { at < length self.now.circuit.positions }
         ensures { IsPart self.now.circuit self.now.f self.now.g self.now.cube (λ sets. position_pairs self.now.circuit self.now.f self.now.g sets at) result }
     {
-        position_pairs(self.circuit, self.trail.sets.as_slice(), self.f, self.g, at)
+        self.pair.position_pairs(self.trail.sets.as_slice(), at)
     }
 }

@@ -1,60 +1,18 @@
 -- A log, chain by chain.
 use Rattle.std.proofs.Common.{◌≡◌, ◌≢◌, ◌∙◌, ℕ, suc, ◌<◌, ◌≤◌, ◌+◌, ◌-◌, true, false, List, [], ◌∷◌, ◌++◌, length, get_or, take, eq-eqb, refl, sym, ap, subst, arith, inl, inr}
 use Rattle.std.specs.Prelude.{Option, Some, None, slice_get}
-use Rattle.std.specs.Option.{option_and_then, option_map}
 use Rattle.std.proofs.lemmas.Bool.{cases_lt, ne_eqb}
-use Rattle.std.proofs.lemmas.List.{get_or_default, append-nil, append_assoc, length-append, take-append-le, length-take-le, get_or-take, take_all, get_or_append_left}
+use Rattle.std.proofs.lemmas.List.{get_or_default, length-append, take-append-le, length-take-le, get_or-take, take_all, get_or_append_left}
 use Rattle.std.proofs.Math.Seq.{get_or-append_seam, take-suc}
 use Rattle.std.proofs.lemmas.Option.{slice_get_within, slice_get-get_or, get_or_from_slice_get}
 use Rattle.clause_pool.specs.Clauses.{Clause}
 use Rattle.pair_miter.specs.ChainView.{ChainView}
 use Rattle.pair_miter.specs.Log.{IsRefutation, IsSpentLog}
 use Rattle.pair_miter.specs.Resolution.{chain_end, log_ends}
+use Rattle.pair_miter.proofs.LogEnds.{log_more, log_long}
 use Rattle.refute_check.specs.declared.refusal.EvidenceKind.{EvidenceKind}
 use Rattle.refute_check.specs.declared.refusal.EvidenceKind.TheVariants.{Covered, Refuted, Spent}
 use Rattle.refute_check.specs.LogRefusal.{IsRightEnd, IsRightLog, HasRightLength, AreRightBefore, is_last}
-
--- ---- the ends of a log with one more chain
-
--- the parts of the ends of a log with a first chain
-pub record Parts (clauses : List Clause) (chain : ChainView) (chains : List ChainView) (ends : List Clause) : Type 0 where
-  pub first : Clause
-  pub rest : List Clause
-  pub first_is : chain_end clauses chain ≡ Some first
-  pub rest_are : log_ends (clauses ++ first ∷ []) chains ≡ Some rest
-  pub are : ends ≡ first ∷ rest
-
-pub parts_of : (clauses : List Clause) (chain : ChainView) (chains : List ChainView) (ends : List Clause) → log_ends clauses (chain ∷ chains) ≡ Some ends → Parts clauses chain chains ends
-parts_of clauses chain chains ends e = by (chain_end clauses chain) refl e
-  where
-    later : (first : Clause) (o : Option (List Clause)) → chain_end clauses chain ≡ Some first → log_ends (clauses ++ first ∷ []) chains ≡ o → option_map (λ more. first ∷ more) o ≡ Some ends → Parts clauses chain chains ends
-    later first None f r e = absurd (let w : ◌≡◌ {A = Option (List Clause)} None (Some ends) = e in cc)
-    later first (Some rest) f r e = record { first = first; rest = rest; first_is = f; rest_are = r; are = sym (let w : ◌≡◌ {A = Option (List Clause)} (Some (first ∷ rest)) (Some ends) = e in cc) }
-
-    by : (o : Option Clause) → chain_end clauses chain ≡ o → option_and_then (λ end. option_map (λ more. end ∷ more) (log_ends (clauses ++ end ∷ []) chains)) o ≡ Some ends → Parts clauses chain chains ends
-    by None f e = absurd (let w : ◌≡◌ {A = Option (List Clause)} None (Some ends) = e in cc)
-    by (Some first) f e = later first (log_ends (clauses ++ first ∷ []) chains) f refl e
-
-pub log_more : (clauses : List Clause) (log : List ChainView) (chain : ChainView) (ends : List Clause) (end : Clause) → log_ends clauses log ≡ Some ends → chain_end (clauses ++ ends) chain ≡ Some end
-    → log_ends clauses (log ++ chain ∷ []) ≡ Some (ends ++ end ∷ [])
-log_more clauses [] chain ends end are is =
-    let none : [] ≡ ends = (let w : ◌≡◌ {A = Option (List Clause)} (Some []) (Some ends) = are in cc) in
-    let own : chain_end clauses chain ≡ Some end = ap (λ cs. chain_end cs chain) (sym (append-nil clauses) ∙ ap (λ more. clauses ++ more) none) ∙ is in
-    ap (option_and_then (λ e. option_map (λ more. e ∷ more) (log_ends (clauses ++ e ∷ []) []))) own ∙ ap (λ more. Some (more ++ end ∷ [])) none
-log_more clauses (first ∷ log) chain ends end are is =
-    let p = parts_of clauses first log ends are in
-    let inner : chain_end ((clauses ++ p.first ∷ []) ++ p.rest) chain ≡ Some end =
-    ap (λ cs. chain_end cs chain) (append_assoc clauses (p.first ∷ []) p.rest ∙ ap (λ more. clauses ++ more) (sym p.are)) ∙ is in
-    let more = log_more (clauses ++ p.first ∷ []) log chain p.rest end p.rest_are inner in
-    ap (option_and_then (λ e. option_map (λ more. e ∷ more) (log_ends (clauses ++ e ∷ []) (log ++ chain ∷ [])))) p.first_is
-    ∙ (ap (option_map (λ more. p.first ∷ more)) more ∙ ap (λ xs. Some (xs ++ end ∷ [])) (sym p.are))
-
-pub log_long : (clauses : List Clause) (log : List ChainView) (ends : List Clause) → log_ends clauses log ≡ Some ends → length ends ≡ length log
-log_long clauses [] ends are = let none : [] ≡ ends = (let w : ◌≡◌ {A = Option (List Clause)} (Some []) (Some ends) = are in cc) in ap length (sym none)
-log_long clauses (first ∷ log) ends are =
-    let p = parts_of clauses first log ends are in
-    let rest = log_long (clauses ++ p.first ∷ []) log p.rest p.rest_are in
-    ap length p.are ∙ ap suc rest
 
 -- ---- right chains
 

@@ -1,4 +1,3 @@
-pub mod SameLiterals
 pub mod Alike
 pub mod Chains
 pub mod LogSteps
@@ -8,3 +7,6 @@ pub mod HeldLemmas
 pub mod ClosureLemmas
 pub mod WalkLemmas
 pub mod Sound
+pub mod ChainLaws
+pub mod LogLaws
+pub mod TreeLaws

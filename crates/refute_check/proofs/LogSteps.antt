@@ -3,18 +3,20 @@ use Rattle.std.proofs.Common.{◌≡◌, ◌∙◌, ℕ, ◌+◌, ◌++◌, List
 use Rattle.std.specs.Prelude.{Some, slice_get, All}
 use Rattle.std.proofs.lemmas.List.{append_assoc}
 use Rattle.clause_pool.specs.Clauses.{Clause}
+use Rattle.clause_pool.specs.Proper.{HasVariablesUpTo}
 use Rattle.pair_miter.specs.ChainView.{ChainView}
-use Rattle.pair_miter.specs.Resolution.{chain_end}
-use Rattle.refute_check.specs.ClauseView.{SameLiterals}
+use Rattle.pair_miter.specs.Resolution.{chain_end, SameLiterals, AreAlike}
 use Rattle.refute_check.specs.declared.refusal.EvidenceKind.{EvidenceKind}
 use Rattle.refute_check.specs.declared.refusal.RefusalKind.{RefusalKind}
 use Rattle.refute_check.specs.declared.refusal.Refusal.{Refusal}
-use Rattle.refute_check.specs.LogRefusal.{AreRightBefore, AreUpTo, ChainStops, EndsAs, HasRightLength, IsRightEnd, LogRefused, at_step, at_end, end_refusal, is_last}
-use Rattle.refute_check.proofs.Alike.{AreAlike, alike_some, alike_sym, alike_more, chain_alike, chain_within, refusal_alike, right_alike, stops_alike, within_alike}
-use Rattle.refute_check.proofs.SameLiterals.{same_sym, same_trans}
+use Rattle.refute_check.specs.LogRefusal.{AreRightBefore, ChainStops, EndsAs, HasRightLength, IsRightEnd, LogRefused, at_step, at_end, end_refusal, is_last}
+use Rattle.refute_check.proofs.Alike.{refusal_alike, right_alike, stops_alike}
+use Rattle.pair_miter.proofs.EndVariables.{within_alike, chain_within}
+use Rattle.pair_miter.proofs.Alike.{alike_sym, alike_some, chain_alike, alike_more}
+use Rattle.pair_miter.proofs.SameLiterals.{same_sym, same_trans}
 use Rattle.refute_check.proofs.Chains.{before_next, next_ends}
 
-pub end_within : (variable : ℕ) (pool : List Clause) (chain : ChainView) (literals : Clause) → All (AreUpTo variable) pool → EndsAs pool chain literals → AreUpTo variable literals
+pub end_within : (variable : ℕ) (pool : List Clause) (chain : ChainView) (literals : Clause) → All (HasVariablesUpTo variable) pool → EndsAs pool chain literals → HasVariablesUpTo variable literals
 end_within variable pool chain literals all (end, is, same) = within_alike variable literals end same (chain_within variable pool all chain end is)
 
 module _ (kind : EvidenceKind) (clauses : List Clause) (limit : ℕ) (log : List ChainView) (at : ℕ) (chain : ChainView) (pool : List Clause) (long : HasRightLength kind limit log)

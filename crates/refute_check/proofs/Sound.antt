@@ -24,7 +24,7 @@ use Rattle.pair_miter.specs.Miter.{miter, literal_bit, is_satisfied_by, is_model
 use Rattle.pair_miter.specs.Resolution.{clause_without, resolvent, can_resolve, clause_after_step, chain_end, log_ends}
 use Rattle.pair_miter.proofs.Complete.{separated_has_model}
 use Rattle.pair_miter.proofs.TidyAndFresh.{opposite_bit}
-use Rattle.refute_check.proofs.Chains.{parts_of}
+use Rattle.pair_miter.proofs.LogEnds.{parts_of}
 
 module _ (bits : List Bool) where
   -- a clause stays true without a literal that is false
@@ -102,6 +102,6 @@ refutation_equal c f g limit log w r v first second width p q =
       | inl t ↦ same.0 t
       | inr n ↦
           let differ : first ≢ second = λ e. true_false (pointwise beq first second) (same.1 e) n in
-          let m = separated_has_model c f g v w (record { first = first; second = second; first_is = p; second_is = q; differ = differ }) in
+          let m = separated_has_model c f g v w (record { width = width; first = first; second = second; first_is = p; second_is = q; differ = differ }) in
           absurd (no_model m.bits (miter c f g) limit log r m.satisfies)
     ]

@@ -8,12 +8,11 @@ use Rattle.std.proofs.lemmas.Option.{slice_get-get_or}
 use Rattle.clause_pool.specs.Literal.{Literal}
 use Rattle.clause_pool.specs.Clauses.{Clause, numbered_clause}
 use Rattle.pair_miter.specs.ChainView.{ChainView}
-use Rattle.pair_miter.specs.Resolution.{can_resolve, resolvent, clause_after_step, chain_end}
+use Rattle.pair_miter.specs.Resolution.{can_resolve, resolvent, clause_after_step, chain_end, SameLiterals}
 use Rattle.refute_check.specs.declared.refusal.RefusalKind.TheVariants.{NoSuchClause, NoPivot}
-use Rattle.refute_check.specs.ClauseView.{SameLiterals}
 use Rattle.refute_check.specs.LogRefusal.{ChainStops, EndsAs, chain_before}
 use Rattle.refute_check.specs.LogRefusal.ChainStops.{no_clause, no_pivot}
-use Rattle.refute_check.proofs.SameLiterals.{can_alike, resolvent_alike, same_refl, same_trans}
+use Rattle.pair_miter.proofs.SameLiterals.{same_trans, same_refl, can_alike, resolvent_alike}
 
 -- ---- steps
 
@@ -23,15 +22,18 @@ module _ (clauses : List Clause) (chain : ChainView) where
   ends_first ls start is same = (start, is, same)
 
   -- the end after one more step
-  end_more : (at : ℕ) (step : Literal × ℕ) (end : Clause) → at < length chain.steps → step ≡ get_or chain.steps at step → chain_end clauses (chain_before at chain) ≡ Some end
-      → chain_end clauses (chain_before (at + 1) chain) ≡ clause_after_step clauses end step
+  pub step_more : (at : ℕ) (step : Literal × ℕ) → at < length chain.steps → step ≡ get_or chain.steps at step
+      → chain_end clauses (chain_before (at + 1) chain) ≡ option_and_then (λ clause. clause_after_step clauses clause step) (chain_end clauses (chain_before at chain))
   unfolding chain_end
-  end_more at step end inside is e =
+  step_more at step inside is =
       let after : Option Clause → Literal × ℕ → Option Clause = λ before next. option_and_then (λ clause. clause_after_step clauses clause next) before in
-      fold_more after (numbered_clause clauses chain.start) chain.steps at step inside
-      ∙ (ap (after (fold after (numbered_clause clauses chain.start) (take at chain.steps))) (sym is) ∙ ap (λ before. after before step) e)
+      fold_more after (numbered_clause clauses chain.start) chain.steps at step inside ∙ ap (after (fold after (numbered_clause clauses chain.start) (take at chain.steps))) (sym is)
 
-  resolved_end : (step : Literal × ℕ) (end other : Clause) → numbered_clause clauses step.1 ≡ Some other → can_resolve step.0 end other ≡ true → clause_after_step clauses end step ≡ Some (resolvent step.0 end other)
+  pub end_more : (at : ℕ) (step : Literal × ℕ) (end : Clause) → at < length chain.steps → step ≡ get_or chain.steps at step → chain_end clauses (chain_before at chain) ≡ Some end
+      → chain_end clauses (chain_before (at + 1) chain) ≡ clause_after_step clauses end step
+  end_more at step end inside is e = step_more at step inside is ∙ ap (option_and_then (λ clause. clause_after_step clauses clause step)) e
+
+  pub resolved_end : (step : Literal × ℕ) (end other : Clause) → numbered_clause clauses step.1 ≡ Some other → can_resolve step.0 end other ≡ true → clause_after_step clauses end step ≡ Some (resolvent step.0 end other)
   unfolding clause_after_step
   resolved_end step end other is can =
       ap (option_and_then (λ clause. if can_resolve step.0 end clause then Some (resolvent step.0 end clause) else None)) is

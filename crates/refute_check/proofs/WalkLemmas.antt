@@ -16,7 +16,7 @@ use Rattle.pair_sets.specs.declared.tree.Token.TheVariants.{Split, Closed, Rest}
 use Rattle.pair_sets.specs.Cube.{Cube, fixed_bit}
 use Rattle.pair_sets.specs.CubeState.{IsState}
 use Rattle.pair_sets.specs.PairSim.{PairSim, pair_sim, with_cube}
-use Rattle.pair_sets.specs.Tree.{IsRightAt, IsTree, after_token, waiting_after, cube_at, token_at}
+use Rattle.pair_sets.specs.Tree.{SplitsFree, IsRightAt, IsTree, after_token, waiting_after, cube_at, token_at}
 use Rattle.pair_sets.proofs.DecidedLemmas.{one_state}
 use Rattle.refute_check.specs.declared.refusal.EvidenceKind.{EvidenceKind}
 use Rattle.refute_check.specs.declared.refusal.EvidenceKind.TheVariants.{Covered, Refuted, Spent}
@@ -162,8 +162,20 @@ module _ (c : Circuit) (f g : Fault) (tokens : List Token) where
     end_refused inside = too_short right_all
         (λ none. let e : ◌≡◌ {A = List Cube} (walk.sim.cube ∷ second_halves walk.sim.cube) [] = sym (waiting_is walk walk.sim.cube inside (sym come.walk_is.stands)) ∙ waiting_all ∙ none in cc) refl
 
+    -- a right token splits a free source
+    splits_free : (token : Token) (cube : Cube) → IsRightAt c f g token cube → SplitsFree c token cube
+    splits_free (Split source) cube right = (right.0, right.2)
+    splits_free Closed cube right = tt
+    splits_free Rest cube right = tt
+
     tree_is : walk.whole ≡ true → IsTree c f g tokens
-    tree_is whole = record { whole = sym waiting_all ∙ (λ i. if whole i then [] else (reverse walk.path.items ∷ second_halves (reverse walk.path.items))); each = right_all }
+    tree_is whole = record {
+      shape = record {
+        whole = sym waiting_all ∙ (λ i. if whole i then [] else (reverse walk.path.items ∷ second_halves (reverse walk.path.items)));
+        free = λ at h. let right = right_all at h in (right.0, right.1, splits_free (token_at tokens at) right.0 right.2);
+      };
+      each = right_all;
+    }
 
     pub counts_refused : walk.whole ≡ true → (AreRightCounts kind limit tokens → ⊥) → TreeRefused c f g kind limit tokens (record { kind = WrongCount; step = length tokens })
     counts_refused whole wrong = wrong_count (tree_is whole) (λ right. wrong (counts_of kind limit right)) refl

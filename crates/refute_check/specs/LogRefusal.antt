@@ -1,12 +1,11 @@
 -- How a log that isn't right is refused: for its number of chains, else at its first wrong chain.
-use Rattle.std.specs.Prelude.{◌≡◌, ◌≢◌, ◌<◌, ◌≤◌, ◌+◌, ℕ, Bool, List, [], ◌∷◌, ◌++◌, length, take, None, Some, slice_get, ◌==◌, ⊤, true, false, All, Option, MatchOption}
+use Rattle.std.specs.Prelude.{◌≡◌, ◌≢◌, ◌<◌, ◌≤◌, ◌+◌, ℕ, Bool, List, [], ◌∷◌, ◌++◌, length, take, None, Some, slice_get, ◌==◌, ⊤, true, false, Option, MatchOption}
 use Rattle.std.specs.Bool.{MatchBool}
 use Rattle.clause_pool.specs.Literal.{Literal}
 use Rattle.clause_pool.specs.Clauses.{Clause, numbered_clause}
 use Rattle.pair_miter.specs.ChainView.{ChainView}
-use Rattle.pair_miter.specs.Resolution.{can_resolve, chain_end, log_ends}
+use Rattle.pair_miter.specs.Resolution.{can_resolve, chain_end, log_ends, SameLiterals}
 use Rattle.pair_miter.specs.Log.{IsRefutation, IsSpentLog, EndsFresh}
-use Rattle.refute_check.specs.ClauseView.{SameLiterals}
 use Rattle.refute_check.specs.declared.refusal.EvidenceKind.{EvidenceKind}
 use Rattle.refute_check.specs.declared.refusal.EvidenceKind.TheVariants.{Covered, Refuted, Spent}
 use Rattle.refute_check.specs.declared.refusal.Refusal.{Refusal}
@@ -47,8 +46,10 @@ IsRightEnd Spent last clauses chain end = EndsFresh clauses chain end
 abbrev pub end_refusal : EvidenceKind → Bool → Clause → RefusalKind
 end_refusal Spent last [] = EmptyEarly
 end_refusal Spent last (l ∷ ls) = NotFresh
-end_refusal _ true end = NotEmpty
-end_refusal _ false end = EmptyEarly
+end_refusal Covered true end = NotEmpty
+end_refusal Covered false end = EmptyEarly
+end_refusal Refuted true end = NotEmpty
+end_refusal Refuted false end = EmptyEarly
 
 -- The log has as many chains as its kind may have.
 abbrev pub HasRightLength : EvidenceKind → ℕ → List ChainView → Type 0
@@ -62,14 +63,6 @@ is_last log at = at + 1 == length log
 -- The rule is the one that the end breaks, or there is none where the end is right.
 abbrev pub IsRuleFor : EvidenceKind → Bool → List Clause → ChainView → Clause → Option RefusalKind → Type 0
 IsRuleFor kind last clauses chain end rule = MatchOption rule (IsRightEnd kind last clauses chain end) (λ rule. (¬ IsRightEnd kind last clauses chain end) × (rule ≡ end_refusal kind last end))
-
--- The variables of a clause are at most this one.
-abbrev pub AreUpTo : ℕ → Clause → Type 0
-AreUpTo variable clause = All (λ (l : Literal). l.variable ≤ variable) clause
-
--- The clauses begin with these.
-abbrev pub BeginsWith : List Clause → List Clause → Type 0
-BeginsWith clauses first = (more : List Clause) × (clauses ≡ first ++ more)
 
 -- The chains before a place are right.
 pub record AreRightBefore (kind : EvidenceKind) (clauses : List Clause) (log : List ChainView) (at : ℕ) : Type 0 where

@@ -1,7 +1,8 @@
 //! Clauses that tell unit propagation something new.
 
-ghost use Rattle.std.specs.Prelude.{◌≡◌, ◌↔◌, ◌<◌, ◌≤◌, List, All, IsTrue, IsFalse, IfOk, length};
+ghost use Rattle.std.specs.Prelude.{◌≡◌, ◌↔◌, ◌<◌, List, All, IsTrue, IsFalse, IfOk, length};
 ghost use Rattle.clause_pool.specs.Literal.{Literal};
+ghost use Rattle.clause_pool.specs.Proper.{HasVariablesUpTo, IsVariable};
 ghost use Rattle.pair_miter.specs.Fresh.{IsFresh};
 ghost use Rattle.refute_check.specs.Closure.{AreOthersFalse, HoldsOthers, IsClosure, IsPass, IsStep};
 ghost use Rattle.refute_check.specs.Held.{IsOpenAt, IsQuietAt};
@@ -21,9 +22,9 @@ pub fn fresh(
     clause: &[Lit],
     at: Lit,
 ) -> Result<bool, AllocError>
-    requires pool { All (All (λ (l : Literal). l.variable ≤ variables)) pool.now.clauses }
-    requires clause { All (λ (l : Literal). l.variable ≤ variables) clause.now }
-    requires at { at.variable ≤ variables }
+    requires pool { All (HasVariablesUpTo variables) pool.now.clauses }
+    requires clause { HasVariablesUpTo variables clause.now }
+    requires at { IsVariable variables at.variable }
     ensures { IfOk result (λ fresh. IsTrue fresh ↔ IsFresh pool.now.clauses clause.now at) }
 {
     if !clause.contains(&at) {

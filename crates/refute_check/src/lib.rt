@@ -8,14 +8,14 @@ mod freshness;
 mod laws;
 mod log;
 mod refusal;
-#[cfg(test)]
-mod tests;
 mod tree;
 
 pub use chain::run_chain;
 pub use clause::{Clause, resolve};
 pub use freshness::fresh;
-pub use laws::refutation_is_equal;
+pub use laws::{
+    chain_ends_or_stops, log_is_refused_once, refutation_is_equal, tree_is_refused_once,
+};
 pub use log::check_log;
 pub use refusal::{ChainFault, CheckFault, EvidenceKind, NoPivot, Refusal, RefusalKind};
 pub use tree::check_tree;

@@ -1,11 +1,13 @@
 //! The check of a log of resolutions.
 
 ghost use Rattle.std.specs.Prelude.{◌≡◌, ◌≢◌, ◌↔◌, ◌+◌, ◌<◌, ◌≤◌, ◌^◌, [], ◌∷◌, ◌++◌, All, IfOk, IsTrue, OnOk, OnErr, IsErrOf, length};
+ghost use Rattle.clause_pool.specs.Clauses.{BeginsWith};
+ghost use Rattle.clause_pool.specs.Proper.{HasVariablesUpTo};
 ghost use Rattle.pair_miter.specs.Log.{EndsFresh};
 ghost use Rattle.pair_miter.specs.Miter as spec;
 ghost use Rattle.refute_check.specs.declared.refusal.Refusal.{Refusal};
 ghost use Rattle.refute_check.specs.declared.refusal.EvidenceKind.{EvidenceKind};
-ghost use Rattle.refute_check.specs.LogRefusal.{AreUpTo, BeginsWith, ChainStops, EndsAs, HasRightLength, IsRightLog, IsRuleFor, LogRefused};
+ghost use Rattle.refute_check.specs.LogRefusal.{ChainStops, EndsAs, HasRightLength, IsRightLog, IsRuleFor, LogRefused};
 
 use crate::chain::run_chain;
 use crate::clause::Clause;
@@ -86,8 +88,8 @@ fn wrong_end(
     last: bool,
 ) -> Result<Option<RefusalKind>, AllocError>
     requires kind { kind ≢ EvidenceKind.Covered }
-    requires clauses { All (AreUpTo variables) pool.now.clauses }
-    requires end { AreUpTo variables end.now.literals }
+    requires clauses { All (HasVariablesUpTo variables) pool.now.clauses }
+    requires end { HasVariablesUpTo variables end.now.literals }
     ensures { IfOk result (IsRuleFor kind last pool.now.clauses chain.now end.now.literals) }
 {
     let literals = end.as_slice();
@@ -120,8 +122,8 @@ fn ends_fresh(
     chain: &Chain,
     end: &[Lit],
 ) -> Result<bool, AllocError>
-    requires clauses { All (AreUpTo variables) pool.now.clauses }
-    requires end { AreUpTo variables end.now }
+    requires clauses { All (HasVariablesUpTo variables) pool.now.clauses }
+    requires end { HasVariablesUpTo variables end.now }
     ensures { IfOk result (λ fresh. IsTrue fresh ↔ EndsFresh pool.now.clauses chain.now end.now) }
 {
     let Some(at) = chain.at() else {

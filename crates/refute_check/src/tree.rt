@@ -87,7 +87,7 @@ impl<'a> Walk<'a> {
             }
             Token::Closed => match self.sim.state() {
                 PairState::AllSame => None,
-                _ => Some(RefusalKind::LeafOpen),
+                PairState::Apart(_) | PairState::Undecided => Some(RefusalKind::LeafOpen),
             },
             Token::Rest => None,
         }

@@ -1,10 +1,10 @@
 -- What right lines say of their evidence.
 use Rattle.std.proofs.Common.{◌≡◌, ◌∙◌, ℕ, zero, suc, Bool, true, false, cond, List, [], ◌∷◌, take, Option, Some, None, refl, sym, ap, subst}
-use Rattle.std.specs.Prelude.{◌==◌, ◌&&◌, ◌⊎◌, if◌then◌else◌}
+use Rattle.std.specs.Prelude.{◌==◌, ◌⊎◌, if◌then◌else◌}
 use Rattle.std.specs.Option.{option_map}
 use Rattle.std.specs.List.{find, slice_get}
-use Rattle.std.proofs.Common.{inl, inr, arith}
-use Rattle.std.proofs.lemmas.Bool.Decides.{nat_tests}
+use Rattle.std.proofs.Common.{inl, inr}
+use Rattle.std.proofs.lemmas.Bool.{and_parts, eqb-true}
 use Rattle.std.proofs.lemmas.Option.{same_Some, get_or_from_slice_get, slice_get_within}
 use Rattle.net_model.specs.Circuit.{Circuit}
 use Rattle.net_model.specs.FaultList.{fault_numbered}
@@ -41,14 +41,14 @@ module _ (c : Circuit) (budgets : Budgets) (sources positions numbers : ℕ) (re
   abbrev lines : List Record
   lines = Head sources positions numbers ∷ Budget budgets ∷ rest
 
-  line_right : AreRightLines c lines → (at : ℕ) (e : Evidence) → slice_get lines at ≡ Some (Same e) → IsRightLine c (take at lines) (Same e)
-  line_right right at e there = subst (IsRightLine c (take at lines)) (get_or_from_slice_get lines at (Same e) End there) (right.right at (slice_get_within lines at (Same e) there))
+  line_right : AreRightLines c lines → (at : ℕ) (r : Record) → slice_get lines at ≡ Some r → IsRightLine c (take at lines) r
+  line_right right at r there = subst (IsRightLine c (take at lines)) (get_or_from_slice_get lines at r End there) (right.right at (slice_get_within lines at r there))
 
   evidence_right : AreRightLines c lines → (at : ℕ) (e : Evidence) → slice_get lines at ≡ Some (Same e) → IsRightFor c budgets e
   evidence_right right zero e there = absurd (cc)
   evidence_right right (suc zero) e there = absurd (cc)
   evidence_right right (suc (suc k)) e there =
-      let content = (line_right right (suc (suc k)) e there).content in
+      let content = (line_right right (suc (suc k)) (Same e) there).content in
       record { roots = content.roots; right = content.right }
 
   -- each evidence of right lines is right
@@ -56,13 +56,6 @@ module _ (c : Circuit) (budgets : Budgets) (sources positions numbers : ℕ) (re
   all_right right k e there = let line = evidence_line lines k e there in evidence_right right line.0 e line.1
 
 -- ---- marks
-
-pub same_number : (m n : ℕ) → (m == n) ≡ true → m ≡ n
-same_number m n same = grind (arith, nat_tests)
-
-both : (a b : Bool) → (a && b) ≡ true → (a ≡ true) × (b ≡ true)
-both true b e = (refl, e)
-both false b e = cc
 
 find_by : {X : Type 0} (p : X → Bool) (b : Bool) (y : X) (rest : Option X) (x : X) → p y ≡ b → cond b (Some y) rest ≡ Some x → (rest ≡ Some x → p x ≡ true) → p x ≡ true
 find_by p true y rest x is found later = ap p (sym (same_Some y x found)) ∙ is
@@ -88,23 +81,53 @@ module _ (t : ClassTable) (evidence : List Evidence) (n : ℕ) where
   found_marked : (m : Mark) (o : Option Evidence) → find (is_about t n) evidence ≡ o → option_map (λ (e : Evidence). mark_of e.proof) o ≡ Some m → IsMarkedBy t evidence n m
   found_marked m None found is = absurd (cc)
   found_marked m (Some e) found is =
-      let about = both (e.member == n) (e.partner == lead) (found_passes (is_about t n) evidence e found) in
+      let about = and_parts (e.member == n) (e.partner == lead) (found_passes (is_about t n) evidence e found) in
       let place = found_at (is_about t n) evidence e found in
       record {
         at = place.0;
         e = e;
         there = place.1;
-        member = same_number e.member n about.0;
-        partner = same_number e.partner lead about.1;
+        member = eqb-true e.member n about.0;
+        partner = eqb-true e.partner lead about.1;
         gives = same_Some (mark_of e.proof) m is;
       }
 
   marked_by : (m : Mark) (b : Bool) → (lead == n) ≡ b → (if b then Some mark.Rep else option_map (λ (e : Evidence). mark_of e.proof) (find (is_about t n) evidence)) ≡ Some m
       → ((lead ≡ n) × (mark.Rep ≡ m)) ⊎ IsMarkedBy t evidence n m
-  marked_by m true same is = inl (same_number lead n same, same_Some mark.Rep m is)
+  marked_by m true same is = inl (eqb-true lead n same, same_Some mark.Rep m is)
   marked_by m false same is = inr (found_marked m (find (is_about t n) evidence) refl is)
 
   -- a number with a mark is a representative, or some evidence gives the mark
   pub mark_cases : (m : Mark) → number_mark t evidence n ≡ Some m → ((lead ≡ n) × (mark.Rep ≡ m)) ⊎ IsMarkedBy t evidence n m
   unfolding number_mark
   mark_cases m is = marked_by m (lead == n) refl is
+
+-- ---- open members
+
+taken_there : {X : Type 0} (xs : List X) (n at : ℕ) (x : X) → slice_get (take n xs) at ≡ Some x → slice_get xs at ≡ Some x
+taken_there [] zero at x there = absurd (cc)
+taken_there [] (suc n) at x there = absurd (cc)
+taken_there (y ∷ xs) zero at x there = absurd (cc)
+taken_there (y ∷ xs) (suc n) zero x there = there
+taken_there (y ∷ xs) (suc n) (suc at) x there = taken_there xs n at x there
+
+pub rep_spent : ◌≡◌ {A = Mark} mark.Rep mark.Spent → ⊥
+rep_spent e = cc
+
+-- Right evidence spends the budget.
+pub record IsSpentBy (c : Circuit) (budgets : Budgets) (e : Evidence) : Type 0 where
+  pub right : IsRightFor c budgets e
+  pub gives : mark_of e.proof ≡ mark.Spent
+
+module _ (c : Circuit) (budgets : Budgets) (sources positions numbers : ℕ) (rest : List Record) (right : AreRightLines c (Head sources positions numbers ∷ Budget budgets ∷ rest)) where
+  -- an open member has evidence that spends the budget
+  pub open_spent : (at n class : ℕ) → slice_get (lines c budgets sources positions numbers rest) at ≡ Some (Member n class mark.Spent) → (e : Evidence) × IsSpentBy c budgets e
+  open_spent at n class there =
+      let all = lines c budgets sources positions numbers rest in
+      let line = line_right c budgets sources positions numbers rest right at (Member n class mark.Spent) there in
+      elim (mark_cases line.t (evidence_in (take at all)) n mark.Spent line.content.mark_is) [
+        | inl self ↦ absurd (rep_spent self.1)
+        | inr by ↦
+            let place = evidence_line (take at all) by.at by.e by.there in
+            (by.e, record { right = evidence_right c budgets sources positions numbers rest right place.0 by.e (taken_there all at place.0 (Same by.e) place.1); gives = by.gives })
+      ]

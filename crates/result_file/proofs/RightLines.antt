@@ -1,5 +1,6 @@
 -- Right lines behind right lines: the class lines, the member lines and the end.
 use Rattle.std.proofs.Common.{◌≡◌, ℕ, ◌+◌, ◌-◌, ◌<◌, ◌≤◌, ◌^◌, Bool, List, [], ◌∷◌, ◌++◌, map, length, length-append, length-take, take, get_or, Option, Some, None, refl, ap, ◌∙◌, inl, inr, arith}
+use Rattle.std.specs.Prelude.{All}
 use Rattle.std.specs.List.{slice_get, enumerate_from}
 use Rattle.std.proofs.lemmas.Bool.{cases_lt}
 use Rattle.std.proofs.lemmas.List.{map-id, length-map, take-append-le, take-map, get_or-map, get_or_append_left, get_or-append-add, append-nil}
@@ -9,7 +10,7 @@ use Rattle.std.proofs.Math.Seq.{take-append-add}
 use Rattle.net_model.specs.Circuit.{Circuit}
 use Rattle.net_model.specs.ClassTable.{ClassTable, first_table, class_at, class_count}
 use Rattle.net_model.specs.FaultList.{fault_count}
-use Rattle.net_model.specs.PatternRows.{IsTableOf}
+use Rattle.net_model.specs.PatternRows.{IsTableOf, SplitsClass}
 use Rattle.result_file.specs.declared.record.Budgets.{Budgets}
 use Rattle.result_file.specs.declared.record.Mark.{Mark}
 use Rattle.result_file.specs.declared.record.Mark.TheVariants as mark
@@ -18,7 +19,7 @@ use Rattle.result_file.specs.declared.record.Record.{Record}
 use Rattle.result_file.specs.declared.record.Record.TheVariants.{Head, Budget, Pattern, Class, Member, End}
 use Rattle.result_file.specs.Spelling.{HasSpelling, HasBirthSpelling}
 use Rattle.result_file.specs.Marks.{pattern_of, evidence_of, patterns_in, evidence_in, is_class, is_member, is_end, class_lines, member_lines, end_lines, number_mark, next_member}
-use Rattle.result_file.specs.Lines.{AreWithinLimits, IsRightLine, AreRightPatterns}
+use Rattle.result_file.specs.Lines.{AreWithinLimits, IsRightLine}
 use Rattle.result_file.specs.Valid.{AreRightLines, record_at}
 use Rattle.result_file.specs.Meaning.{class_records, member_records}
 use Rattle.result_file.proofs.RecordLists.{count_kept, count_more, read_kept, read_more}
@@ -63,12 +64,12 @@ right_head {c} {budgets} head limits within =
     let one : AreRightLines c (Head c.sources (length c.positions) (fault_count c) ∷ []) = right_next none (record { spelled = head; right = record { t = first_table (fault_count c); table = table; place = refl; content = (refl, refl, refl) } }) in
     right_next one (record { spelled = limits; right = record { t = first_table (fault_count c); table = table; place = refl; content = within } })
 
--- patterns behind the first two lines
-pub right_patterns : {c : Circuit} {rs : List Record} {patterns : List (List Bool)} → AreRightLines c rs → patterns_in rs ≡ [] → class_lines rs ≡ 0 → 2 ≤ length rs → AreRightPatterns c patterns
-    → AreRightLines c (rs ++ map Pattern patterns)
-right_patterns {c} {rs} {patterns} lines none no_class two right = right_more (map Pattern patterns) lines (λ k h.
+-- patterns behind the first two lines, each of which splits a class of those before it
+pub right_patterns : {c : Circuit} {rs : List Record} {patterns : List (List Bool)} → AreRightLines c rs → patterns_in rs ≡ [] → class_lines rs ≡ 0 → 2 ≤ length rs → All (λ v. length v ≡ c.sources) patterns
+    → ((k : ℕ) → k < length patterns → SplitsClass c (take k patterns) (get_or patterns k [])) → AreRightLines c (rs ++ map Pattern patterns)
+right_patterns {c} {rs} {patterns} lines none no_class two widths splits = right_more (map Pattern patterns) lines (λ k h.
     let below : k < length patterns = omega (arith, length-map patterns Pattern) in
-    let one = right k below in
+    let one = splits k below in
     let before = take k patterns in
     let read : patterns_in (rs ++ map Pattern before) ≡ before =
     read_more Pattern rs pattern_of (λ v. v) (λ v. refl) before ∙ ap (λ (vs : List (List Bool)). vs ++ map (λ v. v) before) none ∙ map-id before in
@@ -76,10 +77,10 @@ right_patterns {c} {rs} {patterns} lines none no_class two right = right_more (m
     (record {
       spelled = tt;
       right = record {
-        t = one.0;
-        table = rw read one.1;
+        t = one.t;
+        table = rw read one.table;
         place = (omega (arith, length-append rs (map Pattern before), two), count_kept Pattern rs is_class (λ v. refl) before ∙ no_class);
-        content = one.2;
+        content = record { width = widths k [] below; splits = rw read one };
       };
     }))
 

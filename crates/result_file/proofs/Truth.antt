@@ -1,8 +1,9 @@
 -- What right lines state is true of the circuit.
-use Rattle.std.proofs.Common.{◌≡◌, ◌≢◌, ℕ, ◌<◌, Bool, true, List, [], ◌∷◌, ◌++◌, length, get_or, Option, Some, None, refl, sym, ap, ap₂, ◌∙◌, inl, inr, arith, IsTrue}
+use Rattle.std.proofs.Common.{◌≡◌, ◌≢◌, ℕ, suc, ◌<◌, ◌≤◌, ◌^◌, Bool, false, cond, List, [], ◌∷◌, ◌++◌, length, get_or, Option, Some, None, refl, sym, ap, ap₂, ◌∙◌, inl, inr, arith, IsTrue}
 use Rattle.std.specs.Prelude.{All, ◌==◌, ◌⊎◌, unwrap_or}
-use Rattle.std.specs.List.{find, slice_get, range_with_len}
-use Rattle.std.proofs.lemmas.Bool.Decides.{nat_tests}
+use Rattle.std.specs.List.{find, slice_get, range_with_len, count_by}
+use Rattle.std.proofs.lemmas.List.Sums.{sum_by-cons}
+use Rattle.std.proofs.lemmas.Bool.{eq-eqb}
 use Rattle.std.proofs.lemmas.List.{append-nil}
 use Rattle.std.proofs.lemmas.List.Elements.{filter_map-append}
 use Rattle.std.specs.List.{enumerate_from}
@@ -16,7 +17,7 @@ use Rattle.net_model.specs.ClassTable.{ClassTable, class_at, class_count, repres
 use Rattle.pair_sets.specs.declared.tree.Token.{Token}
 use Rattle.pair_sets.specs.declared.tree.Token.TheVariants.{Closed}
 use Rattle.pair_sets.specs.Cube.{Cube, IsClosed}
-use Rattle.pair_sets.specs.Tree.{cube_at, token_at, IsTree, IsCovering}
+use Rattle.pair_sets.specs.Tree.{cube_at, token_at, IsTree, IsCovering, IsSpending}
 use Rattle.result_file.specs.declared.record.Budgets.{Budgets}
 use Rattle.result_file.specs.declared.record.Evidence.{Evidence}
 use Rattle.result_file.specs.declared.record.Mark.{Mark}
@@ -24,21 +25,23 @@ use Rattle.result_file.specs.declared.record.Mark.TheVariants as mark
 use Rattle.result_file.specs.declared.record.Proof.{Proof}
 use Rattle.result_file.specs.declared.record.Proof.TheVariants as proof
 use Rattle.result_file.specs.declared.record.Record.{Record}
-use Rattle.result_file.specs.declared.record.Record.TheVariants.{Class, Member, End}
+use Rattle.result_file.specs.declared.record.Record.TheVariants.{Head, Budget, Pattern, Same, Class, Member, End}
 use Rattle.result_file.specs.Spelling.{HasSpelling}
 use Rattle.result_file.specs.Marks.{evidence_of, patterns_in, evidence_in, mark_of}
 use Rattle.result_file.specs.Lines.{HasRightRoots, IsRightProof}
+use Rattle.result_file.specs.Summary.{is_open}
 use Rattle.result_file.specs.Valid.{AreRightLines}
 use Rattle.result_file.specs.Meaning.{StatedResult, stated_records, class_records, member_records, stated_class, stated_mark, lowest_mate, is_body_record, HasClosedCubes, IsSpentOn, IsTrueResult}
 use Rattle.result_file.proofs.RecordLists.{read_kept}
 use Rattle.result_file.proofs.RightLines.{AreMembers}
 use Rattle.result_file.proofs.Marked.{find_same, find_some}
-use Rattle.result_file.proofs.RightEvidence.{IsMarkedBy, all_right, mark_cases}
+use Rattle.result_file.proofs.RightEvidence.{IsMarkedBy, all_right, mark_cases, rep_spent, open_spent}
 
--- Laws of the circuit: numbers with one root are equal faults, and so are those that a tree covers; closed leaves have closed cubes.
+-- Laws of the circuit: numbers with one root are equal faults, and so are those that a tree covers; closed leaves have closed cubes, and so many as there are vectors are never spent.
 pub record AreSound (c : Circuit) : Type 0 where
   pub roots : (m n : ℕ) → m < fault_count c → n < fault_count c → root c (fault_numbered c m) ≡ root c (fault_numbered c n) → AreEqual c (fault_numbered c m) (fault_numbered c n)
   pub covered : (f g : Fault) (limit : ℕ) (tokens : List Token) → IsCovering c f g limit tokens → AreEqual c f g
+  pub bounded : (f g : Fault) (limit : ℕ) (tokens : List Token) → IsSpending c f g limit tokens → limit < 2 ^ c.sources
   pub leaves : (f g : Fault) (tokens : List Token) → IsTree c f g tokens → (at : ℕ) → at < length tokens → token_at tokens at ≡ Closed → (cube : Cube) × (cube_at tokens at ≡ Some cube) × IsClosed c f g cube
 
 -- The table is that of the faults of the circuit after these patterns: its classes are in place, and named patterns separate.
@@ -75,9 +78,15 @@ spent_by c budgets sound f g (proof.Covered tree) right is = absurd (cc)
 spent_by c budgets sound f g (proof.Searched tree) right is = record {
   tree = tree;
   is = refl;
-  cubes = record { full = right.0.full; closed = sound.leaves f g tree right.0.tree };
+  cubes = record { shape = right.0.tree.shape; full = right.0.full; closed = sound.leaves f g tree right.0.tree };
   conflicts = right.1;
 }
+
+-- and then the limit is less than the number of vectors
+spent_below : (c : Circuit) (budgets : Budgets) → AreSound c → (f g : Fault) (p : Proof) → IsRightProof c f g budgets p → mark_of p ≡ mark.Spent → budgets.cubes < 2 ^ c.sources
+spent_below c budgets sound f g proof.Collapse right is = absurd (cc)
+spent_below c budgets sound f g (proof.Covered tree) right is = absurd (cc)
+spent_below c budgets sound f g (proof.Searched tree) right is = sound.bounded f g budgets.cubes tree right.0
 
 never_rep : (p : Proof) → mark_of p ≡ mark.Rep → ⊥
 never_rep proof.Collapse is = cc
@@ -87,11 +96,31 @@ never_rep (proof.Searched tree) is = cc
 rep_equal : ◌≡◌ {A = Mark} mark.Rep mark.Equal → ⊥
 rep_equal e = cc
 
-rep_spent : ◌≡◌ {A = Mark} mark.Rep mark.Spent → ⊥
-rep_spent e = cc
+count_zero : (p : Record → Bool) (rs : List Record) → ((at : ℕ) (r : Record) → slice_get rs at ≡ Some r → p r ≡ false) → count_by p rs ≡ 0
+count_zero p [] none = refl
+count_zero p (r ∷ rs) none =
+    let here : ◌≡◌ {A = ℕ} (cond (p r) 1 0) 0 = ap (λ (b : Bool). cond {A = ℕ} b 1 0) (none 0 r refl) in
+    omega (arith, here, sum_by-cons (λ r. cond (p r) 1 0) r rs, count_zero p rs (λ at. none (suc at)))
 
-is_same : (n : ℕ) → (n == n) ≡ true
-is_same n = grind (arith, nat_tests)
+not_open : (r : Record) → ((n class : ℕ) → r ≡ Member n class mark.Spent → ⊥) → is_open r ≡ false
+not_open (Head s p n) other = refl
+not_open (Budget b) other = refl
+not_open (Pattern v) other = refl
+not_open (Same e) other = refl
+not_open (Class n b) other = refl
+not_open (Member n class mark.Rep) other = refl
+not_open (Member n class mark.Equal) other = refl
+not_open (Member n class mark.Spent) other = absurd (other n class refl)
+not_open End other = refl
+
+-- with as many cubes as there are vectors no member is left open
+pub none_open : (c : Circuit) (budgets : Budgets) → AreSound c → (sources positions numbers : ℕ) (rest : List Record) → AreRightLines c (Head sources positions numbers ∷ Budget budgets ∷ rest) → 2 ^ c.sources ≤ budgets.cubes
+    → count_by is_open (Head sources positions numbers ∷ Budget budgets ∷ rest) ≡ 0
+none_open c budgets sound sources positions numbers rest right enough =
+    count_zero is_open (Head sources positions numbers ∷ Budget budgets ∷ rest) (λ at r there. not_open r (λ n class is.
+    let spent = open_spent c budgets sources positions numbers rest right at n class (there ∙ ap Some is) in
+    let low = spent_below c budgets sound (fault_numbered c spent.0.partner) (fault_numbered c spent.0.member) spent.0.proof spent.1.right.right spent.1.gives in
+    omega arith))
 
 module _ (c : Circuit) (budgets : Budgets) (body : List Record) (t : ClassTable) (members : List (ℕ × Mark)) where
   abbrev stated : StatedResult
@@ -117,7 +146,7 @@ module _ (c : Circuit) (budgets : Budgets) (body : List Record) (t : ClassTable)
         let q = λ (m : ℕ). class_at t m == class_at t n in
         let same : find p (range_with_len 0 numbers) ≡ find q (range_with_len 0 numbers) =
         find_same p q 0 numbers (λ m low high. ap₂ (λ (a b : ℕ). a == b) (class_is m (omega arith)) (class_is n below)) in
-        let found = find_some q 0 numbers n (omega arith) (omega arith) (is_same (class_at t n)) in
+        let found = find_some q 0 numbers n (omega arith) (omega arith) (eq-eqb (class_at t n) (class_at t n) refl) in
         ap (λ (k : ℕ). unwrap_or (find p (range_with_len 0 k)) n) are.count
         ∙ ap (λ (o : Option ℕ). unwrap_or o n) (same ∙ found.1)
         ∙ sym (ap (λ (o : Option ℕ). unwrap_or o 0) found.1)

@@ -1,11 +1,11 @@
 -- The rule of each line of a result file, given the lines before it.
-use Rattle.std.specs.Prelude.{◌≡◌, ◌≢◌, ℕ, ◌≤◌, ◌<◌, Bool, List, [], length, take, Option, None, Some, slice_get, slice_index_or, filter_map, unwrap_or, ⊤}
+use Rattle.std.specs.Prelude.{◌≡◌, ◌≢◌, ℕ, ◌≤◌, ◌<◌, Bool, List, [], length, Option, None, Some, slice_get, filter_map, unwrap_or, ⊤}
 use Rattle.net_model.specs.declared.fault.Fault.{Fault}
 use Rattle.net_model.specs.Circuit.{Circuit}
 use Rattle.net_model.specs.FaultList.{fault_count, fault_numbered}
 use Rattle.net_model.specs.Collapse.{root}
-use Rattle.net_model.specs.ClassTable.{ClassTable, class_at, class_count, representative, SplitBy}
-use Rattle.net_model.specs.PatternRows.{IsTableOf, IsAnswerRow}
+use Rattle.net_model.specs.ClassTable.{ClassTable, class_at, class_count, representative}
+use Rattle.net_model.specs.PatternRows.{IsTableOf, SplitsClass}
 use Rattle.pair_sets.specs.Tree.{IsCovering, IsSpending}
 use Rattle.result_file.specs.declared.record.Budgets.{Budgets}
 use Rattle.result_file.specs.declared.record.Mark.{Mark}
@@ -73,15 +73,9 @@ pub record IsRightEvidence (c : Circuit) (t : ClassTable) (before : List Record)
 -- ---- each record
 
 -- The pattern has a bit for each source and splits a class of the patterns before it.
-pub record IsRightPattern (c : Circuit) (t : ClassTable) (bits : List Bool) : Type 0 where
+pub record IsRightPattern (c : Circuit) (before : List Record) (bits : List Bool) : Type 0 where
   pub width : length bits ≡ c.sources
-  pub row : List (List Bool)
-  pub answers : IsAnswerRow c bits row
-  pub splits : SplitBy t row
-
--- Each of these patterns is right behind those before it.
-abbrev pub AreRightPatterns : Circuit → List (List Bool) → Type 0
-AreRightPatterns c patterns = (at : ℕ) → at < length patterns → (t : ClassTable) × IsTableOf c (take at patterns) t × IsRightPattern c t (slice_index_or patterns at [])
+  pub splits : SplitsClass c (patterns_in before) bits
 
 -- The next class line: no number is left without a mark.
 pub record IsRightClass (t : ClassTable) (before : List Record) (number : ℕ) (birth : Option (ℕ × ℕ)) : Type 0 where
@@ -99,7 +93,7 @@ pub record IsRightMember (t : ClassTable) (before : List Record) (number class :
 abbrev pub IsRightContent : Circuit → ClassTable → List Record → Record → Type 0
 IsRightContent c t before (Head sources positions numbers) = (sources ≡ c.sources) × (positions ≡ length c.positions) × (numbers ≡ fault_count c)
 IsRightContent c t before (Budget budgets) = AreWithinLimits budgets
-IsRightContent c t before (Pattern bits) = IsRightPattern c t bits
+IsRightContent c t before (Pattern bits) = IsRightPattern c before bits
 IsRightContent c t before (Same evidence) = IsRightEvidence c t before evidence
 IsRightContent c t before (Class number birth) = IsRightClass t before number birth
 IsRightContent c t before (Member number class mark) = IsRightMember t before number class mark

@@ -10,14 +10,14 @@ use Rattle.net_model.specs.declared.fault.Fault.{Fault}
 use Rattle.pair_sets.specs.declared.tree.Token.{Token}
 use Rattle.pair_sets.specs.declared.tree.Token.TheVariants.{Closed}
 use Rattle.pair_sets.specs.Cube.{Cube, IsClosed}
-use Rattle.pair_sets.specs.Tree.{cube_at, token_at, closed_count}
+use Rattle.pair_sets.specs.Tree.{cube_at, token_at, closed_count, HasTreeShape}
 use Rattle.result_file.specs.declared.record.Budgets.{Budgets}
 use Rattle.result_file.specs.declared.record.Mark.{Mark}
 use Rattle.result_file.specs.declared.record.Mark.TheVariants as mark
 use Rattle.result_file.specs.declared.record.Proof.TheVariants as proof
 use Rattle.result_file.specs.declared.record.Record.{Record}
 use Rattle.result_file.specs.declared.record.Record.TheVariants.{Head, Budget, Pattern, Same, Class, Member, End}
-use Rattle.result_file.specs.Spelling.{HasSpelling}
+use Rattle.result_file.specs.Spelling.{Text, text_of, HasSpelling}
 use Rattle.result_file.specs.Marks.{patterns_in, evidence_in}
 
 -- What the lines of a file state: the budgets, patterns and evidence, the birth of each class, and the class and mark of each number.
@@ -65,8 +65,10 @@ pub record AreRightBirths (s : StatedResult) : Type 0 where
   pub first : slice_get s.births 0 ≡ Some None
   pub later : (k : ℕ) → 0 < k → k < length s.births → (birth : ℕ × ℕ) × (slice_get s.births k ≡ Some (Some birth)) × (birth.0 < k) × (birth.1 < length (patterns_in s.body))
 
--- The tree has exactly so many closed leaves, and no vector of their cubes separates the faults.
+-- The tokens have the shape of a tree, so that no vector lies in the cubes of two leaves. It has exactly so many closed leaves,
+-- and no vector of their cubes separates the faults.
 pub record HasClosedCubes (c : Circuit) (f g : Fault) (limit : ℕ) (tree : List Token) : Type 0 where
+  pub shape : HasTreeShape c tree
   pub full : closed_count tree ≡ limit
   pub closed : (at : ℕ) → at < length tree → token_at tree at ≡ Closed → (cube : Cube) × (cube_at tree at ≡ Some cube) × IsClosed c f g cube
 
@@ -101,3 +103,10 @@ pub record IsTrueResult (c : Circuit) (s : StatedResult) : Type 0 where
   pub equal : AreEqualMarked c s
   pub spent : (n : ℕ) → n < fault_count c → stated_mark s n ≡ mark.Spent → IsSpentOn c s n
   pub representatives : AreLowest c s
+
+-- The file states these budgets, and what it states is true of the circuit.
+pub record IsTrueFile (c : Circuit) (budgets : Budgets) (file : Text) : Type 0 where
+  pub stated : StatedResult
+  pub text : file ≡ text_of (stated_records c stated)
+  pub budgets_are : stated.budgets ≡ budgets
+  pub is_true : IsTrueResult c stated

@@ -2,9 +2,7 @@
 #![tactic(auto)]
 
 mod record;
-#[cfg(test)]
-mod tests;
 mod write;
 
 pub use record::{Budgets, Evidence, Mark, Proof, Record, Summary};
-pub use write::write_record;
+pub use write::{push_pattern, push_record, write_record};

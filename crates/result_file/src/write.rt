@@ -1,9 +1,10 @@
 //! Records as lines of text.
 
 ghost use Rattle.std.specs.Prelude.{◌≡◌, ◌++◌, ◌∷◌, [], IfOk, OnOk, map, flat_map, codes, decimal};
+ghost use Rattle.std.specs.String.{string_bytes};
 ghost use Rattle.std.specs.List.{join_with_byte};
 ghost use Rattle.net_model.specs.BitText.{bits_text};
-ghost use Rattle.result_file.specs.Spelling.{spelling, token_field, mark_field};
+ghost use Rattle.result_file.specs.Spelling.{spelling, text_of, token_field, mark_field};
 ghost use Rattle.result_file.specs.declared.record.Record.TheVariants.{Head, Budget, Pattern, Same, Class, Member, End};
 
 use crate::record::{Budgets, Evidence, Mark, Proof, Record};
@@ -15,71 +16,78 @@ use std::alloc::{AllocError, Global};
 pub fn write_record(alloc: Global, r: &Record) -> Result<Vec<u8>, AllocError>
     ensures { IfOk result (λ line. line.items ≡ spelling r.now ++ 10 ∷ []) }
 {
+    let mut line = String::new(alloc);
+    push_record(&mut line, r)?;
+    Ok(line.into_bytes())
+}
+
+/// Appends the line of a record, with its LF. Nothing is said of the text after an error.
+pub fn push_record(text: &mut String, r: &Record) -> Result<(), AllocError>
+    ensures { OnOk result (string_bytes text.new ≡ string_bytes text.old ++ text_of (r.now ∷ [])) }
+{
     match r {
         Record::Head(sources, positions, numbers) => {
-            head_line(alloc, *sources, *positions, *numbers)
+            push_head(text, *sources, *positions, *numbers)
         }
-        Record::Budget(budgets) => budget_line(alloc, *budgets),
-        Record::Pattern(bits) => pattern_line(alloc, bits),
-        Record::Same(evidence) => same_line(alloc, evidence),
-        Record::Class(number, birth) => class_line(alloc, *number, *birth),
-        Record::Member(number, class, mark) => member_line(alloc, *number, *class, *mark),
-        Record::End => end_line(alloc),
+        Record::Budget(budgets) => push_budget(text, *budgets),
+        Record::Pattern(bits) => push_pattern(text, bits),
+        Record::Same(evidence) => push_same(text, evidence),
+        Record::Class(number, birth) => push_class(text, *number, *birth),
+        Record::Member(number, class, mark) => push_member(text, *number, *class, *mark),
+        Record::End => push_end(text),
     }
 }
 
 #[tactic(auto, unfolding(crate::specs::Spelling::spelling))]
-fn head_line(
-    alloc: Global,
+fn push_head(
+    text: &mut String,
     sources: u32,
     positions: u32,
     numbers: u32,
-) -> Result<Vec<u8>, AllocError>
-    ensures { IfOk result (λ line. line.items ≡ spelling (Head sources positions numbers) ++ 10 ∷ []) }
+) -> Result<(), AllocError>
+    ensures { OnOk result (string_bytes text.new ≡ string_bytes text.old ++ text_of (Head sources positions numbers ∷ [])) }
 {
-    let line = format!(in alloc; "diatest 1 {sources} {positions} {numbers}\n")?;
-    Ok(line.into_bytes())
+    writeln!(text, "diatest 1 {sources} {positions} {numbers}")
 }
 
 #[tactic(auto, unfolding(crate::specs::Spelling::spelling))]
-fn budget_line(alloc: Global, budgets: Budgets) -> Result<Vec<u8>, AllocError>
-    ensures { IfOk result (λ line. line.items ≡ spelling (Budget budgets) ++ 10 ∷ []) }
+fn push_budget(text: &mut String, budgets: Budgets) -> Result<(), AllocError>
+    ensures { OnOk result (string_bytes text.new ≡ string_bytes text.old ++ text_of (Budget budgets ∷ [])) }
 {
     let Budgets {
         blocks,
         cubes,
         conflicts,
     } = budgets;
-    let line = format!(in alloc; "budget {blocks} {cubes} {conflicts}\n")?;
-    Ok(line.into_bytes())
+    writeln!(text, "budget {blocks} {cubes} {conflicts}")
 }
 
+/// Appends the line of a pattern, with its LF. Nothing is said of the text after an error.
 #[tactic(auto, unfolding(crate::specs::Spelling::spelling))]
-fn pattern_line(alloc: Global, bits: &Bits) -> Result<Vec<u8>, AllocError>
-    ensures { IfOk result (λ line. line.items ≡ spelling (Pattern bits.now) ++ 10 ∷ []) }
+pub fn push_pattern(text: &mut String, bits: &Bits) -> Result<(), AllocError>
+    ensures { OnOk result (string_bytes text.new ≡ string_bytes text.old ++ text_of (Pattern bits.now ∷ [])) }
 {
-    let mut line = b"pattern ".to_vec(alloc)?;
-    push_bits(&mut line, bits)?;
-    line.push(b'\n')?;
-    Ok(line)
+    text.push_str("pattern ")?;
+    push_bits(text, bits)?;
+    text.push('\n')
 }
 
 // Appends the digits of bits, or a dash where there are none.
-fn push_bits(line: &mut Vec<u8>, bits: &Bits) -> Result<(), AllocError>
-    ensures { OnOk result (line.new.items ≡ line.old.items ++ bits_text bits.now) }
+fn push_bits(text: &mut String, bits: &Bits) -> Result<(), AllocError>
+    ensures { OnOk result (string_bytes text.new ≡ string_bytes text.old ++ bits_text bits.now) }
 {
     if bits.len() == 0 {
-        line.push(b'-')?;
+        text.push('-')?;
     }
     for at in 0..bits.len() {
-        line.push(if bits.get(at) { b'1' } else { b'0' })?;
+        text.push(if bits.get(at) { '1' } else { '0' })?;
     }
     Ok(())
 }
 
 #[tactic(auto, unfolding(crate::specs::Spelling::spelling))]
-fn same_line(alloc: Global, evidence: &Evidence) -> Result<Vec<u8>, AllocError>
-    ensures { IfOk result (λ line. line.items ≡ spelling (Same evidence.now) ++ 10 ∷ []) }
+fn push_same(text: &mut String, evidence: &Evidence) -> Result<(), AllocError>
+    ensures { OnOk result (string_bytes text.new ≡ string_bytes text.old ++ text_of (Same evidence.now ∷ [])) }
 {
     let Evidence {
         member,
@@ -87,84 +95,81 @@ fn same_line(alloc: Global, evidence: &Evidence) -> Result<Vec<u8>, AllocError>
         proof,
     } = evidence;
     match proof {
-        Proof::Collapse => {
-            let line = format!(in alloc; "same {member} {partner} C\n")?;
-            Ok(line.into_bytes())
-        }
-        Proof::Covered(tree) => tree_line(alloc, *member, *partner, "T", tree),
-        Proof::Searched(tree) => tree_line(alloc, *member, *partner, "O", tree),
+        Proof::Collapse => writeln!(text, "same {member} {partner} C"),
+        Proof::Covered(tree) => push_tree_line(text, *member, *partner, "T", tree),
+        Proof::Searched(tree) => push_tree_line(text, *member, *partner, "O", tree),
     }
 }
 
-// The line of evidence that has a tree.
-fn tree_line(
-    alloc: Global,
+// Appends the line of evidence that has a tree.
+fn push_tree_line(
+    text: &mut String,
     member: u32,
     partner: u32,
     kind: &str,
     tree: &Tree,
-) -> Result<Vec<u8>, AllocError>
-    ensures { IfOk result (λ line. line.items ≡ join_with_byte 32 (codes "same" ∷ decimal member ∷ decimal partner ∷ kind.now ∷ map token_field tree.now) ++ 10 ∷ []) }
+) -> Result<(), AllocError>
+    ensures { OnOk result (string_bytes text.new ≡ string_bytes text.old ++ join_with_byte 32 (codes "same" ∷ decimal member ∷ decimal partner ∷ kind.now ∷ map token_field tree.now) ++ 10 ∷ []) }
 {
-    let head = format!(in alloc; "same {member} {partner} {kind}")?;
-    let mut line = head.into_bytes();
-    push_tree(&mut line, tree)?;
-    line.push(b'\n')?;
-    Ok(line)
+    push_kind(text, member, partner, kind)?;
+    push_tree(text, tree)?;
+    text.push('\n')?;
+    Ok(())
+}
+
+// Appends the fields of evidence up to its kind.
+fn push_kind(text: &mut String, member: u32, partner: u32, kind: &str) -> Result<(), AllocError>
+    ensures { OnOk result (string_bytes text.new ≡ string_bytes text.old ++ codes "same" ++ 32 ∷ decimal member ++ 32 ∷ decimal partner ++ 32 ∷ kind.now) }
+{
+    write!(text, "same {member} {partner} {kind}")
 }
 
 // Appends the tokens of a tree, a blank before each.
-fn push_tree(line: &mut Vec<u8>, tree: &Tree) -> Result<(), AllocError>
-    ensures { OnOk result (line.new.items ≡ line.old.items ++ flat_map (λ token. 32 ∷ token_field token) tree.now) }
+fn push_tree(text: &mut String, tree: &Tree) -> Result<(), AllocError>
+    ensures { OnOk result (string_bytes text.new ≡ string_bytes text.old ++ flat_map (λ token. 32 ∷ token_field token) tree.now) }
 {
     for token in tree.as_slice() {
-        push_token(line, *token)?;
+        push_token(text, *token)?;
     }
     Ok(())
 }
 
 // Appends a blank and a token.
-fn push_token(line: &mut Vec<u8>, token: Token) -> Result<(), AllocError>
-    ensures { OnOk result (line.new.items ≡ line.old.items ++ 32 ∷ token_field token) }
+fn push_token(text: &mut String, token: Token) -> Result<(), AllocError>
+    ensures { OnOk result (string_bytes text.new ≡ string_bytes text.old ++ 32 ∷ token_field token) }
 {
     match token {
-        Token::Split(source) => {
-            let field = format!(in *line.allocator(); " {source}")?;
-            line.extend_from_slice(field.as_bytes())?;
-        }
-        Token::Closed => line.extend_from_slice(b" .")?,
-        Token::Rest => line.extend_from_slice(b" ?")?,
+        Token::Split(source) => write!(text, " {source}"),
+        Token::Closed => text.push_str(" ."),
+        Token::Rest => text.push_str(" ?"),
     }
-    Ok(())
 }
 
 #[tactic(auto, unfolding(crate::specs::Spelling::spelling))]
-fn class_line(alloc: Global, number: u32, birth: Option<(u32, u32)>) -> Result<Vec<u8>, AllocError>
-    ensures { IfOk result (λ line. line.items ≡ spelling (Class number birth) ++ 10 ∷ []) }
+fn push_class(text: &mut String, number: u32, birth: Option<(u32, u32)>) -> Result<(), AllocError>
+    ensures { OnOk result (string_bytes text.new ≡ string_bytes text.old ++ text_of (Class number birth ∷ [])) }
 {
-    let line = match birth {
-        None => format!(in alloc; "class {number} - -\n")?,
-        Some((parent, pattern)) => format!(in alloc; "class {number} {parent} {pattern}\n")?,
-    };
-    Ok(line.into_bytes())
+    match birth {
+        None => writeln!(text, "class {number} - -"),
+        Some((parent, pattern)) => writeln!(text, "class {number} {parent} {pattern}"),
+    }
 }
 
 #[tactic(auto, unfolding(crate::specs::Spelling::spelling))]
-fn member_line(alloc: Global, number: u32, class: u32, mark: Mark) -> Result<Vec<u8>, AllocError>
-    ensures { IfOk result (λ line. line.items ≡ spelling (Member number class mark) ++ 10 ∷ []) }
+fn push_member(text: &mut String, number: u32, class: u32, mark: Mark) -> Result<(), AllocError>
+    ensures { OnOk result (string_bytes text.new ≡ string_bytes text.old ++ text_of (Member number class mark ∷ [])) }
 {
     let word = match mark {
         Mark::Rep => "rep",
         Mark::Equal => "equal",
         Mark::Spent => "open",
     };
-    let line = format!(in alloc; "member {number} {class} {word}\n")?;
-    Ok(line.into_bytes())
+    writeln!(text, "member {number} {class} {word}")
 }
 
 #[tactic(auto, unfolding(crate::specs::Spelling::spelling))]
-fn end_line(alloc: Global) -> Result<Vec<u8>, AllocError>
-    ensures { IfOk result (λ line. line.items ≡ spelling End ++ 10 ∷ []) }
+fn push_end(text: &mut String) -> Result<(), AllocError>
+    ensures { OnOk result (string_bytes text.new ≡ string_bytes text.old ++ text_of (End ∷ [])) }
 {
-    b"end\n".to_vec(alloc)
+    text.push_str("end\n")
 }

@@ -1,6 +1,6 @@
 //! The cut circuit, with the name of each line.
 ghost use Rattle.std.specs.Prelude.{◌≡◌, List, ℕ, Err, IfOk, length};
-ghost use Rattle.net_model.specs.Circuit.{line_count};
+ghost use Rattle.net_model.specs.Circuit.{IsCircuit, line_count};
 ghost use Rattle.bench_reader.specs.declared.fault.NetKind.{NetKind};
 ghost use Rattle.bench_reader.specs.declared.fault.Place.{Place};
 ghost use Rattle.scan_cut.specs.Cut.{cut_design, IsNetlistLoop};
@@ -16,6 +16,7 @@ use std::alloc::Global;
 /// want of memory.
 pub fn cut(alloc: Global, statements: &Statements) -> Result<Design, NetFault>
     ensures ok { IfOk result (λ design. design ≡ cut_design statements.now) }
+    ensures circuit { IfOk result (λ design. IsCircuit design.circuit) }
     ensures named { IfOk result (λ design. length design.names ≡ line_count design.circuit) }
     ensures looped { (place : Place) (names : List (List ℕ)) → result ≡ Err (NetFault.Loop place names) → IsNetlistLoop statements.now place names }
     ensures no_rule { (kind : NetKind) (place : Place) → result ≡ Err (NetFault.At kind place) → ⊥ }

@@ -5,7 +5,5 @@ mod cutting;
 mod lines;
 mod loops;
 mod parts;
-#[cfg(test)]
-mod tests;
 
 pub use cutting::cut;

@@ -1,10 +1,12 @@
 -- The vectors in the lanes of a block's rows.
-use Rattle.std.proofs.Common.{◌≡◌, ℕ, ◌+◌, ◌<◌, List, [], ◌∷◌, ◌++◌, length, get_or, set, refl, sym, ◌∙◌, subst, arith}
+use Rattle.std.proofs.Common.{◌≡◌, ℕ, ◌+◌, ◌<◌, ◌≤◌, List, [], ◌∷◌, ◌++◌, length, get_or, set, refl, sym, ◌∙◌, subst, arith}
 use Rattle.std.specs.Prelude.{Bool, false, All}
 use Rattle.std.proofs.Math.ListN.{get_or-map}
 use Rattle.std.proofs.lemmas.List.{map-set, length-map, ext_get_or}
 use Rattle.std.proofs.lemmas.List.FromFn.{length-map-range_with_len, get_or-map-range_with_len, map-range_with_len_more}
 use Rattle.net_model.specs.Answer.{bit_at}
+use Rattle.word_sim.specs.declared.lanes.TheConstants.{LANES}
+use Rattle.word_sim.specs.Block.{IsBlock, block_with}
 use Rattle.word_sim.specs.BlockFields.{column, columns}
 
 pub length-column : (rows : List (List Bool)) (lane : ℕ) → length (column rows lane) ≡ length rows
@@ -52,8 +54,11 @@ columns_more rows old live v last before =
     columns_is rows live (columns old live) (length-columns old live) (λ lane h. before lane h ∙ sym (columns_at old live lane [] h)) in
     columns_next rows live ∙ (λ i. same i ++ last i ∷ [])
 
-pub columns_wide : (rows : List (List Bool)) (live : ℕ) → All (λ v. length v ≡ length rows) (columns rows live)
+columns_wide : (rows : List (List Bool)) (live : ℕ) → All (λ v. length v ≡ length rows) (columns rows live)
 columns_wide rows live = λ k d h.
     let P : List Bool → Type 0 = λ v. length v ≡ length rows in
     let within : k < live = subst (λ n. k < n) (length-columns rows live) h in
     subst P (sym (columns_at rows live k d within)) (length-column rows k)
+
+pub is_block : (rows : List (List Bool)) (live : ℕ) → live ≤ LANES → IsBlock (block_with (length rows) (columns rows live))
+is_block rows live few = record { few = omega (arith, few, length-columns rows live); widths = columns_wide rows live }

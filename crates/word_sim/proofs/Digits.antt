@@ -1,6 +1,6 @@
 -- The binary digits of words, as bits by lane.
-use Rattle.std.proofs.Common.{◌≡◌, ℕ, zero, suc, ◌+◌, ◌-◌, ◌/◌, ◌%◌, ◌^◌, ◌<◌, ◌≤◌, min, max, refl, sym, ◌∙◌, ap, subst, arith, w64, inl, inr, ◌↔◌, IsTrue}
-use Rattle.std.specs.Prelude.{true, false, not, ◌&&◌, ◌||◌, ◌==◌, bit_and, bit_or, bit_xor, nat_lt, if◌then◌else◌}
+use Rattle.std.proofs.Common.{◌≡◌, ℕ, zero, suc, ◌+◌, ◌-◌, ◌/◌, ◌%◌, ◌^◌, ◌<◌, ◌≤◌, length, min, max, refl, sym, ◌∙◌, ap, subst, arith, w64, inl, inr, ◌↔◌, IsTrue}
+use Rattle.std.specs.Prelude.{Bool, true, false, not, ◌&&◌, ◌||◌, ◌==◌, bit_and, bit_or, bit_xor, nat_lt, if◌then◌else◌}
 use Rattle.std.specs.Int.{bit_at as digit_at, bit_not, trailing_zeros}
 use Rattle.std.proofs.lemmas.Bool.{cases_eq, cases_lt, false≢true}
 use Rattle.std.proofs.lemmas.Bool.Decides.{nat_tests}
@@ -19,31 +19,33 @@ pub lane_digit : (word lane : ℕ) → lane < 64 → bit_at (lanes_of word) lane
 unfolding lanes_of
 lane_digit word lane h = low_digit 64 word lane h
 
+length-low_digits : (n word : ℕ) → length (low_digits n word) ≡ n
+length-low_digits zero word = refl
+length-low_digits (suc n) word = ap suc (length-low_digits n (word / 2))
+
+pub length-lanes_of : (word : ℕ) → length (lanes_of word) ≡ 64
+unfolding lanes_of
+length-lanes_of word = length-low_digits 64 word
+
 -- ---- tests of two digits
 
+-- what holds of each two digits
+both_digits : (P : ℕ → ℕ → Type 0) → P 0 0 → P 0 1 → P 1 0 → P 1 1 → (m n : ℕ) → m < 2 → n < 2 → P m n
+both_digits P a b c d zero zero h k = a
+both_digits P a b c d zero (suc zero) h k = b
+both_digits P a b c d (suc zero) zero h k = c
+both_digits P a b c d (suc zero) (suc zero) h k = d
+both_digits P a b c d (suc (suc m)) n h k = absurd (omega arith)
+both_digits P a b c d m (suc (suc n)) h k = absurd (omega arith)
+
 min_test : (m n : ℕ) → m < 2 → n < 2 → (min m n == 1) ≡ ((m == 1) && (n == 1))
-min_test zero zero h k = refl
-min_test zero (suc zero) h k = refl
-min_test (suc zero) zero h k = refl
-min_test (suc zero) (suc zero) h k = refl
-min_test (suc (suc m)) n h k = absurd (omega arith)
-min_test m (suc (suc n)) h k = absurd (omega arith)
+min_test = both_digits (λ m n. (min m n == 1) ≡ ((m == 1) && (n == 1))) refl refl refl refl
 
 max_test : (m n : ℕ) → m < 2 → n < 2 → (max m n == 1) ≡ ((m == 1) || (n == 1))
-max_test zero zero h k = refl
-max_test zero (suc zero) h k = refl
-max_test (suc zero) zero h k = refl
-max_test (suc zero) (suc zero) h k = refl
-max_test (suc (suc m)) n h k = absurd (omega arith)
-max_test m (suc (suc n)) h k = absurd (omega arith)
+max_test = both_digits (λ m n. (max m n == 1) ≡ ((m == 1) || (n == 1))) refl refl refl refl
 
 odd_test : (m n : ℕ) → m < 2 → n < 2 → ((m + n) % 2 == 1) ≡ (if m == 1 then not (n == 1) else (n == 1))
-odd_test zero zero h k = refl
-odd_test zero (suc zero) h k = refl
-odd_test (suc zero) zero h k = refl
-odd_test (suc zero) (suc zero) h k = refl
-odd_test (suc (suc m)) n h k = absurd (omega arith)
-odd_test m (suc (suc n)) h k = absurd (omega arith)
+odd_test = both_digits (λ m n. ((m + n) % 2 == 1) ≡ (if m == 1 then not (n == 1) else (n == 1))) refl refl refl refl
 
 not_test : (m : ℕ) → m < 2 → (1 - m == 1) ≡ not (m == 1)
 not_test zero h = refl
@@ -60,6 +62,11 @@ digit_or a b lane = ap (λ d. d == 1) (bit_at_or a b lane) ∙ max_test (digit_a
 
 pub digit_xor : (a b lane : ℕ) → has_digit (bit_xor a b) lane ≡ (if has_digit a lane then not (has_digit b lane) else has_digit b lane)
 digit_xor a b lane = ap (λ d. d == 1) (bit_at_xor a b lane) ∙ odd_test (digit_at a lane) (digit_at b lane) (bit_at-lt a lane) (bit_at-lt b lane)
+
+-- two words put together digit by digit are so lane by lane
+pub both_lanes : (op : ℕ → ℕ → ℕ) (test : Bool → Bool → Bool) → ((a b lane : ℕ) → has_digit (op a b) lane ≡ test (has_digit a lane) (has_digit b lane))
+    → (a b lane : ℕ) → lane < 64 → bit_at (lanes_of (op a b)) lane ≡ test (bit_at (lanes_of a) lane) (bit_at (lanes_of b) lane)
+both_lanes op test digits a b lane h = lane_digit (op a b) lane h ∙ digits a b lane ∙ sym (λ i. test (lane_digit a lane h i) (lane_digit b lane h i))
 
 pub digit_not : (a lane : ℕ) → a < 2 ^ 64 → lane < 64 → has_digit (bit_not w64 a) lane ≡ not (has_digit a lane)
 digit_not a lane h k = ap (λ d. d == 1) (bit_at_not w64 a lane h k) ∙ not_test (digit_at a lane) (bit_at-lt a lane)

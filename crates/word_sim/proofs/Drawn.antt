@@ -9,6 +9,7 @@ use Rattle.std.proofs.lemmas.List.FromFn.{length-map-range_with_len, get_or-map-
 use Rattle.rand_xoshiro.specs.SplitMix64.{next_state, mix_u64}
 use Rattle.word_sim.specs.declared.stream.TheConstants.{COUNTING}
 use Rattle.word_sim.specs.Stream.{has_digit, state_after, stream_word, word_number, stream_bit, stream_vector}
+use Rattle.word_sim.specs.StreamState.{StreamState, stream_with, stream_at, IsAfter}
 use Rattle.word_sim.specs.BlockFields.{column, columns}
 use Rattle.word_sim.proofs.Columns.{column_is, columns_is}
 use Rattle.word_sim.proofs.Written.{AreSet}
@@ -83,11 +84,28 @@ pub next_rng : (sources done source rng : ℕ) → source < sources → rng ≡ 
     → (if done == 0 && nat_lt source 6 then rng else (mix_u64 rng).1) ≡ state_after (word_number sources done (source + 1))
 next_rng sources done source rng h is = next_rng_by (done == 0 && nat_lt source 6) sources done source rng refl h is
 
+-- ---- where a stream stands
+
+pub is_after : (own sources done : ℕ) (first : Bool) (rng : ℕ) → stream_with own first rng ≡ stream_at sources done → IsAfter sources done first rng
+is_after own sources done first rng at = record {
+  comes_first = ap (λ (s : StreamState). s.first) at;
+  state = ap (λ (s : StreamState). s.rng) at;
+}
+
+-- all words of a block are given
+pub next_block : (sources done : ℕ) → word_number sources done sources ≡ word_number sources (done + 1) 0
+next_block sources done = omega arith
+
 -- ---- one block
 
 -- the first rows have their words in a block of the stream
 abbrev pub AreDrawn : ℕ → ℕ → List (List Bool) → ℕ → Type 0
 AreDrawn sources done rows n = AreSet (λ k lane. stream_bit sources done lane k) 64 rows n
+
+-- the first rows have their words, and the generator stands at the next one
+pub record IsDrawnTo (sources done : ℕ) (rows : List (List Bool)) (rng n : ℕ) : Type 0 where
+  pub state : rng ≡ state_after (word_number sources done n)
+  pub drawn : AreDrawn sources done rows n
 
 -- a lane of drawn rows is a vector of the stream
 pub drawn_column : (sources done : ℕ) (rows : List (List Bool)) (lane : ℕ) → AreDrawn sources done rows sources → length rows ≡ sources → lane < 64

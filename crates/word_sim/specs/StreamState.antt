@@ -1,10 +1,21 @@
 -- How far a stream has come.
-use Rattle.std.specs.Prelude.{ℕ}
+use Rattle.std.specs.Prelude.{◌≡◌, ℕ, Bool, ◌==◌}
+use Rattle.word_sim.specs.Stream.{state_after, word_number}
 
--- so many sources, and so many blocks done
+-- so many sources, whether the first block comes next, and the state of the generator
 pub record StreamState : Type 0 where
   pub sources : ℕ
-  pub done : ℕ
+  pub first : Bool
+  pub rng : ℕ
 
+abbrev pub stream_with : ℕ → Bool → ℕ → StreamState
+stream_with sources first rng = record { sources = sources; first = first; rng = rng }
+
+-- the stream after so many blocks
 abbrev pub stream_at : ℕ → ℕ → StreamState
-stream_at sources done = record { sources = sources; done = done }
+stream_at sources done = stream_with sources (done == 0) (state_after (word_number sources done 0))
+
+-- So many blocks are done.
+pub record IsAfter (sources done : ℕ) (first : Bool) (rng : ℕ) : Type 0 where
+  pub comes_first : first ≡ (done == 0)
+  pub state : rng ≡ state_after (word_number sources done 0)

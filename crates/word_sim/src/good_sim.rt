@@ -47,6 +47,13 @@ impl<'a> GoodSim<'a> {
         })
     }
 
+    #[inline]
+    pub fn circuit(&self) -> &'a Circuit
+        ensures { result.now ≡ self.now.circuit }
+    {
+        self.circuit
+    }
+
     /// Evaluates the circuit at the vectors of a block.
     pub fn run(&mut self, block: &Block)
         requires { block.now.sources ≡ self.old.circuit.sources }

@@ -1,9 +1,11 @@
 //! One bit for each vector of a block.
 
-ghost use Rattle.std.specs.Prelude.{◌≡◌, ℕ, ◌<◌, ◌≤◌, ◌≢◌, true, not, ◌&&◌, ◌||◌, nat_lt, IsTrue, ◌↔◌, if◌then◌else◌};
+ghost use Rattle.std.specs.Prelude.{◌≡◌, ℕ, ◌<◌, ◌≤◌, ◌≢◌, Bool, List, [], ◌∷◌, ◌++◌, length, true, not, ◌&&◌, ◌||◌, nat_lt, IsTrue, ◌↔◌, if◌then◌else◌};
+ghost use Rattle.net_model.specs.Gate.{folded_bit, inverted};
 ghost use Rattle.net_model.specs.Answer.{bit_at};
 ghost use Rattle.word_sim.specs.Stream.{has_digit};
 
+use net_model::Fold;
 use std::marker::Model;
 
 /// How many vectors a block can hold.
@@ -47,7 +49,8 @@ impl Lanes {
     #[inline]
     pub fn get(&self, lane: u32) -> bool
         requires { lane < LANES }
-        ensures { result ≡ bit_at self.now lane }
+        ensures value { result ≡ bit_at self.now lane }
+        ensures whole { length self.now ≡ LANES }
     {
         (self.word >> lane) & 1 == 1
     }
@@ -88,6 +91,45 @@ impl Lanes {
         ensures { (lane : ℕ) → lane < LANES → bit_at result lane ≡ not (bit_at self lane) }
     {
         Lanes { word: !self.word }
+    }
+
+    /// The other bit in every lane where `inverts` is true, else the same.
+    #[inline]
+    pub fn inverted(self, inverts: bool) -> Lanes
+        ensures { (lane : ℕ) → lane < LANES → bit_at result lane ≡ inverted inverts (bit_at self lane) }
+    {
+        Lanes::all(inverts).xor(self)
+    }
+
+    /// In each lane the bit of `zero` where the lane has 0, and that of `one` where it has 1.
+    #[inline]
+    pub fn select(self, zero: Lanes, one: Lanes) -> Lanes
+        ensures { (lane : ℕ) → lane < LANES → bit_at result lane ≡ (if bit_at self lane then bit_at one lane else bit_at zero lane) }
+    {
+        self.and(one).or(self.not().and(zero))
+    }
+
+    /// What the fold gives of no bits, in every lane.
+    #[inline]
+    pub fn folded_none(fold: Fold) -> Lanes
+        ensures { (lane : ℕ) → lane < LANES → bit_at result lane ≡ folded_bit fold [] }
+    {
+        match fold {
+            Fold::AllOf => Lanes::all(true),
+            Fold::AnyOf | Fold::OddOf => Lanes::all(false),
+        }
+    }
+
+    /// One bit more in every lane: from what the fold gives of some bits, what it gives of these and the bit of `other`.
+    #[inline]
+    pub fn folded_more(self, fold: Fold, other: Lanes) -> Lanes
+        ensures { (lane : ℕ) (bits : List Bool) → lane < LANES → bit_at self lane ≡ folded_bit fold bits → bit_at result lane ≡ folded_bit fold (bits ++ bit_at other lane ∷ []) }
+    {
+        match fold {
+            Fold::AllOf => self.and(other),
+            Fold::AnyOf => self.or(other),
+            Fold::OddOf => self.xor(other),
+        }
     }
 
     /// Whether some lane has 1.

@@ -7,8 +7,6 @@ mod good_sim;
 mod lanes;
 mod laws;
 mod stream;
-#[cfg(test)]
-mod tests;
 
 pub use block::Block;
 pub use good_sim::GoodSim;

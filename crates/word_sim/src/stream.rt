@@ -1,10 +1,10 @@
 //! The stream of vectors.
 
-ghost use Rattle.std.specs.Prelude.{◌≡◌, ℕ, ◌+◌, ◌*◌, ◌/◌, ◌^◌, ◌<◌, ◌≤◌, min, [], length, map, nat_lt, ◌==◌, ◌&&◌, slice_index, if◌then◌else◌};
+ghost use Rattle.std.specs.Prelude.{◌≡◌, ℕ, ◌+◌, ◌*◌, ◌/◌, ◌<◌, ◌≤◌, min, [], length, map, nat_lt, ◌&&◌, slice_index, if◌then◌else◌};
 ghost use Rattle.std.specs.List.{range_with_len};
 ghost use Rattle.rand_xoshiro.specs.SplitMix64.{mix_u64};
 ghost use Rattle.word_sim.specs.Stream.{state_after, word_number, stream_vector};
-ghost use Rattle.word_sim.specs.StreamState.{stream_at};
+ghost use Rattle.word_sim.specs.StreamState.{stream_at, IsAfter};
 ghost use Rattle.word_sim.specs.Block.{block_with};
 ghost use Rattle.word_sim.specs.BlockFields.{column};
 
@@ -31,7 +31,8 @@ const COUNTING: [u64; 6] = [
 pub struct Stream {
     rng: SplitMix64,
     sources: u32,
-    done: u32,
+    // The next block is the first one.
+    first: bool,
 }
 
 impl Model for Stream {
@@ -39,11 +40,9 @@ impl Model for Stream {
 
     ghost Value = { StreamState };
 
-    ghost use Rattle.word_sim.specs.StreamFields.{stream_of, IsInPlace};
+    ghost use Rattle.word_sim.specs.StreamFields.{stream_of};
 
     ghost view = { stream_of };
-
-    ghost invariant = { IsInPlace };
 }
 
 impl Stream {
@@ -54,45 +53,44 @@ impl Stream {
         Stream {
             rng: SplitMix64::seed_from_u64(0),
             sources,
-            done: 0,
+            first: true,
         }
     }
 
     /// Puts the next blocks of the stream, at most `left`, into a block, and answers how many.
     pub fn fill(&mut self, left: u32, block: &mut Block) -> u32
         requires left { 1 ≤ left }
-        requires blocks { self.old.done + left < 2 ^ 32 }
         requires empty { block.old.vectors ≡ [] }
         requires sources { block.old.sources ≡ self.old.sources }
         ensures count { result ≡ min left (LANES / 64) }
-        ensures stream { self.new ≡ stream_at self.old.sources (self.old.done + result) }
-        ensures block { block.new ≡ block_with self.old.sources (map (stream_vector self.old.sources) (range_with_len (64 * self.old.done) (64 * result))) }
+        ensures stream { (sources done : ℕ) → self.old ≡ stream_at sources done → self.new ≡ stream_at sources (done + result) }
+        ensures sources { block.new.sources ≡ self.old.sources }
+        ensures block { (sources done : ℕ) → self.old ≡ stream_at sources done → block.new ≡ block_with sources (map (stream_vector sources) (range_with_len (64 * done) (64 * result))) }
     {
         let filled = left.min(LANES / 64);
-        draw(&mut self.rng, self.done, &mut block.rows);
-        self.done += filled;
+        draw(&mut self.rng, self.first, &mut block.rows);
+        self.first = false;
         block.live = 64 * filled;
         filled
     }
 }
 
-// Writes the words of a block of the stream.
-fn draw(rng: &mut SplitMix64, done: u32, rows: &mut [Lanes])
-    requires { rng.old ≡ state_after (word_number (length rows.old) done 0) }
-    ensures state { rng.new ≡ state_after (word_number (length rows.old) (done + 1) 0) }
-    ensures rows { (lane : ℕ) → lane < LANES → column rows.new lane ≡ stream_vector (length rows.old) (64 * done + lane) }
+// Writes the words of the next block of the stream.
+fn draw(rng: &mut SplitMix64, first: bool, rows: &mut [Lanes])
+    ensures state { (done : ℕ) → IsAfter (length rows.old) done first rng.old → rng.new ≡ state_after (word_number (length rows.old) (done + 1) 0) }
+    ensures rows { (done lane : ℕ) → IsAfter (length rows.old) done first rng.old → lane < LANES → column rows.new lane ≡ stream_vector (length rows.old) (64 * done + lane) }
 {
     for source in 0..rows.len() {
-        rows[source] = Lanes::from_word(source_word(rng, done, source));
+        rows[source] = Lanes::from_word(source_word(rng, first, source));
     }
 }
 
-// The word of a source in a block of the stream.
-fn source_word(rng: &mut SplitMix64, done: u32, source: usize) -> u64
-    ensures word { result ≡ (if done == 0 && nat_lt source 6 then slice_index COUNTING source else (mix_u64 rng.old).0) }
-    ensures state { rng.new ≡ (if done == 0 && nat_lt source 6 then rng.old else (mix_u64 rng.old).1) }
+// The word of a source in the next block of the stream.
+fn source_word(rng: &mut SplitMix64, first: bool, source: usize) -> u64
+    ensures word { result ≡ (if first && nat_lt source 6 then slice_index COUNTING source else (mix_u64 rng.old).0) }
+    ensures state { rng.new ≡ (if first && nat_lt source 6 then rng.old else (mix_u64 rng.old).1) }
 {
-    if done == 0 && source < COUNTING.len() {
+    if first && source < COUNTING.len() {
         COUNTING[source]
     } else {
         rng.next_word()

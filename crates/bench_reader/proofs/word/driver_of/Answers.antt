@@ -1,124 +1,45 @@
-use Rattle.std.proofs.Common.{◌≡◌, ◌∙◌, true, false, refl, sym}
-use Rattle.std.specs.Prelude.{codes}
-use Rattle.bench_reader.specs.Grammar.{driver_of, is_word}
+use Rattle.std.proofs.Common.{◌≡◌, List, [], ◌∷◌, refl, ◌∙◌, ap, true, false}
+use Rattle.std.specs.Prelude.{Bool, Option, Some, None, codes, find, option_map, if◌then◌else◌}
+use Rattle.std.specs.Str.{str_eq_ignore_ascii_case}
+use Rattle.net_model.specs.declared.gate.Kind.TheVariants.{And, Nand, Or, Nor, Xor, Xnor, Not, Buff, Mux, Const0, Const1}
+use Rattle.bench_reader.specs.Tokens.{Text}
+use Rattle.bench_reader.specs.Grammar.{Driver, gate_driver, flip_flop_driver, driver_of, is_word}
 use Rattle.bench_reader.proofs.word.driver_of.Goals as goal
 
-pub returns-then-same_word : goal.returns-then-same_word
-unfolding driver_of
-returns-then-same_word c =
-    let t1 : is_word (codes "AND") c.args.word.now ≡ true = rw c.as_slice.ensures at (sym c.same_word.ensures ∙ c.if-same_word.true) in
-    rw t1 refl
+-- what a word says by some of the table's entries
+abbrev said : Text → List (Text × Driver) → Option Driver
+said word entries = option_map (λ x. x.1) (find (λ x. str_eq_ignore_ascii_case word x.0) entries)
 
-pub returns-then-same_word-2 : goal.returns-then-same_word-2
-unfolding driver_of
-returns-then-same_word-2 c =
-    let t1 : is_word (codes "AND") c.args.word.now ≡ false = rw c.as_slice.ensures at (sym c.same_word.ensures ∙ c.if-same_word.false) in
-    let t2 : is_word (codes "NAND") c.args.word.now ≡ true = rw c.as_slice-2.ensures at (sym c.same_word-2.ensures ∙ c.if-same_word-2.true) in
-    rw (t1, t2) refl
+record Says (word : Text) (entries : List (Text × Driver)) (o : Option Driver) : Type 0 where
+  said_is : o ≡ said word entries
 
-pub returns-then-same_word-3 : goal.returns-then-same_word-3
-unfolding driver_of
-returns-then-same_word-3 c =
-    let t1 : is_word (codes "AND") c.args.word.now ≡ false = rw c.as_slice.ensures at (sym c.same_word.ensures ∙ c.if-same_word.false) in
-    let t2 : is_word (codes "NAND") c.args.word.now ≡ false = rw c.as_slice-2.ensures at (sym c.same_word-2.ensures ∙ c.if-same_word-2.false) in
-    let t3 : is_word (codes "OR") c.args.word.now ≡ true = rw c.as_slice-3.ensures at (sym c.same_word-3.ensures ∙ c.if-same_word-3.true) in
-    rw (t1, t2, t3) refl
+nothing : (word : Text) → Says word [] None
+nothing word = record { said_is = refl }
 
-pub returns-then-same_word-4 : goal.returns-then-same_word-4
-unfolding driver_of
-returns-then-same_word-4 c =
-    let t1 : is_word (codes "AND") c.args.word.now ≡ false = rw c.as_slice.ensures at (sym c.same_word.ensures ∙ c.if-same_word.false) in
-    let t2 : is_word (codes "NAND") c.args.word.now ≡ false = rw c.as_slice-2.ensures at (sym c.same_word-2.ensures ∙ c.if-same_word-2.false) in
-    let t3 : is_word (codes "OR") c.args.word.now ≡ false = rw c.as_slice-3.ensures at (sym c.same_word-3.ensures ∙ c.if-same_word-3.false) in
-    let t4 : is_word (codes "NOR") c.args.word.now ≡ true = rw c.as_slice-4.ensures at (sym c.same_word-4.ensures ∙ c.if-same_word-4.true) in
-    rw (t1, t2, t3, t4) refl
-
-pub returns-then-same_word-5 : goal.returns-then-same_word-5
-unfolding driver_of
-returns-then-same_word-5 c =
-    let t1 : is_word (codes "AND") c.args.word.now ≡ false = rw c.as_slice.ensures at (sym c.same_word.ensures ∙ c.if-same_word.false) in
-    let t2 : is_word (codes "NAND") c.args.word.now ≡ false = rw c.as_slice-2.ensures at (sym c.same_word-2.ensures ∙ c.if-same_word-2.false) in
-    let t3 : is_word (codes "OR") c.args.word.now ≡ false = rw c.as_slice-3.ensures at (sym c.same_word-3.ensures ∙ c.if-same_word-3.false) in
-    let t4 : is_word (codes "NOR") c.args.word.now ≡ false = rw c.as_slice-4.ensures at (sym c.same_word-4.ensures ∙ c.if-same_word-4.false) in
-    let t5 : is_word (codes "XOR") c.args.word.now ≡ true = rw c.as_slice-5.ensures at (sym c.same_word-5.ensures ∙ c.if-same_word-5.true) in
-    rw (t1, t2, t3, t4, t5) refl
-
-pub returns-then-same_word-6 : goal.returns-then-same_word-6
-unfolding driver_of
-returns-then-same_word-6 c =
-    let t1 : is_word (codes "AND") c.args.word.now ≡ false = rw c.as_slice.ensures at (sym c.same_word.ensures ∙ c.if-same_word.false) in
-    let t2 : is_word (codes "NAND") c.args.word.now ≡ false = rw c.as_slice-2.ensures at (sym c.same_word-2.ensures ∙ c.if-same_word-2.false) in
-    let t3 : is_word (codes "OR") c.args.word.now ≡ false = rw c.as_slice-3.ensures at (sym c.same_word-3.ensures ∙ c.if-same_word-3.false) in
-    let t4 : is_word (codes "NOR") c.args.word.now ≡ false = rw c.as_slice-4.ensures at (sym c.same_word-4.ensures ∙ c.if-same_word-4.false) in
-    let t5 : is_word (codes "XOR") c.args.word.now ≡ false = rw c.as_slice-5.ensures at (sym c.same_word-5.ensures ∙ c.if-same_word-5.false) in
-    let t6 : is_word (codes "XNOR") c.args.word.now ≡ true = rw c.as_slice-6.ensures at (sym c.same_word-6.ensures ∙ c.if-same_word-6.true) in
-    rw (t1, t2, t3, t4, t5, t6) refl
-
-pub returns-then-same_word-7 : goal.returns-then-same_word-7
-unfolding driver_of
-returns-then-same_word-7 c =
-    let t1 : is_word (codes "AND") c.args.word.now ≡ false = rw c.as_slice.ensures at (sym c.same_word.ensures ∙ c.if-same_word.false) in
-    let t2 : is_word (codes "NAND") c.args.word.now ≡ false = rw c.as_slice-2.ensures at (sym c.same_word-2.ensures ∙ c.if-same_word-2.false) in
-    let t3 : is_word (codes "OR") c.args.word.now ≡ false = rw c.as_slice-3.ensures at (sym c.same_word-3.ensures ∙ c.if-same_word-3.false) in
-    let t4 : is_word (codes "NOR") c.args.word.now ≡ false = rw c.as_slice-4.ensures at (sym c.same_word-4.ensures ∙ c.if-same_word-4.false) in
-    let t5 : is_word (codes "XOR") c.args.word.now ≡ false = rw c.as_slice-5.ensures at (sym c.same_word-5.ensures ∙ c.if-same_word-5.false) in
-    let t6 : is_word (codes "XNOR") c.args.word.now ≡ false = rw c.as_slice-6.ensures at (sym c.same_word-6.ensures ∙ c.if-same_word-6.false) in
-    let t7 : is_word (codes "NOT") c.args.word.now ≡ true = rw c.as_slice-7.ensures at (sym c.same_word-7.ensures ∙ c.if-same_word-7.true) in
-    rw (t1, t2, t3, t4, t5, t6, t7) refl
-
-pub returns-then-same_word-8 : goal.returns-then-same_word-8
-unfolding driver_of
-returns-then-same_word-8 c =
-    let t1 : is_word (codes "AND") c.args.word.now ≡ false = rw c.as_slice.ensures at (sym c.same_word.ensures ∙ c.if-same_word.false) in
-    let t2 : is_word (codes "NAND") c.args.word.now ≡ false = rw c.as_slice-2.ensures at (sym c.same_word-2.ensures ∙ c.if-same_word-2.false) in
-    let t3 : is_word (codes "OR") c.args.word.now ≡ false = rw c.as_slice-3.ensures at (sym c.same_word-3.ensures ∙ c.if-same_word-3.false) in
-    let t4 : is_word (codes "NOR") c.args.word.now ≡ false = rw c.as_slice-4.ensures at (sym c.same_word-4.ensures ∙ c.if-same_word-4.false) in
-    let t5 : is_word (codes "XOR") c.args.word.now ≡ false = rw c.as_slice-5.ensures at (sym c.same_word-5.ensures ∙ c.if-same_word-5.false) in
-    let t6 : is_word (codes "XNOR") c.args.word.now ≡ false = rw c.as_slice-6.ensures at (sym c.same_word-6.ensures ∙ c.if-same_word-6.false) in
-    let t7 : is_word (codes "NOT") c.args.word.now ≡ false = rw c.as_slice-7.ensures at (sym c.same_word-7.ensures ∙ c.if-same_word-7.false) in
-    let t8 : is_word (codes "BUFF") c.args.word.now ≡ true = rw c.as_slice-8.ensures at (sym c.same_word-8.ensures ∙ c.if-same_word-8.true) in
-    rw (t1, t2, t3, t4, t5, t6, t7, t8) refl
-
-pub returns-then-same_word-9 : goal.returns-then-same_word-9
-unfolding driver_of
-returns-then-same_word-9 c =
-    let t1 : is_word (codes "AND") c.args.word.now ≡ false = rw c.as_slice.ensures at (sym c.same_word.ensures ∙ c.if-same_word.false) in
-    let t2 : is_word (codes "NAND") c.args.word.now ≡ false = rw c.as_slice-2.ensures at (sym c.same_word-2.ensures ∙ c.if-same_word-2.false) in
-    let t3 : is_word (codes "OR") c.args.word.now ≡ false = rw c.as_slice-3.ensures at (sym c.same_word-3.ensures ∙ c.if-same_word-3.false) in
-    let t4 : is_word (codes "NOR") c.args.word.now ≡ false = rw c.as_slice-4.ensures at (sym c.same_word-4.ensures ∙ c.if-same_word-4.false) in
-    let t5 : is_word (codes "XOR") c.args.word.now ≡ false = rw c.as_slice-5.ensures at (sym c.same_word-5.ensures ∙ c.if-same_word-5.false) in
-    let t6 : is_word (codes "XNOR") c.args.word.now ≡ false = rw c.as_slice-6.ensures at (sym c.same_word-6.ensures ∙ c.if-same_word-6.false) in
-    let t7 : is_word (codes "NOT") c.args.word.now ≡ false = rw c.as_slice-7.ensures at (sym c.same_word-7.ensures ∙ c.if-same_word-7.false) in
-    let t8 : is_word (codes "BUFF") c.args.word.now ≡ false = rw c.as_slice-8.ensures at (sym c.same_word-8.ensures ∙ c.if-same_word-8.false) in
-    let t9 : is_word (codes "BUF") c.args.word.now ≡ true = rw c.as_slice-9.ensures at (sym c.same_word-9.ensures ∙ c.if-same_word-9.true) in
-    rw (t1, t2, t3, t4, t5, t6, t7, t8, t9) refl
-
-pub returns-then-same_word-10 : goal.returns-then-same_word-10
-unfolding driver_of
-returns-then-same_word-10 c =
-    let t1 : is_word (codes "AND") c.args.word.now ≡ false = rw c.as_slice.ensures at (sym c.same_word.ensures ∙ c.if-same_word.false) in
-    let t2 : is_word (codes "NAND") c.args.word.now ≡ false = rw c.as_slice-2.ensures at (sym c.same_word-2.ensures ∙ c.if-same_word-2.false) in
-    let t3 : is_word (codes "OR") c.args.word.now ≡ false = rw c.as_slice-3.ensures at (sym c.same_word-3.ensures ∙ c.if-same_word-3.false) in
-    let t4 : is_word (codes "NOR") c.args.word.now ≡ false = rw c.as_slice-4.ensures at (sym c.same_word-4.ensures ∙ c.if-same_word-4.false) in
-    let t5 : is_word (codes "XOR") c.args.word.now ≡ false = rw c.as_slice-5.ensures at (sym c.same_word-5.ensures ∙ c.if-same_word-5.false) in
-    let t6 : is_word (codes "XNOR") c.args.word.now ≡ false = rw c.as_slice-6.ensures at (sym c.same_word-6.ensures ∙ c.if-same_word-6.false) in
-    let t7 : is_word (codes "NOT") c.args.word.now ≡ false = rw c.as_slice-7.ensures at (sym c.same_word-7.ensures ∙ c.if-same_word-7.false) in
-    let t8 : is_word (codes "BUFF") c.args.word.now ≡ false = rw c.as_slice-8.ensures at (sym c.same_word-8.ensures ∙ c.if-same_word-8.false) in
-    let t9 : is_word (codes "BUF") c.args.word.now ≡ false = rw c.as_slice-9.ensures at (sym c.same_word-9.ensures ∙ c.if-same_word-9.false) in
-    let t10 : is_word (codes "DFF") c.args.word.now ≡ true = rw c.as_slice-10.ensures at (sym c.same_word-10.ensures ∙ c.if-same_word-10.true) in
-    rw (t1, t2, t3, t4, t5, t6, t7, t8, t9, t10) refl
+-- one entry before others
+before : {rest : List (Text × Driver)} {found result : Option Driver} (word : Text) (entry : Text × Driver)
+    → Says word rest found → result ≡ (if is_word entry.0 word then Some entry.1 else found) → Says word (entry ∷ rest) result
+before {rest} {found} word entry e f = record { said_is = f ∙ ap (λ o. if is_word entry.0 word then Some entry.1 else o) e.said_is ∙ by (is_word entry.0 word) }
+  where
+    by : (test : Bool) → (if test then Some entry.1 else said word rest) ≡ option_map (λ x. x.1) (if test then Some entry else find (λ x. str_eq_ignore_ascii_case word x.0) rest)
+    by true = refl
+    by false = refl
 
 pub returns : goal.returns
 unfolding driver_of
 returns c =
-    let t1 : is_word (codes "AND") c.args.word.now ≡ false = rw c.as_slice.ensures at (sym c.same_word.ensures ∙ c.if-same_word.false) in
-    let t2 : is_word (codes "NAND") c.args.word.now ≡ false = rw c.as_slice-2.ensures at (sym c.same_word-2.ensures ∙ c.if-same_word-2.false) in
-    let t3 : is_word (codes "OR") c.args.word.now ≡ false = rw c.as_slice-3.ensures at (sym c.same_word-3.ensures ∙ c.if-same_word-3.false) in
-    let t4 : is_word (codes "NOR") c.args.word.now ≡ false = rw c.as_slice-4.ensures at (sym c.same_word-4.ensures ∙ c.if-same_word-4.false) in
-    let t5 : is_word (codes "XOR") c.args.word.now ≡ false = rw c.as_slice-5.ensures at (sym c.same_word-5.ensures ∙ c.if-same_word-5.false) in
-    let t6 : is_word (codes "XNOR") c.args.word.now ≡ false = rw c.as_slice-6.ensures at (sym c.same_word-6.ensures ∙ c.if-same_word-6.false) in
-    let t7 : is_word (codes "NOT") c.args.word.now ≡ false = rw c.as_slice-7.ensures at (sym c.same_word-7.ensures ∙ c.if-same_word-7.false) in
-    let t8 : is_word (codes "BUFF") c.args.word.now ≡ false = rw c.as_slice-8.ensures at (sym c.same_word-8.ensures ∙ c.if-same_word-8.false) in
-    let t9 : is_word (codes "BUF") c.args.word.now ≡ false = rw c.as_slice-9.ensures at (sym c.same_word-9.ensures ∙ c.if-same_word-9.false) in
-    let t10 : is_word (codes "DFF") c.args.word.now ≡ false = rw c.as_slice-10.ensures at (sym c.same_word-10.ensures ∙ c.if-same_word-10.false) in
-    rw (t1, t2, t3, t4, t5, t6, t7, t8, t9, t10) refl
+    let word = c.args.word.now in
+    let o1 = before word (codes "CONST1", gate_driver Const1) (nothing word) (rw c.as_slice.ensures at c.says-found.ensures) in
+    let o2 = before word (codes "CONST0", gate_driver Const0) o1 (rw c.as_slice-2.ensures at c.says-found-2.ensures) in
+    let o3 = before word (codes "MUX", gate_driver Mux) o2 (rw c.as_slice-3.ensures at c.says-found-3.ensures) in
+    let o4 = before word (codes "DFF", flip_flop_driver) o3 (rw c.as_slice-4.ensures at c.says-found-4.ensures) in
+    let o5 = before word (codes "BUF", gate_driver Buff) o4 (rw c.as_slice-5.ensures at c.says-found-5.ensures) in
+    let o6 = before word (codes "BUFF", gate_driver Buff) o5 (rw c.as_slice-6.ensures at c.says-found-6.ensures) in
+    let o7 = before word (codes "NOT", gate_driver Not) o6 (rw c.as_slice-7.ensures at c.says-found-7.ensures) in
+    let o8 = before word (codes "XNOR", gate_driver Xnor) o7 (rw c.as_slice-8.ensures at c.says-found-8.ensures) in
+    let o9 = before word (codes "XOR", gate_driver Xor) o8 (rw c.as_slice-9.ensures at c.says-found-9.ensures) in
+    let o10 = before word (codes "NOR", gate_driver Nor) o9 (rw c.as_slice-10.ensures at c.says-found-10.ensures) in
+    let o11 = before word (codes "OR", gate_driver Or) o10 (rw c.as_slice-11.ensures at c.says-found-11.ensures) in
+    let o12 = before word (codes "NAND", gate_driver Nand) o11 (rw c.as_slice-12.ensures at c.says-found-12.ensures) in
+    let o13 = before word (codes "AND", gate_driver And) o12 (rw c.as_slice-13.ensures at c.says-found-13.ensures) in
+    o13.said_is

@@ -1,5 +1,4 @@
-use Rattle.std.proofs.Common.{◌≡◌, ◌+◌, ◌++◌, map, take}
-use Rattle.std.specs.Prelude.{Some}
+use Rattle.std.proofs.Common.{◌≡◌, ◌+◌, ◌++◌, map, take, Some}
 use Rattle.std.specs.Vec.{vec_len, vec_capacity}
 use Rattle.class_refine.proofs.moving.add_births.Given as goal
 

@@ -5,6 +5,7 @@ use Rattle.net_model.specs.ClassTable.{class_at}
 use Rattle.result_file.specs.declared.record.Mark.{Mark}
 use Rattle.result_file.specs.declared.record.Mark.TheVariants.{Rep}
 use Rattle.result_file.specs.declared.record.Record.TheVariants.{Member}
+use Rattle.std.specs.String.{string_bytes}
 use Rattle.result_file.specs.Spelling.{text_of}
 use Rattle.result_file.specs.Meaning.{member_records}
 use Rattle.result_file.specs.Summary.{is_equal, is_open}
@@ -30,7 +31,7 @@ loop-number-preserved c =
     let so_far = c.loop-number.invariant in
     let mark : c.unwrap-mark.result ≡ (member_for t given k).1 = ap (λ (o : Option Mark). unwrap_or o Rep) (sym c.unwrap-mark.ensures ∙ c.of.ensures) in
     record {
-      text = pushed c.args.text.now.items (text_of (member_records (map (member_for t given) (range_with_len 0 k)))) (text_of (Member k (class_at t k) (member_for t given k).1 ∷ []))
-          (rw (c.class_of.ensures.value, mark) at c.in_ok-push_line.ensures) so_far.text (members_more (member_for t given) k);
+      text = pushed (string_bytes c.args.text.now) (text_of (member_records (map (member_for t given) (range_with_len 0 k)))) (text_of (Member k (class_at t k) (member_for t given k).1 ∷ []))
+          (rw (c.class_of.ensures.value, mark) at c.in_ok-push_record.ensures) so_far.text (members_more (member_for t given) k);
       marked = rw (c.count.ensures, mark) (marked_more t given so_far.marked);
     }

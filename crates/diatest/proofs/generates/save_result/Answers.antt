@@ -1,11 +1,11 @@
-use Rattle.std.proofs.Common.{ap, Err, [], ◌∷◌, refl, sym, subst, ◌∙◌, length, zero-le, arith, ◌≡◌, List, ℕ}
+use Rattle.std.proofs.Common.{ap, Err, [], ◌∷◌, refl, sym, subst, ◌∙◌, length, arith, ◌≡◌, List, ℕ}
 use Rattle.std.proofs.Math.Nat.{le_refl}
 use Rattle.std.proofs.lemmas.List.{take_all}
-use Rattle.dia_gen.specs.Made.{IsMade, IsTrueFile}
+use Rattle.dia_gen.specs.Made.{IsMade}
 use Rattle.dia_gen.proofs.Written.{nothing_cut}
 use Rattle.diatest.specs.Texts.{summary_text}
 use Rattle.diatest.specs.Outcome.{saved, IsPartOf, whole_result, cut_result}
-use Rattle.diatest.proofs.Runs.{status_of, not_done, ends_unmade, ends_cut, ends_saved, ends_quiet, told_file, parts_saved}
+use Rattle.diatest.proofs.Runs.{status_of, not_done, ends_unmade, ends_cut, ends_after, ends_silent, part_after, told_file}
 use Rattle.diatest.proofs.generates.save_result.Goals as goal
 
 pub returns-in-Err : goal.returns-in-Err
@@ -31,32 +31,32 @@ returns-in-Err-generate g c = record {
 
 pub returns-in_default-summary_text : goal.returns-in_default-summary_text
 returns-in_default-summary_text g c =
-    let P : List ℕ → Type 0 = λ file. IsMade c.args.circuit.now c.args.budgets c.in-Ok.summary file × IsTrueFile c.args.circuit.now file in
+    let P : List ℕ → Type 0 = λ file. IsMade c.args.circuit.now c.args.budgets c.in-Ok.summary file in
     let state = g.S.Shelf.state in
-    let f = told_file P (state c.create_file.new.self) (state c.generate.new.shelf) (λ told. let w = c.in-Ok.ensures.written told in (w.0, (w.1, w.2), w.3)) in
+    let f = told_file P (state c.create_file.new.self) (state c.generate.new.shelf) c.in-Ok.ensures.written in
     let text = summary_text c.in-Ok.summary in
     let output = c.args.output.now in
     record {
       file = f.0;
       text = text;
-      ends = ends_quiet (λ told. let made = f.2 (c.in_default.ensures.call.tells ∙ told) in whole_result c.in-Ok.summary f.0 made.0 made.1 (parts_saved output f.0 text [] (0, zero-le, refl)))
-          c.in_default.ensures.call c.in_default.ensures.created c.in-Ok.ensures.call f.1;
+      ends = ends_after (λ told m t part. whole_result c.in-Ok.summary f.0 (f.2 (c.in_default.ensures.call.tells ∙ told)) (part_after output f.0 text [] m t part))
+          c.in_default.ensures.call c.in_default.ensures.created c.in-Ok.ensures.call f.1 (ends_silent (omega arith));
       made = λ z. absurd (omega arith);
     }
 
 pub returns : goal.returns
 returns g c =
-    let P : List ℕ → Type 0 = λ file. IsMade c.args.circuit.now c.args.budgets c.in-Ok.summary file × IsTrueFile c.args.circuit.now file in
+    let P : List ℕ → Type 0 = λ file. IsMade c.args.circuit.now c.args.budgets c.in-Ok.summary file in
     let state = g.S.Shelf.state in
-    let f = told_file P (state c.create_file.new.self) (state c.generate.new.shelf) (λ told. let w = c.in-Ok.ensures.written told in (w.0, (w.1, w.2), w.3)) in
-    let text : c.as_bytes.result.now ≡ summary_text c.in-Ok.summary = c.as_bytes.ensures.value ∙ c.in-Ok-summary_text.ensures in
+    let f = told_file P (state c.create_file.new.self) (state c.generate.new.shelf) c.in-Ok.ensures.written in
+    let said_text = c.as_bytes.result.now in
+    let text : said_text ≡ summary_text c.in-Ok.summary = c.as_bytes.ensures.value ∙ c.in-Ok-summary_text.ensures in
     let output = c.args.output.now in
     record {
       file = f.0;
-      text = c.as_bytes.result.now;
-      ends = ends_saved (λ told t cut.
-          let made = f.2 (c.in_default.ensures.call.tells ∙ told) in
-          whole_result c.in-Ok.summary f.0 made.0 made.1 (subst (λ (x : List ℕ). IsPartOf (saved output f.0 x) ((output, f.0) ∷ []) t) text (parts_saved output f.0 c.as_bytes.result.now t cut)))
+      text = said_text;
+      ends = ends_after (λ told m t part.
+          whole_result c.in-Ok.summary f.0 (f.2 (c.in_default.ensures.call.tells ∙ told)) (subst (λ (x : List ℕ). IsPartOf (saved ((output, f.0) ∷ []) x) ((output, f.0) ∷ m) t) text (part_after output f.0 said_text [] m t part)))
           c.in_default.ensures.call c.in_default.ensures.created c.in-Ok.ensures.call f.1 c.say.ensures;
-      made = λ z told. let made = f.2 (c.in_default.ensures.call.tells ∙ told) in (c.in-Ok.summary, made.0, made.1, text);
+      made = λ z told. (c.in-Ok.summary, f.2 (c.in_default.ensures.call.tells ∙ told), text);
     }

@@ -7,7 +7,7 @@ returns-in-Err-clause-refused c text is =
     read_refused c.args.bytes.now text.items c.in-Err.fault (c.refusal.ensures text (cc)) c.in-Err.ensures.refused
 
 pub returns-in-Ok-cut-clause-ok : goal.returns-in-Ok-cut-clause-ok
-returns-in-Ok-cut-clause-ok c = is_design c.in-Ok.ensures.ok c.in-Ok-cut.ensures.ok c.sources.ensures.circuit
+returns-in-Ok-cut-clause-ok c = is_design c.in-Ok.ensures.ok c.in-Ok-cut.ensures.ok c.in-Ok-cut.ensures.circuit
 
 pub returns-clause-refused : goal.returns-clause-refused
 returns-clause-refused c text is =

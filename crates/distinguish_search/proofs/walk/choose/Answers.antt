@@ -19,26 +19,23 @@ loop-step-init c =
       λ w. omega (arith, w.acyclic.bounded (get_or c.positions.result.now (get_or c.reached.result.now c.open_place-place.result 0) 0)),
     )
 
-pub pairs-pairs-requires : goal.pairs-pairs-requires
-pairs-pairs-requires c = c.loop-step.invariant.0.inside
+pub pairs-requires : goal.pairs-requires
+pairs-requires c = c.loop-step.invariant.0.inside
 
 pub returns-then-line-sources : goal.returns-then-line-sources
 returns-then-line-sources c =
     let sim = c.args.sim.now in
     let here = c.loop-step.invariant.0 in
-    let inside = source_in sim.circuit c.circuit-circuit.result.now c.loop-step.line c.sources.result c.circuit-circuit.ensures.value c.sources.ensures.value c.if-line-sources.true in
-    (inside, here.relevant, open_is_free sim.circuit sim.f sim.g sim.cube c.loop-step.line here inside, c.requires)
+    let inside = source_in sim.circuit c.circuit-circuit.result.now c.loop-step.here.line c.sources.result c.circuit-circuit.ensures.value c.sources.ensures.value c.if-line-sources.true in
+    (inside, here.relevant, open_is_free sim.circuit sim.f sim.g sim.cube c.loop-step.here.line here inside, c.requires)
 
-pub gate-requires-clause-below : goal.gate-requires-clause-below
-gate-requires-clause-below c = subst (λ circuit. c.loop-step.line < line_count circuit) (sym c.circuit-circuit.ensures.value) c.loop-step.invariant.0.inside
-
-pub open_pin-line-requires-clause-open : goal.open_pin-line-requires-clause-open
-open_pin-line-requires-clause-open c = c.loop-step.invariant.0
+pub step_back-here-requires-clause-open : goal.step_back-here-requires-clause-open
+step_back-here-requires-clause-open c = c.loop-step.invariant.0
 
 pub loop-step-preserved : goal.loop-step-preserved
 loop-step-preserved c = (
-  c.open_pin-line.ensures.«open»,
-  λ w. omega (arith, w.acyclic.rises c.open_pin-line.result c.loop-step.line c.open_pin-line.ensures.feeds, c.loop-step.invariant.1 w),
+  c.step_back-here.ensures.«open»,
+  λ w. omega (arith, w.acyclic.rises c.step_back-here.result.line c.loop-step.here.line c.step_back-here.ensures.feeds, c.loop-step.invariant.1 w),
 )
 
 pub unreachable-requires : goal.unreachable-requires

@@ -5,4 +5,4 @@ use Rattle.distinguish_search.proofs.walk.choose.Given as goal
 
 -- each step goes to a lower rank
 abbrev pub invariant-loop-step : goal.invariant-loop-step
-invariant-loop-step l = IsOpen l.sim.circuit l.sim.f l.sim.g l.sim.cube l.line × ((w : IsCircuit l.sim.circuit) → w.acyclic.rank l.line + l._step ≤ length l.sim.circuit.gates)
+invariant-loop-step l = IsOpen l.sim.circuit l.sim.f l.sim.g l.sim.cube l.here.line × ((w : IsCircuit l.sim.circuit) → w.acyclic.rank l.here.line + l._step ≤ length l.sim.circuit.gates)

@@ -3,7 +3,7 @@ use Rattle.std.specs.Prelude.{◌||◌, false}
 use Rattle.net_model.specs.declared.fault.Fault.{Fault}
 use Rattle.net_model.specs.Circuit.{Circuit}
 use Rattle.net_model.specs.Scope.{reached_positions}
-use Rattle.pair_sets.specs.declared.pair_set.PairSet.{PairSet}
+use Rattle.pair_sets.specs.PairSet.{PairSet}
 use Rattle.pair_sets.specs.Cube.{Cube}
 use Rattle.pair_sets.specs.CubeState.{position_pairs, IsPart}
 use Rattle.pair_sets.specs.PairSet.{only_equal, only_unequal}

@@ -1,24 +1,41 @@
-use Rattle.std.proofs.Common.{◌≡◌, ◌∙◌, ℕ, length, sym, ap}
+use Rattle.std.proofs.Common.{◌≡◌, ◌∙◌, ℕ, length, sym, ap, arith}
 use Rattle.std.specs.Prelude.{Option, None, Some}
-use Rattle.net_model.specs.Circuit.{Circuit, line_count}
+use Rattle.net_model.specs.Circuit.{Circuit}
+use Rattle.net_model.specs.Wiring.{Wiring, IsWiring}
+use Rattle.net_model.proofs.Orders.{order_count}
+use Rattle.net_model.proofs.SetSoFar.{fits_from}
+use Rattle.net_model.proofs.Elements.{none_in}
 use Rattle.fault_sim.proofs.SettledLemmas.{settled_start, first_inside}
 use Rattle.fault_sim.proofs.events.change_lines.Goals as goal
 
 pub returns-in_default-clause-settled : goal.returns-in_default-clause-settled
-returns-in_default-clause-settled c = λ lane free at line inside idle.
-    let good = c.args.good.now in
-    let rows = c.args.rows.now.rows in
-    let width : length rows ≡ line_count good.circuit = c.requires.width ∙ ap (λ (n : Circuit). line_count n) (sym c.requires.circuit) in
-    settled_start good c.args.fault c.args.wiring.now.order.items rows width c.requires.clear lane free at line inside
+returns-in_default-clause-settled c = λ lane free at line inside.
+    settled_start c.args.good.now c.args.fault c.args.rows.now.rows c.requires.width c.requires.clear lane free at line inside
     (λ e. let clash : ◌≡◌ {A = Option ℕ} None (Some line) = sym c.in_default.is ∙ c.first_changed.ensures ∙ e in cc)
 
+-- the order has all gates
+order_whole : (circuit same : Circuit) (wiring : Wiring) → same ≡ circuit → IsWiring same wiring → length wiring.order ≡ length circuit.gates
+order_whole circuit same wiring e is = order_count same (fits_from same is.circuit) wiring.order is.order ∙ ap (λ (n : Circuit). length n.gates) e
+
 pub settle-requires-clause-line : goal.settle-requires-clause-line
-settle-requires-clause-line c = first_inside c.args.circuit.now c.args.fault c.in-Some.line c.requires.fault (sym c.first_changed.ensures ∙ c.in-Some.is)
+settle-requires-clause-line c = first_inside c.args.good.now.circuit c.args.fault c.in-Some.line c.requires.fault (sym c.first_changed.ensures ∙ c.in-Some.is)
 
 pub settle-requires-clause-settled : goal.settle-requires-clause-settled
 settle-requires-clause-settled c = λ lane free at line inside ne idle.
-    let good = c.args.good.now in
-    let rows = c.args.rows.now.rows in
-    let width : length rows ≡ line_count good.circuit = c.requires.width ∙ ap (λ (n : Circuit). line_count n) (sym c.requires.circuit) in
-    settled_start good c.args.fault c.args.wiring.now.order.items rows width c.requires.clear lane free at line inside
+    settled_start c.args.good.now c.args.fault c.args.rows.now.rows c.requires.width c.requires.clear lane free at line inside
     (λ e. ne (let same : ◌≡◌ {A = Option ℕ} (Some line) (Some c.in-Some.line) = sym e ∙ sym c.first_changed.ensures ∙ c.in-Some.is in cc))
+
+pub settle-requires-clause-underway : goal.settle-requires-clause-underway
+settle-requires-clause-underway c = record {
+  width = c.requires.width;
+  queue_room = omega (arith, c.requires.queue, order_whole c.args.good.now.circuit c.circuit.result.now c.wiring-wiring.result.now c.circuit.ensures c.wiring-wiring.ensures);
+  past = λ line inside lane above within. c.requires.clear line inside (none_in line) lane within;
+}
+
+pub follow-requires-clause-room : goal.follow-requires-clause-room
+follow-requires-clause-room c =
+    omega (arith, c.requires.room, c.settle.ensures.room, order_whole c.args.good.now.circuit c.circuit.result.now c.wiring-wiring.result.now c.circuit.ensures c.wiring-wiring.ensures)
+
+pub returns-clause-queue : goal.returns-clause-queue
+returns-clause-queue c =
+    omega (arith, c.follow.ensures.underway.queue_room, order_whole c.args.good.now.circuit c.circuit.result.now c.wiring-wiring.result.now c.circuit.ensures c.wiring-wiring.ensures)

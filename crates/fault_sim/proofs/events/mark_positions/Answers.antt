@@ -1,42 +1,36 @@
-use Rattle.std.proofs.Common.{◌≡◌, ◌≢◌, ◌<◌, ◌∙◌, [], ℕ, length, get_or, take, sym, ap, arith, subst, inl, inr}
+use Rattle.std.proofs.Common.{◌≡◌, ◌≢◌, ◌∙◌, [], ℕ, get_or, take, sym, ap, arith, subst, inl, inr}
 use Rattle.std.specs.Prelude.{Contains, Option, None, Some}
-use Rattle.std.proofs.lemmas.List.{get_or_read, take_more, take_all}
+use Rattle.std.proofs.lemmas.List.{take_more, take_all}
 use Rattle.std.proofs.lemmas.List.Elements.{Contains-get_or, Contains-push_cases}
 use Rattle.net_model.proofs.Elements.{true_false}
-use Rattle.fault_sim.specs.Pending.{is_pending}
+use Rattle.event_queue.specs.Pending.{is_pending}
 use Rattle.fault_sim.specs.Rows.{AreFalseBut}
 use Rattle.fault_sim.proofs.ShownLemmas.{untouched_idle}
 use Rattle.fault_sim.proofs.events.mark_positions.Goals as goal
 
 pub wake-requires : goal.wake-requires
 wake-requires c = λ k d h.
-    let shown = c.args.wiring.now.shown.items in
     let items = c.listed-line-items.result.now in
     let line = get_or items c.loop-line.line-index 0 in
-    let users = c.as_slice.result.now in
-    let inside : line < length shown = omega (arith, c.requires.wiring.shown_whole, c.requires.width, c.listed-line-items.ensures.within c.loop-line.line-index 0 c.loop-line-test.true) in
-    let users_are : users ≡ get_or shown line [] = c.as_slice.ensures ∙ get_or_read shown line c.index.result.now inside c.index.ensures [] in
-    let below = c.requires.wiring.shown.below line (get_or users k d) (subst (λ us. Contains us (get_or users k d)) users_are (Contains-get_or users k d h)) in
+    let users = c.showing.result.now in
+    let below = c.wiring-wiring.ensures.showing.below line (get_or users k d) (subst (λ us. Contains us (get_or users k d)) c.showing.ensures (Contains-get_or users k d h)) in
     omega (arith, below, c.requires.room, c.loop-line.invariant.room)
 
 pub loop-line-preserved : goal.loop-line-preserved
 loop-line-preserved c =
-    let shown = c.args.wiring.now.shown.items in
+    let showing = c.wiring-wiring.result.now.showing in
     let items = c.listed-line-items.result.now in
     let i = c.loop-line.line-index in
     let line = get_or items i 0 in
-    let users = c.as_slice.result.now in
-    let inside : line < length shown = omega (arith, c.requires.wiring.shown_whole, c.requires.width, c.listed-line-items.ensures.within i 0 c.loop-line-test.true) in
-    let users_are : users ≡ get_or shown line [] = c.as_slice.ensures ∙ get_or_read shown line c.index.result.now inside c.index.ensures [] in
     record {
       room = c.wake.ensures.room ∙ c.loop-line.invariant.room;
       within = λ position t. elim (c.wake.ensures.only position t) [
         | inl was ↦ c.loop-line.invariant.within position was
-        | inr woken ↦ c.requires.wiring.shown.below line position (subst (λ us. Contains us position) users_are woken)
+        | inr woken ↦ c.wiring-wiring.ensures.showing.below line position (subst (λ us. Contains us position) c.showing.ensures woken)
       ];
       marked = λ l position has uses. elim (Contains-push_cases (take i items) line l (subst (λ ls. Contains ls l) (take_more items i 0 c.loop-line-test.true) has)) [
         | inl earlier ↦ c.wake.ensures.kept position (c.loop-line.invariant.marked l position earlier uses)
-        | inr same ↦ c.wake.ensures.here position (subst (λ us. Contains us position) (sym users_are) (subst (λ k. Contains (get_or shown k []) position) (sym same) uses))
+        | inr same ↦ c.wake.ensures.here position (subst (λ us. Contains us position) (sym c.showing.ensures) (subst (λ k. Contains (get_or showing k []) position) (sym same) uses))
       ];
     }
 
@@ -45,7 +39,7 @@ returns-in_default-clause-others c = λ position h idle.
     let items = c.listed-line-items.result.now in
     let marks = c.loop-line.marks in
     let others : AreFalseBut items c.args.lines.now.rows = subst (λ ls. AreFalseBut ls c.args.lines.now.rows) (sym c.listed-line-items.ensures.value) c.listed-line-items.ensures.others in
-    untouched_idle c.args.circuit.now c.args.wiring.now c.requires.wiring c.args.fault c.args.lines.now.rows items c.requires.width others position h
+    untouched_idle c.args.circuit.now c.wiring-wiring.result.now c.wiring-wiring.ensures c.args.fault c.args.lines.now.rows items c.requires.width others position h
     (λ stands. let clash : ◌≡◌ {A = Option ℕ} None (Some position) = sym c.in_default.is ∙ c.position_of.ensures ∙ stands in cc)
     (λ line has uses. true_false (is_pending marks position) (c.loop-line.invariant.marked line position (subst (λ ls. Contains ls line) (sym (take_all c.loop-line.line-index items c.loop-line-test.false)) has) uses) idle)
 
@@ -56,7 +50,7 @@ returns-clause-others c = λ position h idle.
     let at = c.in-Some.at in
     let others : AreFalseBut items c.args.lines.now.rows = subst (λ ls. AreFalseBut ls c.args.lines.now.rows) (sym c.listed-line-items.ensures.value) c.listed-line-items.ensures.others in
     let apart : position ≢ at = λ e. true_false (is_pending c.insert.new.self position) (ap (is_pending c.insert.new.self) e ∙ c.insert.ensures.here) idle in
-    untouched_idle c.args.circuit.now c.args.wiring.now c.requires.wiring c.args.fault c.args.lines.now.rows items c.requires.width others position h
+    untouched_idle c.args.circuit.now c.wiring-wiring.result.now c.wiring-wiring.ensures c.args.fault c.args.lines.now.rows items c.requires.width others position h
     (λ stands. apart (let same : ◌≡◌ {A = Option ℕ} (Some position) (Some at) = sym stands ∙ sym c.position_of.ensures ∙ c.in-Some.is in cc))
     (λ line has uses. true_false (is_pending marks position) (c.loop-line.invariant.marked line position (subst (λ ls. Contains ls line) (sym (take_all c.loop-line.line-index items c.loop-line-test.false)) has) uses)
     (sym (c.insert.ensures.others position apart) ∙ idle))

@@ -5,29 +5,29 @@ use Rattle.std.proofs.lemmas.List.Elements.{All-nil}
 use Rattle.std.proofs.lemmas.Bool.{false_from_ne_true}
 use Rattle.net_model.specs.Circuit.{Circuit, line_count}
 use Rattle.word_sim.specs.GoodSim.{GoodSim}
-use Rattle.fault_sim.specs.Pending.{is_pending, IsLowest}
+use Rattle.event_queue.specs.Pending.{is_pending, IsLowest}
 use Rattle.fault_sim.specs.Rows.{Rows, IsFalse, IsTrueSomewhere}
-use Rattle.fault_sim.specs.Events.{IsShown, IsUntouched}
-use Rattle.fault_sim.proofs.PendingLemmas.{lowest_left, not_before}
+use Rattle.fault_sim.specs.Events.{IsShown}
+use Rattle.event_queue.proofs.Marks.{lowest_left, not_before}
 use Rattle.fault_sim.proofs.SettledLemmas.{none_true}
-use Rattle.fault_sim.proofs.UsersLemmas.{none_of}
+use Rattle.net_model.proofs.Elements.{none_in}
 use Rattle.fault_sim.proofs.ShownLemmas.{shown_untouched, shown_same, shown_more, shown_kept, below_more, below_later, some_more, ascending_more}
 use Rattle.fault_sim.proofs.events.show_positions.Goals as goal
 use Rattle.fault_sim.proofs.events.show_positions.Goals.{then-any, else-any}
 
-positions_are : (good : GoodSim) (circuit : Circuit) (positions : List ℕ) → good.circuit ≡ circuit → positions ≡ circuit.positions → positions ≡ good.circuit.positions
-positions_are good circuit positions same value = value ∙ ap (λ (n : Circuit). n.positions) (sym same)
+positions_are : (good : GoodSim) (circuit : Circuit) (positions : List ℕ) → circuit ≡ good.circuit → positions ≡ circuit.positions → positions ≡ good.circuit.positions
+positions_are good circuit positions same value = value ∙ ap (λ (n : Circuit). n.positions) same
 
 pub loop-at-init : goal.loop-at-init
 loop-at-init c =
     let good = c.args.good.now in
     let lines = c.args.lines.now in
-    let circuit = c.args.circuit.now in
+    let circuit = good.circuit in
     let clear : (position : ℕ) → position < length circuit.positions → IsFalse (get_or c.args.positions.now.rows position []) =
-    λ position h. c.requires.clear position (omega (arith, c.requires.whole)) (none_of position) in
-    let line_in : (position : ℕ) → position < length circuit.positions → get_or good.circuit.positions position 0 < line_count circuit =
-    λ position h. subst (λ ps. get_or ps position 0 < line_count circuit) (positions_are good circuit c.positions-shown.result.now c.requires.circuit c.positions-shown.ensures.value)
-    (c.positions-shown.ensures.inside position 0 (omega (arith, ap length c.positions-shown.ensures.value))) in
+    λ position h. c.requires.clear position (omega (arith, c.requires.whole)) (none_in position) in
+    let pos_is = positions_are good c.circuit.result.now c.positions-shown.result.now c.circuit.ensures c.positions-shown.ensures.value in
+    let line_in : (position : ℕ) → position < length circuit.positions → get_or circuit.positions position 0 < line_count circuit =
+    λ position h. let bound = rw pos_is at c.positions-shown.ensures.inside in subst (λ (n : Circuit). get_or circuit.positions position 0 < line_count n) c.circuit.ensures (bound position 0 h) in
     record {
       from = omega arith;
       marks = refl;
@@ -43,13 +43,13 @@ loop-at-init c =
       shown = λ position h idle.
           shown_untouched good c.args.fault lines position (get_or c.args.positions.now.rows position [])
           (omega (arith, c.requires.width, line_in position h))
-          (subst (λ (n : Circuit). IsUntouched n c.args.fault lines position) (sym c.requires.circuit) (c.requires.others position h idle)) (clear position h);
+          (c.requires.others position h idle) (clear position h);
     }
 
 pub loop-at-preserved : goal.loop-at-preserved
 loop-at-preserved c =
     let good = c.args.good.now in
-    let circuit = c.args.circuit.now in
+    let circuit = good.circuit in
     let lines = c.args.lines.now in
     let at = c.in-Some.at in
     let rows = c.loop-at.positions.rows in
@@ -58,7 +58,7 @@ loop-at-preserved c =
     let lowest : IsLowest c.loop-at.marks c.take_lowest.new.self at = c.in-Some.ensures.cases in
     let inside : at < count = c.loop-at.invariant.within at lowest.was in
     let low : c.loop-at.from ≤ at = not_before c.loop-at.marks c.loop-at.from at c.loop-at.invariant.low lowest.was in
-    let pos_is : c.positions-shown.result.now ≡ good.circuit.positions = positions_are good circuit c.positions-shown.result.now c.requires.circuit c.positions-shown.ensures.value in
+    let pos_is : c.positions-shown.result.now ≡ good.circuit.positions = positions_are good c.circuit.result.now c.positions-shown.result.now c.circuit.ensures c.positions-shown.ensures.value in
     let here : IsShown good c.args.fault lines at row =
     record { live = rw pos_is at c.position_change-row.ensures.live; past = c.position_change-row.ensures.past } in
     let rest : (position : ℕ) → is_pending c.take_lowest.new.self position ≡ true → (at < position) × (is_pending c.loop-at.marks position ≡ true) = lowest_left c.loop-at.marks c.take_lowest.new.self at lowest in

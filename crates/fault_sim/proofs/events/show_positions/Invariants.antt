@@ -1,25 +1,25 @@
 use Rattle.std.proofs.Common.{◌≡◌, ◌<◌, ◌≤◌, ◌-◌, ℕ, true, false, [], length, get_or}
 use Rattle.std.specs.Prelude.{All, AllPairs}
-use Rattle.fault_sim.specs.Pending.{is_pending}
+use Rattle.event_queue.specs.Pending.{is_pending}
 use Rattle.fault_sim.specs.Rows.{IsFalse, IsTrueSomewhere}
 use Rattle.fault_sim.specs.Events.{IsShown}
 use Rattle.fault_sim.proofs.events.show_positions.Given as goal
 
 abbrev pub invariant-loop-at : goal.invariant-loop-at
 invariant-loop-at l = record {
-  from : l.from ≤ length l.circuit.positions;
+  from : l.from ≤ length l.good.circuit.positions;
   marks : length l.marks ≡ length l.initial.marks;
   whole : length l.positions.rows ≡ length l.initial.positions.rows;
   room : l.positions.room ≡ l.initial.positions.room;
   listed : length l.positions.listed ≤ l.from;
   low : (position : ℕ) → position < l.from → is_pending l.marks position ≡ false;
-  within : (position : ℕ) → is_pending l.marks position ≡ true → position < length l.circuit.positions;
-  later : (position : ℕ) → l.from ≤ position → position < length l.circuit.positions → IsFalse (get_or l.positions.rows position []);
+  within : (position : ℕ) → is_pending l.marks position ≡ true → position < length l.good.circuit.positions;
+  later : (position : ℕ) → l.from ≤ position → position < length l.good.circuit.positions → IsFalse (get_or l.positions.rows position []);
   below : All (λ position. position < l.from) l.positions.listed;
   some : All (λ position. IsTrueSomewhere (get_or l.positions.rows position [])) l.positions.listed;
   ascending : AllPairs ◌<◌ l.positions.listed;
-  shown : (position : ℕ) → position < length l.circuit.positions → is_pending l.marks position ≡ false → IsShown l.good l.fault l.lines position (get_or l.positions.rows position []);
+  shown : (position : ℕ) → position < length l.good.circuit.positions → is_pending l.marks position ≡ false → IsShown l.good l.fault l.lines position (get_or l.positions.rows position []);
 }
 
 abbrev pub decreases-loop-at : goal.decreases-loop-at
-decreases-loop-at l = length l.circuit.positions - l.from
+decreases-loop-at l = length l.good.circuit.positions - l.from

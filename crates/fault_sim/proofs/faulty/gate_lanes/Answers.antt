@@ -1,26 +1,17 @@
-use Rattle.std.proofs.Common.{◌≡◌, ◌<◌, ◌∙◌, length, get_or, ap, sym}
-use Rattle.std.specs.Prelude.{not, unwrap_or}
-use Rattle.net_model.specs.Gate.{gate_value}
+use Rattle.std.proofs.Common.{◌≡◌, ◌∙◌, ap, sym}
 use Rattle.net_model.specs.Fault.{stuck_pin}
+use Rattle.net_model.specs.Gate.{operation_value, operation_of, inverted}
 use Rattle.net_model.specs.Answer.{bit_at, seen_bits}
 use Rattle.fault_sim.specs.FaultyLanes.{faulty_bits}
-use Rattle.fault_sim.proofs.FaultyLemmas.{seen_at, some_pin}
 use Rattle.fault_sim.proofs.faulty.gate_lanes.Goals as goal
+use Rattle.fault_sim.proofs.faulty.gate_lanes.Goals.{in-Folded, in-Chosen}
 
-pub returns-in-Not : goal.returns-in-Not
-returns-in-Not c = λ lane free at.
-    let stuck = stuck_pin c.args.fault c.args.line in
-    let bits = faulty_bits free c.args.rows.now lane in
-    let pins = c.args.gate.now.pins in
-    let one : 0 < length pins = some_pin c.args.gate.now.kind (length pins) c.requires.arity in
-    let sees : bit_at c.pin_lanes.result lane ≡ unwrap_or (stuck 0) (bit_at bits (get_or pins 0 0)) = rw c.as_slice-pins.ensures at (c.pin_lanes.ensures lane free at) in
-    c.not-in-Not.ensures lane at.within ∙ ap not (sees ∙ sym (seen_at stuck bits pins 0 one)) ∙ ap (λ kind. gate_value kind (seen_bits stuck bits pins)) (sym c.in-Not.is)
-
-pub returns-in-Buff : goal.returns-in-Buff
-returns-in-Buff c = λ lane free at.
-    let stuck = stuck_pin c.args.fault c.args.line in
-    let bits = faulty_bits free c.args.rows.now lane in
-    let pins = c.args.gate.now.pins in
-    let one : 0 < length pins = some_pin c.args.gate.now.kind (length pins) c.requires.arity in
-    let sees : bit_at c.pin_lanes-in-Buff.result lane ≡ unwrap_or (stuck 0) (bit_at bits (get_or pins 0 0)) = rw c.as_slice-pins.ensures at (c.pin_lanes-in-Buff.ensures lane free at) in
-    sees ∙ sym (seen_at stuck bits pins 0 one) ∙ ap (λ kind. gate_value kind (seen_bits stuck bits pins)) (sym c.in-Buff.is)
+pub returns : goal.returns
+returns c = λ lane free at.
+    let kind = c.args.gate.now.kind in
+    let seen = seen_bits (stuck_pin c.args.fault c.args.line) (faulty_bits free c.args.rows.now lane) c.args.gate.now.pins in
+    let made : bit_at c.match-operation.lanes lane ≡ operation_value (operation_of kind) seen = elim c.match-operation.branch [
+      | in-Folded w ↦ ap (λ row. bit_at row lane) w.lanes-is ∙ (rw c.as_slice-pins.ensures at (w.folded_lanes-lanes.ensures lane free at)) ∙ ap (λ o. operation_value o seen) (sym w.in-Folded.is ∙ c.operation.ensures)
+      | in-Chosen w ↦ ap (λ row. bit_at row lane) w.lanes-is ∙ (rw c.as_slice-pins.ensures at (w.chosen_lanes-lanes.ensures lane free at)) ∙ ap (λ o. operation_value o seen) (sym w.in-Chosen.is ∙ c.operation.ensures)
+    ] in
+    c.inverted.ensures lane at.within ∙ (λ i. inverted (c.inverts.ensures i) (made i))

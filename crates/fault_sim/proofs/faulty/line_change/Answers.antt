@@ -3,14 +3,15 @@ use Rattle.std.specs.Prelude.{◌&&◌, nat_lt}
 use Rattle.std.proofs.lemmas.Bool.Decides.{nat_tests}
 use Rattle.net_model.specs.Answer.{bit_at, line_bit}
 use Rattle.word_sim.specs.GoodSim.{vectors_of}
-use Rattle.fault_sim.specs.FaultyLanes.{faulty_bits, turned, vector_at}
-use Rattle.fault_sim.proofs.FaultyLemmas.{turned_to, line_bit-stuck, line_bit-driven}
+use Rattle.net_model.specs.Gate.{inverted}
+use Rattle.fault_sim.specs.FaultyLanes.{faulty_bits, vector_at}
+use Rattle.fault_sim.proofs.FaultyLemmas.{inverted_to, line_bit-stuck, line_bit-driven}
 use Rattle.fault_sim.proofs.faulty.line_change.Goals as goal
 use Rattle.fault_sim.proofs.faulty.line_change.Goals.{in-Some, in-None}
 
 pub returns-clause-live : goal.returns-clause-live
 returns-clause-live c = λ lane free at.
-    let circuit = c.args.circuit.now in
+    let circuit = c.args.good.now.circuit in
     let fault = c.args.fault in
     let v = vector_at c.args.good.now lane in
     let bits = faulty_bits free c.args.rows.now lane in
@@ -23,5 +24,5 @@ returns-clause-live c = λ lane free at.
     ] in
     let test : nat_lt lane (length (vectors_of c.args.good.now)) ≡ true = let live = at.live in grind (arith, nat_tests) in
     let is_live : bit_at c.args.live lane ≡ true = c.requires.live lane at.within ∙ test in
-    let differs : bit_at c.xor.result lane ≡ turned value bit = c.xor.ensures lane at.within ∙ ap (turned value) (c.lanes.ensures lane at.live free at.agrees) in
-    ap (turned bit) (c.and.ensures lane at.within ∙ (λ i. differs i && is_live i)) ∙ turned_to bit value ∙ under
+    let differs : bit_at c.xor.result lane ≡ inverted value bit = c.xor.ensures lane at.within ∙ ap (inverted value) (c.lanes.ensures lane at.live free at.agrees) in
+    ap (inverted bit) (c.and.ensures lane at.within ∙ (λ i. differs i && is_live i)) ∙ inverted_to bit value ∙ under

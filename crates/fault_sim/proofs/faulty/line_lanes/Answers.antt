@@ -1,7 +1,7 @@
 use Rattle.std.proofs.Common.{◌∙◌, [], sym}
 use Rattle.net_model.specs.Answer.{bit_at}
 use Rattle.std.proofs.lemmas.List.{get_or_read}
-use Rattle.fault_sim.specs.FaultyLanes.{turned}
+use Rattle.net_model.specs.Gate.{inverted}
 use Rattle.fault_sim.proofs.FaultyLemmas.{faulty_at}
 use Rattle.fault_sim.proofs.faulty.line_lanes.Goals as goal
 
@@ -10,5 +10,5 @@ returns c = λ lane free at.
     let rows = c.args.rows.now in
     let line = c.args.line in
     c.xor.ensures lane at.within
-    ∙ (λ i. turned (c.lanes.ensures lane at.live free at.agrees i) (bit_at (get_or_read rows line c.index-rows-line.result c.requires.line c.index-rows-line.is [] i) lane))
+    ∙ (λ i. inverted (c.lanes.ensures lane at.live free at.agrees i) (bit_at (get_or_read rows line c.index-rows-line.result c.requires.line c.index-rows-line.is [] i) lane))
     ∙ sym (faulty_at free rows lane line c.requires.line)

@@ -1,14 +1,14 @@
 use Rattle.std.proofs.Common.{◌≡◌, ℕ, List, subst, arith}
 use Rattle.net_model.specs.Circuit.{line_count}
-use Rattle.net_model.specs.Topological.{parts_circuit, AddsReader}
-use Rattle.net_model.proofs.ReaderLemmas.{AreReadersBelow, readers_more, readers_done}
+use Rattle.net_model.specs.Topological.{parts_circuit, AddsUser}
+use Rattle.net_model.proofs.UserLemmas.{AreReadersBelow, readers_more, readers_done}
 use Rattle.net_model.proofs.topological.readers_of.Goals as goal
 
 pub loop-line-preserved : goal.loop-line-preserved
 loop-line-preserved c =
     let circuit = parts_circuit c.args.parts.now in
-    let adds = subst (λ (pins : List ℕ). AddsReader c.loop-line.line pins c.loop-line.readers c.add_all.new.self) c.pins_of.ensures.value c.in_ok-add_all.ensures in
-    readers_more circuit c.loop-line.line c.loop-line.readers c.add_all.new.self c.loop-line.invariant adds
+    let adds = subst (λ (pins : List ℕ). AddsUser c.loop-line.line pins c.loop-line.readers c.add_all.new.self) c.pins_of.ensures.value c.in_ok-add_all.ensures in
+    readers_more circuit c.loop-line.line c.loop-line.readers c.add_all.new.self c.loop-line.auto.line (omega (arith, c.loop-line-test.true, c.len.ensures, c.args.parts.now.gates.ok.0)) c.loop-line.invariant adds
 
 pub returns : goal.returns
 returns c =

@@ -1,5 +1,5 @@
 use Rattle.net_model.specs.Topological.{parts_circuit}
-use Rattle.net_model.proofs.ReaderLemmas.{AreReadersBelow}
+use Rattle.net_model.proofs.UserLemmas.{AreReadersBelow}
 use Rattle.net_model.proofs.topological.readers_of.Given as goal
 
 abbrev pub invariant-loop-line : goal.invariant-loop-line

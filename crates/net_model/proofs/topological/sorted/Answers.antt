@@ -1,6 +1,6 @@
 use Rattle.std.proofs.Common.{◌≡◌, ◌∙◌, ◌<◌, ◌+◌, ◌-◌, ℕ, List, length, get_or, ap, subst, arith, length-append}
 use Rattle.std.proofs.lemmas.List.{get_or_read}
-use Rattle.net_model.specs.Topological.{parts_circuit, readers_at, IsTold}
+use Rattle.net_model.specs.Topological.{parts_circuit, users_at, IsTold}
 use Rattle.net_model.proofs.QueueEnd.{queue_short}
 use Rattle.net_model.proofs.QueueSteps.{head_gate, enough, queue_step}
 use Rattle.net_model.proofs.topological.sorted.Goals as goal
@@ -10,8 +10,8 @@ at-requires c =
     let order = c.loop-head.queue.order in
     let head = c.loop-head.head in
     let here : head < length order.items = omega (arith, c.loop-head-test.true, c.len.ensures, order.ok.0) in
-    let gate = head_gate (parts_circuit c.args.parts.now) c.in_ok-readers.readers c.in_ok-readers.ensures head c.loop-head.queue.waits.items order.items c.loop-head.invariant.queue here in
-    omega (arith, gate, get_or_read order.items head c.index-line.result.now here c.index-line.ensures 0, c.in_ok-readers.ensures.whole)
+    let gate = head_gate (parts_circuit c.args.parts.now) c.args.readers.now c.requires.readers head c.loop-head.queue.waits.items order.items c.loop-head.invariant.queue here in
+    omega (arith, gate, get_or_read order.items head c.index-line.result.now here c.index-line.ensures 0, c.requires.readers.whole)
 
 pub tell-requires-clause-enough : goal.tell-requires-clause-enough
 tell-requires-clause-enough c =
@@ -19,7 +19,7 @@ tell-requires-clause-enough c =
     let head = c.loop-head.head in
     let here : head < length order.items = omega (arith, c.loop-head-test.true, c.len.ensures, order.ok.0) in
     rw (c.at.ensures, get_or_read order.items head c.index-line.result.now here c.index-line.ensures 0)
-    (enough (parts_circuit c.args.parts.now) c.in_ok-readers.readers c.in_ok-readers.ensures head c.loop-head.queue.waits.items order.items c.loop-head.invariant.queue here)
+    (enough (parts_circuit c.args.parts.now) c.args.readers.now c.requires.readers head c.loop-head.queue.waits.items order.items c.loop-head.invariant.queue here)
 
 pub loop-head-smaller : goal.loop-head-smaller
 loop-head-smaller c =
@@ -36,10 +36,10 @@ loop-head-preserved c =
     let waits = c.loop-head.queue.waits in
     let head = c.loop-head.head in
     let here : head < length order.items = omega (arith, c.loop-head-test.true, c.len.ensures, order.ok.0) in
-    let readers : c.at.result.now ≡ readers_at c.in_ok-readers.readers (get_or order.items head 0) =
-    c.at.ensures ∙ ap (readers_at c.in_ok-readers.readers) (get_or_read order.items head c.index-line.result.now here c.index-line.ensures 0) in
+    let readers : c.at.result.now ≡ users_at c.args.readers.now (get_or order.items head 0) =
+    c.at.ensures ∙ ap (users_at c.args.readers.now) (get_or_read order.items head c.index-line.result.now here c.index-line.ensures 0) in
     let told = subst (λ (rs : List ℕ). IsTold rs waits.items c.tell.new.self.waits.items order.items c.tell.new.self.order.items) readers c.in_ok-tell.ensures in
     record {
       within = omega (arith, ap length told.extends, length-append order.items told.more, here);
-      queue = queue_step (parts_circuit c.args.parts.now) c.in_ok-readers.readers c.in_ok-readers.ensures head waits.items order.items c.loop-head.invariant.queue here c.tell.new.self.waits.items c.tell.new.self.order.items told;
+      queue = queue_step (parts_circuit c.args.parts.now) c.args.readers.now c.requires.readers head waits.items order.items c.loop-head.invariant.queue here c.tell.new.self.waits.items c.tell.new.self.order.items told;
     }

@@ -1,27 +1,21 @@
 use Rattle.std.proofs.Common.{◌≡◌, ◌∙◌, ◌+◌, ◌<◌, ◌≤◌, ◌^◌, ℕ, [], ◌∷◌, ◌++◌, length, refl, arith, ap, sym, subst}
-use Rattle.std.specs.Prelude.{All, Result, Ok, Err, OnErr}
-use Rattle.std.proofs.lemmas.List.{length-append}
-use Rattle.std.proofs.lemmas.Result.{on_ok_weaker}
+use Rattle.std.specs.Prelude.{All}
 use Rattle.net_model.specs.Circuit.{Circuit}
 use Rattle.net_model.specs.Scope.{is_reached, reached_positions}
 use Rattle.clause_pool.specs.Literal.{Literal, pos_literal}
 use Rattle.clause_pool.specs.Clauses.{Clause, Clauses}
 use Rattle.pair_miter.specs.declared.writer.Writer.{Writer}
-use Rattle.pair_miter.specs.Adds.{Adds}
-use Rattle.pair_miter.specs.Miter.{difference_clauses, tidy}
+use Rattle.pair_miter.specs.Adds.{Adds, Writes}
+use Rattle.pair_miter.specs.Miter.{difference_clauses, differences_part, tidy}
 use Rattle.pair_miter.specs.Variables.{variable_count}
-use Rattle.pair_miter.proofs.AddSteps.{adds_none, both_parts, left_few}
-use Rattle.pair_miter.proofs.ClauseParts.{clauses_below, clauses_yes, clauses_no, clauses_few}
+use Rattle.pair_miter.proofs.AddSteps.{writes_err, writes_left, adds_none, adds_keeps, both_parts, left_few, next_fails, next_few}
+use Rattle.pair_miter.proofs.MiterParts.{part_of_differences}
+use Rattle.pair_miter.proofs.ClauseParts.{clauses_below, clauses_yes, clauses_no}
 use Rattle.pair_miter.proofs.Differences.{difference_literal, differences_below, differences_next, differences_no, differences_within}
-use Rattle.pair_miter.proofs.LineClauses.{length-tidy}
 use Rattle.pair_miter.proofs.Numbers.{difference_more, difference_same, difference_within}
 use Rattle.pair_miter.proofs.TidyParts.{tidy_none}
 use Rattle.pair_miter.proofs.building.write_differences.Goals as goal
 use Rattle.pair_miter.proofs.building.write_differences.Goals.{then-reached+in_ok-write_difference+in_ok-push, else-reached}
-
-on_err : {T E P : Type 0} (r : Result T E) → P → OnErr r P
-on_err (Ok x) p = tt
-on_err (Err e) p = p
 
 pub loop-at-init : goal.loop-at-init
 loop-at-init c = record {
@@ -32,26 +26,13 @@ loop-at-init c = record {
 }
 
 pub write_difference-requires-clause-few : goal.write_difference-requires-clause-few
-unfolding reached_positions
 write_difference-requires-clause-few c =
     let p = c.args.numbering.now in
     let at = c.loop-at.at in
-    let test = is_reached p.circuit p.f p.g in
     let clauses = difference_clauses p.circuit p.f p.g in
-    let so_far = clauses_below test clauses at in
-    let count = length p.circuit.positions in
-    let inside : at + 1 ≤ count = omega (arith, c.loop-at-test.true, ap length c.positions-at-end.ensures.value, ap (λ (circuit : Circuit). length circuit.positions) c.circuit.ensures.value) in
-    let more = ap (λ xs. length (tidy xs)) (clauses_yes test clauses at (sym c.reached.ensures ∙ c.if-reached.true)) in
-    omega (
-      arith,
-      c.requires.few,
-      ap length c.loop-at.invariant.adds.written,
-      length-append c.args.pool.now.clauses (tidy so_far),
-      more,
-      length-tidy so_far (clauses at),
-      clauses_few test clauses (at + 1) count inside,
-      length-tidy (clauses_below test clauses count) (differences_below p.circuit p.f p.g count ∷ []),
-    )
+    let inside : at + 1 ≤ length p.circuit.positions = omega (arith, c.loop-at-test.true, ap length c.positions-at-end.ensures.value, ap (λ (circuit : Circuit). length circuit.positions) c.circuit.ensures.value) in
+    let parts = part_of_differences p.circuit p.f p.g at inside (sym c.reached.ensures ∙ c.if-reached.true) in
+    next_few c.args.pool.now c.loop-at.pool (differences_part p.circuit p.f p.g) (clauses_below (is_reached p.circuit p.f p.g) clauses at) (clauses at) parts.0 parts.1 c.loop-at.invariant.adds c.requires.few
 
 pub literal-requires : goal.literal-requires
 literal-requires c =
@@ -61,15 +42,26 @@ literal-requires c =
     difference_within p.circuit p.f p.g c.loop-at.at c.loop-at.difference c.write_difference.new.self.tidier c.loop-at.invariant.difference
     (c.in_ok-write_difference.ensures.variables ∙ (c.loop-at.invariant.variables ∙ c.requires.variables)) (omega (arith, inside, whole, c.loop-at-test.true)) (sym c.reached.ensures ∙ c.if-reached.true)
 
-pub returns-in_err-push-clause-err : goal.returns-in_err-push-clause-err
-returns-in_err-push-clause-err c =
+pub returns-in_err-push-clause-written : goal.returns-in_err-push-clause-written
+returns-in_err-push-clause-written c =
     let p = c.args.numbering.now in
     let at = c.loop-at.at in
-    let test = is_reached p.circuit p.f p.g in
     let clauses = difference_clauses p.circuit p.f p.g in
-    let parts = clauses_yes test clauses at (sym c.reached.ensures ∙ c.if-reached.true) in
-    let adds = both_parts c.args.pool.now c.loop-at.pool c.write_difference.new.pool (clauses_below test clauses (at + 1)) (clauses_below test clauses at) (clauses at) parts c.loop-at.invariant.adds c.in_ok-write_difference.ensures.ok in
-    on_err c.from_residual-in_err-push.result (record { more = tidy (clauses_below test clauses (at + 1)); written = adds.written })
+    let inside : at + 1 ≤ length p.circuit.positions = omega (arith, c.loop-at-test.true, ap length c.positions-at-end.ensures.value, ap (λ (circuit : Circuit). length circuit.positions) c.circuit.ensures.value) in
+    let parts = part_of_differences p.circuit p.f p.g at inside (sym c.reached.ensures ∙ c.if-reached.true) in
+    writes_err c.from_residual-in_err-push.result c.from_residual-in_err-push.ensures.0
+    (next_fails c.args.pool.now c.loop-at.pool c.write_difference.new.pool (differences_part p.circuit p.f p.g) (clauses_below (is_reached p.circuit p.f p.g) clauses at) (clauses at) parts.0 parts.1 c.loop-at.invariant.adds
+    (adds_keeps c.loop-at.pool c.write_difference.new.pool (tidy (clauses at)) c.in_ok-write_difference.ensures.written))
+
+pub returns-in_err-write_difference-clause-written : goal.returns-in_err-write_difference-clause-written
+returns-in_err-write_difference-clause-written c =
+    let p = c.args.numbering.now in
+    let at = c.loop-at.at in
+    let clauses = difference_clauses p.circuit p.f p.g in
+    let inside : at + 1 ≤ length p.circuit.positions = omega (arith, c.loop-at-test.true, ap length c.positions-at-end.ensures.value, ap (λ (circuit : Circuit). length circuit.positions) c.circuit.ensures.value) in
+    let parts = part_of_differences p.circuit p.f p.g at inside (sym c.reached.ensures ∙ c.if-reached.true) in
+    writes_err c.from_residual.result c.from_residual.ensures.0
+    (next_fails c.args.pool.now c.loop-at.pool c.write_difference.new.pool (differences_part p.circuit p.f p.g) (clauses_below (is_reached p.circuit p.f p.g) clauses at) (clauses at) parts.0 parts.1 c.loop-at.invariant.adds c.in_err-write_difference.ensures.written)
 
 pub loop-at-preserved : goal.loop-at-preserved
 loop-at-preserved c =
@@ -85,7 +77,7 @@ loop-at-preserved c =
           let literal : w.literal.result ≡ difference_literal p.circuit p.f p.g at = w.literal.ensures ∙ ap pos_literal c.loop-at.invariant.difference in
           record {
             adds = subst (λ (now : Clauses). Adds old now (tidy (clauses_below test clauses (at + 1)))) (sym w.pool-is)
-                (both_parts old c.loop-at.pool w.write_difference.new.pool (clauses_below test clauses (at + 1)) (clauses_below test clauses at) (clauses at) parts c.loop-at.invariant.adds w.in_ok-write_difference.ensures.ok);
+                (both_parts old c.loop-at.pool w.write_difference.new.pool (clauses_below test clauses (at + 1)) (clauses_below test clauses at) (clauses at) parts c.loop-at.invariant.adds w.in_ok-write_difference.ensures.written);
             last = differences_next p.circuit p.f p.g at c.loop-at.differences.items c.if-reached.differences.items w.literal.result reached c.loop-at.invariant.last literal (ap (λ v. v.items) w.differences-is ∙ w.in_ok-push.ensures.items);
             difference = omega (arith, w.difference-is, c.loop-at.invariant.difference, difference_more p.circuit p.f p.g at reached);
             variables = ap (λ (writer : Writer). writer.tidier) w.writer-is ∙ (w.in_ok-write_difference.ensures.variables ∙ c.loop-at.invariant.variables);
@@ -124,9 +116,9 @@ write-requires-clause-few c =
     subst (λ (xs : Clause). length c.loop-at.pool.clauses + length (tidy (xs ∷ [])) < 2 ^ 30) (sym same)
     (left_few c.args.pool.now c.loop-at.pool (clauses count ++ last) (clauses count) last refl adds c.requires.few)
 
-pub returns-clause-ok : goal.returns-clause-ok
+pub returns-clause-written : goal.returns-clause-written
 unfolding reached_positions
-returns-clause-ok c =
+returns-clause-written c =
     let p = c.args.numbering.now in
     let count = length p.circuit.positions in
     let done : c.loop-at.at ≡ count = omega (arith, ap length c.positions-at-end.ensures.value, ap (λ (circuit : Circuit). length circuit.positions) c.circuit.ensures.value) in
@@ -134,6 +126,5 @@ returns-clause-ok c =
     let clauses = clauses_below (is_reached p.circuit p.f p.g) (difference_clauses p.circuit p.f p.g) in
     let adds = subst (λ n. Adds c.args.pool.now c.loop-at.pool (tidy (clauses n))) done c.loop-at.invariant.adds in
     let last = differences_below p.circuit p.f p.g count ∷ [] in
-    on_ok_weaker c.write.result
-    (λ written. both_parts c.args.pool.now c.loop-at.pool c.write.new.pool (clauses count ++ last) (clauses count) last refl adds (subst (λ (xs : Clause). Adds c.loop-at.pool c.write.new.pool (tidy (xs ∷ []))) same written))
-    c.write.ensures.ok
+    writes_left c.write.result c.args.pool.now c.loop-at.pool c.write.new.pool (clauses count ++ last) (clauses count) last refl adds
+    (subst (λ (xs : Clause). Writes c.write.result c.loop-at.pool c.write.new.pool (tidy (xs ∷ []))) same c.write.ensures.written)

@@ -1,11 +1,11 @@
 use Rattle.std.proofs.Common.{◌∙◌, ◌+◌, ◌<◌, ◌^◌, ◌++◌, length, refl, arith, ap, sym, subst}
 use Rattle.net_model.specs.Fault.{IsFaultOf}
-use Rattle.pair_miter.specs.Adds.{Adds}
-use Rattle.pair_miter.specs.Miter.{miter, tidy}
+use Rattle.pair_miter.specs.Adds.{Adds, Keeps}
+use Rattle.pair_miter.specs.Miter.{miter, tidy, lines_part, differences_part}
 use Rattle.pair_miter.specs.MiterView.{Miter}
-use Rattle.pair_miter.proofs.AddSteps.{first_few, left_few, both_parts}
+use Rattle.pair_miter.proofs.AddSteps.{first_few, first_fails, left_fails, left_few, both_parts, writes_err}
 use Rattle.pair_miter.proofs.Bounds.{few_variables_of}
-use Rattle.pair_miter.proofs.MiterParts.{lines_part, differences_part, miter_parts, parts_few}
+use Rattle.pair_miter.proofs.MiterParts.{miter_parts, parts_few}
 use Rattle.pair_miter.proofs.Numbers.{variables_in_all, helpers_begin, first_difference}
 use Rattle.pair_miter.proofs.building.write_miter.Goals as goal
 
@@ -58,14 +58,14 @@ write_differences-requires-clause-few c =
     let first = lines_part q.circuit q.f q.g in
     let left = differences_part q.circuit q.f q.g in
     let few : length c.args.pool.now.clauses + length (tidy (first ++ left)) < 2 ^ 30 = omega (arith, ap length c.requires.empty, parts_few q.circuit q.f q.g c.end.ensures.circuit) in
-    left_few c.args.pool.now c.write_lines.new.pool (first ++ left) first left refl c.in_ok-write_lines.ensures.ok few
+    left_few c.args.pool.now c.write_lines.new.pool (first ++ left) first left refl c.in_ok-write_lines.ensures.written few
 
 pub invariant_of-result : goal.invariant_of-result
 invariant_of-result c =
     let q = c.in_ok-numbering.numbering in
     let first = lines_part q.circuit q.f q.g in
     let left = differences_part q.circuit q.f q.g in
-    let adds = both_parts c.args.pool.now c.write_lines.new.pool c.write_differences.new.pool (first ++ left) first left refl c.in_ok-write_lines.ensures.ok c.in_ok-write_differences.ensures.ok in
+    let adds = both_parts c.args.pool.now c.write_lines.new.pool c.write_differences.new.pool (first ++ left) first left refl c.in_ok-write_lines.ensures.written c.in_ok-write_differences.ensures.written in
     let all = adds.written ∙ ap (λ xs. xs ++ tidy (first ++ left)) c.requires.empty ∙ sym (miter_parts q.circuit q.f q.g) in
     record {
       circuit = c.end.ensures.circuit;
@@ -75,11 +75,31 @@ invariant_of-result c =
       clauses = c.len.ensures ∙ ap length all;
     }
 
-pub returns-clause-ok : goal.returns-clause-ok
-returns-clause-ok c =
+pub returns-clause-written : goal.returns-clause-written
+returns-clause-written c =
     let q = c.in_ok-numbering.numbering in
     let first = lines_part q.circuit q.f q.g in
     let left = differences_part q.circuit q.f q.g in
-    let adds = both_parts c.args.pool.now c.write_lines.new.pool c.write_differences.new.pool (first ++ left) first left refl c.in_ok-write_lines.ensures.ok c.in_ok-write_differences.ensures.ok in
+    let adds = both_parts c.args.pool.now c.write_lines.new.pool c.write_differences.new.pool (first ++ left) first left refl c.in_ok-write_lines.ensures.written c.in_ok-write_differences.ensures.written in
     subst (λ (p : Miter). Adds c.args.pool.now c.write_differences.new.pool (miter p.circuit p.f p.g)) c.in_ok-numbering.ensures
     (subst (Adds c.args.pool.now c.write_differences.new.pool) (sym (miter_parts q.circuit q.f q.g)) adds)
+
+pub returns-in_err-write_lines-clause-written : goal.returns-in_err-write_lines-clause-written
+returns-in_err-write_lines-clause-written c =
+    let q = c.in_ok-numbering.numbering in
+    let first = lines_part q.circuit q.f q.g in
+    let left = differences_part q.circuit q.f q.g in
+    let keeps = first_fails c.args.pool.now c.write_lines.new.pool (first ++ left) first left refl c.in_err-write_lines.ensures.written in
+    writes_err c.from_residual-in_err-write_lines.result c.from_residual-in_err-write_lines.ensures.0
+    (subst (λ (p : Miter). Keeps c.args.pool.now c.write_lines.new.pool (miter p.circuit p.f p.g)) c.in_ok-numbering.ensures
+    (subst (Keeps c.args.pool.now c.write_lines.new.pool) (sym (miter_parts q.circuit q.f q.g)) keeps))
+
+pub returns-in_err-write_differences-clause-written : goal.returns-in_err-write_differences-clause-written
+returns-in_err-write_differences-clause-written c =
+    let q = c.in_ok-numbering.numbering in
+    let first = lines_part q.circuit q.f q.g in
+    let left = differences_part q.circuit q.f q.g in
+    let keeps = left_fails c.args.pool.now c.write_lines.new.pool c.write_differences.new.pool (first ++ left) first left refl c.in_ok-write_lines.ensures.written c.in_err-write_differences.ensures.written in
+    writes_err c.from_residual-in_err-write_differences.result c.from_residual-in_err-write_differences.ensures.0
+    (subst (λ (p : Miter). Keeps c.args.pool.now c.write_differences.new.pool (miter p.circuit p.f p.g)) c.in_ok-numbering.ensures
+    (subst (Keeps c.args.pool.now c.write_differences.new.pool) (sym (miter_parts q.circuit q.f q.g)) keeps))

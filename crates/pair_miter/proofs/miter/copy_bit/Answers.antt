@@ -1,12 +1,11 @@
 use Rattle.std.proofs.Common.{arith}
 use Rattle.pair_miter.proofs.Numbers.{line_variable-below, line_variable-from, few_of_lines}
-use Rattle.pair_miter.specs.Numbering.{copy_of}
 use Rattle.pair_miter.proofs.miter.copy_bit.Goals as goal
 
 pub overflow_sub-variable : goal.overflow_sub-variable
 overflow_sub-variable c =
     let p = c.args.numbering.now in
-    omega (arith, c.variable.ensures, line_variable-from p.circuit p.f p.g (copy_of c.args.side) c.args.line)
+    omega (arith, c.variable.ensures, line_variable-from p.circuit p.f p.g c.args.side c.args.line)
 
 pub get-requires : goal.get-requires
 get-requires c =
@@ -14,8 +13,8 @@ get-requires c =
     omega (
       arith,
       c.variable.ensures,
-      line_variable-from p.circuit p.f p.g (copy_of c.args.side) c.args.line,
-      line_variable-below p.circuit p.f p.g (copy_of c.args.side) c.args.line c.requires.line c.requires.relevant,
+      line_variable-from p.circuit p.f p.g c.args.side c.args.line,
+      line_variable-below p.circuit p.f p.g c.args.side c.args.line c.requires.line c.requires.relevant,
       few_of_lines p.circuit p.f p.g,
       c.requires.whole,
     )

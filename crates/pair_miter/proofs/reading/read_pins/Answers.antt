@@ -1,14 +1,13 @@
 use Rattle.std.proofs.Common.{◌≡◌, ◌∙◌, ◌<◌, length, get_or, arith, ap}
 use Rattle.net_model.specs.Fault.{stuck_pin}
 use Rattle.pair_miter.specs.Miter.{operand_of}
-use Rattle.pair_miter.specs.Numbering.{copy_of}
 use Rattle.pair_miter.proofs.Operands.{pin_operand, operands_next, operands_all}
 use Rattle.pair_miter.proofs.reading.read_pins.Goals as goal
 
 pub loop-pin-preserved : goal.loop-pin-preserved
 loop-pin-preserved c =
     let p = c.args.numbering.now in
-    let copy = copy_of c.args.side in
+    let copy = c.args.side in
     let at = c.loop-pin.pin in
     let gate = c.args.gate.now in
     let stuck = c.stuck_pin-stuck.ensures ∙ ap (λ fault. stuck_pin fault c.args.line at) c.fault-fault.ensures in
@@ -20,4 +19,4 @@ loop-pin-preserved c =
 pub returns : goal.returns
 returns c =
     let p = c.args.numbering.now in
-    c.loop-pin.invariant ∙ operands_all p.circuit p.f p.g (copy_of c.args.side) c.args.line c.args.gate.now c.loop-pin.pin (omega (arith, ap length c.as_slice-read-items.ensures))
+    c.loop-pin.invariant ∙ operands_all p.circuit p.f p.g c.args.side c.args.line c.args.gate.now c.loop-pin.pin (omega (arith, ap length c.as_slice-read-items.ensures))

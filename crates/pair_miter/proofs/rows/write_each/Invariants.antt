@@ -1,6 +1,5 @@
 use Rattle.std.proofs.Common.{◌≡◌, drop}
-use Rattle.pair_miter.specs.Parts.{with_each}
-use Rattle.pair_miter.specs.Rows.{variables}
+use Rattle.pair_miter.specs.Rows.{variables, with_each}
 use Rattle.pair_miter.proofs.AddSteps.{Remains}
 use Rattle.pair_miter.proofs.rows.write_each.Given as goal
 

@@ -1,5 +1,6 @@
 use Rattle.std.proofs.Common.{◌≡◌, ◌+◌, ◌≤◌, ◌∷◌, drop, length}
-use Rattle.pair_miter.specs.Marks.{IsVariable, AreHelpers}
+use Rattle.pair_miter.specs.Marks.{AreHelpers}
+use Rattle.clause_pool.specs.Proper.{IsVariable}
 use Rattle.pair_miter.specs.Rows.{variables, xor_onward}
 use Rattle.pair_miter.proofs.AddSteps.{Remains}
 use Rattle.pair_miter.proofs.rows.write_xor_onward.Given as goal

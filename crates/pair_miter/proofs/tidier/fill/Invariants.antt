@@ -1,7 +1,6 @@
 use Rattle.std.proofs.Common.{◌≡◌, ◌++◌, drop}
 use Rattle.std.specs.Prelude.{map}
-use Rattle.pair_miter.specs.Parts.{signed_literal, with_all}
-use Rattle.pair_miter.specs.Rows.{variables}
+use Rattle.pair_miter.specs.Rows.{variables, signed_literal, with_all}
 use Rattle.pair_miter.proofs.tidier.fill.Given as goal
 
 abbrev pub invariant-loop-operand : goal.invariant-loop-operand

@@ -1,73 +1,66 @@
 use Rattle.std.proofs.Common.{◌≡◌, ◌≢◌, ◌<◌, ◌≤◌, ◌∙◌, ℕ, [], length, get_or, true, sym, ap, subst, arith, inl, inr}
-use Rattle.std.proofs.lemmas.List.{get_or_read, get_or-set_other}
+use Rattle.std.proofs.lemmas.List.{get_or-set_other}
 use Rattle.std.proofs.lemmas.Bool.{false_from_ne_true}
-use Rattle.net_model.specs.Circuit.{Circuit, Feeds, line_count}
-use Rattle.net_model.proofs.Orders.{order_only}
-use Rattle.net_model.proofs.SetSoFar.{fits_from}
-use Rattle.pair_sets.specs.declared.wiring.Wiring.{Wiring}
+use Rattle.net_model.specs.Circuit.{Feeds, line_count}
+use Rattle.event_queue.specs.Pending.{is_pending, IsLowest}
+use Rattle.event_queue.proofs.Marks.{pending_within, lowest_left}
 use Rattle.pair_sets.specs.PairSet.{free_pairs, IsWithin}
 use Rattle.pair_sets.specs.CubeState.{set_at}
-use Rattle.pair_sets.specs.Pending.{is_pending, IsLowest}
-use Rattle.pair_sets.specs.Wiring.{IsWiring}
 use Rattle.pair_sets.specs.Events.{IsIdle, AreSettled, AreLoose, gate_line_pairs}
-use Rattle.pair_sets.proofs.EventLemmas.{pending_within, lowest_left, loose_after, settled_after, later_place, few_places}
+use Rattle.pair_sets.proofs.EventLemmas.{loose_after, settled_after, ordered_line, later_place, few_places}
 use Rattle.pair_sets.proofs.TrailLemmas.{longer_more}
 use Rattle.pair_sets.proofs.events.follow.Goals as goal
 
--- the line whose gate stands at a place
-line_at : (c : Circuit) (wiring : Wiring) → IsWiring c wiring → (place line : ℕ) → place < length wiring.order.items → line ≡ get_or wiring.order.items place line → (c.sources ≤ line) × (line < line_count c) × (line ≡ get_or wiring.order.items place 0)
-line_at c wiring wired place line h read =
-    let is : line ≡ get_or wiring.order.items place 0 = get_or_read wiring.order.items place line h read 0 in
-    let range = order_only c (fits_from c wired.circuit) wiring.order.items wired.order place h in
-    (subst (λ l. c.sources ≤ l) (sym is) range.0, subst (λ l. l < line_count c) (sym is) range.1, is)
-
-pub take_lowest-requires-clause-few : goal.take_lowest-requires-clause-few
-take_lowest-requires-clause-few c = omega (arith, few_places c.args.circuit.now c.args.wiring.now c.requires.wiring, c.loop-place.invariant.queue)
+pub bounds-order-place : goal.bounds-order-place
+bounds-order-place c = omega (arith, pending_within c.loop-place.queue c.in-Some.place c.in-Some.ensures.cases.was, c.loop-place.invariant.queue, ap length c.order-order.ensures)
 
 pub line_pairs-pairs-requires-clause-gate : goal.line_pairs-pairs-requires-clause-gate
 line_pairs-pairs-requires-clause-gate c =
     let inside = pending_within c.loop-place.queue c.in-Some.place c.in-Some.ensures.cases.was in
-    (line_at c.args.circuit.now c.args.wiring.now c.requires.wiring c.in-Some.place c.index-line.result.now (omega (arith, inside, c.loop-place.invariant.queue)) c.index-line.ensures).0
+    (ordered_line c.args.pair.now.circuit.now c.args.wiring.now c.requires.wiring c.order-order.result.now c.order-order.ensures c.in-Some.place (omega (arith, inside, c.loop-place.invariant.queue))).0
 
 pub line_pairs-pairs-requires-clause-line : goal.line_pairs-pairs-requires-clause-line
 line_pairs-pairs-requires-clause-line c =
     let inside = pending_within c.loop-place.queue c.in-Some.place c.in-Some.ensures.cases.was in
-    (line_at c.args.circuit.now c.args.wiring.now c.requires.wiring c.in-Some.place c.index-line.result.now (omega (arith, inside, c.loop-place.invariant.queue)) c.index-line.ensures).1
+    (ordered_line c.args.pair.now.circuit.now c.args.wiring.now c.requires.wiring c.order-order.result.now c.order-order.ensures c.in-Some.place (omega (arith, inside, c.loop-place.invariant.queue))).1
 
 pub settle-requires-clause-line : goal.settle-requires-clause-line
 settle-requires-clause-line c =
     let inside = pending_within c.loop-place.queue c.in-Some.place c.in-Some.ensures.cases.was in
-    (line_at c.args.circuit.now c.args.wiring.now c.requires.wiring c.in-Some.place c.index-line.result.now (omega (arith, inside, c.loop-place.invariant.queue)) c.index-line.ensures).1
+    (ordered_line c.args.pair.now.circuit.now c.args.wiring.now c.requires.wiring c.order-order.result.now c.order-order.ensures c.in-Some.place (omega (arith, inside, c.loop-place.invariant.queue))).1
 
 pub settle-requires-clause-fewer : goal.settle-requires-clause-fewer
 settle-requires-clause-fewer c =
-    let circuit = c.args.circuit.now in
+    let circuit = c.args.pair.now.circuit.now in
+    let f = c.args.pair.now.f in
+    let g = c.args.pair.now.g in
     let sets = c.loop-place.trail.sets.items in
-    let line = c.index-line.result.now in
+    let order = c.order-order.result.now in
+    let line = get_or order c.in-Some.place 0 in
     let inside = pending_within c.loop-place.queue c.in-Some.place c.in-Some.ensures.cases.was in
-    let at = line_at circuit c.args.wiring.now c.requires.wiring c.in-Some.place line (omega (arith, inside, c.loop-place.invariant.queue)) c.index-line.ensures in
-    let pairs : c.line_pairs-pairs.result ≡ gate_line_pairs circuit c.args.f c.args.g sets line = c.line_pairs-pairs.ensures [] ∙ ap (λ s. gate_line_pairs circuit c.args.f c.args.g s line) c.as_slice.ensures.value in
+    let at = ordered_line circuit c.args.wiring.now c.requires.wiring order c.order-order.ensures c.in-Some.place (omega (arith, inside, c.loop-place.invariant.queue)) in
+    let pairs : c.line_pairs-pairs.result ≡ gate_line_pairs circuit f g sets line = c.line_pairs-pairs.ensures [] ∙ ap (λ s. gate_line_pairs circuit f g s line) c.as_slice.ensures.value in
     subst (λ s. IsWithin s (set_at sets line)) (sym pairs) (c.loop-place.invariant.loose line at.0 at.1)
 
 pub overflow_add-from : goal.overflow_add-from
 overflow_add-from c =
-    omega (arith, few_places c.args.circuit.now c.args.wiring.now c.requires.wiring, pending_within c.loop-place.queue c.in-Some.place c.in-Some.ensures.cases.was, c.loop-place.invariant.queue)
+    omega (arith, few_places c.args.pair.now.circuit.now c.args.wiring.now c.requires.wiring, pending_within c.loop-place.queue c.in-Some.place c.in-Some.ensures.cases.was, c.loop-place.invariant.queue)
 
 pub loop-place-preserved : goal.loop-place-preserved
 loop-place-preserved c =
-    let circuit = c.args.circuit.now in
-    let f = c.args.f in
-    let g = c.args.g in
+    let circuit = c.args.pair.now.circuit.now in
+    let f = c.args.pair.now.f in
+    let g = c.args.pair.now.g in
     let wiring = c.args.wiring.now in
-    let order = wiring.order.items in
+    let order = wiring.order in
     let place = c.in-Some.place in
-    let line = c.index-line.result.now in
+    let line = get_or c.order-order.result.now place 0 in
     let pairs = c.line_pairs-pairs.result in
     let sets = c.loop-place.trail.sets.items in
     let taken = c.take_lowest.new.self in
     let lowest : IsLowest c.loop-place.queue taken place = c.in-Some.ensures.cases in
     let within : place < length order = omega (arith, pending_within c.loop-place.queue place lowest.was, c.loop-place.invariant.queue) in
-    let at = line_at circuit wiring c.requires.wiring place line within c.index-line.ensures in
+    let at = ordered_line circuit wiring c.requires.wiring c.order-order.result.now c.order-order.ensures place within in
     let width : length sets ≡ line_count circuit = c.loop-place.invariant.longer.whole ∙ c.requires.width in
     let inside : line < length sets = omega (arith, width, at.1) in
     let is : pairs ≡ gate_line_pairs circuit f g sets line = c.line_pairs-pairs.ensures [] ∙ ap (λ s. gate_line_pairs circuit f g s line) c.as_slice.ensures.value in

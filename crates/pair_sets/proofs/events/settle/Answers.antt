@@ -1,4 +1,4 @@
-use Rattle.std.proofs.Common.{◌≡◌, ◌<◌, ◌∙◌, [], length, get_or, set, sym, ap, subst, arith, inl, inr}
+use Rattle.std.proofs.Common.{◌≡◌, ◌<◌, ◌∙◌, length, get_or, set, sym, ap, subst, arith, inl, inr}
 use Rattle.std.specs.Prelude.{Contains}
 use Rattle.std.proofs.lemmas.Bool.{false≢true}
 use Rattle.std.proofs.lemmas.List.{get_or_read, set-get_or}
@@ -29,11 +29,8 @@ set-requires-clause-fewer c =
 
 pub wake-requires : goal.wake-requires
 wake-requires c = λ k d h.
-    let line = c.args.line in
-    let readers = c.as_slice.result.now in
-    let inside : line < length c.args.wiring.now.readers.items = omega (arith, c.requires.wiring.whole, c.requires.line) in
-    let readers_are : readers ≡ get_or c.args.wiring.now.readers.items line [] = c.as_slice.ensures ∙ get_or_read c.args.wiring.now.readers.items line c.index-2.result.now inside c.index-2.ensures [] in
-    let below = c.requires.wiring.readers.below line (get_or readers k d) (subst (λ us. Contains us (get_or readers k d)) readers_are (Contains-get_or readers k d h)) in
+    let readers = c.readers.result.now in
+    let below = c.requires.wiring.readers.below c.args.line (get_or readers k d) (subst (λ us. Contains us (get_or readers k d)) c.readers.ensures (Contains-get_or readers k d h)) in
     omega (arith, below, c.requires.queue)
 
 pub returns-clause-longer : goal.returns-clause-longer
@@ -44,17 +41,14 @@ returns-clause-longer c =
 pub returns-clause-wakes : goal.returns-clause-wakes
 returns-clause-wakes c =
     let line = c.args.line in
-    let wiring = c.args.wiring.now in
-    let readers = c.as_slice.result.now in
-    let inside : line < length wiring.readers.items = omega (arith, c.requires.wiring.whole, c.requires.line) in
-    let readers_are : readers ≡ get_or wiring.readers.items line [] = c.as_slice.ensures ∙ get_or_read wiring.readers.items line c.index-2.result.now inside c.index-2.ensures [] in
+    let users = c.requires.wiring.readers in
     record {
       kept = c.wake.ensures.kept;
       only = λ place t. elim (c.wake.ensures.only place t) [
         | inl was ↦ inl was
         | inr woken ↦
-            let has = subst (λ us. Contains us place) readers_are woken in
-            inr (c.requires.wiring.readers.below line place has, c.requires.wiring.readers.only line place has)
+            let has = subst (λ us. Contains us place) c.readers.ensures woken in
+            inr (users.below line place has, users.only line place has)
       ];
-      readers = inr (λ place h feeds. c.wake.ensures.here place (subst (λ us. Contains us place) (sym readers_are) (c.requires.wiring.readers.all line place h feeds)));
+      readers = inr (λ place h feeds. c.wake.ensures.here place (subst (λ us. Contains us place) (sym c.readers.ensures) (users.all line place h feeds)));
     }

@@ -1,14 +1,17 @@
 use Rattle.std.proofs.Common.{◌≡◌, ◌∙◌, ◌<◌, ◌+◌, ◌++◌, ◌∷◌, ◌==◌, [], length, get_or, rules, refl, sym, ap, subst, arith}
 use Rattle.std.specs.Prelude.{List, Some, slice_get, All, Result, Err}
-use Rattle.std.proofs.lemmas.List.{append-nil, append_assoc, length-append}
+use Rattle.std.proofs.lemmas.List.{length-append}
 use Rattle.std.proofs.lemmas.List.Elements.{All-append, All-cons, All-nil}
 use Rattle.std.proofs.lemmas.Option.{slice_get_read}
-use Rattle.clause_pool.specs.Clauses.{Clause, Clauses}
+use Rattle.clause_pool.specs.Clauses.{BeginsWith, Clause, Clauses}
+use Rattle.clause_pool.proofs.Numbered.{begins_itself, begins_further}
+use Rattle.clause_pool.specs.Proper.{HasVariablesUpTo}
 use Rattle.pair_miter.specs.ChainView.{ChainView}
 use Rattle.refute_check.specs.declared.refusal.CheckFault.{CheckFault}
 use Rattle.refute_check.specs.declared.refusal.CheckFault.TheVariants.{Refused}
-use Rattle.refute_check.specs.LogRefusal.{AreRightBefore, AreUpTo, HasRightLength, IsRuleFor, is_last}
-use Rattle.refute_check.proofs.Alike.{AreAlike, alike_first}
+use Rattle.refute_check.specs.LogRefusal.{AreRightBefore, HasRightLength, IsRuleFor, is_last}
+use Rattle.pair_miter.proofs.Alike.{alike_first}
+use Rattle.pair_miter.specs.Resolution.{AreAlike}
 use Rattle.refute_check.proofs.Chains.{before_first, first_ends, right_log}
 use Rattle.refute_check.proofs.LogSteps.{end_within, refused_step, refused_end, right_step, alike_next}
 use Rattle.refute_check.proofs.log.check_log.Goals as goal
@@ -17,9 +20,9 @@ use Rattle.refute_check.proofs.log.check_log.Goals.{then-not-last+in_ok-add, els
 pub loop-at-init : goal.loop-at-init
 loop-at-init c = record {
   before = before_first c.args.kind c.args.pool.now.clauses c.args.log.now;
-  begins = ([], sym (append-nil c.args.pool.now.clauses));
+  begins = begins_itself c.args.pool.now.clauses;
   alike = λ _. subst (λ ends. AreAlike (c.args.pool.now.clauses ++ ends) c.args.pool.now.clauses) (sym (first_ends c.args.kind c.args.pool.now.clauses c.args.log.now)) (alike_first c.args.pool.now.clauses);
-  within = subst (All (AreUpTo c.variables-variables.result)) (sym c.requires.clauses) (λ k d h i e l. (c.variables-variables.ensures.within k d h i e l).1);
+  within = subst (All (HasVariablesUpTo c.variables-variables.result)) (sym c.requires.clauses) (λ k d h. (c.variables-variables.ensures.proper k d h).inside);
   few = omega arith;
 }
 
@@ -82,25 +85,23 @@ loop-at-preserved c =
       | then-not-last+in_ok-add w ↦
           let added : c.if-not-last.pool.clauses ≡ pool ++ literals ∷ [] = ap (λ (p : Clauses). p.clauses) w.pool-is ∙ (w.in_ok-add.ensures.ok ∙ ap (λ (l : Clause). pool ++ l ∷ []) w.as_slice.ensures.value) in
           let bound = end_within c.variables-variables.result pool chain literals c.loop-at.invariant.within ends in
-          let (more, is) = c.loop-at.invariant.begins in
           record {
             before = next;
-            begins = (more ++ literals ∷ [], added ∙ (ap (λ cs. cs ++ literals ∷ []) is ∙ append_assoc clauses more (literals ∷ [])));
+            begins = subst (λ cs. BeginsWith cs clauses) (sym added) (begins_further pool clauses (literals ∷ []) c.loop-at.invariant.begins);
             alike = λ _. subst (AreAlike (clauses ++ next.ends)) (sym added) (alike_next c.args.kind clauses c.args.conflicts log at chain pool long b chain_is are literals ends right);
-            within = subst (All (AreUpTo c.variables-variables.result)) (sym added)
-                (All-append (AreUpTo c.variables-variables.result) pool (literals ∷ []) c.loop-at.invariant.within
-                (All-cons (AreUpTo c.variables-variables.result) literals [] bound (All-nil (AreUpTo c.variables-variables.result))));
+            within = subst (All (HasVariablesUpTo c.variables-variables.result)) (sym added)
+                (All-append (HasVariablesUpTo c.variables-variables.result) pool (literals ∷ []) c.loop-at.invariant.within
+                (All-cons (HasVariablesUpTo c.variables-variables.result) literals [] bound (All-nil (HasVariablesUpTo c.variables-variables.result))));
             few = omega (arith, ap length added, length-append pool (literals ∷ []), c.loop-at.invariant.few);
           }
       | else-not-last w ↦
           let kept : c.if-not-last.pool.clauses ≡ pool = ap (λ (p : Clauses). p.clauses) w.pool-is in
           let last : at + 1 ≡ length c.as_slice-chains.result.now = w.if-not-last.false in
-          let (more, is) = c.loop-at.invariant.begins in
           record {
             before = next;
-            begins = (more, kept ∙ is);
+            begins = subst (λ cs. BeginsWith cs clauses) (sym kept) c.loop-at.invariant.begins;
             alike = λ h. absurd (omega (arith, h, last, ap length same));
-            within = subst (All (AreUpTo c.variables-variables.result)) (sym kept) c.loop-at.invariant.within;
+            within = subst (All (HasVariablesUpTo c.variables-variables.result)) (sym kept) c.loop-at.invariant.within;
             few = omega (arith, ap length kept, c.loop-at.invariant.few);
           }
     ]

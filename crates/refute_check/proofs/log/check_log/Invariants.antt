@@ -1,7 +1,9 @@
 use Rattle.std.proofs.Common.{◌<◌, ◌≤◌, ◌+◌, ◌++◌, length}
 use Rattle.std.specs.Prelude.{All}
-use Rattle.refute_check.specs.LogRefusal.{AreRightBefore, AreUpTo, BeginsWith}
-use Rattle.refute_check.proofs.Alike.{AreAlike}
+use Rattle.refute_check.specs.LogRefusal.{AreRightBefore}
+use Rattle.clause_pool.specs.Clauses.{BeginsWith}
+use Rattle.clause_pool.specs.Proper.{HasVariablesUpTo}
+use Rattle.pair_miter.specs.Resolution.{AreAlike}
 use Rattle.refute_check.proofs.log.check_log.Given as goal
 
 abbrev pub invariant-loop-at : goal.invariant-loop-at
@@ -9,6 +11,6 @@ invariant-loop-at l = record {
   before : AreRightBefore l.kind l.initial.pool.clauses l.log l.at;
   begins : BeginsWith l.pool.clauses l.initial.pool.clauses;
   alike : l.at < length l.log → AreAlike (l.initial.pool.clauses ++ before.ends) l.pool.clauses;
-  within : All (AreUpTo l.variables) l.pool.clauses;
+  within : All (HasVariablesUpTo l.variables) l.pool.clauses;
   few : length l.pool.clauses ≤ length l.initial.pool.clauses + l.at;
 }

@@ -1,6 +1,7 @@
 use Rattle.std.proofs.Common.{◌≡◌, ◌∙◌, ◌-◌, get_or, refl, sym, arith}
 use Rattle.std.specs.Prelude.{slice_get}
 use Rattle.net_model.proofs.Elements.{slice_get-none}
+use Rattle.net_model.proofs.WalkReach.{all_reach}
 use Rattle.scan_cut.specs.Cut.{gate_words, cut_circuit}
 use Rattle.scan_cut.proofs.LoopLemmas.{first_from, first_within, few_steps, walk_within}
 use Rattle.scan_cut.proofs.loops.loop_of.Goals as goal
@@ -29,6 +30,7 @@ returns c =
     record {
       walk = c.args.walk.now;
       is_walk = c.requires.walk;
+      reaching = all_reach (cut_circuit n) c.args.walk.now c.requires.walk;
       first = c.in-Some.word;
       first_is = sym found ∙ c.in-Some.is;
       place_is = refl;

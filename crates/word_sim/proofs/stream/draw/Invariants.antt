@@ -1,10 +1,7 @@
-use Rattle.std.proofs.Common.{◌≡◌, length}
-use Rattle.word_sim.specs.Stream.{state_after, word_number}
-use Rattle.word_sim.proofs.Drawn.{AreDrawn}
+use Rattle.std.proofs.Common.{ℕ, length}
+use Rattle.word_sim.specs.StreamState.{IsAfter}
+use Rattle.word_sim.proofs.Drawn.{IsDrawnTo}
 use Rattle.word_sim.proofs.stream.draw.Given as goal
 
 abbrev pub invariant-loop-source : goal.invariant-loop-source
-invariant-loop-source l = record {
-  state : l.rng ≡ state_after (word_number (length l.initial.rows) l.done l.source);
-  rows : AreDrawn (length l.initial.rows) l.done l.rows l.source;
-}
+invariant-loop-source l = (done : ℕ) → IsAfter (length l.initial.rows) done l.first l.initial.rng → IsDrawnTo (length l.initial.rows) done l.rows l.rng l.source

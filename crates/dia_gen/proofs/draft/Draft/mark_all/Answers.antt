@@ -1,11 +1,11 @@
 use Rattle.std.proofs.Common.{arith}
 use Rattle.class_refine.proofs.Refined.{few_classes}
-use Rattle.dia_gen.proofs.KeepLemmas.{table_numbers}
+use Rattle.kept_vectors.proofs.KeepLemmas.{table_numbers}
 use Rattle.dia_gen.proofs.draft.Draft.mark_all.Goals as goal
 
 pub loop-smaller : goal.loop-smaller
 loop-smaller c =
     let more = c.in_ok-mark_round.ensures.more c.if-branch.true in
     let now = c.in_ok-mark_round.ensures.draft in
-    let few = few_classes c.mark_round.new.self.keeper.kept.classes now.keeper.whole in
-    omega (arith, more, few, table_numbers now.keeper.keeping.table, table_numbers c.loop.invariant.keeper.keeping.table)
+    let few = few_classes c.mark_round.new.self.keeper.kept.table now.keeper.whole in
+    omega (arith, more, few, table_numbers now.keeper.table, table_numbers c.loop.invariant.keeper.table)

@@ -8,5 +8,5 @@ abbrev pub invariant-loop-number : goal.invariant-loop-number
 invariant-loop-number l = record {
   draft : IsDraft l.setting l.self;
   same : l.self.keeper.kept ≡ l.initial.self.keeper.kept;
-  marked : (n : ℕ) → n < l.number → IsSome (given_mark l.self.keeper.kept.classes l.self.marks.given.items n);
+  marked : (n : ℕ) → n < l.number → IsSome (given_mark l.self.keeper.kept.table l.self.marks.given.items n);
 }

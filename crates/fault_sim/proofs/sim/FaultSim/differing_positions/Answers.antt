@@ -5,7 +5,7 @@ use Rattle.net_model.specs.Answer.{bit_at}
 use Rattle.net_model.proofs.Elements.{true_false}
 use Rattle.fault_sim.specs.Rows.{IsTrueSomewhere}
 use Rattle.fault_sim.specs.FaultSim.{FaultSim, row_at}
-use Rattle.fault_sim.proofs.UsersLemmas.{contains_or_not}
+use Rattle.net_model.proofs.LoopLaws.{contains_or_not}
 use Rattle.fault_sim.proofs.sim.FaultSim.differing_positions.Goals as goal
 
 pub returns-clause-exactly : goal.returns-clause-exactly

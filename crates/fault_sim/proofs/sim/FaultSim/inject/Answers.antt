@@ -11,13 +11,12 @@ returns-clause-differences c =
     let good = c.args.good.now in
     let circuit = c.self.inside.circuit.now in
     let fault = c.args.fault.now in
+    let lines = c.change_lines.new.rows.rows in
     let rows = c.show_positions.new.positions.rows in
-    let same : good.circuit ≡ circuit = c.requires.circuit ∙ sym (ap (λ (s : FaultSim). s.circuit) c.self.view_is) in
-    let is : IsCircuit good.circuit = subst IsCircuit (sym same) c.self.invariant.wiring.circuit in
-    let width : length c.change_lines.new.rows.rows ≡ line_count good.circuit = c.change_lines.ensures.width ∙ c.clear.ensures.count ∙ c.self.invariant.lines_whole ∙ ap (λ (n : Circuit). line_count n) (sym same) in
+    let same : circuit ≡ good.circuit = ap (λ (s : FaultSim). s.circuit) c.self.view_is ∙ sym c.requires.circuit in
+    let is : IsCircuit good.circuit = subst IsCircuit same c.self.invariant.circuit in
+    let width : length lines ≡ line_count good.circuit = c.change_lines.ensures.width in
     let whole : length rows ≡ length good.circuit.positions =
-    c.show_positions.ensures.whole ∙ c.clear-2.ensures.count ∙ c.self.invariant.positions_whole ∙ ap (λ (n : Circuit). length n.positions) (sym same) in
-    let shown : (position : ℕ) → position < length circuit.positions → IsShown good fault c.change_lines.new.rows.rows position (get_or rows position []) = rw c.as_slice.ensures.value at c.show_positions.ensures.shown in
-    subst (λ (n : Circuit). AreDifferences n fault (vectors_of good) rows) same
-    (differences_are good is c.live-live.ensures.few fault c.self.inside.wiring.order.items c.change_lines.new.queue c.change_lines.new.rows.rows rows width c.change_lines.ensures.none c.change_lines.ensures.settled whole
-    (λ position h. shown position (subst (λ (n : Circuit). position < length n.positions) same h)))
+    c.show_positions.ensures.whole ∙ c.clear-2.ensures.count ∙ c.self.invariant.positions_whole ∙ ap (λ (n : Circuit). length n.positions) same in
+    let shown : (position : ℕ) → position < length good.circuit.positions → IsShown good fault lines position (get_or rows position []) = rw c.as_slice-lines.ensures.value at c.show_positions.ensures.shown in
+    subst (λ (n : Circuit). AreDifferences n fault (vectors_of good) rows) (sym same) (differences_are good is c.live-live.ensures.few fault lines rows width c.change_lines.ensures.settled whole shown)

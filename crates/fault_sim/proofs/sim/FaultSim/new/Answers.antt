@@ -1,24 +1,20 @@
-use Rattle.std.proofs.Common.{◌≡◌, ◌<◌, ◌∙◌, [], ℕ, length, get_or, arith, sym, ap, subst}
+use Rattle.std.proofs.Common.{◌<◌, ◌∙◌, [], ℕ, length, get_or, arith, sym, ap, subst}
 use Rattle.std.specs.Prelude.{All, AllPairs}
 use Rattle.std.proofs.lemmas.List.Elements.{All-nil}
 use Rattle.std.proofs.lemmas.List.{get_or_default}
-use Rattle.net_model.proofs.Orders.{order_count}
-use Rattle.net_model.proofs.SetSoFar.{fits_from}
 use Rattle.fault_sim.specs.Rows.{IsFalse, IsTrueSomewhere}
-use Rattle.fault_sim.proofs.UsersLemmas.{none_of}
+use Rattle.net_model.proofs.Elements.{none_in}
 use Rattle.fault_sim.proofs.sim.FaultSim.new.Goals as goal
 
 pub invariant_of-result : goal.invariant_of-result
 invariant_of-result c =
     let circuit = c.args.circuit.now in
-    let order = c.in_ok-wiring_of.field-0.order.items in
-    let gates : length order ≡ length circuit.gates = order_count circuit (fits_from circuit c.lines-lines.ensures.circuit) order c.in_ok-wiring_of.ensures.order in
     let lines = c.lines-lines.ensures.value in
     let positions = ap (length {A = ℕ}) c.positions-positions.ensures.value in
     let rows = c.in_ok-new-4.field-0.rows in
     let listed = c.in_ok-new-4.ensures.listed in
     record {
-      wiring = c.in_ok-wiring_of.ensures;
+      circuit = c.lines-lines.ensures.circuit;
       none_waits = c.in_ok-new.ensures.none;
       none_marked = c.in_ok-new-2.ensures.none;
       queue_room = omega (arith, c.in_ok-new.ensures.room);
@@ -34,4 +30,4 @@ invariant_of-result c =
 pub returns-clause-same : goal.returns-clause-same
 returns-clause-same c = λ k d h.
     let rows = c.in_ok-new-4.field-0.rows in
-    subst IsFalse (get_or_default rows k [] d h) (c.in_ok-new-4.ensures.clear k h (none_of k))
+    subst IsFalse (get_or_default rows k [] d h) (c.in_ok-new-4.ensures.clear k h (none_in k))

@@ -5,22 +5,22 @@ use Rattle.pair_miter.proofs.Numbers.{variables_below-more, variables_below-none
 use Rattle.pair_miter.proofs.numbering.Numbering.new.Goals as goal
 
 pub loop-line-init : goal.loop-line-init
-loop-line-init c = (record { whole = omega (arith, c.in_ok-firsts.ensures.len); each = λ line h. absurd (omega arith) }, ap (λ n. 1 + n) (sym (variables_below-none c.args.circuit.now c.args.f.now c.args.g.now)))
+loop-line-init c = (record { whole = omega (arith, c.in_ok-firsts.ensures.len); each = λ line h. absurd (omega arith) }, ap (λ n. 1 + n) (sym (variables_below-none c.args.circuit.now c.args.f c.args.g)))
 
 pub overflow_add-end : goal.overflow_add-end
 overflow_add-end c =
     let circuit = c.args.circuit.now in
     let line = c.loop-line.line in
     let inside : line < line_count circuit = omega (arith, c.lines-line-end.ensures.value) in
-    let more = c.line_variables-end.ensures ∙ line_variables-marked circuit c.args.f.now c.args.g.now c.in_ok-scope.scope c.in_ok-scope.ensures line inside in
-    omega (arith, more, c.loop-line.invariant.1, variables_below-more circuit c.args.f.now c.args.g.now line, few_line_variables circuit c.args.f.now c.args.g.now c.lines.ensures.circuit (line + 1) (omega arith))
+    let more = c.line_variables-end.ensures ∙ line_variables-marked circuit c.args.f c.args.g c.in_ok-scope.scope c.in_ok-scope.ensures line inside in
+    omega (arith, more, c.loop-line.invariant.1, variables_below-more circuit c.args.f c.args.g line, few_line_variables circuit c.args.f c.args.g c.lines.ensures.circuit (line + 1) (omega arith))
 
 pub loop-line-preserved : goal.loop-line-preserved
 loop-line-preserved c =
     let circuit = c.args.circuit.now in
     let line = c.loop-line.line in
     let inside : line < line_count circuit = omega (arith, c.lines-line-end.ensures.value) in
-    let more = c.line_variables-end.ensures ∙ line_variables-marked circuit c.args.f.now c.args.g.now c.in_ok-scope.scope c.in_ok-scope.ensures line inside in (
-      subst (AreFirstVariables circuit c.args.f.now c.args.g.now (line + 1)) (sym c.in_ok-push.ensures.items) (first_variables-more circuit c.args.f.now c.args.g.now line c.loop-line.end c.loop-line.firsts.items c.loop-line.invariant.1 c.loop-line.invariant.0),
-      omega (arith, more, c.loop-line.invariant.1, variables_below-more circuit c.args.f.now c.args.g.now line),
+    let more = c.line_variables-end.ensures ∙ line_variables-marked circuit c.args.f c.args.g c.in_ok-scope.scope c.in_ok-scope.ensures line inside in (
+      subst (AreFirstVariables circuit c.args.f c.args.g (line + 1)) (sym c.in_ok-push.ensures.items) (first_variables-more circuit c.args.f c.args.g line c.loop-line.end c.loop-line.firsts.items c.loop-line.invariant.1 c.loop-line.invariant.0),
+      omega (arith, more, c.loop-line.invariant.1, variables_below-more circuit c.args.f c.args.g line),
     )

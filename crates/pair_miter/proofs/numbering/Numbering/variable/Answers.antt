@@ -3,14 +3,15 @@ use Rattle.std.proofs.lemmas.List.{get_or_read}
 use Rattle.net_model.specs.Circuit.{IsCircuit, line_count}
 use Rattle.pair_miter.specs.declared.numbering.Numbering.TheInside.{Inside}
 use Rattle.pair_miter.specs.MiterView.{Miter}
-use Rattle.pair_miter.specs.Variables.{line_variable, first_copy}
-use Rattle.pair_miter.specs.Numbering.{AreFirstVariables, numbering_of, IsNumbered, copy_of}
+use Rattle.pair_miter.specs.Variables.{line_variable}
+use Rattle.pair_miter.specs.declared.side.Side.TheVariants.{First}
+use Rattle.pair_miter.specs.Numbering.{AreFirstVariables, numbering_of, IsNumbered}
 use Rattle.pair_miter.proofs.Numbers.{first_variable, few_line_variables, own_variable, shared_variable}
 use Rattle.pair_miter.proofs.numbering.Numbering.variable.Goals as goal
 
 -- what is read is the line's variable in the first copy
 first_is : (p : Miter) (a : Inside) → numbering_of a ≡ p → IsNumbered a → (line read : ℕ) → line < line_count p.circuit → read ≡ get_or a.firsts.items line read
-    → read ≡ line_variable p.circuit p.f p.g first_copy line
+    → read ≡ line_variable p.circuit p.f p.g First line
 first_is p a view is line read h at =
     let firsts = subst (λ (q : Miter). AreFirstVariables q.circuit q.f q.g (line_count q.circuit) a.firsts.items) view is.firsts in
     let inside : line < length a.firsts.items = omega (arith, firsts.whole) in
@@ -28,11 +29,11 @@ returns-in-Second c =
     let p = c.args.self.now in
     ap (λ n. n + 1) (first_is p c.self.inside c.self.view_is c.self.invariant c.args.line c.index-first.result.now c.requires c.index-first.ensures)
     ∙ sym (own_variable p.circuit p.f p.g c.args.line (sym c.split.ensures.value ∙ c.if-split.true))
-    ∙ ap (λ side. line_variable p.circuit p.f p.g (copy_of side) c.args.line) (sym c.in-Second.is)
+    ∙ ap (λ side. line_variable p.circuit p.f p.g side c.args.line) (sym c.in-Second.is)
 
 pub returns-in_default : goal.returns-in_default
 returns-in_default c =
     let p = c.args.self.now in
     first_is p c.self.inside c.self.view_is c.self.invariant c.args.line c.index-first.result.now c.requires c.index-first.ensures
     ∙ sym (shared_variable p.circuit p.f p.g c.args.line (sym c.split.ensures.value ∙ c.if-split.false))
-    ∙ ap (λ side. line_variable p.circuit p.f p.g (copy_of side) c.args.line) (sym c.in-Second.is)
+    ∙ ap (λ side. line_variable p.circuit p.f p.g side c.args.line) (sym c.in-Second.is)

@@ -1,14 +1,16 @@
 use Rattle.std.proofs.Common.{◌≡◌, ◌+◌, ◌<◌, ◌^◌, ℕ, List, [], ◌∷◌, length, get_or, arith, sym, subst}
-use Rattle.std.specs.Prelude.{All, OnOk}
+use Rattle.std.specs.Prelude.{All}
 use Rattle.std.proofs.lemmas.List.Elements.{All-cons}
 use Rattle.net_model.specs.declared.gate.Kind.TheVariants.{Xor}
 use Rattle.net_model.specs.Fault.{stuck_position}
 use Rattle.clause_pool.specs.Clauses.{Clause}
-use Rattle.pair_miter.specs.Adds.{Adds}
+use Rattle.pair_miter.specs.Adds.{Writes}
 use Rattle.pair_miter.specs.Marks.{IsOperand}
 use Rattle.pair_miter.specs.Miter.{difference_clauses, tidy}
 use Rattle.pair_miter.specs.Rows.{gate_rows}
-use Rattle.pair_miter.specs.Variables.{Copy, first_copy, second_copy, fault_of, variable_count}
+use Rattle.pair_miter.specs.Variables.{fault_of, variable_count}
+use Rattle.pair_miter.specs.declared.side.Side.TheVariants.{First, Second}
+use Rattle.pair_miter.specs.declared.side.Side.{Side}
 use Rattle.pair_miter.proofs.Numbers.{difference_within}
 use Rattle.pair_miter.proofs.Operands.{operand_within}
 use Rattle.net_model.proofs.Relevance.{relevant_shown}
@@ -23,12 +25,12 @@ pub write_gate-requires-clause-operands : goal.write_gate-requires-clause-operan
 write_gate-requires-clause-operands c =
     let p = c.args.numbering.now in
     let all = variable_count p.circuit p.f p.g in
-    let within = λ (copy : Copy).
+    let within = λ (copy : Side).
     operand_within p.circuit p.f p.g copy c.args.position (stuck_position (fault_of p.circuit p.f p.g copy) c.args.position) (get_or p.circuit.positions c.args.position 0)
     (c.shown.ensures.circuit.positions c.args.position 0 c.requires.position)
     (relevant_shown p.circuit p.f p.g c.args.position c.requires.position c.requires.reached) in
-    let first = subst (IsOperand all) (sym c.shown.ensures.value) (within first_copy) in
-    let second = subst (IsOperand all) (sym c.shown-2.ensures.value) (within second_copy) in
+    let first = subst (IsOperand all) (sym c.shown.ensures.value) (within First) in
+    let second = subst (IsOperand all) (sym c.shown-2.ensures.value) (within Second) in
     subst (λ (n : ℕ). All (IsOperand n) (c.shown.result ∷ c.shown-2.result ∷ [])) (sym c.requires.variables)
     (All-cons (IsOperand all) c.shown.result (c.shown-2.result ∷ []) first (All-cons (IsOperand all) c.shown-2.result [] second (λ k d h. absurd (omega (arith, h)))))
 
@@ -40,10 +42,10 @@ write_gate-requires-clause-few c =
     (λ i. gate_rows Xor (sym c.requires.difference i) 0 (sym c.shown.ensures.value i ∷ sym c.shown-2.ensures.value i ∷ [])) in
     subst (λ (xs : List Clause). length c.args.pool.now.clauses + length (tidy xs) < 2 ^ 30) rows c.requires.few
 
-pub returns-clause-ok : goal.returns-clause-ok
+pub returns-clause-written : goal.returns-clause-written
 unfolding difference_clauses
-returns-clause-ok c =
+returns-clause-written c =
     let p = c.args.numbering.now in
     let rows : difference_clauses p.circuit p.f p.g c.args.position ≡ gate_rows Xor c.args.difference 0 (c.shown.result ∷ c.shown-2.result ∷ []) =
     (λ i. gate_rows Xor (sym c.requires.difference i) 0 (sym c.shown.ensures.value i ∷ sym c.shown-2.ensures.value i ∷ [])) in
-    subst (λ (xs : List Clause). OnOk c.write_gate.result (Adds c.args.pool.now c.write_gate.new.pool (tidy xs))) (sym rows) c.write_gate.ensures.ok
+    subst (λ (xs : List Clause). Writes c.write_gate.result c.args.pool.now c.write_gate.new.pool (tidy xs)) (sym rows) c.write_gate.ensures.written

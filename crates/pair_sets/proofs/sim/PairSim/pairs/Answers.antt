@@ -1,6 +1,6 @@
 use Rattle.std.proofs.Common.{◌≡◌, ◌∙◌, List, arith, subst}
 use Rattle.std.proofs.lemmas.List.{get_or_default}
-use Rattle.pair_sets.specs.declared.pair_set.PairSet.{PairSet}
+use Rattle.pair_sets.specs.PairSet.{PairSet}
 use Rattle.pair_sets.specs.PairSet.{free_pairs}
 use Rattle.pair_sets.specs.CubeState.{set_at, IsPart}
 use Rattle.pair_sets.specs.PairSim.{PairSim}

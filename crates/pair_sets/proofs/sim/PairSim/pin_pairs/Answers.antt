@@ -1,6 +1,6 @@
 use Rattle.std.proofs.Common.{◌∙◌, List, length, ap, subst, arith}
 use Rattle.net_model.specs.Fault.{stuck_pin}
-use Rattle.pair_sets.specs.declared.pair_set.PairSet.{PairSet}
+use Rattle.pair_sets.specs.PairSet.{PairSet}
 use Rattle.pair_sets.specs.PairSet.{forced_pairs}
 use Rattle.pair_sets.specs.CubeState.{set_at, IsPart}
 use Rattle.pair_sets.specs.PairSim.{PairSim}
@@ -16,4 +16,4 @@ returns c =
     let a = c.self.inside in
     let part : PairSim → List PairSet → PairSet = λ sim sets. forced_pairs (stuck_pin sim.f c.args.line c.args.pin) (stuck_pin sim.g c.args.line c.args.pin) (set_at sets c.args.read) in
     subst (λ (sim : PairSim). IsPart sim.circuit sim.f sim.g sim.cube (part sim) c.pin_pairs.result) c.self.view_is
-    record { sets = a.trail.sets.items; are = (right_of a c.self.invariant).right; is = c.pin_pairs.ensures ∙ ap (λ sets. forced_pairs (stuck_pin a.f c.args.line c.args.pin) (stuck_pin a.g c.args.line c.args.pin) (set_at sets c.args.read)) c.as_slice.ensures.value }
+    record { sets = a.trail.sets.items; are = (right_of a c.self.invariant).right; is = c.pin_pairs.ensures ∙ ap (λ sets. forced_pairs (stuck_pin a.pair.f c.args.line c.args.pin) (stuck_pin a.pair.g c.args.line c.args.pin) (set_at sets c.args.read)) c.as_slice.ensures.value }

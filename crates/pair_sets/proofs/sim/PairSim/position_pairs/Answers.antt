@@ -1,5 +1,5 @@
 use Rattle.std.proofs.Common.{◌∙◌, List, length, ap, subst}
-use Rattle.pair_sets.specs.declared.pair_set.PairSet.{PairSet}
+use Rattle.pair_sets.specs.PairSet.{PairSet}
 use Rattle.pair_sets.specs.CubeState.{position_pairs, IsPart}
 use Rattle.pair_sets.specs.PairSim.{PairSim}
 use Rattle.pair_sets.proofs.LevelLemmas.{right_of}
@@ -12,4 +12,4 @@ pub returns : goal.returns
 returns c =
     let a = c.self.inside in
     subst (λ (sim : PairSim). IsPart sim.circuit sim.f sim.g sim.cube (λ (sets : List PairSet). position_pairs sim.circuit sim.f sim.g sets c.args.at) c.position_pairs.result) c.self.view_is
-    record { sets = a.trail.sets.items; are = (right_of a c.self.invariant).right; is = c.position_pairs.ensures ∙ ap (λ sets. position_pairs a.circuit.now a.f a.g sets c.args.at) c.as_slice.ensures.value }
+    record { sets = a.trail.sets.items; are = (right_of a c.self.invariant).right; is = c.position_pairs.ensures ∙ ap (λ sets. position_pairs a.pair.circuit.now a.pair.f a.pair.g sets c.args.at) c.as_slice.ensures.value }

@@ -9,7 +9,7 @@ pub returns-clause-inside : goal.returns-clause-inside
 returns-clause-inside c =
     let a = c.self.inside in
     subst (λ (sim : PairSim). All (λ at. at < length sim.circuit.positions) c.as_slice.result.now) c.self.view_is
-    (reached_within a.circuit.now a.f a.g c.as_slice.result.now (c.as_slice.ensures.value ∙ c.self.invariant.tally.reached))
+    (reached_within a.pair.circuit.now a.pair.f a.pair.g c.as_slice.result.now (c.as_slice.ensures.value ∙ c.self.invariant.tally.reached))
 
 pub returns-clause-circuit : goal.returns-clause-circuit
-returns-clause-circuit c = subst (λ (sim : PairSim). IsCircuit sim.circuit) c.self.view_is c.self.invariant.wiring.circuit
+returns-clause-circuit c = subst (λ (sim : PairSim). IsCircuit sim.circuit) c.self.view_is c.self.invariant.circuit

@@ -1,4 +1,4 @@
-use Rattle.std.proofs.Common.{◌≡◌, ◌≢◌, ◌-◌, ℕ, List, ◌<◌, ◌≤◌, ◌∙◌, ◌∷◌, [], length, take, drop, sym, ap, subst, Vec}
+use Rattle.std.proofs.Common.{◌≡◌, ◌≢◌, ◌-◌, ℕ, List, ◌<◌, ◌≤◌, ◌∙◌, ◌∷◌, [], length, get_or, take, drop, sym, ap, subst, Vec}
 use Rattle.std.specs.Prelude.{All, reverse, vec_capacity}
 use Rattle.std.proofs.lemmas.List.{reverse-append}
 use Rattle.std.proofs.lemmas.List.Elements.{All-take, All-drop}
@@ -6,7 +6,7 @@ use Rattle.std.specs.declared.alloc.Global.{Global}
 use Rattle.pair_sets.specs.declared.trail.Change.{Change}
 use Rattle.pair_sets.specs.Trail.{undone}
 use Rattle.pair_sets.specs.PairSimFields.{AreLevels}
-use Rattle.pair_sets.specs.Tally.{IsShown, line_at}
+use Rattle.pair_sets.specs.Tally.{IsShown}
 use Rattle.pair_sets.proofs.LevelLemmas.{right_of}
 use Rattle.pair_sets.proofs.TallyLemmas.{all_from, shown_before}
 use Rattle.pair_sets.proofs.TrailLemmas.{length-undone}
@@ -15,25 +15,25 @@ use Rattle.pair_sets.proofs.sim.PairSim.undo.Goals as goal
 pub invariant_of-self : goal.invariant_of-self
 invariant_of-self c =
     let a = c.self.inside in
-    let circuit = a.circuit.now in
+    let circuit = a.pair.circuit.now in
     let level = c.in-Some.level in
     let rest = c.pop.new.self.items in
     let changes = a.trail.changes.items in
     let sets = a.trail.sets.items in
     let parts : reverse a.levels.items ≡ level ∷ reverse rest = ap reverse c.in-Some.ensures.items ∙ reverse-append rest (level ∷ []) in
-    let was : AreLevels circuit a.f a.g (vec_capacity a.trail.changes) (level ∷ reverse rest) changes sets =
-    subst (λ levels. AreLevels circuit a.f a.g (vec_capacity a.trail.changes) levels changes sets) parts c.self.invariant.levels in
-    let below : AreLevels circuit a.f a.g (vec_capacity a.trail.changes) (reverse rest) (take level.start changes) (undone (drop level.start changes) sets) = was.4 in
+    let was : AreLevels circuit a.pair.f a.pair.g (vec_capacity a.trail.changes) (level ∷ reverse rest) changes sets =
+    subst (λ levels. AreLevels circuit a.pair.f a.pair.g (vec_capacity a.trail.changes) levels changes sets) parts c.self.invariant.levels in
+    let below : AreLevels circuit a.pair.f a.pair.g (vec_capacity a.trail.changes) (reverse rest) (take level.start changes) (undone (drop level.start changes) sets) = was.4 in
     let new = c.truncate.new.self in
     let capacity : vec_capacity new ≡ vec_capacity a.trail.changes = c.truncate.ensures.capacity ∙ ap vec_capacity c.restore.ensures.changes in
     let changes_are : new.items ≡ take level.start changes = c.truncate.ensures.items ∙ ap (λ (v : Vec Change Global). take level.start v.items) c.restore.ensures.changes in
     let sets_are = c.restore.ensures.sets in
-    let kept : AreLevels circuit a.f a.g (vec_capacity new) (reverse rest) new.items c.restore.new.self.sets.items =
-    subst (λ room. AreLevels circuit a.f a.g room (reverse rest) new.items c.restore.new.self.sets.items) (sym capacity)
-    (subst (λ xs. AreLevels circuit a.f a.g (vec_capacity a.trail.changes) (reverse rest) xs c.restore.new.self.sets.items) (sym changes_are)
-    (subst (λ xs. AreLevels circuit a.f a.g (vec_capacity a.trail.changes) (reverse rest) (take level.start changes) xs) (sym sets_are) below)) in
+    let kept : AreLevels circuit a.pair.f a.pair.g (vec_capacity new) (reverse rest) new.items c.restore.new.self.sets.items =
+    subst (λ room. AreLevels circuit a.pair.f a.pair.g room (reverse rest) new.items c.restore.new.self.sets.items) (sym capacity)
+    (subst (λ xs. AreLevels circuit a.pair.f a.pair.g (vec_capacity a.trail.changes) (reverse rest) xs c.restore.new.self.sets.items) (sym changes_are)
+    (subst (λ xs. AreLevels circuit a.pair.f a.pair.g (vec_capacity a.trail.changes) (reverse rest) (take level.start changes) xs) (sym sets_are) below)) in
     record {
-      wiring = c.self.invariant.wiring;
+      circuit = c.self.invariant.circuit;
       none_waits = c.self.invariant.none_waits;
       queue_room = c.self.invariant.queue_room;
       levels = kept;
@@ -42,7 +42,7 @@ invariant_of-self c =
           (subst (All (λ (change : Change). change.line < length sets)) (sym changes_are) (All-take (λ (change : Change). change.line < length sets) level.start changes c.self.invariant.within));
       levels_room = subst (λ n. circuit.sources ≤ n) (sym c.in-Some.ensures.capacity) c.self.invariant.levels_room;
       tally = c.recount.ensures.tally;
-      shown = subst (λ xs. IsShown circuit a.f a.g xs c.recount.new.self) c.as_slice.ensures.value c.recount.ensures.shown;
+      shown = subst (λ xs. IsShown circuit a.pair.f a.pair.g xs c.recount.new.self.shown) c.as_slice.ensures.value c.recount.ensures.shown;
     }
 
 pub recount-requires-clause-width : goal.recount-requires-clause-width
@@ -65,11 +65,11 @@ recount-requires-clause-lines c =
     (subst (λ n. All (λ (change : Change). change.line < n) back) (sym whole) (All-drop (λ (change : Change). change.line < length a.trail.sets.items) start a.trail.changes.items c.self.invariant.within))
 
 pub recount-requires-clause-others : goal.recount-requires-clause-others
-recount-requires-clause-others c = λ place h none.
+recount-requires-clause-others c = λ at h none.
     let a = c.self.inside in
-    let circuit = a.circuit.now in
+    let circuit = a.pair.circuit.now in
     let start = c.in-Some.level.start in
     let are = taken_from a.trail.changes c.restore.new.self.changes c.deref.result.now start c.deref.ensures.value c.restore.ensures.changes in
-    shown_before circuit a.f a.g a.trail.sets.items c.as_slice.result.now (drop start a.trail.changes.items) a.tally c.self.invariant.shown place h
-    (subst (All (λ (change : Change). change.line ≢ line_at circuit a.tally.reached.items place)) are none)
+    shown_before circuit a.pair.f a.pair.g a.trail.sets.items c.as_slice.result.now a.tally.shown (drop start a.trail.changes.items) c.self.invariant.shown at h
+    (subst (All (λ (change : Change). change.line ≢ get_or circuit.positions at 0)) are none)
     (c.as_slice.ensures.value ∙ c.restore.ensures.sets)

@@ -1,11 +1,5 @@
-use Rattle.std.proofs.Common.{arith}
-use Rattle.word_sim.proofs.Columns.{length-columns, columns_wide}
+use Rattle.word_sim.proofs.Columns.{is_block}
 use Rattle.word_sim.proofs.block.Block.sources.Goals as goal
 
 pub returns-clause-block : goal.returns-clause-block
-returns-clause-block c =
-    rw (← c.self.view_is)
-    (record {
-      few = omega (arith, length-columns c.self.inside.rows.items c.self.inside.live, c.self.invariant.few);
-      widths = columns_wide c.self.inside.rows.items c.self.inside.live;
-    })
+returns-clause-block c = rw (← c.self.view_is) (is_block c.self.inside.rows.items c.self.inside.live c.self.invariant.few)

@@ -12,5 +12,5 @@ get-requires c =
 pub returns : goal.returns
 returns c =
     let inside : c.args.line < length c.self.inside.rows.items = omega (arith, c.requires.line, c.self.invariant.wide, ap (λ (s : GoodSim). line_count s.circuit) c.self.view_is) in
-    rw (← c.self.view_is, c.get.ensures)
+    rw (← c.self.view_is, c.get.ensures.value)
     (good_bit c.self.inside.circuit.now c.self.invariant.circuit c.self.inside.rows.items c.self.inside.live c.self.invariant.agrees c.args.line c.args.lane c.index.result.now inside c.index.ensures (rw (← c.self.view_is) at c.requires.lane))

@@ -1,0 +1,21 @@
+-- Clauses over variables that are numbered from 1.
+use Rattle.std.specs.Prelude.{◌≢◌, ℕ, ◌<◌, ◌≤◌, All, AllPairs}
+use Rattle.clause_pool.specs.Literal.{Literal}
+use Rattle.clause_pool.specs.Clauses.{Clause}
+
+-- one of so many variables
+abbrev pub IsVariable : ℕ → ℕ → Type 0
+IsVariable variables x = (0 < x) × (x ≤ variables)
+
+-- The clause has variables from 1 up to this one.
+abbrev pub HasVariablesUpTo : ℕ → Clause → Type 0
+HasVariablesUpTo variables clause = All (λ (l : Literal). IsVariable variables l.variable) clause
+
+-- No variable stands in the clause twice.
+abbrev pub HasNoVariableTwice : Clause → Type 0
+HasNoVariableTwice clause = AllPairs (λ (l m : Literal). l.variable ≢ m.variable) clause
+
+-- The clause is over so many variables, and has none of them twice.
+pub record IsProper (variables : ℕ) (clause : Clause) : Type 0 where
+  pub inside : HasVariablesUpTo variables clause
+  pub once : HasNoVariableTwice clause

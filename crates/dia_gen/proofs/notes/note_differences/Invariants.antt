@@ -1,6 +1,0 @@
-use Rattle.std.proofs.Common.{◌≡◌, ◌++◌, map, take}
-use Rattle.dia_gen.proofs.NoteLemmas.{note_at}
-use Rattle.dia_gen.proofs.notes.note_differences.Given as goal
-
-abbrev pub invariant-loop-position : goal.invariant-loop-position
-invariant-loop-position l = l.notes.items ≡ l.initial.notes.items ++ map (note_at l.sim l.number) (take l.position-index l.position-items)

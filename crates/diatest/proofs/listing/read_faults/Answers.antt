@@ -1,0 +1,22 @@
+use Rattle.std.proofs.Common.{◌≡◌, ◌≢◌, ◌∙◌, [], refl, ap, map, string_bytes, subst}
+use Rattle.clap.specs.Words.{App, is_simple_and_free, matches_of, fault_of}
+use Rattle.diatest.specs.Request.{faults_app, faults_by, faults_of}
+use Rattle.diatest.proofs.WordLemmas.{faults_simple, asked_taken, asked_refused, passed_on}
+use Rattle.diatest.proofs.listing.read_faults.Goals as goal
+
+pub parse-requires : goal.parse-requires
+parse-requires c = ap is_simple_and_free c.in_ok-faults_command.ensures ∙ faults_simple
+
+pub returns-in_err-matches-clause-refused : goal.returns-in_err-matches-clause-refused
+unfolding faults_of
+returns-in_err-matches-clause-refused c is =
+    let words = map string_bytes c.args.words.now in
+    asked_refused faults_app faults_by words (subst (λ (a : App). fault_of a words ≢ []) c.in_ok-faults_command.ensures (c.in_err-matches.ensures.refused (passed_on c.from_residual-in_err-matches.result _ _ c.from_residual-in_err-matches.ensures.1 is)))
+
+pub returns-clause-asked : goal.returns-clause-asked
+unfolding faults_of
+returns-clause-asked c =
+    let words = map string_bytes c.args.words.now in
+    asked_taken faults_app faults_by words (subst (λ (a : App). fault_of a words ≡ []) c.in_ok-faults_command.ensures c.in_ok-matches.ensures.taken)
+    (c.in_ok-matches.ensures.ok ∙ ap (λ (a : App). matches_of a words) c.in_ok-faults_command.ensures)
+    (rw (c.name_in.ensures) refl)

@@ -1,0 +1,30 @@
+use Rattle.std.proofs.Common.{◌≡◌, ◌∙◌, ◌∷◌, [], ℕ, List, IsTrue, refl, subst}
+use Rattle.diatest.specs.Request.{synth_budgets}
+use Rattle.diatest.specs.Synth.{synth_text}
+use Rattle.diatest.specs.Netlists.{IsDesign, IsRefused}
+use Rattle.diatest.specs.Ran.{SavesResult}
+use Rattle.diatest.proofs.Runs.{ran}
+use Rattle.diatest.proofs.Generated.{ran_refused, fits_synth, synth_called, synth_may}
+use Rattle.diatest.proofs.synths.synthesize.Goals as goal
+
+pub returns-in-Err-Refused : goal.returns-in-Err-Refused
+returns-in-Err-Refused g c =
+    let refusal = c.in-Err-Refused.refusal in
+    let refused : IsRefused (synth_text c.args.n) refusal.items = subst (λ (b : List ℕ). IsRefused b refusal.items) (c.deref.ensures.value ∙ c.in-Ok.ensures) (c.in-Err-Refused.ensures.refused refusal (cc)) in
+    ran_refused (λ told. refl) refused (rw (c.deref-in-Err-Refused.ensures.value, c.in-Err-Refused.refusal-is) at c.say.ensures)
+
+pub returns-in-Ok-judge : goal.returns-in-Ok-judge
+returns-in-Ok-judge g c =
+    let n = c.args.n in
+    let bench = c.args.bench.now in
+    let output = c.args.output.now in
+    let design = c.in-Ok-judge.design in
+    let state = g.S.Shelf.state in
+    let files = (state c.args.shelf.now).world.files in
+    let accepted : IsDesign (synth_text n) design = subst (λ (b : List ℕ). IsDesign b design) (c.deref.ensures.value ∙ c.in-Ok.ensures) c.in-Ok-judge.ensures.ok in
+    let saves : SavesResult design.circuit synth_budgets ((bench, synth_text n) ∷ []) output c.save_both.result (state c.args.shelf.now) (state c.save_both.new.shelf) =
+    subst (λ (text : List ℕ). SavesResult design.circuit synth_budgets ((bench, text) ∷ []) output c.save_both.result (state c.args.shelf.now) (state c.save_both.new.shelf)) (c.deref-in-Ok-judge.ensures.value ∙ c.in-Ok.ensures) c.save_both.ensures in
+    let called = λ (z : c.save_both.result ≡ 0) (told : IsTrue (state c.args.shelf.now).tells).
+    (let made = saves.made z told in
+    synth_called n bench output files accepted made.0 saves.file saves.text made.1 made.2) in
+    ran (fits_synth n bench output design.circuit saves.file saves.text) called (λ told. synth_may n bench output files accepted) saves.ends

@@ -1,0 +1,71 @@
+-- The netlist of a number: a chain of cells, each with two inputs, an output and four gates, which the outputs of
+-- SplitMix64 choose, with that number as the seed.
+use Rattle.std.specs.Prelude.{ℕ, zero, suc, ◌+◌, ◌*◌, ◌/◌, ◌%◌, ◌^◌, List, [], ◌∷◌, ◌++◌, codes, decimal, flat_map, slice_index_or}
+use Rattle.std.specs.List.{range_with_len}
+use Rattle.rand_xoshiro.specs.SplitMix64.{next_state, mix_u64}
+
+-- ---- statements, each with its LF
+
+-- a letter and a number
+unfoldable pub signal : List ℕ → ℕ → List ℕ
+signal letter number = letter ++ decimal number
+
+unfoldable pub input_line : List ℕ → List ℕ
+input_line name = codes "INPUT(" ++ (name ++ codes ")\n")
+
+unfoldable pub output_line : List ℕ → List ℕ
+output_line name = codes "OUTPUT(" ++ (name ++ codes ")\n")
+
+-- a gate with two pins
+unfoldable pub gate_line : List ℕ → List ℕ → List ℕ → List ℕ → List ℕ
+gate_line driven word first second = driven ++ (codes "=" ++ (word ++ (codes "(" ++ (first ++ (codes "," ++ (second ++ codes ")\n"))))))
+
+-- ---- the generator
+
+-- the state of the generator after so many outputs
+abbrev pub state_from : ℕ → ℕ → ℕ
+state_from seed zero = seed
+state_from seed (suc k) = next_state (state_from seed k)
+
+-- the output of this number, counted from 0
+abbrev pub output_from : ℕ → ℕ → ℕ
+output_from seed k = (mix_u64 (state_from seed k)).0
+
+abbrev pub gate_words : List (List ℕ)
+gate_words = codes "AND" ∷ codes "NAND" ∷ codes "OR" ∷ codes "NOR" ∷ codes "XOR" ∷ codes "XNOR" ∷ codes "NAND" ∷ codes "NOR" ∷ []
+
+-- the word of a gate of a cell: three bits of the cell's output choose it
+unfoldable pub gate_word : ℕ → ℕ → List ℕ
+gate_word output gate = slice_index_or gate_words (output / 2 ^ (3 * gate) % 8) []
+
+-- ---- the text
+
+-- the ports of a cell
+unfoldable pub ports_text : ℕ → List ℕ
+ports_text cell = input_line (signal (codes "x") cell) ++ (input_line (signal (codes "y") cell) ++ output_line (signal (codes "s") cell))
+
+-- its gates; the last drives the carry into the next cell
+unfoldable pub p_gate : ℕ → ℕ → List ℕ
+p_gate output cell = gate_line (signal (codes "p") cell) (gate_word output 0) (signal (codes "x") cell) (signal (codes "y") cell)
+
+unfoldable pub q_gate : ℕ → ℕ → List ℕ
+q_gate output cell = gate_line (signal (codes "q") cell) (gate_word output 1) (signal (codes "x") cell) (signal (codes "c") cell)
+
+unfoldable pub s_gate : ℕ → ℕ → List ℕ
+s_gate output cell = gate_line (signal (codes "s") cell) (gate_word output 2) (signal (codes "p") cell) (signal (codes "q") cell)
+
+unfoldable pub c_gate : ℕ → ℕ → List ℕ
+c_gate output cell = gate_line (signal (codes "c") (cell + 1)) (gate_word output 3) (signal (codes "p") cell) (signal (codes "c") cell)
+
+abbrev pub gates_text : ℕ → ℕ → List ℕ
+gates_text output cell = p_gate output cell ++ (q_gate output cell ++ (s_gate output cell ++ c_gate output cell))
+
+abbrev pub cell_text : ℕ → ℕ → List ℕ
+cell_text output cell = ports_text cell ++ gates_text output cell
+
+abbrev pub numbered_cell : ℕ → ℕ → List ℕ
+numbered_cell n cell = cell_text (output_from n cell) cell
+
+-- the carry into the first cell, so many cells, and the carry out of the last
+unfoldable pub synth_text : ℕ → List ℕ
+synth_text n = input_line (codes "c0") ++ (flat_map (numbered_cell n) (range_with_len 0 n) ++ output_line (signal (codes "c") n))

@@ -1,0 +1,117 @@
+//! The netlist of a number: a chain of cells, each with two inputs, an output and four gates.
+
+ghost use Rattle.std.specs.Prelude.{◌≡◌, ◌++◌, ◌<◌, ◌≤◌, IfOk, OnOk, flat_map, string_bytes};
+ghost use Rattle.std.specs.List.{range_with_len};
+ghost use Rattle.diatest.specs.Synth.{gate_word, ports_text, p_gate, q_gate, s_gate, c_gate, gates_text, cell_text, numbered_cell, synth_text};
+
+use rand_core::SeedableRng;
+use rand_core::utils::NextWord;
+use rand_xoshiro::SplitMix64;
+use std::alloc::{AllocError, Global};
+
+/// The netlist of a number from 1 to 2,000. The outputs of the generator SplitMix64 (Steele, Lea and Flood, 2014), with
+/// the number as the seed, choose the gates of its cells.
+pub fn synth_text(alloc: Global, n: u32) -> Result<Vec<u8>, AllocError>
+    requires least { 1 ≤ n }
+    requires most { n ≤ 2000 }
+    ensures { IfOk result (λ text. text.items ≡ synth_text n) }
+{
+    let mut text = Vec::new(alloc);
+    text.extend_from_slice(b"INPUT(c0)\n")?;
+    push_cells(&mut text, n)?;
+    let end = format!(in alloc; "OUTPUT(c{n})\n")?;
+    text.extend_from_slice(end.as_bytes())?;
+    Ok(text)
+}
+
+fn push_cells(text: &mut Vec<u8>, n: u32) -> Result<(), AllocError>
+    requires { n ≤ 2000 }
+    ensures { OnOk result (text.new.items ≡ text.old.items ++ flat_map (numbered_cell n) (range_with_len 0 n)) }
+{
+    let mut rng = SplitMix64::seed_from_u64(u64::from(n));
+    for cell in 0..n {
+        let output = rng.next_word();
+        push_cell(text, output, cell)?;
+    }
+    Ok(())
+}
+
+fn push_cell(text: &mut Vec<u8>, output: u64, cell: u32) -> Result<(), AllocError>
+    requires { cell < 2000 }
+    ensures { OnOk result (text.new.items ≡ text.old.items ++ cell_text output cell) }
+{
+    let ports = ports(*text.allocator(), cell)?;
+    text.extend_from_slice(ports.as_bytes())?;
+    push_gates(text, output, cell)
+}
+
+fn push_gates(text: &mut Vec<u8>, output: u64, cell: u32) -> Result<(), AllocError>
+    requires { cell < 2000 }
+    ensures { OnOk result (text.new.items ≡ text.old.items ++ gates_text output cell) }
+{
+    let alloc = *text.allocator();
+    let p = p_gate(alloc, output, cell)?;
+    let q = q_gate(alloc, output, cell)?;
+    let s = s_gate(alloc, output, cell)?;
+    let c = c_gate(alloc, output, cell)?;
+    text.extend_from_slice(p.as_bytes())?;
+    text.extend_from_slice(q.as_bytes())?;
+    text.extend_from_slice(s.as_bytes())?;
+    text.extend_from_slice(c.as_bytes())?;
+    Ok(())
+}
+
+fn ports(alloc: Global, cell: u32) -> Result<String, AllocError>
+    ensures { IfOk result (λ text. string_bytes text ≡ ports_text cell) }
+{
+    format!(in alloc; "INPUT(x{cell})\nINPUT(y{cell})\nOUTPUT(s{cell})\n")
+}
+
+fn p_gate(alloc: Global, output: u64, cell: u32) -> Result<String, AllocError>
+    ensures { IfOk result (λ text. string_bytes text ≡ p_gate output cell) }
+{
+    let word = gate_word(output, 0);
+    format!(in alloc; "p{cell}={word}(x{cell},y{cell})\n")
+}
+
+fn q_gate(alloc: Global, output: u64, cell: u32) -> Result<String, AllocError>
+    ensures { IfOk result (λ text. string_bytes text ≡ q_gate output cell) }
+{
+    let word = gate_word(output, 1);
+    format!(in alloc; "q{cell}={word}(x{cell},c{cell})\n")
+}
+
+fn s_gate(alloc: Global, output: u64, cell: u32) -> Result<String, AllocError>
+    ensures { IfOk result (λ text. string_bytes text ≡ s_gate output cell) }
+{
+    let word = gate_word(output, 2);
+    format!(in alloc; "s{cell}={word}(p{cell},q{cell})\n")
+}
+
+// The gate of the carry into the next cell.
+fn c_gate(alloc: Global, output: u64, cell: u32) -> Result<String, AllocError>
+    requires { cell < 2000 }
+    ensures { IfOk result (λ text. string_bytes text ≡ c_gate output cell) }
+{
+    let word = gate_word(output, 3);
+    let next = cell + 1;
+    format!(in alloc; "c{next}={word}(p{cell},c{cell})\n")
+}
+
+// The word of a gate of a cell with this output: three of its bits choose it.
+#[tactic(auto, unfolding(crate::specs::Synth::gate_word))]
+fn gate_word(output: u64, gate: u32) -> &'static str
+    requires { gate < 4 }
+    ensures { result.now ≡ gate_word output gate }
+{
+    match (output >> (3 * gate)) % 8 {
+        0 => "AND",
+        1 => "NAND",
+        2 => "OR",
+        3 => "NOR",
+        4 => "XOR",
+        5 => "XNOR",
+        6 => "NAND",
+        _ => "NOR",
+    }
+}

@@ -1,0 +1,97 @@
+//! The command `synth`: the netlist of a number is written, and a result for it.
+
+ghost use Rattle.std.specs.Prelude.{◌≡◌, ◌≤◌, [], ◌∷◌, Err, IfOk, Some, None, map, string_bytes};
+ghost use Rattle.clap.specs.Words.{app_of};
+ghost use Rattle.diatest.specs.Request.{synth, synth_app, synth_of, synth_budgets};
+ghost use Rattle.diatest.specs.Asked.{asked, HasLimits};
+ghost use Rattle.diatest.specs.Ran.{Ran, SavesResult};
+
+use crate::arguments::{WordsFault, bare_command, name_arg, name_in, number_arg, number_in, parse};
+use crate::cells::synth_text;
+use crate::ends::{say, write_status};
+use crate::generates::save_result;
+use crate::netlists::{Stop, judge};
+use crate::request::Request;
+use clap::Command;
+use diag_shelf::{Shelf, write_all};
+use net_model::Circuit;
+use result_file::Budgets;
+use std::alloc::{AllocError, Global};
+
+// The largest number of a netlist.
+const SYNTH_LIMIT: u32 = 2000;
+
+// A number and two names.
+fn synth_command<'a>(alloc: Global) -> Result<Command<'a>, AllocError>
+    ensures { IfOk result (λ c. app_of c ≡ synth_app) }
+{
+    let number = number_arg(alloc, "n", SYNTH_LIMIT);
+    let bench = name_arg(alloc, "bench");
+    let output = name_arg(alloc, "result");
+    let named = bare_command(alloc, "synth").arg(number)?.arg(bench)?;
+    let whole = named.arg(output)?;
+    Ok(whole)
+}
+
+/// The request of the words behind `synth`.
+pub(crate) fn read_synth(alloc: Global, words: &[String]) -> Result<Request<'_>, WordsFault>
+    ensures asked { IfOk result (λ request. synth_of (map string_bytes words.now) ≡ Some (asked request)) }
+    ensures limits { IfOk result HasLimits }
+    ensures refused { result ≡ Err WordsFault.NotUnderstood → synth_of (map string_bytes words.now) ≡ None }
+{
+    let matches = parse(synth_command(alloc)?, words)?;
+    Ok(Request::Synth(
+        number_in(&matches, "n", 1, SYNTH_LIMIT),
+        name_in(&matches, "bench"),
+        name_in(&matches, "result"),
+    ))
+}
+// The budgets of its result.
+const SYNTH_BUDGETS: Budgets = Budgets {
+    blocks: 4,
+    cubes: 16,
+    conflicts: 0,
+};
+
+/// Judges the netlist of a number, writes it under its name, and generates a result for its circuit under the result's
+/// name.
+pub(crate) fn synthesize<S: Shelf>(
+    alloc: Global,
+    shelf: &mut S,
+    n: u32,
+    bench: &str,
+    output: &str,
+) -> u8
+    requires least { 1 ≤ n }
+    requires most { n ≤ 2000 }
+    ensures { Ran (Some (synth n bench.now output.now)) result (S.state shelf.old) (S.state shelf.new) }
+{
+    let Ok(text) = synth_text(alloc, n) else {
+        return 9;
+    };
+    match judge(alloc, &text) {
+        Ok(design) => save_both(alloc, shelf, &text, &design.circuit, bench, output),
+        Err(Stop::Refused(refusal)) => say(shelf, 3, &refusal),
+        Err(Stop::NoMemory) => 9,
+    }
+}
+
+// Writes the netlist's text under its name, and then a result of its circuit under the result's name.
+fn save_both<S: Shelf>(
+    alloc: Global,
+    shelf: &mut S,
+    text: &[u8],
+    circuit: &Circuit,
+    bench: &str,
+    output: &str,
+) -> u8
+    ensures { SavesResult circuit.now synth_budgets ((bench.now, text.now) ∷ []) output.now result (S.state shelf.old) (S.state shelf.new) }
+{
+    if let Err(fault) = shelf.create_file(bench) {
+        return write_status(fault);
+    }
+    if let Err(fault) = write_all(shelf, text) {
+        return write_status(fault);
+    }
+    save_result(alloc, shelf, circuit, output, SYNTH_BUDGETS)
+}

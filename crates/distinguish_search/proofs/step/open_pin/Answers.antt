@@ -1,0 +1,52 @@
+use Rattle.std.proofs.Common.{◌≡◌, ◌∙◌, ℕ, ◌+◌, List, length, get_or, sym, ap, arith, subst}
+use Rattle.std.specs.Prelude.{IfSome, None, Some, Option}
+use Rattle.net_model.specs.Circuit.{IsCircuit, Feeds}
+use Rattle.net_model.proofs.Wired.{few_pins}
+use Rattle.distinguish_search.specs.Open.{IsOpen}
+use Rattle.distinguish_search.proofs.Walks.{NoneSeveral, pin_found, pin_passed, pins_are, some_several}
+use Rattle.distinguish_search.proofs.step.open_pin.Goals as goal
+use Rattle.distinguish_search.proofs.step.open_pin.Goals.{then-has_several+else-has, else-has_several}
+
+no_some : (x : ℕ) → ◌≡◌ {A = Option ℕ} (Some x) None → ⊥
+no_some x e = cc
+
+pub overflow_cast-pin : goal.overflow_cast-pin
+overflow_cast-pin c = omega (arith, few_pins c.circuit.result.now c.gate.ensures.circuit c.args.line c.gate.result.now c.gate.ensures.value, ap length c.as_slice-pins.ensures)
+
+pub returns-then-has-clause-open : goal.returns-then-has-clause-open
+returns-then-has-clause-open c =
+    let sim = c.args.sim.now in
+    let pins = c.as_slice-pins.result.now in
+    (pin_found sim.circuit sim.f sim.g sim.cube c.args.line c.loop-pin.pin pins c.pin_pairs-pairs.result c.circuit.ensures.circuit c.requires.open
+    (pins_are sim.circuit c.circuit.result.now c.args.line pins c.gate.result.now.pins c.circuit.ensures.value c.as_slice-pins.ensures c.gate.ensures.pins)
+    c.loop-pin-test.true c.pin_pairs-pairs.ensures (sym c.has_several.ensures ∙ c.if-has_several.true)).1
+
+pub loop-pin-preserved : goal.loop-pin-preserved
+loop-pin-preserved c =
+    let sim = c.args.sim.now in
+    let pins = c.as_slice-pins.result.now in
+    let pin = c.loop-pin.pin in
+    let circuit : IsCircuit sim.circuit = c.circuit.ensures.circuit in
+    let so_far : Option ℕ → Type 0 = λ found. IfSome found (λ read. Feeds sim.circuit read c.args.line × IsOpen sim.circuit sim.f sim.g sim.cube read) × (found ≡ None → NoneSeveral sim.circuit sim.f sim.g sim.cube c.args.line pins (pin + 1)) in
+    elim c.if-has_several.branch [
+      | then-has_several+else-has w ↦ subst so_far (sym w.found-is) (
+        pin_found sim.circuit sim.f sim.g sim.cube c.args.line pin pins c.pin_pairs-pairs.result circuit c.requires.open
+            (pins_are sim.circuit c.circuit.result.now c.args.line pins c.gate.result.now.pins c.circuit.ensures.value c.as_slice-pins.ensures c.gate.ensures.pins)
+            c.loop-pin-test.true c.pin_pairs-pairs.ensures (sym c.has_several.ensures ∙ w.if-has_several.true),
+        λ none. absurd (no_some (get_or pins pin 0) none),
+      )
+      | else-has_several w ↦ subst so_far (sym w.found-is) (
+        c.loop-pin.invariant.0,
+        λ none. pin_passed sim.circuit sim.f sim.g sim.cube c.args.line pin pins c.pin_pairs-pairs.result circuit (c.loop-pin.invariant.1 none) c.pin_pairs-pairs.ensures (sym c.has_several.ensures ∙ w.if-has_several.false),
+      )
+    ]
+
+pub unreachable-requires : goal.unreachable-requires
+unreachable-requires c =
+    let sim = c.args.sim.now in
+    let pins = c.as_slice-pins.result.now in
+    let all : c.loop-pin.pin ≡ length pins = omega (arith, c.loop-pin.auto.pin-end, c.loop-pin-test.false) in
+    some_several sim.circuit sim.f sim.g sim.cube c.args.line c.requires.open c.requires.gate
+    (subst (λ (ps : List ℕ). NoneSeveral sim.circuit sim.f sim.g sim.cube c.args.line ps (length ps))
+    (pins_are sim.circuit c.circuit.result.now c.args.line pins c.gate.result.now.pins c.circuit.ensures.value c.as_slice-pins.ensures c.gate.ensures.pins)
+    (subst (NoneSeveral sim.circuit sim.f sim.g sim.cube c.args.line pins) all (c.loop-pin.invariant.1 c.in-None.is)))

@@ -1,0 +1,121 @@
+//! One step of a walk back: from an open line to an open one that its gate reads.
+
+ghost use Rattle.std.specs.Prelude.{◌≡◌, ◌<◌, ◌≤◌, length};
+ghost use Rattle.net_model.specs.Circuit.{Feeds, pins_of};
+ghost use Rattle.distinguish_search.specs.Asked.{passing_bit, asked_bit};
+ghost use Rattle.distinguish_search.specs.Open.{IsOpen};
+
+use net_model::{Kind, Operation};
+use pair_sets::{PairSet, PairSim};
+
+/// A line, and the bit that is asked of it.
+#[derive(Clone, Copy)]
+pub(crate) struct Step {
+    pub(crate) line: u32,
+    pub(crate) bit: bool,
+}
+
+/// A step from a line that a gate drives.
+pub(crate) fn step_back(sim: &PairSim, from: Step) -> Step
+    requires gate { sim.now.circuit.sources ≤ from.line }
+    requires open { IsOpen sim.now.circuit sim.now.f sim.now.g sim.now.cube from.line }
+    ensures feeds { Feeds sim.now.circuit result.line from.line }
+    ensures open { IsOpen sim.now.circuit sim.now.f sim.now.g sim.now.cube result.line }
+{
+    let Step { line, bit } = from;
+    let kind = sim.circuit().gate(line).kind;
+    let bit = asked_bit(sim.pairs(line), passing_bit(kind, bit), bit) != kind.inverts();
+    match kind.operation() {
+        Operation::Folded(_) => Step {
+            line: open_pin(sim, line, bit),
+            bit,
+        },
+        Operation::Chosen => chosen_pin(sim, line, bit),
+    }
+}
+
+// From a multiplexer through its first pin where that is open, else through the data pin that it shows.
+fn chosen_pin(sim: &PairSim, line: u32, bit: bool) -> Step
+    requires gate { sim.now.circuit.sources ≤ line }
+    requires open { IsOpen sim.now.circuit sim.now.f sim.now.g sim.now.cube line }
+    requires three { length (pins_of sim.now.circuit line) ≡ 3 }
+    ensures feeds { Feeds sim.now.circuit result.line line }
+    ensures open { IsOpen sim.now.circuit sim.now.f sim.now.g sim.now.cube result.line }
+{
+    let pins = sim.circuit().gate(line).pins.as_slice();
+    let select = sim.pin_pairs(line, 0, pins[0]);
+    if select.has_several() {
+        let low = sim.pin_pairs(line, 1, pins[1]);
+        return Step {
+            line: pins[0],
+            bit: !low.has(bit, bit),
+        };
+    }
+    let shown = shown_pin(select);
+    let data = sim.pin_pairs(line, shown, pins[shown as usize]);
+    if data.has_several() {
+        return Step {
+            line: pins[shown as usize],
+            bit,
+        };
+    }
+    Step {
+        line: open_pin(sim, line, bit),
+        bit,
+    }
+}
+
+// The data pin that a first pin with one pair shows.
+fn shown_pin(select: PairSet) -> u32
+    ensures { result < 3 }
+{
+    if select.has(true, true) { 2 } else { 1 }
+}
+
+// A line that the gate of an open line reads, and of which the pin sees two pairs or more; where there are several such
+// pins, one that may have the bit.
+fn open_pin(sim: &PairSim, line: u32, bit: bool) -> u32
+    requires gate { sim.now.circuit.sources ≤ line }
+    requires open { IsOpen sim.now.circuit sim.now.f sim.now.g sim.now.cube line }
+    ensures feeds { Feeds sim.now.circuit result line }
+    ensures open { IsOpen sim.now.circuit sim.now.f sim.now.g sim.now.cube result }
+{
+    let pins = sim.circuit().gate(line).pins.as_slice();
+    let mut found = None;
+    for (pin, read) in pins.iter().enumerate() {
+        let pairs = sim.pin_pairs(line, pin as u32, *read);
+        if pairs.has_several() {
+            if pairs.has(bit, bit) {
+                return *read;
+            }
+            found = Some(*read);
+        }
+    }
+    match found {
+        Some(read) => read,
+        None => unreachable!(),
+    }
+}
+
+/// The bit to ask of a line with these pairs.
+pub(crate) fn asked_bit(pairs: PairSet, passing: bool, bit: bool) -> bool
+    ensures { result ≡ asked_bit pairs passing bit }
+{
+    let zero = pairs.has(false, false);
+    if zero != pairs.has(true, true) {
+        return zero;
+    }
+    if pairs.only_equal() { bit } else { passing }
+}
+
+// The bit of a gate of this kind that lets a difference pass.
+fn passing_bit(kind: Kind, bit: bool) -> bool
+    ensures { result ≡ passing_bit kind bit }
+{
+    match kind {
+        Kind::And | Kind::Nor => true,
+        Kind::Or | Kind::Nand => false,
+        Kind::Xor | Kind::Xnor | Kind::Not | Kind::Buff | Kind::Mux | Kind::Const0 | Kind::Const1 =>
+            bit,
+    }
+}

@@ -1,0 +1,6 @@
+//! Numbers that wait, of which the lowest is taken first.
+#![tactic(auto)]
+
+mod queue;
+
+pub use queue::NumberQueue;

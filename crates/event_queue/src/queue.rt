@@ -1,0 +1,121 @@
+//! A set of numbers of which the lowest is taken first.
+
+ghost use Rattle.std.specs.Prelude.{◌≡◌, ◌≢◌, ◌<◌, ◌≤◌, ◌*◌, ◌^◌, ◌⊎◌, ℕ, true, false, length, slice_index, All, Contains, IfOk, MatchOption};
+ghost use Rattle.event_queue.specs.Pending.{is_pending, IsEmpty, IsLowest};
+
+use std::alloc::{AllocError, Global};
+use std::marker::Model;
+
+/// The numbers below a count, of which some wait.
+#[derive(Drop)]
+pub struct NumberQueue {
+    words: Vec<u64>,
+    count: usize,
+    low: usize,
+    top: usize,
+}
+
+impl Model for NumberQueue {
+    ghost use Rattle.std.specs.Prelude.{List, Bool};
+
+    ghost Value = { List Bool };
+
+    ghost use Rattle.event_queue.specs.QueueFields.{marks_of, IsBounded};
+
+    ghost view = { marks_of };
+
+    ghost invariant = { IsBounded };
+}
+
+impl NumberQueue {
+    /// None of the numbers below a count waits. No later call takes memory.
+    pub fn new(alloc: Global, count: usize) -> Result<NumberQueue, AllocError>
+        requires { count < 2 ^ 32 }
+        ensures none { IfOk result (λ queue. IsEmpty queue) }
+        ensures room { IfOk result (λ queue. length queue ≡ count) }
+    {
+        Ok(NumberQueue {
+            words: vec![in alloc; 0; count.div_ceil(64)]?,
+            count,
+            low: 0,
+            top: 0,
+        })
+    }
+
+    /// All numbers below a count wait. No later call takes memory.
+    pub fn all(alloc: Global, count: usize) -> Result<NumberQueue, AllocError>
+        requires { count < 2 ^ 32 }
+        ensures all { IfOk result (λ queue. (n : ℕ) → n < count → is_pending queue n ≡ true) }
+        ensures room { IfOk result (λ queue. length queue ≡ count) }
+    {
+        let mut queue = NumberQueue::new(alloc, count)?;
+        for number in 0..count {
+            queue.insert(number as u32);
+        }
+        Ok(queue)
+    }
+
+    /// Lets a number wait.
+    pub fn insert(&mut self, number: u32)
+        requires { number < length self.old }
+        ensures room { length self.new ≡ length self.old }
+        ensures here { is_pending self.new number ≡ true }
+        ensures others { (n : ℕ) → n ≢ number → is_pending self.new n ≡ is_pending self.old n }
+    {
+        let at = number as usize / 64;
+        self.words[at] = self.words[at] | (1 << (number % 64));
+        self.low = self.low.min(at);
+        self.top = self.top.max(at + 1);
+    }
+
+    /// Lets these numbers wait too.
+    pub fn wake(&mut self, numbers: &[u32])
+        requires { All (λ number. number < length self.old) numbers.now }
+        ensures room { length self.new ≡ length self.old }
+        ensures here { (n : ℕ) → Contains numbers.now n → is_pending self.new n ≡ true }
+        ensures kept { (n : ℕ) → is_pending self.old n ≡ true → is_pending self.new n ≡ true }
+        ensures only { (n : ℕ) → is_pending self.new n ≡ true → is_pending self.old n ≡ true ⊎ Contains numbers.now n }
+    {
+        for number in numbers {
+            self.insert(*number);
+        }
+    }
+
+    /// Takes the lowest number out, where none below `from` waits.
+    pub fn take_lowest(&mut self, from: u32) -> Option<u32>
+        requires { (n : ℕ) → n < from → is_pending self.old n ≡ false }
+        ensures room { length self.new ≡ length self.old }
+        ensures cases { MatchOption result (IsEmpty self.old × IsEmpty self.new) (IsLowest self.old self.new) }
+    {
+        let at = first_word(
+            self.words.as_slice(),
+            self.low.max(from as usize / 64),
+            self.top,
+        );
+        if at >= self.top {
+            self.low = self.words.len();
+            self.top = 0;
+            return None;
+        }
+        let word = self.words[at];
+        let digit = word.trailing_zeros();
+        self.words[at] = word & !(1 << digit);
+        self.low = at;
+        Some(at as u32 * 64 + digit)
+    }
+}
+
+// The place of the first word from there on that isn't 0, or the end.
+fn first_word(words: &[u64], from: usize, end: usize) -> usize
+    requires { end ≤ length words.now }
+    ensures within { result ≤ end }
+    ensures before { (at : ℕ) → from ≤ at → at < result → slice_index words.now at ≡ 0 }
+    ensures found { result < end → 0 < slice_index words.now result }
+{
+    for at in from..end {
+        if words[at] != 0 {
+            return at;
+        }
+    }
+    end
+}

@@ -1,0 +1,50 @@
+-- A vector that separates two members of a class is kept.
+use Rattle.std.proofs.Common.{◌≡◌, ℕ, ◌<◌, Bool, List, [], ◌∷◌, ◌++◌, length, get_or, ap, subst, sym, ◌∙◌, arith}
+use Rattle.std.specs.Prelude.{if◌then◌else◌}
+use Rattle.net_model.specs.Circuit.{Circuit}
+use Rattle.net_model.specs.Answer.{Separates}
+use Rattle.net_model.specs.FaultList.{fault_count, fault_numbered}
+use Rattle.net_model.specs.ClassTable.{class_at, class_count, new_lowest, refined_table, SplitBy}
+use Rattle.net_model.specs.PatternRows.{SplitsClass}
+use Rattle.class_refine.proofs.Refined.{sound_from, split_adds, cuts_from, count-refined}
+use Rattle.kept_vectors.specs.Kept.{KeptSoFar, with_vector, Keeps, IsFiner}
+use Rattle.kept_vectors.specs.Keeper.{keeper_with, IsKeeper}
+use Rattle.kept_vectors.proofs.AnswerLemmas.{one_answer, row_exists, answer_in_row}
+use Rattle.kept_vectors.proofs.KeepLemmas.{table_numbers, keeper_after}
+use Rattle.kept_vectors.proofs.SameCuts.{whole_kept}
+
+-- The vector is kept: it stands behind the others and splits a class of them, so that there are more classes.
+pub record IsAdded (c : Circuit) (v : List Bool) (old new : KeptSoFar) : Type 0 where
+  pub vectors : new.vectors ≡ old.vectors ++ v ∷ []
+  pub splits : SplitsClass c old.vectors v
+  pub more : class_count old.table < class_count new.table
+  pub finer : IsFiner old.table new.table
+  pub keeper : IsKeeper (keeper_with c new)
+
+pub separating_added : {c : Circuit} {old new : KeptSoFar} (v : List Bool) → IsKeeper (keeper_with c old) → Keeps c (v ∷ []) old new → (m n : ℕ) → m < fault_count c → n < fault_count c → class_at old.table m ≡ class_at old.table n
+    → length v ≡ c.sources → Separates c v (fault_numbered c m) (fault_numbered c n) → IsAdded c v old new
+separating_added {c} {old} {new} v is keeps m n low high together width apart =
+    let answers = row_exists c is.circuit v in
+    let row = answers.0 in
+    let split : SplitBy old.table row = record {
+      first = m;
+      second = n;
+      first_below = omega (arith, low, table_numbers is.table);
+      second_below = omega (arith, high, table_numbers is.table);
+      together = together;
+      differ = λ same. apart.differ (
+          one_answer c is.circuit (fault_numbered c m) v apart.first (get_or row m []) apart.first_is (answer_in_row c v row answers.1 m low)
+          ∙ same
+          ∙ one_answer c is.circuit (fault_numbered c n) v (get_or row n []) apart.second (answer_in_row c v row answers.1 n high) apart.second_is);
+    } in
+    let adds : 0 < length (new_lowest old.table row) = split_adds old.table row (sound_from old.table is.whole) split in
+    let after : KeptSoFar = record { vectors = old.vectors ++ v ∷ []; table = refined_table old.table row } in
+    let offered : new ≡ with_vector old (v, row) = keeps.by_rows (row ∷ []) (answers.1, tt) in
+    let now : new ≡ after = offered ∙ ap (λ (b : Bool). if b then after else old) (cuts_from old.table row adds) in
+    record {
+      vectors = ap (λ (k : KeptSoFar). k.vectors) now;
+      splits = record { t = old.table; row = row; table = is.table; answers = answers.1; split = split };
+      more = omega (arith, ap (λ (k : KeptSoFar). class_count k.table) now, count-refined old.table row, adds);
+      finer = subst (λ (k : KeptSoFar). IsFiner old.table k.table) (sym offered) (whole_kept old v row is.whole).1;
+      keeper = keeper_after c (v ∷ []) old new is (λ k d below. let e : k ≡ 0 = omega arith in rw e width) keeps;
+    }

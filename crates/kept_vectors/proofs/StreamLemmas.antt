@@ -1,0 +1,49 @@
+-- The stream, kept part by part.
+use Rattle.std.proofs.Common.{◌≡◌, ℕ, ◌+◌, ◌*◌, Bool, List, ◌++◌, map, length, sym, ap, subst, ◌∙◌}
+use Rattle.std.specs.Prelude.{All}
+use Rattle.std.specs.List.{range_with_len}
+use Rattle.std.proofs.lemmas.List.{length-map}
+use Rattle.std.proofs.lemmas.List.FromFn.{length-range_with_len}
+use Rattle.std.proofs.lemmas.List.Elements.{All-map}
+use Rattle.net_model.specs.Circuit.{Circuit, IsCircuit}
+use Rattle.net_model.specs.FaultList.{fault_count}
+use Rattle.word_sim.specs.Block.{Block, block_with}
+use Rattle.word_sim.specs.Stream.{stream, stream_vector}
+use Rattle.word_sim.specs.Laws.{StreamContinues}
+use Rattle.kept_vectors.specs.Kept.{KeptSoFar, nothing_kept, IsKept, Keeps, KeepsFirst}
+use Rattle.kept_vectors.specs.Keeper.{Keeper, keeper_with}
+use Rattle.kept_vectors.proofs.KeepLemmas.{rows_exist, keeps_more, first_more, first_longer}
+
+-- the vectors of some blocks behind others
+abbrev pub blocks_from : ℕ → ℕ → ℕ → List (List Bool)
+blocks_from sources done count = map (stream_vector sources) (range_with_len (64 * done) (64 * count))
+
+pub stream_widths : (sources : ℕ) (numbers : List ℕ) → All (λ v. length v ≡ sources) (map (stream_vector sources) numbers)
+stream_widths sources numbers = All-map (λ v. length v ≡ sources) (stream_vector sources) numbers (λ k d below. length-map (range_with_len 0 sources) _ ∙ length-range_with_len 0 sources)
+
+-- the vectors of blocks that were filled in
+pub next_blocks : {block : Block} (sources source done count : ℕ) → block ≡ block_with sources (blocks_from sources done count) → sources ≡ source → block.vectors ≡ blocks_from source done count
+next_blocks sources source done count is same = ap (λ (b : Block). b.vectors) is ∙ ap (λ (n : ℕ). blocks_from n done count) same
+
+-- the same of the same vectors and circuit
+pub some_of : {c k : Circuit} {vectors others : List (List Bool)} {old new : KeptSoFar} → vectors ≡ others → c ≡ k → KeepsFirst c vectors old new → KeepsFirst k others old new
+some_of {c} {k} {vectors} {others} {old} {new} same circuit some = subst (λ (d : Circuit). KeepsFirst d others old new) circuit (subst (λ (vs : List (List Bool)). KeepsFirst c vs old new) same some)
+
+-- some blocks more
+pub stream_more : (law : StreamContinues) {c : Circuit} {old mid new : KeptSoFar} (done count : ℕ) → Keeps c (stream c.sources done) old mid → Keeps c (blocks_from c.sources done count) mid new → Keeps c (stream c.sources (done + count)) old new
+stream_more law {c} {old} {mid} {new} done count before next = subst (λ (vs : List (List Bool)). Keeps c vs old new) (sym (law c.sources done count)) (keeps_more before next)
+
+-- a beginning of them, of all blocks that were asked for
+pub stream_some : (law : StreamContinues) {c : Circuit} {old mid new : KeptSoFar} (done count left : ℕ) → Keeps c (stream c.sources done) old mid → KeepsFirst c (blocks_from c.sources done count) mid new
+    → KeepsFirst c (stream c.sources (done + count + left)) old new
+stream_some law {c} {old} {mid} {new} done count left before some =
+    let whole : stream c.sources (done + count + left) ≡ (stream c.sources done ++ blocks_from c.sources done count) ++ blocks_from c.sources (done + count) left =
+    law c.sources (done + count) left ∙ ap (λ (vs : List (List Bool)). vs ++ blocks_from c.sources (done + count) left) (law c.sources done count) in
+    subst (λ (vs : List (List Bool)). KeepsFirst c vs old new) (sym whole) (first_longer (blocks_from c.sources (done + count) left) (first_more before some))
+
+-- what a new keeper keeps of the first blocks
+pub stream_kept : {c : Circuit} {keeper : Keeper} (blocks : ℕ) (new : KeptSoFar) → IsCircuit c → keeper ≡ keeper_with c (nothing_kept (fault_count c)) → Keeps keeper.circuit (stream keeper.circuit.sources blocks) keeper.kept new → IsKept c blocks new.vectors
+stream_kept {c} {keeper} blocks new is fresh keeps =
+    let from_none = subst (λ (k : Keeper). Keeps k.circuit (stream k.circuit.sources blocks) k.kept new) fresh keeps in
+    let rows = rows_exist c is (stream c.sources blocks) in
+    record { rows = rows.0; answers = rows.1; kept_is = ap (λ (k : KeptSoFar). k.vectors) (from_none.by_rows rows.0 rows.1) }

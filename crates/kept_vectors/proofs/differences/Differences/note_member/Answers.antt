@@ -1,0 +1,87 @@
+use Rattle.std.proofs.Common.{◌≡◌, ◌+◌, ◌<◌, map, set, length, get_or, sym, subst, ◌∙◌, arith, inl, inr}
+use Rattle.std.specs.Prelude.{slice_range}
+use Rattle.std.proofs.lemmas.Bool.{cases_lt, or_parts}
+use Rattle.std.proofs.lemmas.Grind.{get_or_default_zero}
+use Rattle.net_model.specs.Answer.{bit_at}
+use Rattle.word_sim.specs.declared.lanes.TheConstants.{LANES}
+use Rattle.kept_vectors.specs.Notes.{renumbered, IsReportOf, AreAlikeAt, AreSpans}
+use Rattle.kept_vectors.proofs.NoteLemmas.{report_copied, alike_by_roots, alike_by_sims, alike_onward}
+use Rattle.kept_vectors.proofs.SpanLemmas.{spans_more}
+use Rattle.kept_vectors.proofs.differences.Differences.note_member.Goals as goal
+use Rattle.kept_vectors.proofs.differences.Differences.note_member.Goals.{In_ok-copy_notes}
+
+-- the notes that are copied report the number
+copied : (c : In_ok-copy_notes) → IsReportOf c.args.good.now (get_or c.args.group.now c.args.at 0) (map (renumbered (get_or c.args.group.now c.args.at 0)) (slice_range c.args.self.now.notes.items c.index.result.now c.index-then-roots-group.result.now))
+copied c =
+    let good = c.args.good.now in
+    let group = c.args.group.now in
+    let starts = c.args.self.now.starts.items in
+    let place = c.index-place.result.now in
+    let twin = get_or group place 0 in
+    let number = get_or group c.args.at 0 in
+    let span = c.requires.spans place c.if-place-at.true in
+    let one : c.index.result.now ≡ get_or starts place 0 = c.index.ensures ∙ get_or_default_zero starts place c.index.result.now (omega (arith, c.if-place-at.true, c.requires.at, c.requires.room, c.requires.of.starts)) in
+    let two : c.index-then-roots-group.result.now ≡ get_or starts (place + 1) 0 = c.index-then-roots-group.ensures ∙ get_or_default_zero starts (place + 1) c.index-then-roots-group.result.now (omega (arith, c.if-place-at.true, c.requires.at, c.requires.room, c.requires.of.starts)) in
+    let same : slice_range c.args.self.now.notes.items c.index.result.now c.index-then-roots-group.result.now ≡ slice_range c.args.self.now.notes.items (get_or starts place 0) (get_or starts (place + 1) 0) =
+    λ i. slice_range c.args.self.now.notes.items (one i) (two i) in
+    let equal = c.requires.run.roots_are.equal c.requires.run.circuit twin number (c.requires.inside place 0 (omega (arith, c.if-place-at.true, c.requires.at))) (c.requires.inside c.args.at 0 c.requires.at) c.if-roots-group.true in
+    report_copied good c.requires.run.circuit c.requires.run.widths twin number equal (slice_range c.args.self.now.notes.items c.index.result.now c.index-then-roots-group.result.now) (subst (λ part. IsReportOf good twin part) (sym same) span.2)
+
+pub returns-then-roots-group-clause-more : goal.returns-then-roots-group-clause-more
+returns-then-roots-group-clause-more c =
+    let k = (goal.at.returns-then-roots-group-clause-more c).In_ok-copy_notes in
+    (map (renumbered (get_or c.args.group.now c.args.at 0)) (slice_range c.args.self.now.notes.items c.index.result.now c.index-then-roots-group.result.now), c.in_ok-copy_notes.ensures, copied k)
+
+pub returns-then-roots-group-clause-spans : goal.returns-then-roots-group-clause-spans
+returns-then-roots-group-clause-spans c =
+    let k = (goal.at.returns-then-roots-group-clause-spans c).In_ok-copy_notes in
+    let good = c.args.good.now in
+    let group = c.args.group.now in
+    let at = c.args.at in
+    let starts = c.args.self.now.starts.items in
+    let more = map (renumbered (get_or group at 0)) (slice_range c.args.self.now.notes.items c.index.result.now c.index-then-roots-group.result.now) in
+    let spans = spans_more good group at starts c.args.self.now.notes.items more (omega (arith, c.requires.at, c.requires.room, c.requires.of.starts)) c.requires.spans c.requires.start (copied k) in
+    let len : c.len.result ≡ length c.copy_notes.new.notes.items = omega (arith, c.len.ensures, c.copy_notes.new.notes.ok.0) in
+    subst (λ n. AreSpans good group (at + 1) (set starts (at + 1) n) c.copy_notes.new.notes.items) (sym len)
+    (subst (λ ns. AreSpans good group (at + 1) (set starts (at + 1) (length ns)) ns) (sym c.in_ok-copy_notes.ensures) spans)
+
+pub returns-then-roots-group-clause-alike : goal.returns-then-roots-group-clause-alike
+returns-then-roots-group-clause-alike c k lane h live none = elim (cases_lt k c.args.at) [
+  | inl less ↦ c.requires.alike k lane less live none
+  | inr most ↦
+      let good = c.args.good.now in
+      let group = c.args.group.now in
+      let place = c.index-place.result.now in
+      let e : c.args.at ≡ k = omega (arith, h, most) in
+      let twins = alike_by_roots good c.requires.run.circuit c.args.roots.now c.requires.run.roots_are c.requires.run.widths (get_or group place 0) (get_or group c.args.at 0) lane
+      (c.requires.inside place 0 (omega (arith, c.if-place-at.true, c.requires.at))) (c.requires.inside c.args.at 0 c.requires.at) c.if-roots-group.true live in
+      subst (λ n. AreAlikeAt good lane (get_or group 0 0) (get_or group n 0)) e
+      (alike_onward good c.requires.run.circuit (get_or group 0 0) (get_or group place 0) (get_or group c.args.at 0) lane (c.requires.alike place lane c.if-place-at.true live none) twins)
+]
+
+pub returns-clause-spans : goal.returns-clause-spans
+returns-clause-spans c =
+    let good = c.args.good.now in
+    let group = c.args.group.now in
+    let at = c.args.at in
+    let starts = c.args.self.now.starts.items in
+    let noted = c.in_ok-simulate.ensures.noted in
+    let spans = spans_more good group at starts c.args.self.now.notes.items noted.0 (omega (arith, c.requires.at, c.requires.room, c.requires.of.starts)) c.requires.spans c.requires.start noted.2 in
+    let len : c.len-2.result ≡ length c.simulate.new.notes.items = omega (arith, c.len-2.ensures, c.simulate.new.notes.ok.0) in
+    subst (λ n. AreSpans good group (at + 1) (set starts (at + 1) n) c.simulate.new.notes.items) (sym len)
+    (subst (λ ns. AreSpans good group (at + 1) (set starts (at + 1) (length ns)) ns) (sym noted.1) spans)
+
+pub returns-clause-alike : goal.returns-clause-alike
+returns-clause-alike c k lane h live none =
+    let good = c.args.good.now in
+    let group = c.args.group.now in
+    let few : lane < LANES = omega (arith, live, c.requires.run.few) in
+    let parts = or_parts (bit_at c.args.lanes lane) (bit_at c.apart.result lane) (sym (c.or.ensures lane few) ∙ none) in
+    elim (cases_lt k c.args.at) [
+      | inl less ↦ c.requires.alike k lane less live parts.0
+      | inr most ↦
+          let e : c.args.at ≡ k = omega (arith, h, most) in
+          subst (λ n. AreAlikeAt good lane (get_or group 0 0) (get_or group n 0)) e
+          (alike_by_sims good c.requires.run.circuit c.args.self.now.lead c.simulate.new.sim (get_or group 0 0) (get_or group c.args.at 0) lane c.requires.lead c.in_ok-simulate.ensures.differ live
+          (λ position inside. c.apart.ensures lane position few (subst (λ k. position < length k.positions) (sym c.requires.of.lead) inside) parts.1))
+    ]

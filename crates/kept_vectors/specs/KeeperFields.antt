@@ -1,0 +1,11 @@
+-- What the fields of a `Keeper` show, and what is true of them.
+use Rattle.kept_vectors.specs.declared.keeper.Keeper.TheInside.{Inside}
+use Rattle.kept_vectors.specs.Keeper.{Keeper, keeper_with, IsKeeper}
+use Rattle.kept_vectors.specs.Scan.{kept_now, IsScan}
+
+abbrev pub keeper_of : Inside → Keeper
+keeper_of a = keeper_with a.scan.good.circuit (kept_now a.kept)
+
+pub record IsReady (a : Inside) : Type 0 where
+  pub scan : IsScan a.scan
+  pub keeper : IsKeeper (keeper_of a)

@@ -1,0 +1,5 @@
+pub mod Kept
+pub mod Keeper
+pub mod KeeperFields
+pub mod Notes
+pub mod Scan

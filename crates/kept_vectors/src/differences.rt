@@ -1,0 +1,176 @@
+//! In which lanes the answers of fault numbers differ: from the fault-free ones, and within a class.
+
+ghost use Rattle.std.specs.Prelude.{◌≡◌, ◌≤◌, ◌<◌, ◌+◌, ◌^◌, ◌++◌, ℕ, List, false, length, All, Contains, IfOk, OnOk, slice_index};
+ghost use Rattle.net_model.specs.FaultList.{fault_count, fault_numbered};
+ghost use Rattle.net_model.specs.Answer.{bit_at};
+ghost use Rattle.net_model.specs.ClassTable.{class_at};
+ghost use Rattle.word_sim.specs.GoodSim.{vectors_of};
+ghost use Rattle.fault_sim.specs.FaultSim.{row_at, AreDifferences};
+ghost use Rattle.kept_vectors.specs.Notes.{AreRight, AreNoted, IsUnnoted, AreAlikeAt, HasRun, AreOf, AreSpans, IsReportOf};
+
+use crate::notes::{Note, copy_notes, have_one_root, simulate};
+use class_refine::Classes;
+use fault_list::FaultList;
+use fault_sim::FaultSim;
+use net_model::Circuit;
+use std::alloc::{AllocError, Global};
+use word_sim::{GoodSim, LANES, Lanes};
+
+// The simulators of a class's representative and of its other members, and what was noted of the numbers' answers
+// to the vectors of a block. In a class only one number of each root is simulated: `places` has by root the place of the
+// number that was, and `starts` by place where its notes start.
+#[derive(Drop)]
+pub(crate) struct Differences<'a> {
+    pub(crate) lead: FaultSim<'a>,
+    pub(crate) member: FaultSim<'a>,
+    pub(crate) notes: Vec<Note>,
+    pub(crate) places: Vec<usize>,
+    pub(crate) starts: Vec<usize>,
+}
+
+impl<'a> Differences<'a> {
+    pub(crate) fn new(
+        alloc: Global,
+        circuit: &'a Circuit,
+        numbers: usize,
+    ) -> Result<Differences<'a>, AllocError>
+        requires few { numbers < 2 ^ 32 }
+        requires numbers { numbers ≡ fault_count circuit.now }
+        ensures { IfOk result (AreOf circuit.now) }
+    {
+        Ok(Differences {
+            lead: FaultSim::new(alloc, circuit)?,
+            member: FaultSim::new(alloc, circuit)?,
+            notes: Vec::new(alloc),
+            places: vec![in alloc; 0; numbers]?,
+            starts: vec![in alloc; 0; numbers + 1]?,
+        })
+    }
+
+    // Notes the answers of all numbers that can be told apart within their classes. Answers the lanes that can split a
+    // class: a lane that is false splits none.
+    pub(crate) fn note_classes(
+        &mut self,
+        listed: &FaultList,
+        good: &GoodSim,
+        roots: &[u32],
+        classes: &Classes,
+    ) -> Result<Lanes, AllocError>
+        requires run { HasRun good.now listed.now roots.now }
+        requires numbers { length classes.now.class_of ≡ fault_count good.now.circuit }
+        requires of { AreOf good.now.circuit self.old }
+        ensures of { AreOf good.now.circuit self.new }
+        ensures right { OnOk result (AreRight good.now self.new.notes.items) }
+        ensures noted { OnOk result ((m n : ℕ) → m < length classes.now.class_of → n < length classes.now.class_of → class_at classes.now m ≡ class_at classes.now n → AreNoted good.now self.new.notes.items m n) }
+        ensures alike { IfOk result (λ lanes. (m n lane : ℕ) → m < length classes.now.class_of → n < length classes.now.class_of → class_at classes.now m ≡ class_at classes.now n → lane < length (vectors_of good.now) → bit_at lanes lane ≡ false → AreAlikeAt good.now lane m n) }
+    {
+        self.notes.clear();
+        let mut lanes = Lanes::all(false);
+        for class in 0..classes.count() {
+            let apart = self.note_class(listed, good, roots, classes.members(class))?;
+            lanes = lanes.or(apart);
+        }
+        Ok(lanes)
+    }
+
+    // Notes the answers of the numbers of a group with more roots than one. A lane that is false tells no two of them apart.
+    fn note_class(
+        &mut self,
+        listed: &FaultList,
+        good: &GoodSim,
+        roots: &[u32],
+        group: &[u32],
+    ) -> Result<Lanes, AllocError>
+        requires run { HasRun good.now listed.now roots.now }
+        requires inside { All (λ number. number < fault_count good.now.circuit) group.now }
+        requires room { length group.now ≤ fault_count good.now.circuit }
+        requires fresh { All (IsUnnoted good.now self.old.notes.items) group.now }
+        requires of { AreOf good.now.circuit self.old }
+        requires right { AreRight good.now self.old.notes.items }
+        ensures of { AreOf good.now.circuit self.new }
+        ensures right { OnOk result (AreRight good.now self.new.notes.items) }
+        ensures more { OnOk result ((more : List Note) × (self.new.notes.items ≡ self.old.notes.items ++ more) × All (λ note. Contains group.now note.number) more) }
+        ensures noted { OnOk result ((m n : ℕ) → Contains group.now m → Contains group.now n → AreNoted good.now self.new.notes.items m n) }
+        ensures alike { IfOk result (λ lanes. (m n lane : ℕ) → Contains group.now m → Contains group.now n → lane < length (vectors_of good.now) → bit_at lanes lane ≡ false → AreAlikeAt good.now lane m n) }
+    {
+        let mut lanes = Lanes::all(false);
+        if have_one_root(roots, group) {
+            return Ok(lanes);
+        }
+        self.starts[0] = self.notes.len();
+        simulate(&mut self.lead, listed, good, group[0], &mut self.notes)?;
+        self.starts[1] = self.notes.len();
+        self.places[roots[group[0] as usize] as usize] = 0;
+        for at in 1..group.len() {
+            lanes = self.note_member(listed, good, roots, group, at, lanes)?;
+        }
+        Ok(lanes)
+    }
+
+    // Notes the answers of the number at a place of a group, behind those of the places before. A lane that is false
+    // tells none of them from the first.
+    fn note_member(
+        &mut self,
+        listed: &FaultList,
+        good: &GoodSim,
+        roots: &[u32],
+        group: &[u32],
+        at: usize,
+        lanes: Lanes,
+    ) -> Result<Lanes, AllocError>
+        requires run { HasRun good.now listed.now roots.now }
+        requires inside { All (λ number. number < fault_count good.now.circuit) group.now }
+        requires room { length group.now ≤ fault_count good.now.circuit }
+        requires of { AreOf good.now.circuit self.old }
+        requires at { at < length group.now }
+        requires lead { AreDifferences good.now.circuit (fault_numbered good.now.circuit (slice_index group.now 0)) (vectors_of good.now) self.old.lead.differences }
+        requires spans { AreSpans good.now group.now at self.old.starts.items self.old.notes.items }
+        requires start { slice_index self.old.starts.items at ≡ length self.old.notes.items }
+        requires alike { (k lane : ℕ) → k < at → lane < length (vectors_of good.now) → bit_at lanes lane ≡ false → AreAlikeAt good.now lane (slice_index group.now 0) (slice_index group.now k) }
+        ensures of { AreOf good.now.circuit self.new }
+        ensures lead { OnOk result (self.new.lead ≡ self.old.lead) }
+        ensures more { OnOk result ((more : List Note) × (self.new.notes.items ≡ self.old.notes.items ++ more) × IsReportOf good.now (slice_index group.now at) more) }
+        ensures spans { OnOk result (AreSpans good.now group.now (at + 1) self.new.starts.items self.new.notes.items) }
+        ensures start { OnOk result (slice_index self.new.starts.items (at + 1) ≡ length self.new.notes.items) }
+        ensures alike { IfOk result (λ lanes. (k lane : ℕ) → k < at + 1 → lane < length (vectors_of good.now) → bit_at lanes lane ≡ false → AreAlikeAt good.now lane (slice_index group.now 0) (slice_index group.now k)) }
+    {
+        let number = group[at];
+        let root = roots[number as usize];
+        let place = self.places[root as usize];
+        if place < at && roots[group[place] as usize] == root {
+            let (start, end) = (self.starts[place], self.starts[place + 1]);
+            copy_notes(&mut self.notes, start, end, number)?;
+            self.starts[at + 1] = self.notes.len();
+            return Ok(lanes);
+        }
+        simulate(&mut self.member, listed, good, number, &mut self.notes)?;
+        self.starts[at + 1] = self.notes.len();
+        self.places[root as usize] = at;
+        Ok(lanes.or(apart(&self.lead, &self.member)))
+    }
+}
+
+// 1 in the lanes in which the answers differ.
+fn apart(one: &FaultSim, other: &FaultSim) -> Lanes
+    requires { one.now.circuit ≡ other.now.circuit }
+    ensures { (lane position : ℕ) → lane < LANES → position < length one.now.circuit.positions → bit_at result lane ≡ false → bit_at (row_at one.now position) lane ≡ bit_at (row_at other.now position) lane }
+{
+    apart_at(one, other, one.differing_positions()).or(apart_at(
+        one,
+        other,
+        other.differing_positions(),
+    ))
+}
+
+// 1 in the lanes in which the answers differ at one of these positions.
+fn apart_at(one: &FaultSim, other: &FaultSim, positions: &[u32]) -> Lanes
+    requires circuit { one.now.circuit ≡ other.now.circuit }
+    requires inside { All (λ position. position < length one.now.circuit.positions) positions.now }
+    ensures { (lane position : ℕ) → lane < LANES → Contains positions.now position → bit_at result lane ≡ false → bit_at (row_at one.now position) lane ≡ bit_at (row_at other.now position) lane }
+{
+    let mut lanes = Lanes::all(false);
+    for position in positions {
+        lanes = lanes.or(one.differs(*position).xor(other.differs(*position)));
+    }
+    lanes
+}

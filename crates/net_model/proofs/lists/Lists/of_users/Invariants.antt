@@ -1,0 +1,5 @@
+use Rattle.net_model.proofs.ListLemmas.{AreLists}
+use Rattle.net_model.proofs.lists.Lists.of_users.Given as goal
+
+abbrev pub invariant-loop-line : goal.invariant-loop-line
+invariant-loop-line l = AreLists l.starts.items l.numbers.items l.users l.line

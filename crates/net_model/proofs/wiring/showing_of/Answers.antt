@@ -1,0 +1,30 @@
+use Rattle.std.proofs.Common.{◌≡◌, ◌∙◌, ◌<◌, [], ◌∷◌, ◌++◌, length, get_or, set, refl, ap, subst, arith, length-append}
+use Rattle.std.proofs.lemmas.List.{length-set}
+use Rattle.std.proofs.lemmas.List.Sums.{sum_by-set}
+use Rattle.net_model.specs.Topological.{parts_circuit, users_at}
+use Rattle.net_model.specs.Wiring.{AreUsers, shows_at}
+use Rattle.net_model.proofs.WiringLemmas.{users_more}
+use Rattle.net_model.proofs.wiring.showing_of.Goals as goal
+
+pub loop-position-preserved : goal.loop-position-preserved
+loop-position-preserved c =
+    let circuit = parts_circuit c.args.parts.now in
+    let positions = c.args.parts.now.positions.items in
+    let position = c.loop-position.position in
+    let users = c.loop-position.users in
+    let line = get_or positions position 0 in
+    let more = users_at users line ++ position ∷ [] in
+    let there : get_or c.deref-line-items.result.now position 0 ≡ line = ap (λ ps. get_or ps position 0) c.deref-line-items.ensures.value in
+    let inside : line < length users = omega (arith, c.requires.positions position 0 (omega (arith, c.loop-position-test.true, ap length c.deref-line-items.ensures.value)), c.loop-position.invariant.whole) in
+    let now : c.add.new.self ≡ set users line more = c.in_ok-add.ensures ∙ ap (λ l. set users l (users_at users l ++ position ∷ [])) there in
+    rw now
+    record {
+      users = users_more (shows_at circuit) users line position refl inside c.loop-position.invariant.users;
+      whole = length-set users line more ∙ c.loop-position.invariant.whole;
+      total = omega (arith, sum_by-set length users line more [] inside, length-append (users_at users line) (position ∷ []), c.loop-position.invariant.total);
+    }
+
+pub returns-clause-users : goal.returns-clause-users
+returns-clause-users c =
+    let done : c.loop-position.position ≡ length c.args.parts.now.positions.items = omega (arith, ap length c.deref-line-items.ensures.value) in
+    subst (λ n. AreUsers n (shows_at (parts_circuit c.args.parts.now)) c.loop-position.users) done c.loop-position.invariant.users

@@ -1,0 +1,111 @@
+//! An order of the gates, and who uses each line.
+
+ghost use Rattle.std.specs.Prelude.{◌≡◌, ◌≢◌, ◌<◌, ◌^◌, ℕ, [], All, IfOk, length, sum_by, slice_index, slice_index_or};
+ghost use Rattle.net_model.specs.Circuit.{FitsTogether, line_count};
+ghost use Rattle.net_model.specs.Order.{IsOrder};
+ghost use Rattle.net_model.specs.Topological.{parts_circuit, AreReaders};
+ghost use Rattle.net_model.specs.Wiring.{AreUsers, IsWiring, shows_at};
+
+use crate::lists::Lists;
+use crate::topological::Parts;
+use crate::users::Users;
+use std::alloc::{AllocError, Global};
+use std::marker::Model;
+
+/// The gates of a circuit in an order, the gates that read each line, and the observed positions that show it.
+#[derive(Drop)]
+pub struct Wiring {
+    order: Vec<u32>,
+    readers: Lists,
+    showing: Lists,
+}
+
+impl Model for Wiring {
+    ghost use Rattle.net_model.specs.Wiring as spec;
+
+    ghost Value = { spec.Wiring };
+
+    ghost use Rattle.net_model.specs.WiringFields.{wiring_of};
+
+    ghost view = { wiring_of };
+}
+
+impl Wiring {
+    /// All gates, each after the gates that it reads.
+    pub fn order(&self) -> &[u32]
+        ensures { result.now ≡ self.now.order }
+    {
+        self.order.as_slice()
+    }
+
+    /// The places in the order of the gates that read a line, one for each pin that reads it.
+    pub fn readers(&self, line: u32) -> &[u32]
+        requires { line < length self.now.readers }
+        ensures { result.now ≡ slice_index_or self.now.readers line [] }
+    {
+        self.readers.at(line)
+    }
+
+    /// The observed positions that show a line.
+    pub fn showing(&self, line: u32) -> &[u32]
+        requires { line < length self.now.showing }
+        ensures { result.now ≡ slice_index_or self.now.showing line [] }
+    {
+        self.showing.at(line)
+    }
+}
+
+// The wiring of gates in this order, of which these are the readers of each line.
+pub(crate) fn wiring_of(
+    alloc: Global,
+    parts: &Parts,
+    order: Vec<u32>,
+    mut readers: Users,
+) -> Result<Wiring, AllocError>
+    requires fits { FitsTogether (parts_circuit parts.now) }
+    requires order { IsOrder (parts_circuit parts.now) order.items }
+    requires distinct { (j k : ℕ) → j < k → k < length order.items → slice_index order.items j ≢ slice_index order.items k }
+    requires readers { AreReaders (parts_circuit parts.now) readers }
+    ensures { IfOk result (λ wiring. IsWiring (parts_circuit parts.now) wiring) }
+{
+    let lines = parts.sources + parts.gates.len() as u32;
+    let places = places_of(alloc, lines, order.as_slice())?;
+    readers.renumber(places.as_slice());
+    let readers = Lists::of_users(alloc, &readers)?;
+    let showing = Lists::of_users(alloc, &showing_of(alloc, parts)?)?;
+    Ok(Wiring {
+        order,
+        readers,
+        showing,
+    })
+}
+
+// The place of each line that is in the order.
+fn places_of(alloc: Global, lines: u32, order: &[u32]) -> Result<Vec<u32>, AllocError>
+    requires few { length order.now < 2 ^ 32 }
+    requires inside { All (λ line. line < lines) order.now }
+    requires distinct { (j k : ℕ) → j < k → k < length order.now → slice_index order.now j ≢ slice_index order.now k }
+    ensures whole { IfOk result (λ places. length places.items ≡ lines) }
+    ensures each { IfOk result (λ places. (place : ℕ) → place < length order.now → slice_index places.items (slice_index order.now place) ≡ place) }
+{
+    let mut places = vec![in alloc; 0; lines as usize]?;
+    for (place, line) in order.iter().enumerate() {
+        places[*line as usize] = place as u32;
+    }
+    Ok(places)
+}
+
+// The observed positions that show each line.
+fn showing_of(alloc: Global, parts: &Parts) -> Result<Users, AllocError>
+    requires { FitsTogether (parts_circuit parts.now) }
+    ensures users { IfOk result (λ users. AreUsers (length parts.now.positions.items) (shows_at (parts_circuit parts.now)) users) }
+    ensures whole { IfOk result (λ users. length users ≡ line_count (parts_circuit parts.now)) }
+    ensures total { IfOk result (λ users. sum_by length users ≡ length parts.now.positions.items) }
+{
+    let lines = parts.sources + parts.gates.len() as u32;
+    let mut users = Users::none(alloc, lines)?;
+    for (position, line) in parts.positions.iter().enumerate() {
+        users.add(*line, position as u32)?;
+    }
+    Ok(users)
+}

@@ -1,0 +1,27 @@
+use Rattle.std.proofs.Common.{◌≡◌, ◌∙◌, sym, ap, subst}
+use Rattle.std.specs.Prelude.{Bool, true, ◌||◌, [], ◌∷◌, ◌++◌, if◌then◌else◌}
+use Rattle.std.proofs.Math.Bool.{or-true}
+use Rattle.clause_pool.specs.Literal.{Literal}
+use Rattle.pair_miter.specs.Operand.{Operand, is_constant}
+use Rattle.pair_miter.specs.Adds.{Adds}
+use Rattle.pair_miter.specs.Miter.{tidy}
+use Rattle.pair_miter.specs.Rows.{case_clause, operand_literals}
+use Rattle.pair_miter.proofs.AddSteps.{adds_none}
+use Rattle.pair_miter.proofs.TidyParts.{tidy_none}
+use Rattle.pair_miter.proofs.tidier.Tidier.write_case.Goals as goal
+use Rattle.pair_miter.proofs.tidier.Tidier.write_case.Goals.{then-is_constant-via-then-is_constant, then-is_constant-via-else-is_constant+then-is_constant-2}
+
+-- with a constant that is true there is no clause
+none_left : (l : Literal) (unless : Bool) (chooser : Operand) (positive : Bool) (chosen : Operand) → (is_constant unless chooser || is_constant positive chosen) ≡ true → case_clause l unless chooser positive chosen ≡ []
+none_left l unless chooser positive chosen e = ap (λ b. if b then [] else (l ∷ operand_literals unless chooser ++ operand_literals positive chosen) ∷ []) e
+
+pub returns-then-is_constant-clause-written : goal.returns-then-is_constant-clause-written
+returns-then-is_constant-clause-written c =
+    let pool = c.args.pool.now in
+    let true_one : (is_constant c.args.unless c.args.chooser.now || is_constant c.args.positive c.args.chosen.now) ≡ true =
+    elim c.then-is_constant.branch [
+      | then-is_constant-via-then-is_constant w ↦ ap (λ b. b || is_constant c.args.positive c.args.chosen.now) (sym c.is_constant.ensures ∙ w.if-is_constant.true)
+      | then-is_constant-via-else-is_constant+then-is_constant-2 w ↦
+          ap (λ b. is_constant c.args.unless c.args.chooser.now || b) (sym w.is_constant-else-is_constant.ensures ∙ w.if-is_constant-2.true) ∙ or-true (is_constant c.args.unless c.args.chooser.now)
+    ] in
+    subst (Adds pool pool) (sym tidy_none ∙ ap tidy (sym (none_left c.args.l c.args.unless c.args.chooser.now c.args.positive c.args.chosen.now true_one))) (adds_none pool)

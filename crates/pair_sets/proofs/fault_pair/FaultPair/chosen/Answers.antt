@@ -1,0 +1,10 @@
+use Rattle.std.proofs.Common.{◌∙◌, [], ◌∷◌, sym}
+use Rattle.net_model.specs.declared.operation.Operation.TheVariants.{Chosen}
+use Rattle.pair_sets.specs.PairSet.{operation_pairs}
+use Rattle.pair_sets.proofs.SeenLemmas.{seen_three}
+use Rattle.pair_sets.proofs.fault_pair.FaultPair.chosen.Goals as goal
+
+pub returns : goal.returns
+returns c =
+    c.chosen.ensures ∙ (λ i. operation_pairs Chosen (c.pin_pairs-select.ensures i ∷ c.pin_pairs-low.ensures i ∷ c.pin_pairs-high.ensures i ∷ []))
+    ∙ (λ i. operation_pairs Chosen (sym (seen_three c.args.self.now.f c.args.self.now.g c.args.sets.now c.args.line c.args.pins.now c.requires.three) i))

@@ -1,8 +1,0 @@
-use Rattle.std.proofs.Common.{◌≡◌, drop}
-use Rattle.net_model.specs.declared.gate.Kind.TheVariants.{And}
-use Rattle.pair_sets.specs.PairSet.{gate_pairs}
-use Rattle.pair_sets.specs.CubeState.{seen_pairs}
-use Rattle.pair_sets.proofs.gate_pairs.all.Given as goal
-
-abbrev pub invariant-loop-k : goal.invariant-loop-k
-invariant-loop-k l = l.pairs ≡ gate_pairs And (drop l.k (seen_pairs l.f l.g l.sets l.line l.pins))

@@ -1,0 +1,104 @@
+//! Two faults of a circuit, and the pairs of values that they give pins, lines and positions.
+
+ghost use Rattle.std.specs.Prelude.{◌≡◌, ◌<◌, ◌≤◌, ◌^◌, All, IsTrue, length};
+ghost use Rattle.net_model.specs.declared.operation.Operation.TheVariants.{Folded, Chosen};
+ghost use Rattle.net_model.specs.Circuit.{line_count};
+ghost use Rattle.net_model.specs.Fault.{stuck_pin, stuck_stem};
+ghost use Rattle.net_model.specs.Gate.{takes_pins};
+ghost use Rattle.pair_sets.specs.Cube.{Cube};
+ghost use Rattle.pair_sets.specs.PairSet.{forced_pairs, gate_pairs, operation_pairs};
+ghost use Rattle.pair_sets.specs.CubeState.{set_at, seen_pairs, line_pairs, position_pairs};
+
+use crate::pair_set::PairSet;
+use net_model::{Circuit, Fault, Fold, Gate, Operation, stuck_pin, stuck_position, stuck_stem};
+
+/// Two faults and their circuit.
+#[derive(Clone, Copy)]
+pub(crate) struct FaultPair<'a> {
+    pub(crate) circuit: &'a Circuit,
+    pub(crate) f: Fault,
+    pub(crate) g: Fault,
+}
+
+impl<'a> FaultPair<'a> {
+    /// These pairs with the stuck value of a line's stem in each fault's place.
+    pub(crate) fn stem_pairs(&self, line: u32, pairs: PairSet) -> PairSet
+        ensures { result ≡ forced_pairs (stuck_stem self.now.f line) (stuck_stem self.now.g line) pairs }
+    {
+        pairs.forced(stuck_stem(self.f, line), stuck_stem(self.g, line))
+    }
+
+    /// What a pin of a line's gate sees of the line that it reads.
+    pub(crate) fn pin_pairs(&self, sets: &[PairSet], line: u32, pin: u32, read: u32) -> PairSet
+        requires { read < length sets.now }
+        ensures { result ≡ forced_pairs (stuck_pin self.now.f line pin) (stuck_pin self.now.g line pin) (set_at sets.now read) }
+    {
+        sets[read as usize].forced(stuck_pin(self.f, line, pin), stuck_pin(self.g, line, pin))
+    }
+
+    /// What an observed position shows.
+    pub(crate) fn position_pairs(&self, sets: &[PairSet], at: u32) -> PairSet
+        requires width { length sets.now ≡ line_count self.now.circuit.now }
+        requires position { at < length self.now.circuit.now.positions }
+        ensures { result ≡ position_pairs self.now.circuit.now self.now.f self.now.g sets.now at }
+    {
+        let line = self.circuit.positions()[at as usize];
+        sets[line as usize].forced(stuck_position(self.f, at), stuck_position(self.g, at))
+    }
+
+    /// The pairs of a line that a gate drives.
+    pub(crate) fn line_pairs(&self, sets: &[PairSet], line: u32) -> PairSet
+        requires gate { self.now.circuit.now.sources ≤ line }
+        requires line { line < line_count self.now.circuit.now }
+        requires width { length sets.now ≡ line_count self.now.circuit.now }
+        ensures { (cube : Cube) → result ≡ line_pairs self.now.circuit.now self.now.f self.now.g cube sets.now line }
+    {
+        self.stem_pairs(line, self.gate_pairs(sets, line, self.circuit.gate(line)))
+    }
+
+    // The pairs that the gate of a line gives on what its pins see.
+    fn gate_pairs(&self, sets: &[PairSet], line: u32, gate: &Gate) -> PairSet
+        requires inside { All (λ pin. pin < length sets.now) gate.now.pins }
+        requires few { length gate.now.pins < 2 ^ 32 }
+        requires arity { IsTrue (takes_pins gate.now.kind (length gate.now.pins)) }
+        ensures { result ≡ gate_pairs gate.now.kind (seen_pairs self.now.f self.now.g sets.now line gate.now.pins) }
+    {
+        let pins = gate.pins.as_slice();
+        let pairs = match gate.kind.operation() {
+            Operation::Folded(fold) => self.folded(sets, line, pins, fold),
+            Operation::Chosen => self.chosen(sets, line, pins),
+        };
+        if gate.kind.inverts() {
+            pairs.not()
+        } else {
+            pairs
+        }
+    }
+
+    // The pairs of a fold of these pins.
+    fn folded(&self, sets: &[PairSet], line: u32, pins: &[u32], fold: Fold) -> PairSet
+        requires inside { All (λ pin. pin < length sets.now) pins.now }
+        requires few { length pins.now < 2 ^ 32 }
+        ensures { result ≡ operation_pairs (Folded fold) (seen_pairs self.now.f self.now.g sets.now line pins.now) }
+    {
+        let mut pairs = PairSet::unit(fold);
+        for k in (0..pins.len()).rev() {
+            pairs = self
+                .pin_pairs(sets, line, k as u32, pins[k])
+                .step(fold, pairs);
+        }
+        pairs
+    }
+
+    // The pairs of the choice that the first of three pins makes between the others.
+    fn chosen(&self, sets: &[PairSet], line: u32, pins: &[u32]) -> PairSet
+        requires inside { All (λ pin. pin < length sets.now) pins.now }
+        requires three { length pins.now ≡ 3 }
+        ensures { result ≡ operation_pairs Chosen (seen_pairs self.now.f self.now.g sets.now line pins.now) }
+    {
+        let select = self.pin_pairs(sets, line, 0, pins[0]);
+        let low = self.pin_pairs(sets, line, 1, pins[1]);
+        let high = self.pin_pairs(sets, line, 2, pins[2]);
+        select.chosen(low, high)
+    }
+}

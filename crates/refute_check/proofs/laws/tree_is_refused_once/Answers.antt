@@ -1,0 +1,8 @@
+use Rattle.refute_check.proofs.TreeLaws.{one_refusal, refused_is_wrong}
+use Rattle.refute_check.proofs.laws.tree_is_refused_once.Goals as goal
+
+pub returns-clause-wrong : goal.returns-clause-wrong
+returns-clause-wrong c = refused_is_wrong
+
+pub returns-clause-once : goal.returns-clause-once
+returns-clause-once c = one_refusal

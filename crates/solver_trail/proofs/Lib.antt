@@ -1,0 +1,12 @@
+pub mod Held
+pub mod Levels
+pub mod BackTo
+pub mod Placed
+pub mod Lists
+pub mod Pairs
+pub mod Ahead
+pub mod Forced
+pub mod Kept
+pub mod Walk
+pub mod Fits
+pub mod Quiet

@@ -1,0 +1,40 @@
+use Rattle.std.proofs.Common.{refl, subst}
+use Rattle.solver_trail.specs.Assignment.{held}
+use Rattle.solver_trail.specs.Watches.{AreKept}
+use Rattle.solver_trail.specs.Propagation.{AreSatisfied}
+use Rattle.solver_trail.proofs.Forced.{held_more, propagates_two}
+use Rattle.solver_trail.proofs.Kept.{kept_more}
+use Rattle.solver_trail.proofs.Quiet.{all_quiet}
+use Rattle.solver_trail.proofs.propagation.propagate.Goals as goal
+use Rattle.solver_trail.proofs.propagation.propagate.Goals.{After-follow}
+
+pub returns-in-Some-clause-kept : goal.returns-in-Some-clause-kept
+returns-in-Some-clause-kept c = kept_more c.set_units.ensures.set c.args.place.now c.args.place.now c.args.watches.now.literals.items c.requires.place c.requires.kept
+
+-- what is kept once the units are set and their consequences are
+kept : (c : After-follow) → AreKept c.follow.new.set.literals c.args.place.now c.follow.new.place c.follow.new.watches.literals.items
+kept c = c.follow.ensures.kept (kept_more c.set_units.ensures.set c.args.place.now c.args.place.now c.args.watches.now.literals.items c.requires.place c.requires.kept)
+
+pub returns-in-Some-follow-clause-set : goal.returns-in-Some-follow-clause-set
+returns-in-Some-follow-clause-set c = propagates_two c.set_units.ensures.set c.follow.ensures.set
+
+pub returns-in-Some-follow-clause-kept : goal.returns-in-Some-follow-clause-kept
+returns-in-Some-follow-clause-kept c = kept (goal.at.returns-in-Some-follow-clause-kept c).After-follow
+
+pub returns-in-None-follow-clause-set : goal.returns-in-None-follow-clause-set
+returns-in-None-follow-clause-set c = propagates_two c.set_units.ensures.set c.follow.ensures.set
+
+pub returns-in-None-follow-clause-kept : goal.returns-in-None-follow-clause-kept
+returns-in-None-follow-clause-kept c = kept (goal.at.returns-in-None-follow-clause-kept c).After-follow
+
+pub returns-in-None-follow-clause-found : goal.returns-in-None-follow-clause-found
+returns-in-None-follow-clause-found c =
+    let a = c.follow.new.set in
+    let short = c.args.attached.now.short.items in
+    let w = c.follow.ensures.watches in
+    let literals = c.follow.new.watches.literals.items in
+    let units : AreSatisfied (held a) short c.args.pool.now.clauses = λ number clause is_in e.
+    let s = c.in-None.ensures.units refl number clause is_in e in
+    record { literal = s.literal; inside = s.inside; is_held = held_more c.follow.ensures.set s.literal s.is_held } in
+    let all = subst (λ n. AreKept a.literals c.args.place.now n literals) (c.in-None-follow.ensures.done refl) (kept (goal.at.returns-in-None-follow-clause-found c).After-follow) in
+    all_quiet a short c.args.attached.now.long.items c.args.pool.now.clauses literals c.args.place.now units w.watching w.size all

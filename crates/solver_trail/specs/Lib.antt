@@ -1,0 +1,7 @@
+pub mod Assignment
+pub mod StackFields
+pub mod Watches
+pub mod Trail
+pub mod TrailFields
+pub mod Propagation
+pub mod Laws

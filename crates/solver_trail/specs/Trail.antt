@@ -1,0 +1,81 @@
+-- What a trail shows, and how it fits the clauses of a pool.
+use Rattle.std.specs.Prelude.{◌≡◌, ◌≢◌, ◌⊎◌, ℕ, ◌*◌, ◌<◌, ◌≤◌, List, [], ◌++◌, take, length, All, Contains, Some, slice_index_or}
+use Rattle.clause_pool.specs.Literal.{Literal, opposite}
+use Rattle.clause_pool.specs.Clauses.{Clause, numbered_clause}
+use Rattle.clause_pool.specs.Partial.{IsQuiet}
+use Rattle.clause_pool.specs.Proper.{IsProper}
+use Rattle.solver_trail.specs.declared.set_literals.SetLiteral.{SetLiteral}
+use Rattle.solver_trail.specs.declared.trail.Propagated.{Propagated}
+use Rattle.solver_trail.specs.declared.trail.Propagated.TheVariants.{Quiet, Conflict}
+use Rattle.solver_trail.specs.Assignment.{Assignment, held, literals_of}
+use Rattle.solver_trail.specs.Watches.{AreWatching}
+
+-- the set literals; the numbers of the attached clauses of fewer than two literals, and of the others, each in the order of
+-- attaching; and the literals that the others watch, two for each
+pub record TrailState : Type 0 where
+  pub assignment : Assignment
+  pub short : List ℕ
+  pub long : List ℕ
+  pub watched : List Literal
+
+abbrev pub empty_trail : ℕ → TrailState
+empty_trail variables =
+    record { assignment = record { variables = variables; literals = []; level = 0 }; short = []; long = []; watched = [] }
+
+-- the numbers of the attached clauses
+abbrev pub attached_numbers : TrailState → List ℕ
+attached_numbers trail = trail.short ++ trail.long
+
+-- Exactly this number is attached in addition.
+pub record Attaches (old new : List ℕ) (number : ℕ) : Type 0 where
+  pub added : Contains new number
+  pub kept : (n : ℕ) → Contains old n → Contains new n
+  pub no_other : (n : ℕ) → Contains new n → Contains old n ⊎ (n ≡ number)
+
+-- Each attached number is in the pool, and its clause is proper.
+pub record AreAttached (variables : ℕ) (attached : List ℕ) (clauses : List Clause) : Type 0 where
+  pub numbered : All (λ number. (0 < number) × (number ≤ length clauses)) attached
+  pub proper : (number : ℕ) (clause : Clause) → Contains attached number → numbered_clause clauses number ≡ Some clause
+      → IsProper variables clause
+
+-- The clause holds the literal, and its other literals are false by the ones that were set before.
+pub record IsReason (before : List Literal) (clause : Clause) (l : Literal) : Type 0 where
+  pub inside : Contains clause l
+  pub others : (m : Literal) → Contains clause m → m ≢ l → Contains before (opposite m)
+
+-- Each reason is an attached clause that holds its literal, and whose other literals are false and were set earlier.
+pub record AreReasons (attached : List ℕ) (clauses : List Clause) (literals : List SetLiteral) : Type 0 where
+  pub is_attached : (k : ℕ) (d : SetLiteral) (number : ℕ) → k < length literals → (slice_index_or literals k d).reason ≡ Some number
+      → Contains attached number
+  pub is_reason : (k : ℕ) (d : SetLiteral) (number : ℕ) (clause : Clause) → k < length literals
+      → (slice_index_or literals k d).reason ≡ Some number → numbered_clause clauses number ≡ Some clause
+      → IsReason (take k (literals_of literals)) clause (slice_index_or literals k d).literal
+
+-- The clauses of these numbers have fewer than two literals.
+abbrev pub AreShort : List ℕ → List Clause → Type 0
+AreShort numbers clauses = (number : ℕ) (clause : Clause) → Contains numbers number → numbered_clause clauses number ≡ Some clause
+    → length clause < 2
+
+-- A trail fits the clauses of a pool.
+pub record Fits (trail : TrailState) (clauses : List Clause) : Type 0 where
+  pub attached : AreAttached trail.assignment.variables (attached_numbers trail) clauses
+  pub reasons : AreReasons (attached_numbers trail) clauses trail.assignment.literals
+  pub short : AreShort trail.short clauses
+  pub size : length trail.watched ≡ 2 * length trail.long
+  pub watching : AreWatching trail.long clauses trail.watched
+
+-- All literals of the clause are false.
+abbrev pub IsFalseClause : List Literal → Clause → Type 0
+IsFalseClause held clause = All (λ (l : Literal). Contains held (opposite l)) clause
+
+-- what propagation ends with
+abbrev pub IsFound : TrailState → List Clause → Propagated → Type 0
+IsFound trail clauses Quiet = (number : ℕ) (clause : Clause) → Contains (attached_numbers trail) number
+    → numbered_clause clauses number ≡ Some clause → IsQuiet (held trail.assignment) clause
+IsFound trail clauses (Conflict number) =
+    Contains (attached_numbers trail) number
+    × ((clause : Clause) → numbered_clause clauses number ≡ Some clause → IsFalseClause (held trail.assignment) clause)
+
+-- Something holds of the literal that is set of a variable.
+abbrev pub HasLiteral : Assignment → ℕ → (SetLiteral → Type 0) → Type 0
+HasLiteral a variable P = (s : SetLiteral) × Contains a.literals s × (s.literal.variable ≡ variable) × P s

@@ -1,0 +1,213 @@
+//! Unit propagation. Clauses of one literal come first. Then the set literals are gone through in order: each clause that watches
+//! the opposite of one, which is false now, watches another literal instead, or has its other watched literal set.
+
+ghost use Rattle.std.specs.Prelude.{◌≡◌, ◌≢◌, ℕ, ◌+◌, ◌<◌, ◌≤◌, [], ◌++◌, None, Some, Contains, IsNone, IfSome, MatchOption, is_none, if◌then◌else◌, length};
+ghost use Rattle.clause_pool.specs.Literal.{opposite};
+ghost use Rattle.clause_pool.specs.Clauses.{Clause, numbered_clause};
+ghost use Rattle.clause_pool.specs.Proper.{IsProper};
+ghost use Rattle.solver_trail.specs.Assignment.{IsTrail, Propagates, held};
+ghost use Rattle.solver_trail.specs.Trail.{AreAttached, AreReasons, AreShort, IsFound};
+ghost use Rattle.solver_trail.specs.Watches.{AreInLists, AreKept};
+ghost use Rattle.solver_trail.specs.Propagation.{numbers_of, state_of, AreSatisfied, AreOthersFalse, IsOpenOther, IsVisited, IsConflict, KeepsReasons, HasWatches, IsWalk};
+
+use crate::set_literals::SetLiterals;
+use crate::trail::Propagated;
+use crate::watches::{Watches, partner};
+use clause_pool::{Lit, Pool};
+
+/// The numbers of the attached clauses, in the order of attaching.
+#[derive(Debug, Drop)]
+pub(crate) struct Attached {
+    /// Those of fewer than two literals, which watch nothing.
+    pub(crate) short: Vec<u32>,
+    /// Those of two or more literals. The watches of the k-th one are 2 k and 2 k + 1.
+    pub(crate) long: Vec<u32>,
+}
+
+/// Sets all literals that unit propagation asks for, up to a clause that is false. The literals before the place have been gone
+/// through; it moves the place up to the first one that hasn't been.
+pub(crate) fn propagate(
+    set: &mut SetLiterals,
+    watches: &mut Watches,
+    attached: &Attached,
+    pool: &Pool,
+    place: &mut usize,
+) -> Propagated
+    requires trail { IsTrail set.old }
+    requires place { place.old ≤ length set.old.literals }
+    requires watches { HasWatches attached.now pool.now.clauses set.old watches.old }
+    requires listed { AreInLists watches.old [] }
+    requires short { AreShort attached.now.short.items pool.now.clauses }
+    requires kept { AreKept set.old.literals place.old place.old watches.old.literals.items }
+    ensures found { IsFound (state_of set.new attached.now watches.new) pool.now.clauses result }
+    ensures set { Propagates set.old set.new }
+    ensures trail { IsTrail set.new }
+    ensures watches { HasWatches attached.now pool.now.clauses set.new watches.new }
+    ensures listed { AreInLists watches.new [] }
+    ensures from { place.old ≤ place.new }
+    ensures below { place.new ≤ length set.new.literals }
+    ensures kept { AreKept set.new.literals place.old place.new watches.new.literals.items }
+{
+    match set_units(set, attached, pool) {
+        Some(number) => Propagated::Conflict(number),
+        None => match follow(set, watches, attached, pool, place) {
+            Some(number) => Propagated::Conflict(number),
+            None => Propagated::Quiet,
+        },
+    }
+}
+
+// Sets the literals of the clauses of one literal, or answers the number of one of no literal or whose literal is false.
+fn set_units(set: &mut SetLiterals, attached: &Attached, pool: &Pool) -> Option<u32>
+    requires trail { IsTrail set.old }
+    requires attached { AreAttached set.old.variables (numbers_of attached.now) pool.now.clauses }
+    requires reasons { AreReasons (numbers_of attached.now) pool.now.clauses set.old.literals }
+    requires short { AreShort attached.now.short.items pool.now.clauses }
+    ensures set { Propagates set.old set.new }
+    ensures trail { IsTrail set.new }
+    ensures reasons { AreReasons (numbers_of attached.now) pool.now.clauses set.new.literals }
+    ensures units { IsNone result → AreSatisfied (held set.new) attached.now.short.items pool.now.clauses }
+    ensures conflict { IfSome result (IsConflict (numbers_of attached.now) pool.now.clauses (held set.new)) }
+{
+    let level = set.level();
+    for number in &attached.short {
+        match pool.get(*number).first() {
+            None => return Some(*number),
+            Some(lit) => match set.value_of(*lit) {
+                Some(true) => {}
+                Some(false) => return Some(*number),
+                None => set.put(*lit, level, Some(*number)),
+            },
+        }
+    }
+    None
+}
+
+// Goes through the literals from a place on: visits the clauses that watch their opposites.
+fn follow(
+    set: &mut SetLiterals,
+    watches: &mut Watches,
+    attached: &Attached,
+    pool: &Pool,
+    place: &mut usize,
+) -> Option<u32>
+    requires trail { IsTrail set.old }
+    requires place { place.old ≤ length set.old.literals }
+    requires watches { HasWatches attached.now pool.now.clauses set.old watches.old }
+    requires listed { AreInLists watches.old [] }
+    ensures set { Propagates set.old set.new }
+    ensures trail { IsTrail set.new }
+    ensures watches { HasWatches attached.now pool.now.clauses set.new watches.new }
+    ensures listed { AreInLists watches.new [] }
+    ensures from { place.old ≤ place.new }
+    ensures below { place.new ≤ length set.new.literals }
+    ensures kept { AreKept set.old.literals place.old place.old watches.old.literals.items → AreKept set.new.literals place.old place.new watches.new.literals.items }
+    ensures done { IsNone result → place.new ≡ length set.new.literals }
+    ensures conflict { IfSome result (IsConflict (numbers_of attached.now) pool.now.clauses (held set.new)) }
+{
+    while *place < set.literals().len() {
+        match visit_list(set, watches, attached, pool, *place) {
+            Some(number) => return Some(number),
+            None => *place += 1,
+        }
+    }
+    None
+}
+
+// Visits the clauses that watch the opposite of the literal at a place, up to one that is false.
+fn visit_list(
+    set: &mut SetLiterals,
+    watches: &mut Watches,
+    attached: &Attached,
+    pool: &Pool,
+    place: usize,
+) -> Option<u32>
+    requires trail { IsTrail set.old }
+    requires place { place < length set.old.literals }
+    requires watches { HasWatches attached.now pool.now.clauses set.old watches.old }
+    requires listed { AreInLists watches.old [] }
+    ensures set { Propagates set.old set.new }
+    ensures trail { IsTrail set.new }
+    ensures watches { HasWatches attached.now pool.now.clauses set.new watches.new }
+    ensures listed { AreInLists watches.new [] }
+    ensures kept { (visited : ℕ) → visited ≤ place → AreKept set.old.literals visited place watches.old.literals.items → AreKept set.new.literals visited (if is_none result then place + 1 else place) watches.new.literals.items }
+    ensures conflict { IfSome result (IsConflict (numbers_of attached.now) pool.now.clauses (held set.new)) }
+{
+    let lit = set.literals()[place].opposite();
+    let mut ahead = watches.take(lit);
+    let found = visit_ahead(set, watches, attached, pool, lit, &mut ahead);
+    watches.put_back(ahead, lit);
+    found
+}
+
+// Visits the clauses of the watches that are ahead, which watch a literal that is false, up to a clause that is false.
+fn visit_ahead(
+    set: &mut SetLiterals,
+    watches: &mut Watches,
+    attached: &Attached,
+    pool: &Pool,
+    lit: Lit,
+    ahead: &mut Option<usize>,
+) -> Option<u32>
+    requires trail { IsTrail set.old }
+    requires lit { Contains (held set.old) (opposite lit) }
+    requires walk { IsWalk attached.now pool.now.clauses lit set.old watches.old ahead.old }
+    ensures set { Propagates set.old set.new }
+    ensures trail { IsTrail set.new }
+    ensures walk { IsWalk attached.now pool.now.clauses lit set.new watches.new ahead.new }
+    ensures kept { (visited reached : ℕ) → reached ≤ length set.old.literals → AreKept set.old.literals visited reached watches.old.literals.items → AreKept set.new.literals visited reached watches.new.literals.items }
+    ensures done { IsNone result → ahead.new ≡ None }
+    ensures conflict { IfSome result (IsConflict (numbers_of attached.now) pool.now.clauses (held set.new)) }
+{
+    for _ in 0..watches.literals.len() {
+        let watch = (*ahead)?;
+        let number = attached.long[watch / 2];
+        let other = watches.literals[partner(watch)];
+        match visit(set, pool, number, lit, other) {
+            Some(target) => *ahead = watches.rewatch(watch, target),
+            None => return Some(number),
+        }
+    }
+    None
+}
+
+// The literal that a clause watches from now on in place of one that has become false, none where the clause is false. It is
+// the same one where the clause's other watched literal is true, or is set now, since all others are false.
+fn visit(set: &mut SetLiterals, pool: &Pool, number: u32, lit: Lit, other: Lit) -> Option<Lit>
+    requires trail { IsTrail set.old }
+    requires from { 0 < number }
+    requires below { number ≤ length pool.now.clauses }
+    requires proper { (clause : Clause) → numbered_clause pool.now.clauses number ≡ Some clause → IsProper set.old.variables clause }
+    requires other { (clause : Clause) → numbered_clause pool.now.clauses number ≡ Some clause → Contains clause other }
+    ensures set { Propagates set.old set.new }
+    ensures trail { IsTrail set.new }
+    ensures reasons { KeepsReasons number pool.now.clauses set.old.literals set.new.literals }
+    ensures target { IsVisited pool.now.clauses number (held set.new) lit other result }
+{
+    match set.value_of(other) {
+        Some(true) => Some(lit),
+        Some(false) => open_other(set, pool.get(number), other),
+        None => match open_other(set, pool.get(number), other) {
+            Some(open) => Some(open),
+            None => {
+                let level = set.level();
+                set.put(other, level, Some(number));
+                Some(lit)
+            }
+        },
+    }
+}
+
+// A literal of the clause that isn't false and isn't the other one, if there is one.
+fn open_other(set: &SetLiterals, clause: &[Lit], other: Lit) -> Option<Lit>
+    requires trail { IsTrail set.now }
+    requires proper { IsProper set.now.variables clause.now }
+    ensures { MatchOption result (AreOthersFalse (held set.now) clause.now other) (IsOpenOther (held set.now) clause.now other) }
+{
+    for lit in clause {
+        if *lit != other && set.value_of(*lit) != Some(false) {
+            return Some(*lit);
+        }
+    }
+    None
+}

@@ -1,0 +1,191 @@
+//! The trail.
+
+ghost use Rattle.std.specs.Prelude.{◌≡◌, ◌≤◌, ◌<◌, ◌+◌, ◌⊎◌, [], ◌∷◌, ◌++◌, List, None, Some, IfOk, OnOk, OnErr, MatchOption, length};
+ghost use Rattle.clause_pool.specs.Clauses.{Clause, numbered_clause};
+ghost use Rattle.clause_pool.specs.Proper.{IsProper};
+ghost use Rattle.solver_trail.specs.Assignment.{IsUnset, IsTrail, Propagates, CutsAbove, with_literal, decision, held};
+ghost use Rattle.solver_trail.specs.Trail.{empty_trail, attached_numbers, Attaches, Fits, IsFound, HasLiteral};
+
+use crate::choice::two_to_watch;
+use crate::propagation::{Attached, propagate};
+use crate::set_literals::SetLiterals;
+use crate::watches::Watches;
+use clause_pool::{Lit, Pool};
+use std::alloc::{AllocError, Global};
+use std::marker::Model;
+
+/// What unit propagation ends with: every attached clause has a true literal or two unset ones, or the attached clause
+/// of this number is false.
+#[derive(Clone, Copy, Debug, PartialEq, Eq)]
+pub enum Propagated {
+    Quiet,
+    Conflict(u32),
+}
+
+/// The literals that are set, in order, each with its level and the number of the clause that forced it, and the
+/// numbers of the clauses that propagation goes over. The clauses themselves are in a pool.
+///
+/// Variables are from 1 up. Each level above 0 begins with its decided literal.
+#[derive(Debug, Drop)]
+pub struct Trail {
+    set: SetLiterals,
+    attached: Attached,
+    watches: Watches,
+    // how many of the first set literals have been gone through, and stay so until they are unset
+    visited: usize,
+}
+
+impl Model for Trail {
+    ghost use Rattle.solver_trail.specs.Trail.{TrailState};
+    ghost use Rattle.solver_trail.specs.Propagation.{state_of};
+    ghost use Rattle.solver_trail.specs.TrailFields.{IsPrepared};
+
+    ghost Value = { TrailState };
+
+    ghost view = { λ t. state_of t.set t.attached t.watches };
+
+    ghost invariant = { λ t. IsPrepared t.set t.watches t.visited };
+}
+
+impl Trail {
+    /// A trail of the variables from 1 up to a number, at level 0 and with nothing set or attached.
+    pub fn new(alloc: Global, variables: u32) -> Result<Trail, AllocError>
+        ensures empty { IfOk result (λ trail. trail ≡ empty_trail variables) }
+        ensures fits { IfOk result (λ trail. (clauses : List Clause) → Fits trail clauses) }
+        ensures trail { IfOk result (λ trail. IsTrail trail.assignment) }
+    {
+        let set = SetLiterals::new(alloc, variables)?;
+        let _ = set.level();
+        Ok(Trail {
+            set,
+            attached: Attached {
+                short: Vec::new(alloc),
+                long: Vec::new(alloc),
+            },
+            watches: Watches::new(alloc, variables)?,
+            visited: 0,
+        })
+    }
+
+    /// Has propagation go over the clause of a number, too.
+    pub fn attach(&mut self, pool: &Pool, number: u32) -> Result<(), AllocError>
+        requires fits { Fits self.old pool.now.clauses }
+        requires from { 0 < number }
+        requires below { number ≤ length pool.now.clauses }
+        requires proper { (clause : Clause) → numbered_clause pool.now.clauses number ≡ Some clause → IsProper self.old.assignment.variables clause }
+        ensures attached { OnOk result (Attaches (attached_numbers self.old) (attached_numbers self.new) number) }
+        ensures assignment { self.new.assignment ≡ self.old.assignment }
+        ensures fits { Fits self.new pool.now.clauses }
+        ensures trail { IsTrail self.new.assignment }
+        ensures err { OnErr result (self.new ≡ self.old) }
+    {
+        let clause = pool.get(number);
+        match two_to_watch(&self.set, clause) {
+            Some(pair) => {
+                self.attached.long.reserve(1)?;
+                self.watches.watch(pair.first, pair.second)?;
+                self.attached.long.push_reserved(number);
+                // what made one of the two false is gone through again
+                let first = self.set.false_from(pair.first);
+                let second = self.set.false_from(pair.second);
+                self.visited = self.visited.min(first).min(second);
+            }
+            None => self.attached.short.push(number)?,
+        }
+        Ok(())
+    }
+
+    /// Sets an unset literal at the next level. It takes no memory.
+    pub fn decide(&mut self, lit: Lit)
+        requires inside { lit.variable ≤ self.old.assignment.variables }
+        requires unset { IsUnset self.old.assignment lit.variable }
+        ensures assignment { self.new.assignment ≡ with_literal self.old.assignment (decision self.old.assignment lit) }
+        ensures attached { attached_numbers self.new ≡ attached_numbers self.old }
+        ensures fits { (clauses : List Clause) → Fits self.old clauses → Fits self.new clauses }
+        ensures trail { IsTrail self.new.assignment }
+    {
+        self.set.decide(lit);
+    }
+
+    /// Sets the literals that unit propagation over the attached clauses asks for, at the present level. It takes no memory.
+    pub fn propagate(&mut self, pool: &Pool) -> Propagated
+        requires { Fits self.old pool.now.clauses }
+        ensures found { IsFound self.new pool.now.clauses result }
+        ensures assignment { Propagates self.old.assignment self.new.assignment }
+        ensures attached { attached_numbers self.new ≡ attached_numbers self.old }
+        ensures fits { Fits self.new pool.now.clauses }
+        ensures trail { IsTrail self.new.assignment }
+    {
+        // literals of lower levels that are gone through again, after a clause was attached, aren't gone through for good
+        let steady = self.set.is_steady(self.visited);
+        let mut place = self.visited;
+        let found = propagate(
+            &mut self.set,
+            &mut self.watches,
+            &self.attached,
+            pool,
+            &mut place,
+        );
+        if steady {
+            self.visited = place;
+        }
+        found
+    }
+
+    /// Unsets the literals of higher levels. It takes no memory.
+    pub fn back_to(&mut self, level: u32)
+        requires { level ≤ self.old.assignment.level }
+        ensures assignment { CutsAbove self.old.assignment self.new.assignment level }
+        ensures attached { attached_numbers self.new ≡ attached_numbers self.old }
+        ensures fits { (clauses : List Clause) → Fits self.old clauses → Fits self.new clauses }
+        ensures trail { IsTrail self.new.assignment }
+    {
+        self.set.back_to(level);
+        self.visited = self.visited.min(self.set.literals().len());
+    }
+
+    /// The sign with which a variable is set.
+    pub fn value(&self, variable: u32) -> Option<bool>
+        requires from { 0 < variable }
+        requires inside { variable ≤ self.now.assignment.variables }
+        ensures { MatchOption result (IsUnset self.now.assignment variable) (λ positive. HasLiteral self.now.assignment variable (λ s. s.literal.positive ≡ positive)) }
+    {
+        let found = self.set.get(variable)?;
+        Some(found.literal.positive())
+    }
+
+    /// The level at which a variable is set.
+    pub fn level_of(&self, variable: u32) -> Option<u32>
+        requires from { 0 < variable }
+        requires inside { variable ≤ self.now.assignment.variables }
+        ensures { MatchOption result (IsUnset self.now.assignment variable) (λ level. HasLiteral self.now.assignment variable (λ s. s.level ≡ level)) }
+    {
+        let found = self.set.get(variable)?;
+        Some(found.level)
+    }
+
+    /// The number of the clause that forced a variable's literal, none where the variable is unset or was decided.
+    pub fn reason(&self, variable: u32) -> Option<u32>
+        requires from { 0 < variable }
+        requires inside { variable ≤ self.now.assignment.variables }
+        ensures { MatchOption result (IsUnset self.now.assignment variable ⊎ HasLiteral self.now.assignment variable (λ s. s.reason ≡ None)) (λ number. HasLiteral self.now.assignment variable (λ s. s.reason ≡ Some number)) }
+    {
+        self.set.get(variable)?.reason
+    }
+
+    /// The present level.
+    pub fn level(&self) -> u32
+        ensures level { result ≡ self.now.assignment.level }
+        ensures trail { IsTrail self.now.assignment }
+    {
+        self.set.level()
+    }
+
+    /// The set literals in the order in which they were set.
+    pub fn set_literals(&self) -> &[Lit]
+        ensures literals { result.now ≡ held self.now.assignment }
+        ensures trail { IsTrail self.now.assignment }
+    {
+        self.set.literals()
+    }
+}

@@ -1,0 +1,5 @@
+//! Tests of the class table.
+#![tactic(auto)]
+
+#[cfg(test)]
+mod refined;

@@ -1,0 +1,119 @@
+//! Propagation by hand: units, reasons, levels and a conflict, and a long chain.
+
+ghost use Rattle.std.specs.Prelude.{◌≡◌, ◌<◌, ◌≤◌, All, OnOk};
+ghost use Rattle.clause_pool.specs.Proper.{IsProper};
+ghost use Rattle.solver_trail.specs.Trail.{Fits};
+
+use clause_pool::{Lit, Pool};
+use solver_trail::{Propagated, Trail, longer_pool_fits};
+use std::test::Fail;
+
+// Pushes a clause and attaches it.
+fn add(trail: &mut Trail, pool: &mut Pool, clause: &[Lit]) -> Result<(), Fail>
+    requires fits { Fits trail.old pool.old.clauses }
+    requires proper { IsProper trail.old.assignment.variables clause.now }
+    ensures fits { OnOk result (Fits trail.new pool.new.clauses) }
+    ensures assignment { OnOk result (trail.new.assignment ≡ trail.old.assignment) }
+{
+    let number = pool.push(clause)?;
+    longer_pool_fits();
+    trail.attach(pool, number)?;
+    Ok(())
+}
+
+// Decides a literal and propagates, where its variable is unset.
+fn decide(trail: &mut Trail, pool: &Pool, lit: Lit) -> Option<Propagated>
+    requires fits { Fits trail.old pool.now.clauses }
+    requires inside { lit.variable ≤ trail.old.assignment.variables }
+    ensures fits { Fits trail.new pool.now.clauses }
+    ensures variables { trail.new.assignment.variables ≡ trail.old.assignment.variables }
+{
+    match trail.value(lit.variable()) {
+        Some(_) => None,
+        None => {
+            trail.decide(lit);
+            Some(trail.propagate(pool))
+        }
+    }
+}
+
+// Attaches all clauses of a pool.
+fn attach_all(trail: &mut Trail, pool: &Pool) -> Result<(), Fail>
+    requires fits { Fits trail.old pool.now.clauses }
+    requires proper { All (IsProper trail.old.assignment.variables) pool.now.clauses }
+    ensures fits { OnOk result (Fits trail.new pool.now.clauses) }
+    ensures assignment { OnOk result (trail.new.assignment ≡ trail.old.assignment) }
+{
+    for before in 0..pool.len() {
+        trail.attach(pool, before + 1)?;
+    }
+    Ok(())
+}
+
+#[test]
+fn units_and_reasons(rt: HostRuntime) -> Result<(), Fail> {
+    let mut pool = Pool::with_room(rt.alloc(), 4, 8)?;
+    let mut trail = Trail::new(rt.alloc(), 4)?;
+    let (one, two) = (Lit::new(1, true), Lit::new(2, true));
+    let (three, four) = (Lit::new(3, true), Lit::new(4, true));
+    add(&mut trail, &mut pool, &[one])?;
+    add(&mut trail, &mut pool, &[one.opposite(), two])?;
+    add(
+        &mut trail,
+        &mut pool,
+        &[two.opposite(), three.opposite(), four],
+    )?;
+    add(&mut trail, &mut pool, &[three.opposite(), four.opposite()])?;
+    assert_eq!(rt; trail.propagate(&pool), Propagated::Quiet);
+    assert_eq!(rt; trail.set_literals(), [one, two].as_slice());
+    assert_eq!(rt;
+        (trail.value(2), trail.level_of(2), trail.reason(2)),
+        (Some(true), Some(0), Some(2))
+    );
+    assert!(rt;
+        matches!(
+            decide(&mut trail, &pool, three),
+            Some(Propagated::Conflict(3 | 4))
+        )
+    );
+    assert_eq!(rt;
+        (trail.level(), trail.level_of(3), trail.reason(3)),
+        (1, Some(1), None)
+    );
+    trail.back_to(0);
+    assert_eq!(rt; trail.set_literals(), [one, two].as_slice());
+    Ok(())
+}
+
+const VARIABLES: u32 = 500_000;
+
+// Pushes the clauses by which every second literal from one on sets the next.
+fn push_every_second(pool: &mut Pool, from: u32) -> Result<(), Fail>
+    requires some { 0 < from }
+    requires few { from < 3 }
+    requires proper { All (IsProper VARIABLES) pool.old.clauses }
+    ensures proper { OnOk result (All (IsProper VARIABLES) pool.new.clauses) }
+{
+    for turn in 0..(VARIABLES - from + 1) / 2 {
+        let variable = from + 2 * turn;
+        pool.push(&[Lit::new(variable, false), Lit::new(variable + 1, true)])?;
+    }
+    Ok(())
+}
+
+#[test]
+fn a_chain_in_two_turns(rt: HostRuntime) -> Result<(), Fail> {
+    let mut pool = Pool::with_room(rt.alloc(), 499_999, 999_998)?;
+    push_every_second(&mut pool, 1)?;
+    push_every_second(&mut pool, 2)?;
+    assert_eq!(rt; pool.len(), 499_999);
+    let mut trail = Trail::new(rt.alloc(), VARIABLES)?;
+    attach_all(&mut trail, &pool)?;
+    assert_eq!(rt;
+        decide(&mut trail, &pool, Lit::new(1, true)),
+        Some(Propagated::Quiet)
+    );
+    assert_eq!(rt; trail.value(VARIABLES), Some(true));
+    assert_eq!(rt; trail.reason(VARIABLES), Some(250_000));
+    Ok(())
+}
