@@ -16,3 +16,6 @@ pub mod NumberLemmas
 pub mod PhraseLemmas
 -- What a text is once its names' drivers are judged
 pub mod DriverLemmas
+-- Texts that spell statements
+pub mod LineLemmas
+pub mod SpelledLemmas

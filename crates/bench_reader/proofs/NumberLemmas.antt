@@ -32,7 +32,7 @@ find_first p (w ∷ ws) n (suc i) d h miss on =
     let at : (j : ℕ) → n + 1 + j ≡ n + suc j = λ j. omega arith in
     rw here (find_first p ws (n + 1) i d (omega arith) (λ j lt. ap (λ k. p (k, get_or ws j d)) (at j) ∙ miss (suc j) (omega arith)) (ap (λ k. p (k, get_or ws i d)) (at i) ∙ on))
 
-find_none : (p : ℕ × Word → Bool) (words : List Word) (n : ℕ) (d : Word) → ((j : ℕ) → j < length words → p (n + j, get_or words j d) ≡ false) → option_map (λ x. x.1) (find p (enumerate_from n words)) ≡ None
+pub find_none : {X : Type 0} (p : ℕ × X → Bool) (words : List X) (n : ℕ) (d : X) → ((j : ℕ) → j < length words → p (n + j, get_or words j d) ≡ false) → option_map (λ x. x.1) (find p (enumerate_from n words)) ≡ None
 find_none p [] n d miss = refl
 find_none p (w ∷ ws) n d miss =
     let e : n + 0 ≡ n = omega arith in

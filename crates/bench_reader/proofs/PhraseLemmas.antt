@@ -1,6 +1,6 @@
 -- The words of statements, by the names of the phrases that they are read from.
 use Rattle.std.proofs.Common.{◌≡◌, ◌∙◌, ℕ, zero, suc, ◌+◌, ◌<◌, inl, inr, Bool, true, false, not, List, [], ◌∷◌, ◌++◌, length, get_or, take, drop, refl, sym, subst, ap, arith}
-use Rattle.std.specs.Prelude.{map, filter, filter_map, flat_map, find, All, Contains, IsTrue, option_map, position, unwrap_or, nat_lt, ◌==◌}
+use Rattle.std.specs.Prelude.{map, filter, filter_map, flat_map, find, All, Contains, IsTrue, option_map, nat_lt, ◌==◌}
 use Rattle.std.specs.List.{enumerate_from, position_or_len}
 use Rattle.std.specs.Str.{bytes_eq}
 use Rattle.std.proofs.lemmas.Bool.{cases_Bool, cases_lt, eq-eqb, eqb-true, lt-ltb}
@@ -13,7 +13,7 @@ use Rattle.net_model.proofs.Elements.{true_false}
 use Rattle.bench_reader.specs.declared.statement.Word.{Word}
 use Rattle.bench_reader.specs.Tokens.{Text, Token}
 use Rattle.bench_reader.specs.Grammar.{Named, gate_driver, flip_flop_driver, Phrase, input_phrase, output_phrase, gate_phrase, has_right_pins, phrase_names}
-use Rattle.bench_reader.specs.Reading.{distinct_names, names_of, is_among, driven_names, all_used_names, driven_twice, undriven, word_of, first_word, statement_with, ArePhrases}
+use Rattle.bench_reader.specs.Reading.{distinct_names, names_of, is_among, driven_names, all_used_names, driven_twice, undriven, word_of, number_in, first_word, statement_with, ArePhrases}
 use Rattle.bench_reader.specs.Drivers.{driven_word, used_words, has_number, repeated_word}
 
 -- ---- equal texts
@@ -46,10 +46,6 @@ has_distinct (x ∷ xs) text (suc k, h, e) =
       | inl on ↦ (0, omega arith, same_bytes x text on)
       | inr off ↦ later x (filter (λ other. not (bytes_eq x other)) (distinct_names xs)) text (kept_other x text (distinct_names xs) (has_distinct xs text (k, omega (arith, h), e)) off)
     ]
-
--- the number of a text
-abbrev pub number_in : List Text → Text → ℕ
-number_in names text = unwrap_or (position (bytes_eq text) names) 0
 
 first_place : (names : List Text) (text : Text) → Contains names text → position_or_len (bytes_eq text) names < length names
 first_place names text (k, h, e) =
@@ -182,7 +178,7 @@ used_among (gate_phrase x driver at pins ∷ ps) n m =
     ]
 
 module _ (ps : List Phrase) where
-  named : (n : Named) → Contains (flat_map phrase_names ps) n → Contains (names_of ps) n.0
+  pub named : (n : Named) → Contains (flat_map phrase_names ps) n → Contains (names_of ps) n.0
   unfolding names_of
   named n m = has_distinct (map (λ n. n.0) (flat_map phrase_names ps)) n.0 (has_text (flat_map phrase_names ps) n m)
 

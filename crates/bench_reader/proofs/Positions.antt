@@ -43,7 +43,7 @@ added ks k e = rw (any_mapped k.items ks, e) (pushed ks k)
 
 -- ---- numbers that stay
 
-pub number_stays : (p : Text → Bool) (xs ys : List Text) → list_any p xs ≡ true → (position_or_len p (xs ++ ys) ≡ position_or_len p xs) × (list_any p (xs ++ ys) ≡ true)
+pub number_stays : {X : Type 0} (p : X → Bool) (xs ys : List X) → list_any p xs ≡ true → (position_or_len p (xs ++ ys) ≡ position_or_len p xs) × (list_any p (xs ++ ys) ≡ true)
 number_stays p [] ys e = cc
 number_stays p (x ∷ xs) ys e = by (p x) (number_stays p xs ys) e
   where
@@ -60,8 +60,8 @@ number_is_new p (x ∷ xs) y e h = by (p x) (λ f. number_is_new p xs y f h) e
     by true more e = cc
     by false more e = let h = more e in (rw (h.0, one-add) refl, rw (h.1, one-add) refl, h.2)
 
--- the place of a text that stands among others
-pub placed : (p : Text → Bool) (xs : List Text) → list_any p xs ≡ true → (unwrap_or (position p xs) 0 ≡ position_or_len p xs) × (position_or_len p xs < length xs)
+-- the place of what stands among others
+pub placed : {X : Type 0} (p : X → Bool) (xs : List X) → list_any p xs ≡ true → (unwrap_or (position p xs) 0 ≡ position_or_len p xs) × (position_or_len p xs < length xs)
 placed p xs e =
     let t : nat_lt (position_or_len p xs) (length xs) ≡ true = sym (found p xs) ∙ e in
     (ap (λ (b : Bool). unwrap_or (if b then Some (position_or_len p xs) else None) 0) t, grind (arith, nat_tests))

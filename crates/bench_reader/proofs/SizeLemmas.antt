@@ -57,7 +57,7 @@ pub record IsSmall (size : ℕ) (p : Phrase) : Type 0 where
   pub names : length (phrase_names p) ≤ size
   pub statement : (text : Text) (names : List Text) → statement_size (statement_of text names p) ≤ size
 
-gate_size : (text : Text) (names : List Text) (size : ℕ) (n : Named) (driver : Driver) (w : Named) (pins : List Named) → suc (length pins) ≤ size → statement_size (statement_of text names (gate_phrase n driver w pins)) ≤ size
+gate_size : (text : Text) (names : List Text) (size : ℕ) (n : Named) (driver : Driver) (w : Named) (pins : List Named) → suc (suc (length pins)) ≤ size → statement_size (statement_of text names (gate_phrase n driver w pins)) ≤ size
 unfolding statement_of
 gate_size text names size n (gate_driver kind) w pins h = simp length-map (omega (arith, h))
 gate_size text names size n flip_flop_driver w pins h = omega (arith, h)
@@ -78,7 +78,7 @@ driver_size driver tokens pins e = by (pins_are driver tokens pins e)
     by (no_pins b e f) = rw f (omega arith)
     by (some_pins t m rest e f) = pins_size tokens pins f
 
-small_driven : (n w : Named) (tokens : List Token) (size : ℕ) (p : Phrase) → driven_phrase n w tokens ≡ Some p → suc (length tokens) ≤ size → IsSmall size p
+small_driven : (n w : Named) (tokens : List Token) (size : ℕ) (p : Phrase) → driven_phrase n w tokens ≡ Some p → suc (suc (length tokens)) ≤ size → IsSmall size p
 unfolding driven_phrase
 small_driven n w tokens size p e h = by (driver_of w.0) e
   where
@@ -86,8 +86,8 @@ small_driven n w tokens size p e h = by (driver_of w.0) e
     in_driver driver None more e = cc
     in_driver driver (Some pins) more e =
         let g : gate_phrase n driver w pins ≡ p = cc in
-        let few : suc (length pins) ≤ size = omega (arith, h, more pins refl) in
-        rw (← g) (record { names = few; statement = λ text names. gate_size text names size n driver w pins few })
+        let few : suc (suc (length pins)) ≤ size = omega (arith, h, more pins refl) in
+        rw (← g) (record { names = omega (arith, few); statement = λ text names. gate_size text names size n driver w pins few })
 
     by : (d : Option Driver) → option_and_then (λ driver. option_map (gate_phrase n driver w) (driver_pins driver tokens)) d ≡ Some p → IsSmall size p
     by None e = cc

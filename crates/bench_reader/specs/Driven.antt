@@ -29,6 +29,7 @@ takes_its_pins _ = true
 -- one for the statement itself, and one for each pin
 abbrev pub statement_size : Statement → ℕ
 statement_size (Drive n kind pins) = 1 + length pins
+statement_size (Flop q d) = 2
 statement_size _ = 1
 
 pub record IsDriven (n : Netlist) : Type 0 where

@@ -1,10 +1,11 @@
 -- Laws of the definitions.
-use Rattle.std.specs.Prelude.{◌≡◌, ◌⊎◌, ℕ}
+use Rattle.std.specs.Prelude.{◌≡◌, ◌⊎◌, ℕ, ◌≤◌, List, length, flat_map, All}
 use Rattle.bench_reader.specs.declared.fault.NetKind.{NetKind}
 use Rattle.bench_reader.specs.Netlist.{Netlist}
 use Rattle.bench_reader.specs.Tokens.{Text}
 use Rattle.bench_reader.specs.Reading.{IsNetlist}
 use Rattle.bench_reader.specs.Refusal.{TextRefused}
+use Rattle.bench_reader.specs.Spelled.{Written, AreRight, Spells, HasRuns, written_line, IsAsWritten}
 
 -- each text is accepted or refused
 abbrev pub AcceptedOrRefused : Type 0
@@ -21,3 +22,11 @@ OneRefusal = (text : Text) (one other : NetKind × ℕ) → TextRefused text one
 -- a text reads as one netlist
 abbrev pub OneNetlist : Type 0
 OneNetlist = (text : Text) (one other : Netlist) → IsNetlist text one → IsNetlist text other → one ≡ other
+
+-- a text that isn't too long and spells right statements is accepted, and reads as them
+abbrev pub SpelledIsAccepted : Type 0
+SpelledIsAccepted = (text : Text) (statements : List Written) → length text ≤ 16777216 → Spells text statements → AreRight statements → (netlist : Netlist) × IsNetlist text netlist × IsAsWritten statements netlist
+
+-- a line for each statement spells the statements
+abbrev pub LinesSpell : Type 0
+LinesSpell = (statements : List Written) → All HasRuns statements → Spells (flat_map written_line statements) statements

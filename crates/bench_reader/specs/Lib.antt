@@ -4,6 +4,7 @@ pub mod Tokens
 pub mod Grammar
 pub mod Reading
 pub mod Refusal
+pub mod Spelled
 -- What is known of every netlist that is read
 pub mod Driven
 -- Statements before their names are judged, and how they are

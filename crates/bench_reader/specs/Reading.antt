@@ -45,9 +45,13 @@ undriven phrases = find (λ n. not (is_among (driven_names phrases) n.0)) (all_u
 abbrev pub place_of : Text → ℕ → Place
 place_of text byte = record { byte = byte; line = line_of text byte }
 
+-- the number of a name: its place among the names
+abbrev pub number_in : List Text → Text → ℕ
+number_in names text = unwrap_or (position (bytes_eq text) names) 0
+
 -- the word of a name: its number and its place
 abbrev pub word_of : Text → List Text → Named → Word
-word_of text names n = record { name = unwrap_or (position (bytes_eq n.0) names) 0; place = place_of text n.1 }
+word_of text names n = record { name = number_in names n.0; place = place_of text n.1 }
 
 -- A phrase as a statement, where each name is this word.
 module _ (word : Named → Word) where

@@ -1,5 +1,5 @@
 //! Laws over the definitions: each function has an empty body, and its contract is the law.
-ghost use Rattle.bench_reader.specs.Laws.{AcceptedOrRefused, NeverAcceptedAndRefused, OneRefusal, OneNetlist};
+ghost use Rattle.bench_reader.specs.Laws.{AcceptedOrRefused, NeverAcceptedAndRefused, OneRefusal, OneNetlist, SpelledIsAccepted, LinesSpell};
 
 /// Each text is accepted or refused.
 pub fn accepted_or_refused()
@@ -19,4 +19,14 @@ pub fn one_refusal()
 /// A text reads as one netlist.
 pub fn one_netlist()
     ensures { OneNetlist }
+{}
+
+/// A text of at most 16,777,216 bytes that spells right statements is accepted, and reads as them.
+pub fn spelled_is_accepted()
+    ensures { SpelledIsAccepted }
+{}
+
+/// A text with a line for each statement spells the statements.
+pub fn lines_spell()
+    ensures { LinesSpell }
 {}

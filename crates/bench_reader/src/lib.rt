@@ -14,6 +14,9 @@ mod statement;
 mod word;
 
 pub use fault::{NetFault, NetKind, Place};
-pub use laws::{accepted_or_refused, never_accepted_and_refused, one_netlist, one_refusal};
+pub use laws::{
+    accepted_or_refused, lines_spell, never_accepted_and_refused, one_netlist, one_refusal,
+    spelled_is_accepted,
+};
 pub use reading::read;
 pub use statement::{Statement, Statements, Word, Words};

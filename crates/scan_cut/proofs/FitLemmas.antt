@@ -1,5 +1,5 @@
 -- The parts of the cut fit together.
-use Rattle.std.proofs.Common.{◌≡◌, ◌∙◌, ℕ, suc, ◌+◌, ◌*◌, ◌<◌, ◌≤◌, ◌^◌, List, [], ◌∷◌, length, refl, ap, arith, length-append}
+use Rattle.std.proofs.Common.{◌≡◌, ◌∙◌, ℕ, suc, ◌+◌, ◌<◌, ◌≤◌, List, [], ◌∷◌, length, refl, ap, arith, length-append}
 use Rattle.std.specs.Prelude.{map, filter_map, flat_map, slice_index_or, sum_by, All, Contains, IsTrue}
 use Rattle.std.proofs.lemmas.List.{length-map}
 use Rattle.std.proofs.lemmas.List.Elements.{All-nil, All-cons, All-head, All-tail, All-append, All-map, All-weaker}
@@ -50,10 +50,10 @@ gate_count whole (Drive n kind pins ∷ ss) = ap suc (gate_count whole ss)
 gate_count whole (Flop q d ∷ ss) = gate_count whole ss
 
 -- lines, positions and pins together
-parts_size : (whole ss : List Statement)
+pub parts_size : (whole ss : List Statement)
     → length (filter_map input_of ss) + length (filter_map flop_output ss) + length (filter_map (gate_of whole) ss) + length (filter_map output_of ss) + length (filter_map flop_data ss)
     + sum_by (λ gate. length gate.pins) (filter_map (gate_of whole) ss)
-    ≤ 2 * sum_by statement_size ss
+    ≤ sum_by statement_size ss
 parts_size whole [] = omega arith
 parts_size whole (Input n ∷ ss) = omega (arith, parts_size whole ss, sum_by-cons statement_size (Input n) ss)
 parts_size whole (Output n ∷ ss) = omega (arith, parts_size whole ss, sum_by-cons statement_size (Output n) ss)
@@ -99,7 +99,7 @@ module _ (n : Netlist) (o : IsDriven n) where
   pub used_lines : All (Contains (line_names n.statements)) (flat_map used_numbers n.statements)
   used_lines = All-weaker (Contains (driven_numbers n.statements)) (Contains (line_names n.statements)) (line_from_driven n.statements) (flat_map used_numbers n.statements) o.used
 
-  pub few_parts : length (line_names n.statements) + length (position_names n.statements) + sum_by (λ gate. length gate.pins) (filter_map (gate_of n.statements) n.statements) < 2 ^ 26
+  pub few_parts : length (line_names n.statements) + length (position_names n.statements) + sum_by (λ gate. length gate.pins) (filter_map (gate_of n.statements) n.statements) ≤ 16777216
   few_parts =
       omega (
         arith,
