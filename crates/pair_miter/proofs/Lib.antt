@@ -27,3 +27,4 @@ pub mod SameLiterals
 pub mod Alike
 pub mod EndVariables
 pub mod LogEnds
+pub mod SplitLemmas

@@ -6,6 +6,7 @@ pub mod Miter
 pub mod MiterView
 pub mod Numbering
 pub mod MiterFields
+pub mod SplitLines
 -- Writing clauses into a pool
 pub mod Adds
 pub mod Marks

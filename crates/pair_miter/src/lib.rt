@@ -11,6 +11,7 @@ mod operand;
 mod reading;
 mod rows;
 mod side;
+mod split;
 mod tidier;
 mod writer;
 
@@ -22,3 +23,4 @@ pub use laws::{
 pub use log::{Chain, Log};
 pub use miter::Miter;
 pub use side::Side;
+pub use split::Copies;

@@ -6,10 +6,12 @@ ghost use Rattle.net_model.specs.Circuit.{line_count};
 ghost use Rattle.net_model.specs.Scope.{is_relevant};
 ghost use Rattle.clause_pool.specs.Proper.{IsProper};
 ghost use Rattle.pair_miter.specs.Miter.{miter, is_model, copy_bit, source_bit, vector_of};
+ghost use Rattle.pair_miter.specs.SplitLines.{AreSplitLines, AreVariables};
 ghost use Rattle.pair_miter.specs.Variables.{variable_count};
 
 use crate::numbering::Numbering;
 use crate::side::Side;
+use crate::split::{Copies, split_lines};
 use net_model::{Bits, Vector, stuck_stem};
 use std::alloc::{AllocError, Global};
 use std::marker::Model;
@@ -49,6 +51,15 @@ impl<'a> Miter<'a> {
         ensures below { result < 2 ^ 30 }
     {
         self.clauses
+    }
+
+    /// The variables of the two copies of each split line that leads to a reached position, in an order in which lines can be
+    /// evaluated: first the sources, then the gates, each after those that it reads.
+    pub fn split_lines(&self) -> Result<Vec<Copies>, AllocError>
+        ensures lines { IfOk result (λ lines. AreSplitLines self.now.circuit self.now.f self.now.g lines.items) }
+        ensures inside { IfOk result (λ lines. All (AreVariables (variable_count self.now.circuit self.now.f self.now.g)) lines.items) }
+    {
+        split_lines(self.alloc, &self.numbering)
     }
 
     /// The vector of a model of the miter. The faults answer differently to it.

@@ -1,21 +1,18 @@
 -- Unit propagation, step by step.
-use Rattle.std.proofs.Common.{◌≡◌, ◌≢◌, ◌∙◌, ℕ, zero, suc, ◌<◌, ◌≤◌, ◌+◌, ◌-◌, inl, inr, refl, sym, ap, arith, subst, get_or}
-use Rattle.std.specs.Prelude.{Bool, true, false, List, [], ◌∷◌, length, take, Option, None, Some, Contains, All, slice_get, if◌then◌else◌, ◌==◌, IsTrue, IsFalse, ◌↔◌}
+use Rattle.std.proofs.Common.{◌≡◌, ◌≢◌, ◌∙◌, ℕ, zero, suc, ◌<◌, ◌+◌, inl, inr, refl, sym, ap, arith, subst, get_or}
+use Rattle.std.specs.Prelude.{Bool, true, false, List, [], ◌∷◌, length, Option, None, Some, Contains, All, IsTrue, IsFalse, ◌↔◌}
 use Rattle.std.proofs.lemmas.Bool.{cases_eq}
-use Rattle.std.proofs.lemmas.List.{length-set, get_or_default, take_all}
-use Rattle.std.proofs.lemmas.List.Elements.{All-contains, All-more, All-weaker}
-use Rattle.std.proofs.lemmas.Option.{slice_get_within, get_or_from_slice_get}
+use Rattle.std.proofs.lemmas.List.{length-set, get_or_default}
+use Rattle.std.proofs.lemmas.List.Elements.{All-contains, All-weaker}
 use Rattle.clause_pool.specs.Literal.{Literal, opposite}
-use Rattle.clause_pool.specs.Clauses.{Clause, numbered_clause}
+use Rattle.clause_pool.specs.Clauses.{Clause}
 use Rattle.clause_pool.specs.Partial.{IsQuiet, IsUndetermined}
 use Rattle.net_model.proofs.Copies.{later}
 use Rattle.net_model.proofs.Elements.{none_in, first_or_later}
 use Rattle.pair_miter.specs.Fresh.{IsFresh}
 use Rattle.refute_check.specs.Held.{IsTrueAt, IsFalseAt, IsOpenAt, IsQuietAt, satisfied, two_open, IsUnitAt}
-use Rattle.refute_check.specs.Closure.{IsClosure, IsStep, IsPass, HoldsOthers, AreOthersFalse, open_count}
-use Rattle.refute_check.specs.declared.freshness.Pass.{Pass}
-use Rattle.refute_check.specs.declared.freshness.Pass.TheVariants.{Quiet, Refused, More}
-use Rattle.refute_check.proofs.HeldLemmas.{same_literals, same_or_opposite, true_is, is_true, opposite_true, opposite_false, opposite_open, open_not_true, open_not_false, true_not_false, hold, hold_open, hold_holds, hold_kept, hold_kept_false, hold_cases, open_less}
+use Rattle.refute_check.specs.Closure.{IsClosure, IsStep, HoldsOthers, AreOthersFalse}
+use Rattle.refute_check.proofs.HeldLemmas.{same_literals, same_or_opposite, true_is, is_true, opposite_true, opposite_false, opposite_open, open_not_true, open_not_false, true_not_false, hold, hold_open, hold_holds, hold_kept, hold_kept_false, hold_cases}
 use Rattle.clause_pool.proofs.Literals.{opposite_opposite, literal_cases}
 
 -- ---- steps
@@ -82,70 +79,16 @@ unit_step clauses at values clause unit is_in is o within ne = record {
   };
 }
 
--- ---- a pass
-
-not_none : (clauses : List Clause) (clause : Clause) (n : ℕ) (test : Bool) → (if test then None else slice_get clauses n) ≡ Some clause → slice_get clauses n ≡ Some clause
-not_none clauses clause n true e = cc
-not_none clauses clause n false e = e
-
--- the clause of the number after a place stands there
-numbered_at : (clauses : List Clause) (k : ℕ) (clause : Clause) → numbered_clause clauses (k + 1) ≡ Some clause → slice_get clauses k ≡ Some clause
-numbered_at clauses k clause e =
-    let place : k + 1 - 1 ≡ k = omega arith in
-    subst (λ n. slice_get clauses n ≡ Some clause) place (not_none clauses clause (k + 1 - 1) (k + 1 == 0) e)
-
-pub found_at : (clauses : List Clause) (k : ℕ) (clause : Clause) → numbered_clause clauses (k + 1) ≡ Some clause → Contains clauses clause
-found_at clauses k clause e = let at = numbered_at clauses k clause e in (k, slice_get_within clauses k clause at, get_or_from_slice_get clauses k clause clause at)
+-- the step to a unit of a clause after a step
+pub unit_after : (clauses : List Clause) (at : Literal) (before after : List (Option Bool)) (clause : Clause) (unit : Literal) → IsStep clauses at before after → Contains clauses clause → IsUnitAt after clause unit → unit.variable < length after → unit.variable ≢ at.variable
+    → IsStep clauses at before (hold after unit)
+unit_after clauses at before after clause unit step is_in is within ne = two_steps clauses at before after (hold after unit) step (unit_step clauses at after clause unit is_in is step.at_open within ne)
 
 -- the variables of a unit are in range as those of all clauses
 pub unit_within : (clauses : List Clause) (clause : Clause) (unit : Literal) (before after : List (Option Bool)) → All (All (λ (l : Literal). l.variable < length before)) clauses → Contains clauses clause → IsUnitAt after clause unit → length after ≡ length before → unit.variable < length after
 unit_within clauses clause unit before after all is_in is size =
     let inside = All-contains (λ (l : Literal). l.variable < length before) clause unit (All-contains (All (λ (l : Literal). l.variable < length before)) clauses clause all is_in) is.inside in
     omega (arith, inside, size)
-
--- what the pass has found at the first clauses
-abbrev pub IsFound : List Clause → ℕ → List (Option Bool) → List (Option Bool) → Pass → Type 0
-IsFound clauses k before after Quiet = (after ≡ before) × All (IsQuietAt before) (take k clauses)
-IsFound clauses k before after Refused = ⊥
-IsFound clauses k before after More = open_count after < open_count before
-
-pub record IsAhead (clauses : List Clause) (at : Literal) (k : ℕ) (before after : List (Option Bool)) (found : Pass) : Type 0 where
-  pub step : IsStep clauses at before after
-  pub is_found : IsFound clauses k before after found
-
-module _ (clauses : List Clause) (k : ℕ) (before after : List (Option Bool)) where
-  quiet_found : (found : Pass) (clause : Clause) → slice_get clauses k ≡ Some clause → IsQuietAt after clause → IsFound clauses k before after found → IsFound clauses (k + 1) before after found
-  quiet_found Quiet clause e q is =
-      let here : IsQuietAt before (get_or clauses k []) = subst (IsQuietAt before) (sym (get_or_from_slice_get clauses k clause [] e)) (subst (λ values. IsQuietAt values clause) is.0 q) in
-      (is.0, All-more (IsQuietAt before) clauses k [] (slice_get_within clauses k clause e) is.1 here)
-  quiet_found Refused clause e q is = is
-  quiet_found More clause e q is = is
-
-  fewer_open : (found : Pass) → IsFound clauses k before after found → open_count after ≤ open_count before
-  fewer_open Quiet is = let e : open_count after ≡ open_count before = ap open_count is.0 in omega (arith, e)
-  fewer_open Refused is = absurd is
-  fewer_open More is = omega (arith, is)
-
-  module _ (at : Literal) (found : Pass) (clause : Clause) (here : numbered_clause clauses (k + 1) ≡ Some clause) (a : IsAhead clauses at k before after found) where
-    pub quiet_more : IsQuietAt after clause → IsAhead clauses at (k + 1) before after found
-    quiet_more q = record {
-      step = a.step;
-      is_found = quiet_found found clause (numbered_at clauses k clause here) q a.is_found;
-    }
-
-    pub unit_more : (unit : Literal) → All (All (λ (l : Literal). l.variable < length before)) clauses → IsUnitAt after clause unit → unit.variable ≢ at.variable → IsAhead clauses at (k + 1) before (hold after unit) More
-    unit_more unit all is ne =
-        let is_in = found_at clauses k clause here in
-        let within = unit_within clauses clause unit before after all is_in is a.step.size in
-        record {
-          step = two_steps clauses at before after (hold after unit) a.step (unit_step clauses at after clause unit is_in is a.step.at_open within ne);
-          is_found = omega (arith, open_less after unit within is.is_open, fewer_open found a.is_found);
-        }
-
-  pub pass_is : (at : Literal) (found : Pass) → length clauses ≤ k → IsAhead clauses at k before after found → IsPass clauses at before after found
-  pass_is at Quiet h a = (a.is_found.0, subst (All (IsQuietAt before)) (take_all k clauses h) a.is_found.1)
-  pass_is at Refused h a = absurd a.is_found
-  pass_is at More h a = (a.step, a.is_found)
 
 -- ---- the clause's other literals
 
@@ -177,6 +120,17 @@ module _ (clause : Clause) (at : Literal) where
                 (subst (Contains clause) (sym back) (k, inside, sym is), λ q. apart (ap (λ (x : Literal). x.variable) (sym back ∙ q)))
           ];
         }
+
+    -- the literal is false already
+    pub others_same : IsFalseAt values l → AreOthersFalseBefore clause at (k + 1) values
+    others_same f = record {
+      at_open = are.at_open;
+      others = λ j d h ne. elim (cases_eq j k) [
+        | inl e ↦ subst (IsFalseAt values) (sym (ap (λ n. get_or clause n d) e ∙ at_place d)) f
+        | inr late ↦ are.others j d (omega (arith, h, late)) ne
+      ];
+      no_more = are.no_more;
+    }
 
     module _ (set : List Literal) (holds : HoldsOthers clause at set) (other : l ≢ at) where
       pub not_of_at : l.variable ≡ at.variable → ⊥

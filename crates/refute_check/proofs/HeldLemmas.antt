@@ -1,17 +1,15 @@
 -- What an assignment holds, and what is found at a clause.
 use Rattle.std.proofs.Common.{◌≡◌, ◌≢◌, ◌∙◌, ℕ, ◌<◌, ◌+◌, ◌*◌, ◌⊎◌, inl, inr, refl, sym, ap, arith, subst, get_or, eqb-true}
-use Rattle.std.specs.Prelude.{Bool, true, false, not, cond, List, length, set, Option, None, Some, option_map, is_none, eqb, Contains, if◌then◌else◌}
+use Rattle.std.specs.Prelude.{Bool, true, false, not, List, length, set, Option, None, Some, option_map, eqb, Contains, if◌then◌else◌}
 use Rattle.std.specs.Bool.{beq}
 use Rattle.std.specs.List.{HoldsAt, IsAnyAnswer}
 use Rattle.std.specs.Option.{option_eq}
 use Rattle.std.proofs.lemmas.Bool.{cases_eq}
 use Rattle.std.proofs.lemmas.List.{get_or-set_same, get_or-set_other}
-use Rattle.std.proofs.lemmas.List.Sums.{sum_by-set}
 use Rattle.clause_pool.specs.Literal.{Literal, opposite}
 use Rattle.clause_pool.specs.LiteralCode.{code_of}
 use Rattle.clause_pool.specs.Clauses.{Clause}
 use Rattle.refute_check.specs.Held.{IsTrueAt, IsFalseAt, IsOpenAt}
-use Rattle.refute_check.specs.Closure.{open_count}
 
 -- ---- literals
 
@@ -85,7 +83,7 @@ module _ (values : List (Option Bool)) (l : Literal) where
   is_false : get_or values l.variable None ≡ Some (not l.positive) → IsFalseAt values l
   is_false e = ap (option_map (λ bit. beq bit l.positive)) e ∙ value_false l.positive
 
-  open_is : IsOpenAt values l → get_or values l.variable None ≡ None
+  pub open_is : IsOpenAt values l → get_or values l.variable None ≡ None
   open_is e = open_value (get_or values l.variable None) l.positive e
 
   is_open : get_or values l.variable None ≡ None → IsOpenAt values l
@@ -151,13 +149,6 @@ module _ (values : List (Option Bool)) (h : Literal) where
           inr (same_literals l h v sign)
       | inr ne ↦ inl (is_true values l (sym (hold_other l ne) ∙ true_is (hold values h) l t))
     ]
-
-    pub open_less : IsOpenAt values h → open_count (hold values h) < open_count values
-    open_less o =
-        let count : Option Bool → ℕ = λ v. cond (is_none v) 1 0 in
-        let sums = sum_by-set count values h.variable (Some h.positive) None within in
-        let was : count (get_or values h.variable None) ≡ 1 = ap count (open_is values h o) in
-        omega (arith, sums, was)
 
 -- ---- what is found among the clause's first literals
 

@@ -10,3 +10,6 @@ pub mod Sound
 pub mod ChainLaws
 pub mod LogLaws
 pub mod TreeLaws
+pub mod AssignmentLemmas
+pub mod IndexLemmas
+pub mod SettledLemmas

@@ -1,12 +1,9 @@
 -- What unit propagation over a list of clauses adds to an assignment, where one literal is to stay undetermined.
-use Rattle.std.specs.Prelude.{◌≡◌, ◌≢◌, ◌<◌, ℕ, Bool, List, All, Contains, Option, length, is_none}
-use Rattle.std.specs.List.{count_by}
+use Rattle.std.specs.Prelude.{◌≡◌, ◌≢◌, Bool, List, All, Contains, Option, length}
 use Rattle.clause_pool.specs.Literal.{Literal, opposite}
 use Rattle.clause_pool.specs.Clauses.{Clause}
 use Rattle.clause_pool.specs.Partial.{IsConsistent, IsUndetermined, IsQuiet}
-use Rattle.refute_check.specs.Held.{IsTrueAt, IsFalseAt, IsOpenAt, IsQuietAt}
-use Rattle.refute_check.specs.declared.freshness.Pass.{Pass}
-use Rattle.refute_check.specs.declared.freshness.Pass.TheVariants.{Quiet, Refused, More}
+use Rattle.refute_check.specs.Held.{IsTrueAt, IsFalseAt, IsOpenAt}
 
 -- A set of literals holds the opposites of the clause's other literals and leaves this one undetermined.
 pub record HoldsOthers (clause : Clause) (at : Literal) (held : List Literal) : Type 0 where
@@ -33,13 +30,3 @@ pub record IsStep (clauses : List Clause) (at : Literal) (before after : List (O
   pub at_open : IsOpenAt after at
   pub kept : (l : Literal) → IsTrueAt before l → IsTrueAt after l
   pub closes : (held : List Literal) → IsClosure clauses at before held → IsClosure clauses at after held
-
--- how many variables have no value
-abbrev pub open_count : List (Option Bool) → ℕ
-open_count values = count_by is_none values
-
--- what a pass over the clauses finds
-abbrev pub IsPass : List Clause → Literal → List (Option Bool) → List (Option Bool) → Pass → Type 0
-IsPass clauses at before after Quiet = (after ≡ before) × All (IsQuietAt before) clauses
-IsPass clauses at before after Refused = (held : List Literal) → ¬ IsClosure clauses at before held
-IsPass clauses at before after More = IsStep clauses at before after × (open_count after < open_count before)

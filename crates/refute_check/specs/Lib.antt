@@ -1,6 +1,9 @@
 pub mod ClauseView
 pub mod Closure
 pub mod Held
+pub mod Assignment
+pub mod Index
+pub mod Propagation
 pub mod TreeRefusal
 pub mod LogRefusal
 pub mod Walk

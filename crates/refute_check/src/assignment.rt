@@ -1,8 +1,9 @@
 //! Literals that are held true.
 
-ghost use Rattle.std.specs.Prelude.{◌≡◌, ◌+◌, ◌<◌, None, Some, All, IfOk, length, slice_index_or, slice_set, replicate};
+ghost use Rattle.std.specs.Prelude.{◌≡◌, ◌+◌, ◌<◌, [], ◌∷◌, ◌++◌, Some, All, IfOk, length, slice_set};
 ghost use Rattle.clause_pool.specs.Literal.{Literal};
-ghost use Rattle.refute_check.specs.Held.{IsLook, value_at};
+ghost use Rattle.refute_check.specs.Assignment.{IsAssignment};
+ghost use Rattle.refute_check.specs.Held.{IsLook, IsOpenAt, value_at};
 
 use clause_pool::Lit;
 use std::alloc::{AllocError, Global};
@@ -16,19 +17,25 @@ pub(crate) enum Look {
     False,
 }
 
-/// The values of variables by number, none where the variable is undetermined. Number 0 is no variable.
+/// The values of variables by number, none where the variable is undetermined, and the literals that are held, in the order
+/// in which they became so. Number 0 is no variable.
 #[derive(Drop)]
 pub(crate) struct Assignment {
     pub(crate) values: Vec<Option<bool>>,
+    pub(crate) trail: Vec<Lit>,
 }
 
 impl Assignment {
     /// All variables up to this number are undetermined.
     pub(crate) fn new(alloc: Global, variables: u32) -> Result<Assignment, AllocError>
-        ensures { IfOk result (λ assignment. assignment.values.items ≡ replicate (variables + 1) None) }
+        ensures assignment { IfOk result IsAssignment }
+        ensures size { IfOk result (λ assignment. length assignment.values.items ≡ variables + 1) }
+        ensures empty { IfOk result (λ assignment. (l : Literal) → IsOpenAt assignment.values.items l) }
     {
+        let count = variables as usize + 1;
         Ok(Assignment {
-            values: vec![in alloc; None; variables as usize + 1]?,
+            values: vec![in alloc; None; count]?,
+            trail: Vec::with_capacity(alloc, count)?,
         })
     }
 
@@ -41,12 +48,29 @@ impl Assignment {
         Some(value == lit.positive())
     }
 
-    /// Holds a literal.
+    /// Holds a literal that is undetermined. It takes no memory.
     pub(crate) fn hold(&mut self, lit: Lit)
-        requires { lit.variable < length self.old.values.items }
-        ensures { self.new.values.items ≡ slice_set self.old.values.items lit.variable (Some lit.positive) }
+        requires assignment { IsAssignment self.old }
+        requires within { lit.variable < length self.old.values.items }
+        requires undetermined { IsOpenAt self.old.values.items lit }
+        ensures assignment { IsAssignment self.new }
+        ensures values { self.new.values.items ≡ slice_set self.old.values.items lit.variable (Some lit.positive) }
+        ensures trail { self.new.trail.items ≡ self.old.trail.items ++ lit ∷ [] }
     {
         self.values[lit.variable() as usize] = Some(lit.positive());
+        self.trail.push_reserved(lit);
+    }
+
+    /// Lets go of all literals, along the list of those that are held.
+    pub(crate) fn clear(&mut self)
+        requires { IsAssignment self.old }
+        ensures assignment { IsAssignment self.new }
+        ensures size { length self.new.values.items ≡ length self.old.values.items }
+        ensures empty { (l : Literal) → IsOpenAt self.new.values.items l }
+    {
+        while let Some(lit) = self.trail.pop() {
+            self.values[lit.variable() as usize] = None;
+        }
     }
 
     /// What unit propagation finds at a clause.

@@ -1,13 +1,19 @@
 //! Clauses that tell unit propagation something new.
 
-ghost use Rattle.std.specs.Prelude.{◌≡◌, ◌↔◌, ◌<◌, List, All, IsTrue, IsFalse, IfOk, length};
+ghost use Rattle.std.specs.Prelude.{◌≡◌, ◌↔◌, ◌<◌, ◌≤◌, ◌+◌, ◌∷◌, [], ◌++◌, ℕ, List, All, IsTrue, IsFalse, IfOk, OnOk, length};
+ghost use Rattle.clause_pool.specs.Clauses.{Clause};
 ghost use Rattle.clause_pool.specs.Literal.{Literal};
+ghost use Rattle.clause_pool.specs.LiteralCode.{code_of};
 ghost use Rattle.clause_pool.specs.Proper.{HasVariablesUpTo, IsVariable};
 ghost use Rattle.pair_miter.specs.Fresh.{IsFresh};
-ghost use Rattle.refute_check.specs.Closure.{AreOthersFalse, HoldsOthers, IsClosure, IsPass, IsStep};
+ghost use Rattle.refute_check.specs.Assignment.{IsAssignment};
+ghost use Rattle.refute_check.specs.Closure.{AreOthersFalse, HoldsOthers, IsClosure, IsStep};
 ghost use Rattle.refute_check.specs.Held.{IsOpenAt, IsQuietAt};
+ghost use Rattle.refute_check.specs.Index.{IsIndexOf, IsNumber};
+ghost use Rattle.refute_check.specs.Propagation.{AreSettled, IsReady};
 
 use crate::assignment::{Assignment, Look};
+use crate::index::Index;
 use clause_pool::{Lit, Pool};
 use std::alloc::{AllocError, Global};
 
@@ -27,26 +33,63 @@ pub fn fresh(
     requires at { IsVariable variables at.variable }
     ensures { IfOk result (λ fresh. IsTrue fresh ↔ IsFresh pool.now.clauses clause.now at) }
 {
-    if !clause.contains(&at) {
-        return Ok(false);
-    }
-    let mut held = Assignment::new(alloc, variables)?;
-    Ok(hold_others(&mut held, clause, at) && close(&mut held, pool, at))
+    let mut propagator = Propagator::new(alloc, pool, variables)?;
+    Ok(propagator.fresh(pool, variables, clause, at))
 }
 
-// What a pass over the clauses finds: nothing to do, a contradiction, or that more literals are held.
-#[derive(Clone, Copy, Debug, PartialEq, Eq)]
-enum Pass {
-    Quiet,
-    Refused,
-    More,
+/// Unit propagation over the clauses of a pool. Nothing is held between its calls.
+#[derive(Drop)]
+pub(crate) struct Propagator {
+    pub(crate) held: Assignment,
+    pub(crate) index: Index,
+}
+
+impl Propagator {
+    /// A propagator for the clauses of a pool, whose variables are from 1 to `variables`.
+    pub(crate) fn new(alloc: Global, pool: &Pool, variables: u32) -> Result<Propagator, AllocError>
+        requires { All (HasVariablesUpTo variables) pool.now.clauses }
+        ensures { IfOk result (IsReady variables pool.now.clauses) }
+    {
+        Ok(Propagator {
+            held: Assignment::new(alloc, variables)?,
+            index: Index::of(alloc, pool, variables)?,
+        })
+    }
+
+    /// Takes the clause of a number into account, the next one of the pool.
+    pub(crate) fn add(&mut self, clause: &[Lit], number: u32) -> Result<(), AllocError>
+        requires { All (λ l. code_of l < length self.old.index.lists) clause.now }
+        ensures { OnOk result ((variables : ℕ) (clauses : List Clause) → length clauses + 1 ≡ number → IsReady variables clauses self.old → IsReady variables (clauses ++ clause.now ∷ []) self.new) }
+    {
+        self.index.add(clause, number)
+    }
+
+    /// Whether a clause is fresh at one of its literals. It takes no memory.
+    pub(crate) fn fresh(&mut self, pool: &Pool, variables: u32, clause: &[Lit], at: Lit) -> bool
+        requires ready { IsReady variables pool.now.clauses self.old }
+        requires pool { All (HasVariablesUpTo variables) pool.now.clauses }
+        requires clause { HasVariablesUpTo variables clause.now }
+        requires at { IsVariable variables at.variable }
+        ensures fresh { IsTrue result ↔ IsFresh pool.now.clauses clause.now at }
+        ensures ready { IsReady variables pool.now.clauses self.new }
+    {
+        if !clause.contains(&at) {
+            return false;
+        }
+        let fresh = hold_others(&mut self.held, clause, at)
+            && close(&mut self.held, pool, &self.index, variables, at);
+        self.held.clear();
+        fresh
+    }
 }
 
 // Holds the opposites of the clause's other literals, unless no set of literals can.
 fn hold_others(held: &mut Assignment, clause: &[Lit], at: Lit) -> bool
+    requires assignment { IsAssignment held.old }
     requires at { at.variable < length held.old.values.items }
     requires clause { All (λ (l : Literal). l.variable < length held.old.values.items) clause.now }
     requires empty { (l : Literal) → IsOpenAt held.old.values.items l }
+    ensures assignment { IsAssignment held.new }
     ensures size { length held.new.values.items ≡ length held.old.values.items }
     ensures held { IsTrue result → AreOthersFalse clause.now at held.new.values.items }
     ensures none { IsFalse result → (set : List Literal) → ¬ HoldsOthers clause.now at set }
@@ -55,52 +98,72 @@ fn hold_others(held: &mut Assignment, clause: &[Lit], at: Lit) -> bool
         if *lit == at {
             continue;
         }
-        if lit.variable() == at.variable() || held.value(*lit) == Some(true) {
+        if lit.variable() == at.variable() {
             return false;
         }
-        held.hold(lit.opposite());
+        match held.value(*lit) {
+            Some(true) => return false,
+            Some(false) => {}
+            None => held.hold(lit.opposite()),
+        }
     }
     true
 }
 
 // Holds all that unit propagation asks for. Answers whether it leaves the literal undetermined and no clause false.
-fn close(held: &mut Assignment, pool: &Pool, at: Lit) -> bool
-    requires pool { All (All (λ (l : Literal). l.variable < length held.old.values.items)) pool.now.clauses }
+fn close(held: &mut Assignment, pool: &Pool, index: &Index, variables: u32, at: Lit) -> bool
+    requires assignment { IsAssignment held.old }
+    requires index { IsIndexOf variables pool.now.clauses index.now.lists index.now.short.items }
+    requires size { length held.old.values.items ≡ variables + 1 }
+    requires pool { All (HasVariablesUpTo variables) pool.now.clauses }
     requires at { IsOpenAt held.old.values.items at }
+    ensures assignment { IsAssignment held.new }
+    ensures size { length held.new.values.items ≡ length held.old.values.items }
     ensures step { IsTrue result → IsStep pool.now.clauses at held.old.values.items held.new.values.items }
     ensures quiet { IsTrue result → All (IsQuietAt held.new.values.items) pool.now.clauses }
     ensures none { IsFalse result → (set : List Literal) → ¬ IsClosure pool.now.clauses at held.old.values.items set }
 {
-    loop {
-        match go_over(held, pool, at) {
-            Pass::Quiet => return true,
-            Pass::Refused => return false,
-            Pass::More => {}
-        }
+    if !visit(held, pool, index.short.as_slice(), at) {
+        return false;
     }
+    let mut head = 0;
+    while head < held.trail.len() {
+        let falsified = held.trail[head].opposite();
+        if !visit(held, pool, index.lists.at(falsified), at) {
+            return false;
+        }
+        head += 1;
+    }
+    true
 }
 
-// Goes over the clauses once.
-fn go_over(held: &mut Assignment, pool: &Pool, at: Lit) -> Pass
+// Looks at the clauses of these numbers, and holds what unit propagation asks for there. Answers whether it leaves the
+// literal undetermined and none of these clauses is false.
+fn visit(held: &mut Assignment, pool: &Pool, numbers: &[u32], at: Lit) -> bool
+    requires assignment { IsAssignment held.old }
     requires pool { All (All (λ (l : Literal). l.variable < length held.old.values.items)) pool.now.clauses }
+    requires numbers { All (IsNumber (length pool.now.clauses)) numbers.now }
     requires at { IsOpenAt held.old.values.items at }
-    ensures { IsPass pool.now.clauses at held.old.values.items held.new.values.items result }
+    ensures assignment { IsAssignment held.new }
+    ensures size { length held.new.values.items ≡ length held.old.values.items }
+    ensures longer { length held.old.trail.items ≤ length held.new.trail.items }
+    ensures step { IsTrue result → IsStep pool.now.clauses at held.old.values.items held.new.values.items }
+    ensures settled { IsTrue result → (from : ℕ) → from ≤ length held.old.trail.items → AreSettled pool.now.clauses held.old from numbers.now → AreSettled pool.now.clauses held.new from [] }
+    ensures none { IsFalse result → (set : List Literal) → ¬ IsClosure pool.now.clauses at held.old.values.items set }
 {
-    let mut found = Pass::Quiet;
-    for index in 0..pool.len() {
-        let clause = pool.get(index + 1);
+    for number in numbers {
+        let clause = pool.get(*number);
         match held.look(clause) {
             Look::Quiet => {}
-            Look::False => return Pass::Refused,
+            Look::False => return false,
             Look::Unit(place) => {
                 let unit = clause[place];
                 if unit.variable() == at.variable() {
-                    return Pass::Refused;
+                    return false;
                 }
                 held.hold(unit);
-                found = Pass::More;
             }
         }
     }
-    found
+    true
 }

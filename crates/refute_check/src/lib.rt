@@ -5,6 +5,7 @@ mod assignment;
 mod chain;
 mod clause;
 mod freshness;
+mod index;
 mod laws;
 mod log;
 mod refusal;

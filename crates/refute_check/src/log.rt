@@ -8,10 +8,11 @@ ghost use Rattle.pair_miter.specs.Miter as spec;
 ghost use Rattle.refute_check.specs.declared.refusal.Refusal.{Refusal};
 ghost use Rattle.refute_check.specs.declared.refusal.EvidenceKind.{EvidenceKind};
 ghost use Rattle.refute_check.specs.LogRefusal.{ChainStops, EndsAs, HasRightLength, IsRightLog, IsRuleFor, LogRefused};
+ghost use Rattle.refute_check.specs.Propagation.{IsReady};
 
 use crate::chain::run_chain;
 use crate::clause::Clause;
-use crate::freshness::fresh;
+use crate::freshness::Propagator;
 use crate::refusal::{ChainFault, CheckFault, EvidenceKind, RefusalKind, refused};
 use clause_pool::{Lit, Pool};
 use pair_miter::{Chain, Log, Miter};
@@ -40,14 +41,16 @@ pub fn check_log(
         return Err(refused(RefusalKind::WrongCount, chains.len()));
     }
     let variables = miter.variables();
+    let mut propagator = Propagator::new(alloc, pool, variables)?;
     for (at, chain) in chains.iter().enumerate() {
         let end = end_of(alloc, pool, chain, at)?;
         let last = at + 1 == chains.len();
-        if let Some(rule) = wrong_end(alloc, pool, variables, chain, &end, kind, last)? {
+        if let Some(rule) = wrong_end(&mut propagator, pool, variables, chain, &end, kind, last) {
             return Err(refused(rule, at));
         }
         if !last {
             add(pool, end.as_slice())?;
+            propagator.add(end.as_slice(), pool.len())?;
         }
     }
     Ok(())
@@ -79,60 +82,63 @@ fn end_of(alloc: Global, pool: &Pool, chain: &Chain, at: usize) -> Result<Clause
 
 // The rule that the end of a chain breaks, if it breaks one.
 fn wrong_end(
-    alloc: Global,
+    propagator: &mut Propagator,
     pool: &Pool,
     variables: u32,
     chain: &Chain,
     end: &Clause,
     kind: EvidenceKind,
     last: bool,
-) -> Result<Option<RefusalKind>, AllocError>
+) -> Option<RefusalKind>
+    requires ready { IsReady variables pool.now.clauses propagator.old }
     requires kind { kind ≢ EvidenceKind.Covered }
     requires clauses { All (HasVariablesUpTo variables) pool.now.clauses }
     requires end { HasVariablesUpTo variables end.now.literals }
-    ensures { IfOk result (IsRuleFor kind last pool.now.clauses chain.now end.now.literals) }
+    ensures rule { IsRuleFor kind last pool.now.clauses chain.now end.now.literals result }
+    ensures ready { IsReady variables pool.now.clauses propagator.new }
 {
     let literals = end.as_slice();
     if kind == EvidenceKind::Spent {
         if literals.is_empty() {
-            return Ok(Some(RefusalKind::EmptyEarly));
+            return Some(RefusalKind::EmptyEarly);
         }
-        let fresh = ends_fresh(alloc, pool, variables, chain, literals)?;
-        return Ok(if fresh {
+        return if ends_fresh(propagator, pool, variables, chain, literals) {
             None
         } else {
             Some(RefusalKind::NotFresh)
-        });
+        };
     }
     if literals.is_empty() == last {
-        return Ok(None);
+        return None;
     }
-    Ok(Some(if last {
+    Some(if last {
         RefusalKind::NotEmpty
     } else {
         RefusalKind::EmptyEarly
-    }))
+    })
 }
 
 // Whether the end of a chain is fresh at the chain's literal.
 fn ends_fresh(
-    alloc: Global,
+    propagator: &mut Propagator,
     pool: &Pool,
     variables: u32,
     chain: &Chain,
     end: &[Lit],
-) -> Result<bool, AllocError>
+) -> bool
+    requires ready { IsReady variables pool.now.clauses propagator.old }
     requires clauses { All (HasVariablesUpTo variables) pool.now.clauses }
     requires end { HasVariablesUpTo variables end.now }
-    ensures { IfOk result (λ fresh. IsTrue fresh ↔ EndsFresh pool.now.clauses chain.now end.now) }
+    ensures fresh { IsTrue result ↔ EndsFresh pool.now.clauses chain.now end.now }
+    ensures ready { IsReady variables pool.now.clauses propagator.new }
 {
     let Some(at) = chain.at() else {
-        return Ok(false);
+        return false;
     };
     if !end.contains(&at) {
-        return Ok(false);
+        return false;
     }
-    fresh(alloc, pool, variables, end, at)
+    propagator.fresh(pool, variables, end, at)
 }
 
 // Adds a clause to the pool, which grows where it has no room.

@@ -1,14 +1,75 @@
-use Rattle.std.proofs.Common.{sym, subst}
-use Rattle.std.specs.Prelude.{All}
-use Rattle.refute_check.specs.Held.{IsQuietAt}
+use Rattle.std.proofs.Common.{◌+◌, ◌<◌, ◌≤◌, length, sym, ap, subst, arith}
+use Rattle.std.specs.Prelude.{All, Contains}
+use Rattle.std.proofs.lemmas.List.Elements.{All-weaker, All-contains_itself}
+use Rattle.clause_pool.specs.Literal.{Literal}
+use Rattle.clause_pool.specs.LiteralCode.{code_of}
+use Rattle.clause_pool.proofs.Literals.{code_within}
+use Rattle.refute_check.specs.Index.{IsNumber, list_at}
+use Rattle.refute_check.specs.Propagation.{AreSettled}
+use Rattle.refute_check.proofs.AssignmentLemmas.{true_within}
 use Rattle.refute_check.proofs.ClosureLemmas.{two_steps}
+use Rattle.refute_check.proofs.SettledLemmas.{first_settled, turn, all_quiet}
 use Rattle.refute_check.proofs.freshness.close.Goals as goal
 
-pub returns-in-Quiet-clause-quiet : goal.returns-in-Quiet-clause-quiet
-returns-in-Quiet-clause-quiet c = λ t. subst (λ values. All (IsQuietAt values) c.args.pool.now.clauses) (sym c.in-Quiet.ensures.0) c.in-Quiet.ensures.1
+pub visit-requires-clause-numbers : goal.visit-requires-clause-numbers
+visit-requires-clause-numbers c =
+    let count = length c.args.pool.now.clauses in
+    let short = c.args.index.now.short.items in
+    subst (All (IsNumber count)) (sym c.as_slice.ensures.value) (All-weaker (Contains short) (IsNumber count) c.requires.index.short_numbers short (All-contains_itself short))
 
-pub returns-in-Refused-clause-none : goal.returns-in-Refused-clause-none
-returns-in-Refused-clause-none c = λ f set closure. c.in-Refused.ensures set (c.loop.invariant.closes set closure)
+pub loop-head-init : goal.loop-head-init
+loop-head-init c =
+    let clauses = c.args.pool.now.clauses in
+    let index = c.args.index.now in
+    record {
+      assignment = c.visit.ensures.assignment;
+      step = c.visit.ensures.step c.if-not-visit.false;
+      inside = omega arith;
+      settled = c.visit.ensures.settled c.if-not-visit.false 0 (omega arith)
+          (subst (AreSettled clauses c.args.held.now 0) (sym c.as_slice.ensures.value) (first_settled c.args.variables clauses index.lists index.short.items c.requires.index c.args.held.now c.requires.assignment));
+    }
 
-pub loop-preserved : goal.loop-preserved
-loop-preserved c = two_steps c.args.pool.now.clauses c.args.at c.args.held.now.values.items c.loop.held.values.items c.go_over.new.held.values.items c.loop.invariant c.in-More.ensures.0
+pub at-requires : goal.at-requires
+at-requires c =
+    let a = c.loop-head.held in
+    let p = c.index.result.now in
+    let here : c.loop-head.head < length a.trail.items = omega (arith, c.loop-head-test.true, c.len.ensures, a.trail.ok.0) in
+    let inside = true_within a.values.items p (c.loop-head.invariant.assignment.held p (c.loop-head.head, here, sym c.index.ensures)) in
+    let same = ap (λ (l : Literal). l.variable) c.opposite-falsified.ensures in
+    let low : c.opposite-falsified.result.variable ≤ c.args.variables = omega (arith, inside, same, c.loop-head.invariant.step.size, c.requires.size) in
+    let within = code_within c.opposite-falsified.result c.args.variables low in
+    omega (arith, within, c.requires.index.places)
+
+pub visit-requires-in-loop-head-clause-numbers : goal.visit-requires-in-loop-head-clause-numbers
+visit-requires-in-loop-head-clause-numbers c =
+    let count = length c.args.pool.now.clauses in
+    let place = code_of c.opposite-falsified.result in
+    let list = list_at c.args.index.now.lists place in
+    subst (All (IsNumber count)) (sym c.at.ensures) (All-weaker (Contains list) (IsNumber count) (c.requires.index.numbers place) list (All-contains_itself list))
+
+pub returns-then-not-visit-2-clause-none : goal.returns-then-not-visit-2-clause-none
+returns-then-not-visit-2-clause-none c = λ f set closure. c.visit-in-loop-head.ensures.none c.if-not-visit-2.true set (c.loop-head.invariant.step.closes set closure)
+
+pub loop-head-preserved : goal.loop-head-preserved
+loop-head-preserved c =
+    let clauses = c.args.pool.now.clauses in
+    let index = c.args.index.now in
+    let a = c.loop-head.held in
+    let head = c.loop-head.head in
+    let new = c.visit-in-loop-head.new.held in
+    let here : head < length a.trail.items = omega (arith, c.loop-head-test.true, c.len.ensures, a.trail.ok.0) in
+    record {
+      assignment = c.visit-in-loop-head.ensures.assignment;
+      step = two_steps clauses c.args.at c.args.held.now.values.items a.values.items new.values.items c.loop-head.invariant.step (c.visit-in-loop-head.ensures.step c.if-not-visit-2.false);
+      inside = omega (arith, here, c.visit-in-loop-head.ensures.longer);
+      settled = c.visit-in-loop-head.ensures.settled c.if-not-visit-2.false (head + 1) (omega (arith, here))
+          (subst (AreSettled clauses a (head + 1)) (sym c.at.ensures)
+          (turn c.args.variables clauses index.lists index.short.items c.requires.index a head c.index.result.now c.opposite-falsified.result here c.index.ensures c.opposite-falsified.ensures c.loop-head.invariant.settled));
+    }
+
+pub returns-clause-quiet : goal.returns-clause-quiet
+returns-clause-quiet c = λ t.
+    let a = c.loop-head.held in
+    let index = c.args.index.now in
+    let done : length a.trail.items ≤ c.loop-head.head = omega (arith, c.loop-head-test.false, c.len.ensures, a.trail.ok.0) in
+    all_quiet c.args.variables c.args.pool.now.clauses index.lists index.short.items c.requires.index a c.loop-head.head done c.loop-head.invariant.settled

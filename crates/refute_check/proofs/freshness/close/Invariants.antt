@@ -1,8 +1,9 @@
-use Rattle.refute_check.specs.Closure.{IsStep, open_count}
+use Rattle.std.proofs.Common.{◌-◌, length}
+use Rattle.refute_check.proofs.SettledLemmas.{HasGone}
 use Rattle.refute_check.proofs.freshness.close.Given as goal
 
-abbrev pub invariant-loop : goal.invariant-loop
-invariant-loop l = IsStep l.pool.clauses l.at l.initial.held.values.items l.held.values.items
+abbrev pub invariant-loop-head : goal.invariant-loop-head
+invariant-loop-head l = HasGone l.pool.clauses l.at l.head l.fn.held l.held
 
-abbrev pub decreases-loop : goal.decreases-loop
-decreases-loop l = open_count l.held.values.items
+abbrev pub decreases-loop-head : goal.decreases-loop-head
+decreases-loop-head l = length l.fn.held.values.items - l.head

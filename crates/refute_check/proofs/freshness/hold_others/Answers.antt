@@ -1,27 +1,31 @@
 use Rattle.std.proofs.Common.{◌≡◌, ◌≢◌, ◌∙◌, ◌+◌, ◌<◌, length, sym, ap, subst, arith, eq-eqb}
 use Rattle.std.specs.Prelude.{Bool, Some, true, false, not}
-use Rattle.std.specs.Bool.{beq}
-use Rattle.std.specs.Option.{option_eq}
 use Rattle.std.proofs.lemmas.List.{length-set}
 use Rattle.clause_pool.specs.Literal.{Literal, opposite}
 use Rattle.clause_pool.specs.LiteralCode.{code_of}
-use Rattle.refute_check.specs.Held.{IsTrueAt}
-use Rattle.refute_check.proofs.HeldLemmas.{equals_true, hold}
-use Rattle.refute_check.proofs.ClosureLemmas.{AreOthersFalseBefore, not_of_at, not_true, others_more}
+use Rattle.refute_check.specs.declared.assignment.Assignment.{Assignment}
+use Rattle.refute_check.specs.Assignment.{IsAssignment}
+use Rattle.refute_check.specs.Held.{IsTrueAt, IsFalseAt, IsOpenAt}
+use Rattle.refute_check.proofs.HeldLemmas.{hold, open_not_true}
+use Rattle.refute_check.proofs.ClosureLemmas.{AreOthersFalseBefore, not_of_at, not_true, others_more, others_same}
 use Rattle.refute_check.proofs.freshness.hold_others.Goals as goal
-use Rattle.refute_check.proofs.freshness.hold_others.Goals.{then-variable-via-then-variable, then-variable-via-else-variable+then-eq-2}
+use Rattle.refute_check.proofs.freshness.hold_others.Goals.{in-Some-false, in-None}
 
 pub returns-then-variable-clause-none : goal.returns-then-variable-clause-none
 returns-then-variable-clause-none c =
     let l = c.lit-item.result in
     let at = c.args.at in
     let other : l ≢ at = λ e. let wrong : ◌≡◌ {A = Bool} true false = sym (eq-eqb (code_of l) (code_of at) (ap code_of e)) ∙ (sym c.eq.ensures ∙ c.if-eq.false) in cc in
-    λ f set holds. elim c.then-variable.branch [
-      | then-variable-via-then-variable w ↦
-          not_of_at c.args.clause.now at c.loop-lit.lit-index c.loop-lit.held.values.items c.loop-lit.invariant.others l c.loop-lit-test.true c.lit-item.is set holds other (sym c.variable.ensures.value ∙ (w.if-variable.true ∙ c.variable-in-loop-lit.ensures.value))
-      | then-variable-via-else-variable+then-eq-2 w ↦
-          not_true c.args.clause.now at c.loop-lit.lit-index c.loop-lit.held.values.items c.loop-lit.invariant.others l c.loop-lit-test.true c.lit-item.is set holds other (sym w.value.ensures ∙ equals_true w.value.result (sym w.eq-else-variable.ensures ∙ w.if-eq-2.true))
-    ]
+    λ f set holds.
+    not_of_at c.args.clause.now at c.loop-lit.lit-index c.loop-lit.held.values.items c.loop-lit.invariant.others l c.loop-lit-test.true c.lit-item.is set holds other (sym c.variable.ensures.value ∙ (c.if-variable.true ∙ c.variable-in-loop-lit.ensures.value))
+
+pub returns-in-Some-true-clause-none : goal.returns-in-Some-true-clause-none
+returns-in-Some-true-clause-none c =
+    let l = c.lit-item.result in
+    let at = c.args.at in
+    let other : l ≢ at = λ e. let wrong : ◌≡◌ {A = Bool} true false = sym (eq-eqb (code_of l) (code_of at) (ap code_of e)) ∙ (sym c.eq.ensures ∙ c.if-eq.false) in cc in
+    let yes : IsTrueAt c.loop-lit.held.values.items l = sym c.value.ensures ∙ (c.in-Some-true.is ∙ ap Some c.in-Some-true.field-0-test) in
+    λ f set holds. not_true c.args.clause.now at c.loop-lit.lit-index c.loop-lit.held.values.items c.loop-lit.invariant.others l c.loop-lit-test.true c.lit-item.is set holds other yes
 
 pub loop-lit-preserved : goal.loop-lit-preserved
 loop-lit-preserved c =
@@ -29,13 +33,25 @@ loop-lit-preserved c =
     let at = c.args.at in
     let l = c.lit-item.result in
     let k = c.loop-lit.lit-index in
-    let values = c.loop-lit.held.values.items in
-    let now : c.hold.new.self.values.items ≡ hold values (opposite l) = c.hold.ensures ∙ ap (hold values) c.opposite.ensures in
+    let old = c.loop-lit.held in
+    let values = old.values.items in
     let apart : l.variable ≢ at.variable = λ e. c.if-variable.false (c.variable.ensures.value ∙ (e ∙ sym c.variable-in-loop-lit.ensures.value)) in
-    let untrue : IsTrueAt values l → ⊥ = λ t. let wrong : ◌≡◌ {A = Bool} true false = sym (ap (λ value. option_eq beq value (Some true)) (c.value.ensures ∙ t)) ∙ (sym c.eq-else-variable.ensures ∙ c.if-eq-2.false) in cc in
     let inside : l.variable < length c.args.held.now.values.items = subst (λ (m : Literal). m.variable < length c.args.held.now.values.items) (sym c.lit-item.is) (c.requires.clause k l c.loop-lit-test.true) in
     let within : l.variable < length values = omega (arith, inside, c.loop-lit.invariant.size) in
-    record {
-      size = ap length now ∙ (length-set values l.variable (Some (not l.positive)) ∙ c.loop-lit.invariant.size);
-      others = subst (AreOthersFalseBefore clause at (k + 1)) (sym now) (others_more clause at k values c.loop-lit.invariant.others l c.loop-lit-test.true c.lit-item.is apart untrue within);
-    }
+    elim c.match-value.branch [
+      | in-Some-false w ↦
+          let no : IsFalseAt values l = sym c.value.ensures ∙ (w.in-Some-false.is ∙ ap Some w.in-Some-false.field-0-test) in
+          record {
+            assignment = subst IsAssignment (sym w.held-is) c.loop-lit.invariant.assignment;
+            size = ap (λ (a : Assignment). length a.values.items) w.held-is ∙ c.loop-lit.invariant.size;
+            others = subst (λ (a : Assignment). AreOthersFalseBefore clause at (k + 1) a.values.items) (sym w.held-is) (others_same clause at k values c.loop-lit.invariant.others l c.loop-lit-test.true c.lit-item.is no);
+          }
+      | in-None w ↦
+          let open_yet : IsOpenAt values l = sym c.value.ensures ∙ w.in-None.is in
+          let now : c.match-value.held.values.items ≡ hold values (opposite l) = ap (λ (a : Assignment). a.values.items) w.held-is ∙ (w.hold.ensures.values ∙ ap (hold values) w.opposite.ensures) in
+          record {
+            assignment = subst IsAssignment (sym w.held-is) w.hold.ensures.assignment;
+            size = ap length now ∙ (length-set values l.variable (Some (not l.positive)) ∙ c.loop-lit.invariant.size);
+            others = subst (AreOthersFalseBefore clause at (k + 1)) (sym now) (others_more clause at k values c.loop-lit.invariant.others l c.loop-lit-test.true c.lit-item.is apart (open_not_true values l open_yet) within);
+          }
+    ]

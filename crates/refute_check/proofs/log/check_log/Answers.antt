@@ -3,6 +3,7 @@ use Rattle.std.specs.Prelude.{List, Some, slice_get, All, Result, Err}
 use Rattle.std.proofs.lemmas.List.{length-append}
 use Rattle.std.proofs.lemmas.List.Elements.{All-append, All-cons, All-nil}
 use Rattle.std.proofs.lemmas.Option.{slice_get_read}
+use Rattle.clause_pool.specs.LiteralCode.{code_of}
 use Rattle.clause_pool.specs.Clauses.{BeginsWith, Clause, Clauses}
 use Rattle.clause_pool.proofs.Numbered.{begins_itself, begins_further}
 use Rattle.clause_pool.specs.Proper.{HasVariablesUpTo}
@@ -12,10 +13,12 @@ use Rattle.refute_check.specs.declared.refusal.CheckFault.TheVariants.{Refused}
 use Rattle.refute_check.specs.LogRefusal.{AreRightBefore, HasRightLength, IsRuleFor, is_last}
 use Rattle.pair_miter.proofs.Alike.{alike_first}
 use Rattle.pair_miter.specs.Resolution.{AreAlike}
+use Rattle.refute_check.specs.Propagation.{IsReady}
+use Rattle.refute_check.proofs.IndexLemmas.{places_for}
 use Rattle.refute_check.proofs.Chains.{before_first, first_ends, right_log}
 use Rattle.refute_check.proofs.LogSteps.{end_within, refused_step, refused_end, right_step, alike_next}
 use Rattle.refute_check.proofs.log.check_log.Goals as goal
-use Rattle.refute_check.proofs.log.check_log.Goals.{then-not-last+in_ok-add, else-not-last}
+use Rattle.refute_check.proofs.log.check_log.Goals.{then-not-last+in_ok-add+in_ok-add-2, else-not-last}
 
 pub loop-at-init : goal.loop-at-init
 loop-at-init c = record {
@@ -24,7 +27,17 @@ loop-at-init c = record {
   alike = λ _. subst (λ ends. AreAlike (c.args.pool.now.clauses ++ ends) c.args.pool.now.clauses) (sym (first_ends c.args.kind c.args.pool.now.clauses c.args.log.now)) (alike_first c.args.pool.now.clauses);
   within = subst (All (HasVariablesUpTo c.variables-variables.result)) (sym c.requires.clauses) (λ k d h. (c.variables-variables.ensures.proper k d h).inside);
   few = omega arith;
+  ready = c.in_ok-propagator.ensures;
 }
+
+pub new-requires : goal.new-requires
+new-requires c = subst (All (HasVariablesUpTo c.variables-variables.result)) (sym c.requires.clauses) (λ k d h. (c.variables-variables.ensures.proper k d h).inside)
+
+pub add-requires-then-not-last : goal.add-requires-then-not-last
+add-requires-then-not-last c =
+    let bound = end_within c.variables-variables.result c.loop-at.pool.clauses c.index-chains-at.result c.in_ok-end.end.literals c.loop-at.invariant.within c.in_ok-end.ensures.ended in
+    let lists = c.wrong_end.new.propagator.index.lists in
+    subst (All (λ l. code_of l < length lists)) (sym c.as_slice-then-not-last.ensures.value) (places_for c.variables-variables.result lists c.in_ok-end.end.literals c.wrong_end.ensures.ready.index.places bound)
 
 pub wrong_end-requires-clause-end : goal.wrong_end-requires-clause-end
 wrong_end-requires-clause-end c = end_within c.variables-variables.result c.loop-at.pool.clauses c.index-chains-at.result c.in_ok-end.end.literals c.loop-at.invariant.within c.in_ok-end.ensures.ended
@@ -55,8 +68,8 @@ returns-in-Some-clause-refused c refusal e =
     let are = c.loop-at.invariant.alike inside in
     let literals = c.in_ok-end.end.literals in
     let ends = c.in_ok-end.ensures.ended in
-    let rule : IsRuleFor c.args.kind (is_last log at) pool chain literals c.in_ok-rule.field-0 =
-    subst (λ (xs : List ChainView). IsRuleFor c.args.kind (at + 1 == length xs) pool chain literals c.in_ok-rule.field-0) same c.in_ok-rule.ensures in
+    let rule : IsRuleFor c.args.kind (is_last log at) pool chain literals c.wrong_end.result =
+    subst (λ (xs : List ChainView). IsRuleFor c.args.kind (at + 1 == length xs) pool chain literals c.wrong_end.result) same c.wrong_end.ensures.rule in
     let some = subst (IsRuleFor c.args.kind (is_last log at) pool chain literals) c.in-Some.is rule in
     let is : record { kind = c.in-Some.rule; step = at } ≡ refusal =
     (let w : ◌≡◌ {A = Result (Unit {0}) CheckFault} (Err (Refused (record { kind = c.in-Some.rule; step = at }))) (Err (Refused refusal)) = sym (ap Err c.refused-in-Some.ensures) ∙ e in cc) in
@@ -77,12 +90,12 @@ loop-at-preserved c =
     let are = c.loop-at.invariant.alike inside in
     let literals = c.in_ok-end.end.literals in
     let ends = c.in_ok-end.ensures.ended in
-    let rule : IsRuleFor c.args.kind (is_last log at) pool chain literals c.in_ok-rule.field-0 =
-    subst (λ (xs : List ChainView). IsRuleFor c.args.kind (at + 1 == length xs) pool chain literals c.in_ok-rule.field-0) same c.in_ok-rule.ensures in
+    let rule : IsRuleFor c.args.kind (is_last log at) pool chain literals c.wrong_end.result =
+    subst (λ (xs : List ChainView). IsRuleFor c.args.kind (at + 1 == length xs) pool chain literals c.wrong_end.result) same c.wrong_end.ensures.rule in
     let right = subst (IsRuleFor c.args.kind (is_last log at) pool chain literals) c.in_default.is rule in
     let next = right_step c.args.kind clauses c.args.conflicts log at chain pool long b chain_is are literals ends right in
     elim c.if-not-last.branch [
-      | then-not-last+in_ok-add w ↦
+      | then-not-last+in_ok-add+in_ok-add-2 w ↦
           let added : c.if-not-last.pool.clauses ≡ pool ++ literals ∷ [] = ap (λ (p : Clauses). p.clauses) w.pool-is ∙ (w.in_ok-add.ensures.ok ∙ ap (λ (l : Clause). pool ++ l ∷ []) w.as_slice.ensures.value) in
           let bound = end_within c.variables-variables.result pool chain literals c.loop-at.invariant.within ends in
           record {
@@ -93,6 +106,11 @@ loop-at-preserved c =
                 (All-append (HasVariablesUpTo c.variables-variables.result) pool (literals ∷ []) c.loop-at.invariant.within
                 (All-cons (HasVariablesUpTo c.variables-variables.result) literals [] bound (All-nil (HasVariablesUpTo c.variables-variables.result))));
             few = omega (arith, ap length added, length-append pool (literals ∷ []), c.loop-at.invariant.few);
+            ready =
+                let next : length pool + 1 ≡ w.len.result = omega (arith, w.len.ensures, ap length w.in_ok-add.ensures.ok, length-append pool (w.as_slice.result.now ∷ [])) in
+                let told = w.in_ok-add-2.ensures c.variables-variables.result pool next c.wrong_end.ensures.ready in
+                subst (IsReady c.variables-variables.result c.if-not-last.pool.clauses) (sym w.propagator-is)
+                (subst (λ cs. IsReady c.variables-variables.result cs w.add-then-not-last.new.self) (ap (λ (l : Clause). pool ++ l ∷ []) w.as_slice-then-not-last.ensures.value ∙ sym added) told);
           }
       | else-not-last w ↦
           let kept : c.if-not-last.pool.clauses ≡ pool = ap (λ (p : Clauses). p.clauses) w.pool-is in
@@ -103,6 +121,9 @@ loop-at-preserved c =
             alike = λ h. absurd (omega (arith, h, last, ap length same));
             within = subst (All (HasVariablesUpTo c.variables-variables.result)) (sym kept) c.loop-at.invariant.within;
             few = omega (arith, ap length kept, c.loop-at.invariant.few);
+            ready =
+                subst (IsReady c.variables-variables.result c.if-not-last.pool.clauses) (sym w.propagator-is)
+                (subst (λ cs. IsReady c.variables-variables.result cs c.wrong_end.new.propagator) (sym kept) c.wrong_end.ensures.ready);
           }
     ]
 

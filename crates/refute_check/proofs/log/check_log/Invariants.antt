@@ -4,6 +4,7 @@ use Rattle.refute_check.specs.LogRefusal.{AreRightBefore}
 use Rattle.clause_pool.specs.Clauses.{BeginsWith}
 use Rattle.clause_pool.specs.Proper.{HasVariablesUpTo}
 use Rattle.pair_miter.specs.Resolution.{AreAlike}
+use Rattle.refute_check.specs.Propagation.{IsReady}
 use Rattle.refute_check.proofs.log.check_log.Given as goal
 
 abbrev pub invariant-loop-at : goal.invariant-loop-at
@@ -13,4 +14,5 @@ invariant-loop-at l = record {
   alike : l.at < length l.log → AreAlike (l.initial.pool.clauses ++ before.ends) l.pool.clauses;
   within : All (HasVariablesUpTo l.variables) l.pool.clauses;
   few : length l.pool.clauses ≤ length l.initial.pool.clauses + l.at;
+  ready : IsReady l.variables l.pool.clauses l.propagator;
 }

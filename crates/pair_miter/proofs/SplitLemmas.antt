@@ -1,0 +1,75 @@
+-- The copies of split lines, line by line.
+use Rattle.std.proofs.Common.{◌≡◌, ◌∙◌, ℕ, ◌+◌, ◌<◌, refl, sym, ap, subst, arith, length, take, get_or}
+use Rattle.std.specs.Prelude.{Bool, true, false, List, [], ◌∷◌, ◌++◌, ◌&&◌, map, filter, All, if◌then◌else◌}
+use Rattle.std.specs.List.{range_with_len}
+use Rattle.std.proofs.lemmas.Bool.{and_parts}
+use Rattle.std.proofs.lemmas.List.{map-append, get_or_default}
+use Rattle.std.proofs.lemmas.List.Elements.{filter-append, All-nil, All-cons, All-head, All-tail, All-append}
+use Rattle.net_model.specs.declared.fault.Fault.{Fault}
+use Rattle.net_model.specs.Circuit.{Circuit, IsCircuit, line_count}
+use Rattle.net_model.specs.Order.{IsOrder}
+use Rattle.net_model.specs.Scope.{is_relevant, is_split}
+use Rattle.net_model.proofs.Listed.{All-range_with_len}
+use Rattle.net_model.proofs.Orders.{order_only, range_with_len_more}
+use Rattle.net_model.proofs.SetSoFar.{fits_from}
+use Rattle.pair_miter.specs.declared.side.Side.TheVariants.{First, Second}
+use Rattle.pair_miter.specs.declared.split.Copies.{Copies}
+use Rattle.pair_miter.specs.Variables.{variable_count, line_variable}
+use Rattle.pair_miter.specs.SplitLines.{AreVariables, AreSplitLines, is_double, copies_of, all_copies}
+use Rattle.pair_miter.proofs.Numbers.{variable_within}
+
+module _ (c : Circuit) (f g : Fault) where
+  copies_append : (xs ys : List ℕ) → all_copies c f g (xs ++ ys) ≡ all_copies c f g xs ++ all_copies c f g ys
+  unfolding all_copies
+  copies_append xs ys =
+      ap (map (copies_of c f g)) (filter-append (is_double c f g) xs ys) ∙ map-append (copies_of c f g) (filter (is_double c f g) xs) (filter (is_double c f g) ys)
+
+  pub copies_none : all_copies c f g [] ≡ []
+  unfolding all_copies
+  copies_none = refl
+
+  pub copies_yes : (line : ℕ) → is_relevant c f g line ≡ true → is_split c f g line ≡ true → all_copies c f g (line ∷ []) ≡ copies_of c f g line ∷ []
+  unfolding all_copies
+  copies_yes line r s = by (is_relevant c f g line) (is_split c f g line) r s
+    where
+      by : (a b : Bool) → a ≡ true → b ≡ true → map (copies_of c f g) (if a && b then line ∷ [] else []) ≡ copies_of c f g line ∷ []
+      by true true r s = refl
+      by true false r s = cc
+      by false b r s = cc
+
+  pub copies_no : (line : ℕ) → is_double c f g line ≡ false → all_copies c f g (line ∷ []) ≡ []
+  unfolding all_copies
+  copies_no line e = ap (λ b. map (copies_of c f g) (if b then line ∷ [] else [])) e
+
+  -- the copies of the first lines, and of one line more
+  pub copies_more : (copies now : List Copies) (lines : List ℕ) (line : ℕ) → copies ≡ all_copies c f g lines → now ≡ copies ++ all_copies c f g (line ∷ []) → now ≡ all_copies c f g (lines ++ line ∷ [])
+  copies_more copies now lines line so_far is = is ∙ (ap (λ xs. xs ++ all_copies c f g (line ∷ [])) so_far ∙ sym (copies_append lines (line ∷ [])))
+
+  pub copies_within : IsCircuit c → (lines : List ℕ) → All (λ line. line < line_count c) lines → All (AreVariables (variable_count c f g)) (all_copies c f g lines)
+  unfolding all_copies
+  copies_within w [] inside = All-nil (AreVariables (variable_count c f g))
+  copies_within w (line ∷ lines) inside = by (is_double c f g line) refl (copies_within w lines (All-tail (λ line. line < line_count c) line lines inside))
+    where
+      by : (b : Bool) → is_double c f g line ≡ b → All (AreVariables (variable_count c f g)) (map (copies_of c f g) (filter (is_double c f g) lines))
+          → All (AreVariables (variable_count c f g)) (map (copies_of c f g) (if b then line ∷ filter (is_double c f g) lines else filter (is_double c f g) lines))
+      by true e rest =
+          let relevant = (and_parts (is_relevant c f g line) (is_split c f g line) e).0 in
+          let here = All-head (λ line. line < line_count c) line lines inside in
+          All-cons (AreVariables (variable_count c f g)) (copies_of c f g line) (map (copies_of c f g) (filter (is_double c f g) lines))
+          (variable_within c f g First line (line_variable c f g First line) (variable_count c f g) refl refl here relevant, variable_within c f g Second line (line_variable c f g Second line) (variable_count c f g) refl refl here relevant)
+          rest
+      by false e rest = rest
+
+  -- the sources and the gates of an order are lines
+  pub lines_within : IsCircuit c → (order : List ℕ) → IsOrder c order → All (λ line. line < line_count c) (range_with_len 0 c.sources ++ order)
+  lines_within w order is =
+      All-append (λ line. line < line_count c) (range_with_len 0 c.sources) order
+      (All-range_with_len (λ line. line < line_count c) 0 c.sources (λ n above below. omega (arith, below)))
+      (λ k d inside. gate_within k d inside)
+    where
+      gate_within : (k d : ℕ) → k < length order → get_or order k d < line_count c
+      gate_within k d inside = omega (arith, get_or_default order k d 0 inside, (order_only c (fits_from c w) order is k inside).1)
+
+  pub split_within : IsCircuit c → (lines : List Copies) → AreSplitLines c f g lines → All (AreVariables (variable_count c f g)) lines
+  split_within w lines is =
+      subst (All (AreVariables (variable_count c f g))) (sym is.are) (copies_within w (range_with_len 0 c.sources ++ is.order) (lines_within w is.order is.ordered))

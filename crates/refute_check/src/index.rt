@@ -1,0 +1,114 @@
+//! The clauses of a pool by their literals.
+
+ghost use Rattle.std.specs.Prelude.{◌≡◌, ◌+◌, ◌*◌, ◌<◌, [], ◌∷◌, ◌++◌, List, ℕ, All, IfOk, OnOk, IsTrue, IsFalse, length, replicate, slice_set};
+ghost use Rattle.clause_pool.specs.Clauses.{Clause};
+ghost use Rattle.clause_pool.specs.LiteralCode.{code_of};
+ghost use Rattle.clause_pool.specs.Proper.{HasVariablesUpTo};
+ghost use Rattle.refute_check.specs.Index.{HasTwo, IsIndexOf, list_at};
+
+use clause_pool::{Lit, Pool};
+use std::alloc::{AllocError, Global};
+use std::marker::Model;
+
+/// Numbers of clauses, a list for each literal.
+#[derive(Drop)]
+pub(crate) struct Lists {
+    // by the literal's place
+    lists: Vec<Vec<u32>>,
+}
+
+impl Model for Lists {
+    ghost use Rattle.std.specs.Prelude.{List, ℕ, map};
+
+    ghost Value = { List (List ℕ) };
+
+    ghost view = { λ a. map (λ list. list.items) a.lists.items };
+}
+
+impl Lists {
+    /// An empty list for each literal of the variables up to this number.
+    pub(crate) fn none(alloc: Global, variables: u32) -> Result<Lists, AllocError>
+        ensures { IfOk result (λ lists. lists ≡ replicate (2 * variables + 2) []) }
+    {
+        let places = 2 * variables as usize + 2;
+        let mut lists = Vec::with_capacity(alloc, places)?;
+        for _ in 0..places {
+            lists.push(Vec::new(alloc))?;
+        }
+        Ok(Lists { lists })
+    }
+
+    /// Adds a number to the list of a literal.
+    pub(crate) fn add(&mut self, lit: Lit, number: u32) -> Result<(), AllocError>
+        requires { code_of lit < length self.old }
+        ensures { OnOk result (self.new ≡ slice_set self.old (code_of lit) (list_at self.old (code_of lit) ++ number ∷ [])) }
+    {
+        self.lists[place(lit)].push(number)?;
+        Ok(())
+    }
+
+    /// The numbers of a literal's list.
+    pub(crate) fn at(&self, lit: Lit) -> &[u32]
+        requires { code_of lit < length self.now }
+        ensures { result.now ≡ list_at self.now (code_of lit) }
+    {
+        self.lists[place(lit)].as_slice()
+    }
+}
+
+/// The clauses of a pool by their literals, and those of them that don't have two different literals. Unit propagation
+/// finds something at the latter from the start, and at the others only once a literal of theirs is false.
+#[derive(Drop)]
+pub(crate) struct Index {
+    pub(crate) lists: Lists,
+    pub(crate) short: Vec<u32>,
+}
+
+impl Index {
+    /// The index of the clauses of a pool, with a list for each literal of the variables up to this number.
+    pub(crate) fn of(alloc: Global, pool: &Pool, variables: u32) -> Result<Index, AllocError>
+        requires { All (HasVariablesUpTo variables) pool.now.clauses }
+        ensures { IfOk result (λ index. IsIndexOf variables pool.now.clauses index.lists index.short.items) }
+    {
+        let mut index = Index {
+            lists: Lists::none(alloc, variables)?,
+            short: Vec::new(alloc),
+        };
+        for at in 0..pool.len() {
+            index.add(pool.get(at + 1), at + 1)?;
+        }
+        Ok(index)
+    }
+
+    /// Adds the clause of a number, the next one.
+    pub(crate) fn add(&mut self, clause: &[Lit], number: u32) -> Result<(), AllocError>
+        requires { All (λ l. code_of l < length self.old.lists) clause.now }
+        ensures { OnOk result ((variables : ℕ) (clauses : List Clause) → length clauses + 1 ≡ number → IsIndexOf variables clauses self.old.lists self.old.short.items → IsIndexOf variables (clauses ++ clause.now ∷ []) self.new.lists self.new.short.items) }
+    {
+        for lit in clause {
+            self.lists.add(*lit, number)?;
+        }
+        if !has_two(clause) {
+            self.short.push(number)?;
+        }
+        Ok(())
+    }
+}
+
+// Whether a clause has two different literals.
+fn has_two(clause: &[Lit]) -> bool
+    ensures { IsTrue result → HasTwo clause.now }
+{
+    match clause.first() {
+        None => false,
+        Some(first) => clause.iter().any(|lit| *lit != *first),
+    }
+}
+
+// The place of a literal's list.
+fn place(lit: Lit) -> usize
+    ensures { result ≡ code_of lit }
+{
+    let sign = if lit.positive() { 1 } else { 0 };
+    2 * lit.variable() as usize + sign
+}
