@@ -89,3 +89,16 @@ pub(crate) fn and_of_ors(alloc: Global) -> Result<Circuit, AllocError>
     gates.push(gate(alloc, Kind::And, &[3, 4])?)?;
     circuit_of(alloc, 2, gates, &[5])
 }
+
+/// The parity of four sources, and the opposite parity by twos; line 8 is the XOR of both, which is always 1.
+pub(crate) fn parities(alloc: Global) -> Result<Circuit, AllocError>
+    ensures { IfOk result (λ circuit. line_count circuit ≡ 9) }
+{
+    let mut gates = Vec::new(alloc);
+    gates.push(gate(alloc, Kind::Xor, &[0, 1, 2, 3])?)?;
+    gates.push(gate(alloc, Kind::Xor, &[0, 2])?)?;
+    gates.push(gate(alloc, Kind::Xor, &[1, 3])?)?;
+    gates.push(gate(alloc, Kind::Xnor, &[5, 6])?)?;
+    gates.push(gate(alloc, Kind::Xor, &[4, 7])?)?;
+    circuit_of(alloc, 4, gates, &[8])
+}

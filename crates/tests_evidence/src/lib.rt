@@ -10,6 +10,8 @@ mod miters;
 #[cfg(test)]
 mod pools;
 #[cfg(test)]
+mod solvers;
+#[cfg(test)]
 mod trails;
 #[cfg(test)]
 mod trees;

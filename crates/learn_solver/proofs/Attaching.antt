@@ -1,0 +1,84 @@
+-- Clauses are attached to a new trail, and satisfied clauses.
+use Rattle.std.proofs.Common.{◌≡◌, ◌∙◌, ℕ, ◌+◌, ◌<◌, ◌≤◌, List, length, get_or, ap, subst, arith, inl, inr}
+use Rattle.std.specs.Prelude.{Bool, true, false, All, Contains, replicate}
+use Rattle.std.proofs.lemmas.Bool.{cases_lt}
+use Rattle.std.proofs.lemmas.List.{length-append, get_or_append_left, length-replicate, get_or-replicate, get_or_past}
+use Rattle.learn_solver.specs.Walk.{AreClear}
+use Rattle.std.proofs.lemmas.List.Elements.{All-contains}
+use Rattle.net_model.proofs.Elements.{any_from, all_from}
+use Rattle.clause_pool.specs.Literal.{Literal, opposite}
+use Rattle.clause_pool.specs.Clauses.{Clause, BeginsWith}
+use Rattle.clause_pool.specs.Partial.{IsQuiet, IsSatisfied}
+use Rattle.clause_pool.specs.Proper.{IsProper}
+use Rattle.clause_pool.proofs.Literals.{same_or_opposite}
+use Rattle.pair_miter.specs.Miter.{literal_bit, is_satisfied_by, is_model}
+use Rattle.solver_trail.specs.Assignment.{Assignment, IsTrail, held}
+use Rattle.solver_trail.specs.Trail.{TrailState, Fits, Attaches, empty_trail, attached_numbers}
+use Rattle.learn_solver.specs.Decisions.{IsWhole}
+use Rattle.learn_solver.specs.Ready.{IsReady}
+use Rattle.learn_solver.proofs.Levels.{member_at}
+use Rattle.learn_solver.proofs.Falsity.{held_at}
+
+-- the first clauses are attached, and no literal is set
+pub record IsAttaching (trail : TrailState) (clauses : List Clause) (variables at : ℕ) : Type 0 where
+  pub fits : Fits trail clauses
+  pub is_trail : IsTrail trail.assignment
+  pub same : trail.assignment ≡ (empty_trail variables).assignment
+  pub attached : (number : ℕ) → 0 < number → number ≤ at → Contains (attached_numbers trail) number
+
+pub attaching_more : (old new : TrailState) (clauses : List Clause) (variables at : ℕ) → IsAttaching old clauses variables at → Attaches (attached_numbers old) (attached_numbers new) (at + 1) → new.assignment ≡ old.assignment → Fits new clauses → IsTrail new.assignment
+    → IsAttaching new clauses variables (at + 1)
+attaching_more old new clauses variables at h attached same fits trail = record {
+  fits = fits;
+  is_trail = trail;
+  same = same ∙ h.same;
+  attached = λ number from below. elim (cases_lt at number) [
+    | inl over ↦ let is : at + 1 ≡ number = omega arith in subst (Contains (attached_numbers new)) is attached.added
+    | inr within ↦ attached.kept number (h.attached number from within)
+  ];
+}
+
+pub ready_attached : (trail : TrailState) (clauses : List Clause) (variables : ℕ) → IsAttaching trail clauses variables (length clauses) → IsReady trail clauses
+ready_attached trail clauses variables h = record {
+  fits = h.fits;
+  is_trail = h.is_trail;
+  attached = h.attached;
+  quiet = λ level less. absurd (let none : trail.assignment.level ≡ 0 = ap (λ (a : Assignment). a.level) h.same in omega (arith, less, none));
+}
+
+-- ---- satisfied clauses
+
+-- where all variables are set, a quiet clause is satisfied
+quiet_satisfied : (a : Assignment) → IsTrail a → IsWhole a → (clause : Clause) → IsProper a.variables clause → IsQuiet (held a) clause → IsSatisfied (held a) clause
+quiet_satisfied a trail all clause inside (inl s) = s
+quiet_satisfied a trail all clause inside (inr t) =
+    let b = All-contains (λ (l : Literal). (0 < l.variable) × (l.variable ≤ a.variables)) clause t.first inside.inside t.first_inside in
+    let set = all t.first.variable b.0 b.1 in
+    let p = member_at a trail set.0 set.1 in
+    elim (same_or_opposite set.0.literal t.first set.2) [
+      | inl same ↦ absurd (t.first_undetermined.not_held (held_at a p.0 t.first p.1 (ap (λ s. s.literal) p.2 ∙ same)))
+      | inr other ↦ absurd (t.first_undetermined.opposite_not_held (held_at a p.0 (opposite t.first) p.1 (ap (λ s. s.literal) p.2 ∙ other.0)))
+    ]
+
+pub all_satisfied : (a : Assignment) → IsTrail a → IsWhole a → (clauses : List Clause) → All (IsProper a.variables) clauses → All (IsQuiet (held a)) clauses → All (IsSatisfied (held a)) clauses
+all_satisfied a trail all clauses inside quiet = λ k d h. quiet_satisfied a trail all (get_or clauses k d) (inside k d h) (quiet k d h)
+
+-- what all clauses are, the first ones are
+pub quiet_first : (held : List Literal) (clauses first : List Clause) → BeginsWith clauses first → All (IsQuiet held) clauses → All (IsQuiet held) first
+quiet_first held clauses first begins quiet = λ k d h.
+    let at : get_or clauses k d ≡ get_or first k d = ap (λ cs. get_or cs k d) begins.are ∙ get_or_append_left first begins.more d k h in
+    subst (IsQuiet held) at (quiet k d (omega (arith, h, ap length begins.are, length-append first begins.more)))
+
+pub model_of : (held : List Literal) (bits : List Bool) (clauses : List Clause) → ((l : Literal) → Contains held l → literal_bit bits l ≡ true) → All (IsSatisfied held) clauses → is_model bits clauses ≡ true
+model_of held bits clauses true_bits all = all_from (is_satisfied_by bits) clauses (λ clause m. let s = All-contains (IsSatisfied held) clauses clause all m in any_from (literal_bit bits) clause s.literal s.inside (true_bits s.literal s.is_held))
+
+-- ---- marks
+
+pub clear_zeros : (variables : ℕ) → AreClear variables (replicate (variables + 1) false)
+clear_zeros variables = record {
+  places = length-replicate (variables + 1) false;
+  none = λ v. elim (cases_lt v (variables + 1)) [
+    | inl within ↦ get_or-replicate (variables + 1) v false false within
+    | inr over ↦ get_or_past (replicate (variables + 1) false) v false (omega (arith, over, length-replicate (variables + 1) false))
+  ];
+}

@@ -1,0 +1,16 @@
+pub mod UpTo
+pub mod Levels
+pub mod Falsity
+pub mod Quiet
+pub mod Ready
+pub mod Counts
+pub mod MarkCounts
+pub mod MarkingSteps
+pub mod Resolvents
+pub mod Clearing
+pub mod WalkSteps
+pub mod WalkEnds
+pub mod LearnSteps
+pub mod Solving
+pub mod Attaching
+pub mod Searching

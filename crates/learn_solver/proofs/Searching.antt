@@ -1,0 +1,51 @@
+-- A search over the miter of a pair, from step to step.
+use Rattle.std.proofs.Common.{◌≡◌, ◌∙◌, ℕ, ◌+◌, ◌<◌, ◌≤◌, ◌^◌, List, length, ap, sym, subst, arith}
+use Rattle.clause_pool.specs.Clauses.{Clause, BeginsWith}
+use Rattle.clause_pool.proofs.Numbered.{begins_through}
+use Rattle.pair_miter.specs.MiterView.{Miter}
+use Rattle.pair_miter.specs.Variables.{variable_count}
+use Rattle.solver_trail.specs.Trail.{TrailState}
+use Rattle.learn_solver.specs.declared.search.Search.{Search}
+use Rattle.learn_solver.specs.Learning.{IsLearning}
+use Rattle.learn_solver.specs.Ready.{IsReady}
+use Rattle.learn_solver.specs.Search.{IsPrepared, IsSearch, LearnsClause, clauses_of}
+use Rattle.learn_solver.specs.Walk.{AreClear}
+use Rattle.learn_solver.proofs.Solving.{learning_long}
+
+-- another trail that is ready, too
+pub prepared_on : (old : Search) (clauses : List Clause) (trail : TrailState) (decider : ℕ) → IsPrepared old clauses → IsReady trail clauses → trail.assignment.variables ≡ old.trail.assignment.variables → decider ≡ old.decider
+    → IsPrepared (record old { trail = trail; decider = decider }) clauses
+prepared_on old clauses trail decider h ready same kept = record {
+  ready = ready;
+  decider = kept ∙ (h.decider ∙ sym same);
+  clear = subst (λ n. AreClear n old.marks) (sym same) h.clear;
+}
+
+module _ (m : Miter) (conflicts : ℕ) (old : Search) (pool : List Clause) (h : IsSearch m conflicts old pool) where
+  pub decider_is : old.decider ≡ variable_count m.circuit m.f m.g
+  decider_is = h.prepared.decider ∙ h.variables
+
+  -- nothing is learned, and the search is prepared
+  pub search_on : (new : Search) → IsPrepared new pool → new.trail.assignment.variables ≡ old.trail.assignment.variables → new.chains.items ≡ old.chains.items → IsSearch m conflicts new pool
+  search_on new prepared same chains = record {
+    prepared = prepared;
+    variables = same ∙ h.variables;
+    learning = subst (IsLearning (clauses_of m) pool) (sym chains) h.learning;
+    few = subst (λ cs. length cs ≤ conflicts) (sym chains) h.few;
+    begins = h.begins;
+  }
+
+  -- the pool has room for another clause
+  pub room_left : length old.chains.items < conflicts → length (clauses_of m) + conflicts < 2 ^ 32 → length pool + 1 < 2 ^ 32
+  room_left left few = omega (arith, learning_long (clauses_of m) pool old.chains.items h.learning, left, few)
+
+  -- one more clause is learned
+  pub search_more : (mid new : Search) (more : List Clause) → mid.trail.assignment.variables ≡ old.trail.assignment.variables → mid.chains.items ≡ old.chains.items → LearnsClause mid pool new more → BeginsWith more pool → length old.chains.items < conflicts
+      → IsSearch m conflicts new more
+  search_more mid new more same chains l begins left = record {
+    prepared = l.prepared;
+    variables = l.variables ∙ (same ∙ h.variables);
+    learning = l.learning (clauses_of m) (subst (IsLearning (clauses_of m) pool) (sym chains) h.learning);
+    few = omega (arith, l.count, ap length chains, left);
+    begins = begins_through more pool (clauses_of m) begins h.begins;
+  }

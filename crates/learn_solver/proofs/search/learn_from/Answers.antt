@@ -1,0 +1,66 @@
+use Rattle.std.proofs.Common.{◌≡◌, ◌∙◌, ◌<◌, ◌≤◌, ◌++◌, ◌∷◌, [], length, get_or, ap, sym, subst, arith, eqb-true}
+use Rattle.std.specs.Prelude.{vec_len}
+use Rattle.std.proofs.lemmas.Bool.{eqb-false}
+use Rattle.std.proofs.lemmas.List.{length_push, nil_from_length}
+use Rattle.std.proofs.lemmas.List.Elements.{All-weaker}
+use Rattle.pair_miter.specs.Fresh.{IsFresh}
+use Rattle.learn_solver.specs.Learned.{IsAsserting}
+use Rattle.learn_solver.specs.Learning.{IsLearning}
+use Rattle.learn_solver.specs.Walk.{AreClear}
+use Rattle.learn_solver.proofs.LearnSteps.{learned_fresh}
+use Rattle.learn_solver.proofs.Solving.{named_at, learned_above, refutes, learning_more}
+use Rattle.learn_solver.proofs.search.learn_from.Goals as goal
+
+pub returns-then-is_empty-clause-learned : goal.returns-then-is_empty-clause-learned
+returns-then-is_empty-clause-learned c = λ first conflicts learning few.
+    let learned = c.in_ok-learned.learned in
+    let none : length learned.clause.items ≡ 0 = omega (arith, eqb-true (vec_len learned.clause) 0 (sym c.is_empty.ensures ∙ c.if-is_empty.true), learned.clause.ok.0) in
+    refutes first c.args.pool.now.clauses c.args.search.now.chains.items learning c.args.search.now.trail.assignment learned.chain learned.clause.items learned.back
+    c.in_ok-learned.ensures.learned (nil_from_length learned.clause.items none) conflicts few
+
+pub renew-requires : goal.renew-requires
+renew-requires c =
+    let old = c.args.search.now in
+    let n = c.requires.prepared.decider in
+    let places = c.in_ok-learned.ensures.clear.places in
+    All-weaker (λ x. x < length c.analyze.new.marks) (λ x. x ≤ old.decider) (λ x h. omega (arith, h, places, n)) c.met.result.now c.met.ensures
+
+pub learn-requires-clause-asserting : goal.learn-requires-clause-asserting
+learn-requires-clause-asserting c =
+    let learned = c.in_ok-learned.learned in
+    let a = c.args.search.now.trail.assignment in
+    let is = c.in_ok-learned.ensures.learned in
+    let nonempty = eqb-false (vec_len learned.clause) 0 (sym c.is_empty.ensures ∙ c.if-is_empty.false) in
+    let above : 0 < a.level = learned_above a c.args.pool.now.clauses learned.chain learned.clause.items learned.back is (omega (arith, nonempty, learned.clause.ok.0)) in
+    subst (IsAsserting a learned.back) (sym c.as_slice.ensures.value) (is.asserting above)
+
+pub returns-clause-learned : goal.returns-clause-learned
+returns-clause-learned c =
+    let old = c.args.search.now in
+    let pool = c.args.pool.now.clauses in
+    let a = old.trail.assignment in
+    let ready = c.requires.prepared.ready in
+    let learned = c.in_ok-learned.learned in
+    let is = c.in_ok-learned.ensures.learned in
+    let clause = learned.clause.items in
+    let x = c.index.result.now in
+    let nonempty = eqb-false (vec_len learned.clause) 0 (sym c.is_empty.ensures ∙ c.if-is_empty.false) in
+    let above : 0 < a.level = learned_above a pool learned.chain clause learned.back is (omega (arith, nonempty, learned.clause.ok.0)) in
+    let asserts = is.asserting above in
+    let same : asserts.asserting ≡ x = sym (ap (λ ls. get_or ls 0 x) asserts.is) ∙ sym c.index.ensures in
+    let fresh = subst (IsFresh pool clause) same (learned_fresh a ready.is_trail clause learned.back asserts pool ready.quiet) in
+    let added : c.learn.new.pool.clauses ≡ pool ++ clause ∷ [] = c.in_ok-learn.ensures.added ∙ ap (λ ls. pool ++ ls ∷ []) c.as_slice.ensures.value in
+    let pushed : c.push.new.self.items ≡ old.chains.items ++ named_at learned.chain x ∷ [] = c.in_ok-push.ensures.items ∙ ap (λ chain. old.chains.items ++ chain ∷ []) c.set_at.ensures in
+    let n = c.in_ok-learn.ensures.variables in
+    record {
+      prepared = record {
+        ready = c.in_ok-learn.ensures.ready;
+        decider = c.leave.ensures ∙ (c.renew.ensures ∙ (c.requires.prepared.decider ∙ sym n));
+        clear = subst (AreClear c.learn.new.trail.assignment.variables) (sym c.clear_met.ensures) (subst (λ v. AreClear v c.analyze.new.marks) (sym n) c.in_ok-learned.ensures.clear);
+      };
+      variables = n;
+      count = ap length pushed ∙ length_push old.chains.items (named_at learned.chain x);
+      learning = λ first learning.
+          subst (λ cs. IsLearning first cs c.push.new.self.items) (sym added)
+          (subst (IsLearning first (pool ++ clause ∷ [])) (sym pushed) (learning_more first pool old.chains.items learning a learned.chain clause learned.back is x fresh));
+    }

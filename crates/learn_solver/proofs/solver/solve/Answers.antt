@@ -1,0 +1,24 @@
+use Rattle.std.proofs.Common.{◌∙◌, [], length, ap, sym, subst, arith}
+use Rattle.std.specs.Prelude.{All}
+use Rattle.clause_pool.specs.Clauses.{BeginsWith}
+use Rattle.clause_pool.specs.Proper.{IsProper}
+use Rattle.clause_pool.proofs.Numbered.{begins_itself}
+use Rattle.learn_solver.specs.Learning.{IsLearning}
+use Rattle.learn_solver.specs.Search.{clauses_of}
+use Rattle.learn_solver.proofs.Solving.{learning_none}
+use Rattle.learn_solver.proofs.solver.solve.Goals as goal
+
+pub begin-requires-clause-proper : goal.begin-requires-clause-proper
+begin-requires-clause-proper c = subst (All (IsProper c.variables.result)) (sym c.requires.clauses) c.variables.ensures.proper
+
+pub sweep-requires-clause-search : goal.sweep-requires-clause-search
+sweep-requires-clause-search c =
+    let first = clauses_of c.args.miter.now in
+    let e = c.in_ok-search.ensures in
+    record {
+      prepared = e.prepared;
+      variables = e.variables ∙ c.variables.ensures.value;
+      learning = subst (IsLearning first c.args.pool.now.clauses) (sym e.none) (subst (λ cs. IsLearning first cs []) (sym c.requires.clauses) (learning_none first));
+      few = omega (arith, ap length e.none);
+      begins = subst (λ cs. BeginsWith cs first) (sym c.requires.clauses) (begins_itself first);
+    }

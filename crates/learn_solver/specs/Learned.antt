@@ -1,0 +1,36 @@
+-- Learned clauses.
+use Rattle.std.specs.Prelude.{◌≡◌, ℕ, ◌<◌, ◌≤◌, List, [], ◌∷◌, All, Contains, None, Some}
+use Rattle.clause_pool.specs.Literal.{Literal}
+use Rattle.clause_pool.specs.Clauses.{Clause}
+use Rattle.clause_pool.specs.Proper.{HasNoVariableTwice}
+use Rattle.pair_miter.specs.ChainView.{ChainView}
+use Rattle.pair_miter.specs.Resolution.{SameLiterals, chain_end}
+use Rattle.solver_trail.specs.Assignment.{Assignment}
+use Rattle.learn_solver.specs.Places.{IsFalseOf}
+
+-- The literal is false, by one of a level above 0 and up to this one.
+pub record IsLower (a : Assignment) (highest : ℕ) (l : Literal) : Type 0 where
+  pub level : ℕ
+  pub false_of : IsFalseOf a level l
+  pub above : 0 < level
+  pub up_to : level ≤ highest
+
+-- The first literal is of the present level. The others are lower, and up to the back-jump level; if that is above 0, one is of it.
+pub record IsAsserting (a : Assignment) (back : ℕ) (clause : Clause) : Type 0 where
+  pub asserting : Literal
+  pub others : List Literal
+  pub is : clause ≡ asserting ∷ others
+  pub first : IsFalseOf a a.level asserting
+  pub lower : All (IsLower a back) others
+  pub below : back < a.level
+  pub highest : 0 < back → (l : Literal) × Contains others l × IsFalseOf a back l
+
+-- The chain ends in the clause. It is empty at level 0, and asserting at any other one.
+pub record IsLearned (a : Assignment) (clauses : List Clause) (chain : ChainView) (clause : Clause) (back : ℕ) : Type 0 where
+  pub bare : chain.fresh_at ≡ None
+  pub end : Clause
+  pub ends : chain_end clauses chain ≡ Some end
+  pub same : SameLiterals end clause
+  pub once : HasNoVariableTwice clause
+  pub empty : a.level ≡ 0 → clause ≡ []
+  pub asserting : 0 < a.level → IsAsserting a back clause

@@ -1,0 +1,12 @@
+pub mod Places
+pub mod Ready
+pub mod Walk
+pub mod Marks
+pub mod QueueFields
+pub mod Decisions
+pub mod Descent
+pub mod Learned
+pub mod Learning
+pub mod Logs
+pub mod Solved
+pub mod Search

@@ -1,0 +1,30 @@
+-- What the solver answers for a pair of faults.
+use Rattle.std.specs.Prelude.{ℕ, List, ◌++◌}
+use Rattle.net_model.specs.declared.fault.Fault.{Fault}
+use Rattle.net_model.specs.Circuit.{Circuit}
+use Rattle.net_model.specs.Answer.{Separates}
+use Rattle.clause_pool.specs.Clauses.{Clause}
+use Rattle.pair_miter.specs.ChainView.{ChainView}
+use Rattle.pair_miter.specs.Log.{NamesNoLiteral, IsRefutation, IsSpentLog}
+use Rattle.pair_miter.specs.Miter.{miter}
+use Rattle.pair_miter.specs.Resolution.{AreAlike}
+use Rattle.learn_solver.specs.declared.solved.Solved.{Solved}
+use Rattle.learn_solver.specs.declared.solved.Solved.TheVariants.{Vector, Refuted, Spent}
+
+-- The log refutes the clauses, none of its chains names a literal, and the ends before the empty one stand in the pool
+-- behind the clauses.
+pub record HasRefutation (clauses : List Clause) (conflicts : ℕ) (pool : List Clause) (log : List ChainView) : Type 0 where
+  pub refutation : IsRefutation clauses conflicts log
+  pub bare : NamesNoLiteral log
+  pub alike : AreAlike (clauses ++ refutation.ends) pool
+
+-- The log has as many fresh ends as the budget allows, and they stand in the pool behind the clauses.
+pub record HasSpentLog (clauses : List Clause) (conflicts : ℕ) (pool : List Clause) (log : List ChainView) : Type 0 where
+  pub spent : IsSpentLog clauses conflicts log
+  pub alike : AreAlike (clauses ++ spent.ends) pool
+
+-- what the solver answers for a pair of faults and a budget, with the clauses that the pool then has
+abbrev pub IsSolved : Circuit → Fault → Fault → ℕ → List Clause → Solved → Type 0
+IsSolved c f g conflicts pool (Vector v) = Separates c v f g
+IsSolved c f g conflicts pool (Refuted log) = HasRefutation (miter c f g) conflicts pool log
+IsSolved c f g conflicts pool (Spent log) = HasSpentLog (miter c f g) conflicts pool log

@@ -1,0 +1,79 @@
+//! The analysis of a conflict, to the first unique implication point.
+
+ghost use Rattle.std.specs.Prelude.{◌≡◌, ℕ, ◌<◌, ◌≤◌, IfOk, All, length, slice_index_or};
+ghost use Rattle.clause_pool.specs.Literal.{Literal};
+ghost use Rattle.solver_trail.specs.Assignment.{IsTrail};
+ghost use Rattle.learn_solver.specs.Places.{set_at, IsFalseAt};
+ghost use Rattle.learn_solver.specs.Ready.{IsReady, IsConflict};
+ghost use Rattle.learn_solver.specs.Walk.{AreClear};
+ghost use Rattle.learn_solver.specs.Learned.{IsLearned};
+
+use crate::marking::mark_clause;
+use crate::marks::Marks;
+use crate::resolving::{Analysis, visit};
+use clause_pool::{Lit, Pool};
+use pair_miter::Chain;
+use solver_trail::Trail;
+use std::alloc::{AllocError, Global};
+
+/// A learned clause, the chain that ends in it, and the back-jump level.
+#[derive(Drop)]
+pub(crate) struct Learned {
+    pub(crate) chain: Chain,
+    pub(crate) clause: Vec<Lit>,
+    pub(crate) back: u32,
+}
+
+/// Resolves a false clause with reasons, to the first unique implication point of the present level and without the
+/// literals of level 0. The marks are none before and after.
+pub(crate) fn analyze(
+    alloc: Global,
+    trail: &Trail,
+    pool: &Pool,
+    marks: &mut Marks,
+    conflict: u32,
+) -> Result<Learned, AllocError>
+    requires ready { IsReady trail.now pool.now.clauses }
+    requires conflict { IsConflict trail.now pool.now.clauses conflict }
+    requires clear { AreClear trail.now.assignment.variables marks.old }
+    ensures learned { IfOk result (λ learned. IsLearned trail.now.assignment pool.now.clauses learned.chain learned.clause.items learned.back) }
+    ensures clear { IfOk result (λ learned. AreClear trail.now.assignment.variables marks.new) }
+{
+    let mut analysis = Analysis {
+        chain: Chain::new(alloc, conflict, None),
+        kept: Vec::new(alloc),
+        left: mark_clause(trail, marks, pool.get(conflict))?,
+    };
+    let mut place = trail.set_literals().len();
+    while 0 < place && !marks.are_clear() {
+        place -= 1;
+        visit(trail, pool, marks, &mut analysis, place)?;
+    }
+    let Analysis {
+        chain,
+        kept,
+        left: _,
+    } = analysis;
+    let back = back_level(trail, kept.as_slice());
+    Ok(Learned {
+        chain,
+        clause: kept,
+        back,
+    })
+}
+
+// The level of the second literal, which is the highest but for the first one's; 0 where there is none.
+fn back_level(trail: &Trail, kept: &[Lit]) -> u32
+    requires trail { IsTrail trail.now.assignment }
+    requires inside { All (λ (l : Literal). (0 < l.variable) × (l.variable ≤ trail.now.assignment.variables)) kept.now }
+    ensures none { length kept.now ≤ 1 → result ≡ 0 }
+    ensures some { (d : Literal) (place : ℕ) → 1 < length kept.now → IsFalseAt trail.now.assignment (slice_index_or kept.now 1 d) place → result ≡ (set_at trail.now.assignment place).level }
+{
+    if kept.len() < 2 {
+        return 0;
+    }
+    match trail.level_of(kept[1].variable()) {
+        Some(level) => level,
+        None => 0,
+    }
+}

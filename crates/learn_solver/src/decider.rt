@@ -1,0 +1,206 @@
+//! Which literal is decided next: of the variable that conflicts met last, with the sign that it had last.
+
+ghost use Rattle.std.specs.Prelude.{◌≡◌, ◌<◌, ◌≤◌, ◌^◌, All, IfOk, IfSome, MatchBool, MatchOption};
+ghost use Rattle.solver_trail.specs.Assignment.{IsTrail, IsUnset};
+ghost use Rattle.learn_solver.specs.Ready.{IsSet};
+ghost use Rattle.learn_solver.specs.Decisions.{AreBoth, IsDecidable, IsFree, IsWhole};
+
+use crate::aim::Both;
+use crate::places::{level_at, literal_at};
+use crate::queue::Queue;
+use clause_pool::Lit;
+use solver_trail::Trail;
+use std::alloc::{AllocError, Global};
+use std::marker::Model;
+
+/// The order of decisions, and the sign that each variable had last, negative at first.
+#[derive(Debug, Drop)]
+pub(crate) struct Decider {
+    queue: Queue,
+    phases: Vec<bool>,
+    // all newer variables of the queue are set
+    place: u32,
+    // descents with an aim decide the variables up to the first of these, and those above the second are set
+    highest: u32,
+    low: u32,
+}
+
+impl Model for Decider {
+    ghost use Rattle.std.specs.Prelude.{ℕ};
+    ghost use Rattle.learn_solver.specs.Decisions.{HasSigns};
+
+    ghost Value = { ℕ };
+
+    ghost view = { λ d. d.queue };
+
+    ghost invariant = { λ d. HasSigns d.queue d.phases.items d.place d.low };
+}
+
+impl Decider {
+    /// The variables from 1 up to this one, which is decided first. All signs are negative.
+    pub(crate) fn new(alloc: Global, variables: u32) -> Result<Decider, AllocError>
+        requires { variables < 2 ^ 31 }
+        ensures { IfOk result (λ decider. decider ≡ variables) }
+    {
+        let queue = Queue::new(alloc, variables)?;
+        let place = queue.newest();
+        Ok(Decider {
+            queue,
+            phases: vec![in alloc; false; variables as usize + 1]?,
+            place,
+            highest: 0,
+            low: 0,
+        })
+    }
+
+    /// The literal of an unset variable, with the sign that it had last. None where all variables are set.
+    pub(crate) fn next(&mut self, trail: &Trail) -> Option<Lit>
+        requires trail { IsTrail trail.now.assignment }
+        requires variables { trail.now.assignment.variables ≡ self.old }
+        ensures variables { self.new ≡ self.old }
+        ensures next { MatchOption result (IsWhole trail.now.assignment) (IsDecidable trail.now.assignment) }
+    {
+        match newest_unset(trail, &self.queue, self.place) {
+            Some(variable) => {
+                self.place = variable;
+                Some(self.signed(variable))
+            }
+            // the queue shows none any more: a look over all variables makes sure
+            None => {
+                let variable = lowest_unset(trail, self.queue.variables())?;
+                Some(self.signed(variable))
+            }
+        }
+    }
+
+    /// The literal of an unset variable, with which the trail comes nearer to two true literals: one of these two, or one of
+    /// the other variables up to the highest. None where those are all set, or one of the two is false.
+    pub(crate) fn next_for(&mut self, trail: &Trail, both: &Both) -> Option<Lit>
+        requires trail { IsTrail trail.now.assignment }
+        requires variables { trail.now.assignment.variables ≡ self.old }
+        requires both { AreBoth self.old both.now }
+        ensures variables { self.new ≡ self.old }
+        ensures next { IfSome result (IsDecidable trail.now.assignment) }
+    {
+        for lit in [both.first, both.second] {
+            match trail.value(lit.variable()) {
+                None => return Some(lit),
+                Some(positive) if positive != lit.positive() => return None,
+                Some(_) => {}
+            }
+        }
+        self.low = highest_unset(trail, self.low);
+        if self.low == 0 {
+            return None;
+        }
+        Some(self.signed(self.low))
+    }
+
+    /// Has descents with an aim decide the variables up to this one, from the highest down.
+    pub(crate) fn turn_to(&mut self, highest: u32)
+        requires { highest ≤ self.old }
+        ensures { self.new ≡ self.old }
+    {
+        self.highest = highest;
+        self.low = highest;
+    }
+
+    /// Keeps the signs of the literals above a level, before they are unset.
+    pub(crate) fn leave(&mut self, trail: &Trail, level: u32)
+        requires trail { IsTrail trail.now.assignment }
+        requires variables { trail.now.assignment.variables ≡ self.old }
+        ensures { self.new ≡ self.old }
+    {
+        let mut place = trail.set_literals().len();
+        while 0 < place && level_at(trail, place - 1) > level {
+            place -= 1;
+            self.keep(literal_at(trail, place));
+        }
+    }
+
+    // Keeps the sign of a literal that is about to be unset, and moves the places so that its variable is found.
+    fn keep(&mut self, lit: Lit)
+        requires { lit.variable ≤ self.old }
+        ensures { self.new ≡ self.old }
+    {
+        let variable = lit.variable();
+        self.phases[variable as usize] = lit.positive();
+        if self.queue.stamp(variable) > self.queue.stamp(self.place) {
+            self.place = variable;
+        }
+        if variable <= self.highest && variable > self.low {
+            self.low = variable;
+        }
+    }
+
+    /// Makes variables the newest ones, in the order in which they stood.
+    pub(crate) fn renew(&mut self, alloc: Global, met: &[u32]) -> Result<(), AllocError>
+        requires { All (λ x. x ≤ self.old) met.now }
+        ensures { self.new ≡ self.old }
+    {
+        self.queue.renew_all(alloc, met)
+    }
+
+    // The literal of a variable with the sign that it had last.
+    fn signed(&self, variable: u32) -> Lit
+        requires from { 0 < variable }
+        requires inside { variable ≤ self.now }
+        ensures { result.variable ≡ variable }
+    {
+        Lit::new(variable, self.phases[variable as usize])
+    }
+}
+
+// The newest unset variable of a queue from a place on.
+fn newest_unset(trail: &Trail, queue: &Queue, place: u32) -> Option<u32>
+    requires variables { trail.now.assignment.variables ≡ queue.now }
+    requires place { place ≤ queue.now }
+    ensures { IfSome result (IsFree trail.now.assignment) }
+{
+    let mut variable = place;
+    for _seen in 0..queue.variables() {
+        if variable == 0 {
+            return None;
+        }
+        if is_unset(trail, variable) {
+            return Some(variable);
+        }
+        variable = queue.older_than(variable);
+    }
+    None
+}
+
+// The highest unset variable up to this one, 0 where there is none.
+fn highest_unset(trail: &Trail, from: u32) -> u32
+    requires { from ≤ trail.now.assignment.variables }
+    ensures inside { result ≤ from }
+    ensures unset { 0 < result → IsUnset trail.now.assignment result }
+{
+    let mut variable = from;
+    while 0 < variable && !is_unset(trail, variable) {
+        variable -= 1;
+    }
+    variable
+}
+
+// The lowest unset variable.
+fn lowest_unset(trail: &Trail, variables: u32) -> Option<u32>
+    requires { trail.now.assignment.variables ≡ variables }
+    ensures { MatchOption result (IsWhole trail.now.assignment) (IsFree trail.now.assignment) }
+{
+    for at in 0..variables {
+        if is_unset(trail, at + 1) {
+            return Some(at + 1);
+        }
+    }
+    None
+}
+
+// Whether a variable is unset.
+fn is_unset(trail: &Trail, variable: u32) -> bool
+    requires from { 0 < variable }
+    requires inside { variable ≤ trail.now.assignment.variables }
+    ensures { MatchBool result (IsUnset trail.now.assignment variable) (IsSet trail.now.assignment variable) }
+{
+    trail.value(variable).is_none()
+}

@@ -1,0 +1,49 @@
+//! What is learned is added to the pool, and propagation goes over it from the back-jump level on.
+
+ghost use Rattle.std.specs.Prelude.{◌≡◌, ◌+◌, ◌<◌, ◌^◌, ◌∷◌, ◌++◌, [], IfOk, OnOk, OnErr, length};
+ghost use Rattle.clause_pool.specs.Clauses.{BeginsWith};
+ghost use Rattle.clause_pool.specs.Proper.{HasNoVariableTwice};
+ghost use Rattle.learn_solver.specs.Ready.{IsReady};
+ghost use Rattle.learn_solver.specs.Learned.{IsAsserting};
+
+use clause_pool::{Lit, Pool};
+use solver_trail::{Trail, longer_pool_fits};
+use std::alloc::AllocError;
+
+/// Adds a learned clause to the pool, goes back to its back-jump level and attaches it.
+pub(crate) fn learn(
+    trail: &mut Trail,
+    pool: &mut Pool,
+    clause: &[Lit],
+    back: u32,
+) -> Result<(), AllocError>
+    requires ready { IsReady trail.old pool.old.clauses }
+    requires asserting { IsAsserting trail.old.assignment back clause.now }
+    requires once { HasNoVariableTwice clause.now }
+    requires few { length pool.old.clauses + 1 < 2 ^ 32 }
+    ensures added { OnOk result (pool.new.clauses ≡ pool.old.clauses ++ clause.now ∷ []) }
+    ensures ready { OnOk result (IsReady trail.new pool.new.clauses) }
+    ensures variables { trail.new.assignment.variables ≡ trail.old.assignment.variables }
+    ensures begins { BeginsWith pool.new.clauses pool.old.clauses }
+{
+    let number = add(pool, clause)?;
+    longer_pool_fits();
+    trail.back_to(back);
+    trail.attach(pool, number)
+}
+
+// Adds a clause to the pool, which grows where it has no room.
+fn add(pool: &mut Pool, clause: &[Lit]) -> Result<u32, AllocError>
+    requires { length pool.old.clauses + 1 < 2 ^ 32 }
+    ensures ok { OnOk result (pool.new.clauses ≡ pool.old.clauses ++ clause.now ∷ []) }
+    ensures number { IfOk result (λ number. number ≡ length pool.new.clauses) }
+    ensures err { OnErr result (pool.new.clauses ≡ pool.old.clauses) }
+{
+    if pool.spare_clauses() == 0 || pool.spare_literals() < clause.len() {
+        pool.grow(1, clause.len())?;
+    }
+    match pool.push(clause) {
+        Ok(number) => Ok(number),
+        Err(_full) => unreachable!(),
+    }
+}

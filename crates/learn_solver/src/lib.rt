@@ -1,0 +1,40 @@
+//! A conflict-driven clause learning solver (Marques-Silva and Sakallah 1996) over the miter of a pair of faults. It logs the
+//! resolutions of each clause that it learns.
+//!
+//! A search goes down by decisions and propagation to a clause that is false, resolves that with reasons to a clause that
+//! says why, goes back to where the learned clause would have forced a literal, and goes down again.
+//!
+//! ```text
+//! marks, marking     which variables an analysis has met
+//! places, resolving  the walk back along the trail, literal by literal
+//! analysis, learning the learned clause, and its place in the pool and on the trail
+//! queue, decider     which literal is decided next
+//! aim, descent       down to a conflict
+//! search, step       one conflict more
+//! restarts, sweep    when to begin anew, and where to begin
+//! model, logs        what is answered
+//! solver             all of it
+//! ```
+#![tactic(auto)]
+
+mod aim;
+mod analysis;
+mod decider;
+mod descent;
+mod learning;
+mod logs;
+mod marking;
+mod marks;
+mod model;
+mod places;
+mod queue;
+mod resolving;
+mod restarts;
+mod search;
+mod solved;
+mod solver;
+mod step;
+mod sweep;
+
+pub use solved::Solved;
+pub use solver::solve;

@@ -1,0 +1,128 @@
+//! The variables in the order in which conflicts met them, as a linked list in flat arrays: the queue of CaDiCaL (Biere
+//! and Fröhlich 2015).
+
+ghost use Rattle.std.specs.Prelude.{◌≡◌, ℕ, ◌<◌, ◌≤◌, ◌^◌, All, IfOk};
+
+use std::alloc::{AllocError, Global};
+use std::marker::Model;
+
+/// All variables in a ring that number 0 closes, each newer than the one before it. Stamps rise along it.
+#[derive(Debug, Drop)]
+pub(crate) struct Queue {
+    variables: u32,
+    older: Vec<u32>,
+    newer: Vec<u32>,
+    stamps: Vec<u64>,
+    clock: u64,
+}
+
+impl Model for Queue {
+    ghost use Rattle.std.specs.Prelude.{ℕ};
+    ghost use Rattle.learn_solver.specs.QueueFields.{IsRing};
+
+    ghost Value = { ℕ };
+
+    ghost view = { λ q. q.variables };
+
+    ghost invariant = { λ q. IsRing q.variables q.older.items q.newer.items q.stamps.items };
+}
+
+impl Queue {
+    /// The variables from 1 up to this one, which is the newest.
+    pub(crate) fn new(alloc: Global, variables: u32) -> Result<Queue, AllocError>
+        requires { variables < 2 ^ 31 }
+        ensures { IfOk result (λ queue. queue ≡ variables) }
+    {
+        let size = variables as usize + 1;
+        let mut older = vec![in alloc; 0; size]?;
+        let mut newer = vec![in alloc; 0; size]?;
+        let mut stamps = vec![in alloc; 0; size]?;
+        for variable in 0..variables {
+            let at = variable as usize;
+            newer[at] = variable + 1;
+            older[at + 1] = variable;
+            stamps[at + 1] = variable as u64 + 1;
+        }
+        older[0] = variables;
+        Ok(Queue {
+            variables,
+            older,
+            newer,
+            stamps,
+            clock: variables as u64,
+        })
+    }
+
+    /// How many variables there are.
+    pub(crate) fn variables(&self) -> u32
+        ensures { result ≡ self.now }
+    {
+        self.variables
+    }
+
+    /// The newest variable, 0 where there is none.
+    pub(crate) fn newest(&self) -> u32
+        ensures { result ≤ self.now }
+    {
+        self.older[0]
+    }
+
+    /// The next older variable, 0 where there is none.
+    pub(crate) fn older_than(&self, variable: u32) -> u32
+        requires { variable ≤ self.now }
+        ensures { result ≤ self.now }
+    {
+        self.older[variable as usize]
+    }
+
+    /// The stamp of a variable: a newer one has a higher one.
+    pub(crate) fn stamp(&self, variable: u32) -> u64
+        requires { variable ≤ self.now }
+    {
+        self.stamps[variable as usize]
+    }
+
+    /// Makes a variable the newest one.
+    pub(crate) fn renew(&mut self, variable: u32)
+        requires { variable ≤ self.old }
+        ensures { self.new ≡ self.old }
+    {
+        let at = variable as usize;
+        let before = self.older[at];
+        let behind = self.newer[at];
+        self.newer[before as usize] = behind;
+        self.older[behind as usize] = before;
+        let newest = self.older[0];
+        self.older[at] = newest;
+        self.newer[newest as usize] = variable;
+        self.newer[at] = 0;
+        self.older[0] = variable;
+        self.clock = self.clock.saturating_add(1);
+        self.stamps[at] = self.clock;
+    }
+
+    /// Makes variables the newest ones, in the order in which they stood.
+    pub(crate) fn renew_all(&mut self, alloc: Global, variables: &[u32]) -> Result<(), AllocError>
+        requires { All (λ x. x ≤ self.old) variables.now }
+        ensures { self.new ≡ self.old }
+    {
+        let order = self.by_stamp(alloc, variables)?;
+        for pair in &order {
+            self.renew(pair.1);
+        }
+        Ok(())
+    }
+
+    // The variables with their stamps, the oldest first.
+    fn by_stamp(&self, alloc: Global, variables: &[u32]) -> Result<Vec<(u64, u32)>, AllocError>
+        requires { All (λ x. x ≤ self.now) variables.now }
+        ensures { IfOk result (λ order. All (λ (p : ℕ × ℕ). p.1 ≤ self.now) order.items) }
+    {
+        let mut order = Vec::with_capacity(alloc, variables.len())?;
+        for variable in variables {
+            order.push((self.stamp(*variable), *variable))?;
+        }
+        order.sort_unstable();
+        Ok(order)
+    }
+}

@@ -1,0 +1,99 @@
+//! A search under way.
+
+ghost use Rattle.std.specs.Prelude.{[], ◌≡◌, ◌+◌, ◌<◌, ◌^◌, All, IfOk, length};
+ghost use Rattle.clause_pool.specs.Clauses.{BeginsWith};
+ghost use Rattle.clause_pool.specs.Proper.{IsProper};
+ghost use Rattle.learn_solver.specs.Ready.{IsReady, IsConflict};
+ghost use Rattle.learn_solver.specs.Search.{IsPrepared, Learns};
+
+use crate::analysis::{Learned, analyze};
+use crate::decider::Decider;
+use crate::learning::learn;
+use crate::marks::Marks;
+use clause_pool::Pool;
+use pair_miter::Chain;
+use solver_trail::Trail;
+use std::alloc::{AllocError, Global};
+
+/// The trail, the order of decisions, the marks of analyses, and the chains of the clauses that are learned so far.
+#[derive(Drop)]
+pub(crate) struct Search {
+    pub(crate) trail: Trail,
+    pub(crate) decider: Decider,
+    pub(crate) marks: Marks,
+    pub(crate) chains: Vec<Chain>,
+}
+
+/// A search over the clauses of a pool, with nothing set and nothing learned.
+pub(crate) fn begin(alloc: Global, pool: &Pool, variables: u32) -> Result<Search, AllocError>
+    requires few { variables < 2 ^ 31 }
+    requires proper { All (IsProper variables) pool.now.clauses }
+    ensures prepared { IfOk result (λ search. IsPrepared search pool.now.clauses) }
+    ensures variables { IfOk result (λ search. search.trail.assignment.variables ≡ variables) }
+    ensures none { IfOk result (λ search. search.chains.items ≡ []) }
+{
+    let trail = attach_all(alloc, pool, variables)?;
+    let decider = Decider::new(alloc, variables)?;
+    let marks = Marks::new(alloc, variables)?;
+    Ok(Search {
+        trail,
+        decider,
+        marks,
+        chains: Vec::new(alloc),
+    })
+}
+
+// A trail to which all clauses of the pool are attached.
+fn attach_all(alloc: Global, pool: &Pool, variables: u32) -> Result<Trail, AllocError>
+    requires { All (IsProper variables) pool.now.clauses }
+    ensures ready { IfOk result (λ trail. IsReady trail pool.now.clauses) }
+    ensures variables { IfOk result (λ trail. trail.assignment.variables ≡ variables) }
+{
+    let mut trail = Trail::new(alloc, variables)?;
+    for at in 0..pool.len() {
+        trail.attach(pool, at + 1)?;
+    }
+    Ok(trail)
+}
+
+/// Learns a clause from a false one. Where it has no literal, its chain is answered, and nothing is learned.
+pub(crate) fn learn_from(
+    alloc: Global,
+    search: &mut Search,
+    pool: &mut Pool,
+    conflict: u32,
+) -> Result<Option<Chain>, AllocError>
+    requires prepared { IsPrepared search.old pool.old.clauses }
+    requires conflict { IsConflict search.old.trail pool.old.clauses conflict }
+    requires few { length pool.old.clauses + 1 < 2 ^ 32 }
+    ensures learned { IfOk result (Learns search.old pool.old.clauses search.new pool.new.clauses) }
+    ensures begins { BeginsWith pool.new.clauses pool.old.clauses }
+{
+    let learned = analyze(alloc, &search.trail, pool, &mut search.marks, conflict)?;
+    let Learned {
+        mut chain,
+        clause,
+        back,
+    } = learned;
+    if clause.is_empty() {
+        return Ok(Some(chain));
+    }
+    chain.set_at(Some(clause[0]));
+    search.chains.push(chain)?;
+    search.decider.renew(alloc, search.marks.met())?;
+    search.marks.clear_met();
+    search.decider.leave(&search.trail, back);
+    learn(&mut search.trail, pool, clause.as_slice(), back)?;
+    Ok(None)
+}
+
+/// Goes back to level 0.
+pub(crate) fn restart(search: &mut Search, pool: &Pool)
+    requires { IsPrepared search.old pool.now.clauses }
+    ensures prepared { IsPrepared search.new pool.now.clauses }
+    ensures variables { search.new.trail.assignment.variables ≡ search.old.trail.assignment.variables }
+    ensures chains { search.new.chains ≡ search.old.chains }
+{
+    search.decider.leave(&search.trail, 0);
+    search.trail.back_to(0);
+}

@@ -1,0 +1,90 @@
+//! The solver.
+
+ghost use Rattle.std.specs.Prelude.{◌≡◌, ◌+◌, ◌<◌, ◌≤◌, ◌^◌, All, IfOk, length};
+ghost use Rattle.net_model.specs.Answer.{Separates};
+ghost use Rattle.clause_pool.specs.Clauses.{BeginsWith};
+ghost use Rattle.clause_pool.specs.Partial.{IsQuiet};
+ghost use Rattle.pair_miter.specs.Miter as spec;
+ghost use Rattle.pair_miter.specs.Variables.{variable_count};
+ghost use Rattle.solver_trail.specs.Assignment.{IsTrail, held};
+ghost use Rattle.learn_solver.specs.Decisions.{IsWhole};
+ghost use Rattle.learn_solver.specs.Search.{IsSearch, clauses_of};
+ghost use Rattle.learn_solver.specs.Solved.{IsSolved};
+
+use crate::aim::Aim;
+use crate::logs::{bare_log, log_of};
+use crate::model::model;
+use crate::restarts::Restarts;
+use crate::search::{Search, begin, restart};
+use crate::solved::Solved;
+use crate::step::{Step, take_step};
+use crate::sweep::sweep;
+use clause_pool::Pool;
+use net_model::Vector;
+use pair_miter::Miter;
+use solver_trail::Trail;
+use std::alloc::{AllocError, Global};
+
+/// Searches a model of a miter, and learns a clause from each conflict, up to so many. The pool, which holds the clauses of
+/// the miter, then has the learned ones behind them.
+pub fn solve(
+    alloc: Global,
+    miter: &Miter,
+    pool: &mut Pool,
+    conflicts: u32,
+) -> Result<Solved, AllocError>
+    requires some { 1 ≤ conflicts }
+    requires clauses { pool.old.clauses ≡ spec.miter miter.now.circuit miter.now.f miter.now.g }
+    requires few { length pool.old.clauses + conflicts < 2 ^ 32 }
+    ensures solved { IfOk result (IsSolved miter.now.circuit miter.now.f miter.now.g conflicts pool.new.clauses) }
+    ensures begins { BeginsWith pool.new.clauses pool.old.clauses }
+{
+    let mut search = begin(alloc, pool, miter.variables())?;
+    match sweep(alloc, miter, &mut search, pool, conflicts)? {
+        Some(last) => Ok(Solved::Refuted(bare_log(alloc, search.chains, last)?)),
+        None => search_on(alloc, miter, search, pool, conflicts),
+    }
+}
+
+// Goes on with a search until it ends.
+fn search_on(
+    alloc: Global,
+    miter: &Miter,
+    search: Search,
+    pool: &mut Pool,
+    conflicts: u32,
+) -> Result<Solved, AllocError>
+    requires search { IsSearch miter.now conflicts search pool.old.clauses }
+    requires few { length (clauses_of miter.now) + conflicts < 2 ^ 32 }
+    ensures solved { IfOk result (IsSolved miter.now.circuit miter.now.f miter.now.g conflicts pool.new.clauses) }
+    ensures begins { BeginsWith pool.new.clauses (clauses_of miter.now) }
+{
+    let mut search = search;
+    let mut restarts = Restarts::new();
+    'conflicts: while search.chains.len() < conflicts as usize {
+        match take_step(alloc, miter, &mut search, pool, conflicts, &Aim::Model)? {
+            Step::Learned => {
+                if restarts.is_due() {
+                    restart(&mut search, pool);
+                }
+            }
+            Step::Open => return Ok(Solved::Vector(vector(alloc, miter, &search.trail)?)),
+            Step::Refuted(last) => {
+                return Ok(Solved::Refuted(bare_log(alloc, search.chains, last)?));
+            }
+        }
+    }
+    Ok(Solved::Spent(log_of(alloc, search.chains)?))
+}
+
+// The vector of a trail by which all variables are set, and with which unit propagation has nothing to do at any clause.
+fn vector(alloc: Global, miter: &Miter, trail: &Trail) -> Result<Vector, AllocError>
+    requires trail { IsTrail trail.now.assignment }
+    requires variables { trail.now.assignment.variables ≡ variable_count miter.now.circuit miter.now.f miter.now.g }
+    requires whole { IsWhole trail.now.assignment }
+    requires quiet { All (IsQuiet (held trail.now.assignment)) (clauses_of miter.now) }
+    ensures { IfOk result (λ v. Separates miter.now.circuit v miter.now.f miter.now.g) }
+{
+    let bits = model(alloc, trail, miter.variables())?;
+    miter.vector_of(&bits)
+}

@@ -1,0 +1,48 @@
+//! One step of a search: a descent, and what it teaches.
+
+ghost use Rattle.std.specs.Prelude.{◌≡◌, ◌+◌, ◌<◌, ◌^◌, IfOk, length};
+ghost use Rattle.clause_pool.specs.Clauses.{BeginsWith};
+ghost use Rattle.pair_miter.specs.Variables.{variable_count};
+ghost use Rattle.learn_solver.specs.Decisions.{IsAim};
+ghost use Rattle.learn_solver.specs.Search.{IsSearch, EndsStep, clauses_of};
+
+use crate::aim::Aim;
+use crate::descent::descend;
+use crate::search::{Search, learn_from};
+use clause_pool::Pool;
+use pair_miter::{Chain, Miter};
+use solver_trail::Propagated;
+use std::alloc::{AllocError, Global};
+
+/// How a step ends: a clause is learned, or no clause is false, or the chain is the last of a refutation.
+#[derive(Drop)]
+pub(crate) enum Step {
+    Learned,
+    Open,
+    Refuted(Chain),
+}
+
+/// Goes down to a false clause, and learns a clause from it.
+pub(crate) fn take_step(
+    alloc: Global,
+    miter: &Miter,
+    search: &mut Search,
+    pool: &mut Pool,
+    conflicts: u32,
+    aim: &Aim,
+) -> Result<Step, AllocError>
+    requires search { IsSearch miter.now conflicts search.old pool.old.clauses }
+    requires left { length search.old.chains.items < conflicts }
+    requires few { length (clauses_of miter.now) + conflicts < 2 ^ 32 }
+    requires aim { IsAim (variable_count miter.now.circuit miter.now.f miter.now.g) aim.now }
+    ensures ends { IfOk result (EndsStep miter.now conflicts aim.now search.old search.new pool.new.clauses) }
+    ensures begins { BeginsWith pool.new.clauses (clauses_of miter.now) }
+{
+    match descend(&mut search.trail, pool, &mut search.decider, aim) {
+        Propagated::Quiet => Ok(Step::Open),
+        Propagated::Conflict(number) => match learn_from(alloc, search, pool, number)? {
+            None => Ok(Step::Learned),
+            Some(last) => Ok(Step::Refuted(last)),
+        },
+    }
+}

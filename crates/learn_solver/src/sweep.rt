@@ -1,0 +1,122 @@
+//! A sweep from the faults outward: whether the two copies of a line can differ, line by line. Where they can't, the clauses
+//! that are learned say so, and what stands on them later is short.
+
+ghost use Rattle.std.specs.Prelude.{◌≡◌, ◌+◌, ◌<◌, ◌^◌, IfOk, length};
+ghost use Rattle.clause_pool.specs.Clauses.{BeginsWith};
+ghost use Rattle.pair_miter.specs.SplitLines.{AreVariables};
+ghost use Rattle.pair_miter.specs.Variables.{variable_count};
+ghost use Rattle.learn_solver.specs.Decisions.{AreBoth};
+ghost use Rattle.learn_solver.specs.Search.{IsSearch, EndsSweep, clauses_of};
+
+use crate::aim::{Aim, Both};
+use crate::search::{Search, restart};
+use crate::step::{Step, take_step};
+use clause_pool::{Lit, Pool};
+use pair_miter::{Chain, Copies, Miter};
+use std::alloc::{AllocError, Global};
+
+// The most clauses that are learned for one way in which the copies of a line can differ.
+const TRIES: u32 = 5;
+
+/// Tries each split line in the order of evaluation. Answers the last chain of a refutation, if there is one.
+pub(crate) fn sweep(
+    alloc: Global,
+    miter: &Miter,
+    search: &mut Search,
+    pool: &mut Pool,
+    conflicts: u32,
+) -> Result<Option<Chain>, AllocError>
+    requires search { IsSearch miter.now conflicts search.old pool.old.clauses }
+    requires few { length (clauses_of miter.now) + conflicts < 2 ^ 32 }
+    ensures ends { IfOk result (EndsSweep miter.now conflicts search.new pool.new.clauses) }
+    ensures begins { BeginsWith pool.new.clauses (clauses_of miter.now) }
+{
+    let lines = miter.split_lines()?;
+    for copies in &lines {
+        if let Some(last) = tell_apart(alloc, miter, search, pool, conflicts, *copies)? {
+            return Ok(Some(last));
+        }
+    }
+    Ok(None)
+}
+
+// Tries both ways in which the copies of a line can differ.
+fn tell_apart(
+    alloc: Global,
+    miter: &Miter,
+    search: &mut Search,
+    pool: &mut Pool,
+    conflicts: u32,
+    copies: Copies,
+) -> Result<Option<Chain>, AllocError>
+    requires search { IsSearch miter.now conflicts search.old pool.old.clauses }
+    requires few { length (clauses_of miter.now) + conflicts < 2 ^ 32 }
+    requires copies { AreVariables (variable_count miter.now.circuit miter.now.f miter.now.g) copies }
+    ensures ends { IfOk result (EndsSweep miter.now conflicts search.new pool.new.clauses) }
+    ensures begins { BeginsWith pool.new.clauses (clauses_of miter.now) }
+{
+    let variables = miter.variables();
+    let found = reach(
+        alloc,
+        miter,
+        search,
+        pool,
+        conflicts,
+        apart(variables, copies, true),
+    )?;
+    if found.is_some() {
+        return Ok(found);
+    }
+    reach(
+        alloc,
+        miter,
+        search,
+        pool,
+        conflicts,
+        apart(variables, copies, false),
+    )
+}
+
+// One copy of a line with this bit, and the other with the other one.
+fn apart(variables: u32, copies: Copies, bit: bool) -> Both
+    requires few { variables < 2 ^ 31 }
+    requires inside { AreVariables variables copies }
+    ensures { AreBoth variables result }
+{
+    Both {
+        first: Lit::new(copies.first, bit),
+        second: Lit::new(copies.second, !bit),
+        highest: copies.first.max(copies.second),
+    }
+}
+
+// Tries to make both literals true, with a few conflicts at most.
+fn reach(
+    alloc: Global,
+    miter: &Miter,
+    search: &mut Search,
+    pool: &mut Pool,
+    conflicts: u32,
+    both: Both,
+) -> Result<Option<Chain>, AllocError>
+    requires search { IsSearch miter.now conflicts search.old pool.old.clauses }
+    requires few { length (clauses_of miter.now) + conflicts < 2 ^ 32 }
+    requires both { AreBoth (variable_count miter.now.circuit miter.now.f miter.now.g) both }
+    ensures ends { IfOk result (EndsSweep miter.now conflicts search.new pool.new.clauses) }
+    ensures begins { BeginsWith pool.new.clauses (clauses_of miter.now) }
+{
+    search.decider.turn_to(both.highest);
+    let aim = Aim::Both(both);
+    for _turn in 0..TRIES {
+        if search.chains.len() >= conflicts as usize {
+            return Ok(None);
+        }
+        match take_step(alloc, miter, search, pool, conflicts, &aim)? {
+            Step::Learned => {}
+            Step::Open => break,
+            Step::Refuted(last) => return Ok(Some(last)),
+        }
+    }
+    restart(search, pool);
+    Ok(None)
+}
