@@ -1,186 +1,107 @@
 //! Gates, small circuits, their order and wiring, and rows of answers.
 
-use crate::circuits::{are_bits, bits, circuit, fit, gate, stands, takes};
 use net_model::{
-    AnswerRows, BuildFault, Circuit, Fault, Gate, Kind, Pins, Site, gate_value, plain_answer,
+    AnswerRows, BuildFault, Circuit, Fault, Kind, Pins, Site, gate_value, plain_answer,
 };
+use sample_circuits::{Parts, bits, circuit, fit, gates_of, stands, takes, text_of};
 use std::alloc::Global;
 use std::test::Fail;
 
-// What a gate gives, where it takes so many pins.
-fn gives(alloc: Global, kind: Kind, pins: &[bool]) -> Result<Option<bool>, Fail> {
-    let seen = bits(alloc, pins)?;
-    if takes(kind, seen.len()) {
-        Ok(Some(gate_value(kind, &seen)))
-    } else {
-        Ok(None)
+// What a gate gives at each of these bits of its pins, and - where it doesn't take so many.
+fn values(alloc: Global, kind: Kind, pins: &[&str]) -> Result<String, Fail> {
+    let mut text = String::new(alloc);
+    for seen in pins {
+        let seen = bits(alloc, seen)?;
+        if !takes(kind, seen.len()) {
+            text.push_str("-")?;
+        } else if gate_value(kind, &seen) {
+            text.push_str("1")?;
+        } else {
+            text.push_str("0")?;
+        }
     }
+    Ok(text)
 }
 
-#[test]
-fn gates_of_two_pins(rt: HostRuntime) -> Result<(), Fail> {
-    let table = [
-        (Kind::And, [false, false, false, true]),
-        (Kind::Nand, [true, true, true, false]),
-        (Kind::Or, [false, true, true, true]),
-        (Kind::Nor, [true, false, false, false]),
-        (Kind::Xor, [false, true, true, false]),
-        (Kind::Xnor, [true, false, false, true]),
-    ];
-    for (kind, values) in table {
-        assert_eq!(rt;
-            gives(rt.alloc(), kind, &[false, false])?,
-            Some(values[0]),
-            "{kind:?}"
-        );
-        assert_eq!(rt;
-            gives(rt.alloc(), kind, &[false, true])?,
-            Some(values[1]),
-            "{kind:?}"
-        );
-        assert_eq!(rt;
-            gives(rt.alloc(), kind, &[true, false])?,
-            Some(values[2]),
-            "{kind:?}"
-        );
-        assert_eq!(rt;
-            gives(rt.alloc(), kind, &[true, true])?,
-            Some(values[3]),
-            "{kind:?}"
-        );
-    }
-    Ok(())
-}
+const TWO: &[&str] = &["00", "01", "10", "11"];
 
-#[test]
-fn gates_of_other_arities(rt: HostRuntime) -> Result<(), Fail> {
-    assert_eq!(rt; gives(rt.alloc(), Kind::Not, &[false])?, Some(true));
-    assert_eq!(rt; gives(rt.alloc(), Kind::Buff, &[true])?, Some(true));
-    assert_eq!(rt; gives(rt.alloc(), Kind::Const0, &[])?, Some(false));
-    assert_eq!(rt; gives(rt.alloc(), Kind::Const1, &[])?, Some(true));
-    assert_eq!(rt;
-        gives(rt.alloc(), Kind::Xor, &[true, true, true])?,
-        Some(true)
-    );
-    assert_eq!(rt;
-        gives(rt.alloc(), Kind::Xnor, &[true, true, true])?,
-        Some(false)
-    );
-    assert_eq!(rt; gives(rt.alloc(), Kind::Mux, &[false, true])?, None);
-    Ok(())
-}
+const THREE: &[&str] = &["000", "001", "010", "011", "100", "101", "110", "111"];
 
 // A multiplexer gives its second pin where its first is 0, and else its third.
 #[test]
-fn multiplexers(rt: HostRuntime) -> Result<(), Fail> {
-    let table = [
-        ([false, false, false], false),
-        ([false, false, true], false),
-        ([false, true, false], true),
-        ([false, true, true], true),
-        ([true, false, false], false),
-        ([true, false, true], true),
-        ([true, true, false], false),
-        ([true, true, true], true),
+fn gates_on_bits(rt: HostRuntime) -> Result<(), Fail> {
+    let table: [(Kind, &[&str], &str); 14] = [
+        (Kind::And, TWO, "0001"),
+        (Kind::Nand, TWO, "1110"),
+        (Kind::Or, TWO, "0111"),
+        (Kind::Nor, TWO, "1000"),
+        (Kind::Xor, TWO, "0110"),
+        (Kind::Xnor, TWO, "1001"),
+        (Kind::Not, &["0"], "1"),
+        (Kind::Buff, &["1"], "1"),
+        (Kind::Const0, &[""], "0"),
+        (Kind::Const1, &[""], "1"),
+        (Kind::Xor, &["111"], "1"),
+        (Kind::Xnor, &["111"], "0"),
+        (Kind::Mux, &["01"], "-"),
+        (Kind::Mux, THREE, "00110101"),
     ];
-    for (pins, value) in table {
-        assert_eq!(rt;
-            gives(rt.alloc(), Kind::Mux, &pins)?,
-            Some(value),
-            "{pins:?}"
-        );
+    for (kind, pins, expected) in table {
+        let found = values(rt.alloc(), kind, pins)?;
+        assert_eq!(rt; found.as_str(), expected, "{kind:?}");
     }
     Ok(())
 }
 
-// Whether a circuit answers so to a vector.
-fn answers(
-    alloc: Global,
-    circuit: &Circuit,
-    fault: Fault,
-    vector: &[bool],
-    expected: &[bool],
-) -> Result<bool, Fail> {
+// What a circuit shows at a vector, under a fault that stands in it.
+fn answer(alloc: Global, parts: Parts, fault: Fault, vector: &str) -> Result<String, Fail> {
+    let circuit = circuit(alloc, parts)?;
     let v = bits(alloc, vector)?;
-    if !stands(circuit, fault) || v.len() != circuit.sources() as usize {
-        return Ok(false);
+    if !stands(&circuit, fault) || v.len() != circuit.sources() as usize {
+        return Err(Fail::new("the fault or the vector doesn't fit"));
     }
-    let answer = plain_answer(alloc, circuit, &fault, &v)?;
-    Ok(are_bits(&answer, expected))
+    let answer = plain_answer(alloc, &circuit, &fault, &v)?;
+    Ok(text_of(alloc, &answer)?)
 }
 
-#[test]
-fn answers_of_a_nand(rt: HostRuntime) -> Result<(), Fail> {
-    let gates = Vec::from_array(rt.alloc(), [gate(rt.alloc(), Kind::Nand, &[0, 1])?])?;
-    let nand = circuit(rt.alloc(), 2, gates, &[2])?;
-    let table = [
-        (Fault::Free, [true, true], false),
-        (Fault::Stuck(Site::Stem(0), false), [true, true], true),
-        (Fault::Stuck(Site::Stem(2), true), [true, true], true),
-        (Fault::Stuck(Site::Position(0), true), [true, true], true),
-        (Fault::Free, [false, true], true),
-        (Fault::Stuck(Site::Stem(0), true), [false, true], false),
-    ];
-    for (fault, vector, value) in table {
-        assert!(rt;
-            answers(rt.alloc(), &nand, fault, &vector, &[value])?,
-            "{fault:?}"
-        );
-    }
-    Ok(())
-}
+const NAND: Parts<'static> = Parts {
+    sources: 2,
+    gates: &[(Kind::Nand, &[0, 1])],
+    positions: &[2],
+};
 
 // The first source chooses between the second and line 4, a constant 1.
-fn chooser(alloc: Global) -> Result<Circuit, Fail> {
-    let mux = gate(alloc, Kind::Mux, &[0, 1, 4])?;
-    let one = gate(alloc, Kind::Const1, &[])?;
-    let zero = gate(alloc, Kind::Const0, &[])?;
-    circuit(
-        alloc,
-        2,
-        Vec::from_array(alloc, [zero, mux, one])?,
-        &[3, 2, 3],
-    )
-}
+const CHOOSER: Parts<'static> = Parts {
+    sources: 2,
+    gates: &[
+        (Kind::Const0, &[]),
+        (Kind::Mux, &[0, 1, 4]),
+        (Kind::Const1, &[]),
+    ],
+    positions: &[3, 2, 3],
+};
 
 #[test]
-fn answers_of_a_multiplexer_over_a_constant(rt: HostRuntime) -> Result<(), Fail> {
-    let chooser = chooser(rt.alloc())?;
+fn answers_under_faults(rt: HostRuntime) -> Result<(), Fail> {
     let table = [
-        (Fault::Free, [false, false], [false, false, false]),
-        (Fault::Free, [false, true], [true, false, true]),
-        (Fault::Free, [true, false], [true, false, true]),
-        (
-            Fault::Stuck(Site::Stem(4), false),
-            [true, false],
-            [false, false, false],
-        ),
-        (
-            Fault::Stuck(Site::Stem(2), true),
-            [false, false],
-            [false, true, false],
-        ),
-        (
-            Fault::Stuck(Site::Pin(3, 0), true),
-            [false, false],
-            [true, false, true],
-        ),
-        (
-            Fault::Stuck(Site::Pin(3, 1), true),
-            [false, false],
-            [true, false, true],
-        ),
-        (
-            Fault::Stuck(Site::Pin(3, 2), false),
-            [true, true],
-            [false, false, false],
-        ),
+        (NAND, Fault::Free, "11", "0"),
+        (NAND, Fault::Stuck(Site::Stem(0), false), "11", "1"),
+        (NAND, Fault::Stuck(Site::Stem(2), true), "11", "1"),
+        (NAND, Fault::Stuck(Site::Position(0), true), "11", "1"),
+        (NAND, Fault::Free, "01", "1"),
+        (NAND, Fault::Stuck(Site::Stem(0), true), "01", "0"),
+        (CHOOSER, Fault::Free, "00", "000"),
+        (CHOOSER, Fault::Free, "01", "101"),
+        (CHOOSER, Fault::Free, "10", "101"),
+        (CHOOSER, Fault::Stuck(Site::Stem(4), false), "10", "000"),
+        (CHOOSER, Fault::Stuck(Site::Stem(2), true), "00", "010"),
+        (CHOOSER, Fault::Stuck(Site::Pin(3, 0), true), "00", "101"),
+        (CHOOSER, Fault::Stuck(Site::Pin(3, 1), true), "00", "101"),
+        (CHOOSER, Fault::Stuck(Site::Pin(3, 2), false), "11", "000"),
     ];
-    for (fault, vector, values) in table {
-        assert!(rt;
-            answers(rt.alloc(), &chooser, fault, &vector, &values)?,
-            "{fault:?}"
-        );
+    for (parts, fault, vector, expected) in table {
+        let found = answer(rt.alloc(), parts, fault, vector)?;
+        assert_eq!(rt; found.as_str(), expected, "{fault:?}");
     }
     Ok(())
 }
@@ -188,28 +109,34 @@ fn answers_of_a_multiplexer_over_a_constant(rt: HostRuntime) -> Result<(), Fail>
 // Constants are gates that are ready from the start.
 #[test]
 fn order_and_wiring(rt: HostRuntime) -> Result<(), Fail> {
-    let chooser = chooser(rt.alloc())?;
+    let chooser = circuit(rt.alloc(), CHOOSER)?;
     assert_eq!(rt; chooser.sources(), 2);
     assert_eq!(rt; chooser.lines(), 5);
     assert_eq!(rt; chooser.order(), [2, 4, 3].as_slice());
     let wiring = chooser.wiring();
     assert_eq!(rt; wiring.order(), [2, 4, 3].as_slice());
-    assert_eq!(rt; wiring.readers(0), [2].as_slice());
-    assert_eq!(rt; wiring.readers(4), [2].as_slice());
-    assert!(rt; wiring.readers(3).is_empty());
-    assert_eq!(rt; wiring.showing(3), [0, 2].as_slice());
-    assert_eq!(rt; wiring.showing(2), [1].as_slice());
-    assert!(rt; wiring.showing(4).is_empty());
+    let users: [(&[u32], &[u32]); 5] = [
+        (&[2], &[]),
+        (&[2], &[]),
+        (&[], &[1]),
+        (&[], &[0, 2]),
+        (&[2], &[]),
+    ];
+    for (line, (readers, showing)) in users.iter().enumerate() {
+        let line = line as u32;
+        assert_eq!(rt; wiring.readers(line), *readers, "line {line}");
+        assert_eq!(rt; wiring.showing(line), *showing, "line {line}");
+    }
     Ok(())
 }
 
 // The walk along a loop of gates over one source, if they form one.
-fn walk_of(alloc: Global, gates: Vec<Gate>) -> Result<Option<Pins>, Fail> {
-    let none = Vec::new(alloc);
+fn walk_of(alloc: Global, gates: &[(Kind, &[u32])]) -> Result<Option<Pins>, Fail> {
+    let gates = gates_of(alloc, gates)?;
     if !fit(1, gates.as_slice(), &[]) {
-        return Ok(None);
+        return Err(Fail::new("the gates don't fit together"));
     }
-    match Circuit::build(alloc, 1, gates, none) {
+    match Circuit::build(alloc, 1, gates, Vec::new(alloc)) {
         Ok(_circuit) => Ok(None),
         Err(BuildFault::Loop(walk)) => Ok(Some(walk)),
         Err(BuildFault::NoMemory) => Err(Fail::new("out of memory")),
@@ -218,19 +145,15 @@ fn walk_of(alloc: Global, gates: Vec<Gate>) -> Result<Option<Pins>, Fail> {
 
 #[test]
 fn walks_of_loops(rt: HostRuntime) -> Result<(), Fail> {
-    let first = gate(rt.alloc(), Kind::Not, &[2])?;
-    let second = gate(rt.alloc(), Kind::Mux, &[0, 0, 1])?;
-    let walk = walk_of(rt.alloc(), Vec::from_array(rt.alloc(), [first, second])?)?.ok_or(
-        "no loop",
-    )?;
-    assert_eq!(rt; walk.as_slice(), [1, 2].as_slice());
-    let behind = gate(rt.alloc(), Kind::And, &[0, 2])?;
-    let own = gate(rt.alloc(), Kind::Or, &[0, 2])?;
-    let walk = walk_of(rt.alloc(), Vec::from_array(rt.alloc(), [behind, own])?)?.ok_or("no loop")?;
-    assert_eq!(rt; walk.as_slice(), [2].as_slice());
-    let before = gate(rt.alloc(), Kind::Not, &[2])?;
-    let after = gate(rt.alloc(), Kind::Not, &[0])?;
-    assert!(rt; walk_of(rt.alloc(), Vec::from_array(rt.alloc(), [before, after])?)?.is_none());
+    let table: [([(Kind, &[u32]); 2], Option<&[u32]>); 3] = [
+        ([(Kind::Not, &[2]), (Kind::Mux, &[0, 0, 1])], Some(&[1, 2])),
+        ([(Kind::And, &[0, 2]), (Kind::Or, &[0, 2])], Some(&[2])),
+        ([(Kind::Not, &[2]), (Kind::Not, &[0])], None),
+    ];
+    for (gates, expected) in table {
+        let walk = walk_of(rt.alloc(), &gates)?;
+        assert_eq!(rt; walk.as_ref().map(|pins| pins.as_slice()), expected);
+    }
     Ok(())
 }
 

@@ -1,31 +1,71 @@
 //! Numbers that wait, taken from the lowest on.
 
+ghost use Rattle.std.specs.Prelude.{◌≡◌, length};
+
 use event_queue::NumberQueue;
+use sample_circuits::all_below;
 use std::test::Fail;
+
+// What is done with a queue: a number or several begin to wait, or the lowest is taken and is this one.
+#[derive(Clone, Copy, Debug)]
+enum Step<'a> {
+    Insert(u32),
+    Wake(&'a [u32]),
+    Take(Option<u32>),
+}
+
+// Whether the step can be done, and takes what it should. The queue has room for the numbers below a count.
+fn goes(queue: &mut NumberQueue, count: usize, step: Step) -> bool
+    requires { length queue.old ≡ count }
+    ensures { length queue.new ≡ count }
+{
+    match step {
+        Step::Insert(number) => {
+            if number as usize >= count {
+                return false;
+            }
+            queue.insert(number);
+            true
+        }
+        Step::Wake(numbers) => {
+            if !all_below(numbers, count) {
+                return false;
+            }
+            queue.wake(numbers);
+            true
+        }
+        Step::Take(expected) => queue.take_lowest(0) == expected,
+    }
+}
 
 #[test]
 fn the_lowest_is_taken_first(rt: HostRuntime) -> Result<(), Fail> {
     let mut queue = NumberQueue::new(rt.alloc(), 130)?;
-    assert_eq!(rt; queue.take_lowest(0), None);
-    queue.insert(129);
-    queue.insert(64);
-    queue.wake(&[63, 64, 70]);
-    assert_eq!(rt; queue.take_lowest(0), Some(63));
-    queue.insert(3);
-    assert_eq!(rt; queue.take_lowest(0), Some(3));
-    assert_eq!(rt; queue.take_lowest(0), Some(64));
-    assert_eq!(rt; queue.take_lowest(0), Some(70));
-    assert_eq!(rt; queue.take_lowest(0), Some(129));
-    assert_eq!(rt; queue.take_lowest(0), None);
+    let steps = [
+        Step::Take(None),
+        Step::Insert(129),
+        Step::Insert(64),
+        Step::Wake(&[63, 64, 70]),
+        Step::Take(Some(63)),
+        Step::Insert(3),
+        Step::Take(Some(3)),
+        Step::Take(Some(64)),
+        Step::Take(Some(70)),
+        Step::Take(Some(129)),
+        Step::Take(None),
+    ];
+    for step in steps {
+        assert!(rt; goes(&mut queue, 130, step), "{step:?}");
+    }
     Ok(())
 }
 
 #[test]
 fn all_wait(rt: HostRuntime) -> Result<(), Fail> {
     let mut queue = NumberQueue::all(rt.alloc(), 2)?;
-    assert_eq!(rt; queue.take_lowest(0), Some(0));
-    assert_eq!(rt; queue.take_lowest(0), Some(1));
-    assert_eq!(rt; queue.take_lowest(0), None);
+    for expected in [Some(0), Some(1), None] {
+        assert_eq!(rt; queue.take_lowest(0), expected);
+    }
     assert_eq!(rt; NumberQueue::new(rt.alloc(), 0)?.take_lowest(0), None);
     Ok(())
 }

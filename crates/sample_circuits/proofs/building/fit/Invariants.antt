@@ -1,8 +1,8 @@
-use Rattle.std.proofs.Common.{◌≡◌, ◌<◌, ◌+◌, ℕ, length, take}
+use Rattle.std.proofs.Common.{◌≡◌, ◌<◌, ◌+◌, length, take}
 use Rattle.std.specs.Prelude.{All, IsTrue, sum_by}
 use Rattle.net_model.specs.declared.gate.Gate.{Gate}
 use Rattle.net_model.specs.Gate.{takes_pins}
-use Rattle.tests_circuits.proofs.circuits.fit.Given as goal
+use Rattle.sample_circuits.proofs.building.fit.Given as goal
 
 abbrev pub invariant-loop-gate : goal.invariant-loop-gate
 invariant-loop-gate l = record {

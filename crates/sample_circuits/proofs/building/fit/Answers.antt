@@ -1,11 +1,11 @@
 use Rattle.std.proofs.Common.{◌≡◌, ◌∙◌, ◌<◌, ◌+◌, ◌++◌, ◌∷◌, [], true, length, take, ap, sym, subst, arith}
-use Rattle.std.specs.Prelude.{All, IsTrue, sum_by}
+use Rattle.std.specs.Prelude.{All, IsTrue}
 use Rattle.std.proofs.lemmas.List.{take_more}
 use Rattle.std.proofs.lemmas.List.Elements.{All-push}
 use Rattle.std.proofs.lemmas.List.Sums.{sum_by_more}
 use Rattle.net_model.specs.declared.gate.Gate.{Gate}
 use Rattle.net_model.specs.Gate.{takes_pins}
-use Rattle.tests_circuits.proofs.circuits.fit.Goals as goal
+use Rattle.sample_circuits.proofs.building.fit.Goals as goal
 
 pub loop-gate-preserved : goal.loop-gate-preserved
 loop-gate-preserved c =

@@ -1,0 +1,26 @@
+//! Bits from text, and text from bits.
+
+ghost use Rattle.std.specs.Prelude.{◌≡◌, IfOk, length};
+
+use net_model::Bits;
+use std::alloc::{AllocError, Global};
+
+/// The bits of a text, 1 at each digit 1 and else 0.
+pub fn bits(alloc: Global, text: &str) -> Result<Bits, AllocError>
+    ensures { IfOk result (λ bits. length bits ≡ length text.now) }
+{
+    let mut bits = Bits::zeros(alloc, text.len())?;
+    for (at, digit) in text.as_bytes().iter().enumerate() {
+        bits.set(at, *digit == b'1');
+    }
+    Ok(bits)
+}
+
+/// The digits of these bits.
+pub fn text_of(alloc: Global, bits: &Bits) -> Result<String, AllocError> {
+    let mut text = String::new(alloc);
+    for at in 0..bits.len() {
+        text.push_str(if bits.get(at) { "1" } else { "0" })?;
+    }
+    Ok(text)
+}
