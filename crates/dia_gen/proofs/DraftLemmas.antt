@@ -8,7 +8,7 @@ use Rattle.std.proofs.lemmas.List.Sums.{sum_by-append, sum_by-cons}
 use Rattle.std.proofs.lemmas.Option.{same_Some, slice_get_within}
 use Rattle.std.proofs.Math.Seq.{take-append_seam}
 use Rattle.net_model.specs.Circuit.{Circuit}
-use Rattle.net_model.specs.FaultList.{fault_count}
+use Rattle.net_model.specs.FaultList.{fault_count, fault_numbered}
 use Rattle.net_model.specs.ClassTable.{ClassTable, class_at, representative}
 use Rattle.net_model.specs.PatternRows.{IsTableOf, SplitsClass}
 use Rattle.result_file.specs.declared.record.Budgets.{Budgets}
@@ -82,7 +82,7 @@ module _ (c : Circuit) (budgets : Budgets) (kept : List (List Bool)) where
 
     -- one line more
     pub draft_more : AreDraftLines c budgets kept later → (r : Record) → IsNextLine c (lines_with c budgets kept later) r → IsTrue (is_body_record r)
-        → ((v : List Bool) → r ≡ Pattern v → SeparatesNext c (lines_with c budgets kept later) v × (budgets.cubes ≡ 0 → ⊥))
+        → ((v : List Bool) → r ≡ Pattern v → SeparatesNext c (lines_with c budgets kept later) v × (budgets.cubes ≡ 0 → budgets.conflicts ≡ 0 → ⊥))
         → ((e : Evidence) → r ≡ Same e → budgets.cubes ≡ 0 → HasNoSearch e.proof)
         → AreDraftLines c budgets kept (later ++ r ∷ [])
     draft_more so_far r next isbody pattern evidence = record {
@@ -96,9 +96,9 @@ module _ (c : Circuit) (budgets : Budgets) (kept : List (List Bool)) where
         | inl old ↦ so_far.no_search at e none old
         | inr last ↦ evidence e last.1 none
       ];
-      no_choice = λ at v none there. elim (last_cases later r (Pattern v) at there) [
-        | inl old ↦ so_far.no_choice at v none old
-        | inr last ↦ (pattern v last.1).1 none
+      no_choice = λ at v none unlearned there. elim (last_cases later r (Pattern v) at there) [
+        | inl old ↦ so_far.no_choice at v none unlearned old
+        | inr last ↦ (pattern v last.1).1 none unlearned
       ];
     }
 
@@ -127,7 +127,7 @@ module _ (c : Circuit) (budgets : Budgets) (kept : List (List Bool)) where
           same_evidence e x is = cc
 
       -- a pattern that tells the next number from its representative
-      pub pattern_added : (v : List Bool) (member : ℕ) → next_member t (evidence_in later) ≡ Some member → IsApartBy c budgets (representative t (class_at t member)) member v → SplitsClass c (kept ++ patterns_in later) v
+      pub pattern_added : (v : List Bool) (member : ℕ) → next_member t (evidence_in later) ≡ Some member → IsApartBy c (fault_numbered c (representative t (class_at t member))) (fault_numbered c member) budgets v → SplitsClass c (kept ++ patterns_in later) v
           → AreDraftLines c budgets kept (later ++ Pattern v ∷ [])
       pattern_added v member next apart right =
           draft_more so_far (Pattern v) (record {
@@ -137,7 +137,7 @@ module _ (c : Circuit) (budgets : Budgets) (kept : List (List Bool)) where
           (λ w is.
           let same : v ≡ w = same_pattern v w is in
           let separates : SeparatesNext c (lines_with c budgets kept later) v = record { t = t; table = lines_table; member = member; member_is = rw lines_evidence next; separates = apart.separates } in
-          (subst (SeparatesNext c (lines_with c budgets kept later)) same separates, apart.budget))
+          (subst (SeparatesNext c (lines_with c budgets kept later)) same separates, λ cubes conflicts. elim apart.budget [ inl some ↦ some cubes | inr some ↦ some conflicts ]))
           (λ x is none. absurd (cc))
         where
           same_pattern : (v w : List Bool) → Pattern v ≡ Pattern w → v ≡ w
@@ -152,5 +152,5 @@ module _ (c : Circuit) (budgets : Budgets) (kept : List (List Bool)) where
         body = λ k d below. absurd (omega arith);
         patterns = λ at v there. absurd (cc);
         no_search = λ at e none there. absurd (cc);
-        no_choice = λ at v none there. absurd (cc);
+        no_choice = λ at v none unlearned there. absurd (cc);
       }

@@ -66,6 +66,7 @@ small_birth t whole small class (Some birth) at =
 -- the laws of a circuit's faults that its results rest on
 pub sound_circuit : (c : Circuit) → IsCircuit c → SameRootEqual → CoveringEqual → LeavesClosed → SpendingBounded → AreSound c
 sound_circuit c is roots covering closed bounded = record {
+  circuit = is;
   roots = λ m n low high same. roots c (fault_numbered c m) (fault_numbered c n) is (all_stand c m Free low) (all_stand c n Free high) same;
   covered = λ f g limit tokens right. covering c f g limit tokens is right;
   leaves = λ f g tokens tree at below leaf. let here = tree.each at below in (here.0, here.1, closed c f g tokens at here.0 is tree below leaf here.1);
@@ -141,7 +142,7 @@ module _ (c : Circuit) (budgets : Budgets) (kept : List (List Bool)) (later : Li
       kept_are = first;
       patterns = lines.patterns;
       no_search = lines.no_search;
-      no_choice = λ at v cubes conflicts there. lines.no_choice at v cubes there;
+      no_choice = lines.no_choice;
     }
 
     abbrev pub Widths : Type 0

@@ -5,3 +5,8 @@ pub mod PairLemmas
 pub mod DraftResult
 pub mod Written
 pub mod MarkedLemmas
+pub mod WritingLemmas
+pub mod LogSpelling
+pub mod BeginLemmas
+pub mod DraftSteps
+pub mod EndLemmas

@@ -10,7 +10,7 @@ use Rattle.result_file.specs.declared.record.Mark.TheVariants as mark
 use Rattle.result_file.specs.declared.record.Record.{Record}
 use Rattle.result_file.specs.declared.record.Record.TheVariants.{Member}
 use Rattle.result_file.specs.Summary.{is_equal, is_open}
-use Rattle.dia_gen.specs.declared.lines.Marked.{Marked}
+use Rattle.dia_gen.specs.declared.counts.Marked.{Marked}
 use Rattle.dia_gen.specs.declared.marks.Given.{Given}
 use Rattle.dia_gen.specs.Given.{member_for}
 use Rattle.dia_gen.specs.Marked.{marked_with, members_below, AreMarkedBelow}

@@ -1,18 +1,36 @@
 -- Proofs that a search gives.
-use Rattle.std.proofs.Common.{◌≡◌, ◌≢◌, ℕ, ◌<◌, ◌^◌, List, [], ◌∷◌, sym, ap, ◌∙◌, arith}
-use Rattle.std.proofs.lemmas.List.Elements.{All-from_get_or}
+use Rattle.std.proofs.Common.{◌≡◌, ◌≢◌, ℕ, ◌+◌, ◌<◌, ◌^◌, List, [], ◌∷◌, ◌++◌, length, length-append, refl, sym, ap, subst, ◌∙◌, arith}
+use Rattle.std.specs.Prelude.{All, Some, None, slice_get, Result, Ok, Err, IfOk}
+use Rattle.std.specs.declared.alloc.AllocError.{AllocError}
+use Rattle.std.proofs.lemmas.List.Elements.{All-from_get_or, All-nil, All-weaker}
+use Rattle.std.proofs.lemmas.Option.{get_or_from_slice_get, slice_get_within}
 use Rattle.net_model.specs.declared.fault.Fault.{Fault}
-use Rattle.net_model.specs.Circuit.{Circuit}
-use Rattle.net_model.specs.Collapse.{root}
-use Rattle.net_model.specs.FaultList.{fault_numbered}
+use Rattle.net_model.specs.Circuit.{Circuit, IsCircuit}
+use Rattle.clause_pool.specs.Clauses.{Clause}
+use Rattle.clause_pool.specs.Proper.{HasVariablesUpTo, IsProper}
 use Rattle.pair_sets.specs.declared.tree.Token.{Token}
 use Rattle.pair_sets.specs.declared.tree.Token.TheVariants.{Split, Closed, Rest}
 use Rattle.pair_sets.specs.Cube.{Cube}
 use Rattle.pair_sets.specs.Tree.{IsTree, IsRightAt, IsCovering, IsSpending, waiting_after, token_at}
+use Rattle.pair_miter.specs.ChainView.{ChainView}
+use Rattle.pair_miter.specs.Miter.{miter}
+use Rattle.pair_miter.specs.Variables.{variable_count}
+use Rattle.pair_miter.proofs.LogEnds.{log_long}
+use Rattle.pair_miter.proofs.Within.{miter_proper}
+use Rattle.pair_miter.proofs.Bounds.{few_clauses, few_variables_of}
+use Rattle.distinguish_search.specs.declared.found.Found.TheVariants as found
+use Rattle.learn_solver.specs.Solved.{HasRefutation, HasSpentLog}
 use Rattle.result_file.specs.declared.record.Budgets.{Budgets}
 use Rattle.result_file.specs.declared.record.Proof.TheVariants as proof
-use Rattle.result_file.specs.Spelling.{HasTokenSpelling, HasTreeSpelling}
-use Rattle.dia_gen.specs.Settled.{IsProofFor}
+use Rattle.result_file.specs.Lines.{AreWithinLimits}
+use Rattle.result_file.specs.Spelling.{HasTokenSpelling, HasTreeSpelling, IsPlainChain, IsFreshChain}
+use Rattle.net_model.specs.Collapse.{root}
+use Rattle.net_model.specs.FaultList.{fault_numbered}
+use Rattle.result_file.specs.declared.record.Proof.{Proof}
+use Rattle.dia_gen.specs.declared.pair.Settled.{Settled}
+use Rattle.dia_gen.specs.declared.pair.Settled.TheVariants.{Apart, By}
+use Rattle.dia_gen.specs.Settled.{IsSearched, IsOpenFor, IsProofBy, IsProofFor, IsSettledBy, IsSettledFor}
+use Rattle.dia_gen.proofs.LogSpelling.{literal_spelled, log_spelled}
 
 module _ (c : Circuit) (f g : Fault) (small : c.sources < 2 ^ 32) where
   token_spelling : (token : Token) (cube : Cube) → IsRightAt c f g token cube → HasTokenSpelling token
@@ -31,19 +49,80 @@ module _ (c : Circuit) (f g : Fault) (small : c.sources < 2 ^ 32) where
     each = All-from_get_or HasTokenSpelling tokens Rest (λ at below. let right = tree.each at below in token_spelling (token_at tokens at) right.0 right.2);
   }
 
-module _ (c : Circuit) (small : c.sources < 2 ^ 32) (budgets : Budgets) (m n : ℕ) (tokens : List Token) (apart : root c (fault_numbered c m) ≢ root c (fault_numbered c n)) (some : budgets.cubes ≡ 0 → ⊥) where
-  pub covered_for : IsCovering c (fault_numbered c m) (fault_numbered c n) budgets.cubes tokens → IsProofFor c budgets m n (proof.Covered tokens)
-  covered_for right = record {
-    spelled = tree_spelling c (fault_numbered c m) (fault_numbered c n) small tokens right.tree;
-    roots = apart;
-    right = right;
-    no_search = λ none. absurd (some none);
-  }
+-- an element in its place is one of those of which all is said
+placed : {X : Type 0} (P : X → Type 0) (xs : List X) (at : ℕ) (x : X) → All P xs → slice_get xs at ≡ Some x → P x
+placed P xs at x all is = subst P (get_or_from_slice_get xs at x x is) (all at x (slice_get_within xs at x is))
 
-  pub spent_for : budgets.conflicts ≡ 0 → IsSpending c (fault_numbered c m) (fault_numbered c n) budgets.cubes tokens → IsProofFor c budgets m n (proof.Searched tokens)
-  spent_for conflicts right = record {
-    spelled = tree_spelling c (fault_numbered c m) (fault_numbered c n) small tokens right.tree;
-    roots = apart;
-    right = (right, conflicts);
-    no_search = λ none. absurd (some none);
-  }
+module _ (c : Circuit) (is : IsCircuit c) (f g : Fault) (budgets : Budgets) (tokens : List Token) where
+  sources : c.sources < 2 ^ 32
+  sources = let small = is.small in omega (arith, small)
+
+  pub covered_by : IsSearched c f g budgets (found.Covered tokens) → IsProofBy c f g budgets (proof.Covered tokens)
+  covered_by s = record { roots = λ apart. apart; spelled = tree_spelling c f g sources tokens s.is_found.tree; right = s.is_found; no_search = λ none. absurd (let e = s.none none in cc) }
+
+  pub open_for : IsSearched c f g budgets (found.Spent tokens) → IsOpenFor c f g budgets tokens
+  open_for s = record { spending = s.is_found; none = λ none. (let e = s.none none in cc) }
+
+  module _ (left : IsOpenFor c f g budgets tokens) where
+    spelled_tree : HasTreeSpelling tokens
+    spelled_tree = tree_spelling c f g sources tokens left.spending.tree
+
+    -- without a budget of conflicts
+    pub unlearned_by : budgets.conflicts ≡ 0 → IsProofBy c f g budgets (proof.Spent tokens [])
+    unlearned_by none = record {
+      roots = λ apart. apart;
+      spelled = (spelled_tree, All-nil IsFreshChain);
+      right = (left.spending, record { ends = []; are = refl; full = sym none; fresh = λ at chain end there. absurd (cc) });
+      no_search = left.none;
+    }
+
+    module _ (limits : AreWithinLimits budgets) (pool : List Clause) (log : List ChainView) where
+      inside : All (HasVariablesUpTo (variable_count c f g)) (miter c f g)
+      inside = All-weaker (IsProper (variable_count c f g)) (HasVariablesUpTo (variable_count c f g)) (λ clause proper. proper.inside) (miter c f g) (miter_proper c f g is)
+
+      few : length (miter c f g) + (budgets.conflicts + 1) < 2 ^ 32
+      few = omega (arith, few_clauses c f g is, limits.conflicts)
+
+      pub refuted_by : HasRefutation (miter c f g) budgets.conflicts pool log → IsProofBy c f g budgets (proof.Refuted tokens log)
+      refuted_by r =
+          let long = log_long (miter c f g) log (r.refutation.ends ++ [] ∷ []) r.refutation.are in
+          let count = length-append r.refutation.ends ([] ∷ []) in
+          record {
+            roots = λ apart. apart;
+            spelled = (
+              spelled_tree,
+              (
+                λ none. (let z : length log ≡ 0 = ap length none in omega (arith, long, count)),
+                log_spelled (variable_count c f g) (omega (arith, few_variables_of c f g is)) IsPlainChain (miter c f g) log (r.refutation.ends ++ [] ∷ []) inside (omega (arith, few, long, count, r.refutation.few)) r.refutation.are
+                    (λ chain at end there ends within.
+                    let bare = placed (λ (ch : ChainView). ch.fresh_at ≡ None) log at chain r.bare there in
+                    (rw bare tt, λ spelled. (spelled, bare))),
+              ),
+            );
+            right = (left.spending, r.refutation);
+            no_search = left.none;
+          }
+
+      pub spent_by : HasSpentLog (miter c f g) budgets.conflicts pool log → IsProofBy c f g budgets (proof.Spent tokens log)
+      spent_by r = record {
+        roots = λ apart. apart;
+        spelled = (
+          spelled_tree,
+          log_spelled (variable_count c f g) (omega (arith, few_variables_of c f g is)) IsFreshChain (miter c f g) log r.spent.ends inside (omega (arith, few, r.spent.full)) r.spent.are
+              (λ chain at end there ends within.
+              let fresh = r.spent.fresh at chain end there ends in
+              let literal = literal_spelled (variable_count c f g) (omega (arith, few_variables_of c f g is)) end fresh.at within fresh.fresh.inside in
+              (rw fresh.is_at literal, λ spelled. (spelled, rw fresh.is_at refl))),
+        );
+        right = (left.spending, r.spent);
+        no_search = left.none;
+      }
+
+pub proof_for : {c : Circuit} {budgets : Budgets} {m n : ℕ} {p : Proof} → root c (fault_numbered c m) ≢ root c (fault_numbered c n) → IsProofBy c (fault_numbered c m) (fault_numbered c n) budgets p → IsProofFor c budgets m n p
+proof_for apart is = record { roots = is.roots apart; spelled = is.spelled; right = is.right; no_search = is.no_search }
+
+-- what settles a pair whose roots differ
+pub settled_for : (c : Circuit) (budgets : Budgets) (m n : ℕ) → root c (fault_numbered c m) ≢ root c (fault_numbered c n) → (result : Result Settled AllocError) → IfOk result (IsSettledBy c (fault_numbered c m) (fault_numbered c n) budgets) → IfOk result (IsSettledFor c budgets m n)
+settled_for c budgets m n apart (Ok (Apart v)) is = is
+settled_for c budgets m n apart (Ok (By p)) is = proof_for apart is
+settled_for c budgets m n apart (Err e) is = is

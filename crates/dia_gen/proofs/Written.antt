@@ -8,11 +8,15 @@ use Rattle.result_file.specs.declared.record.Summary.{Summary}
 use Rattle.net_model.specs.FaultList.{fault_count}
 use Rattle.result_file.specs.declared.record.Record.TheVariants.{End}
 use Rattle.result_file.specs.Meaning.{class_records, member_records, stated_records}
+use Rattle.result_file.specs.Valid.{AreRightLines}
 use Rattle.result_file.proofs.Truth.{AreSound, none_open}
 use Rattle.dia_gen.specs.Made.{IsMade, IsCutFile}
 
+pub nothing_right : {c : Circuit} → AreRightLines c []
+nothing_right {c} = record { spelled = λ at below. absurd (omega arith); right = λ at below. absurd (omega arith) }
+
 pub nothing_cut : {c : Circuit} → IsCutFile c []
-nothing_cut {c} = record { records = []; right = record { spelled = λ at below. absurd (omega arith); right = λ at below. absurd (omega arith) }; count = 0; cut = refl }
+nothing_cut {c} = record { records = []; right = nothing_right; count = 0; cut = refl }
 
 pub written_cut : {c : Circuit} {budgets : Budgets} {summary : Summary} {file : List ℕ} → IsMade c budgets summary file → (count : ℕ) → IsCutFile c (take count file)
 written_cut {c} {budgets} {summary} {file} made count = record { records = stated_records c made.is_true.stated; right = made.made.valid.lines; count = count; cut = ap (take count) made.is_true.text }

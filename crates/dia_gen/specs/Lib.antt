@@ -5,3 +5,4 @@ pub mod Settled
 pub mod Given
 pub mod Draft
 pub mod Marked
+pub mod Writing

@@ -40,7 +40,8 @@ pub record SeparatesNext (c : Circuit) (before : List Record) (v : List Bool) : 
 abbrev pub HasNoSearch : Proof → Type 0
 HasNoSearch proof.Collapse = ⊤
 HasNoSearch (proof.Covered tree) = tree ≡ Rest ∷ []
-HasNoSearch (proof.Searched tree) = tree ≡ Rest ∷ []
+HasNoSearch (proof.Refuted tree log) = tree ≡ Rest ∷ []
+HasNoSearch (proof.Spent tree log) = tree ≡ Rest ∷ []
 
 -- The generator may state this: its lines are valid, and the patterns and evidence come about in the generator's way.
 pub record MayState (c : Circuit) (s : StatedResult) : Type 0 where

@@ -7,7 +7,7 @@ use Rattle.result_file.specs.declared.record.Mark.TheVariants as mark
 use Rattle.result_file.specs.declared.record.Record.{Record}
 use Rattle.result_file.specs.Summary.{is_equal, is_open}
 use Rattle.result_file.specs.Meaning.{member_records}
-use Rattle.dia_gen.specs.declared.lines.Marked.{Marked}
+use Rattle.dia_gen.specs.declared.counts.Marked.{Marked}
 use Rattle.dia_gen.specs.declared.marks.Given.{Given}
 use Rattle.dia_gen.specs.Given.{member_for}
 

@@ -9,9 +9,8 @@ use Rattle.dia_gen.specs.Setting.{Setting, setting_with}
 abbrev pub setting_of : Inside → Setting
 setting_of a = setting_with a.circuit.now a.budgets
 
--- The list is that of the circuit's faults, and the forest theirs. The budgets are within their limits, and that of conflicts is 0.
+-- The list is that of the circuit's faults, and the forest theirs. The budgets are within their limits.
 pub record IsReady (a : Inside) : Type 0 where
   pub faults_are : a.listed.now ≡ faults a.circuit.now
   pub forest_of : IsForestOf a.circuit.now a.forest.now
   pub limits : AreWithinLimits a.budgets
-  pub conflicts : a.budgets.conflicts ≡ 0

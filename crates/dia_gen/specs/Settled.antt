@@ -1,8 +1,16 @@
 -- What becomes of a number and its representative: a vector that separates them, or evidence.
-use Rattle.std.specs.Prelude.{◌≡◌, ◌≢◌, ℕ, Bool, List, length}
+use Rattle.std.specs.Prelude.{◌≡◌, ◌⊎◌, ◌≢◌, ℕ, Bool, List, [], ◌∷◌, length}
+use Rattle.net_model.specs.declared.fault.Fault.{Fault}
 use Rattle.net_model.specs.Circuit.{Circuit}
 use Rattle.net_model.specs.Answer.{Separates}
+use Rattle.net_model.specs.Collapse.{root}
 use Rattle.net_model.specs.FaultList.{fault_numbered}
+use Rattle.pair_sets.specs.declared.tree.Token.{Token}
+use Rattle.pair_sets.specs.declared.tree.Token.TheVariants.{Rest}
+use Rattle.pair_sets.specs.Tree.{IsSpending}
+use Rattle.distinguish_search.specs.declared.found.Found.{Found}
+use Rattle.distinguish_search.specs.declared.found.Found.TheVariants as found
+use Rattle.distinguish_search.specs.Found.{IsFound}
 use Rattle.result_file.specs.declared.record.Budgets.{Budgets}
 use Rattle.result_file.specs.declared.record.Proof.{Proof}
 use Rattle.result_file.specs.Spelling.{HasProofSpelling}
@@ -11,19 +19,41 @@ use Rattle.dia_gen.specs.declared.pair.Settled.{Settled}
 use Rattle.dia_gen.specs.declared.pair.Settled.TheVariants.{Apart, By}
 use Rattle.dia_gen.specs.Made.{HasNoSearch}
 
--- The vector separates the two, and there is a budget to search for it.
-pub record IsApartBy (c : Circuit) (budgets : Budgets) (lead member : ℕ) (v : List Bool) : Type 0 where
-  pub budget : budgets.cubes ≢ 0
-  pub width : length v ≡ c.sources
-  pub separates : Separates c v (fault_numbered c lead) (fault_numbered c member)
+module _ (c : Circuit) (f g : Fault) (budgets : Budgets) where
+  -- What a search finds within the budget of cubes: without one, a tree of one open leaf.
+  pub record IsSearched (result : Found) : Type 0 where
+    pub is_found : IsFound c f g budgets.cubes result
+    pub none : budgets.cubes ≡ 0 → result ≡ found.Spent (Rest ∷ [])
 
--- The proof is right for the two and the budgets.
+  -- The tree leaves the pair open, and spends the budget of cubes.
+  pub record IsOpenFor (tree : List Token) : Type 0 where
+    pub spending : IsSpending c f g budgets.cubes tree
+    pub none : budgets.cubes ≡ 0 → tree ≡ Rest ∷ []
+
+  -- The vector separates the two, and there is a budget to find it.
+  pub record IsApartBy (v : List Bool) : Type 0 where
+    pub budget : (budgets.cubes ≢ 0) ⊎ (budgets.conflicts ≢ 0)
+    pub width : length v ≡ c.sources
+    pub separates : Separates c v f g
+
+  -- The proof is right for the two and the budgets where their roots differ.
+  pub record IsProofBy (proof : Proof) : Type 0 where
+    pub roots : root c f ≢ root c g → HasRightRoots c f g proof
+    pub spelled : HasProofSpelling proof
+    pub right : IsRightProof c f g budgets proof
+    pub no_search : budgets.cubes ≡ 0 → HasNoSearch proof
+
+  abbrev pub IsSettledBy : Settled → Type 0
+  IsSettledBy (Apart v) = IsApartBy v
+  IsSettledBy (By proof) = IsProofBy proof
+
+-- The proof is right for two numbers and the budgets.
 pub record IsProofFor (c : Circuit) (budgets : Budgets) (lead member : ℕ) (proof : Proof) : Type 0 where
-  pub spelled : HasProofSpelling proof
   pub roots : HasRightRoots c (fault_numbered c lead) (fault_numbered c member) proof
+  pub spelled : HasProofSpelling proof
   pub right : IsRightProof c (fault_numbered c lead) (fault_numbered c member) budgets proof
   pub no_search : budgets.cubes ≡ 0 → HasNoSearch proof
 
 abbrev pub IsSettledFor : Circuit → Budgets → ℕ → ℕ → Settled → Type 0
-IsSettledFor c budgets lead member (Apart v) = IsApartBy c budgets lead member v
+IsSettledFor c budgets lead member (Apart v) = IsApartBy c (fault_numbered c lead) (fault_numbered c member) budgets v
 IsSettledFor c budgets lead member (By proof) = IsProofFor c budgets lead member proof

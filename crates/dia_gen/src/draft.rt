@@ -1,68 +1,102 @@
 //! A result under way.
 
-ghost use Rattle.std.specs.Prelude.{◌≡◌, ◌<◌, ◌+◌, ℕ, IfOk, OnOk, IsSome, IsTrue};
+ghost use Rattle.std.specs.Prelude.{◌≡◌, ◌<◌, ◌+◌, ℕ, IfOk, IfErr, OnOk, IsSome, IsTrue};
+ghost use Rattle.diag_shelf.specs.World.{State};
+ghost use Rattle.net_model.specs.FaultList.{fault_numbered};
 ghost use Rattle.net_model.specs.ClassTable.{class_at, class_count, representative};
 ghost use Rattle.result_file.specs.Marks.{mark_of};
 ghost use Rattle.dia_gen.specs.Settled.{IsApartBy, IsProofFor};
 ghost use Rattle.dia_gen.specs.Given.{given_mark, AreAllMarked, IsLowestOpen};
-ghost use Rattle.dia_gen.specs.Draft.{IsDraft};
+ghost use Rattle.dia_gen.specs.Draft.{IsBegun, IsDraft};
+ghost use Rattle.dia_gen.specs.Writing.{BrokeOff};
 
-use crate::lines::{push_head, push_patterns, push_same};
 use crate::marks::Marks;
 use crate::pair::{Settled, settle_pair};
 use crate::setting::Setting;
+use crate::writing::{write_head, write_line, write_pattern, write_patterns};
+use clause_pool::Pool;
+use diag_shelf::{Shelf, ShelfFault};
 use kept_vectors::Keeper;
 use net_model::Vector;
-use result_file::{Evidence, Mark, Proof, push_pattern};
+use result_file::{Evidence, Mark, Proof, Record};
 use std::alloc::{AllocError, Global};
 
-// What is kept, the marks that are given, and the lines so far.
+// What is kept, the marks that are given, and the pool in which each pair is solved.
 #[derive(Drop)]
 pub(crate) struct Draft<'a> {
     pub(crate) keeper: Keeper<'a>,
     pub(crate) marks: Marks,
-    pub(crate) text: String,
+    pub(crate) pool: Pool,
 }
 
 impl<'a> Draft<'a> {
-    // The first two lines, and a line for each vector of the stream that is kept.
-    pub(crate) fn start(alloc: Global, setting: &Setting<'a>) -> Result<Draft<'a>, AllocError>
-        ensures { IfOk result (IsDraft setting.now) }
+    // Writes the first two lines, and a line for each vector of the stream that is kept.
+    pub(crate) fn start<S: Shelf>(
+        alloc: Global,
+        setting: &Setting<'a>,
+        shelf: &mut S,
+    ) -> Result<Draft<'a>, ShelfFault>
+        ensures draft { IfOk result (λ draft. IsDraft setting.now draft (S.state shelf.old) (S.state shelf.new)) }
+        ensures err { IfErr result (λ fault. BrokeOff setting.now.circuit fault (S.state shelf.old) (S.state shelf.new)) }
+    {
+        let Ok(draft) = Draft::begin(alloc, setting) else {
+            return Err(ShelfFault::NoMemory);
+        };
+        write_head(alloc, shelf, setting)?;
+        write_patterns(alloc, shelf, draft.keeper.vectors())?;
+        Ok(draft)
+    }
+
+    // The vectors of the stream that are kept, and no mark.
+    fn begin(alloc: Global, setting: &Setting<'a>) -> Result<Draft<'a>, AllocError>
+        ensures { IfOk result (IsBegun setting.now) }
     {
         let mut keeper = setting.keeper(alloc)?;
         keeper.keep_stream(setting.budgets().blocks)?;
-        let mut text = String::new(alloc);
-        push_head(&mut text, setting)?;
-        push_patterns(&mut text, keeper.vectors())?;
         let marks = Marks::none(alloc, setting.numbers())?;
+        let pool = Pool::with_room(alloc, 0, 0)?;
         Ok(Draft {
             keeper,
             marks,
-            text,
+            pool,
         })
     }
 
     // Writes evidence or patterns until each number is a representative or marked.
-    pub(crate) fn mark_all(&mut self, alloc: Global, setting: &Setting) -> Result<(), AllocError>
-        requires draft { IsDraft setting.now self.old }
-        ensures draft { OnOk result (IsDraft setting.now self.new) }
+    pub(crate) fn mark_all<S: Shelf>(
+        &mut self,
+        alloc: Global,
+        setting: &Setting,
+        shelf: &mut S,
+    ) -> Result<(), ShelfFault>
+        ghost start: { State }
+        requires draft { IsDraft setting.now self.old start (S.state shelf.old) }
+        ensures draft { OnOk result (IsDraft setting.now self.new start (S.state shelf.new)) }
         ensures marked { OnOk result (AreAllMarked self.new.keeper.kept.table self.new.marks.given.items) }
+        ensures err { IfErr result (λ fault. BrokeOff setting.now.circuit fault start (S.state shelf.new)) }
     {
-        while self.mark_round(alloc, setting)? {}
+        while self.mark_round(alloc, setting, shelf)? {}
         Ok(())
     }
 
     // Writes evidence for one number after another, up to the first that a new pattern tells from its representative.
     // Answers whether there was one, since it may take marks away; else all numbers are marked.
-    fn mark_round(&mut self, alloc: Global, setting: &Setting) -> Result<bool, AllocError>
-        requires draft { IsDraft setting.now self.old }
-        ensures draft { OnOk result (IsDraft setting.now self.new) }
+    fn mark_round<S: Shelf>(
+        &mut self,
+        alloc: Global,
+        setting: &Setting,
+        shelf: &mut S,
+    ) -> Result<bool, ShelfFault>
+        ghost start: { State }
+        requires draft { IsDraft setting.now self.old start (S.state shelf.old) }
+        ensures draft { OnOk result (IsDraft setting.now self.new start (S.state shelf.new)) }
         ensures more { IfOk result (λ more. IsTrue more → class_count self.old.keeper.kept.table < class_count self.new.keeper.kept.table) }
         ensures marked { IfOk result (λ more. ¬ IsTrue more → AreAllMarked self.new.keeper.kept.table self.new.marks.given.items) }
+        ensures err { IfErr result (λ fault. BrokeOff setting.now.circuit fault start (S.state shelf.new)) }
     {
         for number in 0..setting.numbers() {
             if self.marks.of(self.keeper.classes(), number).is_none()
-                && self.settle(alloc, setting, number)?
+                && self.settle(alloc, setting, shelf, number)?
             {
                 return Ok(true);
             }
@@ -72,56 +106,79 @@ impl<'a> Draft<'a> {
 
     // Writes evidence for the lowest number that isn't marked, or the pattern that tells it from its representative.
     // Answers whether it was a pattern.
-    fn settle(&mut self, alloc: Global, setting: &Setting, member: u32) -> Result<bool, AllocError>
-        requires draft { IsDraft setting.now self.old }
+    fn settle<S: Shelf>(
+        &mut self,
+        alloc: Global,
+        setting: &Setting,
+        shelf: &mut S,
+        member: u32,
+    ) -> Result<bool, ShelfFault>
+        ghost start: { State }
+        requires draft { IsDraft setting.now self.old start (S.state shelf.old) }
         requires lowest { IsLowestOpen self.old.keeper.kept.table self.old.marks.given.items member }
-        ensures draft { OnOk result (IsDraft setting.now self.new) }
+        ensures draft { OnOk result (IsDraft setting.now self.new start (S.state shelf.new)) }
         ensures more { IfOk result (λ apart. IsTrue apart → class_count self.old.keeper.kept.table < class_count self.new.keeper.kept.table) }
         ensures same { IfOk result (λ apart. ¬ IsTrue apart → self.new.keeper.kept ≡ self.old.keeper.kept) }
         ensures marked { IfOk result (λ apart. ¬ IsTrue apart → (n : ℕ) → n < member + 1 → IsSome (given_mark self.new.keeper.kept.table self.new.marks.given.items n)) }
+        ensures err { IfErr result (λ fault. BrokeOff setting.now.circuit fault start (S.state shelf.new)) }
     {
         let classes = self.keeper.classes();
         let lead = classes.representative(classes.class_of(member));
-        match settle_pair(alloc, setting, lead, member)? {
-            Settled::Apart(v) => {
-                self.add_pattern(setting, member, v)?;
+        match settle_pair(alloc, setting, &mut self.pool, lead, member) {
+            Ok(Settled::Apart(v)) => {
+                self.add_pattern(alloc, setting, shelf, member, v)?;
                 Ok(true)
             }
-            Settled::By(proof) => {
-                self.add_evidence(setting, lead, member, proof)?;
+            Ok(Settled::By(proof)) => {
+                self.add_evidence(alloc, setting, shelf, lead, member, proof)?;
                 Ok(false)
             }
+            Err(_) => Err(ShelfFault::NoMemory),
         }
     }
 
     // Adds a pattern that tells a number from its representative.
-    fn add_pattern(&mut self, setting: &Setting, member: u32, v: Vector) -> Result<(), AllocError>
-        requires draft { IsDraft setting.now self.old }
+    fn add_pattern<S: Shelf>(
+        &mut self,
+        alloc: Global,
+        setting: &Setting,
+        shelf: &mut S,
+        member: u32,
+        v: Vector,
+    ) -> Result<(), ShelfFault>
+        ghost start: { State }
+        requires draft { IsDraft setting.now self.old start (S.state shelf.old) }
         requires lowest { IsLowestOpen self.old.keeper.kept.table self.old.marks.given.items member }
-        requires apart { IsApartBy setting.now.circuit setting.now.budgets (representative self.old.keeper.kept.table (class_at self.old.keeper.kept.table member)) member v }
-        ensures draft { OnOk result (IsDraft setting.now self.new) }
+        requires apart { IsApartBy setting.now.circuit (fault_numbered setting.now.circuit (representative self.old.keeper.kept.table (class_at self.old.keeper.kept.table member))) (fault_numbered setting.now.circuit member) setting.now.budgets v }
+        ensures draft { OnOk result (IsDraft setting.now self.new start (S.state shelf.new)) }
         ensures more { OnOk result (class_count self.old.keeper.kept.table < class_count self.new.keeper.kept.table) }
+        ensures err { IfErr result (λ fault. BrokeOff setting.now.circuit fault start (S.state shelf.new)) }
     {
-        self.keeper.keep(&v)?;
-        push_pattern(&mut self.text, &v)?;
-        Ok(())
+        match self.keeper.keep(&v) {
+            Ok(()) => write_pattern(alloc, shelf, &v),
+            Err(_) => Err(ShelfFault::NoMemory),
+        }
     }
 
     // Adds evidence for a number with its representative.
-    fn add_evidence(
+    fn add_evidence<S: Shelf>(
         &mut self,
+        alloc: Global,
         setting: &Setting,
+        shelf: &mut S,
         lead: u32,
         member: u32,
         proof: Proof,
-    ) -> Result<(), AllocError>
-        requires draft { IsDraft setting.now self.old }
+    ) -> Result<(), ShelfFault>
+        ghost start: { State }
+        requires draft { IsDraft setting.now self.old start (S.state shelf.old) }
         requires lowest { IsLowestOpen self.old.keeper.kept.table self.old.marks.given.items member }
         requires lead { lead ≡ representative self.old.keeper.kept.table (class_at self.old.keeper.kept.table member) }
         requires right { IsProofFor setting.now.circuit setting.now.budgets lead member proof }
-        ensures draft { OnOk result (IsDraft setting.now self.new) }
+        ensures draft { OnOk result (IsDraft setting.now self.new start (S.state shelf.new)) }
         ensures kept { OnOk result (self.new.keeper.kept ≡ self.old.keeper.kept) }
         ensures marked { OnOk result ((n : ℕ) → n < member + 1 → IsSome (given_mark self.new.keeper.kept.table self.new.marks.given.items n)) }
+        ensures err { IfErr result (λ fault. BrokeOff setting.now.circuit fault start (S.state shelf.new)) }
     {
         let mark = mark_of(&proof);
         let evidence = Evidence {
@@ -129,7 +186,7 @@ impl<'a> Draft<'a> {
             partner: lead,
             proof,
         };
-        push_same(&mut self.text, evidence)?;
+        write_line(alloc, shelf, &Record::Same(evidence))?;
         self.marks.give(member, lead, mark);
         Ok(())
     }
@@ -140,7 +197,7 @@ fn mark_of(proof: &Proof) -> Mark
     ensures { result ≡ mark_of proof.now }
 {
     match proof {
-        Proof::Collapse | Proof::Covered(_) => Mark::Equal,
-        Proof::Searched(_) => Mark::Spent,
+        Proof::Collapse | Proof::Covered(_) | Proof::Refuted(_, _) => Mark::Equal,
+        Proof::Spent(_, _) => Mark::Spent,
     }
 }

@@ -1,11 +1,12 @@
 //! The generator of results.
 #![tactic(auto)]
 
+mod counts;
 mod draft;
-mod lines;
 mod marks;
 mod output;
 mod pair;
 mod setting;
+mod writing;
 
 pub use output::generate;

@@ -1,26 +1,28 @@
-//! Results, whole in memory and then written.
+//! Results, written line by line.
 
-ghost use Rattle.std.specs.Prelude.{◌≡◌, ◌≤◌, ◌^◌, ℕ, List, IfOk, OnErr, IsTrue, IsSome, IsErrOf};
-ghost use Rattle.std.specs.String.{string_bytes};
+ghost use Rattle.std.specs.Prelude.{◌≡◌, ◌≤◌, ◌^◌, ℕ, List, IfOk, IfErr, OnErr, IsTrue, IsSome, IsErrOf};
+ghost use Rattle.diag_shelf.specs.World.{State};
 ghost use Rattle.diag_shelf.specs.Calls.{IsWriteCall, Told, Writes};
 ghost use Rattle.result_file.specs.Lines.{AreWithinLimits};
 ghost use Rattle.dia_gen.specs.Given.{AreAllMarked};
 ghost use Rattle.dia_gen.specs.Draft.{IsDraft};
 ghost use Rattle.dia_gen.specs.Made.{IsMade, IsCutFile};
+ghost use Rattle.dia_gen.specs.Writing.{HasWritten, BrokeOff};
 
+use crate::counts::count_marks;
 use crate::draft::Draft;
-use crate::lines::{push_classes, push_members};
 use crate::setting::Setting;
+use crate::writing::{write_classes, write_line, write_members};
 use class_refine::named_separates_faults;
-use diag_shelf::{Shelf, ShelfFault, write_all};
+use diag_shelf::{Shelf, ShelfFault};
 use fault_collapse::{collapse, same_root_equal};
 use fault_list::list;
 use net_model::Circuit;
 use pair_sets::{covering_is_equal, full_tree_is_covered, leaves_are_closed};
-use result_file::{Budgets, Record, Summary, push_record};
-use std::alloc::{AllocError, Global};
+use result_file::{Budgets, Record, Summary};
+use std::alloc::Global;
 
-/// Generates a result and appends it to the file that is created.
+/// Generates a result and appends it to the file that is created, each line when it is made.
 ///
 /// After an error a beginning of right lines was appended, the last perhaps cut.
 pub fn generate<S: Shelf>(
@@ -30,7 +32,6 @@ pub fn generate<S: Shelf>(
     shelf: &mut S,
 ) -> Result<Summary, ShelfFault>
     requires limits { AreWithinLimits budgets }
-    requires conflicts { budgets.conflicts ≡ 0 }
     requires created { IsTrue (S.state shelf.old).tells → IsSome (S.state shelf.old).world.written }
     ensures call { IsWriteCall result (S.state shelf.old) (S.state shelf.new) }
     ensures written { IfOk result (λ summary. Told (S.state shelf.old) (S.state shelf.new) (λ old new. (file : List ℕ) × IsMade circuit.now budgets summary file × Writes file old new)) }
@@ -38,40 +39,46 @@ pub fn generate<S: Shelf>(
     ensures err { OnErr result (Told (S.state shelf.old) (S.state shelf.new) (λ old new. (part : List ℕ) × IsCutFile circuit.now part × Writes part old new)) }
     ensures never { IsTrue (S.state shelf.old).sure → ¬ (IsErrOf result ShelfFault.Failed) }
 {
-    let Ok(made) = made_file(alloc, circuit, budgets) else {
+    let Ok(listed) = list(alloc, circuit) else {
         return Err(ShelfFault::NoMemory);
     };
-    write_all(shelf, made.text.as_bytes())?;
-    Ok(made.summary)
-}
-
-// A result and what it amounts to.
-#[derive(Drop)]
-struct Made {
-    text: String,
-    summary: Summary,
-}
-
-fn made_file(alloc: Global, circuit: &Circuit, budgets: Budgets) -> Result<Made, AllocError>
-    requires limits { AreWithinLimits budgets }
-    requires conflicts { budgets.conflicts ≡ 0 }
-    ensures made { IfOk result (λ made. IsMade circuit.now budgets made.summary (string_bytes made.text)) }
-    ensures complete { IfOk result (λ made. 2 ^ circuit.now.sources ≤ budgets.cubes → made.summary.spent ≡ 0) }
-{
-    let listed = list(alloc, circuit)?;
-    let forest = collapse(alloc, circuit, &listed)?;
+    let Ok(forest) = collapse(alloc, circuit, &listed) else {
+        return Err(ShelfFault::NoMemory);
+    };
     let setting = Setting::new(circuit, &listed, &forest, budgets);
-    let mut draft = Draft::start(alloc, &setting)?;
-    draft.mark_all(alloc, &setting)?;
-    finish(&setting, draft)
+    write_result(alloc, &setting, shelf)
 }
 
-// Adds the lines of the classes and of the numbers, and the end.
-fn finish(setting: &Setting, draft: Draft) -> Result<Made, AllocError>
-    requires draft { IsDraft setting.now draft }
+// Writes all lines of a result.
+fn write_result<S: Shelf>(
+    alloc: Global,
+    setting: &Setting,
+    shelf: &mut S,
+) -> Result<Summary, ShelfFault>
+    ghost start: { State }
+    requires start { start ≡ S.state shelf.old }
+    ensures ok { IfOk result (λ summary. (file : List ℕ) × IsMade setting.now.circuit setting.now.budgets summary file × HasWritten file start (S.state shelf.new)) }
+    ensures complete { IfOk result (λ summary. 2 ^ setting.now.circuit.sources ≤ setting.now.budgets.cubes → summary.spent ≡ 0) }
+    ensures err { IfErr result (λ fault. BrokeOff setting.now.circuit fault start (S.state shelf.new)) }
+{
+    let mut draft = Draft::start(alloc, setting, shelf)?;
+    draft.mark_all(alloc, setting, shelf)?;
+    write_end(alloc, setting, shelf, draft)
+}
+
+// Writes the lines of the classes and of the numbers, and the end.
+fn write_end<S: Shelf>(
+    alloc: Global,
+    setting: &Setting,
+    shelf: &mut S,
+    draft: Draft,
+) -> Result<Summary, ShelfFault>
+    ghost start: { State }
+    requires draft { IsDraft setting.now draft start (S.state shelf.old) }
     requires marked { AreAllMarked draft.keeper.kept.table draft.marks.given.items }
-    ensures made { IfOk result (λ made. IsMade setting.now.circuit setting.now.budgets made.summary (string_bytes made.text)) }
-    ensures complete { IfOk result (λ made. 2 ^ setting.now.circuit.sources ≤ setting.now.budgets.cubes → made.summary.spent ≡ 0) }
+    ensures ok { IfOk result (λ summary. (file : List ℕ) × IsMade setting.now.circuit setting.now.budgets summary file × HasWritten file start (S.state shelf.new)) }
+    ensures complete { IfOk result (λ summary. 2 ^ setting.now.circuit.sources ≤ setting.now.budgets.cubes → summary.spent ≡ 0) }
+    ensures err { IfErr result (λ fault. BrokeOff setting.now.circuit fault start (S.state shelf.new)) }
 {
     named_separates_faults();
     same_root_equal();
@@ -79,21 +86,16 @@ fn finish(setting: &Setting, draft: Draft) -> Result<Made, AllocError>
     leaves_are_closed();
     full_tree_is_covered();
     let numbers = setting.numbers();
-    let Draft {
-        keeper,
-        marks,
-        mut text,
-    } = draft;
-    let classes = keeper.classes();
-    push_classes(&mut text, classes)?;
-    let marked = push_members(&mut text, classes, &marks, numbers)?;
-    push_record(&mut text, &Record::End)?;
-    let summary = Summary {
+    let classes = draft.keeper.classes();
+    write_classes(alloc, shelf, classes)?;
+    write_members(alloc, shelf, classes, &draft.marks, numbers)?;
+    write_line(alloc, shelf, &Record::End)?;
+    let marked = count_marks(classes, &draft.marks, numbers);
+    Ok(Summary {
         numbers,
         patterns: classes.patterns(),
         classes: classes.count(),
         equal: marked.equal,
         spent: marked.spent,
-    };
-    Ok(Made { text, summary })
+    })
 }

@@ -50,7 +50,6 @@ impl<'a> Setting<'a> {
         requires listed { listed.now ≡ faults circuit.now }
         requires forest { IsForestOf circuit.now forest.now }
         requires limits { AreWithinLimits budgets }
-        requires conflicts { budgets.conflicts ≡ 0 }
         ensures { result ≡ setting_with circuit.now budgets }
     {
         Setting {
@@ -71,7 +70,6 @@ impl<'a> Setting<'a> {
     pub(crate) fn budgets(&self) -> Budgets
         ensures value { result ≡ self.now.budgets }
         ensures limits { AreWithinLimits result }
-        ensures conflicts { result.conflicts ≡ 0 }
     {
         self.budgets
     }
@@ -104,7 +102,8 @@ impl<'a> Setting<'a> {
 
     // A keeper of vectors for the circuit.
     pub(crate) fn keeper(&self, alloc: Global) -> Result<Keeper<'a>, AllocError>
-        ensures { IfOk result (λ keeper. keeper ≡ keeper_with self.now.circuit (nothing_kept (fault_count self.now.circuit))) }
+        ensures value { IfOk result (λ keeper. keeper ≡ keeper_with self.now.circuit (nothing_kept (fault_count self.now.circuit))) }
+        ensures circuit { IsCircuit self.now.circuit }
     {
         Keeper::new(alloc, self.circuit, self.listed, self.forest)
     }

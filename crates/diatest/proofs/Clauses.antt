@@ -111,10 +111,11 @@ judged_below status (inr (inr (inr (inr (inl e))))) = (omega arith, λ two. absu
 judged_below status (inr (inr (inr (inr (inr e))))) = absurd e
 
 -- a run that reads nothing has fewer statuses
-unread_judged : (status : ℕ) → IsAmong status (0 ∷ 3 ∷ 8 ∷ 9 ∷ []) → IsAmong status (0 ∷ 3 ∷ 7 ∷ 8 ∷ 9 ∷ [])
-unread_judged status (inl e) = inl e
-unread_judged status (inr (inl e)) = inr (inl e)
-unread_judged status (inr (inr among)) = inr (inr (inr among))
+made_below : (status : ℕ) → IsAmong status (0 ∷ 8 ∷ 9 ∷ []) → (status ≤ 9) × ¬ (status ≡ 2)
+made_below status (inl e) = (omega arith, λ two. absurd (omega arith))
+made_below status (inr (inl e)) = (omega arith, λ two. absurd (omega arith))
+made_below status (inr (inr (inl e))) = (omega arith, λ two. absurd (omega arith))
+made_below status (inr (inr (inr e))) = absurd e
 
 unasked : (status : ℕ) → IsAmong status (2 ∷ 8 ∷ 9 ∷ []) → (status ≡ 2) ⊎ ((status ≡ 8) ⊎ (status ≡ 9))
 unasked status (inl e) = inl e
@@ -130,13 +131,13 @@ pub words_of : (asked : Option Request) (status : ℕ) → IsAmong status (statu
 words_of None status among two = refl
 words_of (Some (gen bench result budgets)) status among two = absurd ((judged_below status among).1 two)
 words_of (Some (list_faults bench)) status among two = absurd ((judged_below status among).1 two)
-words_of (Some (synth n bench result)) status among two = absurd ((judged_below status (unread_judged status among)).1 two)
+words_of (Some (synth n bench result)) status among two = absurd ((made_below status among).1 two)
 
 known : (asked : Option Request) (status : ℕ) → IsAmong status (statuses_of asked) → status ≤ 9
 known None status among = elim (unasked status among) [ inl e ↦ omega arith | inr f ↦ elim f [ inl e ↦ omega arith | inr e ↦ omega arith ] ]
 known (Some (gen bench result budgets)) status among = (judged_below status among).0
 known (Some (list_faults bench)) status among = (judged_below status among).0
-known (Some (synth n bench result)) status among = (judged_below status (unread_judged status among)).0
+known (Some (synth n bench result)) status among = (made_below status among).0
 
 broken : (status : ℕ) → 7 < status → status ≤ 9 → (status ≡ 8) ⊎ (status ≡ 9)
 broken status above below = elim (cases_lt status 9) [ inl e ↦ inl (omega arith) | inr e ↦ inr (omega arith) ]

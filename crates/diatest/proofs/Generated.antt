@@ -19,7 +19,7 @@ use Rattle.diatest.specs.Outcome.{Outcome, MakesResult, refused_netlist, accepte
 use Rattle.diatest.specs.Ran.{IsAmong, statuses_of, AreHeld, Ends, Ran}
 use Rattle.diatest.specs.Steps.{HasDesign, IsOver}
 use Rattle.diatest.proofs.NetlistLemmas.{refused_read}
-use Rattle.diatest.proofs.Runs.{Fits, MadeAmong, cut_among, cut_after, part_after, ran, ends_moved, breaks_among, judged_among, unread_among, not_broken, stays_facts, stays_read}
+use Rattle.diatest.proofs.Runs.{Fits, MadeAmong, cut_among, cut_after, part_after, ran, ends_moved, breaks_among, refused_among, unread_among, not_broken, stays_facts, stays_read}
 
 -- what is known of a file that was read
 abbrev pub WasRead : Files → Text → Text → Type 0
@@ -38,13 +38,6 @@ read_netlist (list_faults name) bench files is = ap (get files) (some_name is)
 read_netlist (synth n name result) bench files is = absurd (cc)
 
 -- a refused netlist calls for its refusal, whatever is asked of it
-pub ran_refused : {request : Request} {bytes text : Text} {status : ℕ} {a b : State} → (IsTrue a.tells → netlist_of request a.world.files ≡ Some bytes) → IsRefused bytes text → Ends (said 3 text) (IsPartOf (said 3 text)) status a b → Ran (Some request) status a b
-ran_refused {request} {bytes} {text} {status} {a} {b} held refused ends =
-    let called = λ (told : IsTrue a.tells).
-    (let calls : CallsFor (Some request) a.world.files (said 3 text) = (bytes, held told, refused_netlist text refused refl) in
-    calls) in
-    ran (fits_said request 3 text (omega arith) (judged_among request).1) (λ s told. called told) (λ told made t part. inl (said 3 text, called told, part)) ends
-
 pub over_refused : {bench bytes text : Text} {status : ℕ} {a b c : State} → SameFacts a b → Told a b OnlyReads → (IsTrue a.tells → WasRead a.world.files bench bytes) → IsRefused bytes text
     → Ends (said 3 text) (IsPartOf (said 3 text)) status b c → IsOver bench status a c
 over_refused {bench} {bytes} {text} {status} {a} {b} {c} facts only read refused ends request same =
@@ -52,7 +45,7 @@ over_refused {bench} {bytes} {text} {status} {a} {b} {c} facts only read refused
     (let r = read told in
     let calls : CallsFor (Some request) a.world.files (said 3 text) = (r.0, read_netlist request bench a.world.files same ∙ r.1, refused_netlist text (refused_read r.2 refused) refl) in
     calls) in
-    ran (fits_said request 3 text (omega arith) (judged_among request).1) (λ s told. called told) (λ told made t part. inl (said 3 text, called told, part)) (ends_moved facts only ends)
+    ran (fits_said request 3 text (omega arith) (refused_among bench request same)) (λ s told. called told) (λ told made t part. inl (said 3 text, called told, part)) (ends_moved facts only ends)
 
 not_held : (o : Option (List ℕ)) → o ≡ None → IsSome o → ⊥
 not_held None none some = cc
@@ -168,7 +161,7 @@ ran_faults {bench} {text} {design} {status} {a} {b} {c} has lists ends =
     (let held = has.held told in
     let calls : CallsFor (Some (list_faults bench)) a.world.files (said 0 text) = (held.0, held.1, accepted_netlist design held.2 (record { text = text; lists = lists; outcome = refl })) in
     calls) in
-    ran (fits_said (list_faults bench) 0 text (omega arith) (judged_among (list_faults bench)).0) (λ s told. called told) (λ told made t part. inl (said 0 text, called told, part)) (ends_moved has.facts has.only ends)
+    ran (fits_said (list_faults bench) 0 text (omega arith) (inl refl)) (λ s told. called told) (λ told made t part. inl (said 0 text, called told, part)) (ends_moved has.facts has.only ends)
 
 abbrev not_understood : Outcome
 not_understood = said 2 not_understood_text

@@ -6,3 +6,7 @@ pub mod Clauses
 pub mod NumberWords
 pub mod WordLemmas
 pub mod CellLemmas
+-- The netlist of a number
+pub mod SynthStatements
+pub mod SynthOrder
+pub mod SynthAccepted

@@ -72,7 +72,7 @@ first_of [] some = absurd (omega arith)
 first_of (line ∷ walk) some = (line, (0, some, refl))
 
 -- the first gate of a walk is on it
-walk_first : {c : Circuit} {walk : List ℕ} → IsLoopWalk c walk → (line : ℕ) × Contains walk line
+pub walk_first : {c : Circuit} {walk : List ℕ} → IsLoopWalk c walk → (line : ℕ) × Contains walk line
 walk_first {c} {walk} is = first_of walk is.nonempty
 
 -- The laws by which nothing is both accepted and refused.

@@ -30,13 +30,13 @@ pub breaks_among : (request : Option Request) → IsAmong 8 (statuses_of request
 breaks_among None = (inr (inl refl), inr (inr (inl refl)))
 breaks_among (Some (gen bench result budgets)) = (inr (inr (inr (inl refl))), inr (inr (inr (inr (inl refl)))))
 breaks_among (Some (list_faults bench)) = (inr (inr (inr (inl refl))), inr (inr (inr (inr (inl refl)))))
-breaks_among (Some (synth n bench result)) = (inr (inr (inl refl)), inr (inr (inr (inl refl))))
+breaks_among (Some (synth n bench result)) = (inr (inl refl), inr (inr (inl refl)))
 
--- the work of a request may be done, and its netlist refused
-pub judged_among : (request : Request) → IsAmong 0 (statuses_of (Some request)) × IsAmong 3 (statuses_of (Some request))
-judged_among (gen bench result budgets) = (inl refl, inr (inl refl))
-judged_among (list_faults bench) = (inl refl, inr (inl refl))
-judged_among (synth n bench result) = (inl refl, inr (inl refl))
+-- a netlist that is read may be refused
+pub refused_among : (bench : Text) (request : Request) → input_of request ≡ Some bench → IsAmong 3 (statuses_of (Some request))
+refused_among name (gen bench result budgets) is = inr (inl refl)
+refused_among name (list_faults bench) is = inr (inl refl)
+refused_among name (synth n bench result) is = absurd (cc)
 
 -- a netlist that is read may fail to be
 pub unread_among : (bench : Text) (request : Request) → input_of request ≡ Some bench → IsAmong 7 (statuses_of (Some request))

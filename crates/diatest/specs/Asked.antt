@@ -1,5 +1,5 @@
 -- The request that the code's own type stands for.
-use Rattle.std.specs.Prelude.{◌≡◌, ◌≤◌}
+use Rattle.std.specs.Prelude.{◌≤◌}
 use Rattle.result_file.specs.Lines.{AreWithinLimits}
 use Rattle.diatest.specs.Request as spec
 use Rattle.diatest.specs.declared.request.Request.{Request}
@@ -10,8 +10,8 @@ asked (Gen bench result budgets) = spec.gen bench.now result.now budgets
 asked (ListFaults bench) = spec.list_faults bench.now
 asked (Synth n bench result) = spec.synth n bench.now result.now
 
--- The numbers of a request are within their limits, and the budget of conflicts is 0.
+-- The numbers of a request are within their limits.
 abbrev pub HasLimits : Request → Type 0
-HasLimits (Gen bench result budgets) = AreWithinLimits budgets × (budgets.conflicts ≡ 0)
+HasLimits (Gen bench result budgets) = AreWithinLimits budgets
 HasLimits (ListFaults bench) = Unit {0}
 HasLimits (Synth n bench result) = (1 ≤ n) × (n ≤ 2000)

@@ -25,7 +25,7 @@ abbrev pub statuses_of : Option Request → List ℕ
 statuses_of None = 2 ∷ 8 ∷ 9 ∷ []
 statuses_of (Some (gen bench result budgets)) = 0 ∷ 3 ∷ 7 ∷ 8 ∷ 9 ∷ []
 statuses_of (Some (list_faults bench)) = 0 ∷ 3 ∷ 7 ∷ 8 ∷ 9 ∷ []
-statuses_of (Some (synth n bench result)) = 0 ∷ 3 ∷ 8 ∷ 9 ∷ []
+statuses_of (Some (synth n bench result)) = 0 ∷ 8 ∷ 9 ∷ []
 
 -- No count falls, and what a shelf tells and whether it is sure stay.
 pub record Stays (old new : State) : Type 0 where
@@ -152,6 +152,10 @@ pub record HasFaults (bench : Text) (old new : World) : Type 0 where
 -- A run of `faults` that answers 0 prints them.
 abbrev pub PrintsFaults : Option Request → ℕ → World → World → Type 0
 PrintsFaults request status old new = (bench : Text) → request ≡ Some (list_faults bench) → status ≡ 0 → HasFaults bench old new
+
+-- The netlist of a number is never refused.
+abbrev pub NoNumberIsRefused : Type 0
+NoNumberIsRefused = (n : ℕ) (console : Text) → n ≤ 2000 → IsRefused (synth_text n) console → ⊥
 
 -- Status 3 comes only for a netlist that is refused, with its text, and of the statuses below 7 no other comes for such a netlist.
 abbrev pub RefusesNetlist : Option Request → ℕ → World → World → Type 0

@@ -22,12 +22,12 @@ pub data Request : Type 0 where
 -- ---- each command: how its words are read, and what they ask for
 
 unfoldable pub gen_app : App
-gen_app = with_rule (with_rule (with_rule (with_rule (bare_app (codes "gen")) (name_rule (codes "bench"))) (name_rule (codes "result")))
-    (option_rule (codes "blocks") (codes "4") 65536)) (option_rule (codes "cubes") (codes "64") 1048576)
+gen_app = with_rule (with_rule (with_rule (with_rule (with_rule (bare_app (codes "gen")) (name_rule (codes "bench"))) (name_rule (codes "result")))
+    (option_rule (codes "blocks") (codes "4") 65536)) (option_rule (codes "cubes") (codes "64") 1048576)) (option_rule (codes "conflicts") (codes "2000") 100000)
 
 abbrev pub gen_by : List Row → Request
 gen_by rows = gen (name_in (codes "bench") rows) (name_in (codes "result") rows)
-    (record { blocks = number_in (codes "blocks") 0 65536 rows; cubes = number_in (codes "cubes") 0 1048576 rows; conflicts = 0 })
+    (record { blocks = number_in (codes "blocks") 0 65536 rows; cubes = number_in (codes "cubes") 0 1048576 rows; conflicts = number_in (codes "conflicts") 0 100000 rows })
 
 unfoldable pub faults_app : App
 faults_app = with_rule (bare_app (codes "faults")) (name_rule (codes "bench"))
@@ -71,7 +71,7 @@ request_of (command ∷ words) = command_of command words
 
 -- the budgets of `synth`
 abbrev pub synth_budgets : Budgets
-synth_budgets = record { blocks = 4; cubes = 16; conflicts = 0 }
+synth_budgets = record { blocks = 4; cubes = 16; conflicts = 100 }
 
 -- the name of the netlist that a request reads, if it reads one
 abbrev pub input_of : Request → Option Text

@@ -3,6 +3,7 @@
 use Rattle.std.specs.Prelude.{ℕ, zero, suc, ◌+◌, ◌*◌, ◌/◌, ◌%◌, ◌^◌, List, [], ◌∷◌, ◌++◌, codes, decimal, flat_map, slice_index_or}
 use Rattle.std.specs.List.{range_with_len}
 use Rattle.rand_xoshiro.specs.SplitMix64.{next_state, mix_u64}
+use Rattle.bench_reader.specs.Spelled.{written_input, written_output, written_gate, written_line}
 
 -- ---- statements, each with its LF
 
@@ -11,14 +12,14 @@ unfoldable pub signal : List ℕ → ℕ → List ℕ
 signal letter number = letter ++ decimal number
 
 unfoldable pub input_line : List ℕ → List ℕ
-input_line name = codes "INPUT(" ++ (name ++ codes ")\n")
+input_line name = written_line (written_input name)
 
 unfoldable pub output_line : List ℕ → List ℕ
-output_line name = codes "OUTPUT(" ++ (name ++ codes ")\n")
+output_line name = written_line (written_output name)
 
 -- a gate with two pins
 unfoldable pub gate_line : List ℕ → List ℕ → List ℕ → List ℕ → List ℕ
-gate_line driven word first second = driven ++ (codes "=" ++ (word ++ (codes "(" ++ (first ++ (codes "," ++ (second ++ codes ")\n"))))))
+gate_line driven word first second = written_line (written_gate driven word (first ∷ second ∷ []))
 
 -- ---- the generator
 

@@ -2,11 +2,14 @@
 
 ghost use Rattle.std.specs.Prelude.{◌≡◌, ◌++◌, ◌<◌, ◌≤◌, IfOk, OnOk, flat_map, string_bytes};
 ghost use Rattle.std.specs.List.{range_with_len};
+ghost use Rattle.diatest.specs.Ran.{NoNumberIsRefused};
 ghost use Rattle.diatest.specs.Synth.{gate_word, ports_text, p_gate, q_gate, s_gate, c_gate, gates_text, cell_text, numbered_cell, synth_text};
 
+use bench_reader::{lines_spell, never_accepted_and_refused, one_netlist, spelled_is_accepted};
 use rand_core::SeedableRng;
 use rand_core::utils::NextWord;
 use rand_xoshiro::SplitMix64;
+use scan_cut::ordered_has_no_loop;
 use std::alloc::{AllocError, Global};
 
 /// The netlist of a number from 1 to 2,000. The outputs of the generator SplitMix64 (Steele, Lea and Flood, 2014), with
@@ -22,6 +25,18 @@ pub fn synth_text(alloc: Global, n: u32) -> Result<Vec<u8>, AllocError>
     let end = format!(in alloc; "OUTPUT(c{n})\n")?;
     text.extend_from_slice(end.as_bytes())?;
     Ok(text)
+}
+
+/// The netlist of a number is never refused: its text spells statements that are right together, and each gate reads what
+/// is known before it.
+pub(crate) fn no_number_is_refused()
+    ensures { NoNumberIsRefused }
+{
+    spelled_is_accepted();
+    lines_spell();
+    ordered_has_no_loop();
+    never_accepted_and_refused();
+    one_netlist();
 }
 
 fn push_cells(text: &mut Vec<u8>, n: u32) -> Result<(), AllocError>

@@ -3,9 +3,10 @@
 ghost use Rattle.std.specs.Prelude.{◌≡◌, ◌⊎◌, map, string_bytes, IsTrue, None};
 ghost use Rattle.diag_shelf.specs.Calls.{Told};
 ghost use Rattle.diatest.specs.Request.{request_of, inputs_of};
-ghost use Rattle.diatest.specs.Ran.{IsAmong, statuses_of, Stays, HasCauses, IsDone, IsUnread, IsBrokenOff, OnlyOutputs, AreHeld, NoneFailed, Ran, KeepsUnlessDone, GeneratesResult, Synthesizes, PrintsFaults, RefusesNetlist, KeepsRefused, IsComplete};
+ghost use Rattle.diatest.specs.Ran.{IsAmong, statuses_of, Stays, HasCauses, IsDone, IsUnread, IsBrokenOff, OnlyOutputs, AreHeld, NoneFailed, Ran, KeepsUnlessDone, GeneratesResult, Synthesizes, PrintsFaults, NoNumberIsRefused, RefusesNetlist, KeepsRefused, IsComplete};
 
 use crate::arguments::WordsFault;
+use crate::cells::no_number_is_refused;
 use crate::ends::say;
 use crate::generates::generate_file;
 use crate::listing::list_faults;
@@ -19,7 +20,7 @@ use pair_sets::{covering_is_equal, full_tree_is_covered, leaves_are_closed};
 use std::alloc::Global;
 
 /// Does what the words ask for, and answers a status: 0 where the work is done, 2 where the words aren't understood,
-/// 3 where the netlist is refused, 7 or 8 where a read or a write failed, 9 for want of memory.
+/// 3 where the netlist that is read is refused, 7 or 8 where a read or a write failed, 9 for want of memory.
 pub fn run<S: Shelf>(alloc: Global, words: &[String], shelf: &mut S) -> u8
     // The status, on every shelf.
     ensures status { IsAmong result (statuses_of (request_of (map string_bytes words.now))) }
@@ -41,6 +42,7 @@ pub fn run<S: Shelf>(alloc: Global, words: &[String], shelf: &mut S) -> u8
     ensures faults { Told (S.state shelf.old) (S.state shelf.new) (PrintsFaults (request_of (map string_bytes words.now)) result) }
 
     // Refusals, and their absence.
+    ensures numbers { NoNumberIsRefused }
     ensures netlist { Told (S.state shelf.old) (S.state shelf.new) (RefusesNetlist (request_of (map string_bytes words.now)) result) }
     ensures refused { Told (S.state shelf.old) (S.state shelf.new) (KeepsRefused (request_of (map string_bytes words.now))) }
     ensures complete { IsComplete (request_of (map string_bytes words.now)) result (S.state shelf.old) (S.state shelf.new) }
@@ -56,6 +58,7 @@ pub fn run<S: Shelf>(alloc: Global, words: &[String], shelf: &mut S) -> u8
     one_netlist();
     none_reaches_itself();
     walk_reaches_itself();
+    no_number_is_refused();
     dispatch(alloc, words, shelf)
 }
 

@@ -25,7 +25,10 @@ const BLOCKS_LIMIT: u32 = 65_536;
 // The most cubes for a pair of faults.
 const CUBES_LIMIT: u32 = 1_048_576;
 
-// Two names and two options.
+// The most conflicts for a pair of faults.
+const CONFLICTS_LIMIT: u32 = 100_000;
+
+// Two names and three options.
 fn gen_command<'a>(alloc: Global) -> Result<Command<'a>, AllocError>
     ensures { IfOk result (λ c. app_of c ≡ gen_app) }
 {
@@ -33,8 +36,9 @@ fn gen_command<'a>(alloc: Global) -> Result<Command<'a>, AllocError>
     let output = name_arg(alloc, "result");
     let blocks = option_arg(alloc, "blocks", "4", BLOCKS_LIMIT);
     let cubes = option_arg(alloc, "cubes", "64", CUBES_LIMIT);
+    let conflicts = option_arg(alloc, "conflicts", "2000", CONFLICTS_LIMIT);
     let named = bare_command(alloc, "gen").arg(bench)?.arg(output)?;
-    let whole = named.arg(blocks)?.arg(cubes)?;
+    let whole = named.arg(blocks)?.arg(cubes)?.arg(conflicts)?;
     Ok(whole)
 }
 
@@ -48,7 +52,7 @@ pub(crate) fn read_gen(alloc: Global, words: &[String]) -> Result<Request<'_>, W
     let budgets = Budgets {
         blocks: number_in(&matches, "blocks", 0, BLOCKS_LIMIT),
         cubes: number_in(&matches, "cubes", 0, CUBES_LIMIT),
-        conflicts: 0,
+        conflicts: number_in(&matches, "conflicts", 0, CONFLICTS_LIMIT),
     };
     Ok(Request::Gen(
         name_in(&matches, "bench"),
@@ -65,8 +69,7 @@ pub(crate) fn generate_file<S: Shelf>(
     output: &str,
     budgets: Budgets,
 ) -> u8
-    requires limits { AreWithinLimits budgets }
-    requires conflicts { budgets.conflicts ≡ 0 }
+    requires { AreWithinLimits budgets }
     ensures { Ran (Some (gen bench.now output.now budgets)) result (S.state shelf.old) (S.state shelf.new) }
 {
     let design = match read_design(alloc, shelf, bench) {
@@ -84,8 +87,7 @@ pub(crate) fn save_result<S: Shelf>(
     output: &str,
     budgets: Budgets,
 ) -> u8
-    requires limits { AreWithinLimits budgets }
-    requires conflicts { budgets.conflicts ≡ 0 }
+    requires { AreWithinLimits budgets }
     ensures { SavesResult circuit.now budgets [] output.now result (S.state shelf.old) (S.state shelf.new) }
 {
     if let Err(fault) = shelf.create_file(output) {

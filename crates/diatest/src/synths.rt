@@ -7,8 +7,8 @@ ghost use Rattle.diatest.specs.Asked.{asked, HasLimits};
 ghost use Rattle.diatest.specs.Ran.{Ran, SavesResult};
 
 use crate::arguments::{WordsFault, bare_command, name_arg, name_in, number_arg, number_in, parse};
-use crate::cells::synth_text;
-use crate::ends::{say, write_status};
+use crate::cells::{no_number_is_refused, synth_text};
+use crate::ends::write_status;
 use crate::generates::save_result;
 use crate::netlists::{Stop, judge};
 use crate::request::Request;
@@ -50,7 +50,7 @@ pub(crate) fn read_synth(alloc: Global, words: &[String]) -> Result<Request<'_>,
 const SYNTH_BUDGETS: Budgets = Budgets {
     blocks: 4,
     cubes: 16,
-    conflicts: 0,
+    conflicts: 100,
 };
 
 /// Judges the netlist of a number, writes it under its name, and generates a result for its circuit under the result's
@@ -69,9 +69,10 @@ pub(crate) fn synthesize<S: Shelf>(
     let Ok(text) = synth_text(alloc, n) else {
         return 9;
     };
+    no_number_is_refused();
     match judge(alloc, &text) {
         Ok(design) => save_both(alloc, shelf, &text, &design.circuit, bench, output),
-        Err(Stop::Refused(refusal)) => say(shelf, 3, &refusal),
+        Err(Stop::Refused(_)) => unreachable!(),
         Err(Stop::NoMemory) => 9,
     }
 }

@@ -1,8 +1,10 @@
 //! Runs over shelves in memory, with files worked out by hand.
 
+ghost use Rattle.std.specs.Prelude.{◌<◌};
+
 use crate::cells::synth_text;
 use crate::commands::run;
-use diag_shelf::{MemoryShelf, SureShelf};
+use diag_shelf::MemoryShelf;
 use std::alloc::{AllocError, Global};
 use std::test::Fail;
 
@@ -14,101 +16,133 @@ fn words(alloc: Global, all: &[&str]) -> Result<Vec<String>, AllocError> {
     Ok(words)
 }
 
-// What a run over one netlist leaves: its status, the result's bytes if there are any, and the console's.
+// What a run leaves: its status, what was printed, and the file under the name `r`, if it is there.
 #[derive(Drop)]
 struct Left {
     status: u8,
-    result: Option<Vec<u8>>,
     console: Vec<u8>,
+    result: Option<Vec<u8>>,
 }
 
-fn generated(alloc: Global, netlist: &[u8]) -> Result<Left, AllocError> {
-    generated_by(alloc, netlist, &["gen", "n", "r"])
+// The status of a run. Nothing else is kept of what it promises, so that it isn't carried along by each test.
+fn status(alloc: Global, all: &[&str], shelf: &mut MemoryShelf) -> Result<u8, AllocError> {
+    let words = words(alloc, all)?;
+    Ok(run(alloc, &words, shelf))
 }
 
-fn generated_by(alloc: Global, netlist: &[u8], all: &[&str]) -> Result<Left, AllocError> {
-    let mut shelf = SureShelf::new(alloc, 7);
+// A copy of a file, if it is there.
+fn copied(alloc: Global, shelf: &MemoryShelf, name: &str) -> Result<Option<Vec<u8>>, AllocError> {
+    match shelf.file(name) {
+        Some(bytes) => Ok(Some(bytes.to_vec(alloc)?)),
+        None => Ok(None),
+    }
+}
+
+fn left_by(alloc: Global, all: &[&str], shelf: &mut MemoryShelf) -> Result<Left, AllocError> {
+    let status = status(alloc, all, shelf)?;
+    let console = shelf.console().to_vec(alloc)?;
+    let result = copied(alloc, shelf, "r")?;
+    Ok(Left {
+        status,
+        console,
+        result,
+    })
+}
+
+// A run over a shelf with no file, which moves seven bytes at a time, and the file under `n` behind it, if it is there.
+fn bare(alloc: Global, all: &[&str]) -> Result<(Left, Option<Vec<u8>>), AllocError> {
+    let mut shelf = MemoryShelf::new(alloc, 7, Vec::new(alloc));
+    let left = left_by(alloc, all, &mut shelf)?;
+    let netlist = copied(alloc, &shelf, "n")?;
+    Ok((left, netlist))
+}
+
+// A run over a shelf that moves so many bytes at a time, fails these calls, and holds a netlist under `n`.
+fn over(
+    alloc: Global,
+    chunk: usize,
+    failing: &[u64],
+    netlist: &[u8],
+    all: &[&str],
+) -> Result<Left, AllocError>
+    requires { 0 < chunk }
+{
+    let mut shelf = MemoryShelf::new(alloc, chunk, failing.to_vec(alloc)?);
     shelf.put_file("n", netlist)?;
-    let status = run(alloc, &words(alloc, all)?, &mut shelf);
-    let result = match shelf.file("r") {
-        Some(bytes) => Some(bytes.to_vec(alloc)?),
-        None => None,
-    };
-    let console = shelf.console().to_vec(alloc)?;
-    Ok(Left {
-        status,
-        result,
-        console,
-    })
+    left_by(alloc, all, &mut shelf)
 }
 
-// The same over a shelf that moves three bytes at a time and fails one call.
-fn failing(alloc: Global, call: u64) -> Result<Left, AllocError> {
-    let mut shelf = MemoryShelf::new(alloc, 3, [call].to_vec(alloc)?);
-    shelf.put_file("n", b"")?;
-    let status = run(alloc, &words(alloc, &["gen", "n", "r"])?, &mut shelf);
-    let result = match shelf.file("r") {
-        Some(bytes) => Some(bytes.to_vec(alloc)?),
-        None => None,
-    };
-    let console = shelf.console().to_vec(alloc)?;
-    Ok(Left {
-        status,
-        result,
-        console,
-    })
+fn generated(alloc: Global, netlist: &[u8], all: &[&str]) -> Result<Left, AllocError> {
+    over(alloc, 7, &[], netlist, all)
 }
 
 // A wire; no line at all; an AND; an OR of a signal and its complement, without a search too; a flip-flop that toggles; the
-// wire without a block of the stream, where no vector is kept, and all faults stay in one class.
+// wire without a block of the stream, where no vector is kept, and all faults stay in one class; an input that no position
+// shows, where the miter of each pair has the empty clause alone.
 #[test]
 fn results_of_small_circuits(rt: HostRuntime) -> Result<(), Fail> {
-    let cases: [(&[u8], &[&str], &[u8], &[u8]); 7] = [
+    let cases: [(&[u8], &[&str], &[u8], &[u8]); 8] = [
         (
             b"INPUT(a)\nz=BUFF(a)\nOUTPUT(z)\n",
             &["gen", "n", "r"],
-            b"diatest 1 1 1 5\nbudget 4 64 0\npattern 0\npattern 1\nsame 3 1 C\nsame 4 2 C\nclass 0 - -\nclass 1 0 0\nclass 2 0 1\nmember 0 0 rep\nmember 1 2 rep\nmember 2 1 rep\nmember 3 2 equal\nmember 4 1 equal\nend\n",
+            b"diatest 1 1 1 5\nbudget 4 64 2000\npattern 0\npattern 1\nsame 3 1 C\nsame 4 2 C\nclass 0 - -\nclass 1 0 0\nclass 2 0 1\nmember 0 0 rep\nmember 1 2 rep\nmember 2 1 rep\nmember 3 2 equal\nmember 4 1 equal\nend\n",
             b"numbers 5 patterns 2 classes 3 equal 2 open 0\n",
         ),
         (
             b"",
             &["gen", "n", "r"],
-            b"diatest 1 0 0 1\nbudget 4 64 0\nclass 0 - -\nmember 0 0 rep\nend\n",
+            b"diatest 1 0 0 1\nbudget 4 64 2000\nclass 0 - -\nmember 0 0 rep\nend\n",
             b"numbers 1 patterns 0 classes 1 equal 0 open 0\n",
         ),
         (
             b"INPUT(a)\nINPUT(b)\nOUTPUT(z)\nz=AND(a,b)\n",
             &["gen", "n", "r"],
-            b"diatest 1 2 1 7\nbudget 4 64 0\npattern 00\npattern 10\npattern 01\npattern 11\nsame 3 1 C\nsame 5 1 C\nclass 0 - -\nclass 1 0 0\nclass 2 0 1\nclass 3 0 2\nclass 4 0 3\nmember 0 0 rep\nmember 1 4 rep\nmember 2 3 rep\nmember 3 4 equal\nmember 4 2 rep\nmember 5 4 equal\nmember 6 1 rep\nend\n",
+            b"diatest 1 2 1 7\nbudget 4 64 2000\npattern 00\npattern 10\npattern 01\npattern 11\nsame 3 1 C\nsame 5 1 C\nclass 0 - -\nclass 1 0 0\nclass 2 0 1\nclass 3 0 2\nclass 4 0 3\nmember 0 0 rep\nmember 1 4 rep\nmember 2 3 rep\nmember 3 4 equal\nmember 4 2 rep\nmember 5 4 equal\nmember 6 1 rep\nend\n",
             b"numbers 7 patterns 4 classes 5 equal 2 open 0\n",
         ),
         (
             b"INPUT(a)\nOUTPUT(z)\nb=NOT(a)\nz=OR(a,b)\n",
             &["gen", "n", "r"],
-            b"diatest 1 1 1 11\nbudget 4 64 0\npattern 0\npattern 1\nsame 1 0 T 0 . .\nsame 2 0 T 0 . .\nsame 3 0 T 0 . .\nsame 6 0 T 0 . .\nsame 7 4 C\nsame 8 0 T 0 . .\nsame 10 0 T 0 . .\nclass 0 - -\nclass 1 0 0\nclass 2 0 1\nclass 3 1 1\nmember 0 0 rep\nmember 1 0 equal\nmember 2 0 equal\nmember 3 0 equal\nmember 4 1 rep\nmember 5 2 rep\nmember 6 0 equal\nmember 7 1 equal\nmember 8 0 equal\nmember 9 3 rep\nmember 10 0 equal\nend\n",
+            b"diatest 1 1 1 11\nbudget 4 64 2000\npattern 0\npattern 1\nsame 1 0 T 0 . .\nsame 2 0 T 0 . .\nsame 3 0 T 0 . .\nsame 6 0 T 0 . .\nsame 7 4 C\nsame 8 0 T 0 . .\nsame 10 0 T 0 . .\nclass 0 - -\nclass 1 0 0\nclass 2 0 1\nclass 3 1 1\nmember 0 0 rep\nmember 1 0 equal\nmember 2 0 equal\nmember 3 0 equal\nmember 4 1 rep\nmember 5 2 rep\nmember 6 0 equal\nmember 7 1 equal\nmember 8 0 equal\nmember 9 3 rep\nmember 10 0 equal\nend\n",
             b"numbers 11 patterns 2 classes 4 equal 7 open 0\n",
         ),
         (
             b"INPUT(a)\nOUTPUT(z)\nb=NOT(a)\nz=OR(a,b)\n",
-            &["gen", "n", "r", "--cubes", "0"],
+            &["gen", "n", "r", "--cubes", "0", "--conflicts", "0"],
             b"diatest 1 1 1 11\nbudget 4 0 0\npattern 0\npattern 1\nsame 1 0 O ?\nsame 2 0 O ?\nsame 3 0 O ?\nsame 6 0 O ?\nsame 7 4 C\nsame 8 0 O ?\nsame 10 0 O ?\nclass 0 - -\nclass 1 0 0\nclass 2 0 1\nclass 3 1 1\nmember 0 0 rep\nmember 1 0 open\nmember 2 0 open\nmember 3 0 open\nmember 4 1 rep\nmember 5 2 rep\nmember 6 0 open\nmember 7 1 equal\nmember 8 0 open\nmember 9 3 rep\nmember 10 0 open\nend\n",
             b"numbers 11 patterns 2 classes 4 equal 1 open 6\n",
         ),
         (
             b"q=DFF(d)\nd=NOT(q)\n",
             &["gen", "n", "r"],
-            b"diatest 1 1 1 5\nbudget 4 64 0\npattern 0\npattern 1\nsame 3 2 C\nsame 4 1 C\nclass 0 - -\nclass 1 0 0\nclass 2 0 1\nmember 0 0 rep\nmember 1 2 rep\nmember 2 1 rep\nmember 3 1 equal\nmember 4 2 equal\nend\n",
+            b"diatest 1 1 1 5\nbudget 4 64 2000\npattern 0\npattern 1\nsame 3 2 C\nsame 4 1 C\nclass 0 - -\nclass 1 0 0\nclass 2 0 1\nmember 0 0 rep\nmember 1 2 rep\nmember 2 1 rep\nmember 3 1 equal\nmember 4 2 equal\nend\n",
             b"numbers 5 patterns 2 classes 3 equal 2 open 0\n",
         ),
         (
             b"INPUT(a)\nOUTPUT(z)\nz=BUFF(a)\n",
-            &["gen", "n", "r", "--blocks", "0", "--cubes", "0"],
+            &[
+                "gen",
+                "n",
+                "r",
+                "--blocks",
+                "0",
+                "--cubes",
+                "0",
+                "--conflicts",
+                "0",
+            ],
             b"diatest 1 1 1 5\nbudget 0 0 0\nsame 1 0 O ?\nsame 2 0 O ?\nsame 3 0 O ?\nsame 4 0 O ?\nclass 0 - -\nmember 0 0 rep\nmember 1 0 open\nmember 2 0 open\nmember 3 0 open\nmember 4 0 open\nend\n",
             b"numbers 5 patterns 0 classes 1 equal 0 open 4\n",
         ),
+        (
+            b"INPUT(a)\n",
+            &["gen", "n", "r", "--cubes", "0"],
+            b"diatest 1 1 0 3\nbudget 4 0 2000\nsame 1 0 R ? ; 1\nsame 2 0 R ? ; 1\nclass 0 - -\nmember 0 0 rep\nmember 1 0 equal\nmember 2 0 equal\nend\n",
+            b"numbers 3 patterns 0 classes 1 equal 2 open 0\n",
+        ),
     ];
     for (netlist, all, result, console) in &cases {
-        let left = generated_by(rt.alloc(), *netlist, *all)?;
+        let left = generated(rt.alloc(), *netlist, *all)?;
         assert_eq!(rt; left.status, 0);
         assert_eq!(rt; left.result.ok_or("no file")?.as_slice(), *result);
         assert_eq!(rt; left.console.as_slice(), *console);
@@ -126,17 +160,8 @@ const S27: &[u8] =
 const PARITY: &[u8] =
     b"INPUT(a0)\nINPUT(a1)\nINPUT(a2)\nINPUT(a3)\nINPUT(a4)\nINPUT(a5)\nINPUT(a6)\nINPUT(a7)\nINPUT(a8)\nOUTPUT(z)\nf=XOR(a0,a1,a2,a3,a4,a5,a6,a7,a8)\nt0=XOR(a0,a1,a2)\nt1=XOR(a3,a4,a5)\nt2=XOR(a6,a7,a8)\ng=XNOR(t0,t1,t2)\nz=XOR(f,g)\n";
 
-// What the command `faults` leaves on the console, over one netlist.
 fn listed(alloc: Global, netlist: &[u8]) -> Result<Left, AllocError> {
-    let mut shelf = SureShelf::new(alloc, 100);
-    shelf.put_file("n", netlist)?;
-    let status = run(alloc, &words(alloc, &["faults", "n"])?, &mut shelf);
-    let console = shelf.console().to_vec(alloc)?;
-    Ok(Left {
-        status,
-        result: None,
-        console,
-    })
+    over(alloc, 100, &[], netlist, &["faults", "n"])
 }
 
 // Whether a text stands somewhere in another.
@@ -185,7 +210,7 @@ fn summaries_of_known_circuits(rt: HostRuntime) -> Result<(), Fail> {
         (C17, b"numbers 35 patterns 11 classes 23 equal 12 open 0\n"),
     ];
     for (netlist, console) in &cases {
-        let left = generated(rt.alloc(), *netlist)?;
+        let left = generated(rt.alloc(), *netlist, &["gen", "n", "r"])?;
         assert_eq!(rt; left.status, 0);
         assert!(rt; left.console.as_slice().ends_with(*console));
     }
@@ -195,22 +220,22 @@ fn summaries_of_known_circuits(rt: HostRuntime) -> Result<(), Fail> {
 // s27 and the parity circuit: the console's end, and the file's first lines.
 #[test]
 fn searches_of_known_circuits(rt: HostRuntime) -> Result<(), Fail> {
-    let cases: [(&[u8], &str, &[u8], &[u8]); 2] = [
+    let cases: [(&[u8], &[&str], &[u8], &[u8]); 2] = [
         (
             S27,
-            "128",
+            &["gen", "n", "r", "--cubes", "128"],
             b" open 0\n",
-            b"diatest 1 7 4 53\nbudget 4 128 0\npattern 0000001\n",
+            b"diatest 1 7 4 53\nbudget 4 128 2000\npattern 0000001\n",
         ),
         (
             PARITY,
-            "512",
+            &["gen", "n", "r", "--cubes", "512", "--conflicts", "0"],
             b" open 0\n",
             b"diatest 1 9 1 67\nbudget 4 512 0\n",
         ),
     ];
-    for (netlist, cubes, console, start) in &cases {
-        let left = generated_by(rt.alloc(), *netlist, &["gen", "n", "r", "--cubes", *cubes])?;
+    for (netlist, all, console, start) in &cases {
+        let left = generated(rt.alloc(), *netlist, *all)?;
         assert_eq!(rt; left.status, 0);
         assert!(rt; left.console.as_slice().ends_with(*console));
         assert!(rt; left.result.ok_or("no file")?.as_slice().starts_with(*start));
@@ -218,20 +243,43 @@ fn searches_of_known_circuits(rt: HostRuntime) -> Result<(), Fail> {
     Ok(())
 }
 
-// Four closed cubes don't show that the output of the parity circuit is always 1.
+// Four closed cubes don't show that the output of the parity circuit is always 1: one learned clause is all that may be
+// found then, or a refutation.
 #[test]
-fn a_pair_that_stays_open(rt: HostRuntime) -> Result<(), Fail> {
-    let left = generated_by(rt.alloc(), PARITY, &["gen", "n", "r", "--cubes", "4"])?;
+fn a_pair_that_the_search_leaves_open(rt: HostRuntime) -> Result<(), Fail> {
+    let left = generated(
+        rt.alloc(),
+        PARITY,
+        &["gen", "n", "r", "--cubes", "4", "--conflicts", "1"],
+    )?;
     assert_eq!(rt; left.status, 0);
     let file = left.result.ok_or("no file")?;
-    assert!(rt; has(file.as_slice(), b"\nmember 66 0 open\n"));
+    assert!(rt;
+        file.as_slice()
+            .starts_with(b"diatest 1 9 1 67\nbudget 4 4 1\n")
+    );
+    let open = has(file.as_slice(), b"\nmember 66 0 open\n");
+    assert!(rt; open || has(file.as_slice(), b"\nmember 66 0 equal\n"));
+    let start: &[u8] = if open {
+        b"same 66 0 O "
+    } else {
+        b"same 66 0 R "
+    };
     let line = file
         .as_slice()
         .split(|byte| *byte == b'\n')
-        .find(|line| line.starts_with(b"same 66 0 O "))
+        .find(|line| line.starts_with(start))
         .ok_or("no evidence")?;
     assert_eq!(rt; line.iter().filter(|byte| **byte == b'.').count(), 4);
     assert!(rt; line.contains(&b'?'));
+    let groups = line.iter().filter(|byte| **byte == b';').count();
+    assert!(rt;
+        if open {
+            groups == 1
+        } else {
+            groups == 1 || groups == 2
+        }
+    );
     Ok(())
 }
 
@@ -245,13 +293,9 @@ fn the_longest_netlist(rt: HostRuntime) -> Result<(), Fail> {
         (0u8, "numbers 1 patterns 0 classes 1 equal 0 open 0\n"),
         (3, "netlist: TooLong at byte 16777216, line 1\n"),
     ] {
-        let mut shelf = SureShelf::new(alloc, 65_536);
-        shelf.put_file("n", &text)?;
-        assert_eq!(rt;
-            run(alloc, &words(alloc, &["gen", "n", "r"])?, &mut shelf),
-            status
-        );
-        assert_eq!(rt; shelf.console(), console.as_bytes());
+        let left = over(alloc, 65_536, &[], &text, &["gen", "n", "r"])?;
+        assert_eq!(rt; left.status, status);
+        assert_eq!(rt; left.console.as_slice(), console.as_bytes());
         text.push(b'x')?;
     }
     Ok(())
@@ -295,7 +339,7 @@ fn refusals_create_no_file(rt: HostRuntime) -> Result<(), Fail> {
         (b"z=NOT(Z)\n", b"Undriven at byte 6, line 1"),
     ];
     for (netlist, refusal) in &cases {
-        let left = generated(rt.alloc(), *netlist)?;
+        let left = generated(rt.alloc(), *netlist, &["gen", "n", "r"])?;
         assert_eq!(rt; left.status, 3);
         assert!(rt; left.result.is_none());
         let console = left.console.as_slice();
@@ -308,8 +352,7 @@ fn refusals_create_no_file(rt: HostRuntime) -> Result<(), Fail> {
 
 #[test]
 fn words_that_are_not_understood(rt: HostRuntime) -> Result<(), Fail> {
-    let alloc = rt.alloc();
-    let wrong: [&[&str]; 16] = [
+    let wrong: [&[&str]; 18] = [
         &[],
         &["generate", "n", "r"],
         &["gen", "n"],
@@ -320,6 +363,8 @@ fn words_that_are_not_understood(rt: HostRuntime) -> Result<(), Fail> {
         &["gen", "n", "r", "--blocks", "65537"],
         &["gen", "n", "r", "--cubes", "1048577"],
         &["gen", "n", "r", "--cubes", "-0"],
+        &["gen", "n", "r", "--conflicts", "100001"],
+        &["synth", "1", "n", "r", "--conflicts", "1"],
         &["gen", "n", "r", "--blocks="],
         &["gen", "n", "r", "--cubes", "5", "--cubes", "5"],
         &["gen", "n", "--r"],
@@ -328,10 +373,13 @@ fn words_that_are_not_understood(rt: HostRuntime) -> Result<(), Fail> {
         &["synth", "2001", "n", "r"],
     ];
     for all in &wrong {
-        let mut shelf = SureShelf::new(alloc, 7);
-        assert_eq!(rt; run(alloc, &words(alloc, *all)?, &mut shelf), 2);
-        assert_eq!(rt; shelf.console(), b"words: not understood\n".as_slice());
-        assert!(rt; shelf.file("n").is_none() && shelf.file("r").is_none());
+        let (left, netlist) = bare(rt.alloc(), *all)?;
+        assert_eq!(rt; left.status, 2);
+        assert_eq!(rt;
+            left.console.as_slice(),
+            b"words: not understood\n".as_slice()
+        );
+        assert!(rt; netlist.is_none() && left.result.is_none());
     }
     Ok(())
 }
@@ -339,26 +387,31 @@ fn words_that_are_not_understood(rt: HostRuntime) -> Result<(), Fail> {
 // Options stand before, between and behind the names, and numbers may have zeros or a sign before them.
 #[test]
 fn words_that_are_understood(rt: HostRuntime) -> Result<(), Fail> {
-    let taken: [(&[&str], &[u8]); 7] = [
-        (&["gen", "--cubes", "8", "n", "r"], b"budget 4 8 0\n"),
-        (&["gen", "n", "r", "--cubes", "8"], b"budget 4 8 0\n"),
+    let taken: [(&[&str], &[u8]); 9] = [
+        (&["gen", "--cubes", "8", "n", "r"], b"budget 4 8 2000\n"),
+        (&["gen", "n", "r", "--cubes", "8"], b"budget 4 8 2000\n"),
         (
             &["gen", "--cubes=007", "n", "--blocks", "65536", "r"],
-            b"budget 65536 7 0\n",
+            b"budget 65536 7 2000\n",
         ),
-        (&["gen", "n", "--cubes", "+7", "r"], b"budget 4 7 0\n"),
-        (&["gen", "n", "r", "--cubes=-0"], b"budget 4 0 0\n"),
+        (&["gen", "n", "--cubes", "+7", "r"], b"budget 4 7 2000\n"),
+        (&["gen", "n", "r", "--cubes=-0"], b"budget 4 0 2000\n"),
         (
             &["gen", "--blocks", "0", "--", "n", "r"],
-            b"budget 0 64 0\n",
+            b"budget 0 64 2000\n",
         ),
         (
             &["gen", "n", "--cubes", "1048576", "r"],
-            b"budget 4 1048576 0\n",
+            b"budget 4 1048576 2000\n",
+        ),
+        (&["gen", "n", "r", "--conflicts=0"], b"budget 4 64 0\n"),
+        (
+            &["gen", "--conflicts", "100000", "n", "r"],
+            b"budget 4 64 100000\n",
         ),
     ];
     for (all, line) in &taken {
-        let left = generated_by(rt.alloc(), b"", *all)?;
+        let left = generated(rt.alloc(), b"", *all)?;
         assert_eq!(rt; left.status, 0);
         assert!(rt; has(left.result.ok_or("no file")?.as_slice(), *line));
     }
@@ -378,26 +431,20 @@ fn a_netlist_of_two_cells(rt: HostRuntime) -> Result<(), Fail> {
 #[test]
 fn results_of_a_netlist_by_number(rt: HostRuntime) -> Result<(), Fail> {
     let alloc = rt.alloc();
-    let mut first = MemoryShelf::new(alloc, 1000, Vec::new(alloc));
-    let mut second = MemoryShelf::new(alloc, 1000, Vec::new(alloc));
-    assert_eq!(rt;
-        run(alloc, &words(alloc, &["synth", "8", "n", "r"])?, &mut first),
-        0
+    let (apart, netlist) = bare(alloc, &["synth", "8", "n", "r"])?;
+    let (joined, none) = bare(alloc, &["synth", "8", "r", "r"])?;
+    assert_eq!(rt; apart.status, 0);
+    assert_eq!(rt; joined.status, 0);
+    assert!(rt; apart.console.as_slice() == joined.console.as_slice());
+    let result = apart.result.ok_or("no file")?;
+    assert!(rt;
+        result
+            .as_slice()
+            .starts_with(b"diatest 1 17 9 195\nbudget 4 16 100\n")
     );
-    assert_eq!(rt;
-        run(
-            alloc,
-            &words(alloc, &["synth", "8", "r", "r"])?,
-            &mut second
-        ),
-        0
-    );
-    assert_eq!(rt; first.console(), second.console());
-    let result = first.file("r").ok_or("no file")?;
-    assert!(rt; result.starts_with(b"diatest 1 17 9 195\nbudget 4 16 0\n"));
-    assert!(rt; second.file("r").ok_or("no file")? == result);
-    assert!(rt; second.file("n").is_none());
-    assert!(rt; first.file("n").ok_or("no file")? == synth_text(alloc, 8)?.as_slice());
+    assert!(rt; joined.result.ok_or("no file")?.as_slice() == result.as_slice());
+    assert!(rt; none.is_none());
+    assert!(rt; netlist.ok_or("no file")?.as_slice() == synth_text(alloc, 8)?.as_slice());
     Ok(())
 }
 
@@ -412,7 +459,7 @@ fn each_failing_call_shows(rt: HostRuntime) -> Result<(), Fail> {
         (4, 8, Some(b"dia")),
     ];
     for (call, status, result) in &cases {
-        let left = failing(rt.alloc(), *call)?;
+        let left = over(rt.alloc(), 3, &[*call], b"", &["gen", "n", "r"])?;
         assert_eq!(rt; left.status, *status);
         assert_eq!(rt; left.result.is_some(), result.is_some());
         assert_eq!(rt;
@@ -423,12 +470,8 @@ fn each_failing_call_shows(rt: HostRuntime) -> Result<(), Fail> {
         );
         assert!(rt; left.console.is_empty());
     }
-    let alloc = rt.alloc();
-    let mut shelf = SureShelf::new(alloc, 3);
-    assert_eq!(rt;
-        run(alloc, &words(alloc, &["gen", "absent", "r"])?, &mut shelf),
-        7
-    );
-    assert!(rt; shelf.file("r").is_none());
+    let (left, _) = bare(rt.alloc(), &["gen", "absent", "r"])?;
+    assert_eq!(rt; left.status, 7);
+    assert!(rt; left.result.is_none());
     Ok(())
 }

@@ -4,3 +4,21 @@ pub mod Marked
 pub mod RightEvidence
 pub mod Truth
 mod TreeLines
+-- Spellings
+mod Cuts
+mod FieldLemmas
+mod OnceLemmas
+mod ReadLemmas
+mod SoFarLemmas
+mod DigitLemmas
+mod AnswerLemmas
+-- Lines and refusals
+pub mod HeldLemmas
+mod PieceLemmas
+pub mod FirstLine
+pub mod TableLemmas
+pub mod RefusalLemmas
+mod FileLemmas
+-- Valid is true
+mod ShapeLemmas
+pub mod ValidTrue

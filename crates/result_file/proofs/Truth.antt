@@ -8,7 +8,7 @@ use Rattle.std.proofs.lemmas.List.{append-nil}
 use Rattle.std.proofs.lemmas.List.Elements.{filter_map-append}
 use Rattle.std.specs.List.{enumerate_from}
 use Rattle.std.proofs.lemmas.List.Elements.{All-from_get_or}
-use Rattle.net_model.specs.Circuit.{Circuit}
+use Rattle.net_model.specs.Circuit.{Circuit, IsCircuit}
 use Rattle.net_model.specs.declared.fault.Fault.{Fault}
 use Rattle.net_model.specs.Answer.{Separates, AreEqual}
 use Rattle.net_model.specs.Collapse.{root}
@@ -18,6 +18,10 @@ use Rattle.pair_sets.specs.declared.tree.Token.{Token}
 use Rattle.pair_sets.specs.declared.tree.Token.TheVariants.{Closed}
 use Rattle.pair_sets.specs.Cube.{Cube, IsClosed}
 use Rattle.pair_sets.specs.Tree.{cube_at, token_at, IsTree, IsCovering, IsSpending}
+use Rattle.pair_miter.specs.ChainView.{ChainView}
+use Rattle.pair_miter.specs.Miter.{miter}
+use Rattle.pair_miter.specs.Log.{IsSpentLog}
+use Rattle.refute_check.proofs.Sound.{refutation_equal}
 use Rattle.result_file.specs.declared.record.Budgets.{Budgets}
 use Rattle.result_file.specs.declared.record.Evidence.{Evidence}
 use Rattle.result_file.specs.declared.record.Mark.{Mark}
@@ -39,6 +43,7 @@ use Rattle.result_file.proofs.RightEvidence.{IsMarkedBy, all_right, mark_cases, 
 
 -- Laws of the circuit: numbers with one root are equal faults, and so are those that a tree covers; closed leaves have closed cubes, and so many as there are vectors are never spent.
 pub record AreSound (c : Circuit) : Type 0 where
+  pub circuit : IsCircuit c
   pub roots : (m n : ℕ) → m < fault_count c → n < fault_count c → root c (fault_numbered c m) ≡ root c (fault_numbered c n) → AreEqual c (fault_numbered c m) (fault_numbered c n)
   pub covered : (f g : Fault) (limit : ℕ) (tokens : List Token) → IsCovering c f g limit tokens → AreEqual c f g
   pub bounded : (f g : Fault) (limit : ℕ) (tokens : List Token) → IsSpending c f g limit tokens → limit < 2 ^ c.sources
@@ -63,35 +68,41 @@ equal_by : (c : Circuit) (budgets : Budgets) → AreSound c → (m n : ℕ) → 
     → IsRightProof c (fault_numbered c m) (fault_numbered c n) budgets p → mark_of p ≡ mark.Equal → AreEqual c (fault_numbered c m) (fault_numbered c n)
 equal_by c budgets sound m n low high proof.Collapse roots right is = sound.roots m n low high roots
 equal_by c budgets sound m n low high (proof.Covered tree) roots right is = sound.covered (fault_numbered c m) (fault_numbered c n) budgets.cubes tree right
-equal_by c budgets sound m n low high (proof.Searched tree) roots right is = absurd (cc)
+equal_by c budgets sound m n low high (proof.Refuted tree log) roots right is = refutation_equal c (fault_numbered c m) (fault_numbered c n) budgets.conflicts log sound.circuit right.1
+equal_by c budgets sound m n low high (proof.Spent tree log) roots right is = absurd (cc)
 
--- The proof is a tree with the whole number of closed cubes.
+-- The proof is a tree with the whole number of closed cubes, and a log with the whole number of clauses.
 pub record SpendsOn (c : Circuit) (budgets : Budgets) (f g : Fault) (p : Proof) : Type 0 where
   pub tree : List Token
-  pub is : p ≡ proof.Searched tree
+  pub log : List ChainView
+  pub is : p ≡ proof.Spent tree log
   pub cubes : HasClosedCubes c f g budgets.cubes tree
-  pub conflicts : budgets.conflicts ≡ 0
+  pub clauses : IsSpentLog (miter c f g) budgets.conflicts log
 
 spent_by : (c : Circuit) (budgets : Budgets) → AreSound c → (f g : Fault) (p : Proof) → IsRightProof c f g budgets p → mark_of p ≡ mark.Spent → SpendsOn c budgets f g p
 spent_by c budgets sound f g proof.Collapse right is = absurd (cc)
 spent_by c budgets sound f g (proof.Covered tree) right is = absurd (cc)
-spent_by c budgets sound f g (proof.Searched tree) right is = record {
+spent_by c budgets sound f g (proof.Refuted tree log) right is = absurd (cc)
+spent_by c budgets sound f g (proof.Spent tree log) right is = record {
   tree = tree;
+  log = log;
   is = refl;
   cubes = record { shape = right.0.tree.shape; full = right.0.full; closed = sound.leaves f g tree right.0.tree };
-  conflicts = right.1;
+  clauses = right.1;
 }
 
 -- and then the limit is less than the number of vectors
 spent_below : (c : Circuit) (budgets : Budgets) → AreSound c → (f g : Fault) (p : Proof) → IsRightProof c f g budgets p → mark_of p ≡ mark.Spent → budgets.cubes < 2 ^ c.sources
 spent_below c budgets sound f g proof.Collapse right is = absurd (cc)
 spent_below c budgets sound f g (proof.Covered tree) right is = absurd (cc)
-spent_below c budgets sound f g (proof.Searched tree) right is = sound.bounded f g budgets.cubes tree right.0
+spent_below c budgets sound f g (proof.Refuted tree log) right is = absurd (cc)
+spent_below c budgets sound f g (proof.Spent tree log) right is = sound.bounded f g budgets.cubes tree right.0
 
 never_rep : (p : Proof) → mark_of p ≡ mark.Rep → ⊥
 never_rep proof.Collapse is = cc
 never_rep (proof.Covered tree) is = cc
-never_rep (proof.Searched tree) is = cc
+never_rep (proof.Refuted tree log) is = cc
+never_rep (proof.Spent tree log) is = cc
 
 rep_equal : ◌≡◌ {A = Mark} mark.Rep mark.Equal → ⊥
 rep_equal e = cc
@@ -177,13 +188,14 @@ module _ (c : Circuit) (budgets : Budgets) (body : List Record) (t : ClassTable)
     spent_on : (n : ℕ) → n < length t.class_of → (by : IsMarkedBy t (evidence_in body) n mark.Spent) → SpendsOn c budgets (fault_numbered c by.e.partner) (fault_numbered c by.e.member) by.e.proof → IsSpentOn c stated n
     spent_on n inside by spends =
         let lead = representative t (class_at t n) in
-        let e_is : by.e ≡ record { member = n; partner = lead; proof = proof.Searched spends.tree } = λ i. record { member = by.member i; partner = by.partner i; proof = spends.is i } in
+        let e_is : by.e ≡ record { member = n; partner = lead; proof = proof.Spent spends.tree spends.log } = λ i. record { member = by.member i; partner = by.partner i; proof = spends.is i } in
         record {
           tree = spends.tree;
+          log = spends.log;
           at = by.at;
           evidence = rw (mate_is n inside) (by.there ∙ ap Some e_is);
           cubes = rw (mate_is n inside) (rw (by.member, by.partner) at spends.cubes);
-          conflicts = spends.conflicts;
+          clauses = rw (mate_is n inside) (rw (by.member, by.partner) at spends.clauses);
         }
 
     spent_marked : (n : ℕ) → n < fault_count c → stated_mark stated n ≡ mark.Spent → IsSpentOn c stated n

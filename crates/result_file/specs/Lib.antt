@@ -3,4 +3,9 @@ pub mod Marks
 pub mod Lines
 pub mod Summary
 pub mod Valid
+pub mod Refusal
 pub mod Meaning
+-- Reading
+pub mod Reading
+pub mod Held
+pub mod Laws

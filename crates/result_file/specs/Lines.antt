@@ -7,6 +7,8 @@ use Rattle.net_model.specs.Collapse.{root}
 use Rattle.net_model.specs.ClassTable.{ClassTable, class_at, class_count, representative}
 use Rattle.net_model.specs.PatternRows.{IsTableOf, SplitsClass}
 use Rattle.pair_sets.specs.Tree.{IsCovering, IsSpending}
+use Rattle.pair_miter.specs.Miter.{miter}
+use Rattle.pair_miter.specs.Log.{IsRefutation, IsSpentLog}
 use Rattle.result_file.specs.declared.record.Budgets.{Budgets}
 use Rattle.result_file.specs.declared.record.Mark.{Mark}
 use Rattle.result_file.specs.declared.record.Proof.{Proof}
@@ -57,13 +59,15 @@ module _ (c : Circuit) (f g : Fault) where
   abbrev pub HasRightRoots : Proof → Type 0
   HasRightRoots proof.Collapse = root c f ≡ root c g
   HasRightRoots (proof.Covered tree) = root c f ≢ root c g
-  HasRightRoots (proof.Searched tree) = root c f ≢ root c g
+  HasRightRoots (proof.Refuted tree log) = root c f ≢ root c g
+  HasRightRoots (proof.Spent tree log) = root c f ≢ root c g
 
-  -- The tree is right for the pair and the budget of cubes, and a pair is left open only where there is no other budget.
+  -- The tree is right for the pair and the budget of cubes, and the log for the miter of the pair and the budget of conflicts.
   abbrev pub IsRightProof : Budgets → Proof → Type 0
   IsRightProof budgets proof.Collapse = ⊤
   IsRightProof budgets (proof.Covered tree) = IsCovering c f g budgets.cubes tree
-  IsRightProof budgets (proof.Searched tree) = IsSpending c f g budgets.cubes tree × (budgets.conflicts ≡ 0)
+  IsRightProof budgets (proof.Refuted tree log) = IsSpending c f g budgets.cubes tree × IsRefutation (miter c f g) budgets.conflicts log
+  IsRightProof budgets (proof.Spent tree log) = IsSpending c f g budgets.cubes tree × IsSpentLog (miter c f g) budgets.conflicts log
 
 pub record IsRightEvidence (c : Circuit) (t : ClassTable) (before : List Record) (evidence : Evidence) : Type 0 where
   pub next : NamesNext t before evidence

@@ -11,6 +11,9 @@ use Rattle.pair_sets.specs.declared.tree.Token.{Token}
 use Rattle.pair_sets.specs.declared.tree.Token.TheVariants.{Closed}
 use Rattle.pair_sets.specs.Cube.{Cube, IsClosed}
 use Rattle.pair_sets.specs.Tree.{cube_at, token_at, closed_count, HasTreeShape}
+use Rattle.pair_miter.specs.ChainView.{ChainView}
+use Rattle.pair_miter.specs.Miter.{miter}
+use Rattle.pair_miter.specs.Log.{IsSpentLog}
 use Rattle.result_file.specs.declared.record.Budgets.{Budgets}
 use Rattle.result_file.specs.declared.record.Mark.{Mark}
 use Rattle.result_file.specs.declared.record.Mark.TheVariants as mark
@@ -72,13 +75,15 @@ pub record HasClosedCubes (c : Circuit) (f g : Fault) (limit : ℕ) (tree : List
   pub full : closed_count tree ≡ limit
   pub closed : (at : ℕ) → at < length tree → token_at tree at ≡ Closed → (cube : Cube) × (cube_at tree at ≡ Some cube) × IsClosed c f g cube
 
--- Some evidence of the file names the number with the lowest of its class, and spends the budget on them with closed cubes; there is no other budget.
+-- Some evidence of the file names the number with the lowest of its class, and spends the budgets on them: as many closed cubes as
+-- there may be, and as many clauses learned from the miter of the two, each of which has literals and is fresh over those before it.
 pub record IsSpentOn (c : Circuit) (s : StatedResult) (n : ℕ) : Type 0 where
   pub tree : List Token
+  pub log : List ChainView
   pub at : ℕ
-  pub evidence : slice_get (evidence_in s.body) at ≡ Some (record { member = n; partner = lowest_mate s n; proof = proof.Searched tree })
+  pub evidence : slice_get (evidence_in s.body) at ≡ Some (record { member = n; partner = lowest_mate s n; proof = proof.Spent tree log })
   pub cubes : HasClosedCubes c (fault_numbered c (lowest_mate s n)) (fault_numbered c n) s.budgets.cubes tree
-  pub conflicts : s.budgets.conflicts ≡ 0
+  pub clauses : IsSpentLog (miter c (fault_numbered c (lowest_mate s n)) (fault_numbered c n)) s.budgets.conflicts log
 
 -- Each two faults of different classes answer differently at the pattern that is named of the classes.
 abbrev pub AreApart : Circuit → StatedResult → Type 0

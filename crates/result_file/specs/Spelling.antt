@@ -1,7 +1,10 @@
 -- How a record is written: its fields, parted by one blank each.
-use Rattle.std.specs.Prelude.{◌≢◌, ℕ, ◌<◌, ◌^◌, List, [], ◌∷◌, ◌++◌, map, flat_map, codes, decimal, Option, None, Some, All, ⊤}
+use Rattle.std.specs.Prelude.{◌≡◌, ◌≢◌, ℕ, ◌<◌, ◌^◌, List, [], ◌∷◌, ◌++◌, map, flat_map, codes, decimal, Option, None, Some, IsSome, if◌then◌else◌, All, ⊤}
+use Rattle.std.specs.Option.{option_to_list}
 use Rattle.std.specs.List.{join_with_byte}
 use Rattle.net_model.specs.BitText.{bits_text}
+use Rattle.clause_pool.specs.Literal.{Literal}
+use Rattle.pair_miter.specs.ChainView.{ChainView}
 use Rattle.pair_sets.specs.declared.tree.Token.{Token}
 use Rattle.pair_sets.specs.declared.tree.Token.TheVariants.{Split, Closed, Rest}
 use Rattle.result_file.specs.declared.record.Mark.{Mark}
@@ -21,10 +24,33 @@ token_field (Split source) = decimal source
 token_field Closed = codes "."
 token_field Rest = codes "?"
 
+abbrev pub literal_field : Literal → Text
+literal_field l = (if l.positive then [] else codes "-") ++ decimal l.variable
+
+-- a pivot, and the number of the clause that is resolved with
+abbrev pub step_fields : Literal × ℕ → List Text
+step_fields step = literal_field step.0 ∷ decimal step.1 ∷ []
+
+-- the clauses of a chain
+abbrev pub clause_fields : ChainView → List Text
+clause_fields chain = decimal chain.start ∷ flat_map step_fields chain.steps
+
+-- the literal at which a chain is fresh, where it names one, stands before its clauses
+abbrev pub chain_fields : ChainView → List Text
+chain_fields chain = map literal_field (option_to_list chain.fresh_at) ++ clause_fields chain
+
+-- each chain behind a field of its own
+abbrev pub log_fields : List ChainView → List Text
+log_fields log = flat_map (λ chain. codes ";" ∷ chain_fields chain) log
+
+abbrev pub evidence_fields : List Token → List ChainView → List Text
+evidence_fields tree log = map token_field tree ++ log_fields log
+
 abbrev pub proof_fields : Proof → List Text
 proof_fields proof.Collapse = codes "C" ∷ []
 proof_fields (proof.Covered tree) = codes "T" ∷ map token_field tree
-proof_fields (proof.Searched tree) = codes "O" ∷ map token_field tree
+proof_fields (proof.Refuted tree log) = codes "R" ∷ evidence_fields tree log
+proof_fields (proof.Spent tree log) = codes "O" ∷ evidence_fields tree log
 
 abbrev pub birth_fields : Option (ℕ × ℕ) → List Text
 birth_fields None = codes "-" ∷ codes "-" ∷ []
@@ -43,6 +69,10 @@ fields (Same evidence) = codes "same" ∷ decimal evidence.member ∷ decimal ev
 fields (Class number birth) = codes "class" ∷ decimal number ∷ birth_fields birth
 fields (Member number class mark) = codes "member" ∷ decimal number ∷ decimal class ∷ mark_field mark ∷ []
 fields End = codes "end" ∷ []
+
+-- fields, a blank before each
+abbrev pub behind_blanks : List Text → Text
+behind_blanks texts = flat_map (λ text. 32 ∷ text) texts
 
 unfoldable pub spelling : Record → Text
 spelling r = join_with_byte 32 (fields r)
@@ -66,10 +96,40 @@ pub record HasTreeSpelling (tree : List Token) : Type 0 where
   pub nonempty : tree ≢ []
   pub each : All HasTokenSpelling tree
 
+abbrev pub IsVariable : ℕ → Type 0
+IsVariable n = (0 < n) × (n < 2 ^ 31)
+
+abbrev pub IsLiteral : Literal → Type 0
+IsLiteral l = IsVariable l.variable
+
+abbrev pub HasStepSpelling : Literal × ℕ → Type 0
+HasStepSpelling step = IsLiteral step.0 × IsNumber step.1
+
+abbrev pub HasLiteralSpelling : Option Literal → Type 0
+HasLiteralSpelling None = ⊤
+HasLiteralSpelling (Some l) = IsLiteral l
+
+pub record HasChainSpelling (chain : ChainView) : Type 0 where
+  pub start : IsNumber chain.start
+  pub fresh_at : HasLiteralSpelling chain.fresh_at
+  pub steps : All HasStepSpelling chain.steps
+
+-- A chain of a refutation names no literal at which it is fresh, and a chain of a spent log names one.
+abbrev pub IsPlainChain : ChainView → Type 0
+IsPlainChain chain = HasChainSpelling chain × (chain.fresh_at ≡ None)
+
+abbrev pub IsFreshChain : ChainView → Type 0
+IsFreshChain chain = HasChainSpelling chain × IsSome chain.fresh_at
+
+-- A refutation has a chain, and a spent log may have none.
+abbrev pub HasRefutationSpelling : List ChainView → Type 0
+HasRefutationSpelling log = (log ≢ []) × All IsPlainChain log
+
 abbrev pub HasProofSpelling : Proof → Type 0
 HasProofSpelling proof.Collapse = ⊤
 HasProofSpelling (proof.Covered tree) = HasTreeSpelling tree
-HasProofSpelling (proof.Searched tree) = HasTreeSpelling tree
+HasProofSpelling (proof.Refuted tree log) = HasTreeSpelling tree × HasRefutationSpelling log
+HasProofSpelling (proof.Spent tree log) = HasTreeSpelling tree × All IsFreshChain log
 
 abbrev pub HasBirthSpelling : Option (ℕ × ℕ) → Type 0
 HasBirthSpelling None = ⊤
@@ -83,3 +143,7 @@ HasSpelling (Same evidence) = IsNumber evidence.member × IsNumber evidence.part
 HasSpelling (Class number birth) = IsNumber number × HasBirthSpelling birth
 HasSpelling (Member number class mark) = IsNumber number × IsNumber class
 HasSpelling End = ⊤
+
+-- The text is the spelling of no record that can be written.
+abbrev pub IsNoSpelling : Text → Type 0
+IsNoSpelling text = (r : Record) → HasSpelling r → spelling r ≢ text

@@ -1,8 +1,19 @@
-//! The records of a result file, how they are written, and which files are valid and true.
+//! The records of a result file, how they are written and read, and which files are valid and true.
 #![tactic(auto)]
 
+mod evidence;
+mod fault;
+mod laws;
+mod lines;
+mod read;
 mod record;
+mod words;
 mod write;
+mod write_log;
 
+pub use fault::{RecordFault, ResultFault, ResultKind};
+pub use laws::{file_is_refused_once, lines_are_what_was_fed, record_is_spelled_once};
+pub use lines::Lines;
+pub use read::read_record;
 pub use record::{Budgets, Evidence, Mark, Proof, Record, Summary};
 pub use write::{push_pattern, push_record, write_record};

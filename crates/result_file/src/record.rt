@@ -1,5 +1,6 @@
 //! The records of a result file.
 use net_model::Vector;
+use pair_miter::Log;
 use pair_sets::Tree;
 
 /// How many blocks of the stream, closed leaves of a tree and learned clauses of a log there may be.
@@ -30,12 +31,14 @@ pub enum Mark {
 }
 
 /// What is known of a member and its representative: both faults have the same root of the fault collapse; a tree of
-/// cubes in none of which a vector separates them covers all vectors; or a tree with an open leaf has spent the budget.
+/// cubes in none of which a vector separates them covers all vectors; a log of resolutions refutes that some vector
+/// separates them, behind a tree with an open leaf; or such a tree and a log of learned clauses have spent the budgets.
 #[derive(Debug, Drop)]
 pub enum Proof {
     Collapse,
     Covered(Tree),
-    Searched(Tree),
+    Refuted(Tree, Log),
+    Spent(Tree, Log),
 }
 
 /// Evidence for a member of a class and the class's representative.

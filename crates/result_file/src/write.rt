@@ -4,11 +4,13 @@ ghost use Rattle.std.specs.Prelude.{◌≡◌, ◌++◌, ◌∷◌, [], IfOk, On
 ghost use Rattle.std.specs.String.{string_bytes};
 ghost use Rattle.std.specs.List.{join_with_byte};
 ghost use Rattle.net_model.specs.BitText.{bits_text};
-ghost use Rattle.result_file.specs.Spelling.{spelling, text_of, token_field, mark_field};
+ghost use Rattle.result_file.specs.Spelling.{spelling, text_of, token_field, evidence_fields};
 ghost use Rattle.result_file.specs.declared.record.Record.TheVariants.{Head, Budget, Pattern, Same, Class, Member, End};
 
 use crate::record::{Budgets, Evidence, Mark, Proof, Record};
+use crate::write_log::push_log;
 use net_model::Bits;
+use pair_miter::Log;
 use pair_sets::{Token, Tree};
 use std::alloc::{AllocError, Global};
 
@@ -97,7 +99,8 @@ fn push_same(text: &mut String, evidence: &Evidence) -> Result<(), AllocError>
     match proof {
         Proof::Collapse => writeln!(text, "same {member} {partner} C"),
         Proof::Covered(tree) => push_tree_line(text, *member, *partner, "T", tree),
-        Proof::Searched(tree) => push_tree_line(text, *member, *partner, "O", tree),
+        Proof::Refuted(tree, log) => push_log_line(text, *member, *partner, "R", tree, log),
+        Proof::Spent(tree, log) => push_log_line(text, *member, *partner, "O", tree, log),
     }
 }
 
@@ -113,6 +116,24 @@ fn push_tree_line(
 {
     push_kind(text, member, partner, kind)?;
     push_tree(text, tree)?;
+    text.push('\n')?;
+    Ok(())
+}
+
+// Appends the line of evidence that has a tree and a log.
+fn push_log_line(
+    text: &mut String,
+    member: u32,
+    partner: u32,
+    kind: &str,
+    tree: &Tree,
+    log: &Log,
+) -> Result<(), AllocError>
+    ensures { OnOk result (string_bytes text.new ≡ string_bytes text.old ++ join_with_byte 32 (codes "same" ∷ decimal member ∷ decimal partner ∷ kind.now ∷ evidence_fields tree.now log.now) ++ 10 ∷ []) }
+{
+    push_kind(text, member, partner, kind)?;
+    push_tree(text, tree)?;
+    push_log(text, log)?;
     text.push('\n')?;
     Ok(())
 }

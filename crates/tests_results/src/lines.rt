@@ -1,6 +1,7 @@
 //! One record of each kind, as written.
 
 use net_model::Bits;
+use pair_miter::Log;
 use pair_sets::{Token, Tree};
 use result_file::{Budgets, Evidence, Mark, Proof, Record, write_record};
 use std::test::Fail;
@@ -19,7 +20,7 @@ fn records_are_lines(rt: HostRuntime) -> Result<(), Fail> {
     let evidence = Evidence {
         member: 3,
         partner: 1,
-        proof: Proof::Searched(left),
+        proof: Proof::Spent(left, Log::new(rt.alloc())),
     };
     let mut whole = Tree::new(rt.alloc());
     for token in [Token::Split(10), Token::Closed, Token::Closed] {

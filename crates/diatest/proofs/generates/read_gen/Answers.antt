@@ -19,4 +19,4 @@ returns-clause-asked c =
     let words = map string_bytes c.args.words.now in
     asked_taken gen_app gen_by words (subst (λ (a : App). fault_of a words ≡ []) c.in_ok-gen_command.ensures c.in_ok-matches.ensures.taken)
     (c.in_ok-matches.ensures.ok ∙ ap (λ (a : App). matches_of a words) c.in_ok-gen_command.ensures)
-    (rw (c.name_in.ensures, c.name_in-2.ensures, c.number_in.ensures.number, c.number_in-2.ensures.number) refl)
+    (rw (c.name_in.ensures, c.name_in-2.ensures, c.number_in.ensures.number, c.number_in-2.ensures.number, c.number_in-3.ensures.number) refl)

@@ -4,14 +4,14 @@ use Rattle.diatest.specs.Synth.{synth_text}
 use Rattle.diatest.specs.Netlists.{IsDesign, IsRefused}
 use Rattle.diatest.specs.Ran.{SavesResult}
 use Rattle.diatest.proofs.Runs.{ran}
-use Rattle.diatest.proofs.Generated.{ran_refused, fits_synth, synth_called, synth_may}
+use Rattle.diatest.proofs.Generated.{fits_synth, synth_called, synth_may}
 use Rattle.diatest.proofs.synths.synthesize.Goals as goal
 
-pub returns-in-Err-Refused : goal.returns-in-Err-Refused
-returns-in-Err-Refused g c =
-    let refusal = c.in-Err-Refused.refusal in
-    let refused : IsRefused (synth_text c.args.n) refusal.items = subst (λ (b : List ℕ). IsRefused b refusal.items) (c.deref.ensures.value ∙ c.in-Ok.ensures) (c.in-Err-Refused.ensures.refused refusal (cc)) in
-    ran_refused (λ told. refl) refused (rw (c.deref-in-Err-Refused.ensures.value, c.in-Err-Refused.refusal-is) at c.say.ensures)
+pub unreachable-requires : goal.unreachable-requires
+unreachable-requires g c =
+    let text = c.in-Err-Refused.field-0-0 in
+    let refused : IsRefused (synth_text c.args.n) text.items = subst (λ (b : List ℕ). IsRefused b text.items) (c.deref.ensures.value ∙ c.in-Ok.ensures) (c.in-Err-Refused.ensures.refused text (cc)) in
+    c.no_number_is_refused.ensures c.args.n text.items c.requires.most refused
 
 pub returns-in-Ok-judge : goal.returns-in-Ok-judge
 returns-in-Ok-judge g c =

@@ -4,8 +4,8 @@ use Rattle.kept_vectors.proofs.KeepLemmas.{table_numbers}
 use Rattle.dia_gen.proofs.draft.Draft.mark_all.Goals as goal
 
 pub loop-smaller : goal.loop-smaller
-loop-smaller c =
+loop-smaller g c =
     let more = c.in_ok-mark_round.ensures.more c.if-branch.true in
     let now = c.in_ok-mark_round.ensures.draft in
-    let few = few_classes c.mark_round.new.self.keeper.kept.table now.keeper.whole in
-    omega (arith, more, few, table_numbers now.keeper.table, table_numbers c.loop.invariant.keeper.table)
+    let few = few_classes c.mark_round.new.self.keeper.kept.table now.is.keeper.whole in
+    omega (arith, more, few, table_numbers now.is.keeper.table, table_numbers c.loop.invariant.is.keeper.table)

@@ -1,12 +1,15 @@
 use Rattle.std.proofs.Common.{arith}
 use Rattle.kept_vectors.proofs.KeepLemmas.{table_numbers}
+use Rattle.dia_gen.proofs.DraftSteps.{draft_broken}
 use Rattle.dia_gen.proofs.draft.Draft.settle.Goals as goal
 
 pub settle_pair-requires-clause-member : goal.settle_pair-requires-clause-member
-settle_pair-requires-clause-member c = omega (arith, c.requires.lowest.inside, table_numbers c.requires.draft.keeper.table)
+settle_pair-requires-clause-member g c = omega (arith, c.requires.1.1.inside, table_numbers c.requires.1.0.is.keeper.table)
 
 pub settle_pair-requires-clause-lead : goal.settle_pair-requires-clause-lead
-settle_pair-requires-clause-lead c =
-    let d = c.requires.draft in
+settle_pair-requires-clause-lead g c =
     let lead = rw c.classes-classes.ensures.value at c.representative-lead.ensures.within in
-    omega (arith, lead, table_numbers d.keeper.table)
+    omega (arith, lead, table_numbers c.requires.1.0.is.keeper.table)
+
+pub returns-in-Err-clause-err : goal.returns-in-Err-clause-err
+returns-in-Err-clause-err g c = draft_broken c.requires.1.0

@@ -1,0 +1,63 @@
+-- A draft of the kept vectors alone.
+use Rattle.std.proofs.Common.{◌≡◌, ◌∙◌, ◌++◌, [], List, Result, Ok, Err, map, refl, sym, ap, subst, arith}
+use Rattle.std.specs.Prelude.{replicate, None}
+use Rattle.diag_shelf.specs.World.{State}
+use Rattle.diag_shelf.specs.declared.shelf.ShelfFault.{ShelfFault}
+use Rattle.result_file.specs.declared.record.Record.TheVariants.{Pattern}
+use Rattle.result_file.specs.Spelling.{Text, text_of}
+use Rattle.result_file.specs.Valid.{AreRightLines}
+use Rattle.result_file.proofs.RightLines.{right_head}
+use Rattle.dia_gen.specs.Made.{head_lines, lines_with}
+use Rattle.dia_gen.specs.Writing.{HasWritten, WritesText, BrokeOff}
+use Rattle.dia_gen.proofs.LineLemmas.{text-append}
+use Rattle.dia_gen.proofs.WritingLemmas.{none_written, written_then, written_ok, broken}
+use Rattle.std.proofs.lemmas.List.{append-nil}
+use Rattle.net_model.specs.Circuit.{Circuit}
+use Rattle.net_model.specs.FaultList.{fault_count}
+use Rattle.kept_vectors.specs.Kept.{Keeps, nothing_kept}
+use Rattle.kept_vectors.specs.Keeper.{keeper_with, IsKeeper}
+use Rattle.kept_vectors.proofs.KeepLemmas.{table_numbers}
+use Rattle.kept_vectors.proofs.StreamLemmas.{stream_kept}
+use Rattle.dia_gen.specs.declared.draft.Draft.{Draft}
+use Rattle.dia_gen.specs.Setting.{Setting}
+use Rattle.dia_gen.specs.Draft.{IsBegun, IsDrafted, IsDraft}
+use Rattle.dia_gen.proofs.MarkLemmas.{given_none}
+use Rattle.dia_gen.proofs.DraftLemmas.{draft_first}
+
+pub begun : {s : Setting} {d : Draft} → IsBegun s d → IsKeeper d.keeper → IsDrafted s d d.keeper.kept.vectors []
+begun {s} {d} b kept =
+    let keeper : IsKeeper (keeper_with s.circuit d.keeper.kept) = subst (λ (c : Circuit). IsKeeper (keeper_with c d.keeper.kept)) b.circuit kept in
+    let small = keeper.circuit.small in
+    record {
+      first = stream_kept {c = s.circuit} {keeper = keeper_with s.circuit (nothing_kept (fault_count s.circuit))} s.budgets.blocks d.keeper.kept keeper.circuit refl b.kept;
+      lines = draft_first s.circuit s.budgets d.keeper.kept.vectors (omega (arith, small)) (omega (arith, small)) b.few b.limits keeper.splits;
+      few = b.few;
+      circuit = b.circuit;
+      keeper = keeper;
+      patterns = sym (append-nil d.keeper.kept.vectors);
+      marks = rw b.marks (given_none (fault_count s.circuit) (sym (table_numbers keeper.table)));
+      pool = b.pool;
+    }
+
+module _ {s : Setting} {d : Draft} (b : IsBegun s d) where
+  head_right : AreRightLines s.circuit (head_lines s.circuit s.budgets)
+  head_right =
+      let small = b.is_circuit.small in
+      right_head (omega (arith, small), omega (arith, small), omega (arith, b.few)) (omega (arith, b.limits.blocks), omega (arith, b.limits.cubes), omega (arith, b.limits.conflicts)) b.limits
+
+  pub head_broken : {fault : ShelfFault} {start now : State} → WritesText (text_of (head_lines s.circuit s.budgets)) (Err fault) start now → BrokeOff s.circuit fault start now
+  head_broken {fault} {start} w = broken [] (head_lines s.circuit s.budgets) [] head_right (none_written start) w
+
+  module _ (kept : IsKeeper d.keeper) {start mid now : State} {x : Unit {0}} (head : WritesText (text_of (head_lines s.circuit s.budgets)) (Ok x) start mid) where
+    pub patterns_broken : {fault : ShelfFault} → WritesText (text_of (map Pattern d.keeper.kept.vectors)) (Err fault) mid now → BrokeOff s.circuit fault start now
+    patterns_broken w = broken (head_lines s.circuit s.budgets) (map Pattern d.keeper.kept.vectors) [] (begun b kept).lines.right (written_ok head) w
+
+    pub draft_started : {y : Unit {0}} → WritesText (text_of (map Pattern d.keeper.kept.vectors)) (Ok y) mid now → IsDraft s d start now
+    draft_started w =
+        let before = head_lines s.circuit s.budgets ++ map Pattern d.keeper.kept.vectors in
+        record {
+          kept = d.keeper.kept.vectors;
+          later = [];
+          is = begun b kept;
+          written = subst (λ (t : Text). HasWritten t start now) (sym (ap text_of (append-nil before) ∙ text-append (head_lines s.circuit s.budgets) (map Pattern d.keeper.kept.vectors))) (written_then (written_ok head) (written_ok w));
+        }

@@ -1,0 +1,123 @@
+-- A draft with one line more, and a draft that is broken off.
+use Rattle.std.proofs.Common.{◌≡◌, ◌∙◌, ◌<◌, ◌+◌, ℕ, List, [], ◌∷◌, ◌++◌, Bool, Result, Ok, Err, sym, ap, subst, arith}
+use Rattle.std.specs.Prelude.{OnOk, IfErr, Option, Some, slice_set}
+use Rattle.std.proofs.lemmas.List.{append-nil, append_assoc}
+use Rattle.std.proofs.lemmas.List.Elements.{filter_map-append}
+use Rattle.diag_shelf.specs.World.{State}
+use Rattle.diag_shelf.specs.declared.shelf.ShelfFault.{ShelfFault}
+use Rattle.diag_shelf.specs.declared.shelf.ShelfFault.TheVariants.{NoMemory}
+use Rattle.net_model.specs.Circuit.{Circuit}
+use Rattle.net_model.specs.FaultList.{fault_count, fault_numbered}
+use Rattle.net_model.specs.ClassTable.{class_at, class_count, representative}
+use Rattle.class_refine.proofs.Refined.{representative-member}
+use Rattle.result_file.specs.declared.record.Evidence.{Evidence}
+use Rattle.result_file.specs.declared.record.Proof.{Proof}
+use Rattle.result_file.specs.declared.record.Record.{Record}
+use Rattle.result_file.specs.declared.record.Record.TheVariants.{Pattern, Same}
+use Rattle.result_file.specs.Marks.{pattern_of, evidence_of, patterns_in, evidence_in, mark_of}
+use Rattle.result_file.specs.Spelling.{Text, text_of}
+use Rattle.result_file.specs.Valid.{AreRightLines}
+use Rattle.kept_vectors.specs.Kept.{Keeps}
+use Rattle.kept_vectors.specs.Keeper.{Keeper}
+use Rattle.kept_vectors.proofs.KeepLemmas.{table_numbers}
+use Rattle.kept_vectors.proofs.Separating.{IsAdded, separating_added}
+use Rattle.dia_gen.specs.declared.draft.Draft.{Draft}
+use Rattle.dia_gen.specs.declared.marks.Given.{Given}
+use Rattle.dia_gen.specs.declared.marks.Marks.{Marks}
+use Rattle.dia_gen.specs.Setting.{Setting}
+use Rattle.dia_gen.specs.Given.{IsLowestOpen}
+use Rattle.dia_gen.specs.Made.{lines_with}
+use Rattle.dia_gen.specs.Settled.{IsApartBy, IsProofFor}
+use Rattle.dia_gen.specs.Writing.{HasWritten, WritesText, BrokeOff}
+use Rattle.dia_gen.specs.Draft.{AreDraftLines, IsDrafted, IsDraft}
+use Rattle.dia_gen.proofs.LineLemmas.{text-append}
+use Rattle.dia_gen.proofs.MarkLemmas.{lowest_is_next, lead_inside, given_finer, given_more}
+use Rattle.dia_gen.proofs.DraftLemmas.{lines_more, pattern_added, evidence_added}
+use Rattle.dia_gen.proofs.WritingLemmas.{written_then, written_ok, broken, broken_here}
+
+-- where there is no memory the lines so far are written
+pub draft_broken : {s : Setting} {d : Draft} {start now : State} → IsDraft s d start now → BrokeOff s.circuit NoMemory start now
+draft_broken {s} d = broken_here (lines_with s.circuit s.budgets d.kept d.later) d.is.lines.right d.written
+
+-- the lines with one line more, and none behind it
+pub one_right : (s : Setting) (kept : List (List Bool)) (later : List Record) (r : Record) → AreDraftLines s.circuit s.budgets kept (later ++ r ∷ []) → AreRightLines s.circuit (lines_with s.circuit s.budgets kept later ++ r ∷ [] ++ [])
+one_right s kept later r lines = subst (AreRightLines s.circuit) (lines_more s.circuit s.budgets kept later r ∙ sym (append-nil (lines_with s.circuit s.budgets kept later ++ r ∷ []))) lines.right
+
+pub in_any_case : {P : Type 0} (result : Result (Unit {0}) ShelfFault) → P → OnOk result P
+in_any_case (Ok x) p = p
+in_any_case (Err fault) p = tt
+
+module _ {s : Setting} {d : Draft} {start mid now : State} (kept : List (List Bool)) (later : List Record) (r : Record) (drafted : IsDrafted s d kept (later ++ r ∷ [])) (written : HasWritten (text_of (lines_with s.circuit s.budgets kept later)) start mid) where
+  pub line_drafted : (result : Result (Unit {0}) ShelfFault) → WritesText (text_of (r ∷ [])) result mid now → OnOk result (IsDraft s d start now)
+  line_drafted (Ok x) wrote = record {
+    kept = kept;
+    later = later ++ r ∷ [];
+    is = drafted;
+    written = subst (λ (t : Text). HasWritten t start now) (sym (ap text_of (lines_more s.circuit s.budgets kept later r) ∙ text-append (lines_with s.circuit s.budgets kept later) (r ∷ []))) (written_then written (written_ok wrote));
+  }
+  line_drafted (Err fault) wrote = tt
+
+  pub line_stopped : (result : Result (Unit {0}) ShelfFault) → WritesText (text_of (r ∷ [])) result mid now → IfErr result (λ fault. BrokeOff s.circuit fault start now)
+  line_stopped (Ok x) wrote = tt
+  line_stopped (Err fault) wrote = broken (lines_with s.circuit s.budgets kept later) (r ∷ []) [] (one_right s kept later r drafted.lines) written wrote
+
+module _ {s : Setting} {d : Draft} {kept : List (List Bool)} {later : List Record} (is : IsDrafted s d kept later) (member : ℕ) (lowest : IsLowestOpen d.keeper.kept.table d.marks.given.items member) where
+  abbrev lead : ℕ
+  lead = representative d.keeper.kept.table (class_at d.keeper.kept.table member)
+
+  inside : member < fault_count s.circuit
+  inside = omega (arith, lowest.inside, table_numbers is.keeper.table)
+
+  lead_below : lead < fault_count s.circuit
+  lead_below = omega (arith, table_numbers is.keeper.table, lead_inside d.keeper.kept.table is.keeper.whole member lowest.inside)
+
+  -- a kept vector that separates the lowest open number from its representative
+  module _ (v : List Bool) (apart : IsApartBy s.circuit (fault_numbered s.circuit lead) (fault_numbered s.circuit member) s.budgets v) (keeper : Keeper) (keeps : Keeps d.keeper.circuit (v ∷ []) d.keeper.kept keeper.kept) where
+    added : IsAdded s.circuit v d.keeper.kept keeper.kept
+    added =
+        let together = (representative-member d.keeper.kept.table is.keeper.whole (class_at d.keeper.kept.table member) (is.keeper.whole.classes member lowest.inside)).1 in
+        separating_added v is.keeper (subst (λ (c : Circuit). Keeps c (v ∷ []) d.keeper.kept keeper.kept) is.circuit keeps) lead member lead_below inside together apart.width apart.separates
+
+    pub more_classes : class_count d.keeper.kept.table < class_count keeper.kept.table
+    more_classes = added.more
+
+    pub pattern_drafted : keeper.circuit ≡ d.keeper.circuit → IsDrafted s (record d { keeper = keeper }) kept (later ++ Pattern v ∷ [])
+    pattern_drafted circuit =
+        let t = d.keeper.kept.table in
+        let evidence : evidence_in (later ++ Pattern v ∷ []) ≡ evidence_in later = filter_map-append evidence_of later (Pattern v ∷ []) ∙ append-nil (evidence_in later) in
+        let patterns : patterns_in (later ++ Pattern v ∷ []) ≡ patterns_in later ++ v ∷ [] = filter_map-append pattern_of later (Pattern v ∷ []) in
+        record {
+          first = is.first;
+          lines = pattern_added s.circuit s.budgets kept later t (rw is.patterns at is.keeper.table) is.few is.lines v member (lowest_is_next t (evidence_in later) d.marks.given.items is.marks member lowest) apart (rw is.patterns at added.splits);
+          few = is.few;
+          circuit = circuit ∙ is.circuit;
+          keeper = added.keeper;
+          patterns = added.vectors ∙ ap (λ (vs : List (List Bool)). vs ++ v ∷ []) is.patterns ∙ append_assoc kept (patterns_in later) (v ∷ []) ∙ ap (λ (vs : List (List Bool)). kept ++ vs) (sym patterns);
+          marks = rw evidence (given_finer added.keeper.whole added.finer is.marks);
+          pool = is.pool;
+        }
+
+  -- evidence for the lowest open number with its representative
+  module _ (proof : Proof) (number : ℕ) (lead_is : number ≡ lead) (right : IsProofFor s.circuit s.budgets number member proof) where
+    abbrev pub evidence_for : Evidence
+    evidence_for = record { member = member; partner = number; proof = proof }
+
+    pub lines_given : AreDraftLines s.circuit s.budgets kept (later ++ Same evidence_for ∷ [])
+    lines_given =
+        evidence_added s.circuit s.budgets kept later d.keeper.kept.table (rw is.patterns at is.keeper.table) is.few is.lines evidence_for inside (omega (arith, lead_is, lead_below))
+        (lowest_is_next d.keeper.kept.table (evidence_in later) d.marks.given.items is.marks member lowest) lead_is right
+
+    pub evidence_drafted : (marks : Marks) → marks.given.items ≡ slice_set d.marks.given.items member (Some (record { partner = number; mark = mark_of proof })) → IsDrafted s (record d { marks = marks }) kept (later ++ Same evidence_for ∷ [])
+    evidence_drafted marks gives =
+        let evidence : evidence_in (later ++ Same evidence_for ∷ []) ≡ evidence_in later ++ evidence_for ∷ [] = filter_map-append evidence_of later (Same evidence_for ∷ []) in
+        let patterns : patterns_in (later ++ Same evidence_for ∷ []) ≡ patterns_in later = filter_map-append pattern_of later (Same evidence_for ∷ []) ∙ append-nil (patterns_in later) in
+        record {
+          first = is.first;
+          lines = lines_given;
+          few = is.few;
+          circuit = is.circuit;
+          keeper = is.keeper;
+          patterns = is.patterns ∙ ap (λ (vs : List (List Bool)). kept ++ vs) (sym patterns);
+          marks = rw (gives, evidence) (given_more number member proof is.marks lowest.inside lowest.unmarked lead_is);
+          pool = is.pool;
+        }

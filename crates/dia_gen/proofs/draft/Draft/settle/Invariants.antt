@@ -1,0 +1,7 @@
+use Rattle.dia_gen.proofs.draft.Draft.settle.Given as goal
+
+abbrev pub ghost-add_pattern : goal.ghost-add_pattern
+ghost-add_pattern g a = g.start
+
+abbrev pub ghost-add_evidence : goal.ghost-add_evidence
+ghost-add_evidence g a = g.start

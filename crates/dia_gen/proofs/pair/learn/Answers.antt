@@ -1,0 +1,29 @@
+use Rattle.std.proofs.Common.{◌≡◌, ap, arith}
+use Rattle.net_model.specs.Circuit.{IsCircuit}
+use Rattle.pair_miter.proofs.Bounds.{few_clauses}
+use Rattle.dia_gen.proofs.PairLemmas.{unlearned_by, refuted_by, spent_by}
+use Rattle.dia_gen.proofs.pair.learn.Goals as goal
+
+pub returns-then-conflicts-eq0-clause-settled : goal.returns-then-conflicts-eq0-clause-settled
+returns-then-conflicts-eq0-clause-settled c =
+    let is = rw c.circuit-circuit.ensures.value at c.circuit-circuit.ensures.circuit in
+    let none = c.if-conflicts-eq0.true in
+    rw c.new.ensures (unlearned_by c.args.setting.now.circuit is c.args.f.now c.args.g.now c.args.setting.now.budgets c.args.tree c.requires.open (rw c.budgets-conflicts.ensures.value at none))
+
+pub solve-requires-clause-few : goal.solve-requires-clause-few
+solve-requires-clause-few c =
+    let is = rw c.circuit-circuit.ensures.value at c.circuit-circuit.ensures.circuit in
+    let clauses = rw c.circuit-circuit.ensures.value at c.in_ok-miter.ensures.clauses in
+    rw clauses (omega (arith, few_clauses c.args.setting.now.circuit c.args.f.now c.args.g.now is, c.budgets-conflicts.ensures.limits.conflicts))
+
+pub returns-in-Refuted-clause-settled : goal.returns-in-Refuted-clause-settled
+returns-in-Refuted-clause-settled c =
+    let is = rw c.circuit-circuit.ensures.value at c.circuit-circuit.ensures.circuit in
+    refuted_by c.args.setting.now.circuit is c.args.f.now c.args.g.now c.args.setting.now.budgets c.args.tree c.requires.open (rw c.budgets-conflicts.ensures.value at c.budgets-conflicts.ensures.limits) c.solve.new.pool.clauses c.in-Refuted.log
+    (rw (c.in-Refuted.is, c.in_ok-miter.ensures.miter, c.circuit-circuit.ensures.value, c.budgets-conflicts.ensures.value) at c.in_ok-solved.ensures.solved)
+
+pub returns-in-Spent-clause-settled : goal.returns-in-Spent-clause-settled
+returns-in-Spent-clause-settled c =
+    let is = rw c.circuit-circuit.ensures.value at c.circuit-circuit.ensures.circuit in
+    spent_by c.args.setting.now.circuit is c.args.f.now c.args.g.now c.args.setting.now.budgets c.args.tree c.requires.open (rw c.budgets-conflicts.ensures.value at c.budgets-conflicts.ensures.limits) c.solve.new.pool.clauses c.in-Spent.log
+    (rw (c.in-Spent.is, c.in_ok-miter.ensures.miter, c.circuit-circuit.ensures.value, c.budgets-conflicts.ensures.value) at c.in_ok-solved.ensures.solved)

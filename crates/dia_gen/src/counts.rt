@@ -1,0 +1,45 @@
+//! How many members are marked equal, and how many are left open.
+
+ghost use Rattle.std.specs.Prelude.{◌≡◌, ◌<◌, ◌+◌, ◌^◌, length};
+ghost use Rattle.dia_gen.specs.Given.{AreAllMarked};
+ghost use Rattle.dia_gen.specs.Marked.{marked_with, AreMarkedBelow};
+
+use crate::marks::Marks;
+use class_refine::Classes;
+use result_file::Mark;
+
+// How many members are marked equal, and how many are left open.
+#[derive(Clone, Copy)]
+pub(crate) struct Marked {
+    pub(crate) equal: u32,
+    pub(crate) spent: u32,
+}
+
+impl Marked {
+    // One more number with this mark.
+    fn count(&mut self, mark: Mark)
+        requires equal { self.old.equal + 1 < 2 ^ 32 }
+        requires spent { self.old.spent + 1 < 2 ^ 32 }
+        ensures { self.new ≡ marked_with self.old mark }
+    {
+        match mark {
+            Mark::Rep => {}
+            Mark::Equal => self.equal += 1,
+            Mark::Spent => self.spent += 1,
+        }
+    }
+}
+
+// Counts the marks of all numbers.
+pub(crate) fn count_marks(classes: &Classes, marks: &Marks, numbers: u32) -> Marked
+    requires numbers { numbers ≡ length classes.now.class_of }
+    requires whole { length marks.now.given.items ≡ length classes.now.class_of }
+    requires marked { AreAllMarked classes.now marks.now.given.items }
+    ensures { AreMarkedBelow classes.now marks.now.given.items numbers result }
+{
+    let mut marked = Marked { equal: 0, spent: 0 };
+    for number in 0..numbers {
+        marked.count(marks.of(classes, number).unwrap());
+    }
+    marked
+}

@@ -1,0 +1,112 @@
+//! Lines that are written to a shelf as they are made.
+
+ghost use Rattle.std.specs.Prelude.{◌≡◌, ◌∷◌, [], map, length};
+ghost use Rattle.net_model.specs.ClassTable.{number_range};
+ghost use Rattle.result_file.specs.declared.record.Record.TheVariants.{Pattern};
+ghost use Rattle.result_file.specs.Spelling.{text_of};
+ghost use Rattle.result_file.specs.Meaning.{class_records, member_records};
+ghost use Rattle.dia_gen.specs.Made.{head_lines};
+ghost use Rattle.dia_gen.specs.Given.{AreAllMarked, member_for};
+ghost use Rattle.dia_gen.specs.Writing.{WritesText};
+
+use crate::marks::Marks;
+use crate::setting::Setting;
+use class_refine::Classes;
+use diag_shelf::{Shelf, ShelfFault, write_all};
+use net_model::Vector;
+use result_file::{Record, push_pattern, write_record};
+use std::alloc::Global;
+
+// Writes the line of a record.
+pub(crate) fn write_line<S: Shelf>(
+    alloc: Global,
+    shelf: &mut S,
+    line: &Record,
+) -> Result<(), ShelfFault>
+    ensures { WritesText (text_of (line.now ∷ [])) result (S.state shelf.old) (S.state shelf.new) }
+{
+    match write_record(alloc, line) {
+        Ok(text) => write_all(shelf, &text),
+        Err(_) => Err(ShelfFault::NoMemory),
+    }
+}
+
+// Writes the line of a pattern.
+pub(crate) fn write_pattern<S: Shelf>(
+    alloc: Global,
+    shelf: &mut S,
+    v: &Vector,
+) -> Result<(), ShelfFault>
+    ensures { WritesText (text_of (Pattern v.now ∷ [])) result (S.state shelf.old) (S.state shelf.new) }
+{
+    let mut text = String::new(alloc);
+    match push_pattern(&mut text, v) {
+        Ok(()) => write_all(shelf, text.as_bytes()),
+        Err(_) => Err(ShelfFault::NoMemory),
+    }
+}
+
+// Writes the first two lines.
+pub(crate) fn write_head<S: Shelf>(
+    alloc: Global,
+    shelf: &mut S,
+    setting: &Setting,
+) -> Result<(), ShelfFault>
+    ensures { WritesText (text_of (head_lines setting.now.circuit setting.now.budgets)) result (S.state shelf.old) (S.state shelf.new) }
+{
+    let circuit = setting.circuit();
+    let positions = circuit.positions().len() as u32;
+    let head = Record::Head(circuit.sources(), positions, setting.numbers());
+    write_line(alloc, shelf, &head)?;
+    write_line(alloc, shelf, &Record::Budget(setting.budgets()))
+}
+
+// Writes a line for each pattern.
+pub(crate) fn write_patterns<S: Shelf>(
+    alloc: Global,
+    shelf: &mut S,
+    patterns: &[Vector],
+) -> Result<(), ShelfFault>
+    ensures { WritesText (text_of (map Pattern patterns.now)) result (S.state shelf.old) (S.state shelf.new) }
+{
+    for pattern in patterns {
+        write_pattern(alloc, shelf, pattern)?;
+    }
+    Ok(())
+}
+
+// Writes a line for each class.
+pub(crate) fn write_classes<S: Shelf>(
+    alloc: Global,
+    shelf: &mut S,
+    classes: &Classes,
+) -> Result<(), ShelfFault>
+    ensures { WritesText (text_of (class_records classes.now.births)) result (S.state shelf.old) (S.state shelf.new) }
+{
+    for class in 0..classes.count() {
+        let line = Record::Class(class, classes.born(class));
+        write_line(alloc, shelf, &line)?;
+    }
+    Ok(())
+}
+
+// Writes a line for each number.
+pub(crate) fn write_members<S: Shelf>(
+    alloc: Global,
+    shelf: &mut S,
+    classes: &Classes,
+    marks: &Marks,
+    numbers: u32,
+) -> Result<(), ShelfFault>
+    requires numbers { numbers ≡ length classes.now.class_of }
+    requires whole { length marks.now.given.items ≡ length classes.now.class_of }
+    requires marked { AreAllMarked classes.now marks.now.given.items }
+    ensures { WritesText (text_of (member_records (map (member_for classes.now marks.now.given.items) (number_range classes.now)))) result (S.state shelf.old) (S.state shelf.new) }
+{
+    for number in 0..numbers {
+        let mark = marks.of(classes, number).unwrap();
+        let line = Record::Member(number, classes.class_of(number), mark);
+        write_line(alloc, shelf, &line)?;
+    }
+    Ok(())
+}

@@ -1,0 +1,107 @@
+-- What a reader answers, from what the readers of its parts answer.
+use Rattle.std.proofs.Common.{◌≡◌, ◌≢◌, ◌∙◌, ℕ, ◌<◌, ◌≤◌, Bool, true, false, not, List, [], ◌∷◌, ◌++◌, map, length, get_or, Option, Some, None, Result, Ok, Err, refl, sym, ap, arith}
+use Rattle.std.specs.Prelude.{All, ◌==◌, flat_map, codes, decimal, MatchOption, IfOk, IsErrOf, IsSome, ⊤}
+use Rattle.std.specs.Option.{option_to_list}
+use Rattle.std.specs.List.{slice_split}
+use Rattle.std.specs.Result.{result_ok}
+use Rattle.std.specs.Str.Parse.{ParsesUnsigned}
+use Rattle.net_model.specs.BitText.{bit_digit, bits_text}
+use Rattle.clause_pool.specs.Literal.{Literal}
+use Rattle.pair_miter.specs.ChainView.{ChainView}
+use Rattle.result_file.specs.declared.record.Record.{Record}
+use Rattle.result_file.specs.declared.fault.RecordFault.{RecordFault}
+use Rattle.result_file.specs.declared.fault.RecordFault.TheVariants.{Syntax, NoMemory}
+use Rattle.result_file.specs.Spelling.{Text, fields, spelling, literal_field, step_fields, clause_fields, chain_fields, IsNumber, IsVariable, IsLiteral, HasStepSpelling, HasLiteralSpelling, HasChainSpelling, IsFreshChain, HasSpelling, IsNoSpelling}
+use Rattle.result_file.specs.Reading.{Reads}
+use Rattle.result_file.proofs.DigitLemmas.{text_of_digits, no_dash_digits}
+use Rattle.result_file.proofs.OnceLemmas.{tails, first_byte, first_digit, literal_once, number_once, parsed_number, unparsed_number}
+use Rattle.result_file.proofs.ReadLemmas.{spelled_by, fields_by}
+
+-- a fault that is handed on
+pub turned : {X Y Z W : Type 0} (P : X → Type 0) (f : X → Y) (y : Y) (Q : Z → Type 0) (g : Z → W) (w : W) (fault : RecordFault) → Reads P f y (Err fault)
+    → (((x : X) → P x → f x ≡ y → ⊥) → (z : Z) → Q z → g z ≡ w → ⊥) → Reads Q g w (Err fault)
+turned P f y Q g w Syntax reads turn = turn reads
+turned P f y Q g w NoMemory reads turn = tt
+
+pub not_true : (b : Bool) → true ≡ not b → false ≡ b
+not_true true e = absurd (cc)
+not_true false e = refl
+
+pub not_false : (b : Bool) → false ≡ not b → true ≡ b
+not_false true e = refl
+not_false false e = absurd (cc)
+
+-- three items
+pub three_texts : {B : Type 0} (now : B → Text) (xs : List B) (d : B) → 3 ≤ length xs → length xs < 4 → map now xs ≡ now (get_or xs 0 d) ∷ now (get_or xs 1 d) ∷ now (get_or xs 2 d) ∷ []
+three_texts now [] d low high = absurd (omega (arith, low))
+three_texts now (x ∷ []) d low high = absurd (omega (arith, low))
+three_texts now (x ∷ y ∷ []) d low high = absurd (omega (arith, low))
+three_texts now (x ∷ y ∷ z ∷ []) d low high = refl
+three_texts now (x ∷ y ∷ z ∷ w ∷ more) d low high = absurd (omega (arith, high))
+
+-- ---- numbers and literals
+
+pub number_read : {E : Type 0} (text : Text) (r : Result ℕ E) → ParsesUnsigned 32 10 text r → (first_byte text ≡ 43 → ⊥) → (first_byte text ≡ 48 → length text ≡ 1)
+    → MatchOption (result_ok r) ((n : ℕ) → IsNumber n → decimal n ≢ text) (λ n. IsNumber n × (decimal n ≡ text))
+number_read {E} text (Ok n) parses plain alone = parsed_number {E = E} n text (Ok n) parses refl plain alone
+number_read {E} text (Err fault) parses plain alone = λ n small e. unparsed_number {E = E} n text (Err fault) fault parses refl small e
+
+no_negative : (positive : Bool) (n : ℕ) (digits : Text) → IsVariable n → ((m : ℕ) → IsVariable m → decimal m ≡ digits → ⊥) → literal_field (record { variable = n; positive = positive }) ≡ 45 ∷ digits → ⊥
+no_negative true n digits small never e = omega (arith, first_digit n (omega (arith, small.1)), ap first_byte e)
+no_negative false n digits small never e = never n small (tails e).1
+
+pub negative_none : (field digits : Text) → field ≡ 45 ∷ digits → ((m : ℕ) → IsVariable m → decimal m ≡ digits → ⊥) → (l : Literal) → IsLiteral l → literal_field l ≡ field → ⊥
+negative_none field digits is never l small e = no_negative l.positive l.variable digits small never (e ∙ is)
+
+no_positive : (positive : Bool) (n : ℕ) (field : Text) → IsVariable n → ((rest : Text) → field ≡ 45 ∷ rest → ⊥) → ((m : ℕ) → IsVariable m → decimal m ≡ field → ⊥) → literal_field (record { variable = n; positive = positive }) ≡ field → ⊥
+no_positive true n field small dash never e = never n small e
+no_positive false n field small dash never e = dash (decimal n) (sym e)
+
+pub positive_none : (field : Text) → ((rest : Text) → field ≡ 45 ∷ rest → ⊥) → ((m : ℕ) → IsVariable m → decimal m ≡ field → ⊥) → (l : Literal) → IsLiteral l → literal_field l ≡ field → ⊥
+positive_none field dash never l small e = no_positive l.positive l.variable field small dash never e
+
+-- ---- bits
+
+pub bits_read : (field : Text) (r : Result (List Bool) RecordFault) → (length field ≡ 0 → ⊥) → (field ≡ codes "-" → ⊥) → Reads (λ bits. ⊤) (map bit_digit) field r → Reads (λ bits. ⊤) bits_text field r
+bits_read field (Ok bits) some dash reads = (tt, text_of_digits bits field reads.1 some)
+bits_read field (Err Syntax) some dash reads = λ bits any e. no_dash_digits bits field (λ others is. reads others tt is) dash e
+bits_read field (Err NoMemory) some dash reads = tt
+
+-- ---- chains
+
+-- The steps of a chain with this start and literal.
+abbrev pub IsStepped : ℕ → Option Literal → ChainView → Type 0
+IsStepped start at other = All HasStepSpelling other.steps × (other.start ≡ start) × (other.fresh_at ≡ at)
+
+pub clauses_read : (start : ℕ) (at : Option Literal) (field : Text) (texts : List Text) (r : Result ChainView RecordFault) → IsNumber start → HasLiteralSpelling at → decimal start ≡ field
+    → Reads (IsStepped start at) (λ (other : ChainView). flat_map step_fields other.steps) texts r → Reads (λ (chain : ChainView). HasChainSpelling chain × (chain.fresh_at ≡ at)) clause_fields (field ∷ texts) r
+clauses_read start at field texts (Ok chain) small literal is reads =
+    ((record { start = rw reads.0.1 small; fresh_at = rw reads.0.2 literal; steps = reads.0.0 }, reads.0.2), (λ i. ap decimal reads.0.1 i ∷ reads.1 i) ∙ ap (λ (text : Text). text ∷ texts) is)
+clauses_read start at field texts (Err Syntax) small literal is reads = λ chain spelled e.
+    reads chain (spelled.0.steps, number_once chain.start start spelled.0.start small ((tails e).0 ∙ sym is), spelled.1) (tails e).1
+clauses_read start at field texts (Err NoMemory) small literal is reads = tt
+
+fresh_by : (at : Literal) (field : Text) (texts : List Text) (o : Option Literal) (clauses : List Text) → IsLiteral at → literal_field at ≡ field → HasLiteralSpelling o → IsSome o
+    → map literal_field (option_to_list o) ++ clauses ≡ field ∷ texts → (o ≡ Some at) × (clauses ≡ texts)
+fresh_by at field texts None clauses small is spelled some e = absurd (cc)
+fresh_by at field texts (Some l) clauses small is spelled some e = (ap (λ (k : Literal). Some k) (literal_once l at spelled small ((tails e).0 ∙ sym is)), (tails e).1)
+
+pub fresh_read : (at : Literal) (field : Text) (texts : List Text) (r : Result ChainView RecordFault) → IsLiteral at → literal_field at ≡ field
+    → Reads (λ (chain : ChainView). HasChainSpelling chain × (chain.fresh_at ≡ Some at)) clause_fields texts r → Reads IsFreshChain chain_fields (field ∷ texts) r
+fresh_read at field texts (Ok chain) small is reads =
+    ((reads.0.0, rw reads.0.1 refl), ap (λ (o : Option Literal). map literal_field (option_to_list o) ++ clause_fields chain) reads.0.1 ∙ (λ i. is i ∷ reads.1 i))
+fresh_read at field texts (Err Syntax) small is reads = λ chain spelled e.
+    let parts = fresh_by at field texts chain.fresh_at (clause_fields chain) small is spelled.0.fresh_at spelled.1 e in
+    reads chain (spelled.0, parts.0) parts.1
+fresh_read at field texts (Err NoMemory) small is reads = tt
+
+-- ---- lines
+
+pub record_read : (line : Text) (texts : List Text) → texts ≡ slice_split (λ b. b == 32) line → (r : Result Record RecordFault) → Reads HasSpelling fields texts r → IfOk r (λ r. HasSpelling r × (spelling r ≡ line))
+record_read line texts cut (Ok r) reads = (reads.0, spelled_by r line (reads.1 ∙ cut))
+record_read line texts cut (Err fault) reads = tt
+
+pub record_refused : (line : Text) (texts : List Text) → texts ≡ slice_split (λ b. b == 32) line → (r : Result Record RecordFault) → Reads HasSpelling fields texts r → IsErrOf r Syntax → IsNoSpelling line
+record_refused line texts cut (Ok r) reads err = absurd (cc)
+record_refused line texts cut (Err Syntax) reads err = λ r small e. reads r small (fields_by r line small e ∙ sym cut)
+record_refused line texts cut (Err NoMemory) reads err = absurd (cc)

@@ -1,0 +1,137 @@
+-- A line is refused in one way, and only where it isn't right.
+use Rattle.std.proofs.Common.{◌≡◌, ◌≢◌, ◌∙◌, List, [], ◌∷◌, ◌++◌, sym, ap}
+use Rattle.net_model.specs.declared.fault.Fault.{Fault}
+use Rattle.net_model.specs.Circuit.{Circuit, IsCircuit}
+use Rattle.net_model.specs.ClassTable.{ClassTable}
+use Rattle.pair_miter.specs.ChainView.{ChainView}
+use Rattle.pair_miter.specs.Miter.{miter}
+use Rattle.pair_sets.specs.declared.tree.Token.{Token}
+use Rattle.refute_check.specs.declared.refusal.EvidenceKind.{EvidenceKind}
+use Rattle.refute_check.specs.declared.refusal.EvidenceKind.TheVariants.{Covered, Refuted, Spent}
+use Rattle.refute_check.specs.declared.refusal.Refusal.{Refusal}
+use Rattle.refute_check.specs.TreeRefusal.{IsRightTree}
+use Rattle.refute_check.specs.LogRefusal.{IsRightLog}
+use Rattle.refute_check.proofs.TreeLaws as trees
+use Rattle.refute_check.proofs.LogLaws as logs
+use Rattle.result_file.specs.declared.record.Budgets.{Budgets}
+use Rattle.result_file.specs.declared.record.Proof.{Proof}
+use Rattle.result_file.specs.declared.record.Proof.TheVariants as proof
+use Rattle.result_file.specs.declared.record.Evidence.{Evidence}
+use Rattle.result_file.specs.declared.record.Record.{Record}
+use Rattle.result_file.specs.declared.record.Record.TheVariants.{Head, Budget, Pattern, Same, Class, Member, End}
+use Rattle.result_file.specs.declared.fault.ResultKind.{ResultKind}
+use Rattle.result_file.specs.declared.fault.ResultKind.TheVariants as why
+use Rattle.result_file.specs.Spelling.{Text, spelling, HasSpelling}
+use Rattle.result_file.specs.Lines.{budgets_in, IsRightContent, IsRightProof, IsRightLine}
+use Rattle.result_file.specs.Refusal.{PairRefused, ProofRefused, EvidenceRefused, ContentRefused, RestRefused, partner_fault, member_fault}
+use Rattle.result_file.specs.Refusal.PairRefused.{by_tree, by_log}
+use Rattle.result_file.specs.Refusal.EvidenceRefused.{by_name, by_roots, by_proof}
+use Rattle.result_file.specs.Refusal.RestRefused.{no_line, no_record, misplaced, wrong}
+use Rattle.result_file.proofs.FieldLemmas.{no_line_feed}
+use Rattle.result_file.proofs.HeldLemmas.{line_once}
+use Rattle.result_file.proofs.OnceLemmas.{spelling_once}
+use Rattle.result_file.proofs.TableLemmas.{table_once}
+
+module _ (c : Circuit) (f g : Fault) (budgets : Budgets) where
+  pair_wrong : (kind : EvidenceKind) → kind ≢ Covered → (tree : List Token) (log : List ChainView) (refusal : Refusal) → PairRefused c f g kind budgets tree log refusal
+      → IsRightTree c f g kind budgets.cubes tree → IsRightLog kind (miter c f g) budgets.conflicts log → ⊥
+  pair_wrong kind some tree log refusal (by_tree refused) right right_log = trees.refused_is_wrong c f g kind budgets.cubes tree refusal refused right
+  pair_wrong kind some tree log refusal (by_log whole refused) right right_log = logs.refused_is_wrong kind (miter c f g) budgets.conflicts log refusal some refused right_log
+
+  pair_once : (kind : EvidenceKind) (tree : List Token) (log : List ChainView) (refusal other : Refusal) → PairRefused c f g kind budgets tree log refusal → PairRefused c f g kind budgets tree log other → refusal ≡ other
+  pair_once kind tree log refusal other (by_tree first) (by_tree second) = trees.one_refusal c f g kind budgets.cubes tree refusal other first second
+  pair_once kind tree log refusal other (by_tree first) (by_log right second) = absurd (trees.refused_is_wrong c f g kind budgets.cubes tree refusal first right)
+  pair_once kind tree log refusal other (by_log right first) (by_tree second) = absurd (trees.refused_is_wrong c f g kind budgets.cubes tree other second right)
+  pair_once kind tree log refusal other (by_log right first) (by_log right' second) = logs.one_refusal kind (miter c f g) log budgets.conflicts refusal other first second
+
+  proof_wrong : (p : Proof) (refusal : Refusal) → ProofRefused c f g budgets p refusal → IsRightProof c f g budgets p → ⊥
+  proof_wrong proof.Collapse refusal refused right = refused
+  proof_wrong (proof.Covered tree) refusal refused right = trees.refused_is_wrong c f g Covered budgets.cubes tree refusal refused right
+  proof_wrong (proof.Refuted tree log) refusal refused right = pair_wrong Refuted (λ e. cc) tree log refusal refused right.0 right.1
+  proof_wrong (proof.Spent tree log) refusal refused right = pair_wrong Spent (λ e. cc) tree log refusal refused right.0 right.1
+
+  proof_refused_once : (p : Proof) (refusal other : Refusal) → ProofRefused c f g budgets p refusal → ProofRefused c f g budgets p other → refusal ≡ other
+  proof_refused_once proof.Collapse refusal other first second = absurd first
+  proof_refused_once (proof.Covered tree) refusal other first second = trees.one_refusal c f g Covered budgets.cubes tree refusal other first second
+  proof_refused_once (proof.Refuted tree log) refusal other first second = pair_once Refuted tree log refusal other first second
+  proof_refused_once (proof.Spent tree log) refusal other first second = pair_once Spent tree log refusal other first second
+
+module _ (c : Circuit) (t : ClassTable) (before : List Record) where
+  evidence_once : (e : Evidence) (reason other : ResultKind) → EvidenceRefused c t before e reason → EvidenceRefused c t before e other → reason ≡ other
+  evidence_once e reason other (by_name never is) (by_name never' is') = is ∙ sym is'
+  evidence_once e reason other (by_name never is) (by_roots name never' is') = absurd (never name)
+  evidence_once e reason other (by_name never is) (by_proof refusal name roots refused is') = absurd (never name)
+  evidence_once e reason other (by_roots name never is) (by_name never' is') = absurd (never' name)
+  evidence_once e reason other (by_roots name never is) (by_roots name' never' is') = is ∙ sym is'
+  evidence_once e reason other (by_roots name never is) (by_proof refusal name' roots refused is') = absurd (never roots)
+  evidence_once e reason other (by_proof refusal name roots refused is) (by_name never' is') = absurd (never' name)
+  evidence_once e reason other (by_proof refusal name roots refused is) (by_roots name' never' is') = absurd (never' roots)
+  evidence_once e reason other (by_proof refusal name roots refused is) (by_proof refusal' name' roots' refused' is') =
+      is ∙ ap (λ (r : Refusal). why.Evidence r) (proof_refused_once c (partner_fault c t before e) (member_fault c t before e) (budgets_in before) e.proof refusal refusal' refused refused') ∙ sym is'
+
+  content_wrong : (r : Record) (reason : ResultKind) → ContentRefused c t before r reason → IsRightContent c t before r → ⊥
+  content_wrong (Head sources positions numbers) reason refused right = refused.0 right
+  content_wrong (Budget budgets) reason refused right = refused.0 right
+  content_wrong (Pattern bits) reason refused right = refused.0 right
+  content_wrong (Same e) reason (by_name never is) right = never right.next
+  content_wrong (Same e) reason (by_roots name never is) right = never right.roots
+  content_wrong (Same e) reason (by_proof refusal name roots refused is) right = proof_wrong c (partner_fault c t before e) (member_fault c t before e) (budgets_in before) e.proof refusal refused right.right
+  content_wrong (Class number birth) reason refused right = refused.0 right
+  content_wrong (Member number class m) reason refused right = refused.0 right
+  content_wrong End reason refused right = refused
+
+  content_once : (r : Record) (reason other : ResultKind) → ContentRefused c t before r reason → ContentRefused c t before r other → reason ≡ other
+  content_once (Head sources positions numbers) reason other first second = first.1 ∙ sym second.1
+  content_once (Budget budgets) reason other first second = first.1 ∙ sym second.1
+  content_once (Pattern bits) reason other first second = first.1 ∙ sym second.1
+  content_once (Same e) reason other first second = evidence_once e reason other first second
+  content_once (Class number birth) reason other first second = first.1 ∙ sym second.1
+  content_once (Member number class m) reason other first second = first.1 ∙ sym second.1
+  content_once End reason other first second = absurd first
+
+-- the record on the first line of a text, and what stands behind it
+pub record_once : (r other : Record) (more rest : Text) → HasSpelling r → HasSpelling other → spelling r ++ 10 ∷ more ≡ spelling other ++ 10 ∷ rest → (r ≡ other) × (more ≡ rest)
+record_once r other more rest first second e =
+    let line = line_once (spelling r) (spelling other) more rest (no_line_feed r first) (no_line_feed other second) e in
+    (spelling_once r other first second line.0, line.1)
+
+pub empty_line : (text more : Text) → [] ≡ text ++ 10 ∷ more → ⊥
+empty_line [] more e = cc
+empty_line (b ∷ text) more e = cc
+
+module _ (c : Circuit) (is : IsCircuit c) (before : List Record) (rest : Text) where
+  -- a refused line isn't right
+  pub rest_wrong : (reason : ResultKind) (r : Record) (more : Text) → RestRefused c before rest reason → rest ≡ spelling r ++ 10 ∷ more → HasSpelling r → IsRightLine c before r → ⊥
+  rest_wrong reason r more (no_line nothing unended is_order) line spelled right = empty_line (spelling r) more (sym nothing ∙ line)
+  rest_wrong reason r more (no_record some never is_syntax) line spelled right = never r more spelled line
+  rest_wrong reason r more (misplaced r' more' t line' spelled' table out is_order) line spelled right =
+      let same = (record_once r' r more' more spelled' spelled (sym line' ∙ line)).0 in
+      out (rw (same, table_once c is table right.table) right.place)
+  rest_wrong reason r more (wrong r' more' t line' spelled' table place refused) line spelled right =
+      let same = (record_once r' r more' more spelled' spelled (sym line' ∙ line)).0 in
+      content_wrong c t before r' reason refused (rw (same, table_once c is table right.table) right.content)
+
+  -- the rule that it breaks is one
+  pub rest_once : (reason other : ResultKind) → RestRefused c before rest reason → RestRefused c before rest other → reason ≡ other
+  rest_once reason other (no_line nothing unended why_first) (no_line nothing' unended' why_second) = why_first ∙ sym why_second
+  rest_once reason other (no_line nothing unended why_first) (no_record some never why_second) = absurd (some nothing)
+  rest_once reason other (no_line nothing unended why_first) (misplaced r more t line spelled table out why_second) = absurd (empty_line (spelling r) more (sym nothing ∙ line))
+  rest_once reason other (no_line nothing unended why_first) (wrong r more t line spelled table place refused) = absurd (empty_line (spelling r) more (sym nothing ∙ line))
+  rest_once reason other (no_record some never why_first) (no_line nothing unended why_second) = absurd (some nothing)
+  rest_once reason other (no_record some never why_first) (no_record some' never' why_second) = why_first ∙ sym why_second
+  rest_once reason other (no_record some never why_first) (misplaced r more t line spelled table out why_second) = absurd (never r more spelled line)
+  rest_once reason other (no_record some never why_first) (wrong r more t line spelled table place refused) = absurd (never r more spelled line)
+  rest_once reason other (misplaced r more t line spelled table out why_first) (no_line nothing unended why_second) = absurd (empty_line (spelling r) more (sym nothing ∙ line))
+  rest_once reason other (misplaced r more t line spelled table out why_first) (no_record some never why_second) = absurd (never r more spelled line)
+  rest_once reason other (misplaced r more t line spelled table out why_first) (misplaced r' more' t' line' spelled' table' out' why_second) = why_first ∙ sym why_second
+  rest_once reason other (misplaced r more t line spelled table out why_first) (wrong r' more' t' line' spelled' table' place refused) =
+      let same = (record_once r r' more more' spelled spelled' (sym line ∙ line')).0 in
+      absurd (out (rw (same, table_once c is table table') place))
+  rest_once reason other (wrong r more t line spelled table place refused) (no_line nothing unended why_second) = absurd (empty_line (spelling r) more (sym nothing ∙ line))
+  rest_once reason other (wrong r more t line spelled table place refused) (no_record some never why_second) = absurd (never r more spelled line)
+  rest_once reason other (wrong r more t line spelled table place refused) (misplaced r' more' t' line' spelled' table' out why_second) =
+      let same = (record_once r r' more more' spelled spelled' (sym line ∙ line')).0 in
+      absurd (out (rw (sym same, sym (table_once c is table table')) place))
+  rest_once reason other (wrong r more t line spelled table place refused) (wrong r' more' t' line' spelled' table' place' refused') =
+      let same = (record_once r r' more more' spelled spelled' (sym line ∙ line')).0 in
+      content_once c t before r reason other refused (rw (same, table_once c is table table') refused')

@@ -1,0 +1,88 @@
+-- Which line of a file that isn't valid is refused, and by which rule.
+use Rattle.std.specs.Prelude.{◌≡◌, ◌≢◌, ℕ, ◌+◌, ◌<◌, ◌≤◌, ◌^◌, min, not, ◌==◌, take_while, List, [], ◌∷◌, ◌++◌, length}
+use Rattle.net_model.specs.declared.fault.Fault.{Fault}
+use Rattle.net_model.specs.Circuit.{Circuit}
+use Rattle.net_model.specs.ClassTable.{ClassTable}
+use Rattle.net_model.specs.FaultList.{fault_numbered}
+use Rattle.net_model.specs.PatternRows.{IsTableOf}
+use Rattle.pair_miter.specs.Miter.{miter}
+use Rattle.pair_sets.specs.declared.tree.Token.{Token}
+use Rattle.pair_miter.specs.ChainView.{ChainView}
+use Rattle.refute_check.specs.declared.refusal.EvidenceKind.{EvidenceKind}
+use Rattle.refute_check.specs.declared.refusal.EvidenceKind.TheVariants as kind
+use Rattle.refute_check.specs.TreeRefusal.{TreeRefused, IsRightTree}
+use Rattle.refute_check.specs.LogRefusal.{LogRefused}
+use Rattle.refute_check.specs.declared.refusal.Refusal.{Refusal}
+use Rattle.result_file.specs.declared.record.Proof.{Proof}
+use Rattle.result_file.specs.declared.record.Proof.TheVariants as proof
+use Rattle.result_file.specs.declared.record.Evidence.{Evidence}
+use Rattle.result_file.specs.declared.record.Budgets.{Budgets}
+use Rattle.result_file.specs.declared.record.Record.{Record}
+use Rattle.result_file.specs.declared.record.Record.TheVariants as line
+use Rattle.result_file.specs.declared.fault.ResultKind.{ResultKind}
+use Rattle.result_file.specs.declared.fault.ResultKind.TheVariants as why
+use Rattle.result_file.specs.declared.fault.ResultFault.{ResultFault}
+use Rattle.result_file.specs.Spelling.{Text, spelling, text_of, HasSpelling}
+use Rattle.result_file.specs.Marks.{patterns_in, end_lines}
+use Rattle.result_file.specs.Lines.{budgets_in, IsInPlace, IsRightContent, NamesNext, HasRightRoots}
+use Rattle.result_file.specs.Valid.{AreRightLines}
+
+-- ---- evidence
+
+-- The proof is refused so: its tree first, and then its log.
+pub data PairRefused (c : Circuit) (f g : Fault) (kind : EvidenceKind) (budgets : Budgets) (tree : List Token) (log : List ChainView) (refusal : Refusal) : Type 0 where
+  by_tree : TreeRefused c f g kind budgets.cubes tree refusal → PairRefused c f g kind budgets tree log refusal
+  by_log : IsRightTree c f g kind budgets.cubes tree → LogRefused kind (miter c f g) budgets.conflicts log refusal → PairRefused c f g kind budgets tree log refusal
+
+abbrev pub ProofRefused : Circuit → Fault → Fault → Budgets → Proof → Refusal → Type 0
+ProofRefused c f g budgets proof.Collapse refusal = ⊥
+ProofRefused c f g budgets (proof.Covered tree) refusal = TreeRefused c f g kind.Covered budgets.cubes tree refusal
+ProofRefused c f g budgets (proof.Refuted tree log) refusal = PairRefused c f g kind.Refuted budgets tree log refusal
+ProofRefused c f g budgets (proof.Spent tree log) refusal = PairRefused c f g kind.Spent budgets tree log refusal
+
+module _ (c : Circuit) (t : ClassTable) (before : List Record) (evidence : Evidence) where
+  abbrev pub partner_fault : Fault
+  partner_fault = fault_numbered c evidence.partner
+
+  abbrev pub member_fault : Fault
+  member_fault = fault_numbered c evidence.member
+
+  -- Evidence is refused so: for what it names, then for the roots, then for its proof.
+  pub data EvidenceRefused (reason : ResultKind) : Type 0 where
+    by_name : ¬ NamesNext t before evidence → reason ≡ why.Member → EvidenceRefused reason
+    by_roots : NamesNext t before evidence → ¬ HasRightRoots c partner_fault member_fault evidence.proof → reason ≡ why.Roots → EvidenceRefused reason
+    by_proof : (refusal : Refusal) → NamesNext t before evidence → HasRightRoots c partner_fault member_fault evidence.proof → ProofRefused c partner_fault member_fault (budgets_in before) evidence.proof refusal → reason ≡ why.Evidence refusal → EvidenceRefused reason
+
+-- ---- lines
+
+-- A record in its place is refused so.
+abbrev pub ContentRefused : Circuit → ClassTable → List Record → Record → ResultKind → Type 0
+ContentRefused c t before (line.Head sources positions numbers) reason = ¬ IsRightContent c t before (line.Head sources positions numbers) × (reason ≡ why.Head)
+ContentRefused c t before (line.Budget budgets) reason = ¬ IsRightContent c t before (line.Budget budgets) × (reason ≡ why.Head)
+ContentRefused c t before (line.Pattern bits) reason = ¬ IsRightContent c t before (line.Pattern bits) × (reason ≡ why.Pattern)
+ContentRefused c t before (line.Same evidence) reason = EvidenceRefused c t before evidence reason
+ContentRefused c t before (line.Class number birth) reason = ¬ IsRightContent c t before (line.Class number birth) × (reason ≡ why.Table)
+ContentRefused c t before (line.Member number class mark) reason = ¬ IsRightContent c t before (line.Member number class mark) × (reason ≡ why.Table)
+ContentRefused c t before line.End reason = ⊥
+
+-- how long the first line of a text is, with its LF if it has one
+abbrev pub line_length : Text → ℕ
+line_length rest = min (length rest) (length (take_while (λ byte. not (byte == 10)) rest) + 1)
+
+-- No record that can be written is spelled so on the first line.
+abbrev pub IsNoRecord : Text → Type 0
+IsNoRecord rest = (r : Record) (more : Text) → HasSpelling r → rest ≢ spelling r ++ 10 ∷ more
+
+-- What stands behind right lines is refused so.
+pub data RestRefused (c : Circuit) (before : List Record) (rest : Text) (reason : ResultKind) : Type 0 where
+  no_line : rest ≡ [] → end_lines before ≡ 0 → reason ≡ why.Order → RestRefused c before rest reason
+  no_record : rest ≢ [] → IsNoRecord rest → reason ≡ why.Syntax → RestRefused c before rest reason
+  misplaced : (r : Record) (more : Text) (t : ClassTable) → rest ≡ spelling r ++ 10 ∷ more → HasSpelling r → IsTableOf c (patterns_in before) t → ¬ IsInPlace t before r → reason ≡ why.Order → RestRefused c before rest reason
+  wrong : (r : Record) (more : Text) (t : ClassTable) → rest ≡ spelling r ++ 10 ∷ more → HasSpelling r → IsTableOf c (patterns_in before) t → IsInPlace t before r → ContentRefused c t before r reason → RestRefused c before rest reason
+
+-- ---- files: 2^40 bytes are the most
+
+-- The file is refused so: at its first line that isn't right, or at the line that goes beyond the limit.
+pub data FileRefused (c : Circuit) (file : Text) (fault : ResultFault) : Type 0 where
+  at_line : (before : List Record) (rest : Text) (reason : ResultKind) → file ≡ text_of before ++ rest → AreRightLines c before → length (text_of before) + line_length rest ≤ 2 ^ 40 → RestRefused c before rest reason → fault ≡ record { kind = reason; line = length before + 1 } → FileRefused c file fault
+  too_long : (before : List Record) (rest : Text) → file ≡ text_of before ++ rest → AreRightLines c before → length (text_of before) ≤ 2 ^ 40 → 2 ^ 40 < length (text_of before) + line_length rest → fault ≡ record { kind = why.TooLong; line = length before + 1 } → FileRefused c file fault

@@ -1,0 +1,102 @@
+//! The fields of a line: numbers, literals, tokens, marks and bits.
+
+ghost use Rattle.std.specs.Prelude.{◌≡◌, ◌≢◌, ℕ, decimal, map, MatchOption, ⊤};
+ghost use Rattle.net_model.specs.BitText.{bit_digit, bits_text};
+ghost use Rattle.clause_pool.specs.Literal.{Literal};
+ghost use Rattle.pair_sets.specs.declared.tree.Token as token;
+ghost use Rattle.result_file.specs.declared.record.Mark as mark;
+ghost use Rattle.result_file.specs.Spelling.{IsNumber, IsVariable, IsLiteral, HasTokenSpelling, literal_field, token_field, mark_field};
+ghost use Rattle.result_file.specs.Reading.{Reads};
+
+use crate::fault::RecordFault;
+use crate::record::Mark;
+use clause_pool::Lit;
+use net_model::Bits;
+use pair_sets::Token;
+use std::alloc::Global;
+
+/// The number that a field spells: digits without a leading zero.
+pub(crate) fn number_of(field: &str) -> Option<u32>
+    ensures { MatchOption result ((n : ℕ) → IsNumber n → decimal n ≢ field.now) (λ n. IsNumber n × (decimal n ≡ field.now)) }
+{
+    let bytes = field.as_bytes();
+    if bytes.is_empty() || bytes[0] == b'+' {
+        return None;
+    }
+    if bytes[0] == b'0' && bytes.len() > 1 {
+        return None;
+    }
+    field.parse().ok()
+}
+
+/// The literal that a field spells: a number, with a dash before it where it is negative.
+pub(crate) fn literal_of(field: &str) -> Option<Lit>
+    ensures { MatchOption result ((l : Literal) → IsLiteral l → literal_field l ≢ field.now) (λ l. IsLiteral l × (literal_field l ≡ field.now)) }
+{
+    if let Some(digits) = field.strip_prefix('-') {
+        return Some(Lit::new(variable_of(digits)?, false));
+    }
+    Some(Lit::new(variable_of(field)?, true))
+}
+
+// The variable that digits spell.
+fn variable_of(digits: &str) -> Option<u32>
+    ensures { MatchOption result ((n : ℕ) → IsVariable n → decimal n ≢ digits.now) (λ n. IsVariable n × (decimal n ≡ digits.now)) }
+{
+    let variable = number_of(digits)?;
+    if variable == 0 || variable >= 1 << 31 {
+        return None;
+    }
+    Some(variable)
+}
+
+/// The token that a field spells.
+pub(crate) fn token_of(field: &str) -> Option<Token>
+    ensures { MatchOption result ((t : token.Token) → HasTokenSpelling t → token_field t ≢ field.now) (λ t. HasTokenSpelling t × (token_field t ≡ field.now)) }
+{
+    match field {
+        "." => Some(Token::Closed),
+        "?" => Some(Token::Rest),
+        _ => Some(Token::Split(number_of(field)?)),
+    }
+}
+
+/// The mark that a field spells.
+pub(crate) fn mark_of(field: &str) -> Option<Mark>
+    ensures { MatchOption result ((m : mark.Mark) → mark_field m ≢ field.now) (λ m. mark_field m ≡ field.now) }
+{
+    match field {
+        "rep" => Some(Mark::Rep),
+        "equal" => Some(Mark::Equal),
+        "open" => Some(Mark::Spent),
+        _ => None,
+    }
+}
+
+/// The bits that a field spells: a digit for each, or a dash where there are none.
+pub(crate) fn bits_of(alloc: Global, field: &str) -> Result<Bits, RecordFault>
+    ensures { Reads (λ bits. ⊤) bits_text field.now result }
+{
+    if field == "-" {
+        return Ok(Bits::zeros(alloc, 0)?);
+    }
+    if field.is_empty() {
+        return Err(RecordFault::Syntax);
+    }
+    digits_of(alloc, field.as_bytes())
+}
+
+// The bits of digits.
+fn digits_of(alloc: Global, digits: &[u8]) -> Result<Bits, RecordFault>
+    ensures { Reads (λ bits. ⊤) (map bit_digit) digits.now result }
+{
+    let mut bits = Bits::zeros(alloc, digits.len())?;
+    for (at, digit) in digits.iter().enumerate() {
+        if *digit == b'1' {
+            bits.set(at, true);
+        } else if *digit != b'0' {
+            return Err(RecordFault::Syntax);
+        }
+    }
+    Ok(bits)
+}
