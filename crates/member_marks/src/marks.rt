@@ -1,0 +1,92 @@
+//! Which numbers are marked.
+
+ghost use Rattle.std.specs.Prelude.{◌≡◌, ◌<◌, ◌^◌, ℕ, List, Option, length, replicate, slice_set, None, Some, IfOk, IsSome, MatchOption};
+ghost use Rattle.result_file.specs.Marks.{mark_of as mark_by};
+ghost use Rattle.member_marks.specs.declared.marks.Given as declared;
+ghost use Rattle.member_marks.specs.Given.{given_mark, AreAllMarked, IsLowestOpen};
+
+use class_refine::Classes;
+use result_file::{Mark, Proof};
+use std::alloc::{AllocError, Global};
+use std::marker::Model;
+
+/// The mark that the last evidence about a number gives it, with the representative that the evidence names.
+#[derive(Clone, Copy)]
+pub struct Given {
+    pub partner: u32,
+    pub mark: Mark,
+}
+
+/// What is given to each number so far. A mark counts only while the number has the representative that it was given with.
+#[derive(Drop)]
+pub struct Marks {
+    given: Vec<Option<Given>>,
+}
+
+impl Model for Marks {
+    ghost Value = { List (Option declared.Given) };
+
+    ghost view = { λ marks. marks.given.items };
+
+    ghost invariant = { λ marks. length marks.given.items < 2 ^ 32 };
+}
+
+impl Marks {
+    /// Nothing is given to the numbers below a limit.
+    pub fn none(alloc: Global, numbers: u32) -> Result<Marks, AllocError>
+        ensures { IfOk result (λ marks. marks ≡ replicate numbers None) }
+    {
+        let given = vec![in alloc; None; numbers as usize]?;
+        Ok(Marks { given })
+    }
+
+    /// Gives a mark to a number with this representative.
+    pub fn give(&mut self, number: u32, partner: u32, mark: Mark)
+        requires { number < length self.old }
+        ensures { self.new ≡ slice_set self.old number (Some (record { partner = partner; mark = mark })) }
+    {
+        self.given[number as usize] = Some(Given { partner, mark });
+    }
+
+    /// The mark of a number, if it has one: a representative has its own, and another number has what was given to it
+    /// with its present representative.
+    pub fn of(&self, classes: &Classes, number: u32) -> Option<Mark>
+        requires number { number < length classes.now.class_of }
+        requires whole { length self.now ≡ length classes.now.class_of }
+        ensures { result ≡ given_mark classes.now self.now number }
+    {
+        let lead = classes.representative(classes.class_of(number));
+        if lead == number {
+            return Some(Mark::Rep);
+        }
+        match self.given[number as usize] {
+            Some(given) if given.partner == lead => Some(given.mark),
+            _ => None,
+        }
+    }
+
+    /// The lowest number that is neither a representative nor marked. Each number below `from` is one or the other, so only
+    /// those from there on are looked at.
+    pub fn next_open(&self, classes: &Classes, from: u32) -> Option<u32>
+        requires whole { length self.now ≡ length classes.now.class_of }
+        requires below { (n : ℕ) → n < from → IsSome (given_mark classes.now self.now n) }
+        ensures { MatchOption result (AreAllMarked classes.now self.now) (IsLowestOpen classes.now self.now) }
+    {
+        for number in from..self.given.len() as u32 {
+            if self.of(classes, number).is_none() {
+                return Some(number);
+            }
+        }
+        None
+    }
+}
+
+/// The mark that a proof gives.
+pub fn mark_of(proof: &Proof) -> Mark
+    ensures { result ≡ mark_by proof.now }
+{
+    match proof {
+        Proof::Collapse | Proof::Covered(_) | Proof::Refuted(_, _) => Mark::Equal,
+        Proof::Spent(_, _) => Mark::Spent,
+    }
+}
