@@ -1,5 +1,5 @@
 -- Answers to a vector: each fault has one, and where it differs from the fault-free one says which it is.
-use Rattle.std.proofs.Common.{◌≡◌, ◌≢◌, ◌↔◌, ℕ, zero, suc, ◌<◌, Bool, true, false, List, [], ◌∷◌, length, get_or, refl, sym, ap, ◌∙◌, arith, IsTrue}
+use Rattle.std.proofs.Common.{◌≡◌, ◌≢◌, ◌↔◌, ℕ, zero, suc, ◌<◌, Bool, true, false, List, [], ◌∷◌, length, get_or, refl, sym, ap, ap₂, ◌∙◌, arith, IsTrue}
 use Rattle.std.specs.List.{AllZip}
 use Rattle.std.proofs.lemmas.List.{length-map}
 use Rattle.std.proofs.lemmas.Bool.{false≢true}
@@ -10,7 +10,8 @@ use Rattle.net_model.specs.Circuit.{Circuit, IsCircuit}
 use Rattle.net_model.specs.Fault.{readings}
 use Rattle.net_model.specs.Answer.{bit_at, shown_bits, IsAnswer}
 use Rattle.net_model.specs.FaultList.{faults, fault_count, fault_numbered}
-use Rattle.net_model.specs.PatternRows.{IsAnswerRow}
+use Rattle.net_model.specs.ClassTable.{ClassTable, class_table}
+use Rattle.net_model.specs.PatternRows.{IsAnswerRow, IsTableOf}
 use Rattle.net_model.proofs.Copies.{Agrees-unique, same_bits_same_list}
 use Rattle.net_model.proofs.Evaluation.{Agrees-exists}
 use Rattle.fault_sim.specs.FaultSim.{IsDifference}
@@ -47,6 +48,20 @@ zip_at R (x ∷ xs) (y ∷ ys) (suc i) d e all h = zip_at R xs ys i d e all.1 (o
 -- the answer of a number in a row
 pub answer_in_row : (c : Circuit) (v : List Bool) (row : List (List Bool)) → IsAnswerRow c v row → (number : ℕ) → number < fault_count c → IsAnswer c (fault_numbered c number) v (get_or row number [])
 answer_in_row c v row all number h = zip_at (λ f answer. IsAnswer c f v answer) (faults c) row number Free [] all h
+
+zip_once : {A B : Type 0} (R : A → B → Type 0) → ((a : A) (x y : B) → R a x → R a y → x ≡ y) → (ks : List A) (xs ys : List B) → AllZip R ks xs → AllZip R ks ys → xs ≡ ys
+zip_once R one [] [] [] first second = refl
+zip_once R one [] [] (y ∷ ys) first second = absurd second
+zip_once R one [] (x ∷ xs) ys first second = absurd first
+zip_once R one (a ∷ ks) [] ys first second = absurd first
+zip_once R one (a ∷ ks) (x ∷ xs) [] first second = absurd second
+zip_once {A} {B} R one (a ∷ ks) (x ∷ xs) (y ∷ ys) first second = ap₂ (λ (z : B) (zs : List B). z ∷ zs) (one a x y first.0 second.0) (zip_once R one ks xs ys first.1 second.1)
+
+-- the patterns of a circuit have one table
+pub one_table : (c : Circuit) → IsCircuit c → {patterns : List (List Bool)} {t other : ClassTable} → IsTableOf c patterns t → IsTableOf c patterns other → t ≡ other
+one_table c is {patterns} first second =
+    let one_row = λ (v : List Bool) (row other : List (List Bool)). zip_once (λ f answer. IsAnswer c f v answer) (λ f. one_answer c is f v) (faults c) row other in
+    first.table ∙ ap (λ (rows : List (List (List Bool))). class_table (fault_count c) rows) (zip_once (IsAnswerRow c) one_row patterns first.rows second.rows first.answers second.answers) ∙ sym second.table
 
 both_other : (a b free : Bool) → a ≢ free → b ≢ free → a ≡ b
 both_other true true free ha hb = refl

@@ -11,10 +11,11 @@ use Rattle.std.proofs.lemmas.List.Elements.{All-append, All-head, All-tail}
 use Rattle.net_model.specs.Circuit.{Circuit, IsCircuit}
 use Rattle.net_model.specs.Answer.{bit_at}
 use Rattle.net_model.specs.FaultList.{faults, fault_count}
-use Rattle.net_model.specs.ClassTable.{ClassTable, first_table, refined_table, cuts_class, class_after, class_at, members, SplitBy}
+use Rattle.net_model.specs.ClassTable.{ClassTable, first_table, refined_table, cuts_class, class_after, class_at, members, representative, SplitBy}
 use Rattle.net_model.specs.PatternRows.{IsAnswerRow, AreAnswerRows, IsTableOf, SplitsClass}
 use Rattle.class_refine.specs.Fields.{IsWhole}
-use Rattle.class_refine.proofs.Refined.{sound_from, from_cuts, adds_split, whole-first}
+use Rattle.class_refine.proofs.Pieces.{representative_lowest}
+use Rattle.class_refine.proofs.Refined.{sound_from, from_cuts, adds_split, whole-first, representative-member}
 use Rattle.word_sim.specs.GoodSim.{GoodSim, vectors_of}
 use Rattle.fault_sim.specs.FaultyLanes.{vector_at}
 use Rattle.kept_vectors.specs.declared.notes.Note.{Note}
@@ -241,6 +242,16 @@ pub whole_after : (c : Circuit) → IsCircuit c → (vectors : List (List Bool))
 whole_after c is vectors old new whole keeps =
     let rows = rows_exist c is vectors in
     subst (λ (k : KeptSoFar). IsWhole k.table × IsFiner old.table k.table) (sym (keeps.by_rows rows.0 rows.1)) (whole_fold old (zip vectors rows.0) whole)
+
+-- representatives only rise
+pub leads_rise : {t u : ClassTable} → IsWhole u → IsFiner t u → (n : ℕ) → n < length t.class_of → representative t (class_at t n) ≤ representative u (class_at u n)
+leads_rise {t} {u} whole finer n below =
+    let inside : n < length u.class_of = omega (arith, finer.numbers) in
+    let high = representative-member u whole (class_at u n) (whole.classes n inside) in
+    let lead = representative u (class_at u n) in
+    let same : class_at t lead ≡ class_at t n = finer.together lead n (omega (arith, high.0, finer.numbers)) below high.1 in
+    let least = representative_lowest t lead (omega (arith, high.0, finer.numbers)) in
+    rw same at least.within
 
 -- ---- lanes
 

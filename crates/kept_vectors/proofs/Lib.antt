@@ -4,6 +4,7 @@ mod SpanLemmas
 mod RowLemmas
 mod SameCuts
 pub mod KeepLemmas
+pub mod JudgeLemmas
 mod RootLemmas
 mod ScanLemmas
 pub mod StreamLemmas

@@ -1,5 +1,5 @@
 -- The vectors that are kept: each that cuts a class of those kept before it.
-use Rattle.std.specs.Prelude.{◌≡◌, ℕ, ◌<◌, Bool, List, [], ◌∷◌, ◌++◌, length, take, fold, zip, slice_index_or, All, if◌then◌else◌}
+use Rattle.std.specs.Prelude.{◌≡◌, ℕ, ◌<◌, ◌≤◌, Bool, List, [], ◌∷◌, ◌++◌, length, take, fold, zip, slice_index_or, All, if◌then◌else◌}
 use Rattle.net_model.specs.Circuit.{Circuit}
 use Rattle.net_model.specs.FaultList.{fault_count}
 use Rattle.net_model.specs.ClassTable.{ClassTable, class_at, first_table, refined_table, cuts_class}
@@ -38,6 +38,13 @@ pub record KeepsFirst (c : Circuit) (vectors : List (List Bool)) (old new : Kept
   pub rest : List (List Bool)
   pub parts : vectors ≡ first ++ rest
   pub kept : Keeps c first old new
+
+-- The first of these vectors are kept behind those of the first, of which each splits a class of those kept before it.
+pub record KeepsRun (c : Circuit) (vectors : List (List Bool)) (count : ℕ) (old new : KeptSoFar) : Type 0 where
+  pub within : count ≤ length vectors
+  pub keeps : Keeps c (take count vectors) old new
+  pub kept : new.vectors ≡ old.vectors ++ take count vectors
+  pub splits : (at : ℕ) → at < count → SplitsClass c (old.vectors ++ take at vectors) (slice_index_or vectors at [])
 
 -- Each vector has a bit for each source, and splits a class of the vectors before it.
 pub record SplitInTurn (c : Circuit) (vectors : List (List Bool)) : Type 0 where

@@ -1,10 +1,12 @@
 -- What is noted of the answers of fault numbers to the vectors of a block.
-use Rattle.std.specs.Prelude.{◌≡◌, ◌≤◌, ℕ, ◌+◌, ◌<◌, ◌⊎◌, Bool, true, false, List, [], length, All, slice_index, slice_index_or, slice_range, IsSome, ◌==◌, ◌&&◌}
+use Rattle.std.specs.Prelude.{◌≡◌, ◌≤◌, ℕ, ◌+◌, ◌<◌, ◌⊎◌, Bool, true, false, List, [], length, All, slice_index, slice_index_or, slice_range, Some, IsSome, ◌==◌, ◌&&◌}
 use Rattle.std.specs.List.{list_any}
 use Rattle.net_model.specs.Circuit.{Circuit, IsCircuit}
 use Rattle.net_model.specs.declared.fault.Fault.{Fault}
 use Rattle.net_model.specs.FaultList.{faults, fault_count, fault_numbered}
 use Rattle.net_model.specs.Answer.{bit_at, IsAnswer, AreEqual}
+use Rattle.net_model.specs.ClassTable.{ClassTable, class_at}
+use Rattle.class_refine.specs.Fields.{IsWhole}
 use Rattle.word_sim.specs.declared.lanes.TheConstants.{LANES}
 use Rattle.word_sim.specs.GoodSim.{GoodSim, vectors_of}
 use Rattle.fault_sim.specs.FaultyLanes.{vector_at}
@@ -64,6 +66,17 @@ module _ (good : GoodSim) where
   -- The notes tell whether the two numbers answer alike: both are noted in whole, or neither is, and they answer alike in all lanes.
   abbrev pub AreNoted : List Note → ℕ → ℕ → Type 0
   AreNoted notes m n = (IsWholeOf notes m × IsWholeOf notes n) ⊎ (IsUnnoted notes m × IsUnnoted notes n × ((lane : ℕ) → lane < length (vectors_of good) → AreAlikeAt lane m n))
+
+-- The circuit has run these vectors, and it is noted how the numbers of each class of the table answer to them. A lane that is false in
+-- `splitting` tells no two of one class apart.
+pub record AreTold (good : GoodSim) (vectors : List (List Bool)) (splitting : List Bool) (notes : List Note) (t : ClassTable) : Type 0 where
+  pub circuit : IsCircuit good.circuit
+  pub ran : good.ran ≡ Some vectors
+  pub whole : IsWhole t
+  pub numbers : length t.class_of ≡ fault_count good.circuit
+  pub right : AreRight good notes
+  pub noted : (m n : ℕ) → m < length t.class_of → n < length t.class_of → class_at t m ≡ class_at t n → AreNoted good notes m n
+  pub alike : (m n lane : ℕ) → m < length t.class_of → n < length t.class_of → class_at t m ≡ class_at t n → lane < length (vectors_of good) → bit_at splitting lane ≡ false → AreAlikeAt good lane m n
 
 -- Numbers with one root answer alike to every vector.
 pub record AreRootsOf (c : Circuit) (roots : List ℕ) : Type 0 where

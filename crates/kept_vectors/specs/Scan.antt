@@ -1,11 +1,12 @@
 -- The working state of a keeper.
-use Rattle.std.specs.Prelude.{◌≡◌}
-use Rattle.net_model.specs.Circuit.{IsCircuit}
+use Rattle.std.specs.Prelude.{◌≡◌, ℕ, ◌≤◌, ◌<◌, Bool, List, [], ◌∷◌, ◌++◌, length, take, slice_index_or, IsTrue}
+use Rattle.std.specs.Bool.{MatchBool}
+use Rattle.net_model.specs.Circuit.{Circuit, IsCircuit}
 use Rattle.net_model.specs.FaultList.{faults}
 use Rattle.fault_collapse.specs.Forest.{IsForestOf}
 use Rattle.kept_vectors.specs.declared.scan.Kept.{Kept}
 use Rattle.kept_vectors.specs.declared.scan.Scan.{Scan}
-use Rattle.kept_vectors.specs.Kept.{KeptSoFar}
+use Rattle.kept_vectors.specs.Kept.{KeptSoFar, Keeps}
 use Rattle.kept_vectors.specs.Notes.{AreOf, IsBlank}
 
 -- what the code holds, as the definition has it
@@ -20,3 +21,18 @@ pub record IsScan (s : Scan) : Type 0 where
   pub block : s.block.sources ≡ s.good.circuit.sources
   pub differences : AreOf s.good.circuit s.differences
   pub blank : IsBlank s.good.circuit s.row
+
+-- what a vector does: where it splits a class it stands behind the others, and else nothing changes
+abbrev pub IsOffered : Bool → List Bool → KeptSoFar → KeptSoFar → Type 0
+IsOffered splits v old new = MatchBool splits (new.vectors ≡ old.vectors ++ v ∷ []) (new ≡ old)
+
+-- The first of these vectors were judged, and each kept that splits a class. Of a run each does.
+pub record HasJudged (c : Circuit) (vectors : List (List Bool)) (run : Bool) (count : ℕ) (old new : KeptSoFar) : Type 0 where
+  pub within : count ≤ length vectors
+  pub keeps : Keeps c (take count vectors) old new
+  pub kept : IsTrue run → new.vectors ≡ old.vectors ++ take count vectors
+
+-- All were judged, or of a run those up to one that changes nothing.
+pub record IsEnded (c : Circuit) (vectors : List (List Bool)) (run : Bool) (count : ℕ) (new : KeptSoFar) : Type 0 where
+  pub all : ¬ IsTrue run → count ≡ length vectors
+  pub stops : count < length vectors → Keeps c (slice_index_or vectors count [] ∷ []) new new

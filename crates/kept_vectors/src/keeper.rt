@@ -1,10 +1,12 @@
 //! The keeper of vectors.
 
-ghost use Rattle.std.specs.Prelude.{◌≡◌, [], ◌∷◌, IfOk, OnOk, OnErr, length};
+ghost use Rattle.std.specs.Prelude.{◌≡◌, ◌≤◌, ◌<◌, ℕ, [], ◌∷◌, All, IfOk, OnOk, OnErr, length, slice_index_or};
 ghost use Rattle.net_model.specs.FaultList.{faults as faults_of, fault_count};
+ghost use Rattle.net_model.specs.PatternRows.{SplitsClass};
 ghost use Rattle.fault_collapse.specs.Forest.{IsForestOf};
+ghost use Rattle.word_sim.specs.Block.{block_with};
 ghost use Rattle.word_sim.specs.Stream.{stream};
-ghost use Rattle.kept_vectors.specs.Kept.{nothing_kept, Keeps, KeepsFirst};
+ghost use Rattle.kept_vectors.specs.Kept.{nothing_kept, Keeps, KeepsFirst, KeepsRun};
 ghost use Rattle.kept_vectors.specs.Keeper.{keeper_with, IsKeeper};
 
 use crate::scan::{Kept, Scan};
@@ -14,7 +16,7 @@ use fault_list::FaultList;
 use net_model::{Circuit, Vector};
 use std::alloc::{AllocError, Global};
 use std::marker::Model;
-use word_sim::{Stream, stream_continues};
+use word_sim::{Block, LANES, Stream, stream_continues};
 
 /// The vectors that are kept for a circuit, and the classes of fault numbers that they tell apart. Of the vectors that
 /// come, one after another, each is kept that splits a class of those kept before it.
@@ -93,6 +95,21 @@ impl<'a> Keeper<'a> {
         self.scan.keep_block(&mut self.kept)
     }
 
+    /// Keeps the vectors of a run, one after another, up to the first that splits no class. Answers how many are kept. After
+    /// an error the first of them are kept, as if no others had come.
+    pub fn keep_run(&mut self, vectors: &[Vector]) -> Result<usize, AllocError>
+        requires few { length vectors.now ≤ LANES }
+        requires widths { All (λ v. length v ≡ self.old.circuit.sources) vectors.now }
+        ensures circuit { self.new.circuit ≡ self.old.circuit }
+        ensures ok { IfOk result (λ count. KeepsRun self.old.circuit vectors.now count self.old.kept self.new.kept) }
+        ensures stops { IfOk result (λ count. count < length vectors.now → ¬ SplitsClass self.old.circuit self.new.kept.vectors (slice_index_or vectors.now count [])) }
+        ensures err { OnErr result ((count : ℕ) × KeepsRun self.old.circuit vectors.now count self.old.kept self.new.kept) }
+    {
+        fill(&mut self.scan.block, vectors);
+        let count = self.scan.judge(&mut self.kept, true)?;
+        Ok(count as usize)
+    }
+
     /// The kept vectors.
     pub fn vectors(&self) -> &[Vector]
         ensures value { result.now ≡ self.now.kept.vectors }
@@ -107,5 +124,27 @@ impl<'a> Keeper<'a> {
         ensures keeper { IsKeeper self.now }
     {
         &self.kept.classes
+    }
+
+    /// The kept vectors, and the classes of fault numbers that they tell apart.
+    pub fn into_kept(self) -> (Vec<Vector>, Classes)
+        ensures vectors { result.0.items ≡ self.entry.kept.vectors }
+        ensures classes { result.1 ≡ self.entry.kept.table }
+        ensures keeper { IsKeeper self.entry }
+    {
+        let Keeper { scan: _, kept } = self;
+        kept.into_parts()
+    }
+}
+
+// Puts vectors into a block, in place of those that it has.
+fn fill(block: &mut Block, vectors: &[Vector])
+    requires few { length vectors.now ≤ LANES }
+    requires widths { All (λ v. length v ≡ block.old.sources) vectors.now }
+    ensures { block.new ≡ block_with block.old.sources vectors.now }
+{
+    block.clear();
+    for v in vectors {
+        block.push(v);
     }
 }

@@ -1,16 +1,13 @@
 //! The scan of a block for vectors that split a class.
 
-ghost use Rattle.std.specs.Prelude.{◌≡◌, ◌≤◌, ◌<◌, ℕ, Bool, List, [], ◌∷◌, ◌++◌, Some, IfOk, OnOk, OnErr, length};
-ghost use Rattle.net_model.specs.Circuit.{IsCircuit};
+ghost use Rattle.std.specs.Prelude.{◌≡◌, ◌≤◌, ◌<◌, ℕ, [], ◌∷◌, IfOk, OnOk, OnErr, length};
 ghost use Rattle.net_model.specs.FaultList.{faults as faults_of, fault_count};
-ghost use Rattle.net_model.specs.ClassTable.{class_at};
-ghost use Rattle.net_model.specs.PatternRows.{IsAnswerRow};
 ghost use Rattle.class_refine.specs.Fields.{IsWhole};
 ghost use Rattle.fault_collapse.specs.Forest.{IsForestOf};
 ghost use Rattle.fault_sim.specs.FaultyLanes.{vector_at};
-ghost use Rattle.kept_vectors.specs.Kept.{with_vector, Keeps, KeepsFirst, IsFiner};
-ghost use Rattle.kept_vectors.specs.Scan.{kept_now, IsScan};
-ghost use Rattle.kept_vectors.specs.Notes.{AreRight, AreNoted, AreRootsOf, AreOf, IsBlank};
+ghost use Rattle.kept_vectors.specs.Kept.{with_vector, Keeps, KeepsFirst};
+ghost use Rattle.kept_vectors.specs.Scan.{kept_now, IsScan, IsOffered, HasJudged, IsEnded};
+ghost use Rattle.kept_vectors.specs.Notes.{AreTold, IsBlank};
 
 use crate::answers::{clear_row, fill_row};
 use crate::differences::Differences;
@@ -20,7 +17,7 @@ use fault_collapse::Forest;
 use fault_list::FaultList;
 use net_model::{AnswerRows, Circuit, Vector};
 use std::alloc::{AllocError, Global};
-use word_sim::{Block, GoodSim, LANES};
+use word_sim::{Block, GoodSim, LANES, Lanes};
 
 // The kept vectors, and their classes.
 #[derive(Drop)]
@@ -30,17 +27,28 @@ pub(crate) struct Kept {
 }
 
 impl Kept {
-    // Keeps a vector with this row of answers where it splits a class.
-    fn offer(&mut self, v: Vector, row: &AnswerRows) -> Result<(), AllocError>
+    // Keeps a vector with this row of answers where it splits a class. Answers whether it does.
+    fn offer(&mut self, v: Vector, row: &AnswerRows) -> Result<bool, AllocError>
         requires { length row.now ≡ length self.old.classes.class_of }
         ensures ok { OnOk result (kept_now self.new ≡ with_vector (kept_now self.old) (v, row.now)) }
+        ensures kept { IfOk result (λ splits. IsOffered splits v (kept_now self.old) (kept_now self.new)) }
         ensures err { OnErr result (kept_now self.new ≡ kept_now self.old) }
     {
         self.vectors.reserve(1)?;
-        if self.classes.refine(row)? > 0 {
+        let splits = self.classes.refine(row)? > 0;
+        if splits {
             self.vectors.push_reserved(v);
         }
-        Ok(())
+        Ok(splits)
+    }
+
+    // The vectors and the classes.
+    pub(crate) fn into_parts(self) -> (Vec<Vector>, Classes)
+        ensures vectors { result.0.items ≡ self.vectors.items }
+        ensures classes { result.1 ≡ self.classes }
+    {
+        let Kept { vectors, classes } = self;
+        (vectors, classes)
     }
 }
 
@@ -90,76 +98,92 @@ impl<'a> Scan<'a> {
         ensures ok { OnOk result (Keeps self.old.good.circuit self.old.block.vectors (kept_now kept.old) (kept_now kept.new)) }
         ensures err { OnErr result (KeepsFirst self.old.good.circuit self.old.block.vectors (kept_now kept.old) (kept_now kept.new)) }
     {
+        self.judge(kept, false)?;
+        Ok(())
+    }
+
+    // Judges the vectors of the block one after another, and keeps each that splits a class: all of them, or of a run those
+    // up to the first that splits none. Answers how many they are.
+    pub(crate) fn judge(&mut self, kept: &mut Kept, run: bool) -> Result<u32, AllocError>
+        requires scan { IsScan self.old }
+        requires whole { IsWhole kept.old.classes }
+        requires numbers { length kept.old.classes.class_of ≡ fault_count self.old.good.circuit }
+        ensures scan { IsScan self.new }
+        ensures circuit { self.new.good.circuit ≡ self.old.good.circuit }
+        ensures ok { IfOk result (λ count. HasJudged self.old.good.circuit self.old.block.vectors run count (kept_now kept.old) (kept_now kept.new)) }
+        ensures ended { IfOk result (λ count. IsEnded self.old.good.circuit self.old.block.vectors run count (kept_now kept.new)) }
+        ensures err { OnErr result ((count : ℕ) × HasJudged self.old.good.circuit self.old.block.vectors run count (kept_now kept.old) (kept_now kept.new)) }
+    {
+        if self.block.live() == 0 {
+            return Ok(0);
+        }
         self.good.run(&self.block);
-        keep_block(
-            self.listed,
-            self.forest.roots(),
+        let roots = self.forest.roots();
+        let splitting = self
+            .differences
+            .note_classes(self.listed, &self.good, roots, &kept.classes)?;
+        let notes = self.differences.notes.as_slice();
+        judge_lanes(
             &self.block,
             &self.good,
-            &mut self.differences,
+            splitting,
+            notes,
             &mut self.row,
             kept,
+            run,
         )
     }
 }
 
-// Keeps each vector of a block that splits a class. Only a lane in which some class may be split is looked at.
-fn keep_block(
-    listed: &FaultList,
-    roots: &[u32],
+// Judges the vectors of a block by what is noted of them. A lane that is false in `splitting` splits no class.
+fn judge_lanes(
     block: &Block,
     good: &GoodSim,
-    differences: &mut Differences,
-    row: &mut AnswerRows,
-    kept: &mut Kept,
-) -> Result<(), AllocError>
-    requires circuit { IsCircuit good.now.circuit }
-    requires ran { good.now.ran ≡ Some block.now.vectors }
-    requires sources { block.now.sources ≡ good.now.circuit.sources }
-    requires faults { listed.now ≡ faults_of good.now.circuit }
-    requires roots { AreRootsOf good.now.circuit roots.now }
-    requires of { AreOf good.now.circuit differences.old }
-    requires blank { IsBlank good.now.circuit row.old }
-    requires whole { IsWhole kept.old.classes }
-    requires numbers { length kept.old.classes.class_of ≡ fault_count good.now.circuit }
-    ensures of { AreOf good.now.circuit differences.new }
-    ensures blank { IsBlank good.now.circuit row.new }
-    ensures ok { OnOk result (Keeps good.now.circuit block.now.vectors (kept_now kept.old) (kept_now kept.new)) }
-    ensures err { OnErr result (KeepsFirst good.now.circuit block.now.vectors (kept_now kept.old) (kept_now kept.new)) }
-{
-    let live = block.live();
-    let splitting = differences.note_classes(listed, good, roots, &kept.classes)?;
-    let notes = differences.notes.as_slice();
-    for lane in 0..live {
-        if !splitting.get(lane) {
-            continue;
-        }
-        keep_lane(block, good, lane, notes, row, kept)?;
-    }
-    Ok(())
-}
-
-// Keeps the vector of a lane if it splits a class.
-fn keep_lane(
-    block: &Block,
-    good: &GoodSim,
-    lane: u32,
+    splitting: Lanes,
     notes: &[Note],
     row: &mut AnswerRows,
     kept: &mut Kept,
-) -> Result<(), AllocError>
-    requires circuit { IsCircuit good.now.circuit }
-    requires ran { good.now.ran ≡ Some block.now.vectors }
+    run: bool,
+) -> Result<u32, AllocError>
+    requires told { AreTold good.now block.now.vectors splitting notes.now kept.old.classes }
+    requires blank { IsBlank good.now.circuit row.old }
+    ensures blank { IsBlank good.now.circuit row.new }
+    ensures ok { IfOk result (λ count. HasJudged good.now.circuit block.now.vectors run count (kept_now kept.old) (kept_now kept.new)) }
+    ensures ended { IfOk result (λ count. IsEnded good.now.circuit block.now.vectors run count (kept_now kept.new)) }
+    ensures err { OnErr result ((count : ℕ) × HasJudged good.now.circuit block.now.vectors run count (kept_now kept.old) (kept_now kept.new)) }
+{
+    let live = block.live();
+    for lane in 0..live {
+        let splits = judge_lane(block, good, lane, splitting, notes, row, kept)?;
+        if run && !splits {
+            return Ok(lane);
+        }
+    }
+    Ok(live)
+}
+
+// Keeps the vector of a lane if it splits a class. Answers whether it does.
+fn judge_lane(
+    block: &Block,
+    good: &GoodSim,
+    lane: u32,
+    splitting: Lanes,
+    notes: &[Note],
+    row: &mut AnswerRows,
+    kept: &mut Kept,
+) -> Result<bool, AllocError>
+    requires told { AreTold good.now block.now.vectors splitting notes.now kept.old.classes }
+    requires blank { IsBlank good.now.circuit row.old }
     requires lane { lane < length block.now.vectors }
     requires few { length block.now.vectors ≤ LANES }
-    requires right { AreRight good.now notes.now }
-    requires noted { (m n : ℕ) → m < length kept.old.classes.class_of → n < length kept.old.classes.class_of → class_at kept.old.classes m ≡ class_at kept.old.classes n → AreNoted good.now notes.now m n }
-    requires blank { IsBlank good.now.circuit row.old }
-    requires numbers { length kept.old.classes.class_of ≡ fault_count good.now.circuit }
     ensures blank { IsBlank good.now.circuit row.new }
     ensures ok { OnOk result (Keeps good.now.circuit (vector_at good.now lane ∷ []) (kept_now kept.old) (kept_now kept.new)) }
+    ensures offered { IfOk result (λ splits. IsOffered splits (vector_at good.now lane) (kept_now kept.old) (kept_now kept.new)) }
     ensures err { OnErr result (kept_now kept.new ≡ kept_now kept.old) }
 {
+    if !splitting.get(lane) {
+        return Ok(false);
+    }
     let v = block.vector(lane)?;
     fill_row(notes, lane, row);
     let offered = kept.offer(v, row);

@@ -1,10 +1,8 @@
-use Rattle.std.proofs.Common.{sym, ap, subst}
-use Rattle.word_sim.specs.GoodSim.{GoodSim}
-use Rattle.kept_vectors.specs.Notes.{AreRootsOf}
-use Rattle.kept_vectors.proofs.RootLemmas.{forest_roots}
+use Rattle.std.proofs.lemmas.Result.{err_from_is_err_and}
+use Rattle.kept_vectors.proofs.JudgeLemmas.{first_judged}
 use Rattle.kept_vectors.proofs.scan.Scan.keep_block.Goals as goal
 
-pub keep_block-requires-clause-roots : goal.keep_block-requires-clause-roots
-keep_block-requires-clause-roots c =
-    let circuit = ap (λ (s : GoodSim). s.circuit) c.run.ensures in
-    rw c.roots.ensures (subst (λ k. AreRootsOf k c.args.self.now.forest.now.roots) (sym circuit) (forest_roots c.requires.scan.forest_of))
+pub returns-in_err-judge-clause-err : goal.returns-in_err-judge-clause-err
+returns-in_err-judge-clause-err c =
+    let p = err_from_is_err_and c.from_residual.result c.from_residual.ensures.1 in
+    rw p.1 (first_judged c.in_err-judge.ensures.err.1)
