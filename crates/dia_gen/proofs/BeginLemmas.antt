@@ -1,27 +1,26 @@
 -- A draft of the kept vectors alone.
-use Rattle.std.proofs.Common.{◌≡◌, ◌∙◌, ◌++◌, [], List, Result, Ok, Err, map, refl, sym, ap, subst, arith}
-use Rattle.std.specs.Prelude.{replicate, None}
+use Rattle.std.proofs.Common.{◌∙◌, ◌++◌, [], Ok, Err, map, refl, sym, ap, subst, arith}
 use Rattle.diag_shelf.specs.World.{State}
 use Rattle.diag_shelf.specs.declared.shelf.ShelfFault.{ShelfFault}
 use Rattle.result_file.specs.declared.record.Record.TheVariants.{Pattern}
 use Rattle.result_file.specs.Spelling.{Text, text_of}
 use Rattle.result_file.specs.Valid.{AreRightLines}
 use Rattle.result_file.proofs.RightLines.{right_head}
-use Rattle.dia_gen.specs.Made.{head_lines, lines_with}
+use Rattle.dia_gen.specs.Made.{head_lines}
 use Rattle.dia_gen.specs.Writing.{HasWritten, WritesText, BrokeOff}
 use Rattle.dia_gen.proofs.LineLemmas.{text-append}
 use Rattle.dia_gen.proofs.WritingLemmas.{none_written, written_then, written_ok, broken}
 use Rattle.std.proofs.lemmas.List.{append-nil}
 use Rattle.net_model.specs.Circuit.{Circuit}
 use Rattle.net_model.specs.FaultList.{fault_count}
-use Rattle.kept_vectors.specs.Kept.{Keeps, nothing_kept}
+use Rattle.kept_vectors.specs.Kept.{nothing_kept}
 use Rattle.kept_vectors.specs.Keeper.{keeper_with, IsKeeper}
 use Rattle.kept_vectors.proofs.KeepLemmas.{table_numbers}
 use Rattle.kept_vectors.proofs.StreamLemmas.{stream_kept}
 use Rattle.dia_gen.specs.declared.draft.Draft.{Draft}
 use Rattle.dia_gen.specs.Setting.{Setting}
 use Rattle.dia_gen.specs.Draft.{IsBegun, IsDrafted, IsDraft}
-use Rattle.dia_gen.proofs.MarkLemmas.{given_none}
+use Rattle.member_marks.proofs.MarkLemmas.{given_none}
 use Rattle.dia_gen.proofs.DraftLemmas.{draft_first}
 
 pub begun : {s : Setting} {d : Draft} → IsBegun s d → IsKeeper d.keeper → IsDrafted s d d.keeper.kept.vectors []

@@ -1,5 +1,5 @@
 -- A draft in which each number is marked, with the lines of its classes and numbers and the end: the generator may write it, and it is true.
-use Rattle.std.proofs.Common.{◌≡◌, ℕ, ◌<◌, ◌≤◌, ◌^◌, Bool, false, cond, List, [], ◌∷◌, ◌++◌, map, length, get_or, Option, Some, None, refl, sym, ap, ◌∙◌, arith, IsTrue}
+use Rattle.std.proofs.Common.{◌≡◌, ℕ, ◌<◌, ◌^◌, Bool, false, cond, List, [], ◌∷◌, ◌++◌, map, length, get_or, Option, Some, None, refl, sym, ap, ◌∙◌, arith, IsTrue}
 use Rattle.std.specs.Prelude.{All, MatchOption, unwrap_or, IsSome}
 use Rattle.std.specs.List.{slice_get, count_by, enumerate_from}
 use Rattle.std.proofs.lemmas.List.{append-nil, map-id}
@@ -31,14 +31,15 @@ use Rattle.result_file.specs.Summary.{is_equal, is_open, summary_of}
 use Rattle.result_file.specs.Meaning.{StatedResult, stated_records, class_records, member_records, is_body_record, IsTrueResult}
 use Rattle.result_file.proofs.RecordLists.{read_none, read_all, read_kept, count_kept, count_more}
 use Rattle.result_file.proofs.RightLines.{IsBody, HasSmallClasses, AreMembers, right_table}
-use Rattle.result_file.proofs.Truth.{AreSound, IsSoundTable, lines_true, none_open as closed_lines}
-use Rattle.dia_gen.specs.declared.marks.Given.{Given}
+use Rattle.result_file.proofs.Truth.{AreSound, IsSoundTable, lines_true}
+use Rattle.member_marks.specs.declared.marks.Given.{Given}
 use Rattle.kept_vectors.specs.Kept.{IsKept}
-use Rattle.dia_gen.specs.Given.{given_mark, member_for, AreGiven, AreAllMarked}
+use Rattle.member_marks.specs.Given.{given_mark, AreGiven, AreAllMarked}
+use Rattle.dia_gen.specs.Marked.{member_for}
 use Rattle.dia_gen.specs.Draft.{AreDraftLines}
 use Rattle.dia_gen.specs.Made.{head_lines, lines_with, MayState}
 use Rattle.kept_vectors.proofs.KeepLemmas.{table_numbers, table_patterns}
-use Rattle.dia_gen.proofs.MarkLemmas.{all_marked_none, lead_inside}
+use Rattle.member_marks.proofs.MarkLemmas.{all_marked_none, lead_inside}
 use Rattle.dia_gen.proofs.DraftLemmas.{lines_patterns, lines_evidence, lines_two, lines_count}
 
 -- ---- births
@@ -212,9 +213,3 @@ module _ (c : Circuit) (budgets : Budgets) (kept : List (List Bool)) (later : Li
         let equal = count_marked is_equal (count_tabled is_equal refl (λ v. refl) (λ e. refl) (λ x. refl)) refl in
         let spent = count_marked is_open (count_tabled is_open refl (λ v. refl) (λ e. refl) (λ x. refl)) refl in
         cc
-
-    -- with as many cubes as there are vectors no member is left open
-    pub none_open : AreSound c → 2 ^ c.sources ≤ budgets.cubes → count_by is_open members ≡ 0
-    none_open sound enough =
-        sym (count_marked is_open (count_tabled is_open refl (λ v. refl) (λ e. refl) (λ x. refl)) refl)
-        ∙ closed_lines c budgets sound c.sources (length c.positions) (fault_count c) (map Pattern kept ++ later ++ classes ++ members ++ End ∷ []) result_right enough

@@ -1,5 +1,5 @@
 -- A draft with one line more, and a draft that is broken off.
-use Rattle.std.proofs.Common.{◌≡◌, ◌∙◌, ◌<◌, ◌+◌, ℕ, List, [], ◌∷◌, ◌++◌, Bool, Result, Ok, Err, sym, ap, subst, arith}
+use Rattle.std.proofs.Common.{◌≡◌, ◌∙◌, ◌<◌, ℕ, List, [], ◌∷◌, ◌++◌, Bool, Result, Ok, Err, sym, ap, subst, arith}
 use Rattle.std.specs.Prelude.{OnOk, IfErr, Option, Some, slice_set}
 use Rattle.std.proofs.lemmas.List.{append-nil, append_assoc}
 use Rattle.std.proofs.lemmas.List.Elements.{filter_map-append}
@@ -19,19 +19,18 @@ use Rattle.result_file.specs.Spelling.{Text, text_of}
 use Rattle.result_file.specs.Valid.{AreRightLines}
 use Rattle.kept_vectors.specs.Kept.{Keeps}
 use Rattle.kept_vectors.specs.Keeper.{Keeper}
-use Rattle.kept_vectors.proofs.KeepLemmas.{table_numbers}
+use Rattle.kept_vectors.proofs.KeepLemmas.{table_numbers, leads_rise}
 use Rattle.kept_vectors.proofs.Separating.{IsAdded, separating_added}
 use Rattle.dia_gen.specs.declared.draft.Draft.{Draft}
-use Rattle.dia_gen.specs.declared.marks.Given.{Given}
-use Rattle.dia_gen.specs.declared.marks.Marks.{Marks}
+use Rattle.member_marks.specs.declared.marks.Given.{Given}
 use Rattle.dia_gen.specs.Setting.{Setting}
-use Rattle.dia_gen.specs.Given.{IsLowestOpen}
+use Rattle.member_marks.specs.Given.{IsLowestOpen}
 use Rattle.dia_gen.specs.Made.{lines_with}
 use Rattle.dia_gen.specs.Settled.{IsApartBy, IsProofFor}
 use Rattle.dia_gen.specs.Writing.{HasWritten, WritesText, BrokeOff}
 use Rattle.dia_gen.specs.Draft.{AreDraftLines, IsDrafted, IsDraft}
 use Rattle.dia_gen.proofs.LineLemmas.{text-append}
-use Rattle.dia_gen.proofs.MarkLemmas.{lowest_is_next, lead_inside, given_finer, given_more}
+use Rattle.member_marks.proofs.MarkLemmas.{lowest_is_next, lead_inside, given_risen, given_more}
 use Rattle.dia_gen.proofs.DraftLemmas.{lines_more, pattern_added, evidence_added}
 use Rattle.dia_gen.proofs.WritingLemmas.{written_then, written_ok, broken, broken_here}
 
@@ -61,7 +60,7 @@ module _ {s : Setting} {d : Draft} {start mid now : State} (kept : List (List Bo
   line_stopped (Ok x) wrote = tt
   line_stopped (Err fault) wrote = broken (lines_with s.circuit s.budgets kept later) (r ∷ []) [] (one_right s kept later r drafted.lines) written wrote
 
-module _ {s : Setting} {d : Draft} {kept : List (List Bool)} {later : List Record} (is : IsDrafted s d kept later) (member : ℕ) (lowest : IsLowestOpen d.keeper.kept.table d.marks.given.items member) where
+module _ {s : Setting} {d : Draft} {kept : List (List Bool)} {later : List Record} (is : IsDrafted s d kept later) (member : ℕ) (lowest : IsLowestOpen d.keeper.kept.table d.marks member) where
   abbrev lead : ℕ
   lead = representative d.keeper.kept.table (class_at d.keeper.kept.table member)
 
@@ -88,12 +87,12 @@ module _ {s : Setting} {d : Draft} {kept : List (List Bool)} {later : List Recor
         let patterns : patterns_in (later ++ Pattern v ∷ []) ≡ patterns_in later ++ v ∷ [] = filter_map-append pattern_of later (Pattern v ∷ []) in
         record {
           first = is.first;
-          lines = pattern_added s.circuit s.budgets kept later t (rw is.patterns at is.keeper.table) is.few is.lines v member (lowest_is_next t (evidence_in later) d.marks.given.items is.marks member lowest) apart (rw is.patterns at added.splits);
+          lines = pattern_added s.circuit s.budgets kept later t (rw is.patterns at is.keeper.table) is.few is.lines v member (lowest_is_next t (evidence_in later) d.marks is.marks member lowest) apart (rw is.patterns at added.splits);
           few = is.few;
           circuit = circuit ∙ is.circuit;
           keeper = added.keeper;
           patterns = added.vectors ∙ ap (λ (vs : List (List Bool)). vs ++ v ∷ []) is.patterns ∙ append_assoc kept (patterns_in later) (v ∷ []) ∙ ap (λ (vs : List (List Bool)). kept ++ vs) (sym patterns);
-          marks = rw evidence (given_finer added.keeper.whole added.finer is.marks);
+          marks = rw evidence (given_risen (record { numbers = added.finer.numbers; rise = leads_rise added.keeper.whole added.finer }) is.marks);
           pool = is.pool;
         }
 
@@ -105,9 +104,9 @@ module _ {s : Setting} {d : Draft} {kept : List (List Bool)} {later : List Recor
     pub lines_given : AreDraftLines s.circuit s.budgets kept (later ++ Same evidence_for ∷ [])
     lines_given =
         evidence_added s.circuit s.budgets kept later d.keeper.kept.table (rw is.patterns at is.keeper.table) is.few is.lines evidence_for inside (omega (arith, lead_is, lead_below))
-        (lowest_is_next d.keeper.kept.table (evidence_in later) d.marks.given.items is.marks member lowest) lead_is right
+        (lowest_is_next d.keeper.kept.table (evidence_in later) d.marks is.marks member lowest) lead_is right
 
-    pub evidence_drafted : (marks : Marks) → marks.given.items ≡ slice_set d.marks.given.items member (Some (record { partner = number; mark = mark_of proof })) → IsDrafted s (record d { marks = marks }) kept (later ++ Same evidence_for ∷ [])
+    pub evidence_drafted : (marks : List (Option Given)) → marks ≡ slice_set d.marks member (Some (record { partner = number; mark = mark_of proof })) → IsDrafted s (record d { marks = marks }) kept (later ++ Same evidence_for ∷ [])
     evidence_drafted marks gives =
         let evidence : evidence_in (later ++ Same evidence_for ∷ []) ≡ evidence_in later ++ evidence_for ∷ [] = filter_map-append evidence_of later (Same evidence_for ∷ []) in
         let patterns : patterns_in (later ++ Same evidence_for ∷ []) ≡ patterns_in later = filter_map-append pattern_of later (Same evidence_for ∷ []) ∙ append-nil (patterns_in later) in

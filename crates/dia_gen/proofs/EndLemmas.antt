@@ -1,6 +1,5 @@
 -- The lines of the classes and of the numbers, behind a draft in which each number is marked.
-use Rattle.std.proofs.Common.{◌≡◌, ◌∙◌, ℕ, ◌≤◌, ◌^◌, List, [], ◌∷◌, ◌++◌, map, length, Result, Ok, Err, refl, sym, ap, subst, append_assoc}
-use Rattle.std.specs.Prelude.{Option}
+use Rattle.std.proofs.Common.{List, [], ◌∷◌, ◌++◌, map, length, Ok, Err, refl, sym, subst, append_assoc}
 use Rattle.std.proofs.lemmas.List.{append-nil}
 use Rattle.diag_shelf.specs.World.{State}
 use Rattle.diag_shelf.specs.declared.shelf.ShelfFault.{ShelfFault}
@@ -11,25 +10,29 @@ use Rattle.result_file.specs.declared.record.Record.TheVariants.{End}
 use Rattle.result_file.specs.declared.record.Summary.{Summary}
 use Rattle.result_file.specs.Spelling.{Text, text_of}
 use Rattle.result_file.specs.Valid.{AreRightLines}
-use Rattle.result_file.specs.Meaning.{class_records, member_records, stated_records}
+use Rattle.result_file.specs.Meaning.{class_records, member_records}
 use Rattle.result_file.proofs.Truth.{AreSound}
 use Rattle.dia_gen.specs.declared.draft.Draft.{Draft}
 use Rattle.dia_gen.specs.declared.counts.Marked.{Marked}
 use Rattle.dia_gen.specs.Setting.{Setting}
-use Rattle.dia_gen.specs.Given.{AreAllMarked, member_for}
-use Rattle.dia_gen.specs.Marked.{AreMarkedBelow}
+use Rattle.member_marks.specs.Given.{AreAllMarked}
+use Rattle.dia_gen.specs.Marked.{member_for, AreMarkedBelow}
 use Rattle.dia_gen.specs.Made.{lines_with, IsMade}
 use Rattle.dia_gen.specs.Writing.{HasWritten, WritesText, BrokeOff}
 use Rattle.dia_gen.specs.Draft.{IsDraft}
 use Rattle.dia_gen.proofs.LineLemmas.{text-append}
 use Rattle.dia_gen.proofs.WritingLemmas.{written_then, written_ok, broken}
-use Rattle.dia_gen.proofs.DraftResult.{stated, result_right, result_made, result_true, result_summary, none_open}
+use Rattle.dia_gen.proofs.DraftResult.{stated, result_right, result_made, result_true, result_summary}
+
+-- what the table and the counts of marks amount to
+abbrev pub summary_with : ClassTable → Marked → Summary
+summary_with t marked = record { numbers = length t.class_of; patterns = t.patterns; classes = class_count t; equal = marked.equal; spent = marked.spent }
 
 -- more lines were written
 pub lines_then : (lines more : List Record) {start mid now : State} {x : Unit {0}} → HasWritten (text_of lines) start mid → WritesText (text_of more) (Ok x) mid now → HasWritten (text_of (lines ++ more)) start now
 lines_then lines more {start} {mid} {now} h w = subst (λ (t : Text). HasWritten t start now) (sym (text-append lines more)) (written_then h (written_ok w))
 
-module _ {s : Setting} {d : Draft} {start now : State} (draft : IsDraft s d start now) (all : AreAllMarked d.keeper.kept.table d.marks.given.items) where
+module _ {s : Setting} {d : Draft} {start now : State} (draft : IsDraft s d start now) (all : AreAllMarked d.keeper.kept.table d.marks) where
   abbrev t : ClassTable
   t = d.keeper.kept.table
 
@@ -40,10 +43,10 @@ module _ {s : Setting} {d : Draft} {start now : State} (draft : IsDraft s d star
   classes = class_records t.births
 
   abbrev pub members : List Record
-  members = member_records (map (member_for t d.marks.given.items) (number_range t))
+  members = member_records (map (member_for t d.marks) (number_range t))
 
   pub whole_right : AreRightLines s.circuit (lines ++ classes ++ members ++ End ∷ [])
-  whole_right = result_right s.circuit s.budgets draft.kept draft.later t d.marks.given.items draft.is.lines (rw draft.is.patterns at draft.is.keeper.table) draft.is.keeper.whole draft.is.few draft.is.marks all
+  whole_right = result_right s.circuit s.budgets draft.kept draft.later t d.marks draft.is.lines (rw draft.is.patterns at draft.is.keeper.table) draft.is.keeper.whole draft.is.few draft.is.marks all
 
   pub classes_broken : {fault : ShelfFault} {later : State} → WritesText (text_of classes) (Err fault) now later → BrokeOff s.circuit fault start later
   classes_broken w = broken lines classes (members ++ End ∷ []) (subst (AreRightLines s.circuit) (append_assoc (lines ++ classes) members (End ∷ [])) whole_right) draft.written w
@@ -54,19 +57,16 @@ module _ {s : Setting} {d : Draft} {start now : State} (draft : IsDraft s d star
   pub end_broken : {fault : ShelfFault} {mid later : State} → HasWritten (text_of (lines ++ classes ++ members)) start mid → WritesText (text_of (End ∷ [])) (Err fault) mid later → BrokeOff s.circuit fault start later
   end_broken h w = broken (lines ++ classes ++ members) (End ∷ []) [] (subst (AreRightLines s.circuit) (sym (append-nil (lines ++ classes ++ members ++ End ∷ []))) whole_right) h w
 
-  module _ (sound : AreSound s.circuit) (marked : Marked) (counted : AreMarkedBelow t d.marks.given.items (length t.class_of) marked) where
+  module _ (sound : AreSound s.circuit) (marked : Marked) (counted : AreMarkedBelow t d.marks (length t.class_of) marked) where
     pub whole_made : NamedSeparatesFaults
-        → IsMade s.circuit s.budgets (record { numbers = length t.class_of; patterns = t.patterns; classes = class_count t; equal = marked.equal; spent = marked.spent }) (text_of (lines ++ classes ++ members ++ End ∷ []))
+        → IsMade s.circuit s.budgets (summary_with t marked) (text_of (lines ++ classes ++ members ++ End ∷ []))
     whole_made named = record {
       is_true = record {
-        stated = stated s.circuit s.budgets draft.kept draft.later t d.marks.given.items;
+        stated = stated s.circuit s.budgets draft.kept draft.later t d.marks;
         text = refl;
         budgets_are = refl;
-        is_true = result_true s.circuit s.budgets draft.kept draft.later t d.marks.given.items draft.is.lines (rw draft.is.patterns at draft.is.keeper.table) draft.is.keeper.whole draft.is.few draft.is.marks all sound named (rw draft.is.patterns at draft.is.keeper.splits.widths);
+        is_true = result_true s.circuit s.budgets draft.kept draft.later t d.marks draft.is.lines (rw draft.is.patterns at draft.is.keeper.table) draft.is.keeper.whole draft.is.few draft.is.marks all sound named (rw draft.is.patterns at draft.is.keeper.splits.widths);
       };
-      made = result_made s.circuit s.budgets draft.kept draft.later t d.marks.given.items draft.is.lines (rw draft.is.patterns at draft.is.keeper.table) draft.is.keeper.whole draft.is.few draft.is.marks all draft.is.first;
-      summary_is = rw (counted.equal, counted.spent) (result_summary s.circuit s.budgets draft.kept draft.later t d.marks.given.items draft.is.lines (rw draft.is.patterns at draft.is.keeper.table) draft.is.keeper.whole draft.is.few draft.is.marks all);
+      made = result_made s.circuit s.budgets draft.kept draft.later t d.marks draft.is.lines (rw draft.is.patterns at draft.is.keeper.table) draft.is.keeper.whole draft.is.few draft.is.marks all draft.is.first;
+      summary_is = rw (counted.equal, counted.spent) (result_summary s.circuit s.budgets draft.kept draft.later t d.marks draft.is.lines (rw draft.is.patterns at draft.is.keeper.table) draft.is.keeper.whole draft.is.few draft.is.marks all);
     }
-
-    pub whole_closed : 2 ^ s.circuit.sources ≤ s.budgets.cubes → marked.spent ≡ 0
-    whole_closed enough = counted.spent ∙ none_open s.circuit s.budgets draft.kept draft.later t d.marks.given.items draft.is.lines (rw draft.is.patterns at draft.is.keeper.table) draft.is.keeper.whole draft.is.few draft.is.marks all sound enough

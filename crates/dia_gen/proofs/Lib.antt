@@ -1,5 +1,4 @@
 pub mod LineLemmas
-pub mod MarkLemmas
 pub mod DraftLemmas
 pub mod PairLemmas
 pub mod DraftResult

@@ -1,7 +1,7 @@
 -- The text of one line more.
-use Rattle.std.proofs.Common.{◌≡◌, ℕ, ◌+◌, ◌<◌, List, [], ◌∷◌, ◌++◌, map, length, take, get_or, length-take, Option, None, Some, sym, ap, ◌∙◌, arith}
+use Rattle.std.proofs.Common.{◌≡◌, ℕ, ◌+◌, ◌<◌, List, [], ◌∷◌, ◌++◌, map, length, get_or, Option, None, Some, ap, ◌∙◌, arith}
 use Rattle.std.specs.List.{slice_get, enumerate_from, range_with_len}
-use Rattle.std.proofs.lemmas.List.{take_more, append_assoc, map-append, length-map}
+use Rattle.std.proofs.lemmas.List.{map-append, length-map}
 use Rattle.std.specs.Option.{option_map}
 use Rattle.std.proofs.lemmas.Option.{slice_get-map, slice_get-get_or}
 use Rattle.std.proofs.lemmas.List.FromFn.{length-range_with_len, map-range_with_len_more, length-enumerate_from, get_or-enumerate_from, length-map-range_with_len, get_or-map-range_with_len}

@@ -1,24 +1,21 @@
 -- Logs whose chains have ends can be written: their numbers are those of clauses, and their literals those of clauses.
-use Rattle.std.proofs.Common.{◌≡◌, ◌∙◌, ℕ, zero, suc, ◌+◌, ◌<◌, ◌≤◌, ◌^◌, Bool, true, false, List, [], ◌∷◌, ◌++◌, length, length-append, refl, sym, ap, subst, arith}
-use Rattle.std.specs.Prelude.{◌≢◌, Option, Some, None, fold, All, Contains, slice_get, if◌then◌else◌, ◌&&◌}
+use Rattle.std.proofs.Common.{◌≡◌, ◌∙◌, ℕ, suc, ◌+◌, ◌<◌, ◌^◌, Bool, true, false, List, [], ◌∷◌, ◌++◌, length, length-append, refl, sym, ap, arith}
+use Rattle.std.specs.Prelude.{Option, Some, None, fold, All, Contains, slice_get, if◌then◌else◌}
 use Rattle.std.specs.Option.{option_and_then}
-use Rattle.std.proofs.lemmas.List.Elements.{All-head, All-tail, All-append, All-cons, All-nil, All-contains, All-from_get_or}
+use Rattle.std.proofs.lemmas.Bool.{and_parts}
+use Rattle.std.proofs.lemmas.List.Elements.{All-append, All-cons, All-nil, All-contains}
 use Rattle.std.proofs.lemmas.List.Sums.{fold_push}
 use Rattle.clause_pool.specs.Literal.{Literal, opposite}
 use Rattle.clause_pool.specs.Clauses.{Clause, numbered_clause}
 use Rattle.clause_pool.specs.Proper.{IsVariable, HasVariablesUpTo}
-use Rattle.clause_pool.proofs.Numbered.{numbered_within, all_at_number}
+use Rattle.clause_pool.proofs.Numbered.{numbered_within}
 use Rattle.pair_miter.specs.ChainView.{ChainView}
 use Rattle.pair_miter.specs.Miter.{has_literal}
 use Rattle.pair_miter.specs.Resolution.{resolvent, can_resolve, clause_after_step, chain_end, log_ends}
 use Rattle.pair_miter.proofs.SameLiterals.{from_has}
 use Rattle.pair_miter.proofs.EndVariables.{chain_within}
-use Rattle.pair_miter.proofs.LogEnds.{Parts, parts_of}
+use Rattle.pair_miter.proofs.LogEnds.{parts_of}
 use Rattle.result_file.specs.Spelling.{IsNumber, IsLiteral, HasStepSpelling, HasLiteralSpelling, HasChainSpelling}
-
-both : (a b : Bool) → (a && b) ≡ true → a ≡ true
-both true b e = refl
-both false b e = e
 
 module _ (n : ℕ) (small : n < 2 ^ 31) where
   pub literal_spelled : (clause : Clause) (l : Literal) → HasVariablesUpTo n clause → Contains clause l → IsLiteral l
@@ -38,7 +35,7 @@ module _ (n : ℕ) (small : n < 2 ^ 31) where
     step_spelled clause step end within e = by (numbered_clause cs step.1) refl e
       where
         taken : (other : Clause) (b : Bool) → can_resolve step.0 clause other ≡ b → (if b then Some (resolvent step.0 clause other) else None) ≡ Some end → Contains clause step.0
-        taken other true is e = from_has clause step.0 (both (has_literal clause step.0) (has_literal other (opposite step.0)) is)
+        taken other true is e = from_has clause step.0 (and_parts (has_literal clause step.0) (has_literal other (opposite step.0)) is).0
         taken other false is e = absurd (let w : ◌≡◌ {A = Option Clause} None (Some end) = e in cc)
 
         by : (o : Option Clause) → numbered_clause cs step.1 ≡ o → option_and_then (λ other. if can_resolve step.0 clause other then Some (resolvent step.0 clause other) else None) o ≡ Some end → HasStepSpelling step

@@ -11,9 +11,8 @@ use Rattle.result_file.specs.declared.record.Record.{Record}
 use Rattle.result_file.specs.declared.record.Record.TheVariants.{Member}
 use Rattle.result_file.specs.Summary.{is_equal, is_open}
 use Rattle.dia_gen.specs.declared.counts.Marked.{Marked}
-use Rattle.dia_gen.specs.declared.marks.Given.{Given}
-use Rattle.dia_gen.specs.Given.{member_for}
-use Rattle.dia_gen.specs.Marked.{marked_with, members_below, AreMarkedBelow}
+use Rattle.member_marks.specs.declared.marks.Given.{Given}
+use Rattle.dia_gen.specs.Marked.{member_for, marked_with, members_below, AreMarkedBelow}
 use Rattle.dia_gen.proofs.LineLemmas.{member_lines_more}
 
 module _ (t : ClassTable) (given : List (Option Given)) where

@@ -11,7 +11,7 @@ use Rattle.clause_pool.specs.Proper.{HasVariablesUpTo, IsProper}
 use Rattle.pair_sets.specs.declared.tree.Token.{Token}
 use Rattle.pair_sets.specs.declared.tree.Token.TheVariants.{Split, Closed, Rest}
 use Rattle.pair_sets.specs.Cube.{Cube}
-use Rattle.pair_sets.specs.Tree.{IsTree, IsRightAt, IsCovering, IsSpending, waiting_after, token_at}
+use Rattle.pair_sets.specs.Tree.{IsTree, IsRightAt, waiting_after, token_at}
 use Rattle.pair_miter.specs.ChainView.{ChainView}
 use Rattle.pair_miter.specs.Miter.{miter}
 use Rattle.pair_miter.specs.Variables.{variable_count}

@@ -1,19 +1,18 @@
 -- Texts that are written one after another, and writing that breaks off.
-use Rattle.std.proofs.Common.{◌≡◌, ◌≢◌, ◌∙◌, ℕ, ◌+◌, ◌≤◌, List, [], ◌∷◌, ◌++◌, length, take, drop, length-append, Option, Some, None, Result, Ok, Err, refl, sym, ap, subst, arith, IsTrue, append_assoc}
+use Rattle.std.proofs.Common.{◌≡◌, ◌∙◌, ℕ, ◌+◌, ◌≤◌, List, [], ◌∷◌, ◌++◌, length, take, drop, length-append, Some, Result, Ok, Err, refl, sym, ap, arith, append_assoc}
 use Rattle.std.specs.List.{slice_get}
 use Rattle.std.proofs.lemmas.List.{take-append-le, append-nil, take_more, take_all, take-append-drop}
 use Rattle.std.proofs.lemmas.Option.{get_or_from_slice_get, slice_get_within}
 use Rattle.std.proofs.Math.Seq.{take-append-add}
-use Rattle.diag_shelf.specs.World.{World, State, Files, appended}
-use Rattle.diag_shelf.specs.Calls.{SameFacts, Told, OfSome, Writes, IsWriteCall}
+use Rattle.diag_shelf.specs.World.{World, State}
+use Rattle.diag_shelf.specs.Calls.{SameFacts, OfSome, Writes, IsWriteCall}
 use Rattle.diag_shelf.specs.declared.shelf.ShelfFault.{ShelfFault}
-use Rattle.diag_shelf.specs.declared.shelf.ShelfFault.TheVariants.{Failed, NoMemory}
+use Rattle.diag_shelf.specs.declared.shelf.ShelfFault.TheVariants.{NoMemory}
 use Rattle.diag_shelf.proofs.Steps.{facts_same, writes_more}
 use Rattle.net_model.specs.Circuit.{Circuit}
 use Rattle.result_file.specs.declared.record.Record.{Record}
 use Rattle.result_file.specs.Spelling.{Text, text_of}
 use Rattle.result_file.specs.Valid.{AreRightLines}
-use Rattle.dia_gen.specs.Made.{IsCutFile}
 use Rattle.dia_gen.specs.Writing.{HasWritten, WritesText, BrokeOff}
 use Rattle.dia_gen.proofs.LineLemmas.{text-append}
 use Rattle.dia_gen.proofs.Written.{nothing_right, writes_none}

@@ -1,5 +1,5 @@
 -- What was written of a result that was cut short.
-use Rattle.std.proofs.Common.{◌≡◌, ◌∙◌, ℕ, ◌≤◌, ◌^◌, List, [], ◌∷◌, ◌++◌, length, Option, Some, None, take, refl, ap, arith}
+use Rattle.std.proofs.Common.{◌≡◌, ◌∙◌, ℕ, ◌≤◌, ◌^◌, List, [], ◌∷◌, ◌++◌, length, Option, Some, None, refl, ap, arith}
 use Rattle.diag_shelf.specs.World.{World, Files, appended}
 use Rattle.diag_shelf.specs.Calls.{Writes}
 use Rattle.net_model.specs.Circuit.{Circuit}
@@ -7,7 +7,7 @@ use Rattle.result_file.specs.declared.record.Budgets.{Budgets}
 use Rattle.result_file.specs.declared.record.Summary.{Summary}
 use Rattle.net_model.specs.FaultList.{fault_count}
 use Rattle.result_file.specs.declared.record.Record.TheVariants.{End}
-use Rattle.result_file.specs.Meaning.{class_records, member_records, stated_records}
+use Rattle.result_file.specs.Meaning.{class_records, member_records}
 use Rattle.result_file.specs.Valid.{AreRightLines}
 use Rattle.result_file.proofs.Truth.{AreSound, none_open}
 use Rattle.dia_gen.specs.Made.{IsMade, IsCutFile}
@@ -17,9 +17,6 @@ nothing_right {c} = record { spelled = λ at below. absurd (omega arith); right 
 
 pub nothing_cut : {c : Circuit} → IsCutFile c []
 nothing_cut {c} = record { records = []; right = nothing_right; count = 0; cut = refl }
-
-pub written_cut : {c : Circuit} {budgets : Budgets} {summary : Summary} {file : List ℕ} → IsMade c budgets summary file → (count : ℕ) → IsCutFile c (take count file)
-written_cut {c} {budgets} {summary} {file} made count = record { records = stated_records c made.is_true.stated; right = made.made.valid.lines; count = count; cut = ap (take count) made.is_true.text }
 
 -- with as many cubes as there are vectors a made file leaves no member open
 pub made_closed : {c : Circuit} {budgets : Budgets} {summary : Summary} {file : List ℕ} → AreSound c → IsMade c budgets summary file → 2 ^ c.sources ≤ budgets.cubes → summary.spent ≡ 0

@@ -17,7 +17,7 @@ use Rattle.kept_vectors.specs.Kept.{IsKept, Keeps, nothing_kept}
 use Rattle.kept_vectors.specs.Keeper.{keeper_with, IsKeeper}
 use Rattle.dia_gen.specs.declared.draft.Draft.{Draft}
 use Rattle.dia_gen.specs.Setting.{Setting}
-use Rattle.dia_gen.specs.Given.{AreGiven}
+use Rattle.member_marks.specs.Given.{AreGiven}
 use Rattle.dia_gen.specs.Made.{lines_with, SeparatesNext, HasNoSearch}
 use Rattle.dia_gen.specs.Writing.{HasWritten}
 
@@ -38,7 +38,7 @@ pub record IsDrafted (s : Setting) (d : Draft) (kept : List (List Bool)) (later 
   pub circuit : d.keeper.circuit ≡ s.circuit
   pub keeper : IsKeeper (keeper_with s.circuit d.keeper.kept)
   pub patterns : d.keeper.kept.vectors ≡ kept ++ patterns_in later
-  pub marks : AreGiven d.keeper.kept.table (evidence_in later) d.marks.given.items
+  pub marks : AreGiven d.keeper.kept.table (evidence_in later) d.marks
   pub pool : d.pool.clauses ≡ []
 
 -- The vectors of the stream are kept, and no number is marked.
@@ -48,7 +48,7 @@ pub record IsBegun (s : Setting) (d : Draft) : Type 0 where
   pub kept : Keeps s.circuit (stream s.circuit.sources s.budgets.blocks) (nothing_kept (fault_count s.circuit)) d.keeper.kept
   pub few : fault_count s.circuit < 2 ^ 27
   pub limits : AreWithinLimits s.budgets
-  pub marks : d.marks.given.items ≡ replicate (fault_count s.circuit) None
+  pub marks : d.marks ≡ replicate (fault_count s.circuit) None
   pub pool : d.pool.clauses ≡ []
 
 -- The lines so far are written.

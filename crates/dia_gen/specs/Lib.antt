@@ -2,7 +2,6 @@ pub mod Made
 pub mod Setting
 pub mod SettingFields
 pub mod Settled
-pub mod Given
 pub mod Draft
 pub mod Marked
 pub mod Writing

@@ -1,21 +1,25 @@
 -- How many members are marked equal or left open.
-use Rattle.std.specs.Prelude.{◌≡◌, ◌+◌, ℕ, List, map, count_by, Option}
+use Rattle.std.specs.Prelude.{◌≡◌, ◌+◌, ℕ, List, map, count_by, Option, unwrap_or}
 use Rattle.std.specs.List.{range_with_len}
-use Rattle.net_model.specs.ClassTable.{ClassTable}
+use Rattle.net_model.specs.ClassTable.{ClassTable, class_at}
 use Rattle.result_file.specs.declared.record.Mark.{Mark}
 use Rattle.result_file.specs.declared.record.Mark.TheVariants as mark
 use Rattle.result_file.specs.declared.record.Record.{Record}
 use Rattle.result_file.specs.Summary.{is_equal, is_open}
 use Rattle.result_file.specs.Meaning.{member_records}
+use Rattle.member_marks.specs.Given.{given_mark}
 use Rattle.dia_gen.specs.declared.counts.Marked.{Marked}
-use Rattle.dia_gen.specs.declared.marks.Given.{Given}
-use Rattle.dia_gen.specs.Given.{member_for}
+use Rattle.member_marks.specs.declared.marks.Given.{Given}
 
 -- the counts with one number more
 abbrev pub marked_with : Marked → Mark → Marked
 marked_with marked mark.Rep = marked
 marked_with marked mark.Equal = record marked { equal = marked.equal + 1 }
 marked_with marked mark.Spent = record marked { spent = marked.spent + 1 }
+
+-- the class and the mark of a number
+abbrev pub member_for : ClassTable → List (Option Given) → ℕ → ℕ × Mark
+member_for t given n = (class_at t n, unwrap_or (given_mark t given n) mark.Rep)
 
 -- the member lines of the numbers below a bound
 abbrev pub members_below : ClassTable → List (Option Given) → ℕ → List Record

@@ -1,5 +1,5 @@
 -- What is written to a shelf, and how writing breaks off.
-use Rattle.std.specs.Prelude.{◌≡◌, List, Result, Err, IsTrue, OnOk, OnErr, IsErrOf, None}
+use Rattle.std.specs.Prelude.{◌≡◌, Result, Err, IsTrue, OnOk, OnErr, IsErrOf, None}
 use Rattle.diag_shelf.specs.World.{State}
 use Rattle.diag_shelf.specs.Calls.{SameFacts, Told, OfSome, Writes, IsWriteCall}
 use Rattle.diag_shelf.specs.declared.shelf.ShelfFault.{ShelfFault}

@@ -1,11 +1,11 @@
 //! How many members are marked equal, and how many are left open.
 
 ghost use Rattle.std.specs.Prelude.{◌≡◌, ◌<◌, ◌+◌, ◌^◌, length};
-ghost use Rattle.dia_gen.specs.Given.{AreAllMarked};
+ghost use Rattle.member_marks.specs.Given.{AreAllMarked};
 ghost use Rattle.dia_gen.specs.Marked.{marked_with, AreMarkedBelow};
 
-use crate::marks::Marks;
 use class_refine::Classes;
+use member_marks::Marks;
 use result_file::Mark;
 
 // How many members are marked equal, and how many are left open.
@@ -33,9 +33,9 @@ impl Marked {
 // Counts the marks of all numbers.
 pub(crate) fn count_marks(classes: &Classes, marks: &Marks, numbers: u32) -> Marked
     requires numbers { numbers ≡ length classes.now.class_of }
-    requires whole { length marks.now.given.items ≡ length classes.now.class_of }
-    requires marked { AreAllMarked classes.now marks.now.given.items }
-    ensures { AreMarkedBelow classes.now marks.now.given.items numbers result }
+    requires whole { length marks.now ≡ length classes.now.class_of }
+    requires marked { AreAllMarked classes.now marks.now }
+    ensures { AreMarkedBelow classes.now marks.now numbers result }
 {
     let mut marked = Marked { equal: 0, spent: 0 };
     for number in 0..numbers {

@@ -4,21 +4,20 @@ ghost use Rattle.std.specs.Prelude.{◌≡◌, ◌<◌, ◌+◌, ℕ, IfOk, IfEr
 ghost use Rattle.diag_shelf.specs.World.{State};
 ghost use Rattle.net_model.specs.FaultList.{fault_numbered};
 ghost use Rattle.net_model.specs.ClassTable.{class_at, class_count, representative};
-ghost use Rattle.result_file.specs.Marks.{mark_of};
 ghost use Rattle.dia_gen.specs.Settled.{IsApartBy, IsProofFor};
-ghost use Rattle.dia_gen.specs.Given.{given_mark, AreAllMarked, IsLowestOpen};
+ghost use Rattle.member_marks.specs.Given.{given_mark, AreAllMarked, IsLowestOpen};
 ghost use Rattle.dia_gen.specs.Draft.{IsBegun, IsDraft};
 ghost use Rattle.dia_gen.specs.Writing.{BrokeOff};
 
-use crate::marks::Marks;
 use crate::pair::{Settled, settle_pair};
 use crate::setting::Setting;
 use crate::writing::{write_head, write_line, write_pattern, write_patterns};
 use clause_pool::Pool;
 use diag_shelf::{Shelf, ShelfFault};
 use kept_vectors::Keeper;
+use member_marks::{Marks, mark_of};
 use net_model::Vector;
-use result_file::{Evidence, Mark, Proof, Record};
+use result_file::{Evidence, Proof, Record};
 use std::alloc::{AllocError, Global};
 
 // What is kept, the marks that are given, and the pool in which each pair is solved.
@@ -72,7 +71,7 @@ impl<'a> Draft<'a> {
         ghost start: { State }
         requires draft { IsDraft setting.now self.old start (S.state shelf.old) }
         ensures draft { OnOk result (IsDraft setting.now self.new start (S.state shelf.new)) }
-        ensures marked { OnOk result (AreAllMarked self.new.keeper.kept.table self.new.marks.given.items) }
+        ensures marked { OnOk result (AreAllMarked self.new.keeper.kept.table self.new.marks) }
         ensures err { IfErr result (λ fault. BrokeOff setting.now.circuit fault start (S.state shelf.new)) }
     {
         while self.mark_round(alloc, setting, shelf)? {}
@@ -91,15 +90,15 @@ impl<'a> Draft<'a> {
         requires draft { IsDraft setting.now self.old start (S.state shelf.old) }
         ensures draft { OnOk result (IsDraft setting.now self.new start (S.state shelf.new)) }
         ensures more { IfOk result (λ more. IsTrue more → class_count self.old.keeper.kept.table < class_count self.new.keeper.kept.table) }
-        ensures marked { IfOk result (λ more. ¬ IsTrue more → AreAllMarked self.new.keeper.kept.table self.new.marks.given.items) }
+        ensures marked { IfOk result (λ more. ¬ IsTrue more → AreAllMarked self.new.keeper.kept.table self.new.marks) }
         ensures err { IfErr result (λ fault. BrokeOff setting.now.circuit fault start (S.state shelf.new)) }
     {
-        for number in 0..setting.numbers() {
-            if self.marks.of(self.keeper.classes(), number).is_none()
-                && self.settle(alloc, setting, shelf, number)?
-            {
+        let mut from = 0;
+        while let Some(member) = self.marks.next_open(self.keeper.classes(), from) {
+            if self.settle(alloc, setting, shelf, member)? {
                 return Ok(true);
             }
+            from = member + 1;
         }
         Ok(false)
     }
@@ -115,11 +114,11 @@ impl<'a> Draft<'a> {
     ) -> Result<bool, ShelfFault>
         ghost start: { State }
         requires draft { IsDraft setting.now self.old start (S.state shelf.old) }
-        requires lowest { IsLowestOpen self.old.keeper.kept.table self.old.marks.given.items member }
+        requires lowest { IsLowestOpen self.old.keeper.kept.table self.old.marks member }
         ensures draft { OnOk result (IsDraft setting.now self.new start (S.state shelf.new)) }
         ensures more { IfOk result (λ apart. IsTrue apart → class_count self.old.keeper.kept.table < class_count self.new.keeper.kept.table) }
         ensures same { IfOk result (λ apart. ¬ IsTrue apart → self.new.keeper.kept ≡ self.old.keeper.kept) }
-        ensures marked { IfOk result (λ apart. ¬ IsTrue apart → (n : ℕ) → n < member + 1 → IsSome (given_mark self.new.keeper.kept.table self.new.marks.given.items n)) }
+        ensures marked { IfOk result (λ apart. ¬ IsTrue apart → (n : ℕ) → n < member + 1 → IsSome (given_mark self.new.keeper.kept.table self.new.marks n)) }
         ensures err { IfErr result (λ fault. BrokeOff setting.now.circuit fault start (S.state shelf.new)) }
     {
         let classes = self.keeper.classes();
@@ -148,7 +147,7 @@ impl<'a> Draft<'a> {
     ) -> Result<(), ShelfFault>
         ghost start: { State }
         requires draft { IsDraft setting.now self.old start (S.state shelf.old) }
-        requires lowest { IsLowestOpen self.old.keeper.kept.table self.old.marks.given.items member }
+        requires lowest { IsLowestOpen self.old.keeper.kept.table self.old.marks member }
         requires apart { IsApartBy setting.now.circuit (fault_numbered setting.now.circuit (representative self.old.keeper.kept.table (class_at self.old.keeper.kept.table member))) (fault_numbered setting.now.circuit member) setting.now.budgets v }
         ensures draft { OnOk result (IsDraft setting.now self.new start (S.state shelf.new)) }
         ensures more { OnOk result (class_count self.old.keeper.kept.table < class_count self.new.keeper.kept.table) }
@@ -172,12 +171,12 @@ impl<'a> Draft<'a> {
     ) -> Result<(), ShelfFault>
         ghost start: { State }
         requires draft { IsDraft setting.now self.old start (S.state shelf.old) }
-        requires lowest { IsLowestOpen self.old.keeper.kept.table self.old.marks.given.items member }
+        requires lowest { IsLowestOpen self.old.keeper.kept.table self.old.marks member }
         requires lead { lead ≡ representative self.old.keeper.kept.table (class_at self.old.keeper.kept.table member) }
         requires right { IsProofFor setting.now.circuit setting.now.budgets lead member proof }
         ensures draft { OnOk result (IsDraft setting.now self.new start (S.state shelf.new)) }
         ensures kept { OnOk result (self.new.keeper.kept ≡ self.old.keeper.kept) }
-        ensures marked { OnOk result ((n : ℕ) → n < member + 1 → IsSome (given_mark self.new.keeper.kept.table self.new.marks.given.items n)) }
+        ensures marked { OnOk result ((n : ℕ) → n < member + 1 → IsSome (given_mark self.new.keeper.kept.table self.new.marks n)) }
         ensures err { IfErr result (λ fault. BrokeOff setting.now.circuit fault start (S.state shelf.new)) }
     {
         let mark = mark_of(&proof);
@@ -189,15 +188,5 @@ impl<'a> Draft<'a> {
         write_line(alloc, shelf, &Record::Same(evidence))?;
         self.marks.give(member, lead, mark);
         Ok(())
-    }
-}
-
-// The mark that evidence gives.
-fn mark_of(proof: &Proof) -> Mark
-    ensures { result ≡ mark_of proof.now }
-{
-    match proof {
-        Proof::Collapse | Proof::Covered(_) | Proof::Refuted(_, _) => Mark::Equal,
-        Proof::Spent(_, _) => Mark::Spent,
     }
 }

@@ -3,7 +3,6 @@
 
 mod counts;
 mod draft;
-mod marks;
 mod output;
 mod pair;
 mod setting;

@@ -4,7 +4,7 @@ ghost use Rattle.std.specs.Prelude.{◌≡◌, ◌≤◌, ◌^◌, ℕ, List, If
 ghost use Rattle.diag_shelf.specs.World.{State};
 ghost use Rattle.diag_shelf.specs.Calls.{IsWriteCall, Told, Writes};
 ghost use Rattle.result_file.specs.Lines.{AreWithinLimits};
-ghost use Rattle.dia_gen.specs.Given.{AreAllMarked};
+ghost use Rattle.member_marks.specs.Given.{AreAllMarked};
 ghost use Rattle.dia_gen.specs.Draft.{IsDraft};
 ghost use Rattle.dia_gen.specs.Made.{IsMade, IsCutFile};
 ghost use Rattle.dia_gen.specs.Writing.{HasWritten, BrokeOff};
@@ -75,7 +75,7 @@ fn write_end<S: Shelf>(
 ) -> Result<Summary, ShelfFault>
     ghost start: { State }
     requires draft { IsDraft setting.now draft start (S.state shelf.old) }
-    requires marked { AreAllMarked draft.keeper.kept.table draft.marks.given.items }
+    requires marked { AreAllMarked draft.keeper.kept.table draft.marks }
     ensures ok { IfOk result (λ summary. (file : List ℕ) × IsMade setting.now.circuit setting.now.budgets summary file × HasWritten file start (S.state shelf.new)) }
     ensures complete { IfOk result (λ summary. 2 ^ setting.now.circuit.sources ≤ setting.now.budgets.cubes → summary.spent ≡ 0) }
     ensures err { IfErr result (λ fault. BrokeOff setting.now.circuit fault start (S.state shelf.new)) }

@@ -9,7 +9,9 @@ ghost use Rattle.fault_collapse.specs.Forest.{IsForestOf};
 ghost use Rattle.kept_vectors.specs.Kept.{nothing_kept};
 ghost use Rattle.kept_vectors.specs.Keeper.{keeper_with};
 ghost use Rattle.result_file.specs.Lines.{AreWithinLimits};
+ghost use Rattle.dia_gen.specs.Setting as spec;
 ghost use Rattle.dia_gen.specs.Setting.{setting_with};
+ghost use Rattle.dia_gen.specs.SettingFields.{setting_of, IsReady};
 
 use fault_collapse::Forest;
 use fault_list::FaultList;
@@ -29,11 +31,7 @@ pub(crate) struct Setting<'a> {
 }
 
 impl<'a> Model for Setting<'a> {
-    ghost use Rattle.dia_gen.specs.Setting as spec;
-
     ghost Value = { spec.Setting };
-
-    ghost use Rattle.dia_gen.specs.SettingFields.{setting_of, IsReady};
 
     ghost view = { setting_of };
 

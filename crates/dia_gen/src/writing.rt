@@ -6,13 +6,14 @@ ghost use Rattle.result_file.specs.declared.record.Record.TheVariants.{Pattern};
 ghost use Rattle.result_file.specs.Spelling.{text_of};
 ghost use Rattle.result_file.specs.Meaning.{class_records, member_records};
 ghost use Rattle.dia_gen.specs.Made.{head_lines};
-ghost use Rattle.dia_gen.specs.Given.{AreAllMarked, member_for};
+ghost use Rattle.member_marks.specs.Given.{AreAllMarked};
+ghost use Rattle.dia_gen.specs.Marked.{member_for};
 ghost use Rattle.dia_gen.specs.Writing.{WritesText};
 
-use crate::marks::Marks;
 use crate::setting::Setting;
 use class_refine::Classes;
 use diag_shelf::{Shelf, ShelfFault, write_all};
+use member_marks::Marks;
 use net_model::Vector;
 use result_file::{Record, push_pattern, write_record};
 use std::alloc::Global;
@@ -99,9 +100,9 @@ pub(crate) fn write_members<S: Shelf>(
     numbers: u32,
 ) -> Result<(), ShelfFault>
     requires numbers { numbers ≡ length classes.now.class_of }
-    requires whole { length marks.now.given.items ≡ length classes.now.class_of }
-    requires marked { AreAllMarked classes.now marks.now.given.items }
-    ensures { WritesText (text_of (member_records (map (member_for classes.now marks.now.given.items) (number_range classes.now)))) result (S.state shelf.old) (S.state shelf.new) }
+    requires whole { length marks.now ≡ length classes.now.class_of }
+    requires marked { AreAllMarked classes.now marks.now }
+    ensures { WritesText (text_of (member_records (map (member_for classes.now marks.now) (number_range classes.now)))) result (S.state shelf.old) (S.state shelf.new) }
 {
     for number in 0..numbers {
         let mark = marks.of(classes, number).unwrap();

@@ -1,13 +1,17 @@
 use Rattle.std.proofs.Common.{◌≡◌, ◌∙◌, [], ◌∷◌, ◌++◌, length, sym}
 use Rattle.std.proofs.lemmas.Result.{err_from_is_err_and}
-use Rattle.result_file.specs.Spelling.{text_of}
+use Rattle.result_file.specs.Spelling.{Text, text_of}
 use Rattle.result_file.specs.declared.record.Record.TheVariants.{End}
 use Rattle.result_file.proofs.Truth.{AreSound}
 use Rattle.kept_vectors.proofs.KeepLemmas.{table_numbers}
 use Rattle.dia_gen.specs.Marked.{AreMarkedBelow}
+use Rattle.dia_gen.specs.Made.{IsMade}
 use Rattle.dia_gen.proofs.DraftResult.{sound_circuit}
-use Rattle.dia_gen.proofs.EndLemmas.{lines_then, lines, classes, members, classes_broken, members_broken, end_broken, whole_made, whole_closed}
+use Rattle.dia_gen.proofs.EndLemmas.{lines_then, lines, classes, members, classes_broken, members_broken, end_broken, summary_with, whole_made}
+use Rattle.dia_gen.proofs.Written.{made_closed}
+use Rattle.dia_gen.proofs.output.write_end.Given as given
 use Rattle.dia_gen.proofs.output.write_end.Goals as goal
+use Rattle.dia_gen.proofs.output.write_end.Goals.{After-count_marks-marked}
 
 pub returns-in_err-write_classes-clause-err : goal.returns-in_err-write_classes-clause-err
 returns-in_err-write_classes-clause-err g c =
@@ -39,27 +43,35 @@ returns-in_err-write_line-clause-err g c =
 pub count_marks-marked-requires-clause-numbers : goal.count_marks-marked-requires-clause-numbers
 count_marks-marked-requires-clause-numbers g c = rw c.classes-classes.ensures.value (c.numbers-numbers.ensures.value ∙ sym (table_numbers c.requires.1.0.is.keeper.table))
 
+-- ---- what was made
+
+abbrev file : (g : given.Over) (c : After-count_marks-marked g) → Text
+file g c = text_of (lines c.requires.1.0 c.requires.1.1 ++ classes c.requires.1.0 c.requires.1.1 ++ members c.requires.1.0 c.requires.1.1 ++ End ∷ [])
+
+sound : (g : given.Over) (c : After-count_marks-marked g) → AreSound c.args.setting.now.circuit
+sound g c = sound_circuit c.args.setting.now.circuit c.requires.1.0.is.keeper.circuit c.same_root_equal.ensures c.covering_is_equal.ensures c.leaves_are_closed.ensures c.full_tree_is_covered.ensures
+
+made : (g : given.Over) (c : After-count_marks-marked g)
+    → IsMade c.args.setting.now.circuit c.args.setting.now.budgets (summary_with c.args.draft.keeper.kept.table c.count_marks-marked.result) (file g c)
+made g c =
+    let d = c.requires.1.0 in
+    let t = c.args.draft.keeper.kept.table in
+    let numbers : c.numbers-numbers.result ≡ length t.class_of = c.numbers-numbers.ensures.value ∙ sym (table_numbers d.is.keeper.table) in
+    let counted : AreMarkedBelow t c.args.draft.marks (length t.class_of) c.count_marks-marked.result = rw (c.classes-classes.ensures.value, numbers) at c.count_marks-marked.ensures in
+    whole_made d c.requires.1.1 (sound g c) c.count_marks-marked.result counted c.named_separates_faults.ensures
+
 pub returns-clause-ok : goal.returns-clause-ok
 returns-clause-ok g c =
     let d = c.requires.1.0 in
-    let t = c.args.draft.keeper.kept.table in
-    let circuit = c.args.setting.now.circuit in
-    let sound : AreSound circuit = sound_circuit circuit d.is.keeper.circuit c.same_root_equal.ensures c.covering_is_equal.ensures c.leaves_are_closed.ensures c.full_tree_is_covered.ensures in
-    let numbers : c.numbers-numbers.result ≡ length t.class_of = c.numbers-numbers.ensures.value ∙ sym (table_numbers d.is.keeper.table) in
-    let counted : AreMarkedBelow t c.args.draft.marks.given.items (length t.class_of) c.count_marks-marked.result = rw (c.classes-classes.ensures.value, numbers) at c.count_marks-marked.ensures in
-    let first = lines_then (lines d c.requires.1.1) (classes d c.requires.1.1) d.written (rw c.classes-classes.ensures.value at c.in_ok-write_classes.ensures) in
-    let second = lines_then (lines c.requires.1.0 c.requires.1.1 ++ classes c.requires.1.0 c.requires.1.1) (members c.requires.1.0 c.requires.1.1) first (rw c.classes-classes.ensures.value at c.in_ok-write_members.ensures) in (
-      text_of (lines d c.requires.1.1 ++ classes d c.requires.1.1 ++ members d c.requires.1.1 ++ End ∷ []),
-      rw (numbers, c.patterns.ensures.value, c.count.ensures.value, c.classes-classes.ensures.value) (whole_made d c.requires.1.1 sound c.count_marks-marked.result counted c.named_separates_faults.ensures),
-      lines_then (lines d c.requires.1.1 ++ classes d c.requires.1.1 ++ members d c.requires.1.1) (End ∷ []) second c.in_ok-write_line.ensures,
+    let all = c.requires.1.1 in
+    let at = (goal.at.returns-clause-ok g c).After-count_marks-marked in
+    let numbers : c.numbers-numbers.result ≡ length c.args.draft.keeper.kept.table.class_of = c.numbers-numbers.ensures.value ∙ sym (table_numbers d.is.keeper.table) in
+    let first = lines_then (lines d all) (classes d all) d.written (rw c.classes-classes.ensures.value at c.in_ok-write_classes.ensures) in
+    let second = lines_then (lines d all ++ classes d all) (members d all) first (rw c.classes-classes.ensures.value at c.in_ok-write_members.ensures) in (
+      file g at,
+      rw (numbers, c.patterns.ensures.value, c.count.ensures.value, c.classes-classes.ensures.value) (made g at),
+      lines_then (lines d all ++ classes d all ++ members d all) (End ∷ []) second c.in_ok-write_line.ensures,
     )
 
 pub returns-clause-complete : goal.returns-clause-complete
-returns-clause-complete g c =
-    let d = c.requires.1.0 in
-    let t = c.args.draft.keeper.kept.table in
-    let circuit = c.args.setting.now.circuit in
-    let sound : AreSound circuit = sound_circuit circuit d.is.keeper.circuit c.same_root_equal.ensures c.covering_is_equal.ensures c.leaves_are_closed.ensures c.full_tree_is_covered.ensures in
-    let numbers : c.numbers-numbers.result ≡ length t.class_of = c.numbers-numbers.ensures.value ∙ sym (table_numbers d.is.keeper.table) in
-    let counted : AreMarkedBelow t c.args.draft.marks.given.items (length t.class_of) c.count_marks-marked.result = rw (c.classes-classes.ensures.value, numbers) at c.count_marks-marked.ensures in
-    whole_closed d c.requires.1.1 sound c.count_marks-marked.result counted
+returns-clause-complete g c = let at = (goal.at.returns-clause-complete g c).After-count_marks-marked in made_closed {file = file g at} (sound g at) (made g at)

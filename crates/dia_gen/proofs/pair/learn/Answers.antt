@@ -1,5 +1,4 @@
-use Rattle.std.proofs.Common.{◌≡◌, ap, arith}
-use Rattle.net_model.specs.Circuit.{IsCircuit}
+use Rattle.std.proofs.Common.{arith}
 use Rattle.pair_miter.proofs.Bounds.{few_clauses}
 use Rattle.dia_gen.proofs.PairLemmas.{unlearned_by, refuted_by, spent_by}
 use Rattle.dia_gen.proofs.pair.learn.Goals as goal

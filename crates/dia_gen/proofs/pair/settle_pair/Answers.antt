@@ -1,6 +1,3 @@
-use Rattle.std.proofs.Common.{◌≡◌, ◌≢◌, arith}
-use Rattle.net_model.specs.Circuit.{IsCircuit}
-use Rattle.net_model.specs.Collapse.{root}
 use Rattle.net_model.specs.FaultList.{fault_numbered}
 use Rattle.dia_gen.proofs.PairLemmas.{covered_by, proof_for, settled_for}
 use Rattle.dia_gen.proofs.pair.settle_pair.Goals as goal

@@ -1,4 +1,4 @@
-use Rattle.std.proofs.Common.{◌≡◌, ◌∷◌, [], length, sym, subst, List, ℕ}
+use Rattle.std.proofs.Common.{◌∷◌, [], length, sym, subst, List, ℕ}
 use Rattle.net_model.specs.FaultList.{fault_count}
 use Rattle.result_file.specs.declared.record.Record.TheVariants.{Head, Budget}
 use Rattle.dia_gen.specs.Writing.{WritesText}

@@ -1,4 +1,3 @@
-use Rattle.std.proofs.Common.{◌∷◌, [], ◌++◌}
 use Rattle.result_file.specs.declared.record.Record.TheVariants.{Pattern}
 use Rattle.dia_gen.proofs.DraftSteps.{draft_broken, line_drafted, line_stopped, in_any_case, more_classes, pattern_drafted}
 use Rattle.dia_gen.proofs.draft.Draft.add_pattern.Goals as goal
