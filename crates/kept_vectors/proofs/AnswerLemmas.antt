@@ -1,9 +1,10 @@
 -- Answers to a vector: each fault has one, and where it differs from the fault-free one says which it is.
-use Rattle.std.proofs.Common.{◌≡◌, ◌≢◌, ◌↔◌, ℕ, zero, suc, ◌<◌, Bool, true, false, List, [], ◌∷◌, length, get_or, refl, sym, ap, ap₂, ◌∙◌, arith, IsTrue}
+use Rattle.std.proofs.Common.{◌≡◌, ◌≢◌, ◌↔◌, ℕ, ◌<◌, Bool, true, false, List, [], ◌∷◌, length, get_or, refl, sym, ap, ◌∙◌, arith, IsTrue}
 use Rattle.std.specs.List.{AllZip}
-use Rattle.std.proofs.lemmas.List.{length-map}
+use Rattle.std.proofs.lemmas.List.{length-map, same_lists}
 use Rattle.std.proofs.lemmas.Bool.{false≢true}
 use Rattle.std.proofs.lemmas.List.FromFn.{length-enumerate_from}
+use Rattle.std.proofs.lemmas.Slice.Zip.{AllZip-long}
 use Rattle.net_model.specs.declared.fault.Fault.{Fault}
 use Rattle.net_model.specs.declared.fault.Fault.TheVariants.{Free}
 use Rattle.net_model.specs.Circuit.{Circuit, IsCircuit}
@@ -14,6 +15,7 @@ use Rattle.net_model.specs.ClassTable.{ClassTable, class_table}
 use Rattle.net_model.specs.PatternRows.{IsAnswerRow, IsTableOf}
 use Rattle.net_model.proofs.Copies.{Agrees-unique, same_bits_same_list}
 use Rattle.net_model.proofs.Evaluation.{Agrees-exists}
+use Rattle.class_refine.proofs.Ranges.{zip_at}
 use Rattle.fault_sim.specs.FaultSim.{IsDifference}
 
 -- an answer has a bit for each observed position
@@ -39,29 +41,21 @@ answers_exist c is v (f ∷ fs) =
 pub row_exists : (c : Circuit) → IsCircuit c → (v : List Bool) → (row : List (List Bool)) × IsAnswerRow c v row
 row_exists c is v = answers_exist c is v (faults c)
 
-zip_at : {A B : Type 0} (R : A → B → Type 0) (xs : List A) (ys : List B) (i : ℕ) (d : A) (e : B) → AllZip R xs ys → i < length xs → R (get_or xs i d) (get_or ys i e)
-zip_at R [] ys i d e all h = absurd (omega (arith, h))
-zip_at R (x ∷ xs) [] i d e all h = absurd all
-zip_at R (x ∷ xs) (y ∷ ys) zero d e all h = all.0
-zip_at R (x ∷ xs) (y ∷ ys) (suc i) d e all h = zip_at R xs ys i d e all.1 (omega (arith, h))
-
 -- the answer of a number in a row
 pub answer_in_row : (c : Circuit) (v : List Bool) (row : List (List Bool)) → IsAnswerRow c v row → (number : ℕ) → number < fault_count c → IsAnswer c (fault_numbered c number) v (get_or row number [])
 answer_in_row c v row all number h = zip_at (λ f answer. IsAnswer c f v answer) (faults c) row number Free [] all h
 
-zip_once : {A B : Type 0} (R : A → B → Type 0) → ((a : A) (x y : B) → R a x → R a y → x ≡ y) → (ks : List A) (xs ys : List B) → AllZip R ks xs → AllZip R ks ys → xs ≡ ys
-zip_once R one [] [] [] first second = refl
-zip_once R one [] [] (y ∷ ys) first second = absurd second
-zip_once R one [] (x ∷ xs) ys first second = absurd first
-zip_once R one (a ∷ ks) [] ys first second = absurd first
-zip_once R one (a ∷ ks) (x ∷ xs) [] first second = absurd second
-zip_once {A} {B} R one (a ∷ ks) (x ∷ xs) (y ∷ ys) first second = ap₂ (λ (z : B) (zs : List B). z ∷ zs) (one a x y first.0 second.0) (zip_once R one ks xs ys first.1 second.1)
+zip_once : {A B : Type 0} (R : A → B → Type 0) (none : A) → ((a : A) (x y : B) → R a x → R a y → x ≡ y) → (ks : List A) (xs ys : List B) → AllZip R ks xs → AllZip R ks ys → xs ≡ ys
+zip_once R none one ks xs ys first second =
+    let long = AllZip-long R ks xs first in
+    same_lists xs ys (omega (arith, long, AllZip-long R ks ys second)) (λ k d below.
+    one (get_or ks k none) (get_or xs k d) (get_or ys k d) (zip_at R ks xs k none d first (omega (arith, below, long))) (zip_at R ks ys k none d second (omega (arith, below, long))))
 
 -- the patterns of a circuit have one table
 pub one_table : (c : Circuit) → IsCircuit c → {patterns : List (List Bool)} {t other : ClassTable} → IsTableOf c patterns t → IsTableOf c patterns other → t ≡ other
 one_table c is {patterns} first second =
-    let one_row = λ (v : List Bool) (row other : List (List Bool)). zip_once (λ f answer. IsAnswer c f v answer) (λ f. one_answer c is f v) (faults c) row other in
-    first.table ∙ ap (λ (rows : List (List (List Bool))). class_table (fault_count c) rows) (zip_once (IsAnswerRow c) one_row patterns first.rows second.rows first.answers second.answers) ∙ sym second.table
+    let one_row = λ (v : List Bool) (row other : List (List Bool)). zip_once (λ f answer. IsAnswer c f v answer) Free (λ f. one_answer c is f v) (faults c) row other in
+    first.table ∙ ap (λ (rows : List (List (List Bool))). class_table (fault_count c) rows) (zip_once (IsAnswerRow c) [] one_row patterns first.rows second.rows first.answers second.answers) ∙ sym second.table
 
 both_other : (a b free : Bool) → a ≢ free → b ≢ free → a ≡ b
 both_other true true free ha hb = refl

@@ -5,6 +5,7 @@ use Rattle.std.specs.List.{AllZip, zip, fold, range_with_len}
 use Rattle.std.proofs.lemmas.Bool.{cases_lt}
 use Rattle.std.proofs.lemmas.List.{append_assoc, take_more, length-map, length-replicate, get_or-replicate, take-append-le, get_or_append_left}
 use Rattle.std.proofs.lemmas.List.FromFn.{length-range_with_len}
+use Rattle.std.proofs.lemmas.Slice.Zip.{AllZip-long}
 use Rattle.std.proofs.Math.Seq.{take-append_seam, get_or-append_seam}
 use Rattle.std.proofs.lemmas.List.Sums.{fold-append, length-filter, count_by-le-length}
 use Rattle.std.proofs.lemmas.List.Elements.{All-append, All-head, All-tail}
@@ -54,12 +55,6 @@ all_zip_more R [] [] x y all one = (one, tt)
 all_zip_more R [] (b ∷ ys) x y all one = absurd all
 all_zip_more R (a ∷ xs) [] x y all one = absurd all
 all_zip_more R (a ∷ xs) (b ∷ ys) x y all one = (all.0, all_zip_more R xs ys x y all.1 one)
-
-length-all_zip : {A B : Type 0} (R : A → B → Type 0) (xs : List A) (ys : List B) → AllZip R xs ys → length ys ≡ length xs
-length-all_zip R [] [] all = refl
-length-all_zip R [] (b ∷ ys) all = absurd all
-length-all_zip R (a ∷ xs) [] all = absurd all
-length-all_zip R (a ∷ xs) (b ∷ ys) all = ap suc (length-all_zip R xs ys all.1)
 
 -- each vector has a row of answers
 pub rows_exist : (c : Circuit) → IsCircuit c → (vectors : List (List Bool)) → (rows : List (List (List Bool))) × AreAnswerRows c vectors rows
@@ -145,7 +140,7 @@ patterns-fold (row ∷ rows) t = omega (arith, patterns-fold rows (refined_table
 -- and it has seen all the patterns
 pub table_patterns : {c : Circuit} {patterns : List (List Bool)} {t : ClassTable} → IsTableOf c patterns t → t.patterns ≡ length patterns
 table_patterns {c} {patterns} {t} is =
-    ap (λ (u : ClassTable). u.patterns) is.table ∙ omega (arith, patterns-fold is.rows (first_table (fault_count c)), length-all_zip (IsAnswerRow c) patterns is.rows is.answers)
+    ap (λ (u : ClassTable). u.patterns) is.table ∙ omega (arith, patterns-fold is.rows (first_table (fault_count c)), AllZip-long (IsAnswerRow c) patterns is.rows is.answers)
 
 table_more : {c : Circuit} {patterns : List (List Bool)} {t : ClassTable} (v : List Bool) (row : List (List Bool)) → IsTableOf c patterns t → IsAnswerRow c v row → IsTableOf c (patterns ++ v ∷ []) (refined_table t row)
 table_more {c} {patterns} {t} v row is answers = record {

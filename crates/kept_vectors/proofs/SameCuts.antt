@@ -6,7 +6,7 @@ use Rattle.std.specs.List.{flat_map, range_with_len}
 use Rattle.std.proofs.lemmas.List.Elements.{All-head, All-tail}
 use Rattle.net_model.specs.ClassTable.{ClassTable, number_range, class_count, class_at, members, representative, answer_at, stay_together, piece_lowest, begins_class, new_lowest, class_after, refined_table, cuts_class}
 use Rattle.class_refine.specs.Fields.{IsWhole}
-use Rattle.class_refine.proofs.Ranges.{same_tests, filter_where, range_below}
+use Rattle.class_refine.proofs.Ranges.{same_tests, filter_where, map_where, range_below}
 use Rattle.class_refine.proofs.Pieces.{stays, staying, members-All}
 use Rattle.class_refine.proofs.Refined.{sound_from, numbers-refined, class-refined, same_after, from_cuts, whole-refined}
 use Rattle.class_refine.proofs.Cut.{none_added}
@@ -17,10 +17,6 @@ find_where p q [] h = refl
 find_where {X} p q (x ∷ xs) h =
     let later = find_where p q xs (All-tail (λ x. p x ≡ q x) x xs h) in
     ap (λ b. cond b (Some x) (find p xs)) (All-head (λ x. p x ≡ q x) x xs h) ∙ ap (λ (o : Option X). cond (q x) (Some x) o) later
-
-map_where : {X Y : Type 0} (f g : X → Y) (xs : List X) → All (λ x. f x ≡ g x) xs → map f xs ≡ map g xs
-map_where f g [] h = refl
-map_where f g (x ∷ xs) h = λ i. All-head (λ x. f x ≡ g x) x xs h i ∷ map_where f g xs (All-tail (λ x. f x ≡ g x) x xs h) i
 
 flat_map_where : {X Y : Type 0} (f g : X → List Y) (xs : List X) → ((x : X) → f x ≡ g x) → flat_map f xs ≡ flat_map g xs
 flat_map_where f g [] h = refl

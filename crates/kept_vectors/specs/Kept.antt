@@ -39,7 +39,7 @@ pub record KeepsFirst (c : Circuit) (vectors : List (List Bool)) (old new : Kept
   pub parts : vectors ≡ first ++ rest
   pub kept : Keeps c first old new
 
--- The first of these vectors are kept behind those of the first, of which each splits a class of those kept before it.
+-- So many of these vectors stand behind the old ones, and each of them splits a class of those before it.
 pub record KeepsRun (c : Circuit) (vectors : List (List Bool)) (count : ℕ) (old new : KeptSoFar) : Type 0 where
   pub within : count ≤ length vectors
   pub keeps : Keeps c (take count vectors) old new
