@@ -7,12 +7,14 @@ use Rattle.std.specs.Result.{result_ok}
 use Rattle.std.specs.Str.Parse.{ParsesUnsigned}
 use Rattle.net_model.specs.BitText.{bit_digit, bits_text}
 use Rattle.clause_pool.specs.Literal.{Literal}
+use Rattle.pair_sets.specs.declared.tree.Token.{Token}
 use Rattle.pair_miter.specs.ChainView.{ChainView}
+use Rattle.result_file.specs.declared.record.Proof.{Proof}
 use Rattle.result_file.specs.declared.record.Record.{Record}
 use Rattle.result_file.specs.declared.fault.RecordFault.{RecordFault}
 use Rattle.result_file.specs.declared.fault.RecordFault.TheVariants.{Syntax, NoMemory}
-use Rattle.result_file.specs.Spelling.{Text, fields, spelling, literal_field, step_fields, clause_fields, chain_fields, IsNumber, IsVariable, IsLiteral, HasStepSpelling, HasLiteralSpelling, HasChainSpelling, IsFreshChain, HasSpelling, IsNoSpelling}
-use Rattle.result_file.specs.Reading.{Reads}
+use Rattle.result_file.specs.Spelling.{Text, fields, spelling, literal_field, step_fields, clause_fields, chain_fields, evidence_fields, proof_fields, HasTreeSpelling, HasProofSpelling, IsNumber, IsVariable, IsLiteral, HasStepSpelling, HasLiteralSpelling, HasChainSpelling, IsFreshChain, HasSpelling, IsNoSpelling}
+use Rattle.result_file.specs.Reading.{Reads, IsChainOf}
 use Rattle.result_file.proofs.DigitLemmas.{text_of_digits, no_dash_digits}
 use Rattle.result_file.proofs.OnceLemmas.{tails, first_byte, first_digit, literal_once, number_once, parsed_number, unparsed_number}
 use Rattle.result_file.proofs.ReadLemmas.{spelled_by, fields_by}
@@ -22,6 +24,13 @@ pub turned : {X Y Z W : Type 0} (P : X → Type 0) (f : X → Y) (y : Y) (Q : Z 
     → (((x : X) → P x → f x ≡ y → ⊥) → (z : Z) → Q z → g z ≡ w → ⊥) → Reads Q g w (Err fault)
 turned P f y Q g w Syntax reads turn = turn reads
 turned P f y Q g w NoMemory reads turn = tt
+
+-- fields of a tree and a log that can't be read, behind the letter of their kind
+pub unread : (fresh : Bool) (texts all : List Text) (fault : RecordFault) → Reads (λ (both : List Token × List ChainView). HasTreeSpelling both.0 × All (IsChainOf fresh) both.1) (λ both. evidence_fields both.0 both.1) texts (Err fault)
+    → (((tree : List Token) (log : List ChainView) → HasTreeSpelling tree → All (IsChainOf fresh) log → evidence_fields tree log ≡ texts → ⊥) → (p : Proof) → HasProofSpelling p → proof_fields p ≡ all → ⊥) → Reads HasProofSpelling proof_fields all (Err fault)
+unread fresh texts all fault reads turn =
+    turned (λ (both : List Token × List ChainView). HasTreeSpelling both.0 × All (IsChainOf fresh) both.1) (λ both. evidence_fields both.0 both.1) texts HasProofSpelling proof_fields all fault reads
+    (λ never. turn (λ tree log spelled each. never (tree, log) (spelled, each)))
 
 pub not_true : (b : Bool) → true ≡ not b → false ≡ b
 not_true true e = absurd (cc)

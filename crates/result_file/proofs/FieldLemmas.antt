@@ -132,22 +132,21 @@ fields_are_fields End small = (visible (codes "end") refl, tt)
 unparted : (field : Text) → IsField field → All (λ b. (b == 32) ≡ false) field
 unparted field is = All-weaker IsVisible (λ b. (b == 32) ≡ false) (λ b there. ne_eqb b 32 (λ e. omega (arith, there.0))) field is
 
-parted : (x : Text) (xs : List Text) → AreFields (x ∷ xs) → slice_split (λ b. b == 32) (join_with_byte 32 (x ∷ xs)) ≡ x ∷ xs
-parted x [] are = slice_split_none (λ b. b == 32) x (unparted x are.0)
-parted x (y ∷ ys) are =
+parted : (xs : List Text) → AreFields xs → (xs ≡ [] → ⊥) → slice_split (λ b. b == 32) (join_with_byte 32 xs) ≡ xs
+parted [] are some = absurd (some refl)
+parted (x ∷ []) are some = slice_split_none (λ b. b == 32) x (unparted x are.0)
+parted (x ∷ y ∷ ys) are some =
     slice_split_at (λ b. b == 32) x 32 (join_with_byte 32 (y ∷ ys)) (unparted x are.0) refl
-    ∙ ap (λ (parts : List Text). x ∷ parts) (parted y ys are.1)
+    ∙ ap (λ (parts : List Text). x ∷ parts) (parted (y ∷ ys) are.1 (λ e. cc))
+
+has_word : (r : Record) → fields r ≡ [] → ⊥
+has_word End e = cc
+has_word r e = cc
 
 -- a spelling gives back its fields
 pub parted_spelling : (r : Record) → HasSpelling r → slice_split (λ b. b == 32) (spelling r) ≡ fields r
 unfolding spelling
-parted_spelling (Head sources positions numbers) small = parted (codes "diatest") (codes "1" ∷ decimal sources ∷ decimal positions ∷ decimal numbers ∷ []) (fields_are_fields (Head sources positions numbers) small)
-parted_spelling (Budget budgets) small = parted (codes "budget") (decimal budgets.blocks ∷ decimal budgets.cubes ∷ decimal budgets.conflicts ∷ []) (fields_are_fields (Budget budgets) small)
-parted_spelling (Pattern bits) small = parted (codes "pattern") (bits_text bits ∷ []) (fields_are_fields (Pattern bits) small)
-parted_spelling (Same evidence) small = parted (codes "same") (decimal evidence.member ∷ decimal evidence.partner ∷ proof_fields evidence.proof) (fields_are_fields (Same evidence) small)
-parted_spelling (Class number birth) small = parted (codes "class") (decimal number ∷ birth_fields birth) (fields_are_fields (Class number birth) small)
-parted_spelling (Member number class m) small = parted (codes "member") (decimal number ∷ decimal class ∷ mark_field m ∷ []) (fields_are_fields (Member number class m) small)
-parted_spelling End small = parted (codes "end") [] (fields_are_fields End small)
+parted_spelling r small = parted (fields r) (fields_are_fields r small) (has_word r)
 
 -- ---- the bytes of a line
 
@@ -155,22 +154,17 @@ parted_spelling End small = parted (codes "end") [] (fields_are_fields End small
 abbrev pub IsLineByte : ℕ → Type 0
 IsLineByte b = (32 ≤ b) × (b < 127)
 
-joined_bytes : (x : Text) (xs : List Text) → AreFields (x ∷ xs) → All IsLineByte (join_with_byte 32 (x ∷ xs))
-joined_bytes x [] are = All-weaker IsVisible IsLineByte (λ b there. (omega (arith, there.0), there.1)) x are.0
-joined_bytes x (y ∷ ys) are =
+joined_bytes : (xs : List Text) → AreFields xs → All IsLineByte (join_with_byte 32 xs)
+joined_bytes [] are = All-nil IsLineByte
+joined_bytes (x ∷ []) are = All-weaker IsVisible IsLineByte (λ b there. (omega (arith, there.0), there.1)) x are.0
+joined_bytes (x ∷ y ∷ ys) are =
     All-append IsLineByte x (32 ∷ join_with_byte 32 (y ∷ ys))
     (All-weaker IsVisible IsLineByte (λ b there. (omega (arith, there.0), there.1)) x are.0)
-    (All-cons IsLineByte 32 (join_with_byte 32 (y ∷ ys)) (lit≤ tt, lit< tt) (joined_bytes y ys are.1))
+    (All-cons IsLineByte 32 (join_with_byte 32 (y ∷ ys)) (lit≤ tt, lit< tt) (joined_bytes (y ∷ ys) are.1))
 
 pub spelling_bytes : (r : Record) → HasSpelling r → All IsLineByte (spelling r)
 unfolding spelling
-spelling_bytes (Head sources positions numbers) small = joined_bytes (codes "diatest") (codes "1" ∷ decimal sources ∷ decimal positions ∷ decimal numbers ∷ []) (fields_are_fields (Head sources positions numbers) small)
-spelling_bytes (Budget budgets) small = joined_bytes (codes "budget") (decimal budgets.blocks ∷ decimal budgets.cubes ∷ decimal budgets.conflicts ∷ []) (fields_are_fields (Budget budgets) small)
-spelling_bytes (Pattern bits) small = joined_bytes (codes "pattern") (bits_text bits ∷ []) (fields_are_fields (Pattern bits) small)
-spelling_bytes (Same evidence) small = joined_bytes (codes "same") (decimal evidence.member ∷ decimal evidence.partner ∷ proof_fields evidence.proof) (fields_are_fields (Same evidence) small)
-spelling_bytes (Class number birth) small = joined_bytes (codes "class") (decimal number ∷ birth_fields birth) (fields_are_fields (Class number birth) small)
-spelling_bytes (Member number class m) small = joined_bytes (codes "member") (decimal number ∷ decimal class ∷ mark_field m ∷ []) (fields_are_fields (Member number class m) small)
-spelling_bytes End small = joined_bytes (codes "end") [] (fields_are_fields End small)
+spelling_bytes r small = joined_bytes (fields r) (fields_are_fields r small)
 
 -- a spelling has no LF
 pub no_line_feed : (r : Record) → HasSpelling r → ¬ Contains (spelling r) 10

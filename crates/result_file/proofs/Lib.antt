@@ -22,3 +22,4 @@ mod FileLemmas
 -- Valid is true
 mod ShapeLemmas
 pub mod ValidTrue
+pub mod SoundLemmas

@@ -1,7 +1,7 @@
 -- Logs, steps and trees that are read so far, and what fields behind them spell.
-use Rattle.std.proofs.Common.{◌≡◌, ◌∙◌, ℕ, ◌+◌, ◌<◌, ◌≤◌, Bool, List, [], ◌∷◌, ◌++◌, map, length, take, drop, get_or, length-drop, take-append-drop, drop-drop, refl, sym, ap, subst, arith}
+use Rattle.std.proofs.Common.{◌≡◌, ◌∙◌, ℕ, ◌+◌, ◌-◌, ◌<◌, ◌≤◌, Bool, List, [], ◌∷◌, ◌++◌, map, length, take, drop, get_or, length-drop, take-append-drop, drop-drop, refl, sym, ap, subst, arith}
 use Rattle.std.specs.Prelude.{All, flat_map, codes, decimal}
-use Rattle.std.proofs.lemmas.List.{append_assoc, append-nil, drop_more, drop_all, length-map}
+use Rattle.std.proofs.lemmas.List.{append_assoc, append-nil, drop_more, drop_all, length-map, take-map, drop-map, take_rest}
 use Rattle.std.proofs.lemmas.List.Concat.{flat_map-append}
 use Rattle.std.proofs.lemmas.List.Elements.{All-head, All-tail, All-push}
 use Rattle.clause_pool.specs.Literal.{Literal}
@@ -35,6 +35,27 @@ pub record IsChainEnd (rest : List Text) (n : ℕ) : Type 0 where
 pub chain_end_of : {B : Type 0} (now : B → Text) (xs : List B) (n : ℕ) → n ≤ length xs → All IsUnmarked (take n (map now xs)) → (n < length xs → get_or (map now xs) n [] ≡ codes ";") → IsChainEnd (map now xs) n
 chain_end_of now xs n within before at = record { within = omega (arith, within, length-map xs now); before = before; at = λ low. at (omega (arith, low, length-map xs now)) }
 
+-- A mark stands at a place, and so many fields behind it are those of its chain.
+pub record BeginsChain (texts : List Text) (at n : ℕ) : Type 0 where
+  pub below : at < length texts
+  pub mark : get_or texts at [] ≡ codes ";"
+  pub is : IsChainEnd (drop (at + 1) texts) n
+
+-- the fields behind a mark, and so many of them, cut out of a list whose texts these are
+module _ {B : Type 0} (now : B → Text) (fields : List B) (at n : ℕ) where
+  abbrev pub behind : List B
+  behind = take (length fields - (at + 1)) (drop (at + 1) fields)
+
+  pub chain_begins : at < length fields → get_or (map now fields) at [] ≡ codes ";" → n ≤ length behind → All IsUnmarked (take n (map now behind)) → (n < length behind → get_or (map now behind) n [] ≡ codes ";") → BeginsChain (map now fields) at n
+  chain_begins below mark within before here =
+      let moved : map now behind ≡ drop (at + 1) (map now fields) = ap (map now) (take_rest fields (at + 1)) ∙ sym (drop-map now (at + 1) fields) in
+      record { below = omega (arith, below, length-map fields now); mark = mark; is = subst (λ (ts : List Text). IsChainEnd ts n) moved (chain_end_of now behind n within before here) }
+
+  pub chain_cut : map now (take (at + 1 + n - (at + 1)) (drop (at + 1) fields)) ≡ take n (drop (at + 1) (map now fields))
+  chain_cut =
+      let same : at + 1 + n - (at + 1) ≡ n = omega arith in
+      ap (λ (k : ℕ). map now (take k (drop (at + 1) fields))) same ∙ sym (take-map now n (drop (at + 1) fields)) ∙ ap (take n) (sym (drop-map now (at + 1) fields))
+
 begins_by : (rest : List Text) (n : ℕ) → IsChainEnd rest n → (xs : List Text) → drop n rest ≡ xs → Begins IsUnmarked IsMark xs
 begins_by rest n is [] e = tt
 begins_by rest n is (x ∷ xs) e =
@@ -65,20 +86,17 @@ no_by : (text : Text) (rest : List Text) → (text ≡ codes ";" → ⊥) → (l
 no_by text rest other [] e = cc
 no_by text rest other (chain ∷ log) e = other (sym (tails e).0)
 
-module _ (fresh : Bool) (texts : List Text) (at : ℕ) (log : List ChainView) (so_far : IsLogSoFar fresh texts at log) (below : at < length texts) where
-  rest_here : drop at texts ≡ get_or texts at [] ∷ drop (at + 1) texts
-  rest_here = drop_more texts at [] below
+module _ (fresh : Bool) (texts : List Text) (at : ℕ) (log : List ChainView) (so_far : IsLogSoFar fresh texts at log) where
+  pub refused_mark : at < length texts → (get_or texts at [] ≡ codes ";" → ⊥) → SomeLog fresh texts → ⊥
+  refused_mark below other some = let more = so_far.goes_on some in no_by (get_or texts at []) (drop (at + 1) texts) other more.0 (more.2 ∙ drop_more texts at [] below)
 
-  pub refused_mark : (get_or texts at [] ≡ codes ";" → ⊥) → SomeLog fresh texts → ⊥
-  refused_mark other some = let more = so_far.goes_on some in no_by (get_or texts at []) (drop (at + 1) texts) other more.0 (more.2 ∙ rest_here)
-
-  module _ (mark : get_or texts at [] ≡ codes ";") (n : ℕ) (is : IsChainEnd (drop (at + 1) texts) n) where
+  module _ (n : ℕ) (begins : BeginsChain texts at n) where
     behind_mark : drop at texts ≡ codes ";" ∷ drop (at + 1) texts
-    behind_mark = rest_here ∙ ap (λ (text : Text). text ∷ drop (at + 1) texts) mark
+    behind_mark = drop_more texts at [] begins.below ∙ ap (λ (text : Text). text ∷ drop (at + 1) texts) begins.mark
 
     pub refused_chain : ((chain : ChainView) → IsChainOf fresh chain → chain_fields chain ≡ take n (drop (at + 1) texts) → ⊥) → SomeLog fresh texts → ⊥
     refused_chain never some =
-        let first = first_chain fresh (drop (at + 1) texts) n is (subst (SomeLog fresh) behind_mark (so_far.goes_on some)) in
+        let first = first_chain fresh (drop (at + 1) texts) n begins.is (subst (SomeLog fresh) behind_mark (so_far.goes_on some)) in
         never first.0.0 first.0.1 first.0.2
 
     pub log_more : (chain : ChainView) → IsChainOf fresh chain → chain_fields chain ≡ take n (drop (at + 1) texts) → IsLogSoFar fresh texts (at + 1 + n) (log ++ chain ∷ [])
@@ -88,7 +106,7 @@ module _ (fresh : Bool) (texts : List Text) (at : ℕ) (log : List ChainView) (s
         let after : drop n rest ≡ drop (at + 1 + n) texts = drop-drop n (at + 1) texts in
         let fields : log_fields (log ++ chain ∷ []) ≡ chains ++ (codes ";" ∷ chain_fields chain ++ []) = flat_map-append (λ chain. codes ";" ∷ chain_fields chain) log (chain ∷ []) in
         record {
-          inside = omega (arith, is.within, length-drop (at + 1) texts, below);
+          inside = omega (arith, begins.is.within, length-drop (at + 1) texts, begins.below);
           all = All-push (IsChainOf fresh) log chain so_far.all one;
           spelled =
               ap (λ (xs : List Text). xs ++ drop (at + 1 + n) texts) (fields ∙ ap (λ (xs : List Text). chains ++ (codes ";" ∷ xs)) (append-nil (chain_fields chain) ∙ e))
@@ -97,7 +115,7 @@ module _ (fresh : Bool) (texts : List Text) (at : ℕ) (log : List ChainView) (s
               ∙ ap (λ (xs : List Text). chains ++ (codes ";" ∷ xs)) (take-append-drop n rest)
               ∙ ap (λ (xs : List Text). chains ++ xs) (sym behind_mark)
               ∙ so_far.spelled;
-          goes_on = λ some. subst (SomeLog fresh) after (first_chain fresh rest n is (subst (SomeLog fresh) behind_mark (so_far.goes_on some))).1;
+          goes_on = λ some. subst (SomeLog fresh) after (first_chain fresh rest n begins.is (subst (SomeLog fresh) behind_mark (so_far.goes_on some))).1;
         }
 
 -- the fields of a tree, and those of the log behind it

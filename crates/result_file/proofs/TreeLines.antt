@@ -1,5 +1,5 @@
 -- The line of evidence with a tree: fields in a row, each token and each field of a chain behind a blank.
-use Rattle.std.proofs.Common.{◌≡◌, ◌∙◌, ℕ, List, [], ◌∷◌, ◌++◌, map, refl, sym, ap, ap₂}
+use Rattle.std.proofs.Common.{◌≡◌, ◌∙◌, ℕ, List, [], ◌∷◌, ◌++◌, map, refl, sym, ap}
 use Rattle.std.specs.Prelude.{flat_map, codes, decimal}
 use Rattle.std.specs.Option.{option_to_list}
 use Rattle.std.specs.List.{join_with_byte}
@@ -8,7 +8,7 @@ use Rattle.std.proofs.lemmas.List.Concat.{flat_map-append}
 use Rattle.clause_pool.specs.Literal.{Literal}
 use Rattle.pair_sets.specs.declared.tree.Token.{Token}
 use Rattle.pair_miter.specs.ChainView.{ChainView}
-use Rattle.result_file.specs.Spelling.{Text, behind_blanks, token_field, literal_field, step_fields, chain_fields, log_fields, evidence_fields}
+use Rattle.result_file.specs.Spelling.{Text, behind_blanks, token_field, literal_field, step_fields, chain_fields, log_fields}
 
 -- a first field, and each later one behind the byte
 join_is : (x : Text) (xs : List Text) → join_with_byte 32 (x ∷ xs) ≡ x ++ behind_blanks xs
@@ -48,8 +48,11 @@ pub blanks_of_log : (log : List ChainView) → behind_blanks (log_fields log) �
 blanks_of_log [] = refl
 blanks_of_log (chain ∷ log) = blanks_append (codes ";" ∷ chain_fields chain) (log_fields log) ∙ ap (λ (rest : Text). chain_text chain ++ rest) (blanks_of_log log)
 
-pub blanks_of_evidence : (tree : List Token) (log : List ChainView) → behind_blanks (evidence_fields tree log) ≡ flat_map (λ token. 32 ∷ token_field token) tree ++ flat_map chain_text log
-blanks_of_evidence tree log = blanks_append (map token_field tree) (log_fields log) ∙ ap₂ (λ (first rest : Text). first ++ rest) (blanks_of_tree tree) (blanks_of_log log)
+-- fields behind others
+pub join_append : (x : Text) (xs ys : List Text) → join_with_byte 32 (x ∷ xs ++ ys) ≡ join_with_byte 32 (x ∷ xs) ++ behind_blanks ys
+join_append x xs ys =
+    join_is x (xs ++ ys) ∙ ap (λ (rest : Text). x ++ rest) (blanks_append xs ys) ∙ sym (append_assoc x (behind_blanks xs) (behind_blanks ys))
+    ∙ ap (λ (text : Text). text ++ behind_blanks ys) (sym (join_is x xs))
 
 -- the fields up to a kind, and further ones
 pub line_fields : (x y z kind : Text) (rest : List Text) → join_with_byte 32 (x ∷ y ∷ z ∷ kind ∷ rest) ≡ (x ++ 32 ∷ y ++ 32 ∷ z ++ 32 ∷ kind) ++ behind_blanks rest

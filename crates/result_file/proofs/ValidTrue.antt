@@ -14,7 +14,6 @@ use Rattle.result_file.specs.Marks.{is_end, end_lines, patterns_in, class_lines}
 use Rattle.result_file.specs.Lines.{IsInPlace}
 use Rattle.result_file.specs.Valid.{AreRightLines, IsValid}
 use Rattle.result_file.specs.Meaning.{StatedResult, stated_records, class_records, member_records, IsTrueResult}
-use Rattle.result_file.specs.Laws.{ValidIsTrue}
 use Rattle.result_file.proofs.FileLemmas.{next_right}
 use Rattle.result_file.proofs.ShapeLemmas.{HasShape, HasSome, shaped}
 use Rattle.result_file.proofs.Truth.{AreSound, IsSoundTable, lines_true}
@@ -66,7 +65,7 @@ module _ (c : Circuit) (sound : AreSound c) (tables : AreSoundTables c) where
       (s, e, lines_true c b shape.body shape.t shape.members sound (subst (AreRightLines c) e right) shape.inside (tables (patterns_in shape.body) shape.t shape.widths shape.table) shape.are)
 
   -- what valid records state is true
-  pub valid_true : ValidIsTrue c
+  pub valid_true : (records : List Record) → IsValid c records → (s : StatedResult) × (records ≡ stated_records c s) × IsTrueResult c s
   valid_true [] valid = absurd (omega (arith, some_end [] valid))
   valid_true (Head sources positions numbers ∷ []) valid = absurd (omega (arith, some_end (Head sources positions numbers ∷ []) valid))
   valid_true (Head sources positions numbers ∷ Budget b ∷ rest) valid =

@@ -1,13 +1,14 @@
--- Laws: a line is the spelling of one record, a file is refused in one way and only where it isn't valid, and lines are
--- the same however the bytes come.
+-- Laws: a line is the spelling of one record, a file is refused in one way and only where it isn't valid, what a valid one
+-- states is true, and lines are the same however the bytes come.
 use Rattle.std.specs.Prelude.{◌≡◌, List, [], ◌++◌, Contains}
 use Rattle.net_model.specs.Circuit.{Circuit, IsCircuit}
+use Rattle.result_file.specs.declared.record.Budgets.{Budgets}
 use Rattle.result_file.specs.declared.record.Record.{Record}
 use Rattle.result_file.specs.declared.fault.ResultFault.{ResultFault}
 use Rattle.result_file.specs.Spelling.{Text, spelling, HasSpelling}
 use Rattle.result_file.specs.Valid.{IsValid, IsValidFile}
 use Rattle.result_file.specs.Refusal.{FileRefused}
-use Rattle.result_file.specs.Meaning.{StatedResult, stated_records, IsTrueResult}
+use Rattle.result_file.specs.Meaning.{StatedResult, stated_records, IsTrueResult, IsTrueFile}
 use Rattle.result_file.specs.Held.{Event, LeadTo, fed_text, taken_lines, lines_text}
 
 -- records with one spelling are the same
@@ -36,5 +37,9 @@ LinesAreAlike = (events others : List Event) (held other : Text) → LeadTo [] e
     → ¬ Contains held 10 → ¬ Contains other 10 → (taken_lines events ≡ taken_lines others) × (held ≡ other)
 
 -- what valid records state is true of the circuit
-abbrev pub ValidIsTrue : Circuit → Type 0
-ValidIsTrue c = (records : List Record) → IsValid c records → (s : StatedResult) × (records ≡ stated_records c s) × IsTrueResult c s
+abbrev pub ValidIsTrue : Type 0
+ValidIsTrue = (c : Circuit) (records : List Record) → IsCircuit c → IsValid c records → (s : StatedResult) × (records ≡ stated_records c s) × IsTrueResult c s
+
+-- what a valid file states is true of the circuit, whatever budgets it states
+abbrev pub ValidFileIsTrue : Type 0
+ValidFileIsTrue = (c : Circuit) (file : Text) → IsCircuit c → IsValidFile c file → (budgets : Budgets) × IsTrueFile c budgets file

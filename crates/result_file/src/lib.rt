@@ -12,7 +12,9 @@ mod write;
 mod write_log;
 
 pub use fault::{RecordFault, ResultFault, ResultKind};
-pub use laws::{file_is_refused_once, lines_are_what_was_fed, record_is_spelled_once};
+pub use laws::{
+    file_is_refused_once, lines_are_what_was_fed, record_is_spelled_once, valid_is_true,
+};
 pub use lines::Lines;
 pub use read::read_record;
 pub use record::{Budgets, Evidence, Mark, Proof, Record, Summary};

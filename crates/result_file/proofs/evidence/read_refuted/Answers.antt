@@ -1,15 +1,11 @@
-use Rattle.std.proofs.Common.{◌≡◌, ◌∙◌, List, [], ◌∷◌, false, map, length, sym, ap}
-use Rattle.std.specs.Prelude.{All, codes}
+use Rattle.std.proofs.Common.{◌≡◌, ◌∙◌, [], ◌∷◌, false, map, length, sym, ap}
+use Rattle.std.specs.Prelude.{codes}
 use Rattle.std.proofs.lemmas.Result.{err_from_is_err_and}
 use Rattle.std.proofs.lemmas.Bool.{eqb-true}
-use Rattle.pair_sets.specs.declared.tree.Token.{Token}
-use Rattle.pair_miter.specs.ChainView.{ChainView}
-use Rattle.result_file.specs.Spelling.{evidence_fields, proof_fields, HasTreeSpelling, HasProofSpelling}
-use Rattle.result_file.specs.Reading.{IsChainOf}
 use Rattle.result_file.proofs.OnceLemmas.{evidence_once}
 use Rattle.result_file.proofs.ReadLemmas.{refuses_refuted}
 use Rattle.result_file.proofs.SoFarLemmas.{none_left}
-use Rattle.result_file.proofs.AnswerLemmas.{turned}
+use Rattle.result_file.proofs.AnswerLemmas.{unread}
 use Rattle.result_file.proofs.evidence.read_refuted.Goals as goal
 
 pub returns-in_err-tree : goal.returns-in_err-tree
@@ -17,8 +13,7 @@ returns-in_err-tree c =
     let texts = map (λ f. f.now) c.args.fields.now in
     let p = err_from_is_err_and c.from_residual.result c.from_residual.ensures.1 in
     rw (p.1, p.2)
-    (turned (λ (both : List Token × List ChainView). HasTreeSpelling both.0 × All (IsChainOf false) both.1) (λ both. evidence_fields both.0 both.1) texts HasProofSpelling proof_fields (codes "R" ∷ texts) c.in_err-tree.field-0.0
-    c.in_err-tree.ensures (λ never. refuses_refuted texts (λ tree log spelled refutation e. never (tree, log) (spelled, refutation.1) e)))
+    (unread false texts (codes "R" ∷ texts) c.in_err-tree.field-0.0 c.in_err-tree.ensures (λ never. refuses_refuted texts (λ tree log spelled refutation. never tree log spelled refutation.1)))
 
 pub returns-then-is_empty : goal.returns-then-is_empty
 returns-then-is_empty c =

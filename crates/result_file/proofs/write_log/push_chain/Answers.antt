@@ -1,10 +1,10 @@
-use Rattle.std.proofs.Common.{◌≡◌, ◌∙◌, ◌∷◌, [], ◌++◌, List, ℕ, map, ap, ap₂, sym, subst}
+use Rattle.std.proofs.Common.{◌≡◌, ◌∙◌, ◌∷◌, ◌++◌, List, ℕ, map, ap, ap₂, sym, subst}
 use Rattle.std.specs.Prelude.{codes, decimal, OnOk}
 use Rattle.std.specs.Option.{option_to_list}
 use Rattle.std.specs.String.{string_bytes}
 use Rattle.std.proofs.lemmas.List.{append_assoc}
 use Rattle.clause_pool.specs.Literal.{Literal}
-use Rattle.result_file.specs.Spelling.{Text, behind_blanks, literal_field, chain_fields}
+use Rattle.result_file.specs.Spelling.{Text, behind_blanks, literal_field}
 use Rattle.result_file.proofs.TreeLines.{steps_text, blanks_of_chain}
 use Rattle.result_file.proofs.write_log.push_chain.Goals as goal
 
