@@ -18,6 +18,9 @@ use Rattle.clause_pool.proofs.Literals.{opposite_opposite, literal_cases}
 -- ---- steps
 
 module _ (clauses : List Clause) (at : Literal) where
+  pub no_step : (values : List (Option Bool)) → IsOpenAt values at → IsStep clauses at values values
+  no_step values o = record { size = refl; at_open = o; kept = λ l t. t; closes = λ held c. c }
+
   pub two_steps : (before between after : List (Option Bool)) → IsStep clauses at before between → IsStep clauses at between after → IsStep clauses at before after
   two_steps before between after first second = record {
     size = second.size ∙ first.size;

@@ -13,3 +13,4 @@ pub mod TreeLaws
 pub mod AssignmentLemmas
 pub mod IndexLemmas
 pub mod SettledLemmas
+pub mod ReachedLemmas

@@ -1,21 +1,23 @@
 -- Which clauses are settled, as unit propagation goes along the lists.
-use Rattle.std.proofs.Common.{◌≡◌, ◌≢◌, ◌∙◌, ℕ, ◌<◌, ◌≤◌, ◌+◌, inl, inr, refl, sym, ap, arith, subst, get_or, drop, length-append}
+use Rattle.std.proofs.Common.{◌≡◌, ◌≢◌, ◌∙◌, ◌⊎◌, ℕ, ◌<◌, ◌≤◌, ◌+◌, ◌-◌, inl, inr, refl, sym, ap, arith, subst, get_or, take, drop, drop-drop, take-append-drop, length-append}
 use Rattle.std.specs.Prelude.{Bool, true, false, List, [], ◌∷◌, ◌++◌, length, Option, None, Some, Contains, All}
-use Rattle.std.proofs.lemmas.List.{drop-append-le, drop_more, drop_all, get_or_default}
-use Rattle.std.proofs.lemmas.List.Elements.{Contains-append_left}
+use Rattle.std.proofs.lemmas.List.{drop-append-le, drop_more, drop_all, get_or_default, length-set}
+use Rattle.std.proofs.lemmas.List.Elements.{Contains-append_left, Contains-append_right}
 use Rattle.clause_pool.specs.Literal.{Literal, opposite}
 use Rattle.clause_pool.specs.LiteralCode.{code_of}
-use Rattle.clause_pool.specs.Clauses.{Clause, numbered_clause}
+use Rattle.clause_pool.specs.Clauses.{Clause}
 use Rattle.clause_pool.proofs.Literals.{opposite_opposite}
-use Rattle.clause_pool.proofs.Numbered.{numbered_at, same_clause}
 use Rattle.net_model.proofs.Elements.{none_in, first_or_later}
 use Rattle.refute_check.specs.declared.assignment.Assignment.{Assignment}
 use Rattle.refute_check.specs.Assignment.{IsAssignment}
 use Rattle.refute_check.specs.Closure.{IsStep}
-use Rattle.refute_check.specs.Held.{IsFalseAt, IsOpenAt, IsQuietAt, satisfied, two_open, value_at, IsUnitAt}
+use Rattle.refute_check.specs.Held.{IsFalseAt, IsOpenAt, IsQuietAt, satisfied, two_open, value_at}
 use Rattle.refute_check.specs.Index.{IsIndexOf, list_at}
-use Rattle.refute_check.specs.Propagation.{IsSettled, quiet, falsified, listed, AreSettled}
-use Rattle.refute_check.proofs.HeldLemmas.{opposite_true, opposite_open, open_not_true, open_not_false, hold, hold_holds, hold_kept, hold_cases}
+use Rattle.refute_check.specs.declared.looked.Looked.{Looked}
+use Rattle.refute_check.specs.Looked.{IsLookedAt}
+use Rattle.refute_check.specs.Propagation.{IsSettled, quiet, falsified, listed, AreSettled, AreLooked, HoldsMore, nothing, one}
+use Rattle.refute_check.proofs.ClosureLemmas.{no_step, two_steps}
+use Rattle.refute_check.proofs.HeldLemmas.{opposite_true, opposite_open, open_not_true, open_not_false, hold, hold_kept, hold_cases}
 use Rattle.refute_check.proofs.AssignmentLemmas.{last_in}
 
 -- ---- one clause
@@ -46,11 +48,42 @@ module _ (values : List (Option Bool)) (x : Literal) (within : x.variable < leng
   still_settled (falsified l m c) = falsified l m (Contains-append_left coming (x ∷ []) (opposite l) c)
   still_settled (listed m) = listed m
 
--- the clause of the first number is quiet
-pass_first : (values : List (Option Bool)) (coming : List Literal) (n : ℕ) (numbers : List ℕ) (number : ℕ) (clause : Clause) → (n ≡ number → IsQuietAt values clause) → IsSettled values coming (n ∷ numbers) number clause → IsSettled values coming numbers number clause
+-- the clause of the first number is settled without it
+pass_first : (values : List (Option Bool)) (coming : List Literal) (n : ℕ) (numbers : List ℕ) (number : ℕ) (clause : Clause) → (n ≡ number → IsSettled values coming numbers number clause) → IsSettled values coming (n ∷ numbers) number clause
+    → IsSettled values coming numbers number clause
 pass_first values coming n numbers number clause here (quiet q) = quiet q
 pass_first values coming n numbers number clause here (falsified l m c) = falsified l m c
-pass_first values coming n numbers number clause here (listed m) = elim (first_or_later n numbers number m) [ inl e ↦ quiet (here e) | inr more ↦ listed more ]
+pass_first values coming n numbers number clause here (listed m) = elim (first_or_later n numbers number m) [ inl e ↦ here e | inr more ↦ listed more ]
+
+in_drop : {X : Type 0} → (s t : ℕ) (xs : List X) (x : X) → t ≤ s → Contains (drop s xs) x → Contains (drop t xs) x
+in_drop s t xs x h m =
+    let further : drop (s - t) (drop t xs) ≡ drop s xs = drop-drop (s - t) t xs ∙ ap (λ (k : ℕ). drop k xs) (omega arith) in
+    let found = subst (λ ys. Contains ys x) (sym further) m in
+    subst (λ ys. Contains ys x) (take-append-drop (s - t) (drop t xs)) (Contains-append_right (take (s - t) (drop t xs)) (drop (s - t) (drop t xs)) x found)
+
+-- what was settled by later literals is so by more of them
+settled_before : (values : List (Option Bool)) (trail : List Literal) (s t : ℕ) (numbers : List ℕ) (number : ℕ) (clause : Clause) → t ≤ s → IsSettled values (drop s trail) [] number clause → IsSettled values (drop t trail) numbers number clause
+settled_before values trail s t numbers number clause h (quiet q) = quiet q
+settled_before values trail s t numbers number clause h (falsified l m c) = falsified l m (in_drop s t trail (opposite l) h c)
+settled_before values trail s t numbers number clause h (listed m) = absurd (none_in number m)
+
+-- ---- one more literal, or none
+
+module _ (a b : Assignment) where
+  pub more_longer : HoldsMore a b → length a.trail.items ≤ length b.trail.items
+  more_longer (nothing e) = omega (arith, ap (λ (x : Assignment). length x.trail.items) e)
+  more_longer (one l within o values trail) = omega (arith, ap length trail ∙ length-append a.trail.items (l ∷ []))
+
+  pub more_size : HoldsMore a b → length b.values.items ≡ length a.values.items
+  more_size (nothing e) = ap (λ (x : Assignment). length x.values.items) e
+  more_size (one l within o values trail) = ap length values ∙ length-set a.values.items l.variable (Some l.positive)
+
+  more_settled : (from : ℕ) (numbers : List ℕ) (number : ℕ) (clause : Clause) → HoldsMore a b → from ≤ length a.trail.items → IsSettled a.values.items (drop from a.trail.items) numbers number clause → IsSettled b.values.items (drop from b.trail.items) numbers number clause
+  more_settled from numbers number clause (nothing e) h settled = subst (λ (x : Assignment). IsSettled x.values.items (drop from x.trail.items) numbers number clause) (sym e) settled
+  more_settled from numbers number clause (one l within o values trail) h settled =
+      subst (λ vs. IsSettled vs (drop from b.trail.items) numbers number clause) (sym values)
+      (subst (λ xs. IsSettled (hold a.values.items l) xs numbers number clause) (sym (ap (drop from) trail ∙ drop-append-le from a.trail.items (l ∷ []) h))
+      (still_settled a.values.items l within o (drop from a.trail.items) numbers number clause settled))
 
 -- ---- all clauses
 
@@ -90,64 +123,71 @@ module _ (variables : ℕ) (clauses : List Clause) (lists : List (List ℕ)) (sh
 -- ---- a list of clauses is looked at
 
 -- The first clauses of the list have been looked at: what was settled stays so without them.
-pub record HasSeen (clauses : List Clause) (at : Literal) (numbers : List ℕ) (i : ℕ) (before after : Assignment) : Type 0 where
+pub record HasSeen (clauses : List Clause) (at : Literal) (numbers : List ℕ) (from i : ℕ) (before after : Assignment) (looked : Looked) : Type 0 where
   pub assignment : IsAssignment after
   pub step : IsStep clauses at before.values.items after.values.items
   pub longer : length before.trail.items ≤ length after.trail.items
-  pub settled : (from : ℕ) → from ≤ length before.trail.items → AreSettled clauses before from numbers → AreSettled clauses after from (drop i numbers)
+  pub looks : AreLooked clauses after looked
+  pub settled : AreSettled clauses before from numbers → AreSettled clauses after from (drop i numbers)
 
-module _ (clauses : List Clause) (at : Literal) (numbers : List ℕ) where
-  step_none : (values : List (Option Bool)) → IsOpenAt values at → IsStep clauses at values values
-  step_none values o = record { size = refl; at_open = o; kept = λ l t. t; closes = λ held c. c }
+module _ (clauses : List Clause) (at : Literal) (numbers : List ℕ) (from : ℕ) where
+  pub seen_none : (a : Assignment) (looked : Looked) → IsAssignment a → AreLooked clauses a looked → IsOpenAt a.values.items at → HasSeen clauses at numbers from 0 a a looked
+  seen_none a looked is are o = record { assignment = is; step = no_step clauses at a.values.items o; longer = omega arith; looks = are; settled = λ s. s }
 
-  pub seen_none : (a : Assignment) → IsAssignment a → IsOpenAt a.values.items at → HasSeen clauses at numbers 0 a a
-  seen_none a is o = record { assignment = is; step = step_none a.values.items o; longer = omega arith; settled = λ from h s. s }
-
-  module _ (i n : ℕ) (clause : Clause) (inside : i < length numbers) (n_is : n ≡ get_or numbers i n) (named : numbered_clause clauses n ≡ Some clause) where
+  module _ (i n : ℕ) (inside : i < length numbers) (n_is : n ≡ get_or numbers i n) where
     next_of : drop i numbers ≡ n ∷ drop (i + 1) numbers
     next_of = drop_more numbers i n inside ∙ ap (λ m. m ∷ drop (i + 1) numbers) (sym n_is)
 
-    is_clause : (k : ℕ) → k < length clauses → n ≡ k + 1 → clause ≡ get_or clauses k []
-    is_clause k h e = same_clause clauses (k + 1) clause (get_or clauses k []) (ap (numbered_clause clauses) (sym e) ∙ named) (numbered_at clauses k [] h)
+    pass : (a : Assignment) (k : ℕ) → (n ≡ k + 1 → IsSettled a.values.items (drop from a.trail.items) (drop (i + 1) numbers) (k + 1) (get_or clauses k [])) → IsSettled a.values.items (drop from a.trail.items) (drop i numbers) (k + 1) (get_or clauses k [])
+        → IsSettled a.values.items (drop from a.trail.items) (drop (i + 1) numbers) (k + 1) (get_or clauses k [])
+    pass a k here settled =
+        pass_first a.values.items (drop from a.trail.items) n (drop (i + 1) numbers) (k + 1) (get_or clauses k []) here
+        (subst (λ ns. IsSettled a.values.items (drop from a.trail.items) ns (k + 1) (get_or clauses k [])) next_of settled)
 
-    -- the clause is quiet
-    pub seen_quiet : (before after : Assignment) → HasSeen clauses at numbers i before after → IsQuietAt after.values.items clause → HasSeen clauses at numbers (i + 1) before after
-    seen_quiet before after is q = record {
+    -- the clause was looked at already
+    pub seen_skipped : (before after : Assignment) (looked : Looked) (s : ℕ) → HasSeen clauses at numbers from i before after looked → from ≤ s → IsLookedAt looked n s → HasSeen clauses at numbers from (i + 1) before after looked
+    seen_skipped before after looked s is late there = record {
       assignment = is.assignment;
       step = is.step;
       longer = is.longer;
-      settled = λ from h s k low.
-          pass_first after.values.items (drop from after.trail.items) n (drop (i + 1) numbers) (k + 1) (get_or clauses k [])
-          (λ e. subst (IsQuietAt after.values.items) (is_clause k low e) q)
-          (subst (λ ns. IsSettled after.values.items (drop from after.trail.items) ns (k + 1) (get_or clauses k [])) next_of (is.settled from h s k low));
+      looks = is.looks;
+      settled = λ all k low. pass after k
+          (λ e. settled_before after.values.items after.trail.items s from (drop (i + 1) numbers) (k + 1) (get_or clauses k []) late (is.looks.settled k s low (subst (λ m. IsLookedAt looked m s) e there)))
+          (is.settled all k low);
     }
 
-    -- a literal is held that makes the clause true
-    pub seen_held : (before mid after : Assignment) (unit : Literal) → HasSeen clauses at numbers i before mid → IsUnitAt mid.values.items clause unit → unit.variable < length mid.values.items → IsStep clauses at before.values.items (hold mid.values.items unit)
-        → IsAssignment after → after.values.items ≡ hold mid.values.items unit → after.trail.items ≡ mid.trail.items ++ unit ∷ [] → HasSeen clauses at numbers (i + 1) before after
-    seen_held before mid after unit is u within step assignment values trail =
-        let more = ap length trail ∙ length-append mid.trail.items (unit ∷ []) in
-        seen_quiet before after (record {
-          assignment = assignment;
-          step = subst (IsStep clauses at before.values.items) (sym values) step;
-          longer = omega (arith, is.longer, more);
-          settled = λ from h s k low.
-              subst (λ vs. IsSettled vs (drop from after.trail.items) (drop i numbers) (k + 1) (get_or clauses k [])) (sym values)
-              (subst (λ xs. IsSettled (hold mid.values.items unit) xs (drop i numbers) (k + 1) (get_or clauses k []))
-              (sym (ap (drop from) trail ∙ drop-append-le from mid.trail.items (unit ∷ []) (omega (arith, h, is.longer))))
-              (still_settled mid.values.items unit within u.is_open (drop from mid.trail.items) (drop i numbers) (k + 1) (get_or clauses k []) (is.settled from h s k low)));
-        })
-        (subst (λ vs. IsQuietAt vs clause) (sym values) (satisfied unit u.inside (hold_holds mid.values.items unit within)))
+    -- the clause is quiet now, and maybe a literal more is held
+    module _ (before mid after : Assignment) (looked new : Looked) (is : HasSeen clauses at numbers from i before mid looked) (more : HoldsMore mid after) (quiets : (k : ℕ) → n ≡ k + 1 → IsQuietAt after.values.items (get_or clauses k [])) where
+      looked_more : length new.stamps.items ≡ length looked.stamps.items → ((other s : ℕ) → IsLookedAt new other s → IsLookedAt looked other s ⊎ ((other ≡ n) × (s ≤ length after.trail.items))) → AreLooked clauses after new
+      looked_more room noted = record {
+        room = room ∙ is.looks.room;
+        earlier = λ other s now. elim (noted other s now) [ inl was ↦ omega (arith, is.looks.earlier other s was, more_longer mid after more) | inr here ↦ here.1 ];
+        settled = λ k s low now. elim (noted (k + 1) s now) [
+          | inl was ↦ more_settled mid after s [] (k + 1) (get_or clauses k []) more (is.looks.earlier (k + 1) s was) (is.looks.settled k s low was)
+          | inr here ↦ quiet (quiets k (sym here.0))
+        ];
+      }
+
+      pub seen_settled : IsAssignment after → IsStep clauses at mid.values.items after.values.items → from ≤ length before.trail.items → length new.stamps.items ≡ length looked.stamps.items
+          → ((other s : ℕ) → IsLookedAt new other s → IsLookedAt looked other s ⊎ ((other ≡ n) × (s ≤ length after.trail.items))) → HasSeen clauses at numbers from (i + 1) before after new
+      seen_settled assignment step early room noted = record {
+        assignment = assignment;
+        step = two_steps clauses at before.values.items mid.values.items after.values.items is.step step;
+        longer = omega (arith, is.longer, more_longer mid after more);
+        looks = looked_more room noted;
+        settled = λ all k low. pass after k (λ e. quiet (quiets k e)) (more_settled mid after from (drop i numbers) (k + 1) (get_or clauses k []) more (omega (arith, early, is.longer)) (is.settled all k low));
+      }
 
   -- the whole list has been looked at
-  pub seen_all : (i from : ℕ) (before after : Assignment) → length numbers ≤ i → HasSeen clauses at numbers i before after → from ≤ length before.trail.items → AreSettled clauses before from numbers → AreSettled clauses after from []
-  seen_all i from before after all is h s k low = subst (λ ns. IsSettled after.values.items (drop from after.trail.items) ns (k + 1) (get_or clauses k [])) (drop_all i numbers all) (is.settled from h s k low)
+  pub seen_all : (i : ℕ) (before after : Assignment) (looked : Looked) → length numbers ≤ i → HasSeen clauses at numbers from i before after looked → AreSettled clauses before from numbers → AreSettled clauses after from []
+  seen_all i before after looked all is s k low = subst (λ ns. IsSettled after.values.items (drop from after.trail.items) ns (k + 1) (get_or clauses k [])) (drop_all i numbers all) (is.settled s k low)
 
 -- ---- the whole of unit propagation
 
 -- The lists of the literals before a place have been gone over.
-pub record HasGone (clauses : List Clause) (at : Literal) (head : ℕ) (before after : Assignment) : Type 0 where
+pub record HasGone (clauses : List Clause) (at : Literal) (head : ℕ) (before after : Assignment) (looked : Looked) : Type 0 where
   pub assignment : IsAssignment after
   pub step : IsStep clauses at before.values.items after.values.items
   pub inside : head ≤ length after.trail.items
+  pub looks : AreLooked clauses after looked
   pub settled : AreSettled clauses after head []

@@ -3,6 +3,8 @@ pub mod Closure
 pub mod Held
 pub mod Assignment
 pub mod Index
+pub mod Looked
+pub mod Reached
 pub mod Propagation
 pub mod TreeRefusal
 pub mod LogRefusal

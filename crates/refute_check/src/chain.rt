@@ -1,11 +1,13 @@
 //! The end of a chain of resolutions.
 
-ghost use Rattle.std.specs.Prelude.{◌≡◌, None, Some, IfOk, IsErrOf, MatchOption};
+ghost use Rattle.std.specs.Prelude.{◌≡◌, [], None, Some, IfOk, OnOk, IsErrOf, MatchOption};
 ghost use Rattle.clause_pool.specs.Clauses.{numbered_clause};
 ghost use Rattle.refute_check.specs.declared.refusal.RefusalKind.{RefusalKind};
 ghost use Rattle.refute_check.specs.LogRefusal.{ChainStops, EndsAs};
+ghost use Rattle.refute_check.specs.Reached.{IsReached};
 
-use crate::clause::{Clause, resolve};
+use crate::clause::Clause;
+use crate::reached::Reached;
 use crate::refusal::ChainFault;
 use clause_pool::{Lit, Pool};
 use pair_miter::Chain;
@@ -18,19 +20,33 @@ pub fn run_chain(alloc: Global, pool: &Pool, chain: &Chain) -> Result<Clause, Ch
     ensures no_clause { IsErrOf result ChainFault.NoSuchClause → ChainStops pool.now.clauses chain.now RefusalKind.NoSuchClause }
     ensures no_pivot { IsErrOf result ChainFault.NoPivot → ChainStops pool.now.clauses chain.now RefusalKind.NoPivot }
 {
+    follow(alloc, &mut Reached::new(alloc), pool, chain)
+}
+
+/// The last clause of a chain, as `run_chain` answers it. The set that is passed is empty, and is so again.
+pub(crate) fn follow(
+    alloc: Global,
+    reached: &mut Reached,
+    pool: &Pool,
+    chain: &Chain,
+) -> Result<Clause, ChainFault>
+    requires { IsReached reached.old [] }
+    ensures ended { IfOk result (λ clause. EndsAs pool.now.clauses chain.now clause.literals) }
+    ensures no_clause { IsErrOf result ChainFault.NoSuchClause → ChainStops pool.now.clauses chain.now RefusalKind.NoSuchClause }
+    ensures no_pivot { IsErrOf result ChainFault.NoPivot → ChainStops pool.now.clauses chain.now RefusalKind.NoPivot }
+    ensures empty { OnOk result (IsReached reached.new []) }
+{
     let Some(start) = named(pool, chain.start()) else {
         return Err(ChainFault::NoSuchClause);
     };
-    let mut clause = Clause::with_room(alloc, start.len())?;
-    clause.load(start);
+    reached.begin(start)?;
     for (pivot, number) in chain.steps() {
         let Some(other) = named(pool, *number) else {
             return Err(ChainFault::NoSuchClause);
         };
-        clause.make_room(other.len())?;
-        resolve(&mut clause, *pivot, other)?;
+        reached.resolve(*pivot, other)?;
     }
-    Ok(clause)
+    Ok(reached.finish(alloc)?)
 }
 
 // The clause of a number, where there is one.

@@ -1,6 +1,6 @@
 //! Clauses that tell unit propagation something new.
 
-ghost use Rattle.std.specs.Prelude.{◌≡◌, ◌↔◌, ◌<◌, ◌≤◌, ◌+◌, ◌∷◌, [], ◌++◌, ℕ, List, All, IsTrue, IsFalse, IfOk, OnOk, length};
+ghost use Rattle.std.specs.Prelude.{◌≡◌, ◌↔◌, ◌<◌, ◌≤◌, ◌+◌, ◌∷◌, [], ◌++◌, ℕ, List, All, IsTrue, IsFalse, IfOk, OnOk, length, slice_index_or};
 ghost use Rattle.clause_pool.specs.Clauses.{Clause};
 ghost use Rattle.clause_pool.specs.Literal.{Literal};
 ghost use Rattle.clause_pool.specs.LiteralCode.{code_of};
@@ -10,10 +10,12 @@ ghost use Rattle.refute_check.specs.Assignment.{IsAssignment};
 ghost use Rattle.refute_check.specs.Closure.{AreOthersFalse, HoldsOthers, IsClosure, IsStep};
 ghost use Rattle.refute_check.specs.Held.{IsOpenAt, IsQuietAt};
 ghost use Rattle.refute_check.specs.Index.{IsIndexOf, IsNumber};
-ghost use Rattle.refute_check.specs.Propagation.{AreSettled, IsReady};
+ghost use Rattle.refute_check.specs.Looked.{IsLookedAt};
+ghost use Rattle.refute_check.specs.Propagation.{AreLooked, AreSettled, HoldsMore, IsReady};
 
 use crate::assignment::{Assignment, Look};
 use crate::index::Index;
+use crate::looked::Looked;
 use clause_pool::{Lit, Pool};
 use std::alloc::{AllocError, Global};
 
@@ -42,6 +44,7 @@ pub fn fresh(
 pub(crate) struct Propagator {
     pub(crate) held: Assignment,
     pub(crate) index: Index,
+    pub(crate) looked: Looked,
 }
 
 impl Propagator {
@@ -53,6 +56,16 @@ impl Propagator {
         Ok(Propagator {
             held: Assignment::new(alloc, variables)?,
             index: Index::of(alloc, pool, variables)?,
+            looked: Looked::none(alloc, pool.len())?,
+        })
+    }
+
+    /// A propagator for no clauses.
+    pub(crate) fn idle(alloc: Global) -> Result<Propagator, AllocError> {
+        Ok(Propagator {
+            held: Assignment::new(alloc, 0)?,
+            index: Index::none(alloc, 0)?,
+            looked: Looked::none(alloc, 0)?,
         })
     }
 
@@ -61,7 +74,9 @@ impl Propagator {
         requires { All (λ l. code_of l < length self.old.index.lists) clause.now }
         ensures { OnOk result ((variables : ℕ) (clauses : List Clause) → length clauses + 1 ≡ number → IsReady variables clauses self.old → IsReady variables (clauses ++ clause.now ∷ []) self.new) }
     {
-        self.index.add(clause, number)
+        self.index.add(clause, number)?;
+        self.looked.add()?;
+        Ok(())
     }
 
     /// Whether a clause is fresh at one of its literals. It takes no memory.
@@ -77,7 +92,15 @@ impl Propagator {
             return false;
         }
         let fresh = hold_others(&mut self.held, clause, at)
-            && close(&mut self.held, pool, &self.index, variables, at);
+            && close(
+                &mut self.held,
+                &mut self.looked,
+                pool,
+                &self.index,
+                variables,
+                at,
+            );
+        self.looked.forget(self.held.trail.len());
         self.held.clear();
         fresh
     }
@@ -111,59 +134,106 @@ fn hold_others(held: &mut Assignment, clause: &[Lit], at: Lit) -> bool
 }
 
 // Holds all that unit propagation asks for. Answers whether it leaves the literal undetermined and no clause false.
-fn close(held: &mut Assignment, pool: &Pool, index: &Index, variables: u32, at: Lit) -> bool
+//
+// A clause is looked at once for all literals of its own that were false by then.
+fn close(
+    held: &mut Assignment,
+    looked: &mut Looked,
+    pool: &Pool,
+    index: &Index,
+    variables: u32,
+    at: Lit,
+) -> bool
     requires assignment { IsAssignment held.old }
+    requires looked { AreLooked pool.now.clauses held.old looked.old }
     requires index { IsIndexOf variables pool.now.clauses index.now.lists index.now.short.items }
     requires size { length held.old.values.items ≡ variables + 1 }
     requires pool { All (HasVariablesUpTo variables) pool.now.clauses }
     requires at { IsOpenAt held.old.values.items at }
     ensures assignment { IsAssignment held.new }
     ensures size { length held.new.values.items ≡ length held.old.values.items }
+    ensures room { length looked.new.stamps.items ≡ length looked.old.stamps.items }
+    ensures earlier { (number at : ℕ) → IsLookedAt looked.new number at → at ≤ length held.new.trail.items }
     ensures step { IsTrue result → IsStep pool.now.clauses at held.old.values.items held.new.values.items }
     ensures quiet { IsTrue result → All (IsQuietAt held.new.values.items) pool.now.clauses }
     ensures none { IsFalse result → (set : List Literal) → ¬ IsClosure pool.now.clauses at held.old.values.items set }
 {
-    if !visit(held, pool, index.short.as_slice(), at) {
+    if !visit(held, looked, pool, index.short.as_slice(), 0, at) {
         return false;
     }
     let mut head = 0;
     while head < held.trail.len() {
         let falsified = held.trail[head].opposite();
-        if !visit(held, pool, index.lists.at(falsified), at) {
+        head += 1;
+        if !visit(held, looked, pool, index.lists.at(falsified), head, at) {
             return false;
         }
-        head += 1;
     }
     true
 }
 
-// Looks at the clauses of these numbers, and holds what unit propagation asks for there. Answers whether it leaves the
-// literal undetermined and none of these clauses is false.
-fn visit(held: &mut Assignment, pool: &Pool, numbers: &[u32], at: Lit) -> bool
+// Looks at the clauses of these numbers that weren't looked at while at least so many literals were held, and holds what unit
+// propagation asks for there. Answers whether it leaves the literal undetermined and none of these clauses is false.
+fn visit(
+    held: &mut Assignment,
+    looked: &mut Looked,
+    pool: &Pool,
+    numbers: &[u32],
+    from: usize,
+    at: Lit,
+) -> bool
     requires assignment { IsAssignment held.old }
+    requires looked { AreLooked pool.now.clauses held.old looked.old }
     requires pool { All (All (λ (l : Literal). l.variable < length held.old.values.items)) pool.now.clauses }
     requires numbers { All (IsNumber (length pool.now.clauses)) numbers.now }
+    requires from { from ≤ length held.old.trail.items }
     requires at { IsOpenAt held.old.values.items at }
     ensures assignment { IsAssignment held.new }
     ensures size { length held.new.values.items ≡ length held.old.values.items }
     ensures longer { length held.old.trail.items ≤ length held.new.trail.items }
+    ensures room { length looked.new.stamps.items ≡ length looked.old.stamps.items }
+    ensures earlier { (number at : ℕ) → IsLookedAt looked.new number at → at ≤ length held.new.trail.items }
+    ensures looked { IsTrue result → AreLooked pool.now.clauses held.new looked.new }
     ensures step { IsTrue result → IsStep pool.now.clauses at held.old.values.items held.new.values.items }
-    ensures settled { IsTrue result → (from : ℕ) → from ≤ length held.old.trail.items → AreSettled pool.now.clauses held.old from numbers.now → AreSettled pool.now.clauses held.new from [] }
+    ensures settled { IsTrue result → AreSettled pool.now.clauses held.old from numbers.now → AreSettled pool.now.clauses held.new from [] }
     ensures none { IsFalse result → (set : List Literal) → ¬ IsClosure pool.now.clauses at held.old.values.items set }
 {
     for number in numbers {
-        let clause = pool.get(*number);
-        match held.look(clause) {
-            Look::Quiet => {}
-            Look::False => return false,
-            Look::Unit(place) => {
-                let unit = clause[place];
-                if unit.variable() == at.variable() {
-                    return false;
-                }
-                held.hold(unit);
-            }
+        if looked.since(*number, from) {
+            continue;
         }
+        if !settle(held, pool, *number, at) {
+            return false;
+        }
+        looked.note(*number, held.trail.len());
     }
     true
+}
+
+// Looks at a clause, and holds what unit propagation asks for there. Answers whether it leaves the literal undetermined and the
+// clause isn't false.
+fn settle(held: &mut Assignment, pool: &Pool, number: u32, at: Lit) -> bool
+    requires assignment { IsAssignment held.old }
+    requires pool { All (All (λ (l : Literal). l.variable < length held.old.values.items)) pool.now.clauses }
+    requires number { IsNumber (length pool.now.clauses) number }
+    requires at { IsOpenAt held.old.values.items at }
+    ensures assignment { IsAssignment held.new }
+    ensures more { HoldsMore held.old held.new }
+    ensures step { IsTrue result → IsStep pool.now.clauses at held.old.values.items held.new.values.items }
+    ensures quiet { IsTrue result → (k : ℕ) → number ≡ k + 1 → IsQuietAt held.new.values.items (slice_index_or pool.now.clauses k []) }
+    ensures none { IsFalse result → (set : List Literal) → ¬ IsClosure pool.now.clauses at held.old.values.items set }
+{
+    let clause = pool.get(number);
+    match held.look(clause) {
+        Look::Quiet => true,
+        Look::False => false,
+        Look::Unit(place) => {
+            let unit = clause[place];
+            if unit.variable() == at.variable() {
+                return false;
+            }
+            held.hold(unit);
+            true
+        }
+    }
 }

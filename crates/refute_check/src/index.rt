@@ -65,15 +65,22 @@ pub(crate) struct Index {
 }
 
 impl Index {
+    /// The index of no clauses, with a list for each literal of the variables up to this number.
+    pub(crate) fn none(alloc: Global, variables: u32) -> Result<Index, AllocError>
+        ensures { IfOk result (λ index. IsIndexOf variables [] index.lists index.short.items) }
+    {
+        Ok(Index {
+            lists: Lists::none(alloc, variables)?,
+            short: Vec::new(alloc),
+        })
+    }
+
     /// The index of the clauses of a pool, with a list for each literal of the variables up to this number.
     pub(crate) fn of(alloc: Global, pool: &Pool, variables: u32) -> Result<Index, AllocError>
         requires { All (HasVariablesUpTo variables) pool.now.clauses }
         ensures { IfOk result (λ index. IsIndexOf variables pool.now.clauses index.lists index.short.items) }
     {
-        let mut index = Index {
-            lists: Lists::none(alloc, variables)?,
-            short: Vec::new(alloc),
-        };
+        let mut index = Index::none(alloc, variables)?;
         for at in 0..pool.len() {
             index.add(pool.get(at + 1), at + 1)?;
         }
@@ -105,8 +112,8 @@ fn has_two(clause: &[Lit]) -> bool
     }
 }
 
-// The place of a literal's list.
-fn place(lit: Lit) -> usize
+/// The place of what is kept of a literal.
+pub(crate) fn place(lit: Lit) -> usize
     ensures { result ≡ code_of lit }
 {
     let sign = if lit.positive() { 1 } else { 0 };

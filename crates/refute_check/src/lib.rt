@@ -8,6 +8,8 @@ mod freshness;
 mod index;
 mod laws;
 mod log;
+mod looked;
+mod reached;
 mod refusal;
 mod tree;
 

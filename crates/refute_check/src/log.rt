@@ -1,18 +1,21 @@
 //! The check of a log of resolutions.
 
-ghost use Rattle.std.specs.Prelude.{◌≡◌, ◌≢◌, ◌↔◌, ◌+◌, ◌<◌, ◌≤◌, ◌^◌, [], ◌∷◌, ◌++◌, All, IfOk, IsTrue, OnOk, OnErr, IsErrOf, length};
-ghost use Rattle.clause_pool.specs.Clauses.{BeginsWith};
+ghost use Rattle.std.specs.Prelude.{◌≡◌, ◌≢◌, ◌↔◌, ◌+◌, ◌<◌, ◌≤◌, ◌^◌, [], ◌∷◌, ◌++◌, All, IfOk, IsTrue, OnOk, OnErr, IsErrOf, ℕ, List, length};
+ghost use Rattle.clause_pool.specs.Clauses.{BeginsWith, Clause as PoolClause};
+ghost use Rattle.clause_pool.specs.LiteralCode.{code_of};
 ghost use Rattle.clause_pool.specs.Proper.{HasVariablesUpTo};
 ghost use Rattle.pair_miter.specs.Log.{EndsFresh};
 ghost use Rattle.pair_miter.specs.Miter as spec;
 ghost use Rattle.refute_check.specs.declared.refusal.Refusal.{Refusal};
 ghost use Rattle.refute_check.specs.declared.refusal.EvidenceKind.{EvidenceKind};
 ghost use Rattle.refute_check.specs.LogRefusal.{ChainStops, EndsAs, HasRightLength, IsRightLog, IsRuleFor, LogRefused};
-ghost use Rattle.refute_check.specs.Propagation.{IsReady};
+ghost use Rattle.refute_check.specs.Propagation.{IsReady, IsReadyFor};
+ghost use Rattle.refute_check.specs.Reached.{IsReached};
 
-use crate::chain::run_chain;
+use crate::chain::follow;
 use crate::clause::Clause;
 use crate::freshness::Propagator;
+use crate::reached::Reached;
 use crate::refusal::{ChainFault, CheckFault, EvidenceKind, RefusalKind, refused};
 use clause_pool::{Lit, Pool};
 use pair_miter::{Chain, Log, Miter};
@@ -41,16 +44,17 @@ pub fn check_log(
         return Err(refused(RefusalKind::WrongCount, chains.len()));
     }
     let variables = miter.variables();
-    let mut propagator = Propagator::new(alloc, pool, variables)?;
+    let mut reached = Reached::new(alloc);
+    let mut propagator = propagator_for(alloc, pool, variables, kind)?;
     for (at, chain) in chains.iter().enumerate() {
-        let end = end_of(alloc, pool, chain, at)?;
+        let end = end_of(alloc, &mut reached, pool, chain, at)?;
         let last = at + 1 == chains.len();
         if let Some(rule) = wrong_end(&mut propagator, pool, variables, chain, &end, kind, last) {
             return Err(refused(rule, at));
         }
         if !last {
             add(pool, end.as_slice())?;
-            propagator.add(end.as_slice(), pool.len())?;
+            take_in(&mut propagator, kind, end.as_slice(), pool.len())?;
         }
     }
     Ok(())
@@ -67,12 +71,52 @@ fn has_right_length(kind: EvidenceKind, chains: &[Chain], conflicts: u32) -> boo
     }
 }
 
+// A propagator for the clauses of a pool, where this kind of evidence needs one.
+fn propagator_for(
+    alloc: Global,
+    pool: &Pool,
+    variables: u32,
+    kind: EvidenceKind,
+) -> Result<Propagator, AllocError>
+    requires { All (HasVariablesUpTo variables) pool.now.clauses }
+    ensures { IfOk result (IsReadyFor kind variables pool.now.clauses) }
+{
+    if kind == EvidenceKind::Spent {
+        return Propagator::new(alloc, pool, variables);
+    }
+    Propagator::idle(alloc)
+}
+
+// Takes the clause of a number into account, the next one of the pool, where this kind of evidence needs it.
+fn take_in(
+    propagator: &mut Propagator,
+    kind: EvidenceKind,
+    clause: &[Lit],
+    number: u32,
+) -> Result<(), AllocError>
+    requires { kind ≡ EvidenceKind.Spent → All (λ l. code_of l < length propagator.old.index.lists) clause.now }
+    ensures { OnOk result ((variables : ℕ) (clauses : List PoolClause) → length clauses + 1 ≡ number → IsReadyFor kind variables clauses propagator.old → IsReadyFor kind variables (clauses ++ clause.now ∷ []) propagator.new) }
+{
+    if kind != EvidenceKind::Spent {
+        return Ok(());
+    }
+    propagator.add(clause, number)
+}
+
 // The end of the chain at a place of the log.
-fn end_of(alloc: Global, pool: &Pool, chain: &Chain, at: usize) -> Result<Clause, CheckFault>
+fn end_of(
+    alloc: Global,
+    reached: &mut Reached,
+    pool: &Pool,
+    chain: &Chain,
+    at: usize,
+) -> Result<Clause, CheckFault>
+    requires { IsReached reached.old [] }
     ensures ended { IfOk result (λ end. EndsAs pool.now.clauses chain.now end.literals) }
     ensures refused { (refusal : Refusal) → IsErrOf result (CheckFault.Refused refusal) → (refusal.step ≡ at) × ChainStops pool.now.clauses chain.now refusal.kind }
+    ensures empty { OnOk result (IsReached reached.new []) }
 {
-    match run_chain(alloc, pool, chain) {
+    match follow(alloc, reached, pool, chain) {
         Ok(end) => Ok(end),
         Err(ChainFault::NoSuchClause) => Err(refused(RefusalKind::NoSuchClause, at)),
         Err(ChainFault::NoPivot) => Err(refused(RefusalKind::NoPivot, at)),
@@ -90,12 +134,12 @@ fn wrong_end(
     kind: EvidenceKind,
     last: bool,
 ) -> Option<RefusalKind>
-    requires ready { IsReady variables pool.now.clauses propagator.old }
+    requires ready { IsReadyFor kind variables pool.now.clauses propagator.old }
     requires kind { kind ≢ EvidenceKind.Covered }
     requires clauses { All (HasVariablesUpTo variables) pool.now.clauses }
     requires end { HasVariablesUpTo variables end.now.literals }
     ensures rule { IsRuleFor kind last pool.now.clauses chain.now end.now.literals result }
-    ensures ready { IsReady variables pool.now.clauses propagator.new }
+    ensures ready { IsReadyFor kind variables pool.now.clauses propagator.new }
 {
     let literals = end.as_slice();
     if kind == EvidenceKind::Spent {

@@ -1,4 +1,4 @@
-use Rattle.std.proofs.Common.{◌+◌, ◌<◌, ◌≤◌, length, sym, ap, subst, arith}
+use Rattle.std.proofs.Common.{◌∙◌, ◌+◌, ◌<◌, ◌≤◌, length, sym, ap, subst, arith}
 use Rattle.std.specs.Prelude.{All, Contains}
 use Rattle.std.proofs.lemmas.List.Elements.{All-weaker, All-contains_itself}
 use Rattle.clause_pool.specs.Literal.{Literal}
@@ -25,7 +25,8 @@ loop-head-init c =
       assignment = c.visit.ensures.assignment;
       step = c.visit.ensures.step c.if-not-visit.false;
       inside = omega arith;
-      settled = c.visit.ensures.settled c.if-not-visit.false 0 (omega arith)
+      looks = c.visit.ensures.looked c.if-not-visit.false;
+      settled = c.visit.ensures.settled c.if-not-visit.false
           (subst (AreSettled clauses c.args.held.now 0) (sym c.as_slice.ensures.value) (first_settled c.args.variables clauses index.lists index.short.items c.requires.index c.args.held.now c.requires.assignment));
     }
 
@@ -47,6 +48,15 @@ visit-requires-in-loop-head-clause-numbers c =
     let list = list_at c.args.index.now.lists place in
     subst (All (IsNumber count)) (sym c.at.ensures) (All-weaker (Contains list) (IsNumber count) (c.requires.index.numbers place) list (All-contains_itself list))
 
+pub visit-requires-in-loop-head-clause-from : goal.visit-requires-in-loop-head-clause-from
+visit-requires-in-loop-head-clause-from c = omega (arith, c.loop-head-test.true, c.len.ensures, c.loop-head.held.trail.ok.0)
+
+pub returns-then-not-visit-2-clause-size : goal.returns-then-not-visit-2-clause-size
+returns-then-not-visit-2-clause-size c = c.visit-in-loop-head.ensures.size ∙ c.loop-head.invariant.step.size
+
+pub returns-then-not-visit-2-clause-room : goal.returns-then-not-visit-2-clause-room
+returns-then-not-visit-2-clause-room c = c.visit-in-loop-head.ensures.room ∙ (c.loop-head.invariant.looks.room ∙ sym c.requires.looked.room)
+
 pub returns-then-not-visit-2-clause-none : goal.returns-then-not-visit-2-clause-none
 returns-then-not-visit-2-clause-none c = λ f set closure. c.visit-in-loop-head.ensures.none c.if-not-visit-2.true set (c.loop-head.invariant.step.closes set closure)
 
@@ -62,7 +72,8 @@ loop-head-preserved c =
       assignment = c.visit-in-loop-head.ensures.assignment;
       step = two_steps clauses c.args.at c.args.held.now.values.items a.values.items new.values.items c.loop-head.invariant.step (c.visit-in-loop-head.ensures.step c.if-not-visit-2.false);
       inside = omega (arith, here, c.visit-in-loop-head.ensures.longer);
-      settled = c.visit-in-loop-head.ensures.settled c.if-not-visit-2.false (head + 1) (omega (arith, here))
+      looks = c.visit-in-loop-head.ensures.looked c.if-not-visit-2.false;
+      settled = c.visit-in-loop-head.ensures.settled c.if-not-visit-2.false
           (subst (AreSettled clauses a (head + 1)) (sym c.at.ensures)
           (turn c.args.variables clauses index.lists index.short.items c.requires.index a head c.index.result.now c.opposite-falsified.result here c.index.ensures c.opposite-falsified.ensures c.loop-head.invariant.settled));
     }
@@ -73,3 +84,6 @@ returns-clause-quiet c = λ t.
     let index = c.args.index.now in
     let done : length a.trail.items ≤ c.loop-head.head = omega (arith, c.loop-head-test.false, c.len.ensures, a.trail.ok.0) in
     all_quiet c.args.variables c.args.pool.now.clauses index.lists index.short.items c.requires.index a c.loop-head.head done c.loop-head.invariant.settled
+
+pub returns-clause-room : goal.returns-clause-room
+returns-clause-room c = c.loop-head.invariant.looks.room ∙ sym c.requires.looked.room

@@ -13,12 +13,12 @@ use Rattle.refute_check.specs.declared.refusal.CheckFault.TheVariants.{Refused}
 use Rattle.refute_check.specs.LogRefusal.{AreRightBefore, HasRightLength, IsRuleFor, is_last}
 use Rattle.pair_miter.proofs.Alike.{alike_first}
 use Rattle.pair_miter.specs.Resolution.{AreAlike}
-use Rattle.refute_check.specs.Propagation.{IsReady}
+use Rattle.refute_check.specs.Propagation.{IsReadyFor}
 use Rattle.refute_check.proofs.IndexLemmas.{places_for}
 use Rattle.refute_check.proofs.Chains.{before_first, first_ends, right_log}
 use Rattle.refute_check.proofs.LogSteps.{end_within, refused_step, refused_end, right_step, alike_next}
 use Rattle.refute_check.proofs.log.check_log.Goals as goal
-use Rattle.refute_check.proofs.log.check_log.Goals.{then-not-last+in_ok-add+in_ok-add-2, else-not-last}
+use Rattle.refute_check.proofs.log.check_log.Goals.{then-not-last+in_ok-add+in_ok-take_in, else-not-last}
 
 pub loop-at-init : goal.loop-at-init
 loop-at-init c = record {
@@ -27,17 +27,18 @@ loop-at-init c = record {
   alike = λ _. subst (λ ends. AreAlike (c.args.pool.now.clauses ++ ends) c.args.pool.now.clauses) (sym (first_ends c.args.kind c.args.pool.now.clauses c.args.log.now)) (alike_first c.args.pool.now.clauses);
   within = subst (All (HasVariablesUpTo c.variables-variables.result)) (sym c.requires.clauses) (λ k d h. (c.variables-variables.ensures.proper k d h).inside);
   few = omega arith;
+  empty = c.new-reached.ensures;
   ready = c.in_ok-propagator.ensures;
 }
 
-pub new-requires : goal.new-requires
-new-requires c = subst (All (HasVariablesUpTo c.variables-variables.result)) (sym c.requires.clauses) (λ k d h. (c.variables-variables.ensures.proper k d h).inside)
+pub propagator_for-requires : goal.propagator_for-requires
+propagator_for-requires c = subst (All (HasVariablesUpTo c.variables-variables.result)) (sym c.requires.clauses) (λ k d h. (c.variables-variables.ensures.proper k d h).inside)
 
-pub add-requires-then-not-last : goal.add-requires-then-not-last
-add-requires-then-not-last c =
+pub take_in-requires : goal.take_in-requires
+take_in-requires c = λ spent.
     let bound = end_within c.variables-variables.result c.loop-at.pool.clauses c.index-chains-at.result c.in_ok-end.end.literals c.loop-at.invariant.within c.in_ok-end.ensures.ended in
     let lists = c.wrong_end.new.propagator.index.lists in
-    subst (All (λ l. code_of l < length lists)) (sym c.as_slice-then-not-last.ensures.value) (places_for c.variables-variables.result lists c.in_ok-end.end.literals c.wrong_end.ensures.ready.index.places bound)
+    subst (All (λ l. code_of l < length lists)) (sym c.as_slice-then-not-last.ensures.value) (places_for c.variables-variables.result lists c.in_ok-end.end.literals (c.wrong_end.ensures.ready spent).index.places bound)
 
 pub wrong_end-requires-clause-end : goal.wrong_end-requires-clause-end
 wrong_end-requires-clause-end c = end_within c.variables-variables.result c.loop-at.pool.clauses c.index-chains-at.result c.in_ok-end.end.literals c.loop-at.invariant.within c.in_ok-end.ensures.ended
@@ -95,7 +96,7 @@ loop-at-preserved c =
     let right = subst (IsRuleFor c.args.kind (is_last log at) pool chain literals) c.in_default.is rule in
     let next = right_step c.args.kind clauses c.args.conflicts log at chain pool long b chain_is are literals ends right in
     elim c.if-not-last.branch [
-      | then-not-last+in_ok-add+in_ok-add-2 w ↦
+      | then-not-last+in_ok-add+in_ok-take_in w ↦
           let added : c.if-not-last.pool.clauses ≡ pool ++ literals ∷ [] = ap (λ (p : Clauses). p.clauses) w.pool-is ∙ (w.in_ok-add.ensures.ok ∙ ap (λ (l : Clause). pool ++ l ∷ []) w.as_slice.ensures.value) in
           let bound = end_within c.variables-variables.result pool chain literals c.loop-at.invariant.within ends in
           record {
@@ -106,11 +107,12 @@ loop-at-preserved c =
                 (All-append (HasVariablesUpTo c.variables-variables.result) pool (literals ∷ []) c.loop-at.invariant.within
                 (All-cons (HasVariablesUpTo c.variables-variables.result) literals [] bound (All-nil (HasVariablesUpTo c.variables-variables.result))));
             few = omega (arith, ap length added, length-append pool (literals ∷ []), c.loop-at.invariant.few);
+            empty = c.in_ok-end.ensures.empty;
             ready =
                 let next : length pool + 1 ≡ w.len.result = omega (arith, w.len.ensures, ap length w.in_ok-add.ensures.ok, length-append pool (w.as_slice.result.now ∷ [])) in
-                let told = w.in_ok-add-2.ensures c.variables-variables.result pool next c.wrong_end.ensures.ready in
-                subst (IsReady c.variables-variables.result c.if-not-last.pool.clauses) (sym w.propagator-is)
-                (subst (λ cs. IsReady c.variables-variables.result cs w.add-then-not-last.new.self) (ap (λ (l : Clause). pool ++ l ∷ []) w.as_slice-then-not-last.ensures.value ∙ sym added) told);
+                let told = w.in_ok-take_in.ensures c.variables-variables.result pool next c.wrong_end.ensures.ready in
+                subst (IsReadyFor c.args.kind c.variables-variables.result c.if-not-last.pool.clauses) (sym w.propagator-is)
+                (subst (λ cs. IsReadyFor c.args.kind c.variables-variables.result cs w.take_in.new.propagator) (ap (λ (l : Clause). pool ++ l ∷ []) w.as_slice-then-not-last.ensures.value ∙ sym added) told);
           }
       | else-not-last w ↦
           let kept : c.if-not-last.pool.clauses ≡ pool = ap (λ (p : Clauses). p.clauses) w.pool-is in
@@ -121,9 +123,10 @@ loop-at-preserved c =
             alike = λ h. absurd (omega (arith, h, last, ap length same));
             within = subst (All (HasVariablesUpTo c.variables-variables.result)) (sym kept) c.loop-at.invariant.within;
             few = omega (arith, ap length kept, c.loop-at.invariant.few);
+            empty = c.in_ok-end.ensures.empty;
             ready =
-                subst (IsReady c.variables-variables.result c.if-not-last.pool.clauses) (sym w.propagator-is)
-                (subst (λ cs. IsReady c.variables-variables.result cs c.wrong_end.new.propagator) (sym kept) c.wrong_end.ensures.ready);
+                subst (IsReadyFor c.args.kind c.variables-variables.result c.if-not-last.pool.clauses) (sym w.propagator-is)
+                (subst (λ cs. IsReadyFor c.args.kind c.variables-variables.result cs c.wrong_end.new.propagator) (sym kept) c.wrong_end.ensures.ready);
           }
     ]
 

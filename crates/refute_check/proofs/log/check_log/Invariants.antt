@@ -1,10 +1,11 @@
-use Rattle.std.proofs.Common.{◌<◌, ◌≤◌, ◌+◌, ◌++◌, length}
+use Rattle.std.proofs.Common.{◌<◌, ◌≤◌, ◌+◌, ◌++◌, [], length}
 use Rattle.std.specs.Prelude.{All}
 use Rattle.refute_check.specs.LogRefusal.{AreRightBefore}
 use Rattle.clause_pool.specs.Clauses.{BeginsWith}
 use Rattle.clause_pool.specs.Proper.{HasVariablesUpTo}
 use Rattle.pair_miter.specs.Resolution.{AreAlike}
-use Rattle.refute_check.specs.Propagation.{IsReady}
+use Rattle.refute_check.specs.Propagation.{IsReadyFor}
+use Rattle.refute_check.specs.Reached.{IsReached}
 use Rattle.refute_check.proofs.log.check_log.Given as goal
 
 abbrev pub invariant-loop-at : goal.invariant-loop-at
@@ -14,5 +15,6 @@ invariant-loop-at l = record {
   alike : l.at < length l.log → AreAlike (l.initial.pool.clauses ++ before.ends) l.pool.clauses;
   within : All (HasVariablesUpTo l.variables) l.pool.clauses;
   few : length l.pool.clauses ≤ length l.initial.pool.clauses + l.at;
-  ready : IsReady l.variables l.pool.clauses l.propagator;
+  empty : IsReached l.reached [];
+  ready : IsReadyFor l.kind l.variables l.pool.clauses l.propagator;
 }

@@ -1,10 +1,13 @@
-use Rattle.std.proofs.lemmas.Result.{on_ok_weaker}
+use Rattle.std.proofs.Common.{arith}
+use Rattle.std.proofs.lemmas.List.{length_push}
 use Rattle.refute_check.proofs.freshness.Propagator.add.Goals as goal
 
 pub returns : goal.returns
-returns c = on_ok_weaker c.add.result (λ adds variables clauses next ready. record {
+returns c = λ variables clauses next ready. record {
   assignment = ready.assignment;
   size = ready.size;
   empty = ready.empty;
-  index = adds variables clauses next ready.index;
-}) c.add.ensures
+  room = omega (arith, ready.room, c.in_ok-add-2.ensures.room, length_push clauses c.args.clause.now);
+  unlooked = λ number held there. ready.unlooked number held (c.in_ok-add-2.ensures.none number held there);
+  index = c.in_ok-add.ensures variables clauses next ready.index;
+}

@@ -1,0 +1,129 @@
+//! The clause that a chain has reached, while the chain is followed.
+
+ghost use Rattle.std.specs.Prelude.{◌≡◌, ◌+◌, ◌<◌, ◌≤◌, ◌++◌, ◌∷◌, [], true, false, IfOk, OnOk, IsErrOf, length, slice_set};
+ghost use Rattle.net_model.specs.Answer.{bit_at};
+ghost use Rattle.clause_pool.specs.Clauses.{Clause};
+ghost use Rattle.clause_pool.specs.LiteralCode.{code_of};
+ghost use Rattle.pair_miter.specs.Resolution.{can_resolve, resolvent, SameLiterals};
+ghost use Rattle.refute_check.specs.Reached.{IsReached};
+
+use crate::clause::Clause as Ordered;
+use crate::index::place;
+use crate::refusal::ChainFault;
+use clause_pool::Lit;
+use std::alloc::{AllocError, Global};
+
+/// A set of literals in no order: those that are marked. A resolution takes time in the clause that is resolved with, whatever
+/// the set has.
+#[derive(Drop)]
+pub(crate) struct Reached {
+    // by the literal's place, where it has one
+    pub(crate) marks: Vec<bool>,
+    // each literal that was added, maybe more than once
+    pub(crate) listed: Vec<Lit>,
+}
+
+impl Reached {
+    /// The empty set.
+    pub(crate) fn new(alloc: Global) -> Reached
+        ensures { IsReached result [] }
+    {
+        Reached {
+            marks: Vec::new(alloc),
+            listed: Vec::new(alloc),
+        }
+    }
+
+    /// Adds the literals of a clause to the empty set.
+    pub(crate) fn begin(&mut self, clause: &[Lit]) -> Result<(), AllocError>
+        requires { IsReached self.old [] }
+        ensures { OnOk result (IsReached self.new clause.now) }
+    {
+        for lit in clause {
+            self.add(*lit)?;
+        }
+        Ok(())
+    }
+
+    /// Resolves the set with a clause. Nothing is said of the set after an error.
+    pub(crate) fn resolve(&mut self, pivot: Lit, other: &[Lit]) -> Result<(), ChainFault>
+        ensures resolved { OnOk result ((clause : Clause) → IsReached self.old clause → (can_resolve pivot clause other.now ≡ true) × IsReached self.new (resolvent pivot clause other.now)) }
+        ensures no_clause { ¬ IsErrOf result ChainFault.NoSuchClause }
+        ensures no_pivot { IsErrOf result ChainFault.NoPivot → (clause : Clause) → IsReached self.old clause → can_resolve pivot clause other.now ≡ false }
+    {
+        let opposite = pivot.opposite();
+        if !self.has(pivot) {
+            return Err(ChainFault::NoPivot);
+        }
+        if !other.contains(&opposite) {
+            return Err(ChainFault::NoPivot);
+        }
+        self.remove(pivot);
+        for lit in other {
+            if *lit == opposite {
+                continue;
+            }
+            self.add(*lit)?;
+        }
+        Ok(())
+    }
+
+    /// The set in order. The set that is left is empty.
+    pub(crate) fn finish(&mut self, alloc: Global) -> Result<Ordered, AllocError>
+        ensures ended { IfOk result (λ end. (clause : Clause) → IsReached self.old clause → SameLiterals end.literals clause) }
+        ensures empty { OnOk result ((clause : Clause) → IsReached self.old clause → IsReached self.new []) }
+    {
+        let mut kept = Vec::new(alloc);
+        while let Some(lit) = self.listed.pop() {
+            if !self.has(lit) {
+                continue;
+            }
+            self.remove(lit);
+            kept.push(lit)?;
+        }
+        Ok(Ordered::of(kept))
+    }
+
+    /// Whether a literal is in the set.
+    pub(crate) fn has(&self, lit: Lit) -> bool
+        ensures { result ≡ bit_at self.now.marks.items (code_of lit) }
+    {
+        let at = place(lit);
+        at < self.marks.len() && self.marks[at]
+    }
+
+    // Adds a literal.
+    fn add(&mut self, lit: Lit) -> Result<(), AllocError>
+        ensures { OnOk result ((clause : Clause) → IsReached self.old clause → IsReached self.new (clause ++ lit ∷ [])) }
+    {
+        if self.has(lit) {
+            return Ok(());
+        }
+        self.make_place(lit)?;
+        self.marks[place(lit)] = true;
+        self.listed.push(lit)?;
+        Ok(())
+    }
+
+    // Makes a place for the mark of a literal.
+    fn make_place(&mut self, lit: Lit) -> Result<(), AllocError>
+        ensures place { OnOk result (code_of lit < length self.new.marks.items) }
+        ensures kept { OnOk result ((clause : Clause) → IsReached self.old clause → IsReached self.new clause) }
+    {
+        while self.marks.len() <= place(lit) {
+            self.marks.push(false)?;
+        }
+        Ok(())
+    }
+
+    // Takes a literal away.
+    fn remove(&mut self, lit: Lit)
+        ensures marks { self.new.marks.items ≡ slice_set self.old.marks.items (code_of lit) false }
+        ensures listed { self.new.listed.items ≡ self.old.listed.items }
+    {
+        let at = place(lit);
+        if at < self.marks.len() {
+            self.marks[at] = false;
+        }
+    }
+}
