@@ -1,12 +1,13 @@
 //! Circuits from tables of gates.
 
-ghost use Rattle.std.specs.Prelude.{◌≡◌, ◌<◌, length, map, All, IfOk, IsTrue};
+ghost use Rattle.std.specs.Prelude.{◌≡◌, ◌<◌, ◌↔◌, ℕ, List, Err, length, map, All, IfOk, IsErrOf, IsTrue};
 ghost use Rattle.net_model.specs.Gate.{takes_pins};
-ghost use Rattle.net_model.specs.Circuit.{FitsTogether, circuit_with};
+ghost use Rattle.net_model.specs.Circuit.{FitsTogether, IsCircuit, circuit_with};
+ghost use Rattle.net_model.specs.LoopWalk.{IsLoopWalk};
+ghost use Rattle.sample_circuits.specs.Described.{gate_of, circuit_of};
 
-use net_model::{Circuit, Gate, Kind, Pins};
+use net_model::{BuildFault, Circuit, Gate, Kind, Pins};
 use std::alloc::{AllocError, Global};
-use std::test::Fail;
 
 // How many lines, positions and pins a circuit has at most.
 const LIMIT: usize = 67_108_864;
@@ -19,22 +20,47 @@ pub struct Parts<'a> {
     pub positions: &'a [u32],
 }
 
-/// The circuit of these parts. It fails where they don't fit together or have a loop.
-pub fn circuit(alloc: Global, parts: Parts) -> Result<Circuit, Fail>
-    ensures { IfOk result (λ circuit. circuit ≡ circuit_with parts.entry.sources (map (λ gate. record { kind = gate.0; pins = gate.1.now }) parts.entry.gates.now) parts.entry.positions.now) }
+/// Why there is no circuit of some parts.
+#[derive(Debug, Drop)]
+pub enum PartsFault {
+    /// They don't fit together.
+    Unfit,
+    /// They do, but the gates form a loop, or memory ran out.
+    Unbuilt(BuildFault),
+}
+
+impl From<AllocError> for PartsFault {
+    ghost use Rattle.net_model.specs.declared.circuit.BuildFault.TheVariants.{NoMemory};
+    ghost use Rattle.sample_circuits.specs.declared.building.PartsFault.TheVariants.{Unbuilt};
+
+    ghost from_gives = { λ _ fault. fault ≡ Unbuilt NoMemory };
+
+    fn from(_error: AllocError) -> PartsFault {
+        PartsFault::Unbuilt(BuildFault::NoMemory)
+    }
+}
+
+/// The circuit of these parts.
+pub fn circuit(alloc: Global, parts: Parts) -> Result<Circuit, PartsFault>
+    ensures parts { IfOk result (λ circuit. circuit ≡ circuit_of parts.entry) }
+    ensures circuit { IfOk result (λ circuit. IsCircuit circuit) }
+    ensures unfit { IsErrOf result PartsFault.Unfit → ¬ FitsTogether (circuit_of parts.entry) }
+    ensures looped { (walk : List ℕ) → IsErrOf result (PartsFault.Unbuilt (BuildFault.Loop walk)) → IsLoopWalk (circuit_of parts.entry) walk }
 {
     let gates = gates_of(alloc, parts.gates)?;
     if !fit(parts.sources, gates.as_slice(), parts.positions) {
-        return Err(Fail::new("the parts don't fit together"));
+        return Err(PartsFault::Unfit);
     }
     let positions = Vec::from_slice(alloc, parts.positions)?;
-    let circuit = Circuit::build(alloc, parts.sources, gates, positions)?;
-    Ok(circuit)
+    match Circuit::build(alloc, parts.sources, gates, positions) {
+        Ok(circuit) => Ok(circuit),
+        Err(fault) => Err(PartsFault::Unbuilt(fault)),
+    }
 }
 
-/// Gates of these kinds, each over its lines.
-pub fn gates_of(alloc: Global, gates: &[(Kind, &[u32])]) -> Result<Vec<Gate>, AllocError>
-    ensures { IfOk result (λ made. made.items ≡ map (λ gate. record { kind = gate.0; pins = gate.1.now }) gates.now) }
+// Gates of these kinds, each over its lines.
+fn gates_of(alloc: Global, gates: &[(Kind, &[u32])]) -> Result<Vec<Gate>, AllocError>
+    ensures { IfOk result (λ made. made.items ≡ map gate_of gates.now) }
 {
     let mut made = Vec::new(alloc);
     for (kind, lines) in gates {
@@ -59,29 +85,25 @@ fn gate(alloc: Global, kind: Kind, lines: &[u32]) -> Result<Gate, AllocError>
 pub fn takes(kind: Kind, pins: usize) -> bool
     ensures { result ≡ takes_pins kind pins }
 {
-    match kind {
-        Kind::And | Kind::Nand | Kind::Or | Kind::Nor | Kind::Xor | Kind::Xnor => pins > 0,
-        Kind::Not | Kind::Buff => pins == 1,
-        Kind::Mux => pins == 3,
-        Kind::Const0 | Kind::Const1 => pins == 0,
-    }
+    let (least, most) = match kind {
+        Kind::Const0 | Kind::Const1 => (0, 0),
+        Kind::Not | Kind::Buff => (1, 1),
+        Kind::Mux => (3, 3),
+        Kind::And | Kind::Nand | Kind::Or | Kind::Nor | Kind::Xor | Kind::Xnor => (1, usize::MAX),
+    };
+    least <= pins && pins <= most
 }
 
 /// Whether all lines are among the first ones.
 pub fn all_below(lines: &[u32], count: usize) -> bool
-    ensures { IsTrue result → All (λ line. line < count) lines.now }
+    ensures { IsTrue result ↔ All (λ line. line < count) lines.now }
 {
-    for line in lines {
-        if *line as usize >= count {
-            return false;
-        }
-    }
-    true
+    lines.iter().all(|line| (*line as usize) < count)
 }
 
-/// Whether these parts fit together, so that a circuit can be built of them.
-pub fn fit(sources: u32, gates: &[Gate], positions: &[u32]) -> bool
-    ensures { IsTrue result → FitsTogether (circuit_with sources gates.now positions.now) }
+// Whether these parts fit together, so that a circuit can be built of them.
+fn fit(sources: u32, gates: &[Gate], positions: &[u32]) -> bool
+    ensures { IsTrue result ↔ FitsTogether (circuit_with sources gates.now positions.now) }
 {
     let lines = sources as usize + gates.len();
     let mut items = lines;

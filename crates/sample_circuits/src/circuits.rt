@@ -1,4 +1,4 @@
-//! Circuits that several crates of tests use.
+//! Circuits of a few gates.
 
 use crate::building::Parts;
 use net_model::Kind;
@@ -22,6 +22,20 @@ pub const WITH_CONSTANT: Parts<'static> = Parts {
     sources: 1,
     gates: &[(Kind::Const1, &[]), (Kind::And, &[0, 1])],
     positions: &[2],
+};
+
+/// Line 1 is the source, and is shown.
+pub const BUFFER: Parts<'static> = Parts {
+    sources: 1,
+    gates: &[(Kind::Buff, &[0])],
+    positions: &[1],
+};
+
+/// Line 1 is the XOR of the source with itself, and is shown.
+pub const XOR_OF_ONE: Parts<'static> = Parts {
+    sources: 1,
+    gates: &[(Kind::Xor, &[0, 0])],
+    positions: &[1],
 };
 
 /// The source is shown twice.

@@ -6,9 +6,10 @@ mod circuits;
 mod faults;
 mod texts;
 
-pub use building::{Parts, all_below, circuit, fit, gates_of, takes};
+pub use building::{Parts, PartsFault, all_below, circuit, takes};
 pub use circuits::{
-    AND_OF_TWO, BETWEEN_CONSTANTS, NOT_AND_OR, SAME_DATA, SHOWN_TWICE, WITH_CONSTANT,
+    AND_OF_TWO, BETWEEN_CONSTANTS, BUFFER, NOT_AND_OR, SAME_DATA, SHOWN_TWICE, WITH_CONSTANT,
+    XOR_OF_ONE,
 };
-pub use faults::stands;
+pub use faults::{pin, position, stands, stem};
 pub use texts::{bits, text_of};

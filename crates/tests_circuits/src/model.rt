@@ -1,9 +1,9 @@
 //! Gates, small circuits, their order and wiring, and rows of answers.
 
-use net_model::{
-    AnswerRows, BuildFault, Circuit, Fault, Kind, Pins, Site, gate_value, plain_answer,
+use net_model::{AnswerRows, BuildFault, Fault, Kind, Pins, gate_value, plain_answer};
+use sample_circuits::{
+    Parts, PartsFault, bits, circuit, pin, position, stands, stem, takes, text_of,
 };
-use sample_circuits::{Parts, bits, circuit, fit, gates_of, stands, takes, text_of};
 use std::alloc::Global;
 use std::test::Fail;
 
@@ -85,19 +85,19 @@ const CHOOSER: Parts<'static> = Parts {
 fn answers_under_faults(rt: HostRuntime) -> Result<(), Fail> {
     let table = [
         (NAND, Fault::Free, "11", "0"),
-        (NAND, Fault::Stuck(Site::Stem(0), false), "11", "1"),
-        (NAND, Fault::Stuck(Site::Stem(2), true), "11", "1"),
-        (NAND, Fault::Stuck(Site::Position(0), true), "11", "1"),
+        (NAND, stem(0, false), "11", "1"),
+        (NAND, stem(2, true), "11", "1"),
+        (NAND, position(0, true), "11", "1"),
         (NAND, Fault::Free, "01", "1"),
-        (NAND, Fault::Stuck(Site::Stem(0), true), "01", "0"),
+        (NAND, stem(0, true), "01", "0"),
         (CHOOSER, Fault::Free, "00", "000"),
         (CHOOSER, Fault::Free, "01", "101"),
         (CHOOSER, Fault::Free, "10", "101"),
-        (CHOOSER, Fault::Stuck(Site::Stem(4), false), "10", "000"),
-        (CHOOSER, Fault::Stuck(Site::Stem(2), true), "00", "010"),
-        (CHOOSER, Fault::Stuck(Site::Pin(3, 0), true), "00", "101"),
-        (CHOOSER, Fault::Stuck(Site::Pin(3, 1), true), "00", "101"),
-        (CHOOSER, Fault::Stuck(Site::Pin(3, 2), false), "11", "000"),
+        (CHOOSER, stem(4, false), "10", "000"),
+        (CHOOSER, stem(2, true), "00", "010"),
+        (CHOOSER, pin(3, 0, true), "00", "101"),
+        (CHOOSER, pin(3, 1, true), "00", "101"),
+        (CHOOSER, pin(3, 2, false), "11", "000"),
     ];
     for (parts, fault, vector, expected) in table {
         let found = answer(rt.alloc(), parts, fault, vector)?;
@@ -132,14 +132,16 @@ fn order_and_wiring(rt: HostRuntime) -> Result<(), Fail> {
 
 // The walk along a loop of gates over one source, if they form one.
 fn walk_of(alloc: Global, gates: &[(Kind, &[u32])]) -> Result<Option<Pins>, Fail> {
-    let gates = gates_of(alloc, gates)?;
-    if !fit(1, gates.as_slice(), &[]) {
-        return Err(Fail::new("the gates don't fit together"));
-    }
-    match Circuit::build(alloc, 1, gates, Vec::new(alloc)) {
+    let parts = Parts {
+        sources: 1,
+        gates,
+        positions: &[],
+    };
+    match circuit(alloc, parts) {
         Ok(_circuit) => Ok(None),
-        Err(BuildFault::Loop(walk)) => Ok(Some(walk)),
-        Err(BuildFault::NoMemory) => Err(Fail::new("out of memory")),
+        Err(PartsFault::Unbuilt(BuildFault::Loop(walk))) => Ok(Some(walk)),
+        Err(PartsFault::Unbuilt(BuildFault::NoMemory)) => Err(Fail::new("out of memory")),
+        Err(PartsFault::Unfit) => Err(Fail::new("the gates don't fit together")),
     }
 }
 

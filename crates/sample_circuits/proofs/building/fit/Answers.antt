@@ -16,7 +16,7 @@ loop-gate-preserved c =
     let more : take (i + 1) gates ≡ take i gates ++ gate ∷ [] = take_more gates i gate c.loop-gate-test.true ∙ ap (λ g. take i gates ++ g ∷ []) (sym c.gate-item.is) in
     let pins : c.as_slice-pins.result.now ≡ gate.pins = c.as_slice-pins.ensures in
     let takes : takes_pins gate.kind (length gate.pins) ≡ true = sym (c.if-not-takes.ensures ∙ ap (λ ps. takes_pins gate.kind (length ps)) pins) in
-    let below : All (λ pin. pin < lines) gate.pins = subst (All (λ pin. pin < lines)) pins (c.all_below.ensures c.if-not-all_below.false) in
+    let below : All (λ pin. pin < lines) gate.pins = subst (All (λ pin. pin < lines)) pins (c.all_below.ensures.0 c.if-not-all_below.false) in
     record {
       items =
           omega (arith, ap length pins, c.loop-gate.invariant.items, sum_by_more (λ (g : Gate). length g.pins) gates i gate c.loop-gate-test.true, ap (λ (g : Gate). length g.pins) c.gate-item.is);
