@@ -1,0 +1,135 @@
+-- A line behind those that were judged: it is refused, or it is one more.
+use Rattle.std.proofs.Common.{◌≡◌, ◌∙◌, ℕ, zero, suc, false, ◌+◌, ◌<◌, ◌≤◌, ◌^◌, Bool, List, [], ◌∷◌, ◌++◌, map, length, length-append, None, Result, Ok, Err, refl, sym, ap, subst, append_assoc, arith}
+use Rattle.std.specs.Prelude.{Contains, ◌==◌}
+use Rattle.std.proofs.lemmas.List.{append-nil, length-map}
+use Rattle.net_model.specs.Circuit.{Circuit}
+use Rattle.net_model.specs.PatternRows.{IsTableOf}
+use Rattle.result_file.specs.declared.record.Record.{Record}
+use Rattle.result_file.specs.declared.record.Record.TheVariants.{Pattern}
+use Rattle.result_file.specs.declared.fault.ResultKind.{ResultKind}
+use Rattle.result_file.specs.declared.fault.ResultKind.TheVariants as why
+use Rattle.result_file.specs.declared.fault.ResultFault.{ResultFault}
+use Rattle.result_file.specs.Spelling.{Text, spelling, text_of, HasSpelling}
+use Rattle.result_file.specs.Marks.{pattern_of, evidence_of, patterns_in, evidence_in, class_lines, next_member}
+use Rattle.result_file.specs.Lines.{IsInPlace, IsRightContent}
+use Rattle.result_file.specs.Refusal.{line_length, ContentRefused, RestRefused, FileRefused}
+use Rattle.result_file.specs.Refusal.RestRefused.{misplaced, wrong}
+use Rattle.result_file.specs.Refusal.FileRefused.{at_line}
+use Rattle.result_file.proofs.FirstLine.{ended_length}
+use Rattle.result_file.proofs.RightLines.{IsNextLine, right_next}
+use Rattle.dia_check.specs.declared.progress.Progress.{Progress}
+use Rattle.dia_check.specs.declared.checker.Checker.{Checker}
+use Rattle.dia_check.specs.declared.stop.Stop.{Stop}
+use Rattle.dia_check.specs.declared.stop.Stop.TheVariants as stop
+use Rattle.dia_check.specs.Progress.{IsProgress}
+use Rattle.dia_check.specs.Checker.{IsChecker, AreWaiting, IsCheckOf, HasCheck, IsRefusedText, IsJudged, Judges, JudgesWaiting, line_of}
+use Rattle.dia_check.proofs.Counting.{read_same, text_more, lines_short}
+
+-- a fault of the line behind so many
+abbrev pub fault_behind : ResultKind → ℕ → ResultFault
+fault_behind kind lines = record { kind = kind; line = lines + 1 }
+
+pub nothing_waits : (c : Circuit) (seen : List Record) (waiting : List (List Bool)) → waiting ≡ [] → AreWaiting c seen waiting
+nothing_waits c seen waiting none = rw none (record {
+  widths = λ k d below. absurd (omega arith);
+  few = omega arith;
+  lines = λ k d below. absurd (omega arith);
+  place = λ some. absurd (omega arith);
+})
+
+-- a refused text is refused with more behind it
+pub refused_longer : {c : Circuit} {text : Text} {fault : ResultFault} (more : Text) → IsRefusedText c text fault → IsRefusedText c (text ++ more) fault
+refused_longer {c} {text} {fault} more is = record { refused = λ rest. subst (λ (file : Text). FileRefused c file fault) (sym (append_assoc text more rest)) (is.refused (more ++ rest)) }
+
+module _ {c : Circuit} {text : Text} {k : Checker} (is : IsCheckOf c text k) where
+  pub many_lines : k.progress.lines + length k.waiting.items ≤ 2 ^ 40
+  many_lines = omega (
+    arith,
+    is.short,
+    is.is.progress.lines,
+    ap length is.text_is,
+    lines_short (is.seen ++ map Pattern k.waiting.items),
+    length-append is.seen (map Pattern k.waiting.items),
+    length-map k.waiting.items Pattern,
+  )
+
+  pub table_seen : IsTableOf c (patterns_in is.seen) k.keeper.kept.table
+  table_seen = rw is.is.patterns at is.is.keeper.table
+
+  module _ (none : k.waiting.items ≡ []) where
+    pub text_seen : text ≡ text_of is.seen
+    text_seen = is.text_is ∙ ap (λ (w : List (List Bool)). text_of (is.seen ++ map Pattern w)) none ∙ ap text_of (append-nil is.seen)
+
+    -- the line is refused
+    pub refused_line : (line : Text) (reason : ResultKind) → ¬ Contains line 10 → length (text ++ (line ++ 10 ∷ [])) ≤ 2 ^ 40 → ((more : Text) → RestRefused c is.seen (line ++ 10 ∷ more) reason)
+        → IsRefusedText c (text ++ (line ++ 10 ∷ [])) (fault_behind reason k.progress.lines)
+    refused_line line reason one short rest = record {
+      refused = λ more.
+          let whole : (text ++ (line ++ 10 ∷ [])) ++ more ≡ text_of is.seen ++ (line ++ 10 ∷ more) =
+          append_assoc text (line ++ 10 ∷ []) more ∙ ap (λ (t : Text). text ++ t) (append_assoc line (10 ∷ []) more) ∙ ap (λ (t : Text). t ++ (line ++ 10 ∷ more)) text_seen in
+          let long : line_length (line ++ 10 ∷ more) ≡ length line + 1 = ended_length line more one in
+          at_line is.seen (line ++ 10 ∷ more) reason whole is.is.lines
+          (omega (arith, short, long, length-append text (line ++ 10 ∷ []), length-append line (10 ∷ []), ap length text_seen)) (rest more)
+          (λ i. fault_behind reason (is.is.progress.lines i));
+    }
+
+    module _ (r : Record) (spelled : HasSpelling r) (one : ¬ Contains (spelling r) 10) (short : length (text ++ line_of r) ≤ 2 ^ 40) where
+      pub misplaced_line : ¬ IsInPlace k.keeper.kept.table is.seen r → IsRefusedText c (text ++ line_of r) (fault_behind why.Order k.progress.lines)
+      misplaced_line out = refused_line (spelling r) why.Order one short (λ more. misplaced r more k.keeper.kept.table refl spelled table_seen out refl)
+
+      pub wrong_line : (reason : ResultKind) → IsInPlace k.keeper.kept.table is.seen r → ContentRefused c k.keeper.kept.table is.seen r reason → IsRefusedText c (text ++ line_of r) (fault_behind reason k.progress.lines)
+      wrong_line reason place refused = refused_line (spelling r) reason one short (λ more. wrong r more k.keeper.kept.table refl spelled table_seen place refused)
+
+    -- the line is one more
+    pub taken_line : (r : Record) (new : Checker) → length (text ++ line_of r) ≤ 2 ^ 40 → new.waiting.items ≡ [] → IsChecker c (is.seen ++ r ∷ []) new → IsCheckOf c (text ++ line_of r) new
+    taken_line r new short empty next = record {
+      seen = is.seen ++ r ∷ [];
+      is = next;
+      waiting = nothing_waits c (is.seen ++ r ∷ []) new.waiting.items empty;
+      text_is =
+          ap (λ (t : Text). t ++ line_of r) text_seen ∙ sym (text_more is.seen r) ∙ sym (ap text_of (append-nil (is.seen ++ r ∷ [])))
+          ∙ sym (ap (λ (w : List (List Bool)). text_of (is.seen ++ r ∷ [] ++ map Pattern w)) empty);
+      short = short;
+    }
+
+  pub next_line : (r : Record) → HasSpelling r → IsInPlace k.keeper.kept.table is.seen r → IsRightContent c k.keeper.kept.table is.seen r → IsNextLine c is.seen r
+  next_line r spelled place content = record { spelled = spelled; right = record { t = k.keeper.kept.table; table = table_seen; place = place; content = content } }
+
+-- a line more that is no pattern and no evidence
+pub checker_line : {c : Circuit} {seen : List Record} {k : Checker} → IsChecker c seen k → (r : Record) (q : Progress) → IsNextLine c seen r → pattern_of r ≡ None → evidence_of r ≡ None
+    → (0 < class_lines (seen ++ r ∷ []) → next_member k.keeper.kept.table (evidence_in seen) ≡ None) → IsProgress (seen ++ r ∷ []) q → IsChecker c (seen ++ r ∷ []) (record k { progress = q })
+checker_line {c} {seen} {k} is r q next no_pattern no_evidence complete progress = record {
+  lines = right_next is.lines next;
+  circuit = is.circuit;
+  keeper = is.keeper;
+  patterns = is.patterns ∙ sym (read_same seen r pattern_of no_pattern);
+  marks = rw (read_same seen r evidence_of no_evidence) is.marks;
+  begun = is.begun;
+  complete = λ some. rw (read_same seen r evidence_of no_evidence) (complete some);
+  progress = progress;
+  pool = is.pool;
+  few = is.few;
+}
+
+pub few_lines : {c : Circuit} {k : Checker} → HasCheck c k → k.progress.lines + 1 < 2 ^ 64
+few_lines has = omega (arith, many_lines has.is)
+
+-- ---- one after another
+
+-- what waits is judged first
+pub judged_then : {c : Circuit} {old mid new : Checker} {line : Text} {x : Unit {0}} {result : Result (Unit {0}) Stop} → JudgesWaiting c old mid (Ok x) → Judges c mid new line result → Judges c old new line result
+judged_then first next = record { judged = λ text is short. next.judged text (first.judged text is) short }
+
+stopped_by : (c : Circuit) (mid new : Checker) (text line : Text) (s : Stop) → IsJudged c text mid (Err s) → IsJudged c (text ++ line) new (Err s)
+stopped_by c mid new text line (stop.Refused fault) is = refused_longer line is
+stopped_by c mid new text line stop.NoMemory is = tt
+
+pub stopped : {c : Circuit} {old mid new : Checker} {line : Text} (s : Stop) → JudgesWaiting c old mid (Err s) → Judges c old new line (Err s)
+stopped {c} {old} {mid} {new} {line} s first = record { judged = λ text is short. stopped_by c mid new text line s (first.judged text is) }
+
+pub has_after : {c : Circuit} {old new : Checker} {x : Unit {0}} → HasCheck c old → JudgesWaiting c old new (Ok x) → HasCheck c new
+has_after has first = record { text = has.text; is = first.judged has.text has.is }
+
+pub some_by : (n : ℕ) → (n == 0) ≡ false → 0 < n
+some_by zero none = absurd (cc)
+some_by (suc n) none = omega arith

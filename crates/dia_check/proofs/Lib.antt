@@ -1,0 +1,10 @@
+pub mod Counting
+pub mod ProgressLemmas
+pub mod CheckLemmas
+pub mod RunLemmas
+pub mod StartLemmas
+pub mod TakenLemmas
+pub mod EndLemmas
+pub mod ReaderLemmas
+pub mod RestLemmas
+pub mod AnswerLemmas

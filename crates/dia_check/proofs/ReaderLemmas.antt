@@ -1,0 +1,214 @@
+-- Bytes that are read: lines among them, the limit, and the end.
+use Rattle.std.proofs.Common.{◌≡◌, ◌∙◌, ℕ, suc, ◌-◌, ◌<◌, ◌≤◌, ◌^◌, Bool, true, false, [], ◌∷◌, ◌++◌, length, length-append, length-take, take, Option, None, Some, Ok, Err, sym, ap, subst, append_assoc, arith}
+use Rattle.std.specs.Prelude.{Contains, not, ◌==◌, min, drop, is_some}
+use Rattle.std.specs.List.{prefix_len}
+use Rattle.std.proofs.lemmas.Bool.{ne_eqb}
+use Rattle.std.proofs.lemmas.List.{append-nil, take_all, take-append-drop, length-drop}
+use Rattle.net_model.specs.Circuit.{Circuit}
+use Rattle.result_file.specs.declared.fault.ResultKind.TheVariants as why
+use Rattle.result_file.specs.declared.fault.ResultFault.{ResultFault}
+use Rattle.result_file.specs.Spelling.{Text, text_of}
+use Rattle.result_file.specs.Held.{IsFirstLine}
+use Rattle.result_file.specs.Refusal.{line_length, FileRefused}
+use Rattle.result_file.specs.Refusal.FileRefused.{too_long}
+use Rattle.dia_check.specs.declared.checker.Checker.{Checker}
+use Rattle.dia_check.specs.declared.reader.Reader.{Reader}
+use Rattle.dia_check.specs.declared.stop.Stop.{Stop}
+use Rattle.dia_check.specs.declared.stop.Stop.TheVariants as stop
+use Rattle.dia_check.specs.Checker.{IsCheckOf, HasCheck, IsRefusedText, IsJudged, Judges, JudgesWaiting, JudgesEnd}
+use Rattle.dia_check.specs.Reader.{IsHeld, IsOpen, IsReading, HasHeld, HasOpen, AreTaken, IsTaken, TakesLines, TakesPiece, IsRefusedEnd}
+use Rattle.dia_check.proofs.CheckLemmas.{fault_behind, refused_longer, text_seen}
+
+-- ---- a line that is taken out
+
+module _ {c : Circuit} {fed : Text} {r : Reader} (h : IsHeld c fed r) (short : length fed ≤ 2 ^ 40) (line rest : Text) (first : IsFirstLine r.lines line rest) where
+  abbrev ended : Text
+  ended = line ++ 10 ∷ []
+
+  parts : fed ≡ (h.text ++ ended) ++ rest
+  parts = h.fed_is ∙ ap (λ (t : Text). h.text ++ t) (first.cut ∙ sym (append_assoc line (10 ∷ []) rest)) ∙ sym (append_assoc h.text ended rest)
+
+  within : length (h.text ++ ended) ≤ 2 ^ 40
+  within = omega (arith, short, ap length parts, length-append (h.text ++ ended) rest)
+
+  pub line_held : (new : Checker) (x : Unit {0}) → Judges c r.checker new ended (Ok x) → (r' : Reader) → r'.checker ≡ new → r'.lines ≡ rest → IsHeld c fed r'
+  line_held new x judges r' checker_is lines_is = record {
+    text = h.text ++ ended;
+    check = rw checker_is (judges.judged h.text h.check within);
+    fed_is = rw lines_is parts;
+  }
+
+  line_stopped_by : (new : Checker) (s : Stop) → IsJudged c (h.text ++ ended) new (Err s) → (r' : Reader) → AreTaken c fed r' (Err s)
+  line_stopped_by new (stop.Refused fault) is r' = subst (λ (t : Text). IsRefusedText c t fault) (sym parts) (refused_longer rest is)
+  line_stopped_by new stop.NoMemory is r' = tt
+
+  pub line_stopped : (new : Checker) (s : Stop) → Judges c r.checker new ended (Err s) → (r' : Reader) → AreTaken c fed r' (Err s)
+  line_stopped new s judges r' = line_stopped_by new s (judges.judged h.text h.check within) r'
+
+  pub line_smaller : length rest < length r.lines
+  line_smaller = omega (arith, ap length first.cut, length-append line (10 ∷ rest))
+
+pub has_check : {c : Circuit} {r : Reader} → HasHeld c r → HasCheck c r.checker
+has_check has = record { text = has.held.text; is = has.held.check }
+
+-- ---- a piece that is fed
+
+pub held_more : {c : Circuit} {fed : Text} {r : Reader} → IsHeld c fed r → (piece : Text) (r' : Reader) → r'.checker ≡ r.checker → r'.lines ≡ r.lines ++ piece → IsHeld c (fed ++ piece) r'
+held_more {c} {fed} {r} h piece r' checker_is lines_is = record {
+  text = h.text;
+  check = rw checker_is h.check;
+  fed_is = ap (λ (t : Text). t ++ piece) h.fed_is ∙ append_assoc h.text r.lines piece ∙ sym (ap (λ (t : Text). h.text ++ t) lines_is);
+}
+
+-- ---- beyond the limit
+
+abbrev is_inside : ℕ → Bool
+is_inside byte = not (byte == 10)
+
+held_size : (held more : Text) → ¬ Contains held 10 → length held ≤ prefix_len is_inside (held ++ more)
+held_size [] more one = omega arith
+held_size (b ∷ held) more one =
+    let rest = held_size held more (λ there. one (suc there.0, omega (arith, there.1), there.2)) in
+    let other : is_inside b ≡ true = ap not (ne_eqb b 10 (λ e. one (0, omega arith, e))) in
+    rw other (omega (arith, rest))
+
+-- a line goes beyond bytes without LF if any byte stands behind them
+line_longer : (held more : Text) → ¬ Contains held 10 → 0 < length more → length held < line_length (held ++ more)
+line_longer held more one some =
+    let size = held_size held more one in
+    let taken = length-take (prefix_len is_inside (held ++ more)) (held ++ more) in
+    omega (arith, size, taken, some, length-append held more)
+
+module _ {c : Circuit} {text : Text} (held : Text) {k : Checker} (is : IsCheckOf c text k) (none : k.waiting.items ≡ []) (one : ¬ Contains held 10) (full : length (text ++ held) ≡ 2 ^ 40) where
+  pub beyond_limit : (over : Text) → 0 < length over → IsRefusedText c ((text ++ held) ++ over) (fault_behind why.TooLong k.progress.lines)
+  beyond_limit over some = record {
+    refused = λ more.
+        let rest = held ++ (over ++ more) in
+        let file : ((text ++ held) ++ over) ++ more ≡ text_of is.seen ++ rest =
+        append_assoc (text ++ held) over more ∙ append_assoc text held (over ++ more) ∙ ap (λ (t : Text). t ++ rest) (text_seen is none) in
+        let long = line_longer held (over ++ more) one (omega (arith, some, length-append over more)) in
+        too_long is.seen rest file is.is.lines (omega (arith, is.short, ap length (text_seen is none)))
+        (omega (arith, full, long, length-append text held, ap length (text_seen is none)))
+        (λ i. fault_behind why.TooLong (is.is.progress.lines i));
+  }
+
+-- ---- what is known of the bytes so far
+
+-- at first there are none
+pub reading_none : {c : Circuit} (r : Reader) → IsCheckOf c [] r.checker → r.lines ≡ [] → r.room ≡ 2 ^ 40 → r.refused ≡ None → IsReading c [] r
+reading_none {c} r is lines_is room_is none = record {
+  going = λ e. record {
+    held = record { text = []; check = is; fed_is = sym lines_is };
+    one = rw lines_is (λ there. absurd (omega (arith, there.1)));
+    room = omega (arith, room_is);
+  };
+  refused = λ fault there. let clash : ◌≡◌ {A = Option ResultFault} None (Some fault) = sym none ∙ there in absurd (cc);
+}
+
+-- once a line is refused nothing is looked at
+pub reading_longer : {c : Circuit} {fed : Text} {r : Reader} (piece : Text) → is_some r.refused ≡ true → IsReading c fed r → IsReading c (fed ++ piece) r
+reading_longer {c} {fed} {r} piece some is = record {
+  going = λ none. let clash : false ≡ true = ap is_some (sym none) ∙ some in absurd (cc);
+  refused = λ fault there. refused_longer piece (is.refused fault there);
+}
+
+-- ---- a piece, up to the limit
+
+module _ {c : Circuit} {fed : Text} {old : Reader} (is : IsOpen c fed old) (piece : Text) (count : ℕ) (count_is : count ≡ min (length piece) old.room) where
+  abbrev inside : Text
+  inside = take count piece
+
+  inside_length : length inside ≡ count
+  inside_length = omega (arith, length-take count piece, count_is)
+
+  pub inside_short : length (fed ++ inside) ≤ 2 ^ 40
+  inside_short = omega (arith, length-append fed inside, inside_length, is.room, count_is)
+
+  whole : (fed ++ inside) ++ drop count piece ≡ fed ++ piece
+  whole = append_assoc fed inside (drop count piece) ∙ ap (λ (t : Text). fed ++ t) (take-append-drop count piece)
+
+  module _ (r : Reader) (checker_is : r.checker ≡ old.checker) (lines_is : r.lines ≡ old.lines ++ inside) where
+    pub inside_held : IsHeld c (fed ++ inside) r
+    inside_held = held_more is.held inside r checker_is lines_is
+
+    -- all of it is within the limit
+    pub piece_taken : {new : Reader} {x : Unit {0}} → TakesLines c r new (Ok x) → length piece ≤ count → r.room ≡ old.room - count → IsOpen c (fed ++ piece) new
+    piece_taken {new} takes all room_is =
+        let taken = takes.taken (fed ++ inside) inside_held inside_short in
+        let same : fed ++ inside ≡ fed ++ piece = ap (λ (t : Text). fed ++ t) (take_all count piece all) in
+        record {
+          held = subst (λ (t : Text). IsHeld c t new) same taken.0;
+          one = taken.1;
+          room = omega (arith, takes.room, room_is, is.room, count_is, all, length-append fed piece);
+        }
+
+    stopped_in : (new r' : Reader) (s : Stop) → AreTaken c (fed ++ inside) new (Err s) → IsTaken c (fed ++ piece) r' (Err s)
+    stopped_in new r' (stop.Refused fault) refused = subst (λ (t : Text). IsRefusedText c t fault) whole (refused_longer (drop count piece) refused)
+    stopped_in new r' stop.NoMemory refused = tt
+
+    pub piece_stopped : {new : Reader} (s : Stop) → TakesLines c r new (Err s) → (r' : Reader) → IsTaken c (fed ++ piece) r' (Err s)
+    piece_stopped {new} s takes r' = stopped_in new r' s (takes.taken (fed ++ inside) inside_held inside_short)
+
+    module _ {new : Reader} {x : Unit {0}} (takes : TakesLines c r new (Ok x)) where
+      judged_in : (k : Checker) (r' : Reader) (s : Stop) → (h : IsHeld c (fed ++ inside) new) → IsJudged c h.text k (Err s) → IsTaken c (fed ++ piece) r' (Err s)
+      judged_in k r' (stop.Refused fault) h refused =
+          let longer = refused_longer new.lines refused in
+          subst (λ (t : Text). IsRefusedText c t fault) whole (refused_longer (drop count piece) (subst (λ (t : Text). IsRefusedText c t fault) (sym h.fed_is) longer))
+      judged_in k r' stop.NoMemory h refused = tt
+
+      -- a pattern that waited is refused
+      pub waiting_stopped : {k : Checker} (s : Stop) → JudgesWaiting c new.checker k (Err s) → (r' : Reader) → IsTaken c (fed ++ piece) r' (Err s)
+      waiting_stopped {k} s judges r' =
+          let h = (takes.taken (fed ++ inside) inside_held inside_short).0 in
+          judged_in k r' s h (judges.judged h.text h.check)
+
+      pub waiting_has : HasCheck c new.checker
+      waiting_has = let h = (takes.taken (fed ++ inside) inside_held inside_short).0 in record { text = h.text; is = h.check }
+
+      -- or the line goes beyond the limit
+      pub piece_beyond : {k : Checker} {y : Unit {0}} → JudgesWaiting c new.checker k (Ok y) → k.waiting.items ≡ [] → count < length piece → IsRefusedText c (fed ++ piece) (fault_behind why.TooLong k.progress.lines)
+      piece_beyond {k} judges none below =
+          let taken = takes.taken (fed ++ inside) inside_held inside_short in
+          let h = taken.0 in
+          let full : length (h.text ++ new.lines) ≡ 2 ^ 40 = omega (arith, ap length h.fed_is, length-append fed inside, inside_length, is.room, count_is, below) in
+          let fault = fault_behind why.TooLong k.progress.lines in
+          let refused = beyond_limit new.lines (judges.judged h.text h.check) none taken.1 full (drop count piece) (omega (arith, below, length-drop count piece)) in
+          subst (λ (t : Text). IsRefusedText c t fault) (ap (λ (t : Text). t ++ drop count piece) (sym h.fed_is) ∙ whole) refused
+
+pub has_held : {c : Circuit} {old : Reader} (has : HasOpen c old) (piece : Text) (count : ℕ) → count ≡ min (length piece) old.room → (r : Reader) → r.checker ≡ old.checker → r.lines ≡ old.lines ++ take count piece → HasHeld c r
+has_held {c} has piece count count_is r checker_is lines_is = record {
+  fed = has.fed ++ take count piece;
+  held = inside_held has.is piece count count_is r checker_is lines_is;
+  short = inside_short has.is piece count count_is;
+}
+
+-- ---- as the calls state it
+
+pub lines_stopped : {c : Circuit} {old mid new : Reader} {k : Checker} (s : Stop) (line rest : Text) → ((fed : Text) → IsHeld c fed old → length fed ≤ 2 ^ 40 → IsHeld c fed mid) → IsFirstLine mid.lines line rest
+    → Judges c mid.checker k (line ++ 10 ∷ []) (Err s) → new.room ≡ old.room → new.refused ≡ old.refused → TakesLines c old new (Err s)
+lines_stopped {c} {old} {mid} {new} {k} s line rest held first judges room refused = record {
+  taken = λ fed is short. line_stopped (held fed is short) short line rest first k s judges new;
+  room = room;
+  refused = refused;
+}
+
+module _ {c : Circuit} {old : Reader} (piece : Text) (count : ℕ) (count_is : count ≡ min (length piece) old.room) {r : Reader} (checker_is : r.checker ≡ old.checker) (lines_is : r.lines ≡ old.lines ++ take count piece) where
+  pub takes_stopped : {mid new : Reader} (s : Stop) → TakesLines c r mid (Err s) → new.refused ≡ old.refused → TakesPiece c old new piece (Err s)
+  takes_stopped {mid} {new} s takes refused = record { taken = λ fed is. piece_stopped is piece count count_is r checker_is lines_is s takes new; refused = refused }
+
+  pub takes_waiting_stopped : {mid new : Reader} {x : Unit {0}} {k : Checker} (s : Stop) → TakesLines c r mid (Ok x) → JudgesWaiting c mid.checker k (Err s) → new.refused ≡ old.refused → TakesPiece c old new piece (Err s)
+  takes_waiting_stopped {mid} {new} s takes judges refused = record { taken = λ fed is. waiting_stopped is piece count count_is r checker_is lines_is takes s judges new; refused = refused }
+
+-- ---- the end
+
+pub refused_end : {c : Circuit} {fed : Text} {fault : ResultFault} → IsRefusedText c fed fault → IsRefusedEnd c fed fault
+refused_end {c} {fed} {fault} is = record { whole = subst (λ (t : Text). FileRefused c t fault) (append-nil fed) (is.refused []); beyond = λ more. is }
+
+pub end_refused : {c : Circuit} {fed : Text} {r : Reader} {new : Checker} {rest : Text} {fault : ResultFault} → IsOpen c fed r → rest ≡ r.lines → JudgesEnd c r.checker new rest (Err (stop.Refused fault)) → IsRefusedEnd c fed fault
+end_refused {c} {fed} {r} {new} {rest} {fault} is rest_is judges =
+    let h = is.held in
+    let whole : h.text ++ rest ≡ fed = ap (λ (t : Text). h.text ++ t) rest_is ∙ sym h.fed_is in
+    record {
+      whole = subst (λ (t : Text). FileRefused c t fault) whole (judges.judged h.text h.check (omega (arith, is.room, ap length whole)));
+      beyond = λ more. absurd (omega (arith, more, is.room));
+    }

@@ -1,0 +1,75 @@
+-- The rest of a file, piece by piece.
+use Rattle.std.proofs.Common.{◌≡◌, ◌∙◌, ℕ, ◌+◌, ◌<◌, ◌≤◌, ◌^◌, List, [], ◌++◌, length, take, Option, None, Some, inl, inr, refl, sym, ap, subst, append_assoc, arith}
+use Rattle.std.specs.Prelude.{unwrap_or, IsSome, drop}
+use Rattle.std.proofs.lemmas.List.{append-nil}
+use Rattle.std.proofs.Math.Seq.{drop_at}
+use Rattle.std.proofs.Math.ListN.{drop_of_length-le}
+use Rattle.diag_shelf.specs.World.{World}
+use Rattle.diag_shelf.specs.Calls.{Takes}
+use Rattle.net_model.specs.Circuit.{Circuit}
+use Rattle.result_file.specs.declared.fault.ResultFault.{ResultFault}
+use Rattle.result_file.specs.Spelling.{Text}
+use Rattle.result_file.specs.Refusal.{FileRefused}
+use Rattle.dia_check.specs.Accepted.{rest_of, ReadsRest}
+use Rattle.dia_check.specs.Reader.{IsRefusedEnd}
+use Rattle.dia_check.specs.Rest.{TakesText, TakesAll}
+
+some_rest : (o : Option Text) → IsSome o → o ≡ Some (unwrap_or o [])
+some_rest None some = absurd (cc)
+some_rest (Some text) some = refl
+
+-- at first nothing is taken
+pub takes_nothing : (world : World) → IsSome world.rest → TakesText [] world world
+takes_nothing world some = record { opened = some; rest = refl }
+
+-- a piece more
+pub takes_more : {fed : Text} {old mid new : World} (piece : List ℕ) (count : ℕ) → TakesText fed old mid → Takes piece count mid new → TakesText (fed ++ take count piece) old new
+takes_more {fed} {old} {mid} {new} piece count so_far takes = record {
+  opened = takes.still_opened;
+  rest = so_far.rest ∙ ap (λ (t : Text). fed ++ t) (ap (λ (o : Option Text). unwrap_or o []) takes.rest) ∙ sym (append_assoc fed (take count piece) (rest_of new));
+}
+
+-- the end is found where a piece has no byte
+pub takes_end : {fed : Text} {old mid new : World} (piece : List ℕ) (count : ℕ) → TakesText fed old mid → Takes piece count mid new → count ≡ 0 → 0 < length piece → TakesAll fed old new
+takes_end {fed} {old} {mid} {new} piece count so_far takes zero some =
+    let more = takes_more piece count so_far takes in
+    let none : take count piece ≡ [] = rw zero refl in
+    let was : mid.rest ≡ Some [] = takes.end zero some in
+    let both : take count piece ++ rest_of new ≡ [] = ap (λ (o : Option Text). unwrap_or o []) (sym takes.rest ∙ was) in
+    let end : rest_of new ≡ [] = ap (λ (t : Text). t ++ rest_of new) (sym none) ∙ both in
+    record {
+      taken = record { opened = more.opened; rest = more.rest ∙ ap (λ (t : Text). (fed ++ t) ++ rest_of new) none ∙ ap (λ (t : Text). t ++ rest_of new) (append-nil fed) };
+      end = inr end;
+    }
+
+-- or where so many bytes are taken
+pub takes_limit : {fed : Text} {old new : World} → TakesText fed old new → length fed ≡ 2 ^ 40 + 1 → TakesAll fed old new
+takes_limit taken full = record { taken = taken; end = inl full }
+
+module _ {fed : Text} {old new : World} (all : TakesAll fed old new) where
+  pub rest_read : length fed ≤ 2 ^ 40 + 1 → ReadsRest old new
+  rest_read few =
+      let now : new.rest ≡ Some (rest_of new) = some_rest new.rest all.taken.opened in
+      record {
+        rest = now ∙ ap (λ (t : Text). Some t) (elim all.end [
+          | inl full ↦
+              sym (ap (λ (t : Text). drop (2 ^ 40 + 1) t) all.taken.rest ∙ drop_at fed (rest_of new) (2 ^ 40 + 1) full)
+          | inr none ↦
+              let whole : rest_of old ≡ fed = all.taken.rest ∙ ap (λ (t : Text). fed ++ t) none ∙ append-nil fed in
+              none ∙ sym (drop_of_length-le (rest_of old) {i = 2 ^ 40 + 1} (omega (arith, few, ap length whole)))
+        ]);
+      }
+
+  pub rest_whole : length fed ≤ 2 ^ 40 → rest_of old ≡ fed
+  rest_whole short = elim all.end [
+    | inl full ↦ absurd (omega (arith, short, full))
+    | inr none ↦ all.taken.rest ∙ ap (λ (t : Text). fed ++ t) none ∙ append-nil fed
+  ]
+
+  pub rest_refused : {c : Circuit} {fault : ResultFault} → IsRefusedEnd c fed fault → FileRefused c (rest_of old) fault
+  rest_refused {c} {fault} is =
+      let P : Text → Type 0 = λ t. FileRefused c t fault in
+      elim all.end [
+        | inl full ↦ subst P (sym all.taken.rest) ((is.beyond (omega (arith, full))).refused (rest_of new))
+        | inr none ↦ subst P (sym (all.taken.rest ∙ ap (λ (t : Text). fed ++ t) none ∙ append-nil fed)) is.whole
+      ]

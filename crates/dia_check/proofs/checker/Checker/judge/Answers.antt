@@ -1,0 +1,8 @@
+use Rattle.std.proofs.lemmas.Result.{err_from_is_err_and}
+use Rattle.dia_check.proofs.CheckLemmas.{stopped}
+use Rattle.dia_check.proofs.checker.Checker.judge.Goals as goal
+
+pub returns-in_err-make_way : goal.returns-in_err-make_way
+returns-in_err-make_way c =
+    let p = err_from_is_err_and c.from_residual.result c.from_residual.ensures.1 in
+    rw (p.1, p.2) (stopped _ c.in_err-make_way.ensures.judged)

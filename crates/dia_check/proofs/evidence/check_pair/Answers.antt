@@ -1,0 +1,11 @@
+use Rattle.std.proofs.lemmas.Result.{err_from_is_err_and}
+use Rattle.result_file.specs.Refusal.PairRefused.{by_tree, by_log}
+use Rattle.dia_check.proofs.evidence.check_pair.Goals as goal
+
+pub returns-in_err-check_tree-clause-refused : goal.returns-in_err-check_tree-clause-refused
+returns-in_err-check_tree-clause-refused c =
+    let p = err_from_is_err_and c.from_residual.result c.from_residual.ensures.1 in
+    rw (p.1, p.2) (λ refusal is. by_tree (c.in_err-check_tree.ensures.refused refusal is))
+
+pub returns-clause-refused : goal.returns-clause-refused
+returns-clause-refused c = λ refusal is. by_log c.in_ok-check_tree.ensures.right (c.check_pair_log.ensures.refused refusal is)

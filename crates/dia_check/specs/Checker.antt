@@ -1,0 +1,97 @@
+-- The lines of a file that were judged, and those that wait.
+use Rattle.std.specs.Prelude.{◌≡◌, ◌≤◌, ◌<◌, ◌^◌, ℕ, Bool, List, [], ◌∷◌, ◌++◌, map, length, All, Contains, Option, None, Result, Ok, Err, IsSome, IsTrue, ⊤}
+use Rattle.net_model.specs.Circuit.{Circuit}
+use Rattle.net_model.specs.FaultList.{fault_count}
+use Rattle.net_model.specs.ClassTable.{ClassTable, class_at, representative}
+use Rattle.word_sim.specs.declared.lanes.TheConstants.{LANES}
+use Rattle.kept_vectors.specs.Keeper.{keeper_with, IsKeeper}
+use Rattle.member_marks.specs.declared.marks.Given.{Given}
+use Rattle.member_marks.specs.Given.{given_mark, AreGiven, IsLowestOpen}
+use Rattle.result_file.specs.declared.record.Evidence.{Evidence}
+use Rattle.result_file.specs.declared.record.Record.{Record}
+use Rattle.result_file.specs.declared.record.Record.TheVariants.{Pattern}
+use Rattle.result_file.specs.declared.fault.ResultFault.{ResultFault}
+use Rattle.result_file.specs.Spelling.{Text, spelling, text_of}
+use Rattle.result_file.specs.Marks.{patterns_in, evidence_in, class_lines, next_member}
+use Rattle.result_file.specs.Valid.{AreRightLines}
+use Rattle.result_file.specs.Refusal.{FileRefused}
+use Rattle.dia_check.specs.declared.stop.Stop.{Stop}
+use Rattle.dia_check.specs.declared.stop.Stop.TheVariants as stop
+use Rattle.dia_check.specs.declared.checker.Checker.{Checker}
+use Rattle.dia_check.specs.Progress.{IsProgress}
+
+-- The records are right lines, and the checker has what they state: their patterns with the table of these, their marks,
+-- of which those below a number are all given, and their counts. The pool is empty.
+pub record IsChecker (c : Circuit) (seen : List Record) (k : Checker) : Type 0 where
+  pub lines : AreRightLines c seen
+  pub circuit : k.keeper.circuit ≡ c
+  pub keeper : IsKeeper (keeper_with c k.keeper.kept)
+  pub patterns : k.keeper.kept.vectors ≡ patterns_in seen
+  pub marks : AreGiven k.keeper.kept.table (evidence_in seen) k.marks
+  pub begun : (n : ℕ) → n < k.from → IsSome (given_mark k.keeper.kept.table k.marks n)
+  pub complete : 0 < class_lines seen → next_member k.keeper.kept.table (evidence_in seen) ≡ None
+  pub progress : IsProgress seen k.progress
+  pub pool : k.pool.clauses ≡ []
+  pub few : fault_count c < 2 ^ 27
+
+-- Patterns may stand behind the records, and have a bit for each source. Of their lines it is left open whether they split a class.
+pub record AreWaiting (c : Circuit) (seen : List Record) (waiting : List (List Bool)) : Type 0 where
+  pub widths : All (λ v. length v ≡ c.sources) waiting
+  pub few : length waiting ≤ LANES
+  pub lines : All (λ v. ¬ Contains (spelling (Pattern v)) 10) waiting
+  pub place : 0 < length waiting → (2 ≤ length seen) × (class_lines seen ≡ 0)
+
+-- The text is that of records and of patterns that wait behind them.
+pub record IsCheckOf (c : Circuit) (text : Text) (k : Checker) : Type 0 where
+  pub seen : List Record
+  pub is : IsChecker c seen k
+  pub waiting : AreWaiting c seen k.waiting.items
+  pub text_is : text ≡ text_of (seen ++ map Pattern k.waiting.items)
+  pub short : length text ≤ 2 ^ 40
+
+pub record HasCheck (c : Circuit) (k : Checker) : Type 0 where
+  pub text : Text
+  pub is : IsCheckOf c text k
+
+-- The file is refused, whatever stands behind this text.
+pub record IsRefusedText (c : Circuit) (text : Text) (fault : ResultFault) : Type 0 where
+  pub refused : (more : Text) → FileRefused c (text ++ more) fault
+
+-- The text was judged: it is that of right lines so far, or the file is refused in it.
+abbrev pub IsJudged : Circuit → Text → Checker → Result (Unit {0}) Stop → Type 0
+IsJudged c text k (Ok x) = IsCheckOf c text k
+IsJudged c text k (Err (stop.Refused fault)) = IsRefusedText c text fault
+IsJudged c text k (Err stop.NoMemory) = ⊤
+
+-- A text that comes behind what was judged is judged too, where all of it is within the limit.
+pub record Judges (c : Circuit) (old new : Checker) (more : Text) (result : Result (Unit {0}) Stop) : Type 0 where
+  pub judged : (text : Text) → IsCheckOf c text old → length (text ++ more) ≤ 2 ^ 40 → IsJudged c (text ++ more) new result
+
+-- What waits is judged.
+pub record JudgesWaiting (c : Circuit) (old new : Checker) (result : Result (Unit {0}) Stop) : Type 0 where
+  pub judged : (text : Text) → IsCheckOf c text old → IsJudged c text new result
+
+-- The line of a record, with its LF.
+abbrev pub line_of : Record → Text
+line_of r = spelling r ++ 10 ∷ []
+
+-- The evidence names the lowest number that is neither a representative nor marked, with its representative.
+pub record NamesOpen (t : ClassTable) (given : List (Option Given)) (evidence : Evidence) : Type 0 where
+  pub lowest : IsLowestOpen t given evidence.member
+  pub partner : evidence.partner ≡ representative t (class_at t evidence.member)
+
+-- Each line was judged, up to the end.
+pub record IsComplete (c : Circuit) (text : Text) (k : Checker) : Type 0 where
+  pub is : IsCheckOf c text k
+  pub none : k.waiting.items ≡ []
+  pub ended : IsTrue k.progress.ended
+
+-- The file ends behind this text and these bytes: right lines up to the end and no byte more, or it is refused.
+abbrev pub IsWholly : Circuit → Text → Text → Checker → Result (Unit {0}) Stop → Type 0
+IsWholly c text rest k (Ok x) = (rest ≡ []) × IsComplete c text k
+IsWholly c text rest k (Err (stop.Refused fault)) = FileRefused c (text ++ rest) fault
+IsWholly c text rest k (Err stop.NoMemory) = ⊤
+
+-- The end of the file is judged.
+pub record JudgesEnd (c : Circuit) (old new : Checker) (rest : Text) (result : Result (Unit {0}) Stop) : Type 0 where
+  pub judged : (text : Text) → IsCheckOf c text old → length (text ++ rest) ≤ 2 ^ 40 → IsWholly c text rest new result

@@ -1,0 +1,41 @@
+-- What lines have stated.
+use Rattle.std.specs.Prelude.{◌≡◌, ◌≤◌, ◌<◌, ◌+◌, true, false, List, [], ◌∷◌, ◌++◌, length, count_by, filter_map}
+use Rattle.result_file.specs.declared.record.Mark.{Mark}
+use Rattle.result_file.specs.declared.record.Mark.TheVariants as mark
+use Rattle.result_file.specs.declared.record.Record.{Record}
+use Rattle.result_file.specs.declared.record.Record.TheVariants.{End}
+use Rattle.result_file.specs.Marks.{class_lines, member_lines, end_lines}
+use Rattle.result_file.specs.Lines.{no_budgets, budgets_of, budgets_in, AreWithinLimits}
+use Rattle.result_file.specs.Summary.{is_equal, is_open}
+use Rattle.dia_check.specs.declared.progress.Progress.{Progress}
+
+abbrev pub no_progress : Progress
+no_progress = record { lines = 0; budgets = no_budgets; classes = 0; members = 0; equal = 0; spent = 0; ended = false }
+
+-- with a member line more, that has this mark
+abbrev pub with_member : Progress → Mark → Progress
+with_member p mark.Rep = record p { lines = p.lines + 1; members = p.members + 1 }
+with_member p mark.Equal = record p { lines = p.lines + 1; members = p.members + 1; equal = p.equal + 1 }
+with_member p mark.Spent = record p { lines = p.lines + 1; members = p.members + 1; spent = p.spent + 1 }
+
+-- The last record is the end, and there are class lines and member lines before it.
+pub record IsEnded (records : List Record) : Type 0 where
+  pub before : List Record
+  pub ended : records ≡ before ++ End ∷ []
+  pub classes : 0 < class_lines records
+  pub members : 0 < member_lines records
+
+-- The counts, the budgets and whether the end stands are those of the records. The budgets aren't on the first line.
+pub record IsProgress (records : List Record) (p : Progress) : Type 0 where
+  pub lines : p.lines ≡ length records
+  pub budgets : p.budgets ≡ budgets_in records
+  pub classes : p.classes ≡ class_lines records
+  pub members : p.members ≡ member_lines records
+  pub equal : p.equal ≡ count_by is_equal records
+  pub spent : p.spent ≡ count_by is_open records
+  pub few_equal : p.equal ≤ p.members
+  pub few_spent : p.spent ≤ p.members
+  pub early : length records ≤ 1 → filter_map budgets_of records ≡ []
+  pub limits : AreWithinLimits p.budgets
+  pub unended : p.ended ≡ false → end_lines records ≡ 0
+  pub ended : p.ended ≡ true → IsEnded records

@@ -1,0 +1,75 @@
+-- What was read of a file.
+use Rattle.std.specs.Prelude.{◌≡◌, ◌≤◌, ◌<◌, ◌+◌, ◌^◌, List, ◌++◌, length, Contains, None, Some, Result, Ok, Err, ⊤}
+use Rattle.net_model.specs.Circuit.{Circuit}
+use Rattle.result_file.specs.declared.record.Record.{Record}
+use Rattle.result_file.specs.declared.fault.ResultFault.{ResultFault}
+use Rattle.result_file.specs.Spelling.{Text, text_of}
+use Rattle.result_file.specs.Refusal.{FileRefused}
+use Rattle.dia_check.specs.declared.answer.Checked.{Checked}
+use Rattle.dia_check.specs.declared.stop.Stop.{Stop}
+use Rattle.dia_check.specs.declared.stop.Stop.TheVariants as stop
+use Rattle.dia_check.specs.declared.reader.Reader.{Reader}
+use Rattle.dia_check.specs.Accepted.{IsAccepted}
+use Rattle.dia_check.specs.Checker.{IsCheckOf, IsRefusedText}
+
+-- Lines of these bytes were judged, and the others are held.
+pub record IsHeld (c : Circuit) (fed : Text) (r : Reader) : Type 0 where
+  pub text : Text
+  pub check : IsCheckOf c text r.checker
+  pub fed_is : fed ≡ text ++ r.lines
+
+-- Each line of these bytes was judged, and those that are held have no LF.
+pub record IsOpen (c : Circuit) (fed : Text) (r : Reader) : Type 0 where
+  pub held : IsHeld c fed r
+  pub one : ¬ Contains r.lines 10
+  pub room : length fed + r.room ≡ 2 ^ 40
+
+-- These bytes were read, and the first line that breaks a rule is known if there is one.
+pub record IsReading (c : Circuit) (fed : Text) (r : Reader) : Type 0 where
+  pub going : r.refused ≡ None → IsOpen c fed r
+  pub refused : (fault : ResultFault) → r.refused ≡ Some fault → IsRefusedText c fed fault
+
+pub record HasHeld (c : Circuit) (r : Reader) : Type 0 where
+  pub fed : Text
+  pub held : IsHeld c fed r
+  pub short : length fed ≤ 2 ^ 40
+
+pub record HasOpen (c : Circuit) (r : Reader) : Type 0 where
+  pub fed : Text
+  pub is : IsOpen c fed r
+
+pub record HasReading (c : Circuit) (r : Reader) : Type 0 where
+  pub fed : Text
+  pub is : IsReading c fed r
+
+-- Each whole line among these bytes is judged: all are right, or the file is refused.
+abbrev pub AreTaken : Circuit → Text → Reader → Result (Unit {0}) Stop → Type 0
+AreTaken c fed r (Ok x) = IsHeld c fed r × (¬ Contains r.lines 10)
+AreTaken c fed r (Err (stop.Refused fault)) = IsRefusedText c fed fault
+AreTaken c fed r (Err stop.NoMemory) = ⊤
+
+pub record TakesLines (c : Circuit) (old new : Reader) (result : Result (Unit {0}) Stop) : Type 0 where
+  pub taken : (fed : Text) → IsHeld c fed old → length fed ≤ 2 ^ 40 → AreTaken c fed new result
+  pub room : new.room ≡ old.room
+  pub refused : new.refused ≡ old.refused
+
+abbrev pub IsTaken : Circuit → Text → Reader → Result (Unit {0}) Stop → Type 0
+IsTaken c fed r (Ok x) = IsOpen c fed r
+IsTaken c fed r (Err (stop.Refused fault)) = IsRefusedText c fed fault
+IsTaken c fed r (Err stop.NoMemory) = ⊤
+
+-- A piece comes behind the bytes.
+pub record TakesPiece (c : Circuit) (old new : Reader) (piece : Text) (result : Result (Unit {0}) Stop) : Type 0 where
+  pub taken : (fed : Text) → IsOpen c fed old → IsTaken c (fed ++ piece) new result
+  pub refused : new.refused ≡ old.refused
+
+-- A file is refused whose first bytes these are: with no byte behind them, or whatever stands there if they go beyond the limit.
+pub record IsRefusedEnd (c : Circuit) (fed : Text) (fault : ResultFault) : Type 0 where
+  pub whole : FileRefused c fed fault
+  pub beyond : 2 ^ 40 < length fed → IsRefusedText c fed fault
+
+-- A file is accepted that has these bytes.
+pub record IsAcceptedText (c : Circuit) (fed : Text) (checked : Checked) : Type 0 where
+  pub records : List Record
+  pub accepted : IsAccepted c records checked
+  pub text_is : fed ≡ text_of records

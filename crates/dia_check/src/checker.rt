@@ -1,0 +1,468 @@
+//! The checker of lines.
+
+ghost use Rattle.std.specs.Prelude.{◌≡◌, ◌≢◌, ◌≤◌, ◌<◌, ◌+◌, ◌^◌, ◌↔◌, ◌++◌, ◌∷◌, [], ℕ, List, None, Some, Contains, IfOk, OnOk, IsTrue, IsSome, length, slice_set};
+ghost use Rattle.net_model.specs.Circuit.{Circuit};
+ghost use Rattle.member_marks.specs.Given.{given_mark, AreGiven};
+ghost use Rattle.result_file.specs.declared.record.Record.{Record};
+ghost use Rattle.result_file.specs.declared.record.Record.TheVariants.{Head, Budget, Pattern, Same, Class, Member, End};
+ghost use Rattle.result_file.specs.Marks.{pattern_of, evidence_in, mark_of as mark_by};
+ghost use Rattle.result_file.specs.Lines.{AreWithinLimits, NamesNext, IsRightClass, IsRightMember};
+ghost use Rattle.result_file.specs.Spelling.{Text, HasSpelling, IsNoSpelling, spelling};
+ghost use Rattle.dia_check.specs.Checker.{HasCheck, Judges, JudgesWaiting, JudgesEnd, IsChecker, IsCheckOf, IsComplete, NamesOpen, line_of};
+ghost use Rattle.dia_check.specs.Reader.{IsAcceptedText};
+
+use crate::answer::Checked;
+use crate::evidence::check_evidence;
+use crate::progress::Progress;
+use crate::stop::Stop;
+use crate::subject::Subject;
+use clause_pool::Pool;
+use kept_vectors::Keeper;
+use member_marks::{Marks, mark_of};
+use net_model::{Vector, Vectors};
+use refute_check::CheckFault;
+use result_file::{
+    Budgets, Evidence, Mark, Record, RecordFault, ResultFault, ResultKind, Summary, read_record,
+};
+use std::alloc::{AllocError, Global};
+use word_sim::LANES;
+
+// The greatest budgets.
+const BLOCKS_LIMIT: u32 = 65_536;
+
+const CUBES_LIMIT: u32 = 1_048_576;
+
+const CONFLICTS_LIMIT: u32 = 100_000;
+
+// What the lines so far have stated: the patterns with their classes, the marks, of which each below a number is given, and
+// the counts; the pool in which logs are checked; and patterns that wait, so that a block of them is judged at once.
+pub(crate) struct Checker<'a> {
+    pub(crate) keeper: Keeper<'a>,
+    pub(crate) marks: Marks,
+    pub(crate) from: u32,
+    pub(crate) progress: Progress,
+    pub(crate) pool: Pool,
+    pub(crate) waiting: Vec<Vector>,
+}
+
+impl Drop for Checker<'_> {
+    fn drop(self) {
+        let Checker {
+            keeper: _,
+            marks: _,
+            from: _,
+            progress: _,
+            pool: _,
+            waiting: _,
+        } = self;
+    }
+}
+
+impl<'a> Checker<'a> {
+    // No line.
+    pub(crate) fn start(alloc: Global, subject: &Subject<'a>) -> Result<Checker<'a>, AllocError>
+        ensures { IfOk result (IsCheckOf subject.now []) }
+    {
+        Ok(Checker {
+            keeper: subject.keeper(alloc)?,
+            marks: Marks::none(alloc, subject.numbers())?,
+            from: 0,
+            progress: Progress::none(),
+            pool: Pool::with_room(alloc, 0, 0)?,
+            waiting: Vec::new(alloc),
+        })
+    }
+
+    // Judges a line.
+    pub(crate) fn judge_line(
+        &mut self,
+        alloc: Global,
+        subject: &Subject,
+        line: &[u8],
+    ) -> Result<(), Stop>
+        requires check { HasCheck subject.now self.old }
+        requires one { ¬ Contains line.now 10 }
+        ensures { Judges subject.now self.old self.new (line.now ++ 10 ∷ []) result }
+    {
+        match read_record(alloc, line) {
+            Ok(record) => self.judge(alloc, subject, record),
+            Err(RecordFault::Syntax) => self.refuse_line(subject, line),
+            Err(RecordFault::NoMemory) => Err(Stop::NoMemory),
+        }
+    }
+
+    // Refuses a line that is no record.
+    fn refuse_line(&mut self, subject: &Subject, line: &[u8]) -> Result<(), Stop>
+        requires check { HasCheck subject.now self.old }
+        requires one { ¬ Contains line.now 10 }
+        requires wrong { IsNoSpelling line.now }
+        ensures { Judges subject.now self.old self.new (line.now ++ 10 ∷ []) result }
+    {
+        self.flush(subject)?;
+        Err(self.refused(ResultKind::Syntax))
+    }
+
+    // Judges the line of a record.
+    fn judge(&mut self, alloc: Global, subject: &Subject, entry: Record) -> Result<(), Stop>
+        requires check { HasCheck subject.now self.old }
+        requires spelled { HasSpelling entry }
+        requires one { ¬ Contains (spelling entry) 10 }
+        ensures { Judges subject.now self.old self.new (line_of entry) result }
+    {
+        self.make_way(subject, &entry)?;
+        match entry {
+            Record::Head(sources, positions, numbers) => {
+                self.judge_head(subject, sources, positions, numbers)
+            }
+            Record::Budget(budgets) => self.judge_budget(subject, budgets),
+            Record::Pattern(v) => self.judge_pattern(subject, v),
+            Record::Same(evidence) => self.judge_evidence(alloc, subject, evidence),
+            Record::Class(number, birth) => self.judge_class(subject, number, birth),
+            Record::Member(number, class, mark) => self.judge_member(subject, number, class, mark),
+            Record::End => self.judge_end(subject),
+        }
+    }
+
+    // Judges the patterns that wait, where a record isn't a pattern that can wait behind them.
+    fn make_way(&mut self, subject: &Subject, entry: &Record) -> Result<(), Stop>
+        requires check { HasCheck subject.now self.old }
+        ensures judged { JudgesWaiting subject.now self.old self.new result }
+        ensures room { OnOk result (length self.new.waiting.items < LANES) }
+        ensures none { OnOk result (pattern_of entry.now ≡ None → self.new.waiting.items ≡ []) }
+    {
+        let can_wait = matches!(entry, Record::Pattern(_));
+        if can_wait && self.waiting.len() < LANES as usize {
+            return Ok(());
+        }
+        self.flush(subject)
+    }
+
+    // Judges the patterns that wait.
+    pub(crate) fn flush(&mut self, subject: &Subject) -> Result<(), Stop>
+        requires check { HasCheck subject.now self.old }
+        ensures judged { JudgesWaiting subject.now self.old self.new result }
+        ensures none { OnOk result (self.new.waiting.items ≡ []) }
+    {
+        if self.waiting.is_empty() {
+            return Ok(());
+        }
+        let kept = self.keeper.keep_run(self.waiting.as_slice())?;
+        self.progress.lines += kept as u64;
+        if kept < self.waiting.len() {
+            return Err(self.refused(ResultKind::Pattern));
+        }
+        self.waiting.clear();
+        self.from = 0;
+        Ok(())
+    }
+
+    // The answer where the next line breaks a rule.
+    pub(crate) fn refused(&self, kind: ResultKind) -> Stop
+        requires { self.now.progress.lines + 1 < 2 ^ 64 }
+        ensures { result ≡ Stop.Refused (record { kind = kind; line = self.now.progress.lines + 1 }) }
+    {
+        Stop::Refused(ResultFault {
+            kind,
+            line: self.progress.lines + 1,
+        })
+    }
+
+    // Lets a pattern wait.
+    fn judge_pattern(&mut self, subject: &Subject, v: Vector) -> Result<(), Stop>
+        requires check { HasCheck subject.now self.old }
+        requires room { length self.old.waiting.items < LANES }
+        requires one { ¬ Contains (spelling (Pattern v)) 10 }
+        ensures { Judges subject.now self.old self.new (line_of (Pattern v)) result }
+    {
+        if v.len() != subject.circuit().sources() as usize {
+            return self.refuse_pattern(subject, &v);
+        }
+        if !self.progress.is_body() {
+            return Err(self.refused(ResultKind::Order));
+        }
+        self.waiting.reserve(1)?;
+        self.waiting.push_reserved(v);
+        Ok(())
+    }
+
+    // Refuses a pattern that hasn't a bit for each source.
+    fn refuse_pattern(&mut self, subject: &Subject, v: &Vector) -> Result<(), Stop>
+        requires check { HasCheck subject.now self.old }
+        requires one { ¬ Contains (spelling (Pattern v.now)) 10 }
+        requires wrong { length v.now ≢ subject.now.sources }
+        ensures { Judges subject.now self.old self.new (line_of (Pattern v.now)) result }
+    {
+        self.flush(subject)?;
+        if !self.progress.is_body() {
+            return Err(self.refused(ResultKind::Order));
+        }
+        Err(self.refused(ResultKind::Pattern))
+    }
+
+    fn judge_head(
+        &mut self,
+        subject: &Subject,
+        sources: u32,
+        positions: u32,
+        numbers: u32,
+    ) -> Result<(), Stop>
+        requires check { HasCheck subject.now self.old }
+        requires none { self.old.waiting.items ≡ [] }
+        requires spelled { HasSpelling (Head sources positions numbers) }
+        requires one { ¬ Contains (spelling (Head sources positions numbers)) 10 }
+        ensures { Judges subject.now self.old self.new (line_of (Head sources positions numbers)) result }
+    {
+        if self.progress.lines != 0 {
+            return Err(self.refused(ResultKind::Order));
+        }
+        if !subject.has_sizes(sources, positions, numbers) {
+            return Err(self.refused(ResultKind::Head));
+        }
+        self.progress.lines += 1;
+        Ok(())
+    }
+
+    fn judge_budget(&mut self, subject: &Subject, budgets: Budgets) -> Result<(), Stop>
+        requires check { HasCheck subject.now self.old }
+        requires none { self.old.waiting.items ≡ [] }
+        requires spelled { HasSpelling (Budget budgets) }
+        requires one { ¬ Contains (spelling (Budget budgets)) 10 }
+        ensures { Judges subject.now self.old self.new (line_of (Budget budgets)) result }
+    {
+        if self.progress.lines != 1 {
+            return Err(self.refused(ResultKind::Order));
+        }
+        if !are_within_limits(budgets) {
+            return Err(self.refused(ResultKind::Head));
+        }
+        self.progress.budgets = budgets;
+        self.progress.lines += 1;
+        Ok(())
+    }
+
+    fn judge_evidence(
+        &mut self,
+        alloc: Global,
+        subject: &Subject,
+        evidence: Evidence,
+    ) -> Result<(), Stop>
+        requires check { HasCheck subject.now self.old }
+        requires none { self.old.waiting.items ≡ [] }
+        requires spelled { HasSpelling (Same evidence) }
+        requires one { ¬ Contains (spelling (Same evidence)) 10 }
+        ensures { Judges subject.now self.old self.new (line_of (Same evidence)) result }
+    {
+        if !self.progress.is_body() {
+            return Err(self.refused(ResultKind::Order));
+        }
+        if !self.names_next(&evidence) {
+            return Err(self.refused(ResultKind::Member));
+        }
+        if !subject.has_right_roots(&evidence) {
+            return Err(self.refused(ResultKind::Roots));
+        }
+        let budgets = self.progress.budgets;
+        match check_evidence(alloc, subject, &mut self.pool, budgets, &evidence) {
+            Ok(()) => {
+                self.give(&evidence);
+                Ok(())
+            }
+            Err(CheckFault::Refused(refusal)) => Err(self.refused(ResultKind::Evidence(refusal))),
+            Err(CheckFault::NoMemory) => Err(Stop::NoMemory),
+        }
+    }
+
+    // Whether evidence names the lowest number that is neither a representative nor marked, with its representative.
+    fn names_next(&self, evidence: &Evidence) -> bool
+        requires whole { length self.now.marks ≡ length self.now.keeper.kept.table.class_of }
+        requires begun { (n : ℕ) → n < self.now.from → IsSome (given_mark self.now.keeper.kept.table self.now.marks n) }
+        ensures right { IsTrue result → NamesOpen self.now.keeper.kept.table self.now.marks evidence.now }
+        ensures wrong { ¬ IsTrue result → (seen : List Record) → AreGiven self.now.keeper.kept.table (evidence_in seen) self.now.marks → ¬ NamesNext self.now.keeper.kept.table seen evidence.now }
+    {
+        let classes = self.keeper.classes();
+        let Some(member) = self.marks.next_open(classes, self.from) else {
+            return false;
+        };
+        let lead = classes.representative(classes.class_of(member));
+        evidence.member == member && evidence.partner == lead
+    }
+
+    // Gives the mark of evidence that is right.
+    fn give(&mut self, evidence: &Evidence)
+        requires member { evidence.now.member < length self.old.marks }
+        requires small { evidence.now.member + 1 < 2 ^ 32 }
+        requires lines { self.old.progress.lines + 1 < 2 ^ 64 }
+        ensures keeper { self.new.keeper ≡ self.old.keeper }
+        ensures marks { self.new.marks ≡ slice_set self.old.marks evidence.now.member (Some (record { partner = evidence.now.partner; mark = mark_by evidence.now.proof })) }
+        ensures from { self.new.from ≡ evidence.now.member + 1 }
+        ensures progress { self.new.progress ≡ record self.old.progress { lines = self.old.progress.lines + 1 } }
+        ensures pool { self.new.pool ≡ self.old.pool }
+        ensures waiting { self.new.waiting ≡ self.old.waiting }
+    {
+        let mark = mark_of(&evidence.proof);
+        self.marks.give(evidence.member, evidence.partner, mark);
+        self.from = evidence.member + 1;
+        self.progress.lines += 1;
+    }
+
+    fn judge_class(
+        &mut self,
+        subject: &Subject,
+        number: u32,
+        birth: Option<(u32, u32)>,
+    ) -> Result<(), Stop>
+        requires check { HasCheck subject.now self.old }
+        requires none { self.old.waiting.items ≡ [] }
+        requires spelled { HasSpelling (Class number birth) }
+        requires one { ¬ Contains (spelling (Class number birth)) 10 }
+        ensures { Judges subject.now self.old self.new (line_of (Class number birth)) result }
+    {
+        if self.progress.lines < 2 || self.progress.members != 0 {
+            return Err(self.refused(ResultKind::Order));
+        }
+        if !self.is_next_class(number, birth) {
+            return Err(self.refused(ResultKind::Table));
+        }
+        self.progress.add_class();
+        Ok(())
+    }
+
+    // Whether the next class is this one, each number being a representative or marked.
+    fn is_next_class(&self, number: u32, birth: Option<(u32, u32)>) -> bool
+        requires whole { length self.now.marks ≡ length self.now.keeper.kept.table.class_of }
+        requires begun { (n : ℕ) → n < self.now.from → IsSome (given_mark self.now.keeper.kept.table self.now.marks n) }
+        ensures { (c : Circuit) (seen : List Record) → IsChecker c seen self.now → IsTrue result ↔ IsRightClass self.now.keeper.kept.table seen number birth }
+    {
+        let classes = self.keeper.classes();
+        if number != self.progress.classes || number >= classes.count() {
+            return false;
+        }
+        if classes.born(number) != birth {
+            return false;
+        }
+        if number > 0 {
+            return true;
+        }
+        self.marks.next_open(classes, self.from).is_none()
+    }
+
+    fn judge_member(
+        &mut self,
+        subject: &Subject,
+        number: u32,
+        class: u32,
+        mark: Mark,
+    ) -> Result<(), Stop>
+        requires check { HasCheck subject.now self.old }
+        requires none { self.old.waiting.items ≡ [] }
+        requires spelled { HasSpelling (Member number class mark) }
+        requires one { ¬ Contains (spelling (Member number class mark)) 10 }
+        ensures { Judges subject.now self.old self.new (line_of (Member number class mark)) result }
+    {
+        if self.progress.classes != self.keeper.classes().count() || self.progress.ended {
+            return Err(self.refused(ResultKind::Order));
+        }
+        if !self.is_next_member(subject.numbers(), number, class, mark) {
+            return Err(self.refused(ResultKind::Table));
+        }
+        self.progress.add_member(mark);
+        Ok(())
+    }
+
+    // Whether the next number is this one, in this class and with this mark.
+    fn is_next_member(&self, numbers: u32, number: u32, class: u32, mark: Mark) -> bool
+        requires numbers { numbers ≡ length self.now.keeper.kept.table.class_of }
+        requires whole { length self.now.marks ≡ length self.now.keeper.kept.table.class_of }
+        ensures { (c : Circuit) (seen : List Record) → IsChecker c seen self.now → IsTrue result ↔ IsRightMember self.now.keeper.kept.table seen number class mark }
+    {
+        let classes = self.keeper.classes();
+        if number != self.progress.members || number >= numbers {
+            return false;
+        }
+        if class != classes.class_of(number) {
+            return false;
+        }
+        self.marks.of(classes, number) == Some(mark)
+    }
+
+    fn judge_end(&mut self, subject: &Subject) -> Result<(), Stop>
+        requires check { HasCheck subject.now self.old }
+        requires none { self.old.waiting.items ≡ [] }
+        requires spelled { HasSpelling (End) }
+        requires one { ¬ Contains (spelling (End)) 10 }
+        ensures { Judges subject.now self.old self.new (line_of (End)) result }
+    {
+        if self.progress.classes != self.keeper.classes().count()
+            || self.progress.members != subject.numbers()
+            || self.progress.ended
+        {
+            return Err(self.refused(ResultKind::Order));
+        }
+        self.progress.ended = true;
+        self.progress.lines += 1;
+        Ok(())
+    }
+
+    // Judges the end of the file: the end has to stand, and no bytes behind it.
+    pub(crate) fn end(&mut self, subject: &Subject, rest: &[u8]) -> Result<(), Stop>
+        requires check { HasCheck subject.now self.old }
+        requires one { ¬ Contains rest.now 10 }
+        ensures { JudgesEnd subject.now self.old self.new rest.now result }
+    {
+        self.flush(subject)?;
+        if !rest.is_empty() {
+            return Err(self.refused(ResultKind::Syntax));
+        }
+        if !self.progress.ended {
+            return Err(self.refused(ResultKind::Order));
+        }
+        Ok(())
+    }
+
+    // What the lines state.
+    pub(crate) fn into_checked(self, alloc: Global) -> Result<Checked, AllocError>
+        ensures { IfOk result (λ checked. (c : Circuit) (text : Text) → IsComplete c text self.entry → IsAcceptedText c text checked) }
+    {
+        let Checker {
+            keeper,
+            marks: _,
+            from: _,
+            progress,
+            pool: _,
+            waiting: _,
+        } = self;
+        let (vectors, classes) = keeper.into_kept();
+        let summary = Summary {
+            numbers: progress.members,
+            patterns: classes.patterns(),
+            classes: progress.classes,
+            equal: progress.equal,
+            spent: progress.spent,
+        };
+        Ok(Checked {
+            summary,
+            budgets: progress.budgets,
+            patterns: listed(alloc, vectors)?,
+            classes,
+        })
+    }
+}
+
+// The vectors as a list of their own.
+fn listed(alloc: Global, vectors: Vec<Vector>) -> Result<Vectors, AllocError>
+    ensures { IfOk result (λ listed. listed ≡ vectors.items) }
+{
+    let mut listed = Vectors::new(alloc);
+    for v in vectors {
+        listed.push(v)?;
+    }
+    Ok(listed)
+}
+
+fn are_within_limits(budgets: Budgets) -> bool
+    ensures { IsTrue result ↔ AreWithinLimits budgets }
+{
+    budgets.blocks <= BLOCKS_LIMIT
+        && budgets.cubes <= CUBES_LIMIT
+        && budgets.conflicts <= CONFLICTS_LIMIT
+}

@@ -1,0 +1,90 @@
+//! The check of the opened file.
+
+ghost use Rattle.std.specs.Prelude.{◌≡◌, ◌≤◌, ◌<◌, ◌+◌, ◌^◌, [], List, IfOk, OnOk, IsErrOf, IsTrue, IsSome};
+ghost use Rattle.diag_shelf.specs.Calls.{IsReadCall, Told, OnlyReads};
+ghost use Rattle.result_file.specs.declared.record.Record.{Record};
+ghost use Rattle.result_file.specs.declared.fault.ResultFault.{ResultFault};
+ghost use Rattle.result_file.specs.Spelling.{text_of};
+ghost use Rattle.result_file.specs.Refusal.{FileRefused};
+ghost use Rattle.dia_check.specs.Faults.{as_shelf};
+ghost use Rattle.dia_check.specs.Accepted.{IsAccepted, ReadsRest, rest_of};
+ghost use Rattle.dia_check.specs.Reader.{IsReading};
+ghost use Rattle.dia_check.specs.Rest.{HasRead};
+
+use crate::answer::{Checked, FileFault};
+use crate::reader::{LIMIT, Reader};
+use crate::subject::Subject;
+use diag_shelf::Shelf;
+use fault_collapse::collapse;
+use fault_list::list;
+use net_model::Circuit;
+use std::alloc::Global;
+
+/// Checks the opened file against a circuit: it is accepted exactly where its rest is a valid result. Else the first line
+/// that breaks a rule is answered. The rest is read to its end or to one byte beyond the limit of 2^40 bytes, whatever is
+/// found in it, so that a failed read comes before a refusal.
+pub fn check<S: Shelf>(
+    alloc: Global,
+    circuit: &Circuit,
+    shelf: &mut S,
+) -> Result<Checked, FileFault>
+    requires opened { IsTrue (S.state shelf.old).tells → IsSome (S.state shelf.old).world.rest }
+    ensures call { IsReadCall (as_shelf result) (S.state shelf.old) (S.state shelf.new) }
+    ensures others { Told (S.state shelf.old) (S.state shelf.new) OnlyReads }
+    ensures read { OnOk (as_shelf result) (Told (S.state shelf.old) (S.state shelf.new) ReadsRest) }
+    ensures valid { IfOk result (λ checked. (records : List Record) × IsAccepted circuit.now records checked × Told (S.state shelf.old) (S.state shelf.new) (λ old new. rest_of old ≡ text_of records)) }
+    ensures refused { (fault : ResultFault) → IsErrOf result (FileFault.Result fault) → Told (S.state shelf.old) (S.state shelf.new) (λ old new. FileRefused circuit.now (rest_of old) fault) }
+    ensures never { IsTrue (S.state shelf.old).sure → ¬ IsErrOf result FileFault.Failed }
+{
+    let listed = list(alloc, circuit)?;
+    let forest = collapse(alloc, circuit, &listed)?;
+    let subject = Subject::new(circuit, &listed, &forest);
+    let mut reader = Reader::start(alloc, &subject)?;
+    read_rest(alloc, &subject, &mut reader, shelf)?;
+    reader.finish(alloc, &subject)
+}
+
+const PIECE: usize = 4096;
+
+// Reads the rest of the opened file, up to one byte beyond the limit.
+fn read_rest<S: Shelf>(
+    alloc: Global,
+    subject: &Subject,
+    reader: &mut Reader,
+    shelf: &mut S,
+) -> Result<(), FileFault>
+    requires opened { IsTrue (S.state shelf.old).tells → IsSome (S.state shelf.old).world.rest }
+    requires reading { IsReading subject.now [] reader.old }
+    ensures call { IsReadCall (as_shelf result) (S.state shelf.old) (S.state shelf.new) }
+    ensures others { Told (S.state shelf.old) (S.state shelf.new) OnlyReads }
+    ensures read { OnOk result (HasRead subject.now reader.new (S.state shelf.old) (S.state shelf.new)) }
+    ensures never { IsTrue (S.state shelf.old).sure → ¬ IsErrOf result FileFault.Failed }
+    ensures result { (fault : ResultFault) → ¬ IsErrOf result (FileFault.Result fault) }
+{
+    let mut piece = [0u8; PIECE];
+    let mut taken = 0;
+    while taken <= LIMIT {
+        let count = shelf.read(&mut piece[..wanted(taken)])?;
+        if count == 0 {
+            return Ok(());
+        }
+        taken += count as u64;
+        reader.feed(alloc, subject, &piece[..count])?;
+    }
+    Ok(())
+}
+
+// How many bytes are asked for behind so many.
+fn wanted(taken: u64) -> usize
+    requires { taken ≤ 2 ^ 40 }
+    ensures some { 0 < result }
+    ensures piece { result ≤ 4096 }
+    ensures within { taken + result ≤ 2 ^ 40 + 1 }
+{
+    let room = LIMIT - taken;
+    if room < PIECE as u64 {
+        room as usize + 1
+    } else {
+        PIECE
+    }
+}

@@ -1,0 +1,138 @@
+//! The check of the proof of evidence.
+
+ghost use Rattle.std.specs.Prelude.{◌≡◌, ◌≢◌, ◌≤◌, ◌<◌, [], OnOk, IsErrOf};
+ghost use Rattle.net_model.specs.Fault.{IsFaultOf};
+ghost use Rattle.net_model.specs.FaultList.{fault_count, fault_numbered};
+ghost use Rattle.pair_miter.specs.Miter.{miter};
+ghost use Rattle.refute_check.specs.declared.refusal.Refusal.{Refusal};
+ghost use Rattle.refute_check.specs.LogRefusal.{IsRightLog, LogRefused};
+ghost use Rattle.refute_check.specs.TreeRefusal.{IsRightTree};
+ghost use Rattle.result_file.specs.Lines.{IsRightProof};
+ghost use Rattle.result_file.specs.Refusal.{PairRefused, ProofRefused};
+
+use crate::subject::Subject;
+use clause_pool::Pool;
+use net_model::{Circuit, Fault};
+use pair_miter::{Log, build, miter_is_small};
+use pair_sets::Tree;
+use refute_check::{CheckFault, EvidenceKind, check_log, check_tree};
+use result_file::{Budgets, Evidence, Proof};
+use std::alloc::Global;
+
+// Checks the proof of evidence within the budgets. The pool is empty, and stays so where the proof is right.
+pub(crate) fn check_evidence(
+    alloc: Global,
+    subject: &Subject,
+    pool: &mut Pool,
+    budgets: Budgets,
+    evidence: &Evidence,
+) -> Result<(), CheckFault>
+    requires member { evidence.now.member < fault_count subject.now }
+    requires partner { evidence.now.partner < fault_count subject.now }
+    requires empty { pool.old.clauses ≡ [] }
+    requires conflicts { budgets.conflicts ≤ 100000 }
+    ensures right { OnOk result (IsRightProof subject.now (fault_numbered subject.now evidence.now.partner) (fault_numbered subject.now evidence.now.member) budgets evidence.now.proof) }
+    ensures refused { (refusal : Refusal) → IsErrOf result (CheckFault.Refused refusal) → ProofRefused subject.now (fault_numbered subject.now evidence.now.partner) (fault_numbered subject.now evidence.now.member) budgets evidence.now.proof refusal }
+    ensures emptied { OnOk result (pool.new.clauses ≡ []) }
+{
+    let f = subject.fault(evidence.partner);
+    let g = subject.fault(evidence.member);
+    check_proof(
+        alloc,
+        subject.circuit(),
+        &f,
+        &g,
+        pool,
+        budgets,
+        &evidence.proof,
+    )
+}
+
+// The same for two faults of a circuit.
+fn check_proof(
+    alloc: Global,
+    circuit: &Circuit,
+    f: &Fault,
+    g: &Fault,
+    pool: &mut Pool,
+    budgets: Budgets,
+    proof: &Proof,
+) -> Result<(), CheckFault>
+    requires first { IsFaultOf circuit.now f.now }
+    requires second { IsFaultOf circuit.now g.now }
+    requires empty { pool.old.clauses ≡ [] }
+    requires conflicts { budgets.conflicts ≤ 100000 }
+    ensures right { OnOk result (IsRightProof circuit.now f.now g.now budgets proof.now) }
+    ensures refused { (refusal : Refusal) → IsErrOf result (CheckFault.Refused refusal) → ProofRefused circuit.now f.now g.now budgets proof.now refusal }
+    ensures emptied { OnOk result (pool.new.clauses ≡ []) }
+{
+    match proof {
+        Proof::Collapse => Ok(()),
+        Proof::Covered(tree) => {
+            let kind = EvidenceKind::Covered;
+            check_tree(alloc, circuit, f, g, tree, kind, budgets.cubes)
+        }
+        Proof::Refuted(tree, log) => {
+            let kind = EvidenceKind::Refuted;
+            check_pair(alloc, circuit, f, g, pool, kind, budgets, tree, log)
+        }
+        Proof::Spent(tree, log) => {
+            let kind = EvidenceKind::Spent;
+            check_pair(alloc, circuit, f, g, pool, kind, budgets, tree, log)
+        }
+    }
+}
+
+// Checks a tree, and then a log over the miter of two faults.
+fn check_pair(
+    alloc: Global,
+    circuit: &Circuit,
+    f: &Fault,
+    g: &Fault,
+    pool: &mut Pool,
+    kind: EvidenceKind,
+    budgets: Budgets,
+    tree: &Tree,
+    log: &Log,
+) -> Result<(), CheckFault>
+    requires first { IsFaultOf circuit.now f.now }
+    requires second { IsFaultOf circuit.now g.now }
+    requires kind { kind ≢ EvidenceKind.Covered }
+    requires empty { pool.old.clauses ≡ [] }
+    requires conflicts { budgets.conflicts ≤ 100000 }
+    ensures tree { OnOk result (IsRightTree circuit.now f.now g.now kind budgets.cubes tree.now) }
+    ensures log { OnOk result (IsRightLog kind (miter circuit.now f.now g.now) budgets.conflicts log.now) }
+    ensures refused { (refusal : Refusal) → IsErrOf result (CheckFault.Refused refusal) → PairRefused circuit.now f.now g.now kind budgets tree.now log.now refusal }
+    ensures emptied { OnOk result (pool.new.clauses ≡ []) }
+{
+    check_tree(alloc, circuit, f, g, tree, kind, budgets.cubes)?;
+    check_pair_log(alloc, circuit, f, g, pool, kind, budgets.conflicts, log)
+}
+
+// Checks a log over the miter of two faults.
+fn check_pair_log(
+    alloc: Global,
+    circuit: &Circuit,
+    f: &Fault,
+    g: &Fault,
+    pool: &mut Pool,
+    kind: EvidenceKind,
+    conflicts: u32,
+    log: &Log,
+) -> Result<(), CheckFault>
+    requires first { IsFaultOf circuit.now f.now }
+    requires second { IsFaultOf circuit.now g.now }
+    requires kind { kind ≢ EvidenceKind.Covered }
+    requires empty { pool.old.clauses ≡ [] }
+    requires conflicts { conflicts ≤ 100000 }
+    ensures right { OnOk result (IsRightLog kind (miter circuit.now f.now g.now) conflicts log.now) }
+    ensures refused { (refusal : Refusal) → IsErrOf result (CheckFault.Refused refusal) → LogRefused kind (miter circuit.now f.now g.now) conflicts log.now refusal }
+    ensures emptied { OnOk result (pool.new.clauses ≡ []) }
+{
+    miter_is_small();
+    let empty = pool.mark();
+    let miter = build(alloc, circuit, f, g, pool)?;
+    check_log(alloc, &miter, pool, log, kind, conflicts)?;
+    pool.release(empty);
+    Ok(())
+}

@@ -1,0 +1,14 @@
+//! The check of a result file: it is read in pieces and taken line by line, and accepted exactly where it is valid.
+#![tactic(auto)]
+
+mod answer;
+mod checker;
+mod checking;
+mod evidence;
+mod progress;
+mod reader;
+mod stop;
+mod subject;
+
+pub use answer::{Checked, FileFault};
+pub use checking::check;

@@ -1,0 +1,76 @@
+//! What the lines of a result have stated so far.
+
+ghost use Rattle.std.specs.Prelude.{◌≡◌, ◌<◌, ◌≤◌, ◌+◌, ◌^◌, ◌↔◌, IsTrue};
+ghost use Rattle.dia_check.specs.Progress.{no_progress, with_member};
+
+use result_file::{Budgets, Mark};
+
+// How many lines there are, the budgets, how many class lines and member lines, how many members are marked equal and
+// left open, and whether the end stands.
+#[derive(Clone, Copy)]
+pub(crate) struct Progress {
+    pub(crate) lines: u64,
+    pub(crate) budgets: Budgets,
+    pub(crate) classes: u32,
+    pub(crate) members: u32,
+    pub(crate) equal: u32,
+    pub(crate) spent: u32,
+    pub(crate) ended: bool,
+}
+
+const NO_BUDGETS: Budgets = Budgets {
+    blocks: 0,
+    cubes: 0,
+    conflicts: 0,
+};
+
+impl Progress {
+    // No line.
+    pub(crate) fn none() -> Progress
+        ensures { result ≡ no_progress }
+    {
+        Progress {
+            lines: 0,
+            budgets: NO_BUDGETS,
+            classes: 0,
+            members: 0,
+            equal: 0,
+            spent: 0,
+            ended: false,
+        }
+    }
+
+    // Whether patterns and evidence may stand.
+    pub(crate) fn is_body(&self) -> bool
+        ensures { IsTrue result ↔ ((2 ≤ self.now.lines) × (self.now.classes ≡ 0)) }
+    {
+        self.lines >= 2 && self.classes == 0
+    }
+
+    // One class line more.
+    pub(crate) fn add_class(&mut self)
+        requires lines { self.old.lines + 1 < 2 ^ 64 }
+        requires classes { self.old.classes + 1 < 2 ^ 32 }
+        ensures { self.new ≡ record self.old { lines = self.old.lines + 1; classes = self.old.classes + 1 } }
+    {
+        self.lines += 1;
+        self.classes += 1;
+    }
+
+    // One member line more, with this mark.
+    pub(crate) fn add_member(&mut self, mark: Mark)
+        requires lines { self.old.lines + 1 < 2 ^ 64 }
+        requires members { self.old.members + 1 < 2 ^ 32 }
+        requires equal { self.old.equal ≤ self.old.members }
+        requires spent { self.old.spent ≤ self.old.members }
+        ensures { self.new ≡ with_member self.old mark }
+    {
+        self.lines += 1;
+        self.members += 1;
+        match mark {
+            Mark::Rep => {}
+            Mark::Equal => self.equal += 1,
+            Mark::Spent => self.spent += 1,
+        }
+    }
+}

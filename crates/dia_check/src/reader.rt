@@ -1,0 +1,134 @@
+//! The reader of lines out of pieces.
+
+ghost use Rattle.std.specs.Prelude.{◌≡◌, ◌≤◌, ◌++◌, ◌^◌, [], min, length, IfOk, OnOk, IsErrOf};
+ghost use Rattle.result_file.specs.declared.fault.ResultFault.{ResultFault};
+ghost use Rattle.result_file.specs.Spelling.{Text};
+ghost use Rattle.dia_check.specs.Reader.{IsReading, IsAcceptedText, IsRefusedEnd, HasHeld, HasOpen, HasReading, TakesLines, TakesPiece};
+
+use crate::answer::{Checked, FileFault};
+use crate::checker::Checker;
+use crate::stop::Stop;
+use crate::subject::Subject;
+use result_file::{Lines, ResultFault, ResultKind};
+use std::alloc::{AllocError, Global};
+
+/// The most bytes of a file.
+pub(crate) const LIMIT: u64 = 1 << 40;
+
+// The checker of the lines so far, the bytes behind them, how many bytes there may still be, and the first line that breaks
+// a rule, behind which nothing is looked at.
+pub(crate) struct Reader<'a> {
+    pub(crate) checker: Checker<'a>,
+    pub(crate) lines: Lines,
+    pub(crate) room: u64,
+    pub(crate) refused: Option<ResultFault>,
+}
+
+impl Drop for Reader<'_> {
+    fn drop(self) {
+        let Reader {
+            checker: _,
+            lines: _,
+            room: _,
+            refused: _,
+        } = self;
+    }
+}
+
+impl<'a> Reader<'a> {
+    // No byte.
+    pub(crate) fn start(alloc: Global, subject: &Subject<'a>) -> Result<Reader<'a>, AllocError>
+        ensures { IfOk result (IsReading subject.now []) }
+    {
+        Ok(Reader {
+            checker: Checker::start(alloc, subject)?,
+            lines: Lines::new(alloc),
+            room: LIMIT,
+            refused: None,
+        })
+    }
+
+    // Reads a piece that comes behind all before it.
+    pub(crate) fn feed(
+        &mut self,
+        alloc: Global,
+        subject: &Subject,
+        piece: &[u8],
+    ) -> Result<(), AllocError>
+        requires { HasReading subject.now self.old }
+        ensures { OnOk result ((fed : Text) → IsReading subject.now fed self.old → IsReading subject.now (fed ++ piece.now) self.new) }
+    {
+        if self.refused.is_some() {
+            return Ok(());
+        }
+        match self.take_piece(alloc, subject, piece) {
+            Ok(()) => Ok(()),
+            Err(Stop::Refused(fault)) => {
+                self.refused = Some(fault);
+                Ok(())
+            }
+            Err(Stop::NoMemory) => Err(AllocError),
+        }
+    }
+
+    // Takes the lines of a piece, up to the limit of bytes.
+    fn take_piece(&mut self, alloc: Global, subject: &Subject, piece: &[u8]) -> Result<(), Stop>
+        requires { HasOpen subject.now self.old }
+        ensures { TakesPiece subject.now self.old self.new piece.now result }
+    {
+        let inside = self.inside(piece.len());
+        self.lines.feed(&piece[..inside])?;
+        self.room -= inside as u64;
+        self.take_lines(alloc, subject)?;
+        if inside < piece.len() {
+            self.checker.flush(subject)?;
+            return Err(self.checker.refused(ResultKind::TooLong));
+        }
+        Ok(())
+    }
+
+    // How many of so many bytes are within the limit.
+    fn inside(&self, count: usize) -> usize
+        ensures { result ≡ min count self.now.room }
+    {
+        if count as u64 <= self.room {
+            count
+        } else {
+            self.room as usize
+        }
+    }
+
+    // Judges each line that is whole.
+    fn take_lines(&mut self, alloc: Global, subject: &Subject) -> Result<(), Stop>
+        requires { HasHeld subject.now self.old }
+        ensures { TakesLines subject.now self.old self.new result }
+    {
+        while let Some(line) = self.lines.take_line()? {
+            self.checker.judge_line(alloc, subject, &line)?;
+        }
+        Ok(())
+    }
+
+    // What was read, as the whole of a file.
+    pub(crate) fn finish(self, alloc: Global, subject: &Subject) -> Result<Checked, FileFault>
+        requires { HasReading subject.now self }
+        ensures valid { IfOk result (λ checked. (fed : Text) → IsReading subject.now fed self.entry → (length fed ≤ 2 ^ 40) × IsAcceptedText subject.now fed checked) }
+        ensures refused { (fault : ResultFault) → IsErrOf result (FileFault.Result fault) → (fed : Text) → IsReading subject.now fed self.entry → IsRefusedEnd subject.now fed fault }
+        ensures never { ¬ (IsErrOf result FileFault.Failed) }
+    {
+        let Reader {
+            mut checker,
+            lines,
+            room: _,
+            refused,
+        } = self;
+        if let Some(fault) = refused {
+            return Err(FileFault::Result(fault));
+        }
+        match checker.end(subject, lines.rest()) {
+            Ok(()) => Ok(checker.into_checked(alloc)?),
+            Err(Stop::Refused(fault)) => Err(FileFault::Result(fault)),
+            Err(Stop::NoMemory) => Err(FileFault::NoMemory),
+        }
+    }
+}

@@ -1,0 +1,22 @@
+//! Why lines aren't looked at any further.
+
+ghost use Rattle.std.specs.Prelude.{◌≡◌};
+ghost use Rattle.dia_check.specs.declared.stop.Stop.TheVariants as stop;
+
+use result_file::ResultFault;
+use std::alloc::AllocError;
+
+// A line breaks a rule, or there is no memory.
+#[derive(Drop)]
+pub(crate) enum Stop {
+    Refused(ResultFault),
+    NoMemory,
+}
+
+impl From<AllocError> for Stop {
+    ghost from_gives = { λ _ e. e ≡ stop.NoMemory };
+
+    fn from(_: AllocError) -> Self {
+        Stop::NoMemory
+    }
+}
