@@ -1,29 +1,22 @@
 //! The states of cubes, and trees of them.
 
-ghost use Rattle.std.specs.Prelude.{◌<◌};
-ghost use Rattle.net_model.specs.Fault.{IsFaultOf};
-
-use crate::circuits::{
-    between_constants, buffer, not_and_or, same_data, shown_twice, with_constant, xor_of_one,
-};
-use net_model::{Circuit, Fault, Site};
+use net_model::Fault::{self, Free};
 use pair_sets::PairState::{AllSame, Apart, Undecided};
 use pair_sets::{PairSim, PairState, Token, Tree};
-use std::alloc::{AllocError, Global};
+use sample_circuits::{
+    BETWEEN_CONSTANTS, BUFFER, NOT_AND_OR, Parts, SAME_DATA, SHOWN_TWICE, WITH_CONSTANT,
+    XOR_OF_ONE, circuit, position, stands, stem,
+};
+use std::alloc::Global;
 use std::test::Fail;
 
-// The states of the cube of all vectors, of source 0 at 0, of source 0 at 1, and again of all vectors.
-fn states(
-    alloc: Global,
-    circuit: &Circuit,
-    f: Fault,
-    g: Fault,
-) -> Result<[PairState; 4], AllocError>
-    requires source { 0 < circuit.now.sources }
-    requires first { IsFaultOf circuit.now f }
-    requires second { IsFaultOf circuit.now g }
-{
-    let mut sim = PairSim::new(alloc, circuit, &f, &g)?;
+// The states of the cube of all vectors, of source 0 at 0, and of source 0 at 1. Undone, the first one comes again.
+fn states(alloc: Global, parts: Parts, f: Fault, g: Fault) -> Result<[PairState; 3], Fail> {
+    let circuit = circuit(alloc, parts)?;
+    if circuit.sources() == 0 || !stands(&circuit, f) || !stands(&circuit, g) {
+        return Err(Fail::new("there is no source, or a fault doesn't stand"));
+    }
+    let mut sim = PairSim::new(alloc, &circuit, &f, &g)?;
     let all = sim.state();
     sim.assign(0, false);
     let at_zero = sim.state();
@@ -31,111 +24,39 @@ fn states(
     sim.assign(0, true);
     let at_one = sim.state();
     sim.undo();
-    Ok([all, at_zero, at_one, sim.state()])
+    if sim.state() != all {
+        return Err(Fail::new("what was assigned isn't undone"));
+    }
+    Ok([all, at_zero, at_one])
 }
 
+// Two pins that read one line choose by themselves, those of an XOR and the data pins of a multiplexer.
 #[test]
-fn states_of_equal_faults(rt: HostRuntime) -> Result<(), Fail> {
-    let alloc = rt.alloc();
-    let found = states(
-        alloc,
-        &not_and_or(alloc)?,
-        Fault::Free,
-        Fault::Stuck(Site::Stem(2), true),
-    )?;
-    assert_eq!(rt; found, [Undecided, AllSame, AllSame, Undecided]);
-    Ok(())
-}
-
-// Two pins that read one line choose by themselves.
-#[test]
-fn states_of_an_xor_with_itself(rt: HostRuntime) -> Result<(), Fail> {
-    let alloc = rt.alloc();
-    let found = states(
-        alloc,
-        &xor_of_one(alloc)?,
-        Fault::Free,
-        Fault::Stuck(Site::Stem(1), false),
-    )?;
-    assert_eq!(rt; found, [Undecided, AllSame, AllSame, Undecided]);
-    Ok(())
-}
-
-#[test]
-fn states_of_a_buffer(rt: HostRuntime) -> Result<(), Fail> {
-    let alloc = rt.alloc();
-    let found = states(
-        alloc,
-        &buffer(alloc)?,
-        Fault::Free,
-        Fault::Stuck(Site::Stem(1), false),
-    )?;
-    assert_eq!(rt; found, [Undecided, AllSame, Apart(0), Undecided]);
-    Ok(())
-}
-
-#[test]
-fn states_of_a_stuck_position(rt: HostRuntime) -> Result<(), Fail> {
-    let alloc = rt.alloc();
-    let found = states(
-        alloc,
-        &shown_twice(alloc)?,
-        Fault::Stuck(Site::Position(1), true),
-        Fault::Free,
-    )?;
-    assert_eq!(rt; found, [Undecided, Apart(1), AllSame, Undecided]);
-    Ok(())
-}
-
-// The data pins of a multiplexer choose by themselves, though both read one line.
-#[test]
-fn states_of_a_multiplexer(rt: HostRuntime) -> Result<(), Fail> {
-    let alloc = rt.alloc();
-    let found = states(
-        alloc,
-        &same_data(alloc)?,
-        Fault::Free,
-        Fault::Stuck(Site::Stem(0), true),
-    )?;
-    assert_eq!(rt; found, [Undecided, Undecided, AllSame, Undecided]);
-    Ok(())
-}
-
-#[test]
-fn states_of_a_multiplexer_of_constants(rt: HostRuntime) -> Result<(), Fail> {
-    let alloc = rt.alloc();
-    let found = states(
-        alloc,
-        &between_constants(alloc)?,
-        Fault::Free,
-        Fault::Stuck(Site::Stem(0), true),
-    )?;
-    assert_eq!(rt; found, [Undecided, Apart(0), AllSame, Undecided]);
-    Ok(())
-}
-
-#[test]
-fn states_of_a_stuck_constant(rt: HostRuntime) -> Result<(), Fail> {
-    let alloc = rt.alloc();
-    let found = states(
-        alloc,
-        &with_constant(alloc)?,
-        Fault::Free,
-        Fault::Stuck(Site::Stem(1), false),
-    )?;
-    assert_eq!(rt; found, [Undecided, AllSame, Apart(0), Undecided]);
+fn states_of_cubes(rt: HostRuntime) -> Result<(), Fail> {
+    let (open, same, apart) = (Undecided, AllSame, Apart(0));
+    let table = [
+        (NOT_AND_OR, Free, stem(2, true), [open, same, same]),
+        (XOR_OF_ONE, Free, stem(1, false), [open, same, same]),
+        (BUFFER, Free, stem(1, false), [open, same, apart]),
+        (SHOWN_TWICE, position(1, true), Free, [open, Apart(1), same]),
+        (SAME_DATA, Free, stem(0, true), [open, open, same]),
+        (BETWEEN_CONSTANTS, Free, stem(0, true), [open, apart, same]),
+        (WITH_CONSTANT, Free, stem(1, false), [open, same, apart]),
+    ];
+    for (parts, f, g, expected) in table {
+        let found = states(rt.alloc(), parts, f, g)?;
+        assert_eq!(rt; found, expected, "{f:?} and {g:?}");
+    }
     Ok(())
 }
 
 #[test]
 fn tokens_of_a_tree(rt: HostRuntime) -> Result<(), Fail> {
+    let tokens = [Token::Split(0), Token::Closed, Token::Rest];
     let mut tree = Tree::new(rt.alloc());
-    tree.push(Token::Split(0))?;
-    tree.push(Token::Closed)?;
-    tree.push(Token::Rest)?;
-    assert_eq!(rt;
-        tree.as_slice(),
-        [Token::Split(0), Token::Closed, Token::Rest].as_slice()
-    );
+    for token in tokens {
+        tree.push(token)?;
+    }
+    assert_eq!(rt; tree.as_slice(), tokens.as_slice());
     Ok(())
 }

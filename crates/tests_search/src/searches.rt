@@ -1,13 +1,10 @@
 //! What searches find, and the shapes of their trees.
 
-ghost use Rattle.std.specs.Prelude.{◌<◌, ◌≤◌};
-ghost use Rattle.net_model.specs.Circuit.{line_count};
-
-use crate::circuits::{between_constants, constant, not_and_or, parities, same_data};
 use distinguish_search::{Found, search};
-use net_model::{Circuit, Fault, Site};
+use net_model::{Fault, Kind};
 use pair_sets::{Token, Tree};
-use std::alloc::{AllocError, Global};
+use sample_circuits::{BETWEEN_CONSTANTS, NOT_AND_OR, Parts, SAME_DATA, circuit, stands, stem};
+use std::alloc::Global;
 use std::test::Fail;
 
 // What is found: a vector; or a tree, whether it is spent, and how many leaves are closed and how many are open.
@@ -25,83 +22,63 @@ fn count(tree: &Tree, token: Token) -> usize {
         .count()
 }
 
-// The shape of what is found for the circuit without a fault and with a stem stuck at a value.
-fn shape_of(
-    alloc: Global,
-    circuit: &Circuit,
-    line: u32,
-    bit: bool,
-    leaves: u32,
-) -> Result<Shape, AllocError>
-    requires line { line < line_count circuit.now }
-    requires leaves { 1 ≤ leaves }
-{
-    let stuck = Fault::Stuck(Site::Stem(line), bit);
-    match search(alloc, circuit, &Fault::Free, &stuck, leaves)? {
-        Found::Vector(_v) => Ok(Shape::Vector),
-        Found::Covered(tree) => Ok(Shape::Covered(
-            count(&tree, Token::Closed),
-            count(&tree, Token::Rest),
-        )),
-        Found::Spent(tree) => Ok(Shape::Spent(
-            count(&tree, Token::Closed),
-            count(&tree, Token::Rest),
-        )),
+// The constant 1 alone, which is shown.
+const CONSTANT: Parts<'static> = Parts {
+    sources: 0,
+    gates: &[(Kind::Const1, &[])],
+    positions: &[0],
+};
+
+// The parity of nine sources, and the opposite parity by threes; line 14 is the XOR of both, which is always 1, and is shown.
+const PARITIES: Parts<'static> = Parts {
+    sources: 9,
+    gates: &[
+        (Kind::Xor, &[0, 1, 2, 3, 4, 5, 6, 7, 8]),
+        (Kind::Xor, &[0, 1, 2]),
+        (Kind::Xor, &[3, 4, 5]),
+        (Kind::Xor, &[6, 7, 8]),
+        (Kind::Xnor, &[10, 11, 12]),
+        (Kind::Xor, &[9, 13]),
+    ],
+    positions: &[14],
+};
+
+// The shape of what is found for the circuit without a fault and with a stem stuck at a value, with so many leaves.
+fn shape_of(alloc: Global, parts: Parts, line: u32, bit: bool, leaves: u32) -> Result<Shape, Fail> {
+    let circuit = circuit(alloc, parts)?;
+    let stuck = stem(line, bit);
+    if leaves == 0 || !stands(&circuit, stuck) {
+        return Err(Fail::new("there is no leaf, or the fault doesn't stand"));
     }
+    let shape = match search(alloc, &circuit, &Fault::Free, &stuck, leaves)? {
+        Found::Vector(_v) => Shape::Vector,
+        Found::Covered(tree) => {
+            Shape::Covered(count(&tree, Token::Closed), count(&tree, Token::Rest))
+        }
+        Found::Spent(tree) => Shape::Spent(count(&tree, Token::Closed), count(&tree, Token::Rest)),
+    };
+    Ok(shape)
 }
 
 #[test]
-fn shapes_of_a_small_pair(rt: HostRuntime) -> Result<(), Fail> {
-    let alloc = rt.alloc();
-    let circuit = not_and_or(alloc)?;
-    assert_eq!(rt;
-        shape_of(alloc, &circuit, 0, false, 64)?,
-        Shape::Covered(2, 0)
-    );
-    assert_eq!(rt;
-        shape_of(alloc, &circuit, 0, false, 2)?,
-        Shape::Covered(2, 0)
-    );
-    assert_eq!(rt; shape_of(alloc, &circuit, 0, false, 1)?, Shape::Spent(1, 1));
-    assert_eq!(rt; shape_of(alloc, &circuit, 2, false, 1)?, Shape::Vector);
-    Ok(())
-}
-
-#[test]
-fn shapes_of_a_wide_pair(rt: HostRuntime) -> Result<(), Fail> {
-    let alloc = rt.alloc();
-    let circuit = parities(alloc)?;
-    assert_eq!(rt; shape_of(alloc, &circuit, 14, true, 4)?, Shape::Spent(4, 7));
-    assert_eq!(rt;
-        shape_of(alloc, &circuit, 14, true, 512)?,
-        Shape::Covered(512, 0)
-    );
-    assert_eq!(rt; shape_of(alloc, &circuit, 14, false, 1)?, Shape::Vector);
-    Ok(())
-}
-
-#[test]
-fn shapes_with_multiplexers(rt: HostRuntime) -> Result<(), Fail> {
-    let alloc = rt.alloc();
-    let circuit = same_data(alloc)?;
-    assert_eq!(rt;
-        shape_of(alloc, &circuit, 0, true, 64)?,
-        Shape::Covered(3, 0)
-    );
-    assert_eq!(rt; shape_of(alloc, &circuit, 0, true, 2)?, Shape::Spent(2, 1));
-    let circuit = between_constants(alloc)?;
-    assert_eq!(rt; shape_of(alloc, &circuit, 0, true, 1)?, Shape::Vector);
-    Ok(())
-}
-
-#[test]
-fn shapes_of_a_constant(rt: HostRuntime) -> Result<(), Fail> {
-    let alloc = rt.alloc();
-    let circuit = constant(alloc)?;
-    assert_eq!(rt;
-        shape_of(alloc, &circuit, 0, true, 1)?,
-        Shape::Covered(1, 0)
-    );
-    assert_eq!(rt; shape_of(alloc, &circuit, 0, false, 1)?, Shape::Vector);
+fn shapes_of_trees(rt: HostRuntime) -> Result<(), Fail> {
+    let table = [
+        (NOT_AND_OR, 0, false, 64, Shape::Covered(2, 0)),
+        (NOT_AND_OR, 0, false, 2, Shape::Covered(2, 0)),
+        (NOT_AND_OR, 0, false, 1, Shape::Spent(1, 1)),
+        (NOT_AND_OR, 2, false, 1, Shape::Vector),
+        (PARITIES, 14, true, 4, Shape::Spent(4, 7)),
+        (PARITIES, 14, true, 512, Shape::Covered(512, 0)),
+        (PARITIES, 14, false, 1, Shape::Vector),
+        (SAME_DATA, 0, true, 64, Shape::Covered(3, 0)),
+        (SAME_DATA, 0, true, 2, Shape::Spent(2, 1)),
+        (BETWEEN_CONSTANTS, 0, true, 1, Shape::Vector),
+        (CONSTANT, 0, true, 1, Shape::Covered(1, 0)),
+        (CONSTANT, 0, false, 1, Shape::Vector),
+    ];
+    for (parts, line, bit, leaves, expected) in table {
+        let found = shape_of(rt.alloc(), parts, line, bit, leaves)?;
+        assert_eq!(rt; found, expected, "line {line} at {bit} with {leaves}");
+    }
     Ok(())
 }
