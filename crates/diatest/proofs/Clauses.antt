@@ -1,143 +1,158 @@
 -- What follows from a run's record, clause by clause.
-use Rattle.std.proofs.Common.{IsTrue, ◌≡◌, ◌<◌, ◌≤◌, ◌⊎◌, ℕ, List, [], ◌∷◌, ◌++◌, Option, Some, None, refl, sym, ap, subst, ◌∙◌, inl, inr, arith}
-use Rattle.std.proofs.lemmas.Bool.{cases_lt}
+use Rattle.std.proofs.Common.{IsTrue, ◌≡◌, ◌<◌, ◌≤◌, ◌⊎◌, ℕ, Bool, true, List, [], ◌∷◌, ◌++◌, Option, Some, None, refl, sym, ap, subst, ◌∙◌, ◌==◌, inl, inr, arith}
+use Rattle.std.specs.Prelude.{nat_lt, not}
+use Rattle.std.specs.List.{list_all}
+use Rattle.std.proofs.lemmas.Bool.{cases_lt, ltb-true}
 use Rattle.std.specs.FinMap.{get, insert}
 use Rattle.diag_shelf.specs.World.{Files, World, State}
 use Rattle.diag_shelf.proofs.FileMaps.{get_at_insert, get_off_insert}
+use Rattle.clap.proofs.WalkLemmas.{both}
 use Rattle.net_model.specs.declared.circuit.Design.{Design}
+use Rattle.net_model.specs.Circuit.{Circuit}
 use Rattle.result_file.specs.declared.record.Budgets.{Budgets}
-use Rattle.diatest.specs.Request.{Text, Request, gen, list_faults, synth, synth_budgets, netlist_of}
-use Rattle.diatest.specs.Synth.{synth_text}
-use Rattle.diatest.specs.Netlists.{IsDesign, IsRefused}
-use Rattle.diatest.specs.Outcome.{Outcome, MakesResult, Does, Judges, refused_netlist, accepted_netlist, CallsFor, IsCut, IsRefusedRequest, IsCutShort, MayLeave, Leaves, KeepsFiles, after_made, written_after, ConsoleGained}
-use Rattle.diatest.specs.Ran.{IsAmong, statuses_of, Ran, IsDone, KeepsUnlessDone, GeneratesResult, Synthesizes, PrintsFaults, RefusesNetlist, KeepsRefused, IsComplete}
+use Rattle.result_file.specs.Spelling.{text_of}
+use Rattle.result_file.specs.Summary.{summary_of}
+use Rattle.result_file.specs.Laws.{ValidIsTrue}
 use Rattle.dia_gen.proofs.Written.{made_closed}
-use Rattle.diatest.proofs.NetlistLemmas.{HasLaws, accepted_not_refused, EvidenceLaws, sound_design}
+use Rattle.diatest.specs.Request.{Text, Request, gen, check, list_faults, synth}
+use Rattle.diatest.specs.Synth.{synth_text}
+use Rattle.diatest.specs.Texts.{valid_text}
+use Rattle.diatest.specs.Netlists.{IsDesign}
+use Rattle.diatest.specs.Outcome.{Outcome, said, IsCut, IsPartOf, Leaves, KeepsFiles, after_made, written_after}
+use Rattle.diatest.specs.Plan.{Judges, refused_file, accepted_file, CallsFor, MayLeave, IsLeftBy, IsRefusedWith, AreAccepted}
+use Rattle.diatest.specs.Plans.{MakesResult, plan_of}
+use Rattle.diatest.specs.Ran.{IsAmong, statuses_of, Ran, IsDone, KeepsUnlessDone, LeavesResult, GeneratesResult, ChecksResult, Synthesizes, PrintsFaults, FilesAreJudgedOnce, DecidedByFiles, IsRefusedRequest, KeepsRefused, IsComplete}
+use Rattle.diatest.proofs.NetlistLemmas.{EvidenceLaws, sound_design, circuit_of}
+use Rattle.diatest.proofs.PlanLemmas.{both_end, ends_by}
 
-some_same : {X : Type 0} {x y : X} → Some x ≡ Some y → x ≡ y
-some_same e = cc
+-- What was read and accepted before what was done with status 0.
+pub record WasDone (files : Files) (name : Text) {X : Type 0} (Accepted : Text → X → Type 0) (Then : X → Type 0) : Type 0 where
+  pub bytes : Text
+  pub held : get files name ≡ Some bytes
+  pub thing : X
+  pub accepted : Accepted bytes thing
+  pub then : Then thing
 
--- what was asked is done with status 0
-does_status : (request : Request) (design : Design) (o : Outcome) → Does request design o → o.status ≡ 0
-does_status (gen bench result budgets) design o does = ap (λ (p : Outcome). p.status) does.outcome
-does_status (list_faults bench) design o does = ap (λ (p : Outcome). p.status) does.outcome
-does_status (synth n bench result) design o does = ap (λ (p : Outcome). p.status) does.outcome
-
--- What was asked of an accepted netlist and done.
-record IsDoneFor (request : Request) (bytes : Text) (o : Outcome) : Type 0 where
-  design : Design
-  accepted : IsDesign bytes design
-  does : Does request design o
-
-accepted_by : {bytes : Text} {request : Request} {o : Outcome} → Judges bytes request o → o.status ≡ 0 → IsDoneFor request bytes o
-accepted_by {bytes} {request} {o} (refused_netlist console refused is) z = absurd (omega (arith, ap (λ (p : Outcome). p.status) is))
-accepted_by {bytes} {request} {o} (accepted_netlist design accepted does) z = record { design = design; accepted = accepted; does = does }
+accepted_by : {files : Files} {name : Text} {status : ℕ} {X : Type 0} {Refused : Text → Text → Type 0} {Accepted : Text → X → Type 0} {Then : X → Type 0} {o : Outcome} → 0 < status → Judges files name X Refused Accepted (λ console. o ≡ said status console) Then → o.status ≡ 0 → WasDone files name Accepted Then
+accepted_by {files} {name} {status} {X} {Refused} {Accepted} {Then} {o} above (refused_file bytes console held refused is) z = absurd (omega (arith, above, ap (λ (p : Outcome). p.status) is))
+accepted_by {files} {name} {status} {X} {Refused} {Accepted} {Then} {o} above (accepted_file bytes x held accepted then) z = record { bytes = bytes; held = held; thing = x; accepted = accepted; then = then }
 
 last_made : (before : List (Text × Text)) (result file : Text) (files : Files) → get (after_made (before ++ (result, file) ∷ []) files) result ≡ Some file
 last_made [] result file files = get_at_insert files result file
 last_made (m ∷ before) result file files = last_made before result file (insert files m.0 m.1)
 
 -- the file of a result that was made
-held_by : {before : List (Text × Text)} {result : Text} {budgets : Budgets} {design : Design} {o : Outcome} {old new : World} → (made : MakesResult before result budgets design o) → Leaves o.made o.console old new → get new.files result ≡ Some made.file
-held_by {before} {result} {budgets} {design} {o} {old} {new} made leaves =
+held_by : {before : List (Text × Text)} {result : Text} {budgets : Budgets} {c : Circuit} {o : Outcome} {old new : World} → (made : MakesResult before result budgets c o) → Leaves o.made o.console old new → get new.files result ≡ Some made.file
+held_by {before} {result} {budgets} {c} {o} {old} {new} made leaves =
     ap (λ (f : Files). get f result) (leaves.files ∙ ap (λ (p : Outcome). after_made p.made old.files) made.outcome) ∙ last_made before result made.file old.files
 
-module _ {asked : Option Request} {status : ℕ} {old new : World} (done : IsDone asked status old new) where
+leaves_result : EvidenceLaws → {bytes result : Text} {budgets : Budgets} {before : List (Text × Text)} {design : Design} {o : Outcome} {old new : World} → IsDesign bytes design → MakesResult before result budgets design.circuit o → Leaves o.made o.console old new → LeavesResult bytes result budgets old new
+leaves_result laws {bytes} {result} {budgets} {before} {design} {o} {old} {new} accepted does leaves = record {
+  design = design;
+  accepted = accepted;
+  file = does.file;
+  saved = held_by does leaves;
+  summary = does.summary;
+  made = does.made;
+  closed = made_closed (sound_design laws accepted) does.made;
+  printed = leaves.console ∙ ap (λ (p : Outcome). old.console ++ p.console) does.outcome;
+}
+
+module _ {asked : Option Request} {status : ℕ} {old new : World} (done : IsDone (plan_of asked) status old new) where
   -- what was done where the status is 0
-  done_for : (request : Request) → asked ≡ Some request → status ≡ 0
-      → (bytes : Text) × (netlist_of request old.files ≡ Some bytes) × ((o : Outcome) × IsDoneFor request bytes o × Leaves o.made o.console old new)
+  done_for : (request : Request) → asked ≡ Some request → status ≡ 0 → (o : Outcome) × CallsFor old.files (plan_of (Some request)) o × (o.status ≡ 0) × Leaves o.made o.console old new
   done_for request is z =
       let d = done (omega arith) in
-      let called = subst (λ (r : Option Request). CallsFor r old.files d.0) is d.1 in
-      (called.0, called.1, (d.0, accepted_by called.2 (d.2 ∙ z), d.3))
+      (d.0, subst (λ (r : Option Request). CallsFor old.files (plan_of r) d.0) is d.1, d.2 ∙ z, d.3)
 
   pub made_of : EvidenceLaws → GeneratesResult asked status old new
   made_of laws bench result budgets is z =
       let d = done_for (gen bench result budgets) is z in
-      let x = d.2.1 in
-      record {
-        bytes = d.0;
-        held = d.1;
-        design = x.design;
-        accepted = x.accepted;
-        file = x.does.file;
-        saved = held_by x.does d.2.2;
-        summary = x.does.summary;
-        made = x.does.made;
-        closed = made_closed (sound_design laws x.accepted) x.does.made;
-        printed = d.2.2.console ∙ ap (λ (p : Outcome). old.console ++ p.console) x.does.outcome;
-      }
+      let w = accepted_by (omega arith) d.1 d.2 in
+      record { bytes = w.bytes; held = w.held; leaves = leaves_result laws w.accepted w.then d.3 }
 
   pub synth_made : EvidenceLaws → Synthesizes asked status old new
   synth_made laws n bench result is z =
       let d = done_for (synth n bench result) is z in
-      let x = d.2.1 in
-      let bytes : synth_text n ≡ d.0 = some_same d.1 in
-      let files : new.files ≡ insert (insert old.files bench (synth_text n)) result x.does.file = d.2.2.files ∙ ap (λ (p : Outcome). after_made p.made old.files) x.does.outcome in
+      let does = d.1.2 in
+      let files : new.files ≡ insert (insert old.files bench (synth_text n)) result does.file = d.3.files ∙ ap (λ (p : Outcome). after_made p.made old.files) does.outcome in
       record {
-        netlist = λ other. ap (λ (f : Files). get f bench) files ∙ get_off_insert (insert old.files bench (synth_text n)) result x.does.file bench other ∙ get_at_insert old.files bench (synth_text n);
-        design = x.design;
-        accepted = subst (λ (b : Text). IsDesign b x.design) (sym bytes) x.accepted;
-        file = x.does.file;
-        saved = held_by x.does d.2.2;
-        summary = x.does.summary;
-        made = x.does.made;
-        closed = made_closed (sound_design laws x.accepted) x.does.made;
-        printed = d.2.2.console ∙ ap (λ (p : Outcome). old.console ++ p.console) x.does.outcome;
+        netlist = λ other. ap (λ (f : Files). get f bench) files ∙ get_off_insert (insert old.files bench (synth_text n)) result does.file bench other ∙ get_at_insert old.files bench (synth_text n);
+        leaves = leaves_result laws d.1.1 does d.3;
       }
 
   pub faults_of : PrintsFaults asked status old new
   faults_of bench is z =
       let d = done_for (list_faults bench) is z in
-      let x = d.2.1 in
+      let w = accepted_by (omega arith) d.1 d.2 in
       record {
-        bytes = d.0;
-        held = d.1;
-        design = x.design;
-        accepted = x.accepted;
-        text = x.does.text;
-        lists = x.does.lists;
-        printed = d.2.2.console ∙ ap (λ (p : Outcome). old.console ++ p.console) x.does.outcome;
+        bytes = w.bytes;
+        held = w.held;
+        design = w.thing;
+        accepted = w.accepted;
+        text = w.then.0;
+        lists = w.then.1;
+        printed = d.3.console ∙ ap (λ (p : Outcome). old.console ++ p.console) w.then.2;
+      }
+
+  pub checked_of : ValidIsTrue → ChecksResult asked status old new
+  checked_of law bench result is z =
+      let d = done_for (check bench result) is z in
+      let w = accepted_by (omega arith) d.1 d.2 in
+      let c = w.thing.circuit in
+      let v = accepted_by (omega arith) w.then d.2 in
+      let says = v.then.1 in
+      let true_of = law c says.records (circuit_of w.accepted) says.valid in
+      record {
+        bytes = w.bytes;
+        held = w.held;
+        design = w.thing;
+        accepted = w.accepted;
+        file = v.thing;
+        there = v.held ∙ ap Some v.accepted.same;
+        valid = v.accepted.valid;
+        budgets = true_of.0.budgets;
+        is_true = record { stated = true_of.0; text = says.spelled ∙ ap text_of true_of.1; budgets_are = refl; is_true = true_of.2 };
+        printed = d.3.console ∙ ap (λ (p : Outcome). old.console ++ p.console) v.then.2 ∙ ap (λ (t : Text). old.console ++ t) (says.text_is ∙ ap (λ rs. valid_text (summary_of rs)) true_of.1);
       }
 
 -- ---- statuses
 
-judged_below : (status : ℕ) → IsAmong status (0 ∷ 3 ∷ 7 ∷ 8 ∷ 9 ∷ []) → (status ≤ 9) × ¬ (status ≡ 2)
-judged_below status (inl e) = (omega arith, λ two. absurd (omega arith))
-judged_below status (inr (inl e)) = (omega arith, λ two. absurd (omega arith))
-judged_below status (inr (inr (inl e))) = (omega arith, λ two. absurd (omega arith))
-judged_below status (inr (inr (inr (inl e)))) = (omega arith, λ two. absurd (omega arith))
-judged_below status (inr (inr (inr (inr (inl e))))) = (omega arith, λ two. absurd (omega arith))
-judged_below status (inr (inr (inr (inr (inr e))))) = absurd e
+-- a test that all statuses of a list pass
+passes : (test : ℕ → Bool) (status : ℕ) (statuses : List ℕ) → list_all test statuses ≡ true → IsAmong status statuses → test status ≡ true
+passes test status [] all among = absurd among
+passes test status (s ∷ statuses) all (inl e) = subst (λ n. test n ≡ true) (sym e) (both (test s) (list_all test statuses) all).0
+passes test status (s ∷ statuses) all (inr among) = passes test status statuses (both (test s) (list_all test statuses) all).1 among
 
--- a run that reads nothing has fewer statuses
-made_below : (status : ℕ) → IsAmong status (0 ∷ 8 ∷ 9 ∷ []) → (status ≤ 9) × ¬ (status ≡ 2)
-made_below status (inl e) = (omega arith, λ two. absurd (omega arith))
-made_below status (inr (inl e)) = (omega arith, λ two. absurd (omega arith))
-made_below status (inr (inr (inl e))) = (omega arith, λ two. absurd (omega arith))
-made_below status (inr (inr (inr e))) = absurd e
+at_most_nine : (asked : Option Request) → list_all (λ s. nat_lt s 10) (statuses_of asked) ≡ true
+at_most_nine None = refl
+at_most_nine (Some (gen bench result budgets)) = refl
+at_most_nine (Some (check bench result)) = refl
+at_most_nine (Some (list_faults bench)) = refl
+at_most_nine (Some (synth n bench result)) = refl
 
-unasked : (status : ℕ) → IsAmong status (2 ∷ 8 ∷ 9 ∷ []) → (status ≡ 2) ⊎ ((status ≡ 8) ⊎ (status ≡ 9))
-unasked status (inl e) = inl e
-unasked status (inr (inl e)) = inr (inl e)
-unasked status (inr (inr (inl e))) = inr (inr e)
-unasked status (inr (inr (inr e))) = absurd e
+known : (asked : Option Request) (status : ℕ) → IsAmong status (statuses_of asked) → status ≤ 9
+known asked status among = omega (arith, ltb-true status 10 (passes (λ s. nat_lt s 10) status (statuses_of asked) (at_most_nine asked) among))
 
-pub not_understood_of : (asked : Option Request) (status : ℕ) → IsAmong status (statuses_of asked) → asked ≡ None → (status ≡ 2) ⊎ ((status ≡ 8) ⊎ (status ≡ 9))
-not_understood_of None status among is = unasked status among
-not_understood_of (Some request) status among is = absurd (cc)
+-- only words that aren't understood give status 2
+never_two : (request : Request) → list_all (λ s. not (s == 2)) (statuses_of (Some request)) ≡ true
+never_two (gen bench result budgets) = refl
+never_two (check bench result) = refl
+never_two (list_faults bench) = refl
+never_two (synth n bench result) = refl
 
 pub words_of : (asked : Option Request) (status : ℕ) → IsAmong status (statuses_of asked) → status ≡ 2 → asked ≡ None
 words_of None status among two = refl
-words_of (Some (gen bench result budgets)) status among two = absurd ((judged_below status among).1 two)
-words_of (Some (list_faults bench)) status among two = absurd ((judged_below status among).1 two)
-words_of (Some (synth n bench result)) status among two = absurd ((made_below status among).1 two)
+words_of (Some request) status among two =
+    let no : not (2 == 2) ≡ true = subst (λ s. not (s == 2) ≡ true) two (passes (λ s. not (s == 2)) status (statuses_of (Some request)) (never_two request) among) in
+    absurd (cc)
 
-known : (asked : Option Request) (status : ℕ) → IsAmong status (statuses_of asked) → status ≤ 9
-known None status among = elim (unasked status among) [ inl e ↦ omega arith | inr f ↦ elim f [ inl e ↦ omega arith | inr e ↦ omega arith ] ]
-known (Some (gen bench result budgets)) status among = (judged_below status among).0
-known (Some (list_faults bench)) status among = (judged_below status among).0
-known (Some (synth n bench result)) status among = (made_below status among).0
+pub not_understood_of : (asked : Option Request) (status : ℕ) → IsAmong status (statuses_of asked) → asked ≡ None → (status ≡ 2) ⊎ ((status ≡ 8) ⊎ (status ≡ 9))
+not_understood_of None status (inl e) is = inl e
+not_understood_of None status (inr (inl e)) is = inr (inl e)
+not_understood_of None status (inr (inr (inl e))) is = inr (inr e)
+not_understood_of None status (inr (inr (inr e))) is = absurd e
+not_understood_of (Some request) status among is = absurd (cc)
 
 broken : (status : ℕ) → 7 < status → status ≤ 9 → (status ≡ 8) ⊎ (status ≡ 9)
 broken status above below = elim (cases_lt status 9) [ inl e ↦ inl (omega arith) | inr e ↦ inr (omega arith) ]
@@ -150,88 +165,97 @@ kept_by {made} {text} {old} {new} none l = record {
   written = l.written ∙ ap (λ (m : List (Text × Text)). written_after m old.written) none;
 }
 
-judged_unmade : {bytes : Text} {request : Request} {o : Outcome} → Judges bytes request o → 2 ≤ o.status → o.made ≡ []
-judged_unmade {bytes} {request} {o} (refused_netlist console refused is) two = ap (λ (p : Outcome). p.made) is
-judged_unmade {bytes} {request} {o} (accepted_netlist design accepted does) two = absurd (omega (arith, does_status request design o does))
+cut_nothing : (made whole : List (Text × Text)) → whole ≡ [] → IsCut made whole → made ≡ []
+cut_nothing [] whole e cut = refl
+cut_nothing (m ∷ made) [] e cut = absurd cut
+cut_nothing (m ∷ made) (w ∷ whole) e cut = absurd (cc)
 
-unmade : (asked : Option Request) (files : Files) (o : Outcome) → CallsFor asked files o → 2 ≤ o.status → o.made ≡ []
-unmade None files o called two = ap (λ (p : Outcome). p.made) called
-unmade (Some request) files o called two = judged_unmade called.2 two
+module _ (once : FilesAreJudgedOnce) where
+  unmade : (asked : Option Request) (files : Files) (o : Outcome) → CallsFor files (plan_of asked) o → 2 ≤ o.status → o.made ≡ []
+  unmade None files o called two = ap (λ (p : Outcome). p.made) called
+  unmade (Some request) files o called two =
+      both_end files (λ s console. o ≡ said s console) (λ s console. o ≡ said s console) (λ Done Cut. Done o) (λ Done Cut. Done o)
+      (λ s text other above is also. ap (λ (p : Outcome). p.made) is)
+      (λ Done Cut zero does also. absurd (omega (arith, two, zero o does)))
+      (plan_of (Some request)) (once request) called called
 
-pub keeps_unless_done : {asked : Option Request} {status : ℕ} {a b : State} → Ran asked status a b → IsTrue a.tells → KeepsUnlessDone status a.world b.world
-keeps_unless_done {asked} {status} {a} {b} r told two seven =
-    elim (cases_lt status 7) [
-      | inl low ↦ let d = r.done told low in kept_by (unmade asked a.world.files d.0 d.1 (omega (arith, d.2))) d.3
-      | inr high ↦ (r.unread told (omega arith)).kept
-    ]
+  pub keeps_unless_done : (asked : Option Request) {status : ℕ} {a b : State} → Ran asked status a b → IsTrue a.tells → KeepsUnlessDone status a.world b.world
+  keeps_unless_done asked {status} {a} {b} r told two seven =
+      elim (cases_lt status 7) [
+        | inl low ↦ let d = r.done told low in kept_by (unmade asked a.world.files d.0 d.1 (omega (arith, two, d.2))) d.3
+        | inr high ↦ (r.unread told (omega arith)).kept
+      ]
 
--- no netlist is both accepted and refused
-module _ (laws : HasLaws) where
-  -- ---- refusals
+  -- ---- the files that are read decide
 
-  refused_by : {bytes : Text} {request : Request} {o : Outcome} {old new : World} → Judges bytes request o → 3 ≡ o.status → Leaves o.made o.console old new → (console : Text) × IsRefused bytes console × ConsoleGained console old new
-  refused_by {bytes} {request} {o} {old} {new} (refused_netlist console refused is) three leaves = (console, refused, leaves.console ∙ ap (λ (p : Outcome). old.console ++ p.console) is)
-  refused_by {bytes} {request} {o} {old} {new} (accepted_netlist design accepted does) three leaves = absurd (omega (arith, does_status request design o does))
+  module _ (request : Request) (files : Files) (o : Outcome) (called : CallsFor files (plan_of (Some request)) o) where
+    refused_so : 0 < o.status → IsRefusedWith files (plan_of (Some request)) o.status o.console
+    refused_so above =
+        ends_by files (λ s console. o ≡ said s console) (λ s text. (o.status ≡ s) × (o.console ≡ text)) (λ Done Cut. Done o) (λ Done Cut. ⊥)
+        (λ s text up is. (ap (λ (p : Outcome). p.status) is, ap (λ (p : Outcome). p.console) is))
+        (λ Done Cut zero does. omega (arith, above, zero o does))
+        (plan_of (Some request)) (once request) called
 
-  status_by : {bytes console : Text} {request : Request} {o : Outcome} → IsRefused bytes console → Judges bytes request o → o.status ≡ 3
-  status_by {bytes} {console} {request} {o} refused (refused_netlist text r is) = ap (λ (p : Outcome). p.status) is
-  status_by {bytes} {console} {request} {o} refused (accepted_netlist design accepted does) = absurd (accepted_not_refused laws accepted refused)
+    status_by : (s : ℕ) (console : Text) → IsRefusedWith files (plan_of (Some request)) s console → o.status ≡ s
+    status_by s console refused =
+        both_end files (λ m text. (s ≡ m) × (console ≡ text)) (λ m text. o ≡ said m text) (λ Done Cut. ⊥) (λ Done Cut. Done o)
+        (λ m text other up first is. ap (λ (p : Outcome). p.status) is ∙ sym first.0)
+        (λ Done Cut zero none does. absurd none)
+        (plan_of (Some request)) (once request) refused called
 
-  pub refuses_netlist : {asked : Option Request} {status : ℕ} {old new : World} → IsDone asked status old new → RefusesNetlist asked status old new
-  refuses_netlist {asked} {status} {old} {new} done request bytes is held = (
-    λ three.
-        let d = done (omega arith) in
-        let called = subst (λ (r : Option Request). CallsFor r old.files d.0) is d.1 in
-        let same : called.0 ≡ bytes = some_same (sym called.1 ∙ held) in
-        let r = refused_by called.2 (sym (d.2 ∙ three)) d.3 in
-        (r.0, subst (λ (b : Text). IsRefused b r.0) same r.1, r.2),
-    λ console refused below.
+    nothing_called : (s : ℕ) (console : Text) → IsRefusedWith files (plan_of (Some request)) s console → o.made ≡ []
+    nothing_called s console refused =
+        both_end files (λ m text. (s ≡ m) × (console ≡ text)) (λ m text. o ≡ said m text) (λ Done Cut. ⊥) (λ Done Cut. Done o)
+        (λ m text other up first is. ap (λ (p : Outcome). p.made) is)
+        (λ Done Cut zero none does. absurd none)
+        (plan_of (Some request)) (once request) refused called
+
+    zero_by : AreAccepted files (plan_of (Some request)) → o.status ≡ 0
+    zero_by accepted =
+        both_end files (λ m text. ⊥) (λ m text. o ≡ said m text) (λ Done Cut. Unit {0}) (λ Done Cut. Done o)
+        (λ m text other up none is. absurd none)
+        (λ Done Cut zero all does. zero o does)
+        (plan_of (Some request)) (once request) accepted called
+
+  may_nothing : (request : Request) (files : Files) (made : List (Text × Text)) (t : Text) (s : ℕ) (console : Text) → IsRefusedWith files (plan_of (Some request)) s console → MayLeave files (plan_of (Some request)) made t → made ≡ []
+  may_nothing request files made t s console refused may =
+      both_end files (λ m text. (s ≡ m) × (console ≡ text)) (λ m text. IsPartOf (said m text) made t) (λ Done Cut. ⊥) (λ Done Cut. IsLeftBy Done Cut made t)
+      (λ m text other up first part. cut_nothing made [] refl part.files)
+      (λ Done Cut zero none left. absurd none)
+      (plan_of (Some request)) (once request) refused may
+
+  decided : (asked : Option Request) {status : ℕ} {old new : World} → IsDone (plan_of asked) status old new → DecidedByFiles asked status old new
+  decided None done some = absurd (some refl)
+  decided (Some request) {status} {old} {new} done some = record {
+    only = λ above below.
         let d = done below in
-        let called = subst (λ (r : Option Request). CallsFor r old.files d.0) is d.1 in
-        let same : bytes ≡ called.0 = some_same (sym held ∙ called.1) in
-        sym d.2 ∙ status_by (subst (λ (b : Text). IsRefused b console) same refused) called.2,
-  )
+        (d.0.console, subst (λ s. IsRefusedWith old.files (plan_of (Some request)) s d.0.console) d.2 (refused_so request old.files d.0 d.1 (omega (arith, above, d.2))), d.3.console);
+    refused = λ s console refused below. let d = done below in sym d.2 ∙ status_by request old.files d.0 d.1 s console refused;
+    accepted = λ all below. let d = done below in sym d.2 ∙ zero_by request old.files d.0 d.1 all;
+  }
+
+  pub decided_by_files : {asked : Option Request} {status : ℕ} {old new : World} → IsDone (plan_of asked) status old new → DecidedByFiles asked status old new
+  decided_by_files {asked} {status} {old} {new} done = decided asked done
 
   -- ---- no file where something is refused
 
-  nothing_by : {bytes console : Text} {request : Request} {o : Outcome} → IsRefused bytes console → Judges bytes request o → o.made ≡ []
-  nothing_by {bytes} {console} {request} {o} refused (refused_netlist text r is) = ap (λ (p : Outcome). p.made) is
-  nothing_by {bytes} {console} {request} {o} refused (accepted_netlist design accepted does) = absurd (accepted_not_refused laws accepted refused)
+  none_called : (asked : Option Request) (old : World) (o : Outcome) → IsRefusedRequest asked old → CallsFor old.files (plan_of asked) o → o.made ≡ []
+  none_called None old o refused called = ap (λ (p : Outcome). p.made) called
+  none_called (Some request) old o refused called = nothing_called request old.files o called refused.0 refused.1.0 refused.1.1
 
-  nothing_called : (asked : Option Request) (files : Files) (o : Outcome) → IsRefusedRequest asked files → CallsFor asked files o → o.made ≡ []
-  nothing_called None files o refused called = ap (λ (p : Outcome). p.made) called
-  nothing_called (Some request) files o refused called =
-      let same : refused.0 ≡ called.0 = some_same (sym refused.1 ∙ called.1) in
-      nothing_by (subst (λ (b : Text). IsRefused b refused.2.0) same refused.2.1) called.2
+  none_left : (asked : Option Request) (old : World) (made : List (Text × Text)) (t : Text) → IsRefusedRequest asked old → MayLeave old.files (plan_of asked) made t → made ≡ []
+  none_left None old made t refused (inl may) = cut_nothing made may.0.made (ap (λ (p : Outcome). p.made) may.1) may.2.files
+  none_left None old made t refused (inr cut) = absurd cut
+  none_left (Some request) old made t refused may = may_nothing request old.files made t refused.0 refused.1.0 refused.1.1 may
 
-  cut_nothing : (made whole : List (Text × Text)) → whole ≡ [] → IsCut made whole → made ≡ []
-  cut_nothing [] whole e cut = refl
-  cut_nothing (m ∷ made) [] e cut = absurd cut
-  cut_nothing (m ∷ made) (w ∷ whole) e cut = absurd (cc)
-
-  -- a refused netlist leaves no output that is cut short
-  short_nothing : (request : Request) (files : Files) (made : List (Text × Text)) (t : Text) → IsRefusedRequest (Some request) files → IsCutShort request files made t → made ≡ []
-  short_nothing (gen bench result budgets) files made t refused part =
-      let same : refused.0 ≡ part.bytes = some_same (sym refused.1 ∙ part.held) in
-      absurd (accepted_not_refused laws part.accepted (subst (λ (b : Text). IsRefused b refused.2.0) same refused.2.1))
-  short_nothing (list_faults bench) files made t refused part = absurd part
-  short_nothing (synth n bench result) files made t refused part =
-      let same : refused.0 ≡ part.bytes = some_same (sym refused.1 ∙ part.held) in
-      absurd (accepted_not_refused laws part.accepted (subst (λ (b : Text). IsRefused b refused.2.0) same refused.2.1))
-
-  may_nothing : (asked : Option Request) (files : Files) (made : List (Text × Text)) (t : Text) → IsRefusedRequest asked files → MayLeave asked files made t → made ≡ []
-  may_nothing None files made t refused may = cut_nothing made may.0.made (nothing_called None files may.0 refused may.1) may.2.files
-  may_nothing (Some request) files made t refused (inl may) = cut_nothing made may.0.made (nothing_called (Some request) files may.0 refused may.1) may.2.files
-  may_nothing (Some request) files made t refused (inr part) = short_nothing request files made t refused part
-
-  pub keeps_refused : {asked : Option Request} {status : ℕ} {a b : State} → Ran asked status a b → IsTrue a.tells → KeepsRefused asked a.world b.world
-  keeps_refused {asked} {status} {a} {b} r told refused =
+  pub keeps_refused : (asked : Option Request) {status : ℕ} {a b : State} → Ran asked status a b → IsTrue a.tells → KeepsRefused asked a.world b.world
+  keeps_refused asked {status} {a} {b} r told refused =
       elim (cases_lt status 7) [
-        | inl low ↦ let d = r.done told low in kept_by (nothing_called asked a.world.files d.0 refused d.1) d.3
+        | inl low ↦ let d = r.done told low in kept_by (none_called asked a.world d.0 refused d.1) d.3
         | inr high ↦ elim (cases_lt 7 status) [
           | inl above ↦ elim (r.broken_off told (broken status above (known asked status r.answers))) [
             | inl same ↦ same.kept
-            | inr x ↦ kept_by (may_nothing asked a.world.files x.0 x.1 refused x.2) x.3
+            | inr x ↦ kept_by (none_left asked a.world x.0 x.1 refused x.2) x.3
           ]
           | inr seven ↦ (r.unread told (omega (arith, known asked status r.answers))).kept
         ]
@@ -239,18 +263,10 @@ module _ (laws : HasLaws) where
 
   -- ---- the work is done
 
-  done_by : {bytes : Text} {request : Request} {o : Outcome} {design : Design} → IsDesign bytes design → Judges bytes request o → o.status ≡ 0
-  done_by {bytes} {request} {o} {design} accepted (refused_netlist console refused is) = absurd (accepted_not_refused laws accepted refused)
-  done_by {bytes} {request} {o} {design} accepted (accepted_netlist other also does) = does_status request other o does
-
   pub is_complete : {asked : Option Request} {status : ℕ} {a b : State} → Ran asked status a b → IsComplete asked status a b
-  is_complete {asked} {status} {a} {b} r request bytes design is told held accepted reads writes =
+  is_complete {asked} {status} {a} {b} r some told accepted reads writes =
       elim (cases_lt status 7) [
-        | inl low ↦
-            let d = r.done told low in
-            let called = subst (λ (q : Option Request). CallsFor q a.world.files d.0) is d.1 in
-            let same : bytes ≡ called.0 = some_same (sym held ∙ called.1) in
-            inl (sym d.2 ∙ done_by (subst (λ (t : Text). IsDesign t design) same accepted) called.2)
+        | inl low ↦ inl ((decided asked (r.done told) some).accepted accepted low)
         | inr high ↦ elim (cases_lt status 9) [
           | inl below ↦ elim (cases_lt status 8) [
             | inl seven ↦ absurd (reads (r.causes.read_fault (omega arith)))

@@ -1,4 +1,6 @@
+pub mod PlanLemmas
 pub mod Runs
+pub mod Followed
 pub mod NetlistLemmas
 pub mod Refusals
 pub mod Generated

@@ -1,6 +1,6 @@
 -- What is judged of the bytes that were read is judged of the whole file, and nothing is both accepted and refused.
 use Rattle.std.proofs.Common.{◌≡◌, ℕ, ◌+◌, ◌≤◌, ◌<◌, List, [], ◌∷◌, length, take, length-take, refl, ap, subst, ◌∙◌, inl, inr, arith, sym}
-use Rattle.std.specs.Prelude.{◌==◌, Contains}
+use Rattle.std.specs.Prelude.{◌==◌, Contains, Some}
 use Rattle.std.specs.List.{count_by}
 use Rattle.std.proofs.lemmas.Bool.{cases_lt}
 use Rattle.std.proofs.lemmas.List.{take_all, take-take}
@@ -16,9 +16,15 @@ use Rattle.bench_reader.specs.Reading.{place_of}
 use Rattle.bench_reader.specs.Refusal.{TextRefused, too_long, by_grammar, by_second, by_missing}
 use Rattle.bench_reader.specs.Laws.{NeverAcceptedAndRefused, OneNetlist}
 use Rattle.scan_cut.specs.Cut.{cut_circuit, cut_design}
-use Rattle.diatest.specs.Request.{Text}
+use Rattle.diatest.specs.Request.{Text, Request, gen, check, list_faults, synth}
 use Rattle.diatest.specs.Texts.{refusal_text}
 use Rattle.diatest.specs.Netlists.{IsDesign, IsRefused, by_text, by_loop}
+use Rattle.diatest.specs.Results.{IsResult, IsRefusedResult}
+use Rattle.diatest.specs.Outcome.{Outcome}
+use Rattle.diatest.specs.Plans.{plan_of}
+use Rattle.diatest.specs.Plan.{IsClearFile, IsClear}
+use Rattle.result_file.specs.Refusal.{FileRefused}
+use Rattle.result_file.specs.Laws.{RefusedFileIsWrong}
 use Rattle.fault_collapse.specs.Laws.{SameRootEqual}
 use Rattle.pair_sets.specs.Laws.{CoveringEqual, LeavesClosed, SpendingBounded}
 use Rattle.result_file.proofs.Truth.{AreSound}
@@ -75,12 +81,13 @@ first_of (line ∷ walk) some = (line, (0, some, refl))
 pub walk_first : {c : Circuit} {walk : List ℕ} → IsLoopWalk c walk → (line : ℕ) × Contains walk line
 walk_first {c} {walk} is = first_of walk is.nonempty
 
--- The laws by which nothing is both accepted and refused.
+-- The laws by which no file is both accepted and refused.
 pub record HasLaws : Type 0 where
   pub text : NeverAcceptedAndRefused
   pub one : OneNetlist
   pub none : NoneReachesItself
   pub walk : WalkReachesItself
+  pub results : RefusedFileIsWrong
 
 pub accepted_not_refused : HasLaws → {bytes console : Text} {design : Design} → IsDesign bytes design → IsRefused bytes console → ⊥
 accepted_not_refused laws {bytes} {console} {design} is (by_text kind byte refused text) = laws.text bytes is.netlist (kind, byte) is.accepted refused
@@ -89,6 +96,34 @@ accepted_not_refused laws {bytes} {console} {design} is (by_loop netlist place n
     let circuit : IsCircuit (cut_circuit netlist) = subst (λ (n : Netlist). IsCircuit (cut_circuit n)) same is.circuit in
     let first = walk_first loops.is_walk in
     laws.none (cut_circuit netlist) first.0 circuit (laws.walk (cut_circuit netlist) loops.walk first.0 loops.is_walk first.1)
+
+one_design : HasLaws → {bytes : Text} {design other : Design} → IsDesign bytes design → IsDesign bytes other → design ≡ other
+one_design laws {bytes} {design} {other} is also = is.cut ∙ ap cut_design (laws.one bytes is.netlist also.netlist is.accepted also.accepted) ∙ sym also.cut
+
+pub circuit_of : {bytes : Text} {design : Design} → IsDesign bytes design → IsCircuit design.circuit
+unfolding cut_design
+circuit_of {bytes} {design} is = subst (λ (d : Design). IsCircuit d.circuit) (sym is.cut) is.circuit
+
+-- ---- no file is read as two things
+
+clear_netlist : HasLaws → IsClearFile 3 Design IsRefused IsDesign
+clear_netlist laws = record { above = omega arith; apart = λ bytes console design is refused. accepted_not_refused laws is refused; once = λ bytes x y is also. one_design laws is also }
+
+clear_result : HasLaws → {c : Circuit} → IsCircuit c → IsClearFile 4 Text (IsRefusedResult c) (IsResult c)
+clear_result laws {c} circuit = record {
+  above = omega arith;
+  apart = λ bytes console file is refused. laws.results c file refused.fault circuit (subst (λ (b : Text). FileRefused c b refused.fault) is.same refused.refused) is.valid;
+  once = λ bytes x y is also. sym is.same ∙ also.same;
+}
+
+status_is : {o p : Outcome} → o ≡ p → o.status ≡ p.status
+status_is {o} {p} e = ap (λ (q : Outcome). q.status) e
+
+pub clear : HasLaws → (request : Request) → IsClear (plan_of (Some request))
+clear laws (gen bench result budgets) = (clear_netlist laws, λ bytes design is o made. status_is made.outcome)
+clear laws (check bench result) = (clear_netlist laws, λ bytes design is. (clear_result laws (circuit_of is), λ bytes file valid o says. status_is says.2))
+clear laws (list_faults bench) = (clear_netlist laws, λ bytes design is o says. status_is says.2)
+clear laws (synth n bench result) = λ o both. status_is both.2.outcome
 
 -- ---- what evidence means
 

@@ -8,41 +8,28 @@ use Rattle.std.proofs.Math.Nat.{le_refl}
 use Rattle.std.proofs.lemmas.List.{append-nil, take_all}
 use Rattle.diag_shelf.specs.Calls.{Told, OfSome, Same, SameFacts, OnlyReads, Creates, Writes, Prints, IsReadCall, IsWriteCall}
 use Rattle.diag_shelf.proofs.FileMaps.{get_off_insert, insert_again, held_at_insert}
-use Rattle.diatest.specs.Request.{Text, Request, gen, list_faults, synth, input_of, outputs_of}
-use Rattle.diatest.specs.Outcome.{Outcome, CallsFor, MayLeave, IsCut, IsCutText, IsPartOf, Leaves, after_made, written_after, said, saved}
-use Rattle.diatest.specs.Ran.{IsAmong, statuses_of, Stays, Ends, Ran}
+use Rattle.diatest.specs.Request.{Text}
+use Rattle.diatest.specs.Outcome.{Outcome, IsCut, IsPartOf, Leaves, after_made, written_after, said, saved}
+use Rattle.diatest.specs.Plan.{Plan, CallsFor, MayLeave}
+use Rattle.diatest.specs.Ran.{IsAmong, Stays, Ends, Follows}
+use Rattle.diatest.specs.Steps.{IsWriteStatus}
 
 -- all files of the outcome have these names
 abbrev pub MadeAmong : List (Text × List ℕ) → List Text → Type 0
 MadeAmong [] names = Unit {0}
 MadeAmong (m ∷ made) names = IsAmong m.0 names × MadeAmong made names
 
--- an outcome that these words may have
-pub record Fits (request : Option Request) (o : Outcome) (Part : List (Text × List ℕ) → List ℕ → Type 0) : Type 0 where
+-- a run may break off
+pub record MayBreak (statuses : List ℕ) : Type 0 where
+  pub write : IsAmong 8 statuses
+  pub memory : IsAmong 9 statuses
+
+-- an outcome that a run may have which answers one of these statuses and makes files of these names
+pub record Fits (statuses : List ℕ) (outputs : List Text) (o : Outcome) (Part : List (Text × List ℕ) → List ℕ → Type 0) : Type 0 where
   pub below : o.status < 7
-  pub answers : IsAmong o.status (statuses_of request)
-  pub names : (made : List (Text × List ℕ)) (text : List ℕ) → Part made text → MadeAmong made (outputs_of request)
-
--- ---- statuses
-
--- a run may break off whatever it is asked
-pub breaks_among : (request : Option Request) → IsAmong 8 (statuses_of request) × IsAmong 9 (statuses_of request)
-breaks_among None = (inr (inl refl), inr (inr (inl refl)))
-breaks_among (Some (gen bench result budgets)) = (inr (inr (inr (inl refl))), inr (inr (inr (inr (inl refl)))))
-breaks_among (Some (list_faults bench)) = (inr (inr (inr (inl refl))), inr (inr (inr (inr (inl refl)))))
-breaks_among (Some (synth n bench result)) = (inr (inl refl), inr (inr (inl refl)))
-
--- a netlist that is read may be refused
-pub refused_among : (bench : Text) (request : Request) → input_of request ≡ Some bench → IsAmong 3 (statuses_of (Some request))
-refused_among name (gen bench result budgets) is = inr (inl refl)
-refused_among name (list_faults bench) is = inr (inl refl)
-refused_among name (synth n bench result) is = absurd (cc)
-
--- a netlist that is read may fail to be
-pub unread_among : (bench : Text) (request : Request) → input_of request ≡ Some bench → IsAmong 7 (statuses_of (Some request))
-unread_among name (gen bench result budgets) is = inr (inr (inl refl))
-unread_among name (list_faults bench) is = inr (inr (inl refl))
-unread_among name (synth n bench result) is = absurd (cc)
+  pub answers : IsAmong o.status statuses
+  pub breaks : MayBreak statuses
+  pub names : (made : List (Text × List ℕ)) (text : List ℕ) → Part made text → MadeAmong made outputs
 
 pub not_broken : (status : ℕ) → status < 8 → (status ≡ 8) ⊎ (status ≡ 9) → ⊥
 not_broken status low (inl e) = omega arith
@@ -83,7 +70,7 @@ cut_among (c ∷ []) (m ∷ whole) names cut among = (subst (λ (n : Text). IsAm
 cut_among (c ∷ d ∷ cs) (m ∷ whole) names cut among =
     (subst (λ (n : Text × List ℕ). IsAmong n.0 names) (sym cut.0) among.0, cut_among (d ∷ cs) whole names cut.1 among.1)
 
-leaves_moved : {made : List (Text × List ℕ)} {text : List ℕ} {u v w : World} → OnlyReads u v → Leaves made text v w → Leaves made text u w
+pub leaves_moved : {made : List (Text × List ℕ)} {text : List ℕ} {u v w : World} → OnlyReads u v → Leaves made text v w → Leaves made text u w
 leaves_moved {made} {text} only l = record { files = l.files ∙ ap (after_made made) only.files; written = l.written ∙ ap (written_after made) only.written; console = l.console ∙ ap (λ (x : List ℕ). x ++ text) only.console }
 
 -- what was read before doesn't matter
@@ -115,11 +102,6 @@ leaves_after {name} {bytes} {text} {made} k w l = record {
   written = l.written ∙ ap (written_after made) (w.written ∙ k.written);
   console = l.console ∙ ap (λ (s : List ℕ). s ++ text) (w.console ∙ k.console);
 }
-
--- the status of a fault of a write
-pub record IsWriteStatus (fault : ShelfFault) (status : ℕ) : Type 0 where
-  pub failed : fault ≡ Failed → status ≡ 8
-  pub memory : fault ≡ NoMemory → status ≡ 9
 
 pub status_of : (fault : ShelfFault) (status : ℕ) → IsWriteStatus fault status → (status ≡ 8) ⊎ (status ≡ 9)
 status_of Failed status h = inl (h.failed refl)
@@ -237,15 +219,16 @@ done_status o status (inl e) lt = e
 done_status o status (inr (inl e)) lt = absurd (omega arith)
 done_status o status (inr (inr e)) lt = absurd (omega arith)
 
-answered_among : (request : Option Request) (meant status : ℕ) → IsAmong meant (statuses_of request) → (status ≡ meant) ⊎ ((status ≡ 8) ⊎ (status ≡ 9)) → IsAmong status (statuses_of request)
-answered_among request meant status among (inl e) = subst (λ (n : ℕ). IsAmong n (statuses_of request)) (sym e) among
-answered_among request meant status among (inr (inl e)) = subst (λ (n : ℕ). IsAmong n (statuses_of request)) (sym e) (breaks_among request).0
-answered_among request meant status among (inr (inr e)) = subst (λ (n : ℕ). IsAmong n (statuses_of request)) (sym e) (breaks_among request).1
+answered_among : {statuses : List ℕ} {meant status : ℕ} → MayBreak statuses → IsAmong meant statuses → (status ≡ meant) ⊎ ((status ≡ 8) ⊎ (status ≡ 9)) → IsAmong status statuses
+answered_among {statuses} {meant} {status} breaks among (inl e) = subst (λ (n : ℕ). IsAmong n statuses) (sym e) among
+answered_among {statuses} {meant} {status} breaks among (inr (inl e)) = subst (λ (n : ℕ). IsAmong n statuses) (sym e) breaks.write
+answered_among {statuses} {meant} {status} breaks among (inr (inr e)) = subst (λ (n : ℕ). IsAmong n statuses) (sym e) breaks.memory
 
--- what the last steps do is what the whole run promises
-pub ran : {request : Option Request} {o : Outcome} {Part : List (Text × List ℕ) → List ℕ → Type 0} {status : ℕ} {a b : State} → Fits request o Part → (status ≡ o.status → IsTrue a.tells → CallsFor request a.world.files o) → (IsTrue a.tells → (made : List (Text × List ℕ)) (text : List ℕ) → Part made text → MayLeave request a.world.files made text) → Ends o Part status a b → Ran request status a b
-ran {request} {o} {Part} {status} {a} {b} fits called may e = record {
-  answers = answered_among request o.status status fits.answers e.answered;
+-- what the last steps do is what the plan promises
+pub ran : {plan : Plan} {statuses : List ℕ} {outputs : List Text} {o : Outcome} {Part : List (Text × List ℕ) → List ℕ → Type 0} {status : ℕ} {a b : State} → Fits statuses outputs o Part → (status ≡ o.status → IsTrue a.tells → CallsFor a.world.files plan o)
+    → (IsTrue a.tells → (made : List (Text × List ℕ)) (text : List ℕ) → Part made text → MayLeave a.world.files plan made text) → Ends o Part status a b → Follows plan statuses outputs status a b
+ran {plan} {statuses} {outputs} {o} {Part} {status} {a} {b} fits called may e = record {
+  answers = answered_among fits.breaks fits.answers e.answered;
   stays = e.stays;
   causes = record {
     read_fault = λ h. let s = done_status o status e.answered (omega arith) in absurd (omega (arith, fits.below));
@@ -260,7 +243,7 @@ ran {request} {o} {Part} {status} {a} {b} fits called may e = record {
   broken_off = λ told broke. let l = e.part told in inr (l.0, l.1, may told l.0 l.1 l.2, l.3);
   others = λ told name off.
       let l = e.part told in
-      ap (λ (f : Files). get f name) l.3.files ∙ others_after l.0 (outputs_of request) a.world.files name (fits.names l.0 l.1 l.2) off;
+      ap (λ (f : Files). get f name) l.3.files ∙ others_after l.0 outputs a.world.files name (fits.names l.0 l.1 l.2) off;
   sure = λ s held. record { reads = e.reads; writes = e.sure s };
 }
 

@@ -1,6 +1,5 @@
 -- The netlist of a number is accepted, and its cut has no loop.
 use Rattle.std.proofs.Common.{◌≡◌, ℕ, ◌≤◌, List, sym, subst}
-use Rattle.std.specs.Prelude.{All}
 use Rattle.std.proofs.lemmas.List.Elements.{All-contains}
 use Rattle.net_model.specs.Circuit.{Reaches}
 use Rattle.bench_reader.specs.Netlist.{Netlist}

@@ -1,6 +1,6 @@
 -- The gates of the netlist of a number read what is known before them.
-use Rattle.std.proofs.Common.{◌≡◌, ◌∙◌, ℕ, zero, suc, ◌+◌, ◌<◌, ◌≤◌, List, [], ◌∷◌, ◌++◌, length, map, refl, sym, subst, ap, ap₂, arith, Option, None, Some}
-use Rattle.std.specs.Prelude.{codes, filter_map, flat_map, All, Contains}
+use Rattle.std.proofs.Common.{◌≡◌, ◌∙◌, ℕ, zero, suc, ◌+◌, ◌<◌, ◌≤◌, List, [], ◌∷◌, ◌++◌, map, refl, sym, subst, ap, ap₂, arith, Option, None, Some}
+use Rattle.std.specs.Prelude.{codes, filter_map, All, Contains}
 use Rattle.std.specs.List.{AllZip, range_with_len}
 use Rattle.std.proofs.lemmas.List.{append-nil, map-append}
 use Rattle.std.proofs.lemmas.List.Elements.{All-nil, All-cons, All-head, All-tail, All-map, All-weaker, Contains-append_left, Contains-append_right}
@@ -16,8 +16,8 @@ use Rattle.bench_reader.specs.Spelled.{Written, written_input, written_output, w
 use Rattle.scan_cut.specs.Cut.{input_of, flop_output, source_names}
 use Rattle.scan_cut.specs.Laws.{ReadsKnown, AreOrdered}
 use Rattle.scan_cut.proofs.FitLemmas.{each_word}
-use Rattle.diatest.specs.Synth.{signal, output_from}
-use Rattle.diatest.proofs.SynthStatements.{first_carry, IsGateWord, HoldsOf, all_statements, statements_of_cell, cells, synth_statements}
+use Rattle.diatest.specs.Synth.{signal}
+use Rattle.diatest.proofs.SynthStatements.{first_carry, all_statements, statements_of_cell, cells, synth_statements}
 
 -- ---- written statements, and those that they read as
 

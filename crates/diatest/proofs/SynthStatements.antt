@@ -1,11 +1,11 @@
 -- The statements of the netlist of a number, and that they are right together.
-use Rattle.std.proofs.Common.{◌≡◌, ◌≢◌, ◌∙◌, ℕ, zero, suc, ◌+◌, ◌*◌, ◌/◌, ◌%◌, ◌^◌, ◌<◌, ◌≤◌, Bool, true, false, List, [], ◌∷◌, ◌++◌, length, get_or, map, refl, sym, subst, ap, ap₂, arith, append_assoc, length-append, Option, None, Some, inl, inr}
-use Rattle.std.specs.Prelude.{codes, decimal, flat_map, filter_map, slice_index_or, All, AllPairs, Contains, IsTrue, ◌==◌, ◌&&◌, if◌then◌else◌}
+use Rattle.std.proofs.Common.{◌≡◌, ◌≢◌, ◌∙◌, ℕ, zero, suc, ◌+◌, ◌*◌, ◌/◌, ◌%◌, ◌^◌, ◌<◌, ◌≤◌, true, List, [], ◌∷◌, ◌++◌, length, map, refl, sym, subst, ap, ap₂, arith, append_assoc, length-append, Some}
+use Rattle.std.specs.Prelude.{codes, decimal, flat_map, filter_map, slice_index_or, All, AllPairs, Contains, IsTrue, ◌==◌, if◌then◌else◌}
 use Rattle.std.specs.List.{range_with_len, list_all}
-use Rattle.std.proofs.lemmas.List.{append-nil, length-map, get_or-map}
+use Rattle.std.proofs.lemmas.List.{append-nil, length-map}
 use Rattle.std.proofs.lemmas.List.FromFn.{get_or-map-range_with_len, length-range_with_len}
 use Rattle.std.proofs.lemmas.List.Folds.{list_all-append}
-use Rattle.std.proofs.lemmas.List.Elements.{All-nil, All-cons, All-head, All-tail, All-append, filter_map-append, Contains-append_left, Contains-append_right}
+use Rattle.std.proofs.lemmas.List.Elements.{All-nil, All-cons, All-head, All-tail, All-append, filter_map-append}
 use Rattle.std.proofs.lemmas.Grind.{flat_map-append}
 use Rattle.std.proofs.lemmas.Fmt.{decimal_digit, decimal_injective, decimal_by_steps, length-decimal-le}
 use Rattle.net_model.specs.declared.gate.Kind.{Kind}
@@ -21,7 +21,7 @@ use Rattle.diatest.specs.Synth.{signal, input_line, output_line, gate_line, outp
 -- ---- names: the carry into the first cell, then six of each cell
 
 -- the letter of a place in a cell
-letter : ℕ → ℕ
+abbrev letter : ℕ → ℕ
 letter zero = 99
 letter (suc zero) = 120
 letter (suc (suc zero)) = 121
@@ -33,7 +33,7 @@ place_of_letter : ℕ → ℕ
 place_of_letter b = if b == 99 then 0 else if b == 120 then 1 else if b == 121 then 2 else if b == 112 then 3 else if b == 113 then 4 else 5
 
 place_back : (place : ℕ) → place < 6 → place_of_letter (letter place) ≡ place
-unfolding letter place_of_letter
+unfolding place_of_letter
 place_back zero h = refl
 place_back (suc zero) h = refl
 place_back (suc (suc zero)) h = refl
@@ -65,29 +65,10 @@ module _ (cell : ℕ) where
       let c : (6 * cell + place) / 6 ≡ cell = omega (arith, h) in
       rw (p, c) refl
 
-  pub c_is : name_at (6 * cell + 0) ≡ signal (codes "c") cell
-  unfolding signal letter
-  c_is = at_cell 0 (omega arith)
-
-  pub x_is : name_at (6 * cell + 1) ≡ signal (codes "x") cell
-  unfolding signal letter
-  x_is = at_cell 1 (omega arith)
-
-  pub y_is : name_at (6 * cell + 2) ≡ signal (codes "y") cell
-  unfolding signal letter
-  y_is = at_cell 2 (omega arith)
-
-  pub p_is : name_at (6 * cell + 3) ≡ signal (codes "p") cell
-  unfolding signal letter
-  p_is = at_cell 3 (omega arith)
-
-  pub q_is : name_at (6 * cell + 4) ≡ signal (codes "q") cell
-  unfolding signal letter
-  q_is = at_cell 4 (omega arith)
-
-  pub s_is : name_at (6 * cell + 5) ≡ signal (codes "s") cell
-  unfolding signal letter
-  s_is = at_cell 5 (omega arith)
+  -- the letter of a place is that of its signal
+  pub signal_is : (place : ℕ) → place < 6 → name_at (6 * cell + place) ≡ signal (letter place ∷ []) cell
+  unfolding signal
+  signal_is place h = at_cell place h
 
 -- ---- statements
 
@@ -153,32 +134,15 @@ is_gate_word output gate = listed_word (output / 2 ^ (3 * gate) % 8) (omega arit
 abbrev pub Placed : ℕ → List ℕ → Type 0
 Placed n name = (k : ℕ) × (k < 6 * n + 1) × (name_at k ≡ name)
 
-module _ (n cell : ℕ) where
-  pub c_placed : cell ≤ n → Placed n (signal (codes "c") cell)
-  c_placed h = (6 * cell + 0, omega (arith, h), c_is cell)
-
-  module _ (h : cell < n) where
-    pub x_placed : Placed n (signal (codes "x") cell)
-    x_placed = (6 * cell + 1, omega (arith, h), x_is cell)
-
-    pub y_placed : Placed n (signal (codes "y") cell)
-    y_placed = (6 * cell + 2, omega (arith, h), y_is cell)
-
-    pub p_placed : Placed n (signal (codes "p") cell)
-    p_placed = (6 * cell + 3, omega (arith, h), p_is cell)
-
-    pub q_placed : Placed n (signal (codes "q") cell)
-    q_placed = (6 * cell + 4, omega (arith, h), q_is cell)
-
-    pub s_placed : Placed n (signal (codes "s") cell)
-    s_placed = (6 * cell + 5, omega (arith, h), s_is cell)
+placed : (n cell place : ℕ) → place < 6 → 6 * cell + place < 6 * n + 1 → Placed n (signal (letter place ∷ []) cell)
+placed n cell place small within = (6 * cell + place, within, signal_is cell place small)
 
 pub first_carry : signal (codes "c") 0 ≡ codes "c0"
 unfolding signal
 first_carry = ap (λ (ds : List ℕ). 99 ∷ ds) (decimal_digit 0 (omega arith))
 
 first_is : name_at 0 ≡ codes "c0"
-first_is = c_is 0 ∙ first_carry
+first_is = signal_is 0 0 (omega arith) ∙ first_carry
 
 digit_run : (d : ℕ) → d < 10 → is_name_byte (48 + d) ≡ true
 unfolding is_name_byte
@@ -239,13 +203,14 @@ module _ (n : ℕ) (P : Written → Type 0) (holds : HoldsOf n P) where
   each_cell : (cell : ℕ) → cell < n → All P (statements_of_cell n cell)
   each_cell cell h =
       let o = output_from n cell in
-      let c = c_placed n cell (omega (arith, h)) in
-      let x = x_placed n cell h in
-      let y = y_placed n cell h in
-      let p = p_placed n cell h in
-      let q = q_placed n cell h in
-      let s = s_placed n cell h in
-      let next = c_placed n (cell + 1) (omega (arith, h)) in
+      let at = λ (place : ℕ) (small : place < 6). placed n cell place small (omega (arith, h, small)) in
+      let c = at 0 (omega arith) in
+      let x = at 1 (omega arith) in
+      let y = at 2 (omega arith) in
+      let p = at 3 (omega arith) in
+      let q = at 4 (omega arith) in
+      let s = at 5 (omega arith) in
+      let next = placed n (cell + 1) 0 (omega arith) (omega (arith, h)) in
       all_seven P _ _ _ _ _ _ _ (holds.input _ x) (holds.input _ y) (holds.output _ s) (holds.gate _ _ _ _ (is_gate_word o 0) p x y) (holds.gate _ _ _ _ (is_gate_word o 1) q x c)
       (holds.gate _ _ _ _ (is_gate_word o 2) s p q) (holds.gate _ _ _ _ (is_gate_word o 3) next p c)
 
@@ -256,7 +221,7 @@ module _ (n : ℕ) (P : Written → Type 0) (holds : HoldsOf n P) where
       All-cons P (written_input (codes "c0")) (inner ++ last ∷ []) (holds.input (codes "c0") (0, omega arith, first_is))
       (All-append P inner (last ∷ [])
       (All-flat_map P (statements_of_cell n) (range_with_len 0 n) (All-range_with_len (λ cell. All P (statements_of_cell n cell)) 0 n (λ cell low h. each_cell cell (omega (arith, h)))))
-      (All-cons P last [] (holds.output (signal (codes "c") n) (c_placed n n (omega arith))) (All-nil P)))
+      (All-cons P last [] (holds.output (signal (codes "c") n) (placed n n 0 (omega arith) (omega arith))) (All-nil P)))
 
 -- ---- the names that are driven
 
@@ -268,7 +233,8 @@ places_of_cell : (a m : ℕ) → map name_at (range_with_len (6 * a + 1) (6 * su
 places_of_cell a m =
     let more : 6 * suc m ≡ suc (suc (suc (suc (suc (suc (6 * m)))))) = omega arith in
     ap (λ k. map name_at (range_with_len (6 * a + 1) k)) more
-    ∙ six (x_is a) (ap name_at (omega arith) ∙ y_is a) (ap name_at (omega arith) ∙ p_is a) (ap name_at (omega arith) ∙ q_is a) (ap name_at (omega arith) ∙ s_is a) (ap name_at (omega arith) ∙ c_is (a + 1))
+    ∙ six (signal_is a 1 (omega arith)) (ap name_at (omega arith) ∙ signal_is a 2 (omega arith)) (ap name_at (omega arith) ∙ signal_is a 3 (omega arith)) (ap name_at (omega arith) ∙ signal_is a 4 (omega arith)) (ap name_at (omega arith) ∙ signal_is a 5 (omega arith))
+    (ap name_at (omega arith) ∙ signal_is (a + 1) 0 (omega arith))
     (ap (λ k. map name_at (range_with_len k (6 * m))) (omega arith))
 
 driven_in_cells : (n a m : ℕ) → filter_map written_driven (cells n (range_with_len a m)) ≡ map name_at (range_with_len (6 * a + 1) (6 * m))

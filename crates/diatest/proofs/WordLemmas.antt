@@ -1,24 +1,21 @@
 -- What a command's words ask for, by the definition of the command.
-use Rattle.std.proofs.Common.{◌≡◌, ◌≢◌, ℕ, Bool, true, false, List, [], ◌∷◌, Option, Some, None, Result, Ok, Err, refl, sym, ap, ◌∙◌, ◌==◌, length, arith, if◌then◌else◌}
+use Rattle.std.proofs.Common.{◌≡◌, ◌≢◌, Bool, true, false, List, [], ◌∷◌, Option, Some, None, Result, Ok, Err, refl, sym, ap, ◌∙◌, ◌==◌, length, arith, if◌then◌else◌}
 use Rattle.std.proofs.lemmas.Bool.{eqb-true}
-use Rattle.clap.specs.Words.{App, Row, fault_of, matches_of, is_simple, is_simple_and_free}
+use Rattle.clap.specs.Words.{Row, fault_of, matches_of, is_simple_and_free}
 use Rattle.std.specs.Result.{IsErrAnd}
 use Rattle.clap.specs.Walk.{is_empty}
-use Rattle.diatest.specs.Request.{Text, Request, asked_by, gen_app, faults_app, synth_app}
+use Rattle.diatest.specs.Request.{Text, Request, asked_by, app_for, request_by, gen_app, check_app, faults_app, synth_app}
+use Rattle.diatest.specs.declared.request.Verb.{Verb}
+use Rattle.diatest.specs.declared.request.Verb.TheVariants.{Gen, Check, Faults, Synth}
 
 -- ---- each command is simple, and no argument has a rule on another
 
-pub gen_simple : is_simple_and_free gen_app ≡ true
-unfolding gen_app
-gen_simple = refl
-
-pub faults_simple : is_simple_and_free faults_app ≡ true
-unfolding faults_app
-faults_simple = refl
-
-pub synth_simple : is_simple_and_free synth_app ≡ true
-unfolding synth_app
-synth_simple = refl
+pub is_simple : (verb : Verb) → is_simple_and_free (app_for verb) ≡ true
+unfolding gen_app check_app faults_app synth_app
+is_simple Gen = refl
+is_simple Check = refl
+is_simple Faults = refl
+is_simple Synth = refl
 
 -- ---- words that are taken, and words that aren't
 
@@ -30,15 +27,15 @@ some_fault : {A : Type 0} (kinds : List A) → kinds ≢ [] → is_empty kinds �
 some_fault [] some = absurd (some refl)
 some_fault (k ∷ kinds) some = none_true (length (k ∷ kinds) == 0) (λ e. absurd (omega (arith, eqb-true (length (k ∷ kinds)) 0 e)))
 
-module _ (app : App) (by : List Row → Request) (words : List Text) where
+module _ (verb : Verb) (words : List Text) where
   abbrev asked_where : Bool → Option Request
-  asked_where taken = if taken then Some (by (matches_of app words)) else None
+  asked_where taken = if taken then Some (request_by verb (matches_of (app_for verb) words)) else None
 
-  pub asked_taken : {rows : List Row} {r : Request} → fault_of app words ≡ [] → rows ≡ matches_of app words → by rows ≡ r → asked_by app by words ≡ Some r
-  asked_taken {rows} {r} taken is asks = ap (λ kinds. asked_where (is_empty kinds)) taken ∙ ap (λ rs. Some (by rs)) (sym is) ∙ ap Some asks
+  pub asked_taken : {rows : List Row} {r : Request} → fault_of (app_for verb) words ≡ [] → rows ≡ matches_of (app_for verb) words → r ≡ request_by verb rows → asked_by (Some verb) words ≡ Some r
+  asked_taken {rows} {r} taken is asks = ap (λ kinds. asked_where (is_empty kinds)) taken ∙ ap (λ rs. Some (request_by verb rs)) (sym is) ∙ ap Some (sym asks)
 
-  pub asked_refused : fault_of app words ≢ [] → asked_by app by words ≡ None
-  asked_refused some = ap asked_where (some_fault (fault_of app words) some)
+  pub asked_refused : fault_of (app_for verb) words ≢ [] → asked_by (Some verb) words ≡ None
+  asked_refused some = ap asked_where (some_fault (fault_of (app_for verb) words) some)
 
 -- a fault that `?` passed on
 same_fault : {U E : Type 0} {x y : E} → ◌≡◌ {A = Result U E} (Err x) (Err y) → x ≡ y

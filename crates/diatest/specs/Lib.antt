@@ -4,7 +4,10 @@ pub mod Request
 pub mod Texts
 pub mod Faults
 pub mod Netlists
+pub mod Results
 pub mod Outcome
+pub mod Plan
+pub mod Plans
 pub mod Ran
 pub mod Asked
 pub mod Steps

@@ -1,19 +1,24 @@
 -- What a run did.
-use Rattle.std.specs.Prelude.{◌^◌, ◌≡◌, ◌≢◌, ℕ, ◌≤◌, ◌<◌, ◌⊎◌, List, [], ◌∷◌, ◌++◌, Option, Some, None, IsTrue, IsSome}
+use Rattle.std.specs.Prelude.{◌^◌, ◌≡◌, ◌≢◌, ℕ, ◌≤◌, ◌<◌, ◌⊎◌, List, [], ◌∷◌, ◌++◌, Option, Some, None, IsTrue, ⊤}
 use Rattle.std.specs.FinMap.{get}
-use Rattle.diag_shelf.specs.World.{Files, World, State}
+use Rattle.diag_shelf.specs.World.{World, State}
 use Rattle.diag_shelf.specs.Calls.{Rose, Told}
 use Rattle.net_model.specs.Circuit.{Circuit}
 use Rattle.net_model.specs.declared.circuit.Design.{Design}
 use Rattle.result_file.specs.declared.record.Budgets.{Budgets}
 use Rattle.result_file.specs.declared.record.Summary.{Summary}
+use Rattle.result_file.specs.Summary.{summary_of}
+use Rattle.result_file.specs.Valid.{IsValidFile}
+use Rattle.result_file.specs.Meaning.{stated_records, IsTrueFile}
 use Rattle.dia_gen.specs.Made.{IsMade}
-use Rattle.diatest.specs.Request.{Text, Request, gen, list_faults, synth, synth_budgets, netlist_of, outputs_of, inputs_of}
+use Rattle.diatest.specs.Request.{Text, Request, gen, check, list_faults, synth, synth_budgets, outputs_of}
 use Rattle.diatest.specs.Synth.{synth_text}
-use Rattle.diatest.specs.Texts.{summary_text}
+use Rattle.diatest.specs.Texts.{summary_text, valid_text}
 use Rattle.diatest.specs.Netlists.{IsDesign, IsRefused}
 use Rattle.diatest.specs.Faults.{IsFaultsText}
-use Rattle.diatest.specs.Outcome.{Outcome, saved, CallsFor, MayLeave, IsResultPart, IsRefusedRequest, Leaves, KeepsFiles, IsUntouched, ConsoleGained}
+use Rattle.diatest.specs.Outcome.{Outcome, saved, Leaves, KeepsFiles, IsUntouched, ConsoleGained}
+use Rattle.diatest.specs.Plan.{Plan, IsClear, CallsFor, MayLeave, IsRefusedWith, AreAccepted, AreHeld}
+use Rattle.diatest.specs.Plans.{IsResultPart, plan_of}
 
 -- it is one of these
 abbrev pub IsAmong : {A : Type 0} → A → List A → Type 0
@@ -24,6 +29,7 @@ IsAmong x (y ∷ ys) = (x ≡ y) ⊎ IsAmong x ys
 abbrev pub statuses_of : Option Request → List ℕ
 statuses_of None = 2 ∷ 8 ∷ 9 ∷ []
 statuses_of (Some (gen bench result budgets)) = 0 ∷ 3 ∷ 7 ∷ 8 ∷ 9 ∷ []
+statuses_of (Some (check bench result)) = 0 ∷ 3 ∷ 4 ∷ 7 ∷ 8 ∷ 9 ∷ []
 statuses_of (Some (list_faults bench)) = 0 ∷ 3 ∷ 7 ∷ 8 ∷ 9 ∷ []
 statuses_of (Some (synth n bench result)) = 0 ∷ 8 ∷ 9 ∷ []
 
@@ -42,26 +48,21 @@ pub record HasCauses (status : ℕ) (old new : State) : Type 0 where
   pub writes_failed : old.write_faults < new.write_faults → (status ≡ 8) ⊎ (status ≡ 9)
 
 -- With a status below 7 the words and files called for what was done.
-abbrev pub IsDone : Option Request → ℕ → World → World → Type 0
-IsDone request status old new = status < 7 → (o : Outcome) × CallsFor request old.files o × (o.status ≡ status) × Leaves o.made o.console old new
+abbrev pub IsDone : Plan → ℕ → World → World → Type 0
+IsDone plan status old new = status < 7 → (o : Outcome) × CallsFor old.files plan o × (o.status ≡ status) × Leaves o.made o.console old new
 
 -- With status 7 nothing was done.
 abbrev pub IsUnread : ℕ → World → World → Type 0
 IsUnread status old new = status ≡ 7 → IsUntouched old new
 
 -- With status 8 or 9 nothing was done, or what these words and files may leave.
-abbrev pub IsBrokenOff : Option Request → ℕ → World → World → Type 0
-IsBrokenOff request status old new = (status ≡ 8) ⊎ (status ≡ 9) →
-    IsUntouched old new ⊎ ((made : List (Text × Text)) × (text : Text) × MayLeave request old.files made text × Leaves made text old new)
+abbrev pub IsBrokenOff : Plan → ℕ → World → World → Type 0
+IsBrokenOff plan status old new = (status ≡ 8) ⊎ (status ≡ 9) →
+    IsUntouched old new ⊎ ((made : List (Text × Text)) × (text : Text) × MayLeave old.files plan made text × Leaves made text old new)
 
 -- Files that the words don't name as outputs are as they were.
-abbrev pub OnlyOutputs : Option Request → World → World → Type 0
-OnlyOutputs request old new = (name : Text) → ¬ IsAmong name (outputs_of request) → get new.files name ≡ get old.files name
-
--- Each of these files is there.
-abbrev pub AreHeld : List Text → Files → Type 0
-AreHeld [] files = Unit {0}
-AreHeld (name ∷ names) files = IsSome (get files name) × AreHeld names files
+abbrev pub OnlyOutputs : List Text → World → World → Type 0
+OnlyOutputs outputs old new = (name : Text) → ¬ IsAmong name outputs → get new.files name ≡ get old.files name
 
 -- Neither count is greater.
 pub record NoneFailed (old new : State) : Type 0 where
@@ -86,16 +87,19 @@ pub record SavesResult (c : Circuit) (budgets : Budgets) (before : List (Text ×
   pub ends : Ends (saved (before ++ (result, file) ∷ []) text) (IsResultPart c budgets before result) status old new
   pub made : status ≡ 0 → IsTrue old.tells → (summary : Summary) × IsMade c budgets summary file × (text ≡ summary_text summary)
 
--- All that is promised of a run that was asked this.
-pub record Ran (request : Option Request) (status : ℕ) (old new : State) : Type 0 where
-  pub answers : IsAmong status (statuses_of request)
+-- All that is promised of a run with this plan, which may answer these statuses and create files of these names.
+pub record Follows (plan : Plan) (statuses : List ℕ) (outputs : List Text) (status : ℕ) (old new : State) : Type 0 where
+  pub answers : IsAmong status statuses
   pub stays : Stays old new
   pub causes : HasCauses status old new
-  pub done : Told old new (IsDone request status)
+  pub done : Told old new (IsDone plan status)
   pub unread : Told old new (IsUnread status)
-  pub broken_off : Told old new (IsBrokenOff request status)
-  pub others : Told old new (OnlyOutputs request)
-  pub sure : IsTrue old.sure → AreHeld (inputs_of request) old.world.files → NoneFailed old new
+  pub broken_off : Told old new (IsBrokenOff plan status)
+  pub others : Told old new (OnlyOutputs outputs)
+  pub sure : IsTrue old.sure → AreHeld old.world.files plan → NoneFailed old new
+
+abbrev pub Ran : Option Request → ℕ → State → State → Type 0
+Ran request status old new = Follows (plan_of request) (statuses_of request) (outputs_of request) status old new
 
 -- ---- what follows
 
@@ -103,11 +107,9 @@ pub record Ran (request : Option Request) (status : ℕ) (old new : State) : Typ
 abbrev pub KeepsUnlessDone : ℕ → World → World → Type 0
 KeepsUnlessDone status old new = 2 ≤ status → status ≤ 7 → KeepsFiles old new
 
--- Under the result's name is a file that the generator may write for the netlist's circuit, and whose lines state what is true.
--- The console gained what it amounts to. With as many cubes as there are vectors no member is left open.
-pub record HasResult (bench result : Text) (budgets : Budgets) (old new : World) : Type 0 where
-  pub bytes : Text
-  pub held : get old.files bench ≡ Some bytes
+-- Under the result's name is a file that the generator may write for the circuit of a netlist's bytes, and whose lines state what is
+-- true. The console gained what it amounts to. With as many cubes as there are vectors no member is left open.
+pub record LeavesResult (bytes result : Text) (budgets : Budgets) (old new : World) : Type 0 where
   pub design : Design
   pub accepted : IsDesign bytes design
   pub file : Text
@@ -117,27 +119,41 @@ pub record HasResult (bench result : Text) (budgets : Budgets) (old new : World)
   pub closed : 2 ^ design.circuit.sources ≤ budgets.cubes → summary.spent ≡ 0
   pub printed : ConsoleGained (summary_text summary) old new
 
+-- A result was left for the netlist that was read.
+pub record HasResult (bench result : Text) (budgets : Budgets) (old new : World) : Type 0 where
+  pub bytes : Text
+  pub held : get old.files bench ≡ Some bytes
+  pub leaves : LeavesResult bytes result budgets old new
+
 -- A run of `gen` that answers 0 leaves a result.
 abbrev pub GeneratesResult : Option Request → ℕ → World → World → Type 0
 GeneratesResult request status old new = (bench result : Text) (budgets : Budgets) → request ≡ Some (gen bench result budgets) → status ≡ 0 → HasResult bench result budgets old new
 
--- Under the netlist's name is the text of the number, if the result has another name. Under the result's name is a file that the
--- generator may write for its circuit, and whose lines state what is true. The console gained what it amounts to. With as many cubes
--- as there are vectors no member is left open.
+-- Under the netlist's name is the text of the number, if the result has another name, and a result was left for it.
 pub record HasSynth (n : ℕ) (bench result : Text) (old new : World) : Type 0 where
   pub netlist : bench ≢ result → get new.files bench ≡ Some (synth_text n)
-  pub design : Design
-  pub accepted : IsDesign (synth_text n) design
-  pub file : Text
-  pub saved : get new.files result ≡ Some file
-  pub summary : Summary
-  pub made : IsMade design.circuit synth_budgets summary file
-  pub closed : 2 ^ design.circuit.sources ≤ synth_budgets.cubes → summary.spent ≡ 0
-  pub printed : ConsoleGained (summary_text summary) old new
+  pub leaves : LeavesResult (synth_text n) result synth_budgets old new
 
 -- A run of `synth` that answers 0 leaves them.
 abbrev pub Synthesizes : Option Request → ℕ → World → World → Type 0
 Synthesizes request status old new = (n : ℕ) (bench result : Text) → request ≡ Some (synth n bench result) → status ≡ 0 → HasSynth n bench result old new
+
+-- The result's file is valid for the netlist's circuit, and what it states is true of it. The console gained what it amounts to.
+pub record HasValid (bench result : Text) (old new : World) : Type 0 where
+  pub bytes : Text
+  pub held : get old.files bench ≡ Some bytes
+  pub design : Design
+  pub accepted : IsDesign bytes design
+  pub file : Text
+  pub there : get old.files result ≡ Some file
+  pub valid : IsValidFile design.circuit file
+  pub budgets : Budgets
+  pub is_true : IsTrueFile design.circuit budgets file
+  pub printed : ConsoleGained (valid_text (summary_of (stated_records design.circuit is_true.stated))) old new
+
+-- A run of `check` that answers 0 found that.
+abbrev pub ChecksResult : Option Request → ℕ → World → World → Type 0
+ChecksResult request status old new = (bench result : Text) → request ≡ Some (check bench result) → status ≡ 0 → HasValid bench result old new
 
 -- The console gained all faults of the netlist's circuit with their roots.
 pub record HasFaults (bench : Text) (old new : World) : Type 0 where
@@ -157,17 +173,32 @@ PrintsFaults request status old new = (bench : Text) → request ≡ Some (list_
 abbrev pub NoNumberIsRefused : Type 0
 NoNumberIsRefused = (n : ℕ) (console : Text) → n ≤ 2000 → IsRefused (synth_text n) console → ⊥
 
--- Status 3 comes only for a netlist that is refused, with its text, and of the statuses below 7 no other comes for such a netlist.
-abbrev pub RefusesNetlist : Option Request → ℕ → World → World → Type 0
-RefusesNetlist asked status old new = (request : Request) (bytes : Text) → asked ≡ Some request → netlist_of request old.files ≡ Some bytes
-    → (status ≡ 3 → (console : Text) × IsRefused bytes console × ConsoleGained console old new)
-    × ((console : Text) → IsRefused bytes console → status < 7 → status ≡ 3)
+-- Whatever is asked, no file that is read is both refused and accepted.
+abbrev pub FilesAreJudgedOnce : Type 0
+FilesAreJudgedOnce = (request : Request) → IsClear (plan_of (Some request))
 
--- Where the netlist is accepted and neither count rose, the work is done or memory was wanting.
+-- How the files that are read decide the status.
+pub record IsDecided (plan : Plan) (status : ℕ) (old new : World) : Type 0 where
+  -- a status from 1 to 6 comes only for a file that is refused, and the console gained the refusal
+  pub only : 0 < status → status < 7 → (console : Text) × IsRefusedWith old.files plan status console × ConsoleGained console old new
+  -- of the statuses below 7 no other comes for it
+  pub refused : (s : ℕ) (console : Text) → IsRefusedWith old.files plan s console → status < 7 → status ≡ s
+  -- and where all are accepted none comes but 0
+  pub accepted : AreAccepted old.files plan → status < 7 → status ≡ 0
+
+abbrev pub DecidedByFiles : Option Request → ℕ → World → World → Type 0
+DecidedByFiles asked status old new = asked ≢ None → IsDecided (plan_of asked) status old new
+
+-- Where each file that is read is accepted and neither count rose, the work is done or memory was wanting.
 abbrev pub IsComplete : Option Request → ℕ → State → State → Type 0
-IsComplete asked status old new = (request : Request) (bytes : Text) (design : Design) → asked ≡ Some request → IsTrue old.tells → netlist_of request old.world.files ≡ Some bytes → IsDesign bytes design
-    → ¬ Rose old.read_faults new.read_faults → ¬ Rose old.write_faults new.write_faults → (status ≡ 0) ⊎ (status ≡ 9)
+IsComplete asked status old new = asked ≢ None → IsTrue old.tells → AreAccepted old.world.files (plan_of asked) → ¬ Rose old.read_faults new.read_faults → ¬ Rose old.write_faults new.write_faults
+    → (status ≡ 0) ⊎ (status ≡ 9)
 
--- Where the words aren't understood or a file that is read is refused, no file is created or changed, whatever the status.
+-- The words aren't understood, or a file that is read is refused.
+abbrev pub IsRefusedRequest : Option Request → World → Type 0
+IsRefusedRequest None old = ⊤
+IsRefusedRequest (Some request) old = (status : ℕ) × ((console : Text) × IsRefusedWith old.files (plan_of (Some request)) status console)
+
+-- Then no file is created or changed, whatever the status.
 abbrev pub KeepsRefused : Option Request → World → World → Type 0
-KeepsRefused request old new = IsRefusedRequest request old.files → KeepsFiles old new
+KeepsRefused asked old new = IsRefusedRequest asked old → KeepsFiles old new

@@ -9,7 +9,13 @@ use Rattle.bench_reader.specs.declared.fault.NetKind.{NetKind}
 use Rattle.bench_reader.specs.declared.fault.NetKind.TheVariants.{BadByte, Expected, UnknownGate, WrongPins, DrivenTwice, Undriven, TooLong}
 use Rattle.fault_list.specs.Names.{fault_name}
 use Rattle.fault_collapse.specs.Forest.{Forest, number_count, root_of, root_numbers}
+use Rattle.refute_check.specs.declared.refusal.RefusalKind.{RefusalKind}
+use Rattle.refute_check.specs.declared.refusal.RefusalKind.TheVariants as why
+use Rattle.refute_check.specs.declared.refusal.Refusal.{Refusal}
 use Rattle.result_file.specs.declared.record.Summary.{Summary}
+use Rattle.result_file.specs.declared.fault.ResultKind.{ResultKind}
+use Rattle.result_file.specs.declared.fault.ResultKind.TheVariants as result
+use Rattle.result_file.specs.declared.fault.ResultFault.{ResultFault}
 use Rattle.diatest.specs.Request.{Text}
 
 abbrev pub kind_name : NetKind → Text
@@ -39,6 +45,44 @@ loop_text place names = loop_start place ++ flat_map after_blank names ++ codes 
 unfoldable pub summary_text : Summary → Text
 summary_text s =
     codes "numbers " ++ (decimal s.numbers ++ (codes " patterns " ++ (decimal s.patterns ++ (codes " classes " ++ (decimal s.classes ++ (codes " equal " ++ (decimal s.equal ++ (codes " open " ++ (decimal s.spent ++ codes "\n")))))))))
+
+-- what a valid result amounts to
+unfoldable pub valid_text : Summary → Text
+valid_text s = codes "valid " ++ summary_text s
+
+-- ---- refused results
+
+abbrev pub evidence_rule : RefusalKind → Text
+evidence_rule why.NoSuchClause = codes "NoSuchClause"
+evidence_rule why.NoPivot = codes "NoPivot"
+evidence_rule why.NotEmpty = codes "NotEmpty"
+evidence_rule why.EmptyEarly = codes "EmptyEarly"
+evidence_rule why.NotFresh = codes "NotFresh"
+evidence_rule why.LeafOpen = codes "LeafOpen"
+evidence_rule why.BadTree = codes "BadTree"
+evidence_rule why.WrongCount = codes "WrongCount"
+
+-- the rule that evidence breaks, and where
+unfoldable pub evidence_text : Refusal → Text
+evidence_text refusal = codes "Evidence " ++ (evidence_rule refusal.kind ++ (codes " at step " ++ (decimal refusal.step ++ codes ", ")))
+
+-- the rule that is broken
+abbrev pub result_rule : ResultKind → Text
+result_rule result.Syntax = codes "Syntax at "
+result_rule result.Head = codes "Head at "
+result_rule result.Order = codes "Order at "
+result_rule result.Pattern = codes "Pattern at "
+result_rule result.Member = codes "Member at "
+result_rule result.Roots = codes "Roots at "
+result_rule (result.Evidence refusal) = evidence_text refusal
+result_rule result.Table = codes "Table at "
+result_rule result.TooLong = codes "TooLong at "
+
+-- why a result is refused
+unfoldable pub result_text : ResultFault → Text
+result_text fault = codes "result: " ++ (result_rule fault.kind ++ (codes "line " ++ (decimal fault.line ++ codes "\n")))
+
+-- ---- words
 
 unfoldable pub not_understood_text : Text
 not_understood_text = codes "words: not understood\n"

@@ -3,7 +3,7 @@
 ghost use Rattle.std.specs.Prelude.{◌≡◌, ◌++◌, ◌<◌, ◌≤◌, IfOk, OnOk, flat_map, string_bytes};
 ghost use Rattle.std.specs.List.{range_with_len};
 ghost use Rattle.diatest.specs.Ran.{NoNumberIsRefused};
-ghost use Rattle.diatest.specs.Synth.{gate_word, ports_text, p_gate, q_gate, s_gate, c_gate, gates_text, cell_text, numbered_cell, synth_text};
+ghost use Rattle.diatest.specs.Synth.{signal, gate_line, gate_word, ports_text, gates_text, cell_text, numbered_cell, synth_text};
 
 use bench_reader::{lines_spell, never_accepted_and_refused, one_netlist, spelled_is_accepted};
 use rand_core::SeedableRng;
@@ -60,15 +60,17 @@ fn push_cell(text: &mut Vec<u8>, output: u64, cell: u32) -> Result<(), AllocErro
     push_gates(text, output, cell)
 }
 
+#[tactic(auto, unfolding(crate::specs::Synth::p_gate, crate::specs::Synth::q_gate, crate::specs::Synth::s_gate, crate::specs::Synth::c_gate))]
 fn push_gates(text: &mut Vec<u8>, output: u64, cell: u32) -> Result<(), AllocError>
     requires { cell < 2000 }
     ensures { OnOk result (text.new.items ≡ text.old.items ++ gates_text output cell) }
 {
     let alloc = *text.allocator();
-    let p = p_gate(alloc, output, cell)?;
-    let q = q_gate(alloc, output, cell)?;
-    let s = s_gate(alloc, output, cell)?;
-    let c = c_gate(alloc, output, cell)?;
+    let p = gate_line(alloc, "p", cell, gate_word(output, 0), "x", "y", cell)?;
+    let q = gate_line(alloc, "q", cell, gate_word(output, 1), "x", "c", cell)?;
+    let s = gate_line(alloc, "s", cell, gate_word(output, 2), "p", "q", cell)?;
+    // It drives the carry into the next cell.
+    let c = gate_line(alloc, "c", cell + 1, gate_word(output, 3), "p", "c", cell)?;
     text.extend_from_slice(p.as_bytes())?;
     text.extend_from_slice(q.as_bytes())?;
     text.extend_from_slice(s.as_bytes())?;
@@ -82,35 +84,19 @@ fn ports(alloc: Global, cell: u32) -> Result<String, AllocError>
     format!(in alloc; "INPUT(x{cell})\nINPUT(y{cell})\nOUTPUT(s{cell})\n")
 }
 
-fn p_gate(alloc: Global, output: u64, cell: u32) -> Result<String, AllocError>
-    ensures { IfOk result (λ text. string_bytes text ≡ p_gate output cell) }
+// A gate that drives the signal of a letter and a number, from two signals of a cell.
+fn gate_line(
+    alloc: Global,
+    driven: &str,
+    number: u32,
+    word: &str,
+    first: &str,
+    second: &str,
+    cell: u32,
+) -> Result<String, AllocError>
+    ensures { IfOk result (λ text. string_bytes text ≡ gate_line (signal driven.now number) word.now (signal first.now cell) (signal second.now cell)) }
 {
-    let word = gate_word(output, 0);
-    format!(in alloc; "p{cell}={word}(x{cell},y{cell})\n")
-}
-
-fn q_gate(alloc: Global, output: u64, cell: u32) -> Result<String, AllocError>
-    ensures { IfOk result (λ text. string_bytes text ≡ q_gate output cell) }
-{
-    let word = gate_word(output, 1);
-    format!(in alloc; "q{cell}={word}(x{cell},c{cell})\n")
-}
-
-fn s_gate(alloc: Global, output: u64, cell: u32) -> Result<String, AllocError>
-    ensures { IfOk result (λ text. string_bytes text ≡ s_gate output cell) }
-{
-    let word = gate_word(output, 2);
-    format!(in alloc; "s{cell}={word}(p{cell},q{cell})\n")
-}
-
-// The gate of the carry into the next cell.
-fn c_gate(alloc: Global, output: u64, cell: u32) -> Result<String, AllocError>
-    requires { cell < 2000 }
-    ensures { IfOk result (λ text. string_bytes text ≡ c_gate output cell) }
-{
-    let word = gate_word(output, 3);
-    let next = cell + 1;
-    format!(in alloc; "c{next}={word}(p{cell},c{cell})\n")
+    format!(in alloc; "{driven}{number}={word}({first}{cell},{second}{cell})\n")
 }
 
 // The word of a gate of a cell with this output: three of its bits choose it.

@@ -2,11 +2,14 @@
 
 ghost use Rattle.std.specs.Prelude.{◌≡◌, ◌⊎◌, map, string_bytes, IsTrue, None};
 ghost use Rattle.diag_shelf.specs.Calls.{Told};
-ghost use Rattle.diatest.specs.Request.{request_of, inputs_of};
-ghost use Rattle.diatest.specs.Ran.{IsAmong, statuses_of, Stays, HasCauses, IsDone, IsUnread, IsBrokenOff, OnlyOutputs, AreHeld, NoneFailed, Ran, KeepsUnlessDone, GeneratesResult, Synthesizes, PrintsFaults, NoNumberIsRefused, RefusesNetlist, KeepsRefused, IsComplete};
+ghost use Rattle.diatest.specs.Request.{request_of, outputs_of};
+ghost use Rattle.diatest.specs.Plan.{AreHeld};
+ghost use Rattle.diatest.specs.Plans.{plan_of};
+ghost use Rattle.diatest.specs.Ran.{IsAmong, statuses_of, Stays, HasCauses, IsDone, IsUnread, IsBrokenOff, OnlyOutputs, NoneFailed, Ran, KeepsUnlessDone, GeneratesResult, ChecksResult, Synthesizes, PrintsFaults, NoNumberIsRefused, FilesAreJudgedOnce, DecidedByFiles, KeepsRefused, IsComplete};
 
 use crate::arguments::WordsFault;
 use crate::cells::no_number_is_refused;
+use crate::checks::check_result;
 use crate::ends::say;
 use crate::generates::generate_file;
 use crate::listing::list_faults;
@@ -17,10 +20,12 @@ use diag_shelf::Shelf;
 use fault_collapse::same_root_equal;
 use net_model::{none_reaches_itself, walk_reaches_itself};
 use pair_sets::{covering_is_equal, full_tree_is_covered, leaves_are_closed};
+use result_file::{file_is_refused_once, valid_is_true};
 use std::alloc::Global;
 
 /// Does what the words ask for, and answers a status: 0 where the work is done, 2 where the words aren't understood,
-/// 3 where the netlist that is read is refused, 7 or 8 where a read or a write failed, 9 for want of memory.
+/// 3 or 4 where the netlist or the result that is read is refused, 7 or 8 where a read or a write failed, 9 for want of
+/// memory.
 pub fn run<S: Shelf>(alloc: Global, words: &[String], shelf: &mut S) -> u8
     // The status, on every shelf.
     ensures status { IsAmong result (statuses_of (request_of (map string_bytes words.now))) }
@@ -30,36 +35,47 @@ pub fn run<S: Shelf>(alloc: Global, words: &[String], shelf: &mut S) -> u8
     ensures stays { Stays (S.state shelf.old) (S.state shelf.new) }
 
     // What is done to a shelf that tells.
-    ensures done { Told (S.state shelf.old) (S.state shelf.new) (IsDone (request_of (map string_bytes words.now)) result) }
+    ensures done { Told (S.state shelf.old) (S.state shelf.new) (IsDone (plan_of (request_of (map string_bytes words.now))) result) }
     ensures unread { Told (S.state shelf.old) (S.state shelf.new) (IsUnread result) }
-    ensures broken_off { Told (S.state shelf.old) (S.state shelf.new) (IsBrokenOff (request_of (map string_bytes words.now)) result) }
-    ensures others { Told (S.state shelf.old) (S.state shelf.new) (OnlyOutputs (request_of (map string_bytes words.now))) }
+    ensures broken_off { Told (S.state shelf.old) (S.state shelf.new) (IsBrokenOff (plan_of (request_of (map string_bytes words.now))) result) }
+    ensures others { Told (S.state shelf.old) (S.state shelf.new) (OnlyOutputs (outputs_of (request_of (map string_bytes words.now)))) }
     ensures kept { Told (S.state shelf.old) (S.state shelf.new) (KeepsUnlessDone result) }
 
     // What each command does.
     ensures made { Told (S.state shelf.old) (S.state shelf.new) (GeneratesResult (request_of (map string_bytes words.now)) result) }
+    ensures checked { Told (S.state shelf.old) (S.state shelf.new) (ChecksResult (request_of (map string_bytes words.now)) result) }
     ensures synth { Told (S.state shelf.old) (S.state shelf.new) (Synthesizes (request_of (map string_bytes words.now)) result) }
     ensures faults { Told (S.state shelf.old) (S.state shelf.new) (PrintsFaults (request_of (map string_bytes words.now)) result) }
 
     // Refusals, and their absence.
     ensures numbers { NoNumberIsRefused }
-    ensures netlist { Told (S.state shelf.old) (S.state shelf.new) (RefusesNetlist (request_of (map string_bytes words.now)) result) }
+    ensures once { FilesAreJudgedOnce }
+    ensures files { Told (S.state shelf.old) (S.state shelf.new) (DecidedByFiles (request_of (map string_bytes words.now)) result) }
     ensures refused { Told (S.state shelf.old) (S.state shelf.new) (KeepsRefused (request_of (map string_bytes words.now))) }
     ensures complete { IsComplete (request_of (map string_bytes words.now)) result (S.state shelf.old) (S.state shelf.new) }
 
-    // A sure shelf that holds the inputs has no fault.
-    ensures sure { IsTrue (S.state shelf.old).sure → AreHeld (inputs_of (request_of (map string_bytes words.now))) (S.state shelf.old).world.files → NoneFailed (S.state shelf.old) (S.state shelf.new) }
+    // A sure shelf that holds what is read has no fault.
+    ensures sure { IsTrue (S.state shelf.old).sure → AreHeld (S.state shelf.old).world.files (plan_of (request_of (map string_bytes words.now))) → NoneFailed (S.state shelf.old) (S.state shelf.new) }
 {
-    never_accepted_and_refused();
     same_root_equal();
     covering_is_equal();
     leaves_are_closed();
     full_tree_is_covered();
+    valid_is_true();
+    files_are_judged_once();
+    no_number_is_refused();
+    dispatch(alloc, words, shelf)
+}
+
+// No file is both refused and accepted.
+fn files_are_judged_once()
+    ensures { FilesAreJudgedOnce }
+{
+    never_accepted_and_refused();
     one_netlist();
     none_reaches_itself();
     walk_reaches_itself();
-    no_number_is_refused();
-    dispatch(alloc, words, shelf)
+    file_is_refused_once();
 }
 
 fn dispatch<S: Shelf>(alloc: Global, words: &[String], shelf: &mut S) -> u8
@@ -69,6 +85,7 @@ fn dispatch<S: Shelf>(alloc: Global, words: &[String], shelf: &mut S) -> u8
         Ok(Request::Gen(bench, output, budgets)) => {
             generate_file(alloc, shelf, bench, output, budgets)
         }
+        Ok(Request::Check(bench, output)) => check_result(alloc, shelf, bench, output),
         Ok(Request::ListFaults(bench)) => list_faults(alloc, shelf, bench),
         Ok(Request::Synth(n, bench, output)) => synthesize(alloc, shelf, n, bench, output),
         Err(WordsFault::NotUnderstood) => refuse(shelf),

@@ -1,15 +1,25 @@
 //! The last step of a run: a text is printed, and the status follows.
 
-ghost use Rattle.std.specs.Prelude.{◌≡◌, ◌<◌};
+ghost use Rattle.std.specs.Prelude.{◌<◌};
 ghost use Rattle.diatest.specs.Outcome.{said, IsPartOf};
 ghost use Rattle.diatest.specs.Ran.{Ends};
+ghost use Rattle.diatest.specs.Steps.{IsReadStatus, IsWriteStatus};
 
 use diag_shelf::{Shelf, ShelfFault, print_all};
 
+/// The status of a failed read.
+pub(crate) fn read_status(fault: ShelfFault) -> u8
+    ensures { IsReadStatus fault result }
+{
+    match fault {
+        ShelfFault::Failed => 7,
+        ShelfFault::NoMemory => 9,
+    }
+}
+
 /// The status of a failed write.
 pub(crate) fn write_status(fault: ShelfFault) -> u8
-    ensures failed { fault ≡ ShelfFault.Failed → result ≡ 8 }
-    ensures memory { fault ≡ ShelfFault.NoMemory → result ≡ 9 }
+    ensures { IsWriteStatus fault result }
 {
     match fault {
         ShelfFault::Failed => 8,

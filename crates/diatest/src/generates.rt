@@ -1,18 +1,18 @@
 //! The command `gen`: from a netlist's bytes to a result file.
 
-ghost use Rattle.std.specs.Prelude.{◌≡◌, [], Err, IfOk, Some, None, map, string_bytes};
-ghost use Rattle.clap.specs.Words.{app_of};
+ghost use Rattle.std.specs.Prelude.{◌≡◌, [], IfOk, Some};
+ghost use Rattle.clap.specs.Words.{app_of, found_of, rows_of};
 ghost use Rattle.result_file.specs.Lines.{AreWithinLimits};
-ghost use Rattle.diatest.specs.Request.{gen, gen_app, gen_of};
+ghost use Rattle.diatest.specs.Request.{gen, gen_app, gen_by};
 ghost use Rattle.diatest.specs.Asked.{asked, HasLimits};
 ghost use Rattle.diatest.specs.Ran.{Ran, SavesResult};
 
-use crate::arguments::{WordsFault, bare_command, name_arg, name_in, number_in, option_arg, parse};
+use crate::arguments::{bare_command, name_arg, name_in, number_in, option_arg};
 use crate::ends::{say, write_status};
 use crate::netlists::read_design;
 use crate::request::Request;
 use crate::texts::summary_text;
-use clap::Command;
+use clap::{ArgMatches, Command};
 use dia_gen::generate;
 use diag_shelf::Shelf;
 use net_model::Circuit;
@@ -28,8 +28,8 @@ const CUBES_LIMIT: u32 = 1_048_576;
 // The most conflicts for a pair of faults.
 const CONFLICTS_LIMIT: u32 = 100_000;
 
-// Two names and three options.
-fn gen_command<'a>(alloc: Global) -> Result<Command<'a>, AllocError>
+/// Two names and three options.
+pub(crate) fn gen_command<'a>(alloc: Global) -> Result<Command<'a>, AllocError>
     ensures { IfOk result (λ c. app_of c ≡ gen_app) }
 {
     let bench = name_arg(alloc, "bench");
@@ -42,23 +42,21 @@ fn gen_command<'a>(alloc: Global) -> Result<Command<'a>, AllocError>
     Ok(whole)
 }
 
-/// The request of the words behind `gen`.
-pub(crate) fn read_gen(alloc: Global, words: &[String]) -> Result<Request<'_>, WordsFault>
-    ensures asked { IfOk result (λ request. gen_of (map string_bytes words.now) ≡ Some (asked request)) }
-    ensures limits { IfOk result HasLimits }
-    ensures refused { result ≡ Err WordsFault.NotUnderstood → gen_of (map string_bytes words.now) ≡ None }
+/// The request of its matches.
+pub(crate) fn gen_in<'a>(matches: &ArgMatches<'a>) -> Request<'a>
+    ensures asked { asked result ≡ gen_by (rows_of (found_of matches.now)) }
+    ensures limits { HasLimits result }
 {
-    let matches = parse(gen_command(alloc)?, words)?;
     let budgets = Budgets {
-        blocks: number_in(&matches, "blocks", 0, BLOCKS_LIMIT),
-        cubes: number_in(&matches, "cubes", 0, CUBES_LIMIT),
-        conflicts: number_in(&matches, "conflicts", 0, CONFLICTS_LIMIT),
+        blocks: number_in(matches, "blocks", 0, BLOCKS_LIMIT),
+        cubes: number_in(matches, "cubes", 0, CUBES_LIMIT),
+        conflicts: number_in(matches, "conflicts", 0, CONFLICTS_LIMIT),
     };
-    Ok(Request::Gen(
-        name_in(&matches, "bench"),
-        name_in(&matches, "result"),
+    Request::Gen(
+        name_in(matches, "bench"),
+        name_in(matches, "result"),
         budgets,
-    ))
+    )
 }
 
 /// Reads and judges the netlist, and generates a result for its circuit under the result's name.

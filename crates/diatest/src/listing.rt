@@ -1,32 +1,32 @@
 //! The command `faults`: the faults of a netlist's circuit, each with its root and its name.
 
-ghost use Rattle.std.specs.Prelude.{◌≡◌, ◌<◌, ◌++◌, All, Err, Some, None, IfOk, OnOk, flat_map, length, map, string_bytes};
-ghost use Rattle.clap.specs.Words.{app_of};
+ghost use Rattle.std.specs.Prelude.{◌≡◌, ◌++◌, All, Some, IfOk, OnOk, flat_map, length};
+ghost use Rattle.clap.specs.Words.{app_of, found_of, rows_of};
 ghost use Rattle.std.specs.List.{range_with_len};
 ghost use Rattle.net_model.specs.Circuit.{line_count};
 ghost use Rattle.net_model.specs.FaultList.{faults};
-ghost use Rattle.fault_collapse.specs.Forest.{IsForestOf, number_count};
-ghost use Rattle.diatest.specs.Request.{list_faults, faults_app, faults_of};
+ghost use Rattle.fault_collapse.specs.Forest.{number_count};
+ghost use Rattle.diatest.specs.Request.{list_faults, faults_app, faults_by};
 ghost use Rattle.diatest.specs.Asked.{asked, HasLimits};
 ghost use Rattle.net_model.specs.Fault.{IsFaultOf};
 ghost use Rattle.diatest.specs.Texts.{fault_line, fault_fields};
 ghost use Rattle.diatest.specs.Faults.{IsFaultsText};
 ghost use Rattle.diatest.specs.Ran.{Ran};
 
-use crate::arguments::{WordsFault, bare_command, name_arg, name_in, parse};
+use crate::arguments::{bare_command, name_arg, name_in};
 use crate::ends::say;
 use crate::netlists::read_design;
 use crate::request::Request;
 use crate::texts::{count_text, line_start};
-use clap::Command;
+use clap::{ArgMatches, Command};
 use diag_shelf::Shelf;
 use fault_collapse::{Forest, collapse};
 use fault_list::{FaultList, list, name_text};
 use net_model::{Design, Fault};
 use std::alloc::{AllocError, Global};
 
-// A name.
-fn faults_command<'a>(alloc: Global) -> Result<Command<'a>, AllocError>
+/// A name.
+pub(crate) fn faults_command<'a>(alloc: Global) -> Result<Command<'a>, AllocError>
     ensures { IfOk result (λ c. app_of c ≡ faults_app) }
 {
     let bench = name_arg(alloc, "bench");
@@ -34,14 +34,12 @@ fn faults_command<'a>(alloc: Global) -> Result<Command<'a>, AllocError>
     Ok(whole)
 }
 
-/// The request of the words behind `faults`.
-pub(crate) fn read_faults(alloc: Global, words: &[String]) -> Result<Request<'_>, WordsFault>
-    ensures asked { IfOk result (λ request. faults_of (map string_bytes words.now) ≡ Some (asked request)) }
-    ensures limits { IfOk result HasLimits }
-    ensures refused { result ≡ Err WordsFault.NotUnderstood → faults_of (map string_bytes words.now) ≡ None }
+/// The request of its matches.
+pub(crate) fn faults_in<'a>(matches: &ArgMatches<'a>) -> Request<'a>
+    ensures asked { asked result ≡ faults_by (rows_of (found_of matches.now)) }
+    ensures limits { HasLimits result }
 {
-    let matches = parse(faults_command(alloc)?, words)?;
-    Ok(Request::ListFaults(name_in(&matches, "bench")))
+    Request::ListFaults(name_in(matches, "bench"))
 }
 
 /// Reads and judges the netlist, and prints the faults of its circuit.

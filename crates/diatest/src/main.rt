@@ -3,6 +3,7 @@
 
 mod arguments;
 mod cells;
+mod checks;
 mod commands;
 mod ends;
 mod generates;
@@ -10,6 +11,7 @@ mod listing;
 mod netlists;
 mod real;
 mod request;
+mod results;
 mod synths;
 #[cfg(test)]
 mod tests;

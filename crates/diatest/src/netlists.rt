@@ -5,12 +5,12 @@ ghost use Rattle.std.specs.declared.alloc.Global.{Global};
 ghost use Rattle.net_model.specs.Circuit.{line_count};
 ghost use Rattle.diatest.specs.Texts.{after_blank, loop_text};
 ghost use Rattle.diatest.specs.Netlists.{IsDesign, IsRefused};
-ghost use Rattle.diatest.specs.Steps.{fault_text, HasDesign, IsOver};
+ghost use Rattle.diatest.specs.Steps.{fault_text, WasAccepted, IsOver};
 
-use crate::ends::say;
+use crate::ends::{read_status, say};
 use crate::texts::{loop_start, refusal_text};
 use bench_reader::{NetFault, Place, read};
-use diag_shelf::{Shelf, ShelfFault, read_all};
+use diag_shelf::{Shelf, read_all};
 use net_model::{Design, Names};
 use scan_cut::cut;
 use std::alloc::{AllocError, Global};
@@ -29,13 +29,12 @@ pub(crate) enum Stop {
 /// status that is answered.
 pub(crate) fn read_design<S: Shelf>(alloc: Global, shelf: &mut S, bench: &str) -> Result<Design, u8>
     ensures named { IfOk result (λ design. length design.names ≡ line_count design.circuit) }
-    ensures ok { IfOk result (λ design. HasDesign bench.now design (S.state shelf.old) (S.state shelf.new)) }
-    ensures err { IfErr result (λ status. IsOver bench.now status (S.state shelf.old) (S.state shelf.new)) }
+    ensures ok { IfOk result (λ design. WasAccepted bench.now IsDesign design (S.state shelf.old) (S.state shelf.new)) }
+    ensures err { IfErr result (λ status. IsOver bench.now 3 IsRefused status (S.state shelf.old) (S.state shelf.new)) }
 {
     let bytes = match read_all(alloc, shelf, bench, NETLIST_LIMIT) {
         Ok(bytes) => bytes,
-        Err(ShelfFault::Failed) => return Err(7),
-        Err(ShelfFault::NoMemory) => return Err(9),
+        Err(fault) => return Err(read_status(fault)),
     };
     match judge(alloc, &bytes) {
         Ok(design) => Ok(design),

@@ -1,18 +1,18 @@
 //! The command `synth`: the netlist of a number is written, and a result for it.
 
-ghost use Rattle.std.specs.Prelude.{◌≡◌, ◌≤◌, [], ◌∷◌, Err, IfOk, Some, None, map, string_bytes};
-ghost use Rattle.clap.specs.Words.{app_of};
-ghost use Rattle.diatest.specs.Request.{synth, synth_app, synth_of, synth_budgets};
+ghost use Rattle.std.specs.Prelude.{◌≡◌, ◌≤◌, [], ◌∷◌, IfOk, Some};
+ghost use Rattle.clap.specs.Words.{app_of, found_of, rows_of};
+ghost use Rattle.diatest.specs.Request.{synth, synth_app, synth_by, synth_budgets};
 ghost use Rattle.diatest.specs.Asked.{asked, HasLimits};
 ghost use Rattle.diatest.specs.Ran.{Ran, SavesResult};
 
-use crate::arguments::{WordsFault, bare_command, name_arg, name_in, number_arg, number_in, parse};
+use crate::arguments::{bare_command, name_arg, name_in, number_arg, number_in};
 use crate::cells::{no_number_is_refused, synth_text};
 use crate::ends::write_status;
 use crate::generates::save_result;
 use crate::netlists::{Stop, judge};
 use crate::request::Request;
-use clap::Command;
+use clap::{ArgMatches, Command};
 use diag_shelf::{Shelf, write_all};
 use net_model::Circuit;
 use result_file::Budgets;
@@ -21,8 +21,8 @@ use std::alloc::{AllocError, Global};
 // The largest number of a netlist.
 const SYNTH_LIMIT: u32 = 2000;
 
-// A number and two names.
-fn synth_command<'a>(alloc: Global) -> Result<Command<'a>, AllocError>
+/// A number and two names.
+pub(crate) fn synth_command<'a>(alloc: Global) -> Result<Command<'a>, AllocError>
     ensures { IfOk result (λ c. app_of c ≡ synth_app) }
 {
     let number = number_arg(alloc, "n", SYNTH_LIMIT);
@@ -33,19 +33,18 @@ fn synth_command<'a>(alloc: Global) -> Result<Command<'a>, AllocError>
     Ok(whole)
 }
 
-/// The request of the words behind `synth`.
-pub(crate) fn read_synth(alloc: Global, words: &[String]) -> Result<Request<'_>, WordsFault>
-    ensures asked { IfOk result (λ request. synth_of (map string_bytes words.now) ≡ Some (asked request)) }
-    ensures limits { IfOk result HasLimits }
-    ensures refused { result ≡ Err WordsFault.NotUnderstood → synth_of (map string_bytes words.now) ≡ None }
+/// The request of its matches.
+pub(crate) fn synth_in<'a>(matches: &ArgMatches<'a>) -> Request<'a>
+    ensures asked { asked result ≡ synth_by (rows_of (found_of matches.now)) }
+    ensures limits { HasLimits result }
 {
-    let matches = parse(synth_command(alloc)?, words)?;
-    Ok(Request::Synth(
-        number_in(&matches, "n", 1, SYNTH_LIMIT),
-        name_in(&matches, "bench"),
-        name_in(&matches, "result"),
-    ))
+    Request::Synth(
+        number_in(matches, "n", 1, SYNTH_LIMIT),
+        name_in(matches, "bench"),
+        name_in(matches, "result"),
+    )
 }
+
 // The budgets of its result.
 const SYNTH_BUDGETS: Budgets = Budgets {
     blocks: 4,

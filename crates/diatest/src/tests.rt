@@ -6,6 +6,7 @@ use crate::cells::synth_text;
 use crate::commands::run;
 use diag_shelf::MemoryShelf;
 use std::alloc::{AllocError, Global};
+use std::process::Abort;
 use std::test::Fail;
 
 fn words(alloc: Global, all: &[&str]) -> Result<Vec<String>, AllocError> {
@@ -72,6 +73,16 @@ fn over(
     left_by(alloc, all, &mut shelf)
 }
 
+// A run of `check` over a shelf that moves so many bytes at a time and holds a netlist under `n` and a result under `r`.
+fn checked(alloc: Global, chunk: usize, netlist: &[u8], output: &[u8]) -> Result<Left, AllocError>
+    requires { 0 < chunk }
+{
+    let mut shelf = MemoryShelf::new(alloc, chunk, Vec::new(alloc));
+    shelf.put_file("n", netlist)?;
+    shelf.put_file("r", output)?;
+    left_by(alloc, &["check", "n", "r"], &mut shelf)
+}
+
 fn generated(alloc: Global, netlist: &[u8], all: &[&str]) -> Result<Left, AllocError> {
     over(alloc, 7, &[], netlist, all)
 }
@@ -101,13 +112,13 @@ fn results_of_small_circuits(rt: HostRuntime) -> Result<(), Fail> {
             b"numbers 7 patterns 4 classes 5 equal 2 open 0\n",
         ),
         (
-            b"INPUT(a)\nOUTPUT(z)\nb=NOT(a)\nz=OR(a,b)\n",
+            TRUTH,
             &["gen", "n", "r"],
             b"diatest 1 1 1 11\nbudget 4 64 2000\npattern 0\npattern 1\nsame 1 0 T 0 . .\nsame 2 0 T 0 . .\nsame 3 0 T 0 . .\nsame 6 0 T 0 . .\nsame 7 4 C\nsame 8 0 T 0 . .\nsame 10 0 T 0 . .\nclass 0 - -\nclass 1 0 0\nclass 2 0 1\nclass 3 1 1\nmember 0 0 rep\nmember 1 0 equal\nmember 2 0 equal\nmember 3 0 equal\nmember 4 1 rep\nmember 5 2 rep\nmember 6 0 equal\nmember 7 1 equal\nmember 8 0 equal\nmember 9 3 rep\nmember 10 0 equal\nend\n",
             b"numbers 11 patterns 2 classes 4 equal 7 open 0\n",
         ),
         (
-            b"INPUT(a)\nOUTPUT(z)\nb=NOT(a)\nz=OR(a,b)\n",
+            TRUTH,
             &["gen", "n", "r", "--cubes", "0", "--conflicts", "0"],
             b"diatest 1 1 1 11\nbudget 4 0 0\npattern 0\npattern 1\nsame 1 0 O ?\nsame 2 0 O ?\nsame 3 0 O ?\nsame 6 0 O ?\nsame 7 4 C\nsame 8 0 O ?\nsame 10 0 O ?\nclass 0 - -\nclass 1 0 0\nclass 2 0 1\nclass 3 1 1\nmember 0 0 rep\nmember 1 0 open\nmember 2 0 open\nmember 3 0 open\nmember 4 1 rep\nmember 5 2 rep\nmember 6 0 open\nmember 7 1 equal\nmember 8 0 open\nmember 9 3 rep\nmember 10 0 open\nend\n",
             b"numbers 11 patterns 2 classes 4 equal 1 open 6\n",
@@ -147,6 +158,185 @@ fn results_of_small_circuits(rt: HostRuntime) -> Result<(), Fail> {
         assert_eq!(rt; left.result.ok_or("no file")?.as_slice(), *result);
         assert_eq!(rt; left.console.as_slice(), *console);
     }
+    Ok(())
+}
+
+// An OR of a signal and its complement, and its result in pieces.
+const TRUTH: &[u8] = b"INPUT(a)\nOUTPUT(z)\nb=NOT(a)\nz=OR(a,b)\n";
+
+const HEAD: &[u8] = b"diatest 1 1 1 11\nbudget 4 64 2000\npattern 0\npattern 1\n";
+
+const SAME_1: &[u8] = b"same 1 0 T 0 . .\n";
+
+const SAME_2_TO_6: &[u8] = b"same 2 0 T 0 . .\nsame 3 0 T 0 . .\nsame 6 0 T 0 . .\n";
+
+const SAME_7: &[u8] = b"same 7 4 C\n";
+
+const SAME_8_TO_10: &[u8] = b"same 8 0 T 0 . .\nsame 10 0 T 0 . .\n";
+
+const TABLE: &[u8] =
+    b"class 0 - -\nclass 1 0 0\nclass 2 0 1\nclass 3 1 1\nmember 0 0 rep\nmember 1 0 equal\nmember 2 0 equal\nmember 3 0 equal\nmember 4 1 rep\nmember 5 2 rep\nmember 6 0 equal\nmember 7 1 equal\nmember 8 0 equal\nmember 9 3 rep\n";
+
+const LAST: &[u8] = b"member 10 0 equal\n";
+
+const END: &[u8] = b"end\n";
+
+fn joined(alloc: Global, pieces: &[&[u8]]) -> Result<Vec<u8>, AllocError> {
+    let mut text = Vec::new(alloc);
+    for piece in pieces {
+        text.extend_from_slice(*piece)?;
+    }
+    Ok(text)
+}
+
+// The result as it was made; with a tree of one closed leaf, and with a tree that has an open leaf; without a line of
+// evidence, and with evidence of another kind; with a pattern twice; with another mark, and without the end. Bytes come one
+// by one, and all at once.
+#[test]
+fn results_that_are_checked(rt: HostRuntime) -> Result<(), Fail> {
+    let cases: [(&[&[u8]], u8, &[u8]); 8] = [
+        (
+            &[
+                HEAD,
+                SAME_1,
+                SAME_2_TO_6,
+                SAME_7,
+                SAME_8_TO_10,
+                TABLE,
+                LAST,
+                END,
+            ],
+            0,
+            b"valid numbers 11 patterns 2 classes 4 equal 7 open 0\n",
+        ),
+        (
+            &[
+                HEAD,
+                b"same 1 0 T .\n",
+                SAME_2_TO_6,
+                SAME_7,
+                SAME_8_TO_10,
+                TABLE,
+                LAST,
+                END,
+            ],
+            4,
+            b"result: Evidence LeafOpen at step 0, line 5\n",
+        ),
+        (
+            &[
+                HEAD,
+                b"same 1 0 T 0 . ?\n",
+                SAME_2_TO_6,
+                SAME_7,
+                SAME_8_TO_10,
+                TABLE,
+                LAST,
+                END,
+            ],
+            4,
+            b"result: Evidence WrongCount at step 3, line 5\n",
+        ),
+        (
+            &[HEAD, SAME_1, SAME_2_TO_6, SAME_8_TO_10, TABLE, LAST, END],
+            4,
+            b"result: Member at line 9\n",
+        ),
+        (
+            &[
+                HEAD,
+                SAME_1,
+                SAME_2_TO_6,
+                b"same 7 4 T 0 . .\n",
+                SAME_8_TO_10,
+                TABLE,
+                LAST,
+                END,
+            ],
+            4,
+            b"result: Roots at line 9\n",
+        ),
+        (
+            &[
+                HEAD,
+                b"pattern 1\n",
+                SAME_1,
+                SAME_2_TO_6,
+                SAME_7,
+                SAME_8_TO_10,
+                TABLE,
+                LAST,
+                END,
+            ],
+            4,
+            b"result: Pattern at line 5\n",
+        ),
+        (
+            &[
+                HEAD,
+                SAME_1,
+                SAME_2_TO_6,
+                SAME_7,
+                SAME_8_TO_10,
+                TABLE,
+                b"member 10 0 open\n",
+                END,
+            ],
+            4,
+            b"result: Table at line 26\n",
+        ),
+        (
+            &[HEAD, SAME_1, SAME_2_TO_6, SAME_7, SAME_8_TO_10, TABLE, LAST],
+            4,
+            b"result: Order at line 27\n",
+        ),
+    ];
+    for (pieces, status, console) in &cases {
+        let result = joined(rt.alloc(), *pieces)?;
+        for chunk in [1usize, 4096] {
+            let left = checked(rt.alloc(), chunk, TRUTH, &result)?;
+            assert_eq!(rt; left.status, *status);
+            assert_eq!(rt; left.console.as_slice(), *console);
+            assert!(rt; left.result.ok_or("no file")?.as_slice() == result.as_slice());
+        }
+    }
+    Ok(())
+}
+
+// A refutation of one empty clause, and one that names a clause that isn't there; a refused netlist and an absent result.
+#[test]
+fn other_ends_of_a_check(rt: HostRuntime) -> Result<(), Fail> {
+    let alloc = rt.alloc();
+    let start: &[u8] = b"diatest 1 1 0 3\nbudget 4 0 2000\n";
+    let end: &[u8] =
+        b"same 2 0 R ? ; 1\nclass 0 - -\nmember 0 0 rep\nmember 1 0 equal\nmember 2 0 equal\nend\n";
+    let cases: [(&[u8], u8, &[u8]); 2] = [
+        (
+            b"same 1 0 R ? ; 1\n",
+            0,
+            b"valid numbers 3 patterns 0 classes 1 equal 2 open 0\n",
+        ),
+        (
+            b"same 1 0 R ? ; 2\n",
+            4,
+            b"result: Evidence NoSuchClause at step 0, line 3\n",
+        ),
+    ];
+    for (line, status, console) in &cases {
+        let result = joined(alloc, &[start, *line, end])?;
+        let left = checked(alloc, 7, b"INPUT(a)\n", &result)?;
+        assert_eq!(rt; left.status, *status);
+        assert_eq!(rt; left.console.as_slice(), *console);
+    }
+    let refused = over(alloc, 7, &[], b"z=NOT(Z)\n", &["check", "n", "r"])?;
+    assert_eq!(rt; refused.status, 3);
+    assert_eq!(rt;
+        refused.console.as_slice(),
+        b"netlist: Undriven at byte 6, line 1\n".as_slice()
+    );
+    let absent = over(alloc, 7, &[], b"", &["check", "n", "r"])?;
+    assert_eq!(rt; absent.status, 7);
+    assert!(rt; absent.console.is_empty());
     Ok(())
 }
 
@@ -213,6 +403,7 @@ fn summaries_of_known_circuits(rt: HostRuntime) -> Result<(), Fail> {
         let left = generated(rt.alloc(), *netlist, &["gen", "n", "r"])?;
         assert_eq!(rt; left.status, 0);
         assert!(rt; left.console.as_slice().ends_with(*console));
+        accepted(&rt, rt.alloc(), *netlist, &left)?;
     }
     Ok(())
 }
@@ -238,6 +429,7 @@ fn searches_of_known_circuits(rt: HostRuntime) -> Result<(), Fail> {
         let left = generated(rt.alloc(), *netlist, *all)?;
         assert_eq!(rt; left.status, 0);
         assert!(rt; left.console.as_slice().ends_with(*console));
+        accepted(&rt, rt.alloc(), *netlist, &left)?;
         assert!(rt; left.result.ok_or("no file")?.as_slice().starts_with(*start));
     }
     Ok(())
@@ -253,6 +445,7 @@ fn a_pair_that_the_search_leaves_open(rt: HostRuntime) -> Result<(), Fail> {
         &["gen", "n", "r", "--cubes", "4", "--conflicts", "1"],
     )?;
     assert_eq!(rt; left.status, 0);
+    accepted(&rt, rt.alloc(), PARITY, &left)?;
     let file = left.result.ok_or("no file")?;
     assert!(rt;
         file.as_slice()
@@ -280,6 +473,16 @@ fn a_pair_that_the_search_leaves_open(rt: HostRuntime) -> Result<(), Fail> {
             groups == 1 || groups == 2
         }
     );
+    Ok(())
+}
+
+// What a run left is a result that `check` accepts, with the same counts.
+fn accepted(rt: &impl Abort, alloc: Global, netlist: &[u8], left: &Left) -> Result<(), Fail> {
+    let result = left.result.as_ref().ok_or("no file")?;
+    let again = checked(alloc, 4096, netlist, result)?;
+    assert_eq!(rt; again.status, 0);
+    assert!(rt; again.console.as_slice().starts_with(b"valid "));
+    assert!(rt; again.console.as_slice().ends_with(&left.console));
     Ok(())
 }
 
@@ -352,7 +555,7 @@ fn refusals_create_no_file(rt: HostRuntime) -> Result<(), Fail> {
 
 #[test]
 fn words_that_are_not_understood(rt: HostRuntime) -> Result<(), Fail> {
-    let wrong: [&[&str]; 18] = [
+    let wrong: [&[&str]; 20] = [
         &[],
         &["generate", "n", "r"],
         &["gen", "n"],
@@ -370,6 +573,8 @@ fn words_that_are_not_understood(rt: HostRuntime) -> Result<(), Fail> {
         &["gen", "n", "--r"],
         &["gen", "--help"],
         &["synth", "0", "n", "r"],
+        &["check", "n"],
+        &["check", "n", "r", "--cubes", "1"],
         &["synth", "2001", "n", "r"],
     ];
     for all in &wrong {
@@ -436,7 +641,7 @@ fn results_of_a_netlist_by_number(rt: HostRuntime) -> Result<(), Fail> {
     assert_eq!(rt; apart.status, 0);
     assert_eq!(rt; joined.status, 0);
     assert!(rt; apart.console.as_slice() == joined.console.as_slice());
-    let result = apart.result.ok_or("no file")?;
+    let result = apart.result.as_ref().ok_or("no file")?;
     assert!(rt;
         result
             .as_slice()
@@ -444,7 +649,9 @@ fn results_of_a_netlist_by_number(rt: HostRuntime) -> Result<(), Fail> {
     );
     assert!(rt; joined.result.ok_or("no file")?.as_slice() == result.as_slice());
     assert!(rt; none.is_none());
-    assert!(rt; netlist.ok_or("no file")?.as_slice() == synth_text(alloc, 8)?.as_slice());
+    let netlist = netlist.ok_or("no file")?;
+    assert!(rt; netlist.as_slice() == synth_text(alloc, 8)?.as_slice());
+    accepted(&rt, rt.alloc(), &netlist, &apart)?;
     Ok(())
 }
 

@@ -1,10 +1,11 @@
 //! The lines of the console.
 
 ghost use Rattle.std.specs.Prelude.{◌≡◌, IfOk, string_bytes};
-ghost use Rattle.diatest.specs.Texts.{kind_name, refusal_text, loop_start, line_start, count_text, summary_text};
+ghost use Rattle.diatest.specs.Texts.{kind_name, refusal_text, loop_start, line_start, count_text, summary_text, valid_text, evidence_rule, evidence_text, result_rule, result_text};
 
 use bench_reader::{NetKind, Place};
-use result_file::Summary;
+use refute_check::{Refusal, RefusalKind};
+use result_file::{ResultFault, ResultKind, Summary};
 use std::alloc::{AllocError, Global};
 
 fn kind_name(kind: NetKind) -> &'static str
@@ -71,4 +72,65 @@ pub(crate) fn summary_text(alloc: Global, summary: Summary) -> Result<String, Al
     format!(in alloc;
         "numbers {numbers} patterns {patterns} classes {classes} equal {equal} open {spent}\n"
     )
+}
+
+/// What a valid result amounts to.
+#[tactic(auto, unfolding(crate::specs::Texts::valid_text))]
+pub(crate) fn valid_text(alloc: Global, summary: Summary) -> Result<String, AllocError>
+    ensures { IfOk result (λ text. string_bytes text ≡ valid_text summary) }
+{
+    let counts = summary_text(alloc, summary)?;
+    format!(in alloc; "valid {counts}")
+}
+
+/// Why a result is refused.
+#[tactic(auto, unfolding(crate::specs::Texts::result_text))]
+pub(crate) fn result_text(alloc: Global, fault: ResultFault) -> Result<String, AllocError>
+    ensures { IfOk result (λ text. string_bytes text ≡ result_text fault) }
+{
+    let rule = rule_text(alloc, fault.kind)?;
+    let line = fault.line;
+    format!(in alloc; "result: {rule}line {line}\n")
+}
+
+// The rule that a line breaks.
+fn rule_text(alloc: Global, kind: ResultKind) -> Result<String, AllocError>
+    ensures { IfOk result (λ text. string_bytes text ≡ result_rule kind) }
+{
+    match kind {
+        ResultKind::Syntax => String::from_str(alloc, "Syntax at "),
+        ResultKind::Head => String::from_str(alloc, "Head at "),
+        ResultKind::Order => String::from_str(alloc, "Order at "),
+        ResultKind::Pattern => String::from_str(alloc, "Pattern at "),
+        ResultKind::Member => String::from_str(alloc, "Member at "),
+        ResultKind::Roots => String::from_str(alloc, "Roots at "),
+        ResultKind::Evidence(refusal) => evidence_text(alloc, refusal),
+        ResultKind::Table => String::from_str(alloc, "Table at "),
+        ResultKind::TooLong => String::from_str(alloc, "TooLong at "),
+    }
+}
+
+// The rule that evidence breaks, and at which token or chain.
+#[tactic(auto, unfolding(crate::specs::Texts::evidence_text))]
+fn evidence_text(alloc: Global, refusal: Refusal) -> Result<String, AllocError>
+    ensures { IfOk result (λ text. string_bytes text ≡ evidence_text refusal) }
+{
+    let rule = evidence_rule(refusal.kind);
+    let step = refusal.step;
+    format!(in alloc; "Evidence {rule} at step {step}, ")
+}
+
+fn evidence_rule(kind: RefusalKind) -> &'static str
+    ensures { result.now ≡ evidence_rule kind }
+{
+    match kind {
+        RefusalKind::NoSuchClause => "NoSuchClause",
+        RefusalKind::NoPivot => "NoPivot",
+        RefusalKind::NotEmpty => "NotEmpty",
+        RefusalKind::EmptyEarly => "EmptyEarly",
+        RefusalKind::NotFresh => "NotFresh",
+        RefusalKind::LeafOpen => "LeafOpen",
+        RefusalKind::BadTree => "BadTree",
+        RefusalKind::WrongCount => "WrongCount",
+    }
 }

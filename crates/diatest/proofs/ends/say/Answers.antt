@@ -7,4 +7,4 @@ returns-in-Ok g c = ends_said c.requires c.in-Ok.ensures.call c.in-Ok.ensures.pr
 
 pub returns-in-Err : goal.returns-in-Err
 returns-in-Err g c =
-    ends_said_part c.requires c.in-Err.ensures.call c.in-Err.ensures.err (λ s e. c.in-Err.ensures.sure s (ap Err e)) (record { failed = c.write_status.ensures.failed; memory = c.write_status.ensures.memory })
+    ends_said_part c.requires c.in-Err.ensures.call c.in-Err.ensures.err (λ s e. c.in-Err.ensures.sure s (ap Err e)) c.write_status.ensures

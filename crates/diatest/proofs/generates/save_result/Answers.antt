@@ -2,32 +2,23 @@ use Rattle.std.proofs.Common.{ap, Err, [], ◌∷◌, refl, sym, subst, ◌∙�
 use Rattle.std.proofs.Math.Nat.{le_refl}
 use Rattle.std.proofs.lemmas.List.{take_all}
 use Rattle.dia_gen.specs.Made.{IsMade}
-use Rattle.dia_gen.proofs.Written.{nothing_cut}
 use Rattle.diatest.specs.Texts.{summary_text}
-use Rattle.diatest.specs.Outcome.{saved, IsPartOf, whole_result, cut_result}
-use Rattle.diatest.proofs.Runs.{status_of, not_done, ends_unmade, ends_cut, ends_after, ends_silent, part_after, told_file}
+use Rattle.diatest.specs.Outcome.{saved, IsPartOf}
+use Rattle.diatest.proofs.Runs.{ends_after, ends_silent, part_after, told_file}
+use Rattle.diatest.proofs.Generated.{whole_result, cut_result, saves_none, saves_cut}
 use Rattle.diatest.proofs.generates.save_result.Goals as goal
 
 pub returns-in-Err : goal.returns-in-Err
-returns-in-Err g c = record {
-  file = [];
-  text = [];
-  ends = ends_unmade (cut_result [] nothing_cut tt refl) c.in-Err.ensures.call c.in-Err.ensures.err (λ s e. c.in-Err.ensures.sure s (ap Err e)) (record { failed = c.write_status.ensures.failed; memory = c.write_status.ensures.memory });
-  made = λ z. absurd (not_done c.write_status.result (status_of c.in-Err.fault c.write_status.result (record { failed = c.write_status.ensures.failed; memory = c.write_status.ensures.memory })) z);
-}
+returns-in-Err g c = saves_none c.in-Err.ensures.call c.in-Err.ensures.err (λ s e. c.in-Err.ensures.sure s (ap Err e)) c.write_status.ensures
 
 pub returns-in-Err-generate : goal.returns-in-Err-generate
-returns-in-Err-generate g c = record {
-  file = [];
-  text = [];
-  ends = ends_cut (g.met.S.Shelf.sure_tells _) c.in_default.ensures.call c.in_default.ensures.created c.in-Err-generate.ensures.call
-      (λ told.
-      let w = c.in-Err-generate.ensures.err told in
-      (w.0, cut_result w.0 w.1 (refl, (length w.0, le_refl (length w.0), sym (take_all (length w.0) w.0 (le_refl (length w.0))))) refl, w.2))
-      (λ s e. absurd (c.in-Err-generate.ensures.never s (ap Err e)))
-      (record { failed = c.write_status-in-Err-generate.ensures.failed; memory = c.write_status-in-Err-generate.ensures.memory });
-  made = λ z. absurd (not_done c.write_status-in-Err-generate.result (status_of c.in-Err-generate.fault c.write_status-in-Err-generate.result (record { failed = c.write_status-in-Err-generate.ensures.failed; memory = c.write_status-in-Err-generate.ensures.memory })) z);
-}
+returns-in-Err-generate g c =
+    saves_cut (g.met.S.Shelf.sure_tells _) c.in_default.ensures.call c.in_default.ensures.created c.in-Err-generate.ensures.call
+    (λ told.
+    let w = c.in-Err-generate.ensures.err told in
+    (w.0, cut_result w.0 w.1 (refl, (length w.0, le_refl (length w.0), sym (take_all (length w.0) w.0 (le_refl (length w.0))))), w.2))
+    (λ s e. absurd (c.in-Err-generate.ensures.never s (ap Err e)))
+    c.write_status-in-Err-generate.ensures
 
 pub returns-in_default-summary_text : goal.returns-in_default-summary_text
 returns-in_default-summary_text g c =

@@ -1,9 +1,12 @@
-use Rattle.std.proofs.Common.{List, ℕ, subst}
+use Rattle.std.proofs.Common.{List, ℕ, Err, ap, subst}
 use Rattle.diag_shelf.proofs.Steps.{facts_same, facts_after_read}
 use Rattle.diatest.specs.Netlists.{IsDesign, IsRefused}
-use Rattle.diatest.proofs.NetlistLemmas.{design_read}
-use Rattle.diatest.proofs.Generated.{over_refused}
+use Rattle.diatest.proofs.NetlistLemmas.{design_read, refused_read}
+use Rattle.diatest.proofs.Followed.{over_fault, over_memory, over_refused}
 use Rattle.diatest.proofs.netlists.read_design.Goals as goal
+
+pub returns-in-Err-clause-err : goal.returns-in-Err-clause-err
+returns-in-Err-clause-err g c = over_fault c.in-Err.fault c.in-Err.ensures.call c.in-Err.ensures.others (λ s e. c.in-Err.ensures.sure s (ap Err e)) c.read_status.ensures
 
 pub returns-in-Ok-judge-clause-ok : goal.returns-in-Ok-judge-clause-ok
 returns-in-Ok-judge-clause-ok g c =
@@ -15,7 +18,11 @@ returns-in-Ok-judge-clause-ok g c =
     }
 
 pub returns-in-Err-Refused-clause-err : goal.returns-in-Err-Refused-clause-err
-returns-in-Err-Refused-clause-err g c request same =
+returns-in-Err-Refused-clause-err g c =
     let text = c.in-Err-Refused.text.items in
     let refused : IsRefused c.in-Ok.bytes.items text = subst (λ (b : List ℕ). IsRefused b text) c.deref.ensures.value (c.in-Err-Refused.ensures.refused c.in-Err-Refused.text (cc)) in
-    over_refused (facts_after_read _ _ _ _ (facts_same _) c.in-Ok.ensures.call) c.in-Ok.ensures.others (λ told. c.in-Ok.ensures.bytes told) refused (rw c.deref-in-Err-Refused.ensures.value at c.say.ensures) request same
+    over_refused (facts_after_read _ _ _ _ (facts_same _) c.in-Ok.ensures.call) c.in-Ok.ensures.others (λ told. let r = c.in-Ok.ensures.bytes told in (r.0, r.1, refused_read r.2 refused))
+    (rw c.deref-in-Err-Refused.ensures.value at c.say.ensures)
+
+pub returns-clause-err : goal.returns-clause-err
+returns-clause-err g c = over_memory (facts_after_read _ _ _ _ (facts_same _) c.in-Ok.ensures.call) c.in-Ok.ensures.others

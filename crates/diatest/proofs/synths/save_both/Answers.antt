@@ -1,30 +1,20 @@
 use Rattle.std.proofs.Common.{ap, Err, [], refl, take, ◌∙◌}
 use Rattle.dia_gen.proofs.Written.{nothing_cut}
-use Rattle.diatest.specs.Outcome.{cut_result}
-use Rattle.diatest.proofs.Runs.{status_of, not_done, ends_unmade, ends_cut, ends_after}
-use Rattle.diatest.proofs.Generated.{result_after}
+use Rattle.diatest.proofs.Runs.{ends_after}
+use Rattle.diatest.proofs.Generated.{result_after, cut_result, saves_none, saves_cut}
 use Rattle.diatest.proofs.synths.save_both.Goals as goal
 
 pub returns-in-Err : goal.returns-in-Err
-returns-in-Err g c = record {
-  file = [];
-  text = [];
-  ends = ends_unmade (cut_result [] nothing_cut tt refl) c.in-Err.ensures.call c.in-Err.ensures.err (λ s e. c.in-Err.ensures.sure s (ap Err e)) (record { failed = c.write_status.ensures.failed; memory = c.write_status.ensures.memory });
-  made = λ z. absurd (not_done c.write_status.result (status_of c.in-Err.fault c.write_status.result (record { failed = c.write_status.ensures.failed; memory = c.write_status.ensures.memory })) z);
-}
+returns-in-Err g c = saves_none c.in-Err.ensures.call c.in-Err.ensures.err (λ s e. c.in-Err.ensures.sure s (ap Err e)) c.write_status.ensures
 
 pub returns-in-Err-write_all : goal.returns-in-Err-write_all
-returns-in-Err-write_all g c = record {
-  file = [];
-  text = [];
-  ends = ends_cut (g.met.S.Shelf.sure_tells _) c.in_default.ensures.call c.in_default.ensures.created c.in-Err-write_all.ensures.call
-      (λ told.
-      let w = c.in-Err-write_all.ensures.err told in
-      (take w.0 c.args.text.now, cut_result [] nothing_cut (refl, (w.0, w.1, refl)) refl, w.2))
-      (λ s e. c.in-Err-write_all.ensures.sure s (ap Err e))
-      (record { failed = c.write_status-in-Err-write_all.ensures.failed; memory = c.write_status-in-Err-write_all.ensures.memory });
-  made = λ z. absurd (not_done c.write_status-in-Err-write_all.result (status_of c.in-Err-write_all.fault c.write_status-in-Err-write_all.result (record { failed = c.write_status-in-Err-write_all.ensures.failed; memory = c.write_status-in-Err-write_all.ensures.memory })) z);
-}
+returns-in-Err-write_all g c =
+    saves_cut (g.met.S.Shelf.sure_tells _) c.in_default.ensures.call c.in_default.ensures.created c.in-Err-write_all.ensures.call
+    (λ told.
+    let w = c.in-Err-write_all.ensures.err told in
+    (take w.0 c.args.text.now, cut_result [] nothing_cut (refl, (w.0, w.1, refl)), w.2))
+    (λ s e. c.in-Err-write_all.ensures.sure s (ap Err e))
+    c.write_status-in-Err-write_all.ensures
 
 pub returns : goal.returns
 returns g c =

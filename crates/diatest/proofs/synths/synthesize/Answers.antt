@@ -1,10 +1,9 @@
-use Rattle.std.proofs.Common.{◌≡◌, ◌∙◌, ◌∷◌, [], ℕ, List, IsTrue, refl, subst}
+use Rattle.std.proofs.Common.{◌∙◌, ◌∷◌, [], ℕ, List, refl, inl, inr, subst}
 use Rattle.diatest.specs.Request.{synth_budgets}
 use Rattle.diatest.specs.Synth.{synth_text}
 use Rattle.diatest.specs.Netlists.{IsDesign, IsRefused}
 use Rattle.diatest.specs.Ran.{SavesResult}
-use Rattle.diatest.proofs.Runs.{ran}
-use Rattle.diatest.proofs.Generated.{fits_synth, synth_called, synth_may}
+use Rattle.diatest.proofs.Generated.{no_read, both_follows}
 use Rattle.diatest.proofs.synths.synthesize.Goals as goal
 
 pub unreachable-requires : goal.unreachable-requires
@@ -20,11 +19,7 @@ returns-in-Ok-judge g c =
     let output = c.args.output.now in
     let design = c.in-Ok-judge.design in
     let state = g.S.Shelf.state in
-    let files = (state c.args.shelf.now).world.files in
     let accepted : IsDesign (synth_text n) design = subst (λ (b : List ℕ). IsDesign b design) (c.deref.ensures.value ∙ c.in-Ok.ensures) c.in-Ok-judge.ensures.ok in
     let saves : SavesResult design.circuit synth_budgets ((bench, synth_text n) ∷ []) output c.save_both.result (state c.args.shelf.now) (state c.save_both.new.shelf) =
     subst (λ (text : List ℕ). SavesResult design.circuit synth_budgets ((bench, text) ∷ []) output c.save_both.result (state c.args.shelf.now) (state c.save_both.new.shelf)) (c.deref-in-Ok-judge.ensures.value ∙ c.in-Ok.ensures) c.save_both.ensures in
-    let called = λ (z : c.save_both.result ≡ 0) (told : IsTrue (state c.args.shelf.now).tells).
-    (let made = saves.made z told in
-    synth_called n bench output files accepted made.0 saves.file saves.text made.1 made.2) in
-    ran (fits_synth n bench output design.circuit saves.file saves.text) called (λ told. synth_may n bench output files accepted) saves.ends
+    both_follows bench (synth_text n) output no_read (inl refl) (λ file. (inl refl, (inr (inl refl), tt))) accepted saves

@@ -1,0 +1,13 @@
+use Rattle.diatest.proofs.NetlistLemmas.{HasLaws, clear}
+use Rattle.diatest.proofs.commands.files_are_judged_once.Goals as goal
+
+pub returns : goal.returns
+returns c =
+    let laws : HasLaws = record {
+      text = c.never_accepted_and_refused.ensures;
+      one = c.one_netlist.ensures;
+      none = c.none_reaches_itself.ensures;
+      walk = c.walk_reaches_itself.ensures;
+      results = c.file_is_refused_once.ensures.wrong;
+    } in
+    clear laws
