@@ -1,0 +1,98 @@
+-- Pass/fail entries from where answers differ from the fault-free ones.
+use Rattle.std.proofs.Common.{◌≡◌, ◌∙◌, ℕ, zero, suc, ◌+◌, ◌*◌, ◌<◌, ◌≤◌, Bool, true, false, not, List, [], ◌∷◌, ◌++◌, length, get_or, map, refl, sym, ap, subst, arith}
+use Rattle.std.specs.Prelude.{flat_map, All}
+use Rattle.std.proofs.lemmas.List.{ext_get_or, get_or-map, get_or_default, length-map}
+use Rattle.std.proofs.lemmas.List.Concat.{flat_map-cons}
+use Rattle.std.proofs.lemmas.List.Elements.{All-head, All-tail}
+use Rattle.std.proofs.lemmas.Slice.Zip.{AllZip-long}
+use Rattle.net_model.specs.declared.fault.Fault.TheVariants.{Free}
+use Rattle.net_model.specs.Circuit.{Circuit, IsCircuit}
+use Rattle.net_model.specs.Answer.{bit_at, IsAnswer}
+use Rattle.net_model.specs.FaultList.{faults, fault_count, fault_numbered}
+use Rattle.net_model.specs.ClassTable.{same_bits}
+use Rattle.net_model.specs.PatternRows.{IsAnswerRow}
+use Rattle.net_model.proofs.Copies.{same_bits_same_list}
+use Rattle.class_refine.proofs.Ranges.{zip_at}
+use Rattle.kept_vectors.proofs.AnswerLemmas.{answer_width, answer_in_row}
+use Rattle.kept_vectors.proofs.KeepLemmas.{some_number}
+use Rattle.table_dicts.specs.Rows.{AreRows, row_at}
+use Rattle.table_dicts.specs.AnswerTable.{Answers, answer_in, answer_to, answer_bit, HasSizes, IsTable, AreAnswers}
+use Rattle.table_dicts.specs.Entries.{answers_of, full_entry, free_baselines, pass_fail_entry}
+use Rattle.table_dicts.specs.Blocks.{IsAnswerBit, IsFailBit, AreRightTo}
+use Rattle.table_dicts.proofs.EntryLemmas.{length-answers, answer_at, answers_are, length-entry, entry_bit}
+
+-- ---- entries of one bit for each pattern
+
+one_bit : (xs : List Bool) → length xs ≡ 1 → xs ≡ bit_at xs 0 ∷ []
+one_bit [] e = absurd (omega (arith, e))
+one_bit (x ∷ []) e = refl
+one_bit (x ∷ y ∷ xs) e = absurd (omega (arith, e))
+
+single : (rows : List (List (List Bool))) (number : ℕ) → All (λ row. length (answer_in row number) ≡ 1) rows → flat_map (λ row. answer_in row number) rows ≡ map (λ row. bit_at (answer_in row number) 0) rows
+single [] number all = refl
+single (row ∷ rows) number all =
+    let head = one_bit (answer_in row number) (All-head (λ row. length (answer_in row number) ≡ 1) row rows all) in
+    flat_map-cons (λ row. answer_in row number) row rows ∙ (λ i. head i ++ single rows number (All-tail (λ row. length (answer_in row number) ≡ 1) row rows all) i)
+
+module _ (bits : Answers) (is : IsTable bits) (one : bits.positions ≡ 1) (number : ℕ) (h : number < bits.numbers) where
+  pub entry_is : full_entry bits.rows number ≡ map (λ row. bit_at (answer_in row number) 0) bits.rows
+  entry_is = single bits.rows number (λ k d below. subst (λ row. length (answer_in row number) ≡ 1) (get_or_default bits.rows k [] d below) (is.positions k number below h ∙ one))
+
+  pub entry_bit_is : (pattern : ℕ) → pattern < length bits.rows → bit_at (full_entry bits.rows number) pattern ≡ answer_bit bits pattern number 0
+  entry_bit_is pattern below = ap (λ (xs : List Bool). bit_at xs pattern) entry_is ∙ get_or-map (λ row. bit_at (answer_in row number) 0) bits.rows pattern [] false below
+
+  pub length-entry_is : length (full_entry bits.rows number) ≡ length bits.rows
+  length-entry_is = ap length entry_is ∙ length-map bits.rows (λ row. bit_at (answer_in row number) 0)
+
+-- number 0 is the fault-free circuit
+first_is_free : (c : Circuit) → fault_numbered c 0 ≡ Free
+unfolding faults
+first_is_free c = refl
+
+module _ (c : Circuit) (patterns : List (List Bool)) (t : Answers) (are : AreAnswers c patterns t) where
+  pub patterns_are : length t.rows ≡ length patterns
+  patterns_are = AllZip-long (IsAnswerRow c) patterns t.rows are.rows
+
+  row_is : (p : ℕ) → p < length patterns → IsAnswerRow c (get_or patterns p []) (get_or t.rows p [])
+  row_is p h = zip_at (IsAnswerRow c) patterns t.rows p [] [] are.rows h
+
+  answer_is : (p n : ℕ) → p < length patterns → n < fault_count c → IsAnswer c (fault_numbered c n) (get_or patterns p []) (answer_to t p n)
+  answer_is p n hp hn = answer_in_row c (get_or patterns p []) (get_or t.rows p []) (row_is p hp) n hn
+
+  free_is : (p : ℕ) → p < length patterns → IsAnswer c Free (get_or patterns p []) (answer_to t p 0)
+  free_is p h = subst (λ f. IsAnswer c f (get_or patterns p []) (answer_to t p 0)) (first_is_free c) (answer_is p 0 h (some_number c))
+
+  pub is_table : IsTable t
+  is_table = record {
+    numbers = λ p h. AllZip-long (λ f answer. IsAnswer c f (get_or patterns p []) answer) (faults c) (get_or t.rows p []) (row_is p (omega (arith, h, patterns_are))) ∙ sym are.numbers;
+    positions = λ p n hp hn. answer_width (answer_is p n (omega (arith, hp, patterns_are)) (omega (arith, hn, are.numbers))) ∙ sym are.positions;
+  }
+
+  module _ (free : Answers) (is : IsTable free) (right : AreRightTo (IsAnswerBit c patterns) (length patterns) 1 (length c.positions) (length patterns) free) where
+    -- right answers of number 0 are the fault-free baselines
+    pub baselines_are : answers_of free.rows 0 ≡ free_baselines t.rows
+    baselines_are =
+        let sizes = right.sizes in
+        ext_get_or [] (answers_of free.rows 0) (answers_of t.rows 0) (length-answers free 0 ∙ (sizes.patterns_are ∙ (sym patterns_are ∙ sym (length-answers t 0)))) (λ p h.
+        let inside : p < length patterns = omega (arith, h, length-answers free 0, sizes.patterns_are) in
+        let of = answer_is p 0 inside (some_number c) in
+        let long : length (answer_to free p 0) ≡ length c.positions = is.positions p 0 (omega (arith, inside, sizes.patterns_are)) (omega (arith, sizes.numbers_are)) ∙ sizes.positions_are in
+        answer_at free p 0 (omega (arith, inside, sizes.patterns_are))
+        ∙ (same_bits_same_list (answer_to free p 0) (answer_to t p 0) (long ∙ sym (answer_width of)) (λ k hk. right.each p 0 k inside (omega arith) (omega (arith, hk, long)) (answer_to t p 0) of)
+        ∙ sym (answer_at t p 0 (omega (arith, inside, patterns_are)))))
+
+  module _ (bits : Answers) (is : IsTable bits) (right : AreRightTo (IsFailBit c patterns) (length patterns) (fault_count c) 1 (length patterns) bits) where
+    -- right bits are the pass/fail entries
+    pub fails_are : (number : ℕ) → number < fault_count c → full_entry bits.rows number ≡ pass_fail_entry t.rows number
+    fails_are number h =
+        let sizes = right.sizes in
+        let own : number < bits.numbers = omega (arith, h, sizes.numbers_are) in
+        let zero_in : 0 < t.numbers = omega (arith, some_number c, are.numbers) in
+        let baselines = answers_are t is_table 0 zero_in in
+        let long = length-entry_is bits is sizes.positions_are number own in
+        same_bits_same_list (full_entry bits.rows number) (pass_fail_entry t.rows number) (long ∙ (sizes.patterns_are ∙ (sym patterns_are ∙ sym (length-entry t (free_baselines t.rows) baselines number)))) (λ p hp.
+        let inside : p < length patterns = omega (arith, hp, long, sizes.patterns_are) in
+        let in_table : p < length t.rows = omega (arith, inside, patterns_are) in
+        entry_bit_is bits is sizes.positions_are number own p (omega (arith, hp, long))
+        ∙ (right.each p number 0 inside h (omega arith) (answer_to t p number) (answer_to t p 0) (answer_is p number inside h) (free_is p inside)
+        ∙ (ap (λ (b : List Bool). not (same_bits (answer_to t p number) b)) (sym (answer_at t p 0 in_table)) ∙ entry_bit t (free_baselines t.rows) baselines p number in_table)))

@@ -1,0 +1,23 @@
+use Rattle.std.proofs.Common.{◌∙◌, ◌<◌, sym, ap, length, arith}
+use Rattle.table_dicts.specs.Rows.{row_bit}
+use Rattle.table_dicts.specs.AnswerTable.{Answers, answer_bit}
+use Rattle.table_dicts.proofs.RowLemmas.{width_at}
+use Rattle.table_dicts.proofs.TableLemmas.{patterns_are, bit_is, place_inside}
+use Rattle.table_dicts.proofs.answer_table.AnswerTable.get.Goals as goal
+
+pub get-requires-clause-at : goal.get-requires-clause-at
+get-requires-clause-at c =
+    let a = c.self.inside in
+    let hp : c.args.pattern < a.patterns = omega (arith, c.requires.pattern, ap (λ (t : Answers). length t.rows) c.self.view_is, patterns_are a c.self.invariant) in
+    let hn : c.args.number < a.numbers = omega (arith, c.requires.number, ap (λ (t : Answers). t.numbers) c.self.view_is) in
+    let hk : c.args.position < a.positions = omega (arith, c.requires.position, ap (λ (t : Answers). t.positions) c.self.view_is) in
+    omega (arith, place_inside c.args.pattern a.patterns c.args.position a.positions hp hk, c.place-at.ensures, width_at c.self.invariant c.args.number hn)
+
+pub returns : goal.returns
+returns c =
+    let a = c.self.inside in
+    let hp : c.args.pattern < a.patterns = omega (arith, c.requires.pattern, ap (λ (t : Answers). length t.rows) c.self.view_is, patterns_are a c.self.invariant) in
+    let hn : c.args.number < a.numbers = omega (arith, c.requires.number, ap (λ (t : Answers). t.numbers) c.self.view_is) in
+    let hk : c.args.position < a.positions = omega (arith, c.requires.position, ap (λ (t : Answers). t.positions) c.self.view_is) in
+    c.get.ensures ∙ (ap (row_bit a.cells c.args.number) c.place-at.ensures
+    ∙ (sym (bit_is a c.self.invariant c.args.pattern c.args.number c.args.position hp hn hk) ∙ ap (λ (t : Answers). answer_bit t c.args.pattern c.args.number c.args.position) c.self.view_is))

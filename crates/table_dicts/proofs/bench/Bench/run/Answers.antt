@@ -1,0 +1,18 @@
+use Rattle.std.proofs.Common.{◌∙◌, ◌+◌, ap, length, arith}
+use Rattle.word_sim.specs.GoodSim.{GoodSim}
+use Rattle.table_dicts.proofs.BlockLemmas.{block_length}
+use Rattle.table_dicts.proofs.bench.Bench.run.Goals as goal
+
+pub returns-clause-run : goal.returns-clause-run
+returns-clause-run c =
+    let bench = c.requires.bench in
+    let ran = c.run.ensures in
+    let long = block_length c.args.patterns.now c.args.first (c.args.first + c.min.result) (omega arith) (omega (arith, c.min.ensures, c.requires.first)) in
+    record {
+      bench = rw ran (record { circuit = bench.circuit; faults_are = bench.faults_are; block = c.fill.ensures.sources ∙ bench.block; good = bench.good; sim = bench.sim });
+      ran = ap (λ (g : GoodSim). g.ran) ran;
+      few = omega (arith, ap length c.fill.ensures.vectors, long, c.min.ensures);
+    }
+
+pub returns-clause-circuit : goal.returns-clause-circuit
+returns-clause-circuit c = ap (λ (g : GoodSim). g.circuit) c.run.ensures

@@ -1,0 +1,5 @@
+use Rattle.table_dicts.specs.Rows.{row_at, AreRowsBegun}
+use Rattle.table_dicts.proofs.bits.copy_rows.Given as goal
+
+abbrev pub invariant-loop-row : goal.invariant-loop-row
+invariant-loop-row l = AreRowsBegun l.count l.width l.row (row_at l.rows) l.copy

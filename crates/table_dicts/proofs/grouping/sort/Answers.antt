@@ -1,0 +1,50 @@
+use Rattle.std.proofs.Common.{◌≡◌, ◌∙◌, ◌+◌, ◌<◌, ℕ, List, [], ◌∷◌, ◌++◌, length, refl, subst, sym, None, rules, arith}
+use Rattle.std.specs.BTreeMap.{get}
+use Rattle.class_refine.specs.Steps.{words_order}
+use Rattle.class_refine.proofs.Leaving.{AreNoted}
+use Rattle.table_dicts.specs.Grouped.{AreFirstsOf}
+use Rattle.table_dicts.proofs.GroupLemmas.{firsts_none, few_firsts, Turn, turn}
+use Rattle.table_dicts.proofs.grouping.sort.Goals as goal
+use Rattle.table_dicts.proofs.grouping.sort.Goals.{In_ok-group}
+
+pub loop-row-init : goal.loop-row-init
+loop-row-init c =
+    let groups = c.new.ensures in
+    let firsts = c.new-2.ensures.items in
+    let rows = c.args.rows.now in
+    let noted : AreNoted rows [] (get words_order c.new-begun.result) = record { at = λ q. let none : get words_order c.new-begun.result q ≡ None = search rules in rw none (λ k d h. absurd (omega (arith, h))) } in
+    record {
+      firsts = subst (λ (gs : List ℕ). AreFirstsOf rows 0 gs c.new-2.result.items) (sym groups) (subst (AreFirstsOf rows 0 []) (sym firsts) (firsts_none rows));
+      noted = subst (λ (fs : List ℕ). AreNoted rows fs (get words_order c.new-begun.result)) (sym firsts) noted;
+    }
+
+pub overflow_cast-next : goal.overflow_cast-next
+overflow_cast-next c = omega (arith, few_firsts c.loop-row.invariant.firsts, c.requires)
+
+inside : (c : In_ok-group) → c.loop-row.row < length c.args.rows.now
+inside c = omega arith
+
+turned : (c : In_ok-group) → Turn c.args.rows.now c.loop-row.row (inside c) c.loop-row.sorted.groups c.loop-row.sorted.firsts.items c.loop-row.invariant.firsts c.in_ok-group.group (get words_order c.group_with.new.begun)
+turned c =
+    turn c.args.rows.now c.loop-row.row (inside c) c.loop-row.sorted.groups c.loop-row.sorted.firsts.items c.loop-row.invariant.firsts
+    (get words_order c.loop-row.begun) (get words_order c.group_with.new.begun) c.row_words.result c.row_words.ensures.packed (λ n h. c.row_words.ensures.one_width n [] h) c.loop-row.invariant.noted
+    (get words_order c.loop-row.begun c.row_words.result) c.len-next.result c.in_ok-group.group refl (c.len-next.ensures ∙ c.loop-row.sorted.firsts.ok.0) c.in_ok-group.ensures.group c.in_ok-group.ensures.noted
+
+pub put-requires : goal.put-requires
+put-requires c = let at = (goal.at.put-requires c).In_ok-group in (turned at).within
+
+pub loop-row-preserved : goal.loop-row-preserved
+loop-row-preserved c =
+    let at = (goal.at.loop-row-preserved c).In_ok-group in
+    let done = turned at in
+    let rows = c.args.rows.now in
+    record {
+      firsts = subst (λ (groups : List ℕ). AreFirstsOf rows (c.loop-row.row + 1) groups c.put.new.self.firsts.items) (sym c.in_ok-put.ensures.groups)
+          (subst (AreFirstsOf rows (c.loop-row.row + 1) (c.loop-row.sorted.groups ++ c.in_ok-group.group ∷ [])) (sym c.in_ok-put.ensures.firsts) done.firsts_are);
+      noted = subst (λ (firsts : List ℕ). AreNoted rows firsts (get words_order c.group_with.new.begun)) (sym c.in_ok-put.ensures.firsts) done.noted_are;
+    }
+
+pub returns : goal.returns
+returns c =
+    let all : c.loop-row.row ≡ length c.args.rows.now = omega arith in
+    subst (λ n. AreFirstsOf c.args.rows.now n c.loop-row.sorted.groups c.loop-row.sorted.firsts.items) all c.loop-row.invariant.firsts

@@ -1,0 +1,58 @@
+-- A circuit that is run on patterns, a block of them at once.
+use Rattle.std.specs.Prelude.{◌≡◌, ◌≢◌, ℕ, ◌+◌, ◌<◌, ◌≤◌, ◌⊎◌, Bool, not, List, [], length, Some, slice_index_or}
+use Rattle.net_model.specs.Circuit.{Circuit, IsCircuit}
+use Rattle.net_model.specs.Answer.{bit_at, IsAnswer}
+use Rattle.net_model.specs.FaultList.{faults, fault_numbered}
+use Rattle.net_model.specs.ClassTable.{same_bits}
+use Rattle.net_model.specs.declared.fault.Fault.TheVariants.{Free}
+use Rattle.word_sim.specs.declared.lanes.TheConstants.{LANES}
+use Rattle.table_dicts.specs.declared.bench.Bench.{Bench}
+use Rattle.table_dicts.specs.AnswerTable.{Answers, HasSizes, answer_bit}
+
+-- All parts are those of one circuit.
+pub record IsBench (c : Circuit) (b : Bench) : Type 0 where
+  pub circuit : IsCircuit c
+  pub faults_are : b.faults.now ≡ faults c
+  pub block : b.block.sources ≡ c.sources
+  pub good : b.good.circuit ≡ c
+  pub sim : b.sim.circuit ≡ c
+
+-- The bench has run the patterns of its block.
+pub record HasRun (b : Bench) : Type 0 where
+  pub bench : IsBench b.good.circuit b
+  pub ran : b.good.ran ≡ Some b.block.vectors
+  pub few : length b.block.vectors ≤ LANES
+
+-- The bit is that of the number's answer to the pattern at the position.
+abbrev pub IsAnswerBit : Circuit → List (List Bool) → ℕ → ℕ → ℕ → Bool → Type 0
+IsAnswerBit c patterns pattern number position bit = (answer : List Bool) → IsAnswer c (fault_numbered c number) (slice_index_or patterns pattern []) answer → bit ≡ bit_at answer position
+
+-- The bit says whether the number's answer to the pattern differs from the fault-free one.
+abbrev pub IsFailBit : Circuit → List (List Bool) → ℕ → ℕ → ℕ → Bool → Type 0
+IsFailBit c patterns pattern number position bit = (answer free : List Bool) → IsAnswer c (fault_numbered c number) (slice_index_or patterns pattern []) answer → IsAnswer c Free (slice_index_or patterns pattern []) free → bit ≡ not (same_bits answer free)
+
+-- The new table has these bits of a number at a position, from the first pattern on, so many, and other numbers, other positions
+-- and earlier patterns have theirs as before.
+pub record AreLanesSet (old new : Answers) (number position first count : ℕ) (bits : List Bool) : Type 0 where
+  pub sizes : HasSizes new (length old.rows) old.numbers old.positions
+  pub here : (lane : ℕ) → lane < count → answer_bit new (first + lane) number position ≡ bit_at bits lane
+  pub others : (p n k : ℕ) → p < length old.rows → n < old.numbers → k < old.positions → (p < first) ⊎ ((n ≢ number) ⊎ (k ≢ position)) → answer_bit new p n k ≡ answer_bit old p n k
+
+-- The new table has right bits of a number at the positions below a limit, from the first pattern on, so many, and other numbers and
+-- earlier patterns have theirs as before. Which bits are right is said by place in the block, number and position.
+pub record IsNumberSet (right : ℕ → ℕ → ℕ → Bool → Type 0) (count : ℕ) (old new : Answers) (number first limit : ℕ) : Type 0 where
+  pub sizes : HasSizes new (length old.rows) old.numbers old.positions
+  pub here : (lane k : ℕ) → lane < count → k < limit → right lane number k (answer_bit new (first + lane) number k)
+  pub others : (p n k : ℕ) → p < length old.rows → n < old.numbers → k < old.positions → (p < first) ⊎ (n ≢ number) → answer_bit new p n k ≡ answer_bit old p n k
+
+-- The new table has right bits of the numbers below a limit, from the first pattern on, so many, and earlier patterns have theirs as
+-- before.
+pub record AreNumbersSet (right : ℕ → ℕ → ℕ → Bool → Type 0) (count : ℕ) (old new : Answers) (limit first : ℕ) : Type 0 where
+  pub sizes : HasSizes new (length old.rows) old.numbers old.positions
+  pub here : (lane n k : ℕ) → lane < count → n < limit → k < old.positions → right lane n k (answer_bit new (first + lane) n k)
+  pub others : (p n k : ℕ) → p < first → p < length old.rows → n < old.numbers → k < old.positions → answer_bit new p n k ≡ answer_bit old p n k
+
+-- There is a bit for each pattern, number and position, and those of the patterns before the end are right.
+pub record AreRightTo (right : ℕ → ℕ → ℕ → Bool → Type 0) (patterns numbers positions end : ℕ) (t : Answers) : Type 0 where
+  pub sizes : HasSizes t patterns numbers positions
+  pub each : (p n k : ℕ) → p < end → n < numbers → k < positions → right p n k (answer_bit t p n k)

@@ -1,0 +1,8 @@
+pub mod Rows
+pub mod AnswerTable
+pub mod AnswerTableFields
+pub mod Entries
+pub mod Grouped
+pub mod Dictionary
+pub mod Apart
+pub mod Blocks

@@ -1,0 +1,43 @@
+-- Rows of bits of one width.
+use Rattle.std.specs.Prelude.{◌≡◌, ◌≢◌, ℕ, ◌<◌, Bool, List, [], length, All, slice_index_or}
+use Rattle.net_model.specs.Answer.{bit_at}
+
+-- There are so many rows, each of this width.
+pub record AreRows (count width : ℕ) (rows : List (List Bool)) : Type 0 where
+  pub count_is : length rows ≡ count
+  pub width_is : All (λ row. length row ≡ width) rows
+
+abbrev pub row_at : List (List Bool) → ℕ → List Bool
+row_at rows row = slice_index_or rows row []
+
+abbrev pub row_bit : List (List Bool) → ℕ → ℕ → Bool
+row_bit rows row at = bit_at (row_at rows row) at
+
+-- The rows are as many and as wide as before.
+pub record HaveSameShape (old new : List (List Bool)) : Type 0 where
+  pub count : length new ≡ length old
+  pub widths : (row : ℕ) → length (row_at new row) ≡ length (row_at old row)
+
+-- The new rows have this bit at one place, and all else as the old ones.
+pub record IsBitSet (old new : List (List Bool)) (row at : ℕ) (bit : Bool) : Type 0 where
+  pub shape : HaveSameShape old new
+  pub here : row_bit new row at ≡ bit
+  pub beside : (k : ℕ) → k ≢ at → row_bit new row k ≡ row_bit old row k
+  pub others : (r : ℕ) → r ≢ row → row_at new r ≡ row_at old r
+
+-- The new rows have the first of these bits in one row, so many, and the other rows as before.
+pub record IsRowBegun (old new : List (List Bool)) (row count : ℕ) (bits : List Bool) : Type 0 where
+  pub shape : HaveSameShape old new
+  pub begun : (k : ℕ) → k < count → row_bit new row k ≡ bit_at bits k
+  pub others : (r : ℕ) → r ≢ row → row_at new r ≡ row_at old r
+
+-- The new rows have these bits as one row, and the other rows as before.
+pub record IsRowSet (old new : List (List Bool)) (row : ℕ) (bits : List Bool) : Type 0 where
+  pub shape : HaveSameShape old new
+  pub here : row_at new row ≡ bits
+  pub others : (r : ℕ) → r ≢ row → row_at new r ≡ row_at old r
+
+-- There are so many rows of this width, and each of the first ones is as it is to be.
+pub record AreRowsBegun (count width done : ℕ) (wanted : ℕ → List Bool) (rows : List (List Bool)) : Type 0 where
+  pub are : AreRows count width rows
+  pub begun : (row : ℕ) → row < done → row_at rows row ≡ wanted row

@@ -1,0 +1,105 @@
+//! A circuit with its faults, run on patterns as many at once as there are lanes.
+
+ghost use Rattle.std.specs.Prelude.{◌≡◌, ◌+◌, ◌<◌, ◌≤◌, ℕ, Bool, List, [], length, min, All, IsSome, IfOk, slice_range, slice_index_or};
+ghost use Rattle.net_model.specs.Circuit.{Circuit};
+ghost use Rattle.net_model.specs.FaultList.{faults as faults_of, fault_count, fault_numbered};
+ghost use Rattle.net_model.specs.Answer.{bit_at, IsAnswer};
+ghost use Rattle.word_sim.specs.GoodSim.{vectors_of};
+ghost use Rattle.fault_sim.specs.FaultSim.{AreDifferences};
+ghost use Rattle.table_dicts.specs.Blocks.{IsBench, HasRun, IsAnswerBit, IsFailBit};
+
+use fault_list::FaultList;
+use fault_sim::FaultSim;
+use net_model::{Circuit, Vector};
+use std::alloc::{AllocError, Global};
+use word_sim::{Block, GoodSim, LANES, Lanes};
+
+/// The faults of a circuit, a block of patterns, and the simulators of the circuit without a fault and with one.
+#[derive(Drop)]
+pub(crate) struct Bench<'a> {
+    pub(crate) faults: &'a FaultList,
+    pub(crate) block: Block,
+    pub(crate) good: GoodSim<'a>,
+    pub(crate) sim: FaultSim<'a>,
+}
+
+impl<'a> Bench<'a> {
+    pub(crate) fn new(
+        alloc: Global,
+        circuit: &'a Circuit,
+        faults: &'a FaultList,
+    ) -> Result<Bench<'a>, AllocError>
+        requires { faults.now ≡ faults_of circuit.now }
+        ensures bench { IfOk result (λ bench. IsBench bench.good.circuit bench) }
+        ensures circuit { IfOk result (λ bench. bench.good.circuit ≡ circuit.now) }
+    {
+        Ok(Bench {
+            faults,
+            block: Block::new(alloc, circuit.sources())?,
+            good: GoodSim::new(alloc, circuit)?,
+            sim: FaultSim::new(alloc, circuit)?,
+        })
+    }
+
+    /// Runs the patterns from the first one on, as many as there are lanes, and says where they end.
+    pub(crate) fn run(&mut self, patterns: &[Vector], first: usize) -> usize
+        requires bench { IsBench self.old.good.circuit self.old }
+        requires widths { All (λ v. length v ≡ self.old.good.circuit.sources) patterns.now }
+        requires first { first ≤ length patterns.now }
+        ensures run { HasRun self.new }
+        ensures circuit { self.new.good.circuit ≡ self.old.good.circuit }
+        ensures vectors { self.new.block.vectors ≡ slice_range patterns.now first result }
+        ensures end { result ≡ min (first + LANES) (length patterns.now) }
+    {
+        let end = first + (patterns.len() - first).min(LANES as usize);
+        fill(&mut self.block, patterns, first, end);
+        self.good.run(&self.block);
+        end
+    }
+
+    /// Injects the fault of a number into the patterns that were run.
+    pub(crate) fn inject(&mut self, number: u32)
+        requires run { HasRun self.old }
+        requires number { number < fault_count self.old.good.circuit }
+        ensures kept { self.new ≡ record self.old { sim = self.new.sim } }
+        ensures run { HasRun self.new }
+        ensures differ { AreDifferences self.new.good.circuit (fault_numbered self.new.good.circuit number) self.new.block.vectors self.new.sim.differences }
+    {
+        self.sim.inject(&self.good, &self.faults.get(number));
+    }
+
+    /// The bits of the injected number's answers at a position, a lane for each pattern that was run.
+    pub(crate) fn shown(&self, number: u32, position: u32) -> Lanes
+        requires run { HasRun self.now }
+        requires position { position < length self.now.good.circuit.positions }
+        requires differ { AreDifferences self.now.good.circuit (fault_numbered self.now.good.circuit number) self.now.block.vectors self.now.sim.differences }
+        ensures { (lane : ℕ) → lane < length self.now.block.vectors → IsAnswerBit self.now.good.circuit self.now.block.vectors lane number position (bit_at result lane) }
+    {
+        let line = self.good.circuit().positions()[position as usize];
+        self.good.lanes(line).xor(self.sim.differs(position))
+    }
+
+    /// Whether the injected number's answers differ from the fault-free ones, a lane for each pattern that was run.
+    pub(crate) fn failing(&self, number: u32) -> Lanes
+        requires run { HasRun self.now }
+        requires differ { AreDifferences self.now.good.circuit (fault_numbered self.now.good.circuit number) self.now.block.vectors self.now.sim.differences }
+        ensures { (lane : ℕ) → lane < length self.now.block.vectors → IsFailBit self.now.good.circuit self.now.block.vectors lane number 0 (bit_at result lane) }
+    {
+        self.sim.any_difference()
+    }
+}
+
+// Puts patterns into a block.
+fn fill(block: &mut Block, patterns: &[Vector], first: usize, end: usize)
+    requires widths { All (λ v. length v ≡ block.old.sources) patterns.now }
+    requires order { first ≤ end }
+    requires few { end ≤ first + LANES }
+    requires within { end ≤ length patterns.now }
+    ensures sources { block.new.sources ≡ block.old.sources }
+    ensures vectors { block.new.vectors ≡ slice_range patterns.now first end }
+{
+    block.clear();
+    for at in first..end {
+        block.push(&patterns[at]);
+    }
+}

@@ -1,0 +1,58 @@
+//! Where bits of rows are written and copied.
+
+ghost use Rattle.std.specs.Prelude.{◌≡◌, ◌<◌, ◌≤◌, ℕ, [], length, map, All, IfOk, slice_index, slice_index_or};
+ghost use Rattle.table_dicts.specs.Rows.{IsBitSet, IsRowSet, row_at};
+
+use net_model::AnswerRows;
+use std::alloc::{AllocError, Global};
+
+/// Writes one bit of a row.
+#[inline]
+pub(crate) fn set_bit(rows: &mut AnswerRows, row: usize, at: usize, bit: bool)
+    requires row { row < length rows.old }
+    requires at { at < length (row_at rows.old row) }
+    ensures { IsBitSet rows.old rows.new row at bit }
+{
+    rows.set(row, at, bit);
+}
+
+/// Copies a row of as many bits into another place.
+pub(crate) fn copy_row(from: &AnswerRows, source: usize, to: &mut AnswerRows, target: usize)
+    requires source { source < length from.now }
+    requires target { target < length to.old }
+    requires width { length (row_at to.old target) ≡ length (row_at from.now source) }
+    ensures { IsRowSet to.old to.new target (row_at from.now source) }
+{
+    for at in 0..from.width() {
+        set_bit(to, target, at, from.get(source, at));
+    }
+}
+
+/// The rows at these places.
+pub(crate) fn rows_at(
+    alloc: Global,
+    rows: &AnswerRows,
+    places: &[u32],
+) -> Result<AnswerRows, AllocError>
+    requires { All (λ place. place < length rows.now) places.now }
+    ensures { IfOk result (λ picked. picked ≡ map (row_at rows.now) places.now) }
+{
+    let width = rows.width();
+    let mut picked = AnswerRows::zeros(alloc, places.len(), width)?;
+    for (at, place) in places.iter().enumerate() {
+        copy_row(rows, *place as usize, &mut picked, at);
+    }
+    Ok(picked)
+}
+
+/// The same rows again.
+pub(crate) fn copy_rows(alloc: Global, rows: &AnswerRows) -> Result<AnswerRows, AllocError>
+    ensures { IfOk result (λ copy. copy ≡ rows.now) }
+{
+    let (count, width) = (rows.rows(), rows.width());
+    let mut copy = AnswerRows::zeros(alloc, count, width)?;
+    for row in 0..count {
+        copy_row(rows, row, &mut copy, row);
+    }
+    Ok(copy)
+}

@@ -1,0 +1,20 @@
+//! Tables of answers, and the fault dictionaries made of them.
+#![tactic(auto)]
+
+mod answer_table;
+mod answers;
+mod bench;
+mod bits;
+mod dict;
+mod direct;
+mod grouping;
+mod pairs;
+mod projecting;
+
+pub use answer_table::AnswerTable;
+pub use answers::answers_at;
+pub use dict::{Dict, DictKind, Groups};
+pub use direct::pass_fail_at;
+pub use grouping::{Grouped, first_repeat, group_rows};
+pub use pairs::apart;
+pub use projecting::{full, pass_fail, project};
