@@ -1,0 +1,7 @@
+pub mod Cuts
+pub mod NumberLemmas
+pub mod BitLemmas
+pub mod LineLemmas
+pub mod LogLemmas
+pub mod VectorLemmas
+pub mod ListingLemmas

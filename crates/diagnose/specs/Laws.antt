@@ -1,0 +1,27 @@
+-- Laws: what is refused isn't in the format, it is refused by one rule at one line, and a text has one reading.
+use Rattle.std.specs.Prelude.{◌≡◌, ℕ, ◌<◌, ◌^◌, Bool, List}
+use Rattle.diagnose.specs.declared.fault.LogKind.{LogKind}
+use Rattle.diagnose.specs.Lines.{Text}
+use Rattle.diagnose.specs.LogText.{IsLog, LogRefused}
+use Rattle.diagnose.specs.VectorText.{IsVectorList, VectorsRefused}
+
+-- a refused log isn't the log of any rows
+abbrev pub RefusedLogIsWrong : Type 0
+RefusedLogIsWrong = (patterns positions : ℕ) (text : Text) (observed : List (List Bool)) (kind : LogKind) (line : ℕ) → patterns < 2 ^ 32 → LogRefused patterns positions text kind line → ¬ IsLog patterns positions text observed
+
+-- a log is refused by one rule at one line
+abbrev pub OneLogRefusal : Type 0
+OneLogRefusal = (patterns positions : ℕ) (text : Text) (kind other : LogKind) (line number : ℕ) → patterns < 2 ^ 32 → LogRefused patterns positions text kind line → LogRefused patterns positions text other number → (kind ≡ other) × (line ≡ number)
+
+-- a log is the log of one list of rows
+abbrev pub OneLogReading : Type 0
+OneLogReading = (patterns positions : ℕ) (text : Text) (rows others : List (List Bool)) → IsLog patterns positions text rows → IsLog patterns positions text others → rows ≡ others
+
+abbrev pub RefusedListIsWrong : Type 0
+RefusedListIsWrong = (sources : ℕ) (text : Text) (vectors : List (List Bool)) (kind : LogKind) (line : ℕ) → VectorsRefused sources text kind line → ¬ IsVectorList sources text vectors
+
+abbrev pub OneListRefusal : Type 0
+OneListRefusal = (sources : ℕ) (text : Text) (kind other : LogKind) (line number : ℕ) → VectorsRefused sources text kind line → VectorsRefused sources text other number → (kind ≡ other) × (line ≡ number)
+
+abbrev pub OneListReading : Type 0
+OneListReading = (sources : ℕ) (text : Text) (vectors others : List (List Bool)) → IsVectorList sources text vectors → IsVectorList sources text others → vectors ≡ others

@@ -1,0 +1,5 @@
+pub mod Lines
+pub mod LogText
+pub mod VectorText
+pub mod Joined
+pub mod Laws

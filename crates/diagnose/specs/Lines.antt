@@ -1,0 +1,63 @@
+-- Texts of lines, each with a row of bits.
+use Rattle.std.specs.Prelude.{◌≡◌, ℕ, ◌+◌, ◌<◌, ◌≤◌, ◌^◌, ◌⊎◌, Bool, List, [], ◌∷◌, ◌++◌, length, map, take, count_by, ◌==◌, ⊤, All, Contains}
+use Rattle.net_model.specs.BitText.{bits_text}
+use Rattle.diagnose.specs.declared.fault.LogKind.{LogKind}
+use Rattle.diagnose.specs.declared.fault.LogKind.TheVariants.{TooLong}
+use Rattle.diagnose.specs.declared.fault.LogFault.{LogFault}
+use Rattle.diagnose.specs.declared.fault.LogFault.TheVariants.{At, NoMemory}
+
+abbrev pub Text : Type 0
+Text = List ℕ
+
+-- the most bytes of a log or a list of vectors
+abbrev pub text_limit : ℕ
+text_limit = 2 ^ 30
+
+-- the line of a byte, counted from 1
+abbrev pub line_of : Text → ℕ → ℕ
+line_of text byte = count_by (λ b. b == 10) (take byte text) + 1
+
+-- the bits of digits
+abbrev pub digit_bits : Text → List Bool
+digit_bits digits = map (λ digit. digit == 49) digits
+
+-- The byte is a digit of a bit.
+abbrev pub IsDigit : ℕ → Type 0
+IsDigit byte = (byte ≡ 48) ⊎ (byte ≡ 49)
+
+-- Digits of bits spell the field: they are all of it, but for a dash, where there are none.
+abbrev pub SpellField : Text → Text → Type 0
+SpellField field digits = bits_text (digit_bits digits) ≡ field
+
+-- A list is cut at the first place where a byte stands.
+pub record IsCutAt (byte : ℕ) (text front back : Text) : Type 0 where
+  pub first : ¬ Contains front byte
+  pub text_is : text ≡ front ++ byte ∷ back
+
+-- How a line with a row of bits is spelled, by its number from 0 and its bits.
+abbrev pub LineForm : Type 0
+LineForm = ℕ → List Bool → Text
+
+-- the lines of rows, numbered from n on, each with its LF
+abbrev pub lines_from : LineForm → ℕ → List (List Bool) → Text
+lines_from line n [] = []
+lines_from line n (row ∷ rows) = line n row ++ 10 ∷ lines_from line (n + 1) rows
+
+-- Each row is of this width.
+abbrev pub AreWide : ℕ → List (List Bool) → Type 0
+AreWide width rows = All (λ row. length row ≡ width) rows
+
+-- Why what stands behind so many right lines is refused.
+abbrev pub RestRule : Type 1
+RestRule = ℕ → Text → LogKind → Type 0
+
+-- A text of lines is refused by this rule at this line: by its length, or since what stands behind some right lines is refused.
+pub data TextRefused (line : LineForm) (width : ℕ) (Rest : RestRule) (text : Text) (kind : LogKind) (number : ℕ) : Type 0 where
+  too_long : text_limit < length text → kind ≡ TooLong → number ≡ line_of text text_limit → TextRefused line width Rest text kind number
+  at_line : (rows : List (List Bool)) (rest : Text) → length text ≤ text_limit → AreWide width rows → text ≡ lines_from line 0 rows ++ rest → Rest (length rows) rest kind → number ≡ length rows + 1
+      → TextRefused line width Rest text kind number
+
+-- A fault tells the rule and the line of a refusal, or want of memory.
+abbrev pub Tells : (LogKind → ℕ → Type 0) → LogFault → Type 0
+Tells Refused (At kind line) = Refused kind line
+Tells Refused NoMemory = ⊤

@@ -1,0 +1,42 @@
+-- Tester logs: a line for each pattern, with the pattern's number and the observed bits.
+use Rattle.std.specs.Prelude.{◌≡◌, ◌≢◌, ℕ, ◌<◌, ◌≤◌, ◌^◌, Bool, List, [], ◌∷◌, ◌++◌, length, decimal}
+use Rattle.net_model.specs.BitText.{bits_text}
+use Rattle.table_dicts.specs.Rows.{AreRows}
+use Rattle.diagnose.specs.declared.fault.LogKind.{LogKind}
+use Rattle.diagnose.specs.declared.fault.LogKind.TheVariants.{Syntax, Order, Width, Missing}
+use Rattle.diagnose.specs.Lines.{Text, text_limit, digit_bits, lines_from, TextRefused}
+
+-- a line of a log, without its LF
+abbrev pub log_line : ℕ → List Bool → Text
+log_line pattern bits = decimal pattern ++ 32 ∷ bits_text bits
+
+-- The text is the log of these observed rows, one for each pattern, with a bit for each position.
+pub record IsLog (patterns positions : ℕ) (text : Text) (observed : List (List Bool)) : Type 0 where
+  pub short : length text ≤ text_limit
+  pub rows : AreRows patterns positions observed
+  pub text_is : text ≡ lines_from log_line 0 observed
+
+-- The text begins with this line.
+abbrev pub BeginsWithLine : Text → ℕ → List Bool → Text → Type 0
+BeginsWithLine text pattern bits more = (pattern < 2 ^ 32) × (text ≡ log_line pattern bits ++ 10 ∷ more)
+
+-- The text begins with no line of a log.
+abbrev pub HasNoLine : Text → Type 0
+HasNoLine text = (pattern : ℕ) (bits : List Bool) (more : Text) → BeginsWithLine text pattern bits more → ⊥
+
+-- What stands behind the lines of the patterns before this one is refused so.
+pub data LogRestRefused (patterns positions before : ℕ) (rest : Text) (kind : LogKind) : Type 0 where
+  missing : rest ≡ [] → before < patterns → kind ≡ Missing → LogRestRefused patterns positions before rest kind
+  no_line : rest ≢ [] → before ≤ patterns → HasNoLine rest → kind ≡ Syntax → LogRestRefused patterns positions before rest kind
+  too_many : (pattern : ℕ) (bits : List Bool) (more : Text) → BeginsWithLine rest pattern bits more → before ≡ patterns → kind ≡ Order → LogRestRefused patterns positions before rest kind
+  misplaced : (pattern : ℕ) (bits : List Bool) (more : Text) → BeginsWithLine rest pattern bits more → before < patterns → pattern ≢ before → kind ≡ Order → LogRestRefused patterns positions before rest kind
+  wrong_width : (bits : List Bool) (more : Text) → BeginsWithLine rest before bits more → before < patterns → length bits ≢ positions → kind ≡ Width → LogRestRefused patterns positions before rest kind
+
+-- The log is refused by this rule at this line.
+abbrev pub LogRefused : ℕ → ℕ → Text → LogKind → ℕ → Type 0
+LogRefused patterns positions = TextRefused log_line positions (LogRestRefused patterns positions)
+
+-- The text begins with the line of this pattern, with digits of the right width.
+pub record IsRightLine (positions pattern : ℕ) (text digits rest : Text) : Type 0 where
+  pub begins : BeginsWithLine text pattern (digit_bits digits) rest
+  pub width : length digits ≡ positions

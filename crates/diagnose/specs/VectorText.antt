@@ -1,0 +1,34 @@
+-- Lists of vectors: a line of bits for each.
+use Rattle.std.specs.Prelude.{◌≡◌, ◌≢◌, ℕ, ◌≤◌, Bool, List, [], ◌∷◌, ◌++◌, length}
+use Rattle.net_model.specs.BitText.{bits_text}
+use Rattle.diagnose.specs.declared.fault.LogKind.{LogKind}
+use Rattle.diagnose.specs.declared.fault.LogKind.TheVariants.{Syntax, Width}
+use Rattle.diagnose.specs.Lines.{Text, text_limit, digit_bits, lines_from, AreWide, TextRefused}
+
+-- a line of a list, without its LF; its number isn't written
+abbrev pub vector_line : ℕ → List Bool → Text
+vector_line number bits = bits_text bits
+
+-- The text is the list of these vectors, each with a bit for each source.
+pub record IsVectorList (sources : ℕ) (text : Text) (vectors : List (List Bool)) : Type 0 where
+  pub short : length text ≤ text_limit
+  pub wide : AreWide sources vectors
+  pub text_is : text ≡ lines_from vector_line 0 vectors
+
+-- The text begins with no line of bits.
+abbrev pub HasNoVector : Text → Type 0
+HasNoVector text = (bits : List Bool) (more : Text) → text ≢ bits_text bits ++ 10 ∷ more
+
+-- What stands behind some right lines is refused so.
+pub data VectorRestRefused (sources before : ℕ) (rest : Text) (kind : LogKind) : Type 0 where
+  no_vector : rest ≢ [] → HasNoVector rest → kind ≡ Syntax → VectorRestRefused sources before rest kind
+  wrong_width : (bits : List Bool) (more : Text) → rest ≡ bits_text bits ++ 10 ∷ more → length bits ≢ sources → kind ≡ Width → VectorRestRefused sources before rest kind
+
+-- The list is refused by this rule at this line.
+abbrev pub VectorsRefused : ℕ → Text → LogKind → ℕ → Type 0
+VectorsRefused sources = TextRefused vector_line sources (VectorRestRefused sources)
+
+-- The text begins with a line of digits of the right width.
+pub record IsRightVector (sources : ℕ) (text digits rest : Text) : Type 0 where
+  pub begins : text ≡ bits_text (digit_bits digits) ++ 10 ∷ rest
+  pub width : length digits ≡ sources

@@ -1,0 +1,150 @@
+//! The fault numbers that observed answers point to.
+
+ghost use Rattle.std.specs.Prelude.{◌≡◌, ◌≢◌, ◌<◌, ◌+◌, ◌*◌, ◌^◌, ◌==◌, ℕ, Bool, List, [], ◌∷◌, ◌++◌, length, flat_map, filter, All, slice_index, slice_index_or, if◌then◌else◌, IfOk, OnOk, MatchOption};
+ghost use Rattle.std.specs.List.{range_with_len};
+ghost use Rattle.net_model.specs.ClassTable.{same_bits};
+ghost use Rattle.table_dicts.specs.Rows.{AreRows};
+ghost use Rattle.table_dicts.specs.Dictionary.{IsGroupedDict, IsShaped, observed_entry, listed_numbers};
+ghost use Rattle.table_dicts.specs.Entries.{differences};
+ghost use Rattle.diagnose.specs.Joined.{AreJoined};
+
+use net_model::AnswerRows;
+use std::alloc::{AllocError, Global};
+use table_dicts::{Dict, DictKind};
+
+/// The fault numbers, ascending, whose entry is that of the observed answers, a row for each pattern.
+pub fn matches(alloc: Global, dict: &Dict, observed: &AnswerRows) -> Result<Vec<u32>, AllocError>
+    requires grouped { IsGroupedDict dict.now }
+    requires shaped { IsShaped dict.now }
+    requires observed { AreRows dict.now.patterns dict.now.positions observed.now }
+    ensures { IfOk result (λ listed. listed.items ≡ listed_numbers dict.now observed.now) }
+{
+    let entry = entry_of(alloc, dict, observed)?;
+    match find_row(&dict.entries, &entry) {
+        None => Ok(Vec::new(alloc)),
+        Some(group) => numbers_in(alloc, dict.groups.as_slice(), dict.numbers, group),
+    }
+}
+
+// The one row that the observed answers would have as an entry.
+fn entry_of(alloc: Global, dict: &Dict, observed: &AnswerRows) -> Result<AnswerRows, AllocError>
+    requires shaped { IsShaped dict.now }
+    requires observed { AreRows dict.now.patterns dict.now.positions observed.now }
+    ensures { IfOk result (λ row. row ≡ observed_entry dict.now.kind dict.now.baselines observed.now ∷ []) }
+{
+    match dict.kind {
+        DictKind::PassFail | DictKind::SameDiff => differing(alloc, observed, &dict.baselines),
+        DictKind::Full => joined(
+            alloc,
+            observed,
+            dict.patterns as usize,
+            dict.positions as usize,
+        ),
+    }
+}
+
+// One row with a bit for each row of observed answers: whether it isn't the baseline.
+fn differing(
+    alloc: Global,
+    observed: &AnswerRows,
+    baselines: &AnswerRows,
+) -> Result<AnswerRows, AllocError>
+    requires rows { length observed.now ≡ length baselines.now }
+    requires wide { (row : ℕ) → row < length observed.now → length (slice_index_or observed.now row []) ≡ length (slice_index_or baselines.now row []) }
+    ensures { IfOk result (λ row. row ≡ differences observed.now baselines.now ∷ []) }
+{
+    let count = observed.rows();
+    let mut bits = AnswerRows::zeros(alloc, 1, count)?;
+    for row in 0..count {
+        let same = is_same(observed, row, baselines, row);
+        bits.set(0, row, !same);
+    }
+    Ok(bits)
+}
+
+// Whether a row is a row of other rows.
+fn is_same(rows: &AnswerRows, row: usize, others: &AnswerRows, other: usize) -> bool
+    requires row { row < length rows.now }
+    requires other { other < length others.now }
+    requires wide { length (slice_index_or rows.now row []) ≡ length (slice_index_or others.now other []) }
+    ensures { result ≡ same_bits (slice_index_or rows.now row []) (slice_index_or others.now other []) }
+{
+    rows.row_words(row) == others.row_words(other)
+}
+
+// One row with the bits of all rows, one after another.
+fn joined(
+    alloc: Global,
+    observed: &AnswerRows,
+    rows: usize,
+    width: usize,
+) -> Result<AnswerRows, AllocError>
+    requires rows { AreRows rows width observed.now }
+    requires room { rows * width < 2 ^ 64 }
+    ensures { IfOk result (λ row. row ≡ flat_map (λ bits. bits) observed.now ∷ []) }
+{
+    let mut bits = AnswerRows::zeros(alloc, 1, rows * width)?;
+    for row in 0..rows {
+        write_part(&mut bits, observed, row, width);
+    }
+    Ok(bits)
+}
+
+// Writes the bits of one row behind those of the rows before it.
+fn write_part(bits: &mut AnswerRows, observed: &AnswerRows, row: usize, width: usize)
+    requires row { row < length observed.now }
+    requires wide { All (λ row. length row ≡ width) observed.now }
+    requires room { length observed.now * width < 2 ^ 64 }
+    requires before { AreJoined observed.now width row bits.old }
+    ensures { AreJoined observed.now width (row + 1) bits.new }
+{
+    let start = row * width;
+    for at in 0..width {
+        let place = start + at;
+        let bit = observed.get(row, at);
+        bits.set(0, place, bit);
+    }
+}
+
+// The row that is equal to the one row of another list.
+fn find_row(rows: &AnswerRows, one: &AnswerRows) -> Option<usize>
+    requires one { length one.now ≡ 1 }
+    requires wide { All (λ row. length row ≡ length (slice_index_or one.now 0 [])) rows.now }
+    ensures { MatchOption result ((row : ℕ) → row < length rows.now → slice_index_or rows.now row [] ≢ slice_index_or one.now 0 []) (λ row. (row < length rows.now) × (slice_index_or rows.now row [] ≡ slice_index_or one.now 0 [])) }
+{
+    let count = rows.rows();
+    for row in 0..count {
+        if is_same(rows, row, one, 0) {
+            return Some(row);
+        }
+    }
+    None
+}
+
+// The numbers of which each is in this group, ascending.
+fn numbers_in(
+    alloc: Global,
+    groups: &[u32],
+    numbers: u32,
+    group: usize,
+) -> Result<Vec<u32>, AllocError>
+    requires { length groups.now ≡ numbers }
+    ensures { IfOk result (λ listed. listed.items ≡ filter (λ number. slice_index groups.now number == group) (range_with_len 0 numbers)) }
+{
+    let mut listed = Vec::new(alloc);
+    for number in 0..numbers {
+        let of = groups[number as usize] as usize;
+        keep(&mut listed, number, of == group)?;
+    }
+    Ok(listed)
+}
+
+// Appends a number where it is to be kept.
+fn keep(listed: &mut Vec<u32>, number: u32, kept: bool) -> Result<(), AllocError>
+    ensures { OnOk result (listed.new.items ≡ (if kept then listed.old.items ++ number ∷ [] else listed.old.items)) }
+{
+    if kept {
+        listed.push(number)?;
+    }
+    Ok(())
+}

@@ -1,0 +1,66 @@
+//! Lists of vectors.
+
+ghost use Rattle.std.specs.Prelude.{◌≡◌, ◌≢◌, ◌≤◌, ◌^◌, ◌++◌, ◌∷◌, [], ℕ, length, IfOk, IfErr, MatchOption, MatchResult};
+ghost use Rattle.net_model.specs.BitText.{bits_text};
+ghost use Rattle.diagnose.specs.Lines.{digit_bits, Tells};
+ghost use Rattle.diagnose.specs.VectorText.{HasNoVector, IsVectorList, VectorsRefused, VectorRestRefused, IsRightVector};
+
+use crate::fault::{LogFault, LogKind};
+use crate::lines::{bits_of, check_size, cut, digits_of};
+use net_model::Vectors;
+use std::alloc::Global;
+
+/// The vectors that a list has, a line of bits for each, with a bit for each source.
+///
+/// A list has at most 2^30 bytes. A fault tells the first line that breaks a rule.
+pub fn read_vectors(alloc: Global, sources: u32, bytes: &[u8]) -> Result<Vectors, LogFault>
+    ensures read { IfOk result (λ vectors. IsVectorList sources bytes.now vectors) }
+    ensures refused { IfErr result (Tells (VectorsRefused sources bytes.now)) }
+{
+    check_size(bytes)?;
+    read_lines(alloc, sources, bytes)
+}
+
+fn read_lines(alloc: Global, sources: u32, bytes: &[u8]) -> Result<Vectors, LogFault>
+    requires { length bytes.now ≤ 2 ^ 30 }
+    ensures read { IfOk result (λ vectors. IsVectorList sources bytes.now vectors) }
+    ensures refused { IfErr result (Tells (VectorsRefused sources bytes.now)) }
+{
+    let mut vectors = Vectors::new(alloc);
+    let mut rest = bytes;
+    let mut number: u64 = 1;
+    while !rest.is_empty() {
+        let line = match right_vector(sources, rest) {
+            Ok(line) => line,
+            Err(kind) => return Err(LogFault::At(kind, number)),
+        };
+        let bits = bits_of(alloc, line.0)?;
+        vectors.push(bits)?;
+        rest = line.1;
+        number += 1;
+    }
+    Ok(vectors)
+}
+
+// The digits of the first line, and what stands behind it.
+fn right_vector(sources: u32, rest: &[u8]) -> Result<(&[u8], &[u8]), LogKind>
+    requires { rest.now ≢ [] }
+    ensures { MatchResult result (λ line. IsRightVector sources rest.now line.0.now line.1.now) (λ kind. (before : ℕ) → VectorRestRefused sources before rest.now kind) }
+{
+    let Some((digits, after)) = first_vector(rest) else {
+        return Err(LogKind::Syntax);
+    };
+    if digits.len() != sources as usize {
+        return Err(LogKind::Width);
+    }
+    Ok((digits, after))
+}
+
+// The digits of the line that a text begins with, and what stands behind it.
+fn first_vector(text: &[u8]) -> Option<(&[u8], &[u8])>
+    ensures { MatchOption result (HasNoVector text.now) (λ line. text.now ≡ bits_text (digit_bits line.0.now) ++ 10 ∷ line.1.now) }
+{
+    let (line, rest) = cut(text, b'\n')?;
+    let digits = digits_of(line)?;
+    Some((digits, rest))
+}
