@@ -1,8 +1,10 @@
 -- Blocks of patterns: what is written of them, and that it is right.
-use Rattle.std.proofs.Common.{◌≡◌, ◌≢◌, ◌∙◌, ℕ, ◌+◌, ◌-◌, ◌<◌, ◌≤◌, ◌↔◌, Bool, true, false, not, cond, List, [], ◌∷◌, ◌++◌, length, get_or, take, drop, refl, sym, ap, subst, arith, inl, inr, IsTrue}
+use Rattle.std.proofs.Common.{zero-add, ◌≡◌, ◌≢◌, ◌∙◌, ℕ, ◌+◌, ◌-◌, ◌<◌, ◌≤◌, ◌↔◌, Bool, true, false, not, cond, List, [], ◌∷◌, ◌++◌, length, get_or, take, drop, refl, sym, ap, subst, arith, inl, inr, IsTrue}
 use Rattle.std.specs.Prelude.{slice_get, slice_range, Option, Some, unwrap_or}
 use Rattle.std.proofs.lemmas.Bool.{cases_lt, cases_eq, false≢true, false_from_ne_true}
 use Rattle.std.proofs.lemmas.List.{ext_get_or, take_more, get_or-take, get_or-drop, length-drop, length-take-le}
+use Rattle.std.specs.List.{range_with_len}
+use Rattle.std.proofs.lemmas.List.FromFn.{length-range_with_len, get_or-range_with_len}
 use Rattle.std.proofs.lemmas.Slice.Zip.{AllZip-long}
 use Rattle.std.proofs.lemmas.Option.{get_or_from_slice_get, slice_get_within}
 use Rattle.net_model.specs.declared.fault.Fault.{Fault}
@@ -22,7 +24,9 @@ use Rattle.kept_vectors.proofs.AnswerLemmas.{answer_exists, answer_width, answer
 use Rattle.kept_vectors.proofs.KeepLemmas.{rows_exist}
 use Rattle.table_dicts.proofs.EntryLemmas.{same_bits-Decides}
 use Rattle.table_dicts.specs.AnswerTable.{Answers, answer_to, answer_bit, HasSizes, IsTable, IsSetAt, AreAnswers}
-use Rattle.table_dicts.specs.Blocks.{IsAnswerBit, IsFailBit, AreLanesSet, IsNumberSet, AreNumbersSet, AreRightTo}
+use Rattle.table_dicts.specs.declared.simulating.Kept.{Kept}
+use Rattle.table_dicts.specs.declared.simulating.Kept.TheVariants.{Bits, Fails}
+use Rattle.table_dicts.specs.Blocks.{IsAnswerBit, IsFailBit, IsKeptBit, IsListedBit, AreLanesSet, IsNumberSet, AreNumbersSet, AreRightTo}
 
 -- ---- what is written
 
@@ -93,6 +97,15 @@ numbers_more {right} {count} {old} {mid} {new} {number} {first} positions so_far
       ∙ so_far.others p n k low hp hm hk;
 }
 
+-- what is right of a number at a place is right by what is asked there
+pub number_as : {right : ℕ → ℕ → ℕ → Bool → Type 0} {count : ℕ} {old new : Answers} {place first positions : ℕ} (over : ℕ → ℕ → ℕ → Bool → Type 0) → ((lane k : ℕ) (bit : Bool) → right lane place k bit → over lane place k bit)
+    → IsNumberSet right count old new place first positions → IsNumberSet over count old new place first positions
+number_as {right} {count} {old} {new} {place} {first} {positions} over asked set = record {
+  sizes = set.sizes;
+  here = λ lane k hl hk. asked lane k (answer_bit new (first + lane) place k) (set.here lane k hl hk);
+  others = set.others;
+}
+
 -- ---- that it is right
 
 -- the vector of a lane of a block is a pattern
@@ -139,6 +152,23 @@ module _ (c : Circuit) (patterns vectors : List (List Bool)) (first end : ℕ) (
   pub fail_moved : (lane n k : ℕ) (bit : Bool) → lane < length vectors → IsFailBit c vectors lane n k bit → IsFailBit c patterns (first + lane) n k bit
   fail_moved lane n k bit h right answer free of none =
       right answer free (subst (λ v. IsAnswer c (fault_numbered c n) v answer) (sym (vector_is lane h)) of) (subst (λ v. IsAnswer c Free v free) (sym (vector_is lane h)) none)
+
+  pub kept_moved : (kept : Kept) (lane n k : ℕ) (bit : Bool) → lane < length vectors → IsKeptBit kept c vectors lane n k bit → IsKeptBit kept c patterns (first + lane) n k bit
+  kept_moved Bits lane n k bit h right = answer_moved lane n k bit h right
+  kept_moved Fails lane n k bit h right = fail_moved lane n k bit h right
+
+  pub listed_moved : (kept : Kept) (numbers : List ℕ) (lane place k : ℕ) (bit : Bool) → lane < length vectors → IsListedBit kept c vectors numbers lane place k bit → IsListedBit kept c patterns numbers (first + lane) place k bit
+  listed_moved kept numbers lane place k bit h right = kept_moved kept lane (get_or numbers place 0) k bit h right
+
+-- where all numbers are listed each is at its own place
+pub right_of_all : (kept : Kept) (c : Circuit) (patterns : List (List Bool)) (numbers : List ℕ) (count positions end : ℕ) (t : Answers) → numbers ≡ range_with_len 0 count
+    → AreRightTo (IsListedBit kept c patterns numbers) (length patterns) (length numbers) positions end t → AreRightTo (IsKeptBit kept c patterns) (length patterns) count positions end t
+right_of_all kept c patterns numbers count positions end t all right = record {
+  sizes = record { patterns_are = right.sizes.patterns_are; numbers_are = right.sizes.numbers_are ∙ (ap length all ∙ length-range_with_len 0 count); positions_are = right.sizes.positions_are };
+  each = λ p n k hp hn hk.
+      let at : get_or numbers n 0 ≡ n = ap (λ (ns : List ℕ). get_or ns n 0) all ∙ (get_or-range_with_len 0 count n 0 hn ∙ zero-add n) in
+      subst (λ m. IsKeptBit kept c patterns p m k (answer_bit t p n k)) at (right.each p n k hp (omega (arith, hn, ap length all, length-range_with_len 0 count)) hk);
+}
 
 -- a table whose bits are all right has the circuit's answers
 pub right_all : {c : Circuit} {patterns : List (List Bool)} {t : Answers} (end : ℕ) → IsCircuit c → IsTable t → AreRightTo (IsAnswerBit c patterns) (length patterns) (fault_count c) (length c.positions) end t → length patterns ≤ end → AreAnswers c patterns t

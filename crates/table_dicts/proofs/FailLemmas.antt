@@ -1,12 +1,12 @@
 -- Pass/fail entries from where answers differ from the fault-free ones.
-use Rattle.std.proofs.Common.{◌≡◌, ◌∙◌, ℕ, zero, suc, ◌+◌, ◌*◌, ◌<◌, ◌≤◌, Bool, true, false, not, List, [], ◌∷◌, ◌++◌, length, get_or, map, refl, sym, ap, subst, arith}
+use Rattle.std.proofs.Common.{◌≡◌, ◌∙◌, ℕ, ◌<◌, Bool, false, not, List, [], ◌∷◌, ◌++◌, length, get_or, map, refl, sym, ap, subst, arith}
 use Rattle.std.specs.Prelude.{flat_map, All}
 use Rattle.std.proofs.lemmas.List.{ext_get_or, get_or-map, get_or_default, length-map}
 use Rattle.std.proofs.lemmas.List.Concat.{flat_map-cons}
 use Rattle.std.proofs.lemmas.List.Elements.{All-head, All-tail}
 use Rattle.std.proofs.lemmas.Slice.Zip.{AllZip-long}
 use Rattle.net_model.specs.declared.fault.Fault.TheVariants.{Free}
-use Rattle.net_model.specs.Circuit.{Circuit, IsCircuit}
+use Rattle.net_model.specs.Circuit.{Circuit}
 use Rattle.net_model.specs.Answer.{bit_at, IsAnswer}
 use Rattle.net_model.specs.FaultList.{faults, fault_count, fault_numbered}
 use Rattle.net_model.specs.ClassTable.{same_bits}
@@ -15,8 +15,7 @@ use Rattle.net_model.proofs.Copies.{same_bits_same_list}
 use Rattle.class_refine.proofs.Ranges.{zip_at}
 use Rattle.kept_vectors.proofs.AnswerLemmas.{answer_width, answer_in_row}
 use Rattle.kept_vectors.proofs.KeepLemmas.{some_number}
-use Rattle.table_dicts.specs.Rows.{AreRows, row_at}
-use Rattle.table_dicts.specs.AnswerTable.{Answers, answer_in, answer_to, answer_bit, HasSizes, IsTable, AreAnswers}
+use Rattle.table_dicts.specs.AnswerTable.{Answers, answer_in, answer_to, answer_bit, IsTable, AreAnswers}
 use Rattle.table_dicts.specs.Entries.{answers_of, full_entry, free_baselines, pass_fail_entry}
 use Rattle.table_dicts.specs.Blocks.{IsAnswerBit, IsFailBit, AreRightTo}
 use Rattle.table_dicts.proofs.EntryLemmas.{length-answers, answer_at, answers_are, length-entry, entry_bit}
@@ -56,7 +55,7 @@ module _ (c : Circuit) (patterns : List (List Bool)) (t : Answers) (are : AreAns
   row_is : (p : ℕ) → p < length patterns → IsAnswerRow c (get_or patterns p []) (get_or t.rows p [])
   row_is p h = zip_at (IsAnswerRow c) patterns t.rows p [] [] are.rows h
 
-  answer_is : (p n : ℕ) → p < length patterns → n < fault_count c → IsAnswer c (fault_numbered c n) (get_or patterns p []) (answer_to t p n)
+  pub answer_is : (p n : ℕ) → p < length patterns → n < fault_count c → IsAnswer c (fault_numbered c n) (get_or patterns p []) (answer_to t p n)
   answer_is p n hp hn = answer_in_row c (get_or patterns p []) (get_or t.rows p []) (row_is p hp) n hn
 
   free_is : (p : ℕ) → p < length patterns → IsAnswer c Free (get_or patterns p []) (answer_to t p 0)

@@ -100,7 +100,7 @@ module _ (rows : List (List Bool)) (i : ℕ) (h : i < length rows) (groups first
   last_first = get_or_push firsts i 0 (length firsts) refl
 
   -- the row begins a group
-  begins : ((k : ℕ) → k < length firsts → row (get_or firsts k 0) ≢ row i) → AreFirstsOf rows (i + 1) (groups ++ length firsts ∷ []) (firsts ++ i ∷ [])
+  pub begins : ((k : ℕ) → k < length firsts → row (get_or firsts k 0) ≢ row i) → AreFirstsOf rows (i + 1) (groups ++ length firsts ∷ []) (firsts ++ i ∷ [])
   begins none =
       let count = length firsts in
       record {
@@ -134,7 +134,7 @@ module _ (rows : List (List Bool)) (i : ℕ) (h : i < length rows) (groups first
       }
 
   -- the row comes into a group that was begun
-  joins : (group : ℕ) → group < length firsts → row (get_or firsts group 0) ≡ row i → AreFirstsOf rows (i + 1) (groups ++ group ∷ []) firsts
+  pub joins : (group : ℕ) → group < length firsts → row (get_or firsts group 0) ≡ row i → AreFirstsOf rows (i + 1) (groups ++ group ∷ []) firsts
   joins group known same = record {
     one_each = omega (arith, length_push groups group, are.one_each);
     numbered = numbered_more group are.numbered (inl ((are.used group).1 known));

@@ -5,3 +5,5 @@ pub mod GroupLemmas
 pub mod ApartLemmas
 pub mod BlockLemmas
 pub mod FailLemmas
+pub mod ClassLemmas
+pub mod ClassGroupLemmas

@@ -1,5 +1,5 @@
 -- A circuit that is run on patterns, a block of them at once.
-use Rattle.std.specs.Prelude.{◌≡◌, ◌≢◌, ℕ, ◌+◌, ◌<◌, ◌≤◌, ◌⊎◌, Bool, not, List, [], length, Some, slice_index_or}
+use Rattle.std.specs.Prelude.{◌≡◌, ◌≢◌, ℕ, ◌+◌, ◌<◌, ◌≤◌, ◌⊎◌, Bool, not, List, [], length, Some, slice_index, slice_index_or}
 use Rattle.net_model.specs.Circuit.{Circuit, IsCircuit}
 use Rattle.net_model.specs.Answer.{bit_at, IsAnswer}
 use Rattle.net_model.specs.FaultList.{faults, fault_numbered}
@@ -7,6 +7,8 @@ use Rattle.net_model.specs.ClassTable.{same_bits}
 use Rattle.net_model.specs.declared.fault.Fault.TheVariants.{Free}
 use Rattle.word_sim.specs.declared.lanes.TheConstants.{LANES}
 use Rattle.table_dicts.specs.declared.bench.Bench.{Bench}
+use Rattle.table_dicts.specs.declared.simulating.Kept.{Kept}
+use Rattle.table_dicts.specs.declared.simulating.Kept.TheVariants.{Bits, Fails}
 use Rattle.table_dicts.specs.AnswerTable.{Answers, HasSizes, answer_bit}
 
 -- All parts are those of one circuit.
@@ -30,6 +32,20 @@ IsAnswerBit c patterns pattern number position bit = (answer : List Bool) → Is
 -- The bit says whether the number's answer to the pattern differs from the fault-free one.
 abbrev pub IsFailBit : Circuit → List (List Bool) → ℕ → ℕ → ℕ → Bool → Type 0
 IsFailBit c patterns pattern number position bit = (answer free : List Bool) → IsAnswer c (fault_numbered c number) (slice_index_or patterns pattern []) answer → IsAnswer c Free (slice_index_or patterns pattern []) free → bit ≡ not (same_bits answer free)
+
+-- The bit is what is kept of the number's answer to the pattern.
+abbrev pub IsKeptBit : Kept → Circuit → List (List Bool) → ℕ → ℕ → ℕ → Bool → Type 0
+IsKeptBit Bits c patterns = IsAnswerBit c patterns
+IsKeptBit Fails c patterns = IsFailBit c patterns
+
+-- The same of the number at a place of a list.
+abbrev pub IsListedBit : Kept → Circuit → List (List Bool) → List ℕ → ℕ → ℕ → ℕ → Bool → Type 0
+IsListedBit kept c patterns numbers pattern place = IsKeptBit kept c patterns pattern (slice_index numbers place)
+
+-- how many bits are kept of an answer
+abbrev pub kept_width : Kept → ℕ → ℕ
+kept_width Bits positions = positions
+kept_width Fails positions = 1
 
 -- The new table has these bits of a number at a position, from the first pattern on, so many, and other numbers, other positions
 -- and earlier patterns have theirs as before.

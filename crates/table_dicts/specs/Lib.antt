@@ -3,6 +3,7 @@ pub mod AnswerTable
 pub mod AnswerTableFields
 pub mod Entries
 pub mod Grouped
+pub mod ByClass
 pub mod Dictionary
 pub mod Apart
 pub mod Blocks

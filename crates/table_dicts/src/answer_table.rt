@@ -81,6 +81,14 @@ impl AnswerTable {
         &self.cells
     }
 
+    /// The answers of each number, pattern by pattern.
+    pub(crate) fn into_cells(self) -> AnswerRows
+        ensures entries { result ≡ map (full_entry self.rows) (range_with_len 0 self.numbers) }
+        ensures shape { AreRows self.numbers (length self.rows * self.positions) result }
+    {
+        self.cells
+    }
+
     pub fn get(&self, pattern: u32, number: u32, position: u32) -> bool
         requires pattern { pattern < length self.now.rows }
         requires number { number < self.now.numbers }

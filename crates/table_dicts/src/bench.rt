@@ -6,8 +6,9 @@ ghost use Rattle.net_model.specs.FaultList.{faults as faults_of, fault_count, fa
 ghost use Rattle.net_model.specs.Answer.{bit_at, IsAnswer};
 ghost use Rattle.word_sim.specs.GoodSim.{vectors_of};
 ghost use Rattle.fault_sim.specs.FaultSim.{AreDifferences};
-ghost use Rattle.table_dicts.specs.Blocks.{IsBench, HasRun, IsAnswerBit, IsFailBit};
+ghost use Rattle.table_dicts.specs.Blocks.{IsBench, HasRun, IsAnswerBit, IsFailBit, IsKeptBit, kept_width};
 
+use crate::simulating::Kept;
 use fault_list::FaultList;
 use fault_sim::FaultSim;
 use net_model::{Circuit, Vector};
@@ -68,8 +69,21 @@ impl<'a> Bench<'a> {
         self.sim.inject(&self.good, &self.faults.get(number));
     }
 
-    /// The bits of the injected number's answers at a position, a lane for each pattern that was run.
-    pub(crate) fn shown(&self, number: u32, position: u32) -> Lanes
+    /// What is kept of the injected number's answers at a position, a lane for each pattern that was run.
+    pub(crate) fn lanes(&self, kept: Kept, number: u32, position: u32) -> Lanes
+        requires run { HasRun self.now }
+        requires position { position < kept_width kept (length self.now.good.circuit.positions) }
+        requires differ { AreDifferences self.now.good.circuit (fault_numbered self.now.good.circuit number) self.now.block.vectors self.now.sim.differences }
+        ensures { (lane : ℕ) → lane < length self.now.block.vectors → IsKeptBit kept self.now.good.circuit self.now.block.vectors lane number position (bit_at result lane) }
+    {
+        match kept {
+            Kept::Bits => self.shown(number, position),
+            Kept::Fails => self.failing(number),
+        }
+    }
+
+    // The bits of the injected number's answers at a position, a lane for each pattern that was run.
+    fn shown(&self, number: u32, position: u32) -> Lanes
         requires run { HasRun self.now }
         requires position { position < length self.now.good.circuit.positions }
         requires differ { AreDifferences self.now.good.circuit (fault_numbered self.now.good.circuit number) self.now.block.vectors self.now.sim.differences }
@@ -79,8 +93,8 @@ impl<'a> Bench<'a> {
         self.good.lanes(line).xor(self.sim.differs(position))
     }
 
-    /// Whether the injected number's answers differ from the fault-free ones, a lane for each pattern that was run.
-    pub(crate) fn failing(&self, number: u32) -> Lanes
+    // Whether the injected number's answers differ from the fault-free ones, a lane for each pattern that was run.
+    fn failing(&self, number: u32) -> Lanes
         requires run { HasRun self.now }
         requires differ { AreDifferences self.now.good.circuit (fault_numbered self.now.good.circuit number) self.now.block.vectors self.now.sim.differences }
         ensures { (lane : ℕ) → lane < length self.now.block.vectors → IsFailBit self.now.good.circuit self.now.block.vectors lane number 0 (bit_at result lane) }

@@ -48,16 +48,26 @@ pub fn first_repeat(alloc: Global, rows: &AnswerRows) -> Result<Option<u32>, All
     Ok(None)
 }
 
-// The group of each row, and the first row of each group.
+/// The group of each row, and the first row of each group.
 #[derive(Drop)]
-struct Sorted {
-    groups: Groups,
-    firsts: Vec<u32>,
+pub(crate) struct Sorted {
+    pub(crate) groups: Groups,
+    pub(crate) firsts: Vec<u32>,
 }
 
 impl Sorted {
-    // Puts the next row into a group, or begins one.
-    fn put(&mut self, group: u32, row: u32) -> Result<(), AllocError>
+    pub(crate) fn new(alloc: Global) -> Sorted
+        ensures groups { result.groups ≡ [] }
+        ensures firsts { result.firsts.items ≡ [] }
+    {
+        Sorted {
+            groups: Groups::new(alloc),
+            firsts: Vec::new(alloc),
+        }
+    }
+
+    /// Puts the next row into a group, or begins one.
+    pub(crate) fn put(&mut self, group: u32, row: u32) -> Result<(), AllocError>
         requires { group ≤ length self.old.firsts.items }
         ensures groups { OnOk result (self.new.groups ≡ self.old.groups ++ group ∷ []) }
         ensures firsts { OnOk result (self.new.firsts.items ≡ (if group == length self.old.firsts.items then self.old.firsts.items ++ row ∷ [] else self.old.firsts.items)) }
@@ -76,10 +86,7 @@ fn sort(alloc: Global, rows: &AnswerRows) -> Result<Sorted, AllocError>
     ensures { IfOk result (λ sorted. AreFirstsOf rows.now (length rows.now) sorted.groups sorted.firsts.items) }
 {
     let mut begun: BTreeMap<&[u64], u32> = BTreeMap::new(alloc);
-    let mut sorted = Sorted {
-        groups: Groups::new(alloc),
-        firsts: Vec::new(alloc),
-    };
+    let mut sorted = Sorted::new(alloc);
     for row in 0..rows.rows() {
         let next = sorted.firsts.len() as u32;
         let group = group_with(&mut begun, rows.row_words(row), next)?;

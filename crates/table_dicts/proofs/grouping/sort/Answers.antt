@@ -9,12 +9,12 @@ use Rattle.table_dicts.proofs.grouping.sort.Goals.{In_ok-group}
 
 pub loop-row-init : goal.loop-row-init
 loop-row-init c =
-    let groups = c.new.ensures in
-    let firsts = c.new-2.ensures.items in
+    let groups = c.new-sorted.ensures.groups in
+    let firsts = c.new-sorted.ensures.firsts in
     let rows = c.args.rows.now in
     let noted : AreNoted rows [] (get words_order c.new-begun.result) = record { at = λ q. let none : get words_order c.new-begun.result q ≡ None = search rules in rw none (λ k d h. absurd (omega (arith, h))) } in
     record {
-      firsts = subst (λ (gs : List ℕ). AreFirstsOf rows 0 gs c.new-2.result.items) (sym groups) (subst (AreFirstsOf rows 0 []) (sym firsts) (firsts_none rows));
+      firsts = subst (λ (gs : List ℕ). AreFirstsOf rows 0 gs c.new-sorted.result.firsts.items) (sym groups) (subst (AreFirstsOf rows 0 []) (sym firsts) (firsts_none rows));
       noted = subst (λ (fs : List ℕ). AreNoted rows fs (get words_order c.new-begun.result)) (sym firsts) noted;
     }
 

@@ -1,4 +1,4 @@
-use Rattle.std.proofs.Common.{◌≡◌, ◌∙◌, ◌<◌, ◌↔◌, ℕ, Bool, [], length, get_or, sym, subst, IsTrue, arith}
+use Rattle.std.proofs.Common.{◌<◌, ◌↔◌, ℕ, [], length, get_or, subst, IsTrue, arith}
 use Rattle.net_model.specs.Circuit.{Circuit}
 use Rattle.net_model.specs.Answer.{bit_at}
 use Rattle.net_model.specs.FaultList.{fault_numbered}

@@ -1,7 +1,7 @@
 use Rattle.std.proofs.Common.{◌≡◌, ◌-◌, subst, arith}
 use Rattle.table_dicts.specs.Blocks.{AreLanesSet}
 use Rattle.table_dicts.proofs.BlockLemmas.{lanes_none, lanes_more}
-use Rattle.table_dicts.proofs.answers.write_lanes.Goals as goal
+use Rattle.table_dicts.proofs.simulating.write_lanes.Goals as goal
 
 pub set-requires-clause-pattern : goal.set-requires-clause-pattern
 set-requires-clause-pattern c = omega (arith, c.loop-pattern.invariant.sizes.patterns_are, c.requires.within)

@@ -1,0 +1,79 @@
+use Rattle.std.proofs.Common.{◌≡◌, ◌∙◌, ◌<◌, ◌≤◌, ℕ, List, All, length, sym, ap, subst, arith}
+use Rattle.net_model.specs.Circuit.{Circuit}
+use Rattle.net_model.specs.FaultList.{fault_count}
+use Rattle.table_dicts.specs.declared.bench.Bench.{Bench}
+use Rattle.table_dicts.specs.Blocks.{IsListedBit, kept_width, AreNumbersSet, AreRightTo}
+use Rattle.table_dicts.proofs.BlockLemmas.{block_length, block_end, listed_moved, right_none, right_more}
+use Rattle.table_dicts.proofs.simulating.tabulate.Goals as goal
+
+pub loop-first-init : goal.loop-first-init
+loop-first-init c =
+    let sizes = c.in_ok-table.ensures.sizes in
+    let circuit = c.args.circuit.now in
+    let patterns = c.args.patterns.now in
+    let numbers = c.args.numbers.now in
+    record {
+      bench = c.in_ok-bench.ensures.bench;
+      circuit = c.in_ok-bench.ensures.circuit;
+      within = omega arith;
+      right = right_none (IsListedBit c.args.kept circuit patterns numbers) (length patterns) (length numbers) (kept_width c.args.kept (length circuit.positions)) c.in_ok-table.table
+          (record { patterns_are = sizes.patterns_are; numbers_are = sizes.numbers_are; positions_are = sizes.positions_are ∙ (c.width_of-width.ensures ∙ ap (λ (ps : List ℕ). kept_width c.args.kept (length ps)) c.positions.ensures.value) });
+    }
+
+pub run-end-requires-clause-widths : goal.run-end-requires-clause-widths
+run-end-requires-clause-widths c = subst (λ (k : Circuit). All (λ v. length v ≡ k.sources) c.args.patterns.now) (sym c.loop-first.invariant.circuit) c.requires.widths
+
+pub write_block-requires-clause-numbers : goal.write_block-requires-clause-numbers
+write_block-requires-clause-numbers c =
+    subst (λ (k : Circuit). All (λ number. number < fault_count k) c.args.numbers.now) (sym (c.run-end.ensures.circuit ∙ c.loop-first.invariant.circuit)) c.requires.numbers
+
+pub write_block-requires-clause-rows : goal.write_block-requires-clause-rows
+write_block-requires-clause-rows c = c.loop-first.invariant.right.sizes.numbers_are
+
+pub write_block-requires-clause-width : goal.write_block-requires-clause-width
+write_block-requires-clause-width c =
+    c.loop-first.invariant.right.sizes.positions_are ∙ sym (ap (λ (k : Circuit). kept_width c.args.kept (length k.positions)) (c.run-end.ensures.circuit ∙ c.loop-first.invariant.circuit))
+
+pub write_block-requires-clause-end : goal.write_block-requires-clause-end
+write_block-requires-clause-end c =
+    let order : c.loop-first.first ≤ c.run-end.result = omega (arith, c.run-end.ensures.end) in
+    let within : c.run-end.result ≤ length c.args.patterns.now = omega (arith, c.run-end.ensures.end) in
+    omega (arith, ap length c.run-end.ensures.vectors, block_length c.args.patterns.now c.loop-first.first c.run-end.result order within, order)
+
+pub write_block-requires-clause-within : goal.write_block-requires-clause-within
+write_block-requires-clause-within c = omega (arith, c.run-end.ensures.end, c.loop-first.invariant.right.sizes.patterns_are)
+
+pub write_block-requires-clause-few : goal.write_block-requires-clause-few
+write_block-requires-clause-few c = omega (arith, c.run-end.ensures.end)
+
+pub loop-first-preserved : goal.loop-first-preserved
+loop-first-preserved c =
+    let so_far = c.loop-first.invariant in
+    let patterns = c.args.patterns.now in
+    let numbers = c.args.numbers.now in
+    let kept = c.args.kept in
+    let first = c.loop-first.first in
+    let end = c.run-end.result in
+    let bench = c.run-end.new.self in
+    let order : first ≤ end = omega (arith, c.run-end.ensures.end) in
+    let within : end ≤ length patterns = omega (arith, c.run-end.ensures.end) in
+    let circuit : bench.good.circuit ≡ c.args.circuit.now = c.run-end.ensures.circuit ∙ so_far.circuit in
+    let vectors = bench.block.vectors in
+    let set = subst (λ (k : Circuit). AreNumbersSet (IsListedBit kept k vectors numbers) (length vectors) c.loop-first.table c.write_block.new.table (length numbers) first) circuit c.write_block.ensures.set in
+    record {
+      bench = c.write_block.ensures.run.bench;
+      circuit = ap (λ (b : Bench). b.good.circuit) c.write_block.ensures.bench ∙ circuit;
+      within = within;
+      right = right_more end so_far.right set (listed_moved c.args.circuit.now patterns vectors first end c.run-end.ensures.vectors order within kept numbers)
+          (block_end c.args.circuit.now patterns vectors first end c.run-end.ensures.vectors order within) within;
+    }
+
+pub loop-first-smaller : goal.loop-first-smaller
+loop-first-smaller c = omega (arith, c.run-end.ensures.end)
+
+pub returns : goal.returns
+returns c =
+    let patterns = c.args.patterns.now in
+    let numbers = c.args.numbers.now in
+    let all : c.loop-first.first ≡ length patterns = omega (arith, c.loop-first.invariant.within) in
+    subst (λ n. AreRightTo (IsListedBit c.args.kept c.args.circuit.now patterns numbers) (length patterns) (length numbers) (kept_width c.args.kept (length c.args.circuit.now.positions)) n c.loop-first.table) all c.loop-first.invariant.right

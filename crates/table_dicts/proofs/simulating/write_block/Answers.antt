@@ -1,0 +1,50 @@
+use Rattle.std.proofs.Common.{◌≡◌, ◌∙◌, ◌<◌, length, get_or, refl, sym, ap, subst, arith}
+use Rattle.std.proofs.lemmas.List.Elements.{All-get_or}
+use Rattle.net_model.specs.FaultList.{fault_count}
+use Rattle.table_dicts.specs.declared.bench.Bench.{Bench}
+use Rattle.table_dicts.specs.Blocks.{IsKeptBit, kept_width, IsListedBit, IsNumberSet, AreNumbersSet}
+use Rattle.table_dicts.proofs.BlockLemmas.{number_as, numbers_none, numbers_more}
+use Rattle.table_dicts.proofs.simulating.write_block.Goals as goal
+
+pub loop-place-init : goal.loop-place-init
+loop-place-init c =
+    let bench = c.args.bench.now in
+    record { bench = refl; run = c.requires.run; set = numbers_none (IsListedBit c.args.kept bench.good.circuit bench.block.vectors c.args.numbers.now) (length bench.block.vectors) c.args.table.now c.args.first }
+
+pub write_number-requires-clause-number : goal.write_number-requires-clause-number
+write_number-requires-clause-number c =
+    omega (arith, All-get_or (λ number. number < fault_count c.args.bench.now.good.circuit) c.args.numbers.now c.loop-place.place 0 (omega arith) c.requires.numbers, ap (λ (b : Bench). fault_count b.good.circuit) c.loop-place.invariant.bench)
+
+pub write_number-requires-clause-place : goal.write_number-requires-clause-place
+write_number-requires-clause-place c = omega (arith, c.requires.rows, c.loop-place.invariant.set.sizes.numbers_are)
+
+pub write_number-requires-clause-width : goal.write_number-requires-clause-width
+write_number-requires-clause-width c = c.loop-place.invariant.set.sizes.positions_are ∙ (c.requires.width ∙ sym (ap (λ (b : Bench). kept_width c.args.kept (length b.good.circuit.positions)) c.loop-place.invariant.bench))
+
+pub write_number-requires-clause-end : goal.write_number-requires-clause-end
+write_number-requires-clause-end c = omega (arith, c.requires.end, ap (λ (b : Bench). length b.block.vectors) c.loop-place.invariant.bench)
+
+pub write_number-requires-clause-within : goal.write_number-requires-clause-within
+write_number-requires-clause-within c = omega (arith, c.requires.within, c.loop-place.invariant.set.sizes.patterns_are)
+
+pub loop-place-preserved : goal.loop-place-preserved
+loop-place-preserved c =
+    let so_far = c.loop-place.invariant in
+    let new = c.write_number.new.bench in
+    let bench = c.args.bench.now in
+    let place = c.loop-place.place in
+    let number = get_or c.args.numbers.now place 0 in
+    let vectors = bench.block.vectors in
+    let Set : Bench → Type 0 = λ b. IsNumberSet (λ lane at. IsKeptBit c.args.kept b.good.circuit b.block.vectors lane number) (length b.block.vectors) c.loop-place.table c.write_number.new.table place c.args.first c.loop-place.table.positions in
+    let one = number_as (IsListedBit c.args.kept bench.good.circuit vectors c.args.numbers.now) (λ lane k bit right. right) (subst Set so_far.bench c.write_number.ensures.set) in
+    record {
+      bench = c.write_number.ensures.bench ∙ ap (λ (b : Bench). let made : Bench = record b { sim = new.sim } in made) so_far.bench;
+      run = c.write_number.ensures.run;
+      set = numbers_more c.loop-place.table.positions so_far.set one so_far.set.sizes.positions_are (omega (arith, c.requires.end, c.requires.within)) (omega (arith, c.requires.rows));
+    }
+
+pub returns-clause-set : goal.returns-clause-set
+returns-clause-set c =
+    let bench = c.args.bench.now in
+    let all : c.loop-place.place ≡ length c.args.numbers.now = omega arith in
+    subst (λ n. AreNumbersSet (IsListedBit c.args.kept bench.good.circuit bench.block.vectors c.args.numbers.now) (length bench.block.vectors) c.args.table.now c.loop-place.table n c.args.first) all c.loop-place.invariant.set

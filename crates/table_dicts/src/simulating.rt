@@ -1,0 +1,139 @@
+//! What fault numbers answer to patterns, by simulation of a block of patterns at once.
+
+ghost use Rattle.std.specs.Prelude.{◌≡◌, ◌+◌, ◌-◌, ◌<◌, ◌≤◌, ◌^◌, length, All, IfOk};
+ghost use Rattle.net_model.specs.FaultList.{faults as faults_of, fault_count};
+ghost use Rattle.table_dicts.specs.Blocks.{HasRun, IsKeptBit, IsListedBit, kept_width, AreLanesSet, IsNumberSet, AreNumbersSet, AreRightTo};
+
+use crate::answer_table::AnswerTable;
+use crate::bench::Bench;
+use fault_list::FaultList;
+use net_model::{Circuit, Vector};
+use std::alloc::{AllocError, Global};
+use word_sim::{LANES, Lanes};
+
+/// What is kept of a number's answer to a pattern: its bits, or whether it differs from the fault-free one.
+#[derive(Clone, Copy)]
+pub(crate) enum Kept {
+    Bits,
+    Fails,
+}
+
+/// What is kept of the answers of these numbers, one behind another, to patterns. `faults` is the list of the circuit's faults.
+pub(crate) fn tabulate(
+    alloc: Global,
+    circuit: &Circuit,
+    faults: &FaultList,
+    patterns: &[Vector],
+    kept: Kept,
+    numbers: &[u32],
+) -> Result<AnswerTable, AllocError>
+    requires faults { faults.now ≡ faults_of circuit.now }
+    requires widths { All (λ v. length v ≡ circuit.now.sources) patterns.now }
+    requires few { length patterns.now < 2 ^ 32 }
+    requires numbers { All (λ number. number < fault_count circuit.now) numbers.now }
+    requires count { length numbers.now < 2 ^ 32 }
+    ensures { IfOk result (AreRightTo (IsListedBit kept circuit.now patterns.now numbers.now) (length patterns.now) (length numbers.now) (kept_width kept (length circuit.now.positions)) (length patterns.now)) }
+{
+    let width = width_of(kept, circuit.positions().len() as u32);
+    let mut table = AnswerTable::zeros(alloc, patterns.len() as u32, numbers.len() as u32, width)?;
+    let mut bench = Bench::new(alloc, circuit, faults)?;
+    let mut first = 0;
+    while first < patterns.len() {
+        let end = bench.run(patterns, first);
+        write_block(
+            &mut bench,
+            kept,
+            numbers,
+            first as u32,
+            end as u32,
+            &mut table,
+        );
+        first = end;
+    }
+    Ok(table)
+}
+
+// How many bits are kept of an answer.
+fn width_of(kept: Kept, positions: u32) -> u32
+    ensures { result ≡ kept_width kept positions }
+{
+    match kept {
+        Kept::Bits => positions,
+        Kept::Fails => 1,
+    }
+}
+
+// Writes what is kept of the numbers at the patterns that were run, which are those from the first one on up to the end.
+fn write_block(
+    bench: &mut Bench,
+    kept: Kept,
+    numbers: &[u32],
+    first: u32,
+    end: u32,
+    table: &mut AnswerTable,
+)
+    requires run { HasRun bench.old }
+    requires numbers { All (λ number. number < fault_count bench.old.good.circuit) numbers.now }
+    requires count { length numbers.now < 2 ^ 32 }
+    requires rows { table.old.numbers ≡ length numbers.now }
+    requires width { table.old.positions ≡ kept_width kept (length bench.old.good.circuit.positions) }
+    requires end { end ≡ first + length bench.old.block.vectors }
+    requires within { end ≤ length table.old.rows }
+    requires few { end ≤ first + LANES }
+    ensures bench { bench.new ≡ record bench.old { sim = bench.new.sim } }
+    ensures run { HasRun bench.new }
+    ensures set { AreNumbersSet (IsListedBit kept bench.old.good.circuit bench.old.block.vectors numbers.now) (length bench.old.block.vectors) table.old table.new (length numbers.now) first }
+{
+    for (place, number) in numbers.iter().enumerate() {
+        write_number(bench, kept, *number, place as u32, first, end, table);
+    }
+}
+
+// Writes what is kept of a number at the patterns that were run, as the table's number at a place.
+fn write_number(
+    bench: &mut Bench,
+    kept: Kept,
+    number: u32,
+    place: u32,
+    first: u32,
+    end: u32,
+    table: &mut AnswerTable,
+)
+    requires run { HasRun bench.old }
+    requires number { number < fault_count bench.old.good.circuit }
+    requires place { place < table.old.numbers }
+    requires width { table.old.positions ≡ kept_width kept (length bench.old.good.circuit.positions) }
+    requires end { end ≡ first + length bench.old.block.vectors }
+    requires within { end ≤ length table.old.rows }
+    requires few { end ≤ first + LANES }
+    ensures bench { bench.new ≡ record bench.old { sim = bench.new.sim } }
+    ensures run { HasRun bench.new }
+    ensures set { IsNumberSet (λ lane at. IsKeptBit kept bench.old.good.circuit bench.old.block.vectors lane number) (length bench.old.block.vectors) table.old table.new place first table.old.positions }
+{
+    bench.inject(number);
+    for position in 0..table.positions() {
+        let lanes = bench.lanes(kept, number, position);
+        write_lanes(table, place, position, first, end, lanes);
+    }
+}
+
+// Writes bits of a number at a position, lane by lane, from the first pattern on up to the end.
+fn write_lanes(
+    table: &mut AnswerTable,
+    number: u32,
+    position: u32,
+    first: u32,
+    end: u32,
+    lanes: Lanes,
+)
+    requires number { number < table.old.numbers }
+    requires position { position < table.old.positions }
+    requires order { first ≤ end }
+    requires within { end ≤ length table.old.rows }
+    requires few { end ≤ first + LANES }
+    ensures { AreLanesSet table.old table.new number position first (end - first) lanes }
+{
+    for pattern in first..end {
+        table.set(pattern, number, position, lanes.get(pattern - first));
+    }
+}

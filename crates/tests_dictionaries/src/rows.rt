@@ -1,0 +1,70 @@
+//! Equal rows in groups, and the first that comes again.
+
+use crate::spelled::{rows_of, rows_with, spelled};
+use net_model::AnswerRows;
+use std::alloc::Global;
+use std::process::Abort;
+use std::test::Fail;
+use table_dicts::{first_repeat, group_rows};
+
+fn check_rows(
+    rt: &impl Abort,
+    alloc: Global,
+    rows: &AnswerRows,
+    groups: &[u32],
+    firsts: usize,
+    repeat: Option<u32>,
+) -> Result<(), Fail> {
+    if rows.rows() > 1000 {
+        return Err(Fail::new("there are too many rows"));
+    }
+    let grouped = group_rows(alloc, rows)?;
+    assert_eq!(rt; grouped.groups.as_slice(), groups);
+    assert_eq!(rt; grouped.entries.rows(), firsts);
+    assert_eq!(rt; first_repeat(alloc, rows)?, repeat);
+    Ok(())
+}
+
+#[test]
+fn groups_of_rows(rt: HostRuntime) -> Result<(), Fail> {
+    let table: [(usize, &[&str], &[u32], usize, Option<u32>); 7] = [
+        (2, &[], &[], 0, None),
+        (2, &["01"], &[0], 1, None),
+        (2, &["01", "10", "11"], &[0, 1, 2], 3, None),
+        (2, &["01", "01"], &[0, 0], 1, Some(1)),
+        (2, &["01", "10", "10", "01"], &[0, 1, 1, 0], 2, Some(2)),
+        (
+            2,
+            &["00", "11", "01", "11", "00", "10"],
+            &[0, 1, 2, 1, 0, 3],
+            4,
+            Some(3),
+        ),
+        (0, &["", "", ""], &[0, 0, 0], 1, Some(1)),
+    ];
+    for (width, texts, groups, firsts, repeat) in table {
+        let rows = rows_of(rt.alloc(), width, texts)?;
+        check_rows(&rt, rt.alloc(), &rows, groups, firsts, repeat)?;
+    }
+    Ok(())
+}
+
+// Rows of 130 bits, three words, that differ in their second or third word alone.
+#[test]
+fn groups_of_long_rows(rt: HostRuntime) -> Result<(), Fail> {
+    let ones = [(0, 64), (1, 129), (2, 64), (3, 127), (4, 129)];
+    let rows = rows_with(rt.alloc(), 6, 130, &ones)?;
+    check_rows(&rt, rt.alloc(), &rows, &[0, 1, 0, 2, 1, 3], 4, Some(2))
+}
+
+#[test]
+fn entries_are_first_rows(rt: HostRuntime) -> Result<(), Fail> {
+    let alloc = rt.alloc();
+    let rows = rows_of(alloc, 3, &["011", "100", "011", "001"])?;
+    if rows.rows() > 1000 {
+        return Err(Fail::new("there are too many rows"));
+    }
+    let grouped = group_rows(alloc, &rows)?;
+    assert_eq!(rt; spelled(alloc, &grouped.entries)?.as_str(), "011 100 001 ");
+    Ok(())
+}
