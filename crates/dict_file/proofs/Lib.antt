@@ -1,0 +1,15 @@
+pub mod Standing
+pub mod BitLemmas
+pub mod ManyRows
+pub mod PartLemmas
+pub mod GroupingOnce
+pub mod FieldLemmas
+pub mod VersionOne
+pub mod VersionTwo
+pub mod OnceLemmas
+pub mod ReverseLemmas
+pub mod LoadLemmas
+pub mod GroupReading
+pub mod PushLemmas
+pub mod PlaceLemmas
+pub mod DecodeLemmas

@@ -1,0 +1,244 @@
+-- Where rows of a file are, and which of them are whole, right and new.
+use Rattle.std.proofs.Common.{◌≡◌, ◌∙◌, ℕ, ◌+◌, ◌-◌, ◌*◌, ◌/◌, ◌^◌, ◌<◌, ◌≤◌, cond, eqb, List, [], length, get_or, take, min, replicate, refl, sym, ap, subst, arith, inl, inr, false}
+use Rattle.std.proofs.lemmas.Bool.{cases_lt, cases_Bool}
+use Rattle.std.proofs.lemmas.List.{get_or-take, length-take-le, take_all, length-replicate, get_or-replicate}
+use Rattle.std.proofs.lemmas.List.FromFn.{fill_by_all}
+use Rattle.std.proofs.lemmas.Nat.{mul-le}
+use Rattle.std.proofs.Math.Nat.{div-mul-le_self, lt-div-mul-add, mul-le-mul_right}
+use Rattle.table_dicts.specs.Grouped.{AreDifferent, IsFirstRepeat}
+use Rattle.dict_file.specs.declared.fault.DictFault.{DictFault}
+use Rattle.dict_file.specs.declared.fault.DictFault.TheVariants.{Short, Value}
+use Rattle.dict_file.specs.declared.row_bytes.RowsAt.{RowsAt}
+use Rattle.dict_file.specs.Packing.{byte_count, row_in, HasZeroPadding}
+use Rattle.dict_file.specs.Spelling.{limit, most_bytes}
+use Rattle.dict_file.specs.Parts.{each}
+use Rattle.dict_file.specs.Reading as reading
+use Rattle.dict_file.specs.Reading.{row_start, rows_end, row_of, row_part, new_row_part, IsNewRow, head_part, groups_part, baselines_at, entries_at}
+use Rattle.dict_file.specs.Places.{IsPlaced, AreWholeTo, AreRightTo, rows_of}
+use Rattle.dict_file.proofs.FieldLemmas.{length-rows_of, get_or-rows_of}
+
+-- ---- whole rows
+
+row_below : (from j k size : ℕ) → j < k → from + j * size + size ≤ from + k * size
+row_below from j k size h =
+    let e : (j + 1) * size ≤ k * size = mul-le-mul_right size (omega (arith, h)) in
+    let m : (j + 1) * size ≡ j * size + size = omega arith in
+    omega (arith, e, m)
+
+pub start_below : (rows : RowsAt) (j k : ℕ) → j < k → row_start rows j + byte_count rows.width ≤ row_start rows k
+start_below rows j k h = row_below rows.from j k (byte_count rows.width) h
+
+none_within : (from count size len : ℕ) → size ≡ 0 → from ≤ len → from + count * size ≤ len
+none_within from count size len none within =
+    let e : count * size ≡ count * 0 = ap (λ n. count * n) none in
+    let z : count * 0 ≡ 0 = omega arith in
+    omega (arith, e, z, within)
+
+some_within : (from count size len : ℕ) → 0 < size → from ≤ len → from + min count ((len - from) / size) * size ≤ len
+some_within from count size len some within =
+    let fit = (len - from) / size in
+    let low : fit * size ≤ len - from = div-mul-le_self (len - from) size in
+    let less : min count fit * size ≤ fit * size = mul-le-mul_right size (omega arith) in
+    omega (arith, less, low, within)
+
+some_next : (from count size len : ℕ) → 0 < size → from ≤ len → min count ((len - from) / size) < count → len < from + min count ((len - from) / size) * size + size
+some_next from count size len some within h =
+    let fit = (len - from) / size in
+    let high : len - from < fit * size + size = lt-div-mul-add some in
+    let e : min count fit ≡ fit = omega (arith, h) in
+    let f : min count fit * size ≡ fit * size = ap (λ k. k * size) e in
+    omega (arith, high, f, within)
+
+pub all_whole : (len : ℕ) (rows : RowsAt) → rows.from ≤ len → byte_count rows.width ≡ 0 → AreWholeTo len rows rows.count
+all_whole len rows from none = record {
+  within = omega arith;
+  inside = none_within rows.from rows.count (byte_count rows.width) len none from;
+  next = λ h. absurd (omega (arith, h));
+}
+
+pub some_whole : (len : ℕ) (rows : RowsAt) → rows.from ≤ len → 0 < byte_count rows.width → AreWholeTo len rows (min rows.count ((len - rows.from) / byte_count rows.width))
+some_whole len rows from some = record {
+  within = omega arith;
+  inside = some_within rows.from rows.count (byte_count rows.width) len some from;
+  next = λ h. some_next rows.from rows.count (byte_count rows.width) len some from h;
+}
+
+-- ---- right rows
+
+module _ (bytes : List ℕ) {rows : RowsAt} {whole : ℕ} (are : AreWholeTo (length bytes) rows whole) where
+  pub row_whole : (k : ℕ) → k < whole → row_start rows k + byte_count rows.width ≤ length bytes
+  row_whole k h = let s = start_below rows k whole h in omega (arith, s, are.inside)
+
+  pub all_right : ((k : ℕ) → k < whole → HasZeroPadding bytes (row_start rows k) rows.width) → AreRightTo bytes rows whole
+  all_right zeros = record {
+    within = are.within;
+    inside = are.inside;
+    each_is = λ k h. (row_whole k h, zeros k h);
+    next = λ h right. let short = are.next h in omega (arith, short, right.0);
+  }
+
+  pub right_to : (row : ℕ) → row < whole → ((k : ℕ) → k < row → HasZeroPadding bytes (row_start rows k) rows.width) → (HasZeroPadding bytes (row_start rows row) rows.width → ⊥) → AreRightTo bytes rows row
+  right_to row low zeros wrong = record {
+    within = omega (arith, low, are.within);
+    inside = let w = row_whole row low in omega (arith, w);
+    each_is = λ k h. (row_whole k (omega (arith, h, low)), zeros k h);
+    next = λ h right. wrong right.1;
+  }
+
+pub no_padding : (bytes : List ℕ) (start width : ℕ) → 8 * byte_count width - width ≡ 0 → HasZeroPadding bytes start width
+no_padding bytes start width none at over h = absurd (omega (arith, none, over, h))
+
+last_end : (from count size : ℕ) → 0 < count → from + (count - 1) * size + size ≡ from + count * size
+last_end from count size some =
+    let e : (count - 1 + 1) * size ≡ count * size = ap (λ n. n * size) (let z : count - 1 + 1 ≡ count = omega (arith, some) in z) in
+    let m : (count - 1 + 1) * size ≡ (count - 1) * size + size = omega arith in
+    omega (arith, e, m)
+
+no_end : (from count size len : ℕ) → count ≤ 0 → from ≤ len → from + count * size ≤ len
+no_end from count size len none within =
+    let e : count * size ≡ 0 * size = ap (λ n. n * size) (let z : count ≡ 0 = omega (arith, none) in z) in
+    omega (arith, e, within)
+
+-- rows that are right end within the bytes
+pub rows_inside : (bytes : List ℕ) (rows : RowsAt) → rows.from ≤ length bytes → (each rows.count (row_part bytes rows)).Right → rows_end rows ≤ length bytes
+rows_inside bytes rows from right = elim (cases_lt 0 rows.count) [
+  | inr none ↦ no_end rows.from rows.count (byte_count rows.width) (length bytes) none from
+  | inl some ↦
+      let end = last_end rows.from rows.count (byte_count rows.width) some in
+      omega (arith, end, (right (rows.count - 1) (omega (arith, some))).0)
+]
+
+-- ---- new rows
+
+pub new_from_different : (bytes : List ℕ) (rows : RowsAt) (count n j : ℕ) → n ≤ count → AreDifferent (take n (rows_of bytes rows count)) → j < n → IsNewRow bytes rows j
+new_from_different bytes rows count n j h different low i below same =
+    let all = rows_of bytes rows count in
+    let long : length (take n all) ≡ n = length-take-le n all (omega (arith, h, length-rows_of bytes rows count)) in
+    let at : (k : ℕ) → k < n → get_or (take n all) k [] ≡ row_of bytes rows k = λ k l. get_or-take n all k [] l ∙ get_or-rows_of bytes rows count k (omega (arith, l, h)) in
+    let e = different.apart i j (omega (arith, below, low, long)) (omega (arith, low, long)) (at i (omega (arith, below, low)) ∙ (same ∙ sym (at j low))) in
+    omega (arith, e, below)
+
+pub all_new : (bytes : List ℕ) (rows : RowsAt) (count : ℕ) → AreDifferent (rows_of bytes rows count) → (j : ℕ) → j < count → IsNewRow bytes rows j
+all_new bytes rows count different j low =
+    new_from_different bytes rows count count j (omega arith) (subst AreDifferent (sym (take_all count (rows_of bytes rows count) (omega (arith, length-rows_of bytes rows count)))) different) low
+
+pub not_new : (bytes : List ℕ) (rows : RowsAt) (count row : ℕ) → IsFirstRepeat (rows_of bytes rows count) row → IsNewRow bytes rows row → ⊥
+not_new bytes rows count row is new =
+    let inside : row < count = omega (arith, is.inside, length-rows_of bytes rows count) in
+    let r = is.earlier in
+    new r.0 r.1 (sym (get_or-rows_of bytes rows count r.0 (omega (arith, r.1, inside))) ∙ (r.2 ∙ get_or-rows_of bytes rows count row inside))
+
+pub different_from_new : (bytes : List ℕ) (rows : RowsAt) (count : ℕ) → ((j : ℕ) → j < count → IsNewRow bytes rows j) → AreDifferent (rows_of bytes rows count)
+different_from_new bytes rows count new =
+    let all = rows_of bytes rows count in
+    let low : (k : ℕ) → k < length all → k < count = λ k h. omega (arith, h, length-rows_of bytes rows count) in
+    record {
+      apart = λ a b ha hb e.
+          let same : row_of bytes rows a ≡ row_of bytes rows b = sym (get_or-rows_of bytes rows count a (low a ha)) ∙ (e ∙ get_or-rows_of bytes rows count b (low b hb)) in
+          elim (cases_lt a b) [
+            | inl less ↦ absurd (new b (low b hb) a less same)
+            | inr over ↦ elim (cases_lt b a) [
+              | inl less ↦ absurd (new a (low a ha) b less (sym same))
+              | inr past ↦ omega (arith, over, past)
+            ]
+          ];
+    }
+
+-- ---- the sizes of a head that is right
+
+pub baselines_few : (bytes : List ℕ) → reading.patterns bytes ≤ limit → reading.baseline_count bytes ≤ limit
+baselines_few bytes h = elim (cases_Bool (eqb (reading.kind bytes) 2)) [
+  | inl full ↦ let e : reading.baseline_count bytes ≡ 0 = ap (λ b. cond b 0 (reading.patterns bytes)) full in omega (arith, e)
+  | inr other ↦ let e : reading.baseline_count bytes ≡ reading.patterns bytes = ap (λ b. cond b 0 (reading.patterns bytes)) other in omega (arith, e, h)
+]
+
+pub entries_narrow : (bytes : List ℕ) → reading.patterns bytes ≤ limit → reading.positions bytes ≤ limit → reading.entry_width bytes < 2 ^ 60
+entries_narrow bytes h k = elim (cases_Bool (eqb (reading.kind bytes) 2)) [
+  | inl full ↦
+      let e : reading.entry_width bytes ≡ reading.patterns bytes * reading.positions bytes = ap (λ b. cond b (reading.patterns bytes * reading.positions bytes) (reading.patterns bytes)) full in
+      let m : reading.patterns bytes * reading.positions bytes ≤ limit * limit = mul-le (reading.patterns bytes) (reading.positions bytes) limit limit h k in
+      omega (arith, e, m)
+  | inr other ↦
+      let e : reading.entry_width bytes ≡ reading.patterns bytes = ap (λ b. cond b (reading.patterns bytes * reading.positions bytes) (reading.patterns bytes)) other in
+      omega (arith, e, h)
+]
+
+pub baselines_placed : (bytes : List ℕ) (from : ℕ) → (head_part bytes).Right → length bytes ≤ most_bytes → from ≤ length bytes → IsPlaced bytes (baselines_at bytes from)
+baselines_placed bytes from right short within =
+    let few = baselines_few bytes right.1.1.1.1.0.1 in
+    let narrow = right.1.1.1.0.1 in
+    record { begins = within; short = short; narrow = omega (arith, narrow); few = omega (arith, few) }
+
+pub entries_placed : (bytes : List ℕ) (from count : ℕ) → (head_part bytes).Right → length bytes ≤ most_bytes → from ≤ length bytes → count < 2 ^ 32 → IsPlaced bytes (entries_at bytes from count)
+entries_placed bytes from count right short within few = record { begins = within; short = short; narrow = entries_narrow bytes right.1.1.1.1.0.1 right.1.1.1.0.1; few = few }
+
+-- ---- rows without bits
+
+pub no_bits : (bytes : List ℕ) (rows : RowsAt) (count : ℕ) → rows.width ≡ 0 → replicate count (replicate rows.width false) ≡ rows_of bytes rows count
+no_bits bytes rows count none =
+    fill_by_all (row_of bytes rows) (replicate count (replicate rows.width false)) count [] (length-replicate count (replicate rows.width false))
+    (λ k h. get_or-replicate count k (replicate rows.width false) [] h ∙ subst (λ w. replicate w false ≡ row_in bytes (row_start rows k) w) (sym none) refl)
+
+-- ---- what a loop over rows has, as it is found
+
+pub rows_found : {bytes : List ℕ} {rows : RowsAt} {right : ℕ} → AreRightTo bytes rows right → rows.count ≤ right → (each rows.count (row_part bytes rows)).Right
+rows_found are all k h = are.each_is k (omega (arith, h, all))
+
+pub rows_refused : {bytes : List ℕ} {rows : RowsAt} {right : ℕ} (fault : DictFault) → AreRightTo bytes rows right → right < rows.count → (row_part bytes rows right).Refused fault → (each rows.count (row_part bytes rows)).Refused fault
+rows_refused {bytes} {rows} {right} fault are low refused = (right, low, are.each_is, refused)
+
+pub new_rows_found : {bytes : List ℕ} {rows : RowsAt} {right : ℕ} → AreRightTo bytes rows right → rows.count ≤ right → AreDifferent (rows_of bytes rows right) → (each rows.count (new_row_part bytes rows)).Right
+new_rows_found {bytes} {rows} {right} are all different k h = (are.each_is k (omega (arith, h, all)), all_new bytes rows right different k (omega (arith, h, all)))
+
+pub new_rows_refused : {bytes : List ℕ} {rows : RowsAt} {right : ℕ} (fault : DictFault) → AreRightTo bytes rows right → right < rows.count → AreDifferent (rows_of bytes rows right) → (row_part bytes rows right).Refused fault
+    → (each rows.count (new_row_part bytes rows)).Refused fault
+new_rows_refused {bytes} {rows} {right} fault are low different refused =
+    (right, low, (λ j h. (are.each_is j h, all_new bytes rows right different j h)), inl refused)
+
+pub repeat_refused : {bytes : List ℕ} {rows : RowsAt} {right : ℕ} (row place : ℕ) → AreRightTo bytes rows right → IsFirstRepeat (rows_of bytes rows right) row → place ≡ row_start rows row + byte_count rows.width - 1
+    → (each rows.count (new_row_part bytes rows)).Refused (Value place)
+repeat_refused {bytes} {rows} {right} row place are is at =
+    let inside : row < right = omega (arith, is.inside, length-rows_of bytes rows right) in (
+      row,
+      omega (arith, inside, are.within),
+      (λ j h. (are.each_is j (omega (arith, h, inside)), new_from_different bytes rows right row j (omega (arith, inside)) is.first h)),
+      inr (are.each_is row inside, (not_new bytes rows right row is, ap Value at)),
+    )
+
+-- why a row is refused
+pub cut_row : (bytes : List ℕ) (rows : RowsAt) (k : ℕ) → length bytes < row_start rows k + byte_count rows.width → (row_part bytes rows k).Refused (Short (length bytes))
+cut_row bytes rows k short = inl ((λ h. omega (arith, h, short)), refl)
+
+pub padded_row : (bytes : List ℕ) (rows : RowsAt) (k place : ℕ) → row_start rows k + byte_count rows.width ≤ length bytes → ((row_part bytes rows k).Right → ⊥) → place ≡ row_start rows k + byte_count rows.width - 1
+    → (row_part bytes rows k).Refused (Value place)
+padded_row bytes rows k place whole wrong at = inr (whole, ((λ zeros. wrong (whole, zeros)), ap Value at))
+
+-- ---- rows at places that are equal
+
+pub moved_right : (bytes : List ℕ) (rows others : RowsAt) → rows ≡ others → (each rows.count (row_part bytes rows)).Right → (each others.count (row_part bytes others)).Right
+moved_right bytes rows others same right = subst (λ (r : RowsAt). (each r.count (row_part bytes r)).Right) same right
+
+pub moved_refused : (bytes : List ℕ) (rows others : RowsAt) (fault : DictFault) → rows ≡ others → (each rows.count (row_part bytes rows)).Refused fault → (each others.count (row_part bytes others)).Refused fault
+moved_refused bytes rows others fault same refused = subst (λ (r : RowsAt). (each r.count (row_part bytes r)).Refused fault) same refused
+
+pub moved_new_right : (bytes : List ℕ) (rows others : RowsAt) → rows ≡ others → (each rows.count (new_row_part bytes rows)).Right → (each others.count (new_row_part bytes others)).Right
+moved_new_right bytes rows others same right = subst (λ (r : RowsAt). (each r.count (new_row_part bytes r)).Right) same right
+
+pub moved_new_refused : (bytes : List ℕ) (rows others : RowsAt) (fault : DictFault) → rows ≡ others → (each rows.count (new_row_part bytes rows)).Refused fault → (each others.count (new_row_part bytes others)).Refused fault
+moved_new_refused bytes rows others fault same refused = subst (λ (r : RowsAt). (each r.count (new_row_part bytes r)).Refused fault) same refused
+
+pub moved_rows : (bytes : List ℕ) (rows others : RowsAt) → rows ≡ others → rows_of bytes rows rows.count ≡ rows_of bytes others others.count
+moved_rows bytes rows others same = ap (λ (r : RowsAt). rows_of bytes r r.count) same
+
+-- rows that were read end within the bytes
+pub ends_inside : (bytes : List ℕ) (rows others : RowsAt) → rows ≡ others → others.from ≤ length bytes → (each rows.count (row_part bytes rows)).Right → rows_end rows ≤ length bytes
+ends_inside bytes rows others same from right = rows_inside bytes rows (subst (λ (r : RowsAt). r.from ≤ length bytes) (sym same) from) right
+
+pub entries_moved : (bytes : List ℕ) (rows : RowsAt) (from count at number : ℕ) → rows ≡ entries_at bytes from count → from ≡ at → count ≡ number → rows ≡ entries_at bytes at number
+entries_moved bytes rows from count at number same from_is count_is = same ∙ (ap (λ n. entries_at bytes n count) from_is ∙ ap (entries_at bytes at) count_is)
+
+pub group_numbers_inside : (bytes : List ℕ) → 0 < reading.numbers bytes → (groups_part bytes).Right → reading.groups_from bytes + 4 * reading.numbers bytes ≤ length bytes
+group_numbers_inside bytes some right = let last = (right.0 (reading.numbers bytes - 1) (omega (arith, some))).0 in omega (arith, last, some)
+
+pub new_are_right : (bytes : List ℕ) (rows : RowsAt) → (each rows.count (new_row_part bytes rows)).Right → (each rows.count (row_part bytes rows)).Right
+new_are_right bytes rows right = λ k h. (right k h).0

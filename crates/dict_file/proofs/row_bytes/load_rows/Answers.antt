@@ -1,0 +1,21 @@
+use Rattle.std.proofs.Common.{◌∙◌, ◌<◌, arith}
+use Rattle.table_dicts.proofs.RowLemmas.{width_at, rows_more, rows_all}
+use Rattle.dict_file.specs.Places.{rows_of}
+use Rattle.dict_file.proofs.FieldLemmas.{length-rows_of, get_or-rows_of}
+use Rattle.dict_file.proofs.PlaceLemmas.{no_bits}
+use Rattle.dict_file.proofs.row_bytes.load_rows.Goals as goal
+
+pub returns-then-rows-eq0 : goal.returns-then-rows-eq0
+returns-then-rows-eq0 c = c.in_ok-loaded.ensures ∙ no_bits c.args.bytes.now c.args.rows c.args.count c.if-rows-eq0.true
+
+pub loop-row-preserved : goal.loop-row-preserved
+loop-row-preserved c =
+    let below : c.loop-row.row < c.args.count = omega arith in
+    let set = rw (width_at c.loop-row.invariant.are c.loop-row.row below, c.start-start.ensures) at c.load_row.ensures in
+    rows_more c.loop-row.invariant set
+
+pub returns : goal.returns
+returns c =
+    let bytes = c.args.bytes.now in
+    let rows = c.args.rows in
+    rows_all (rows_of bytes rows c.args.count) c.loop-row.invariant (omega arith) (length-rows_of bytes rows c.args.count) (λ row h. get_or-rows_of bytes rows c.args.count row h)

@@ -1,0 +1,40 @@
+-- Rows of a file, as they are read.
+use Rattle.std.specs.Prelude.{◌≡◌, ℕ, ◌+◌, ◌-◌, ◌≤◌, ◌<◌, ◌^◌, Bool, List, length, map}
+use Rattle.std.specs.List.{range_with_len}
+use Rattle.table_dicts.specs.Grouped.{IsFirstRepeat}
+use Rattle.dict_file.specs.declared.fault.DictFault.{DictFault}
+use Rattle.dict_file.specs.declared.fault.DictFault.TheVariants.{Value}
+use Rattle.dict_file.specs.declared.row_bytes.RowsAt.{RowsAt}
+use Rattle.dict_file.specs.Packing.{byte_count}
+use Rattle.dict_file.specs.Spelling.{most_bytes}
+use Rattle.dict_file.specs.Reading.{row_start, row_of, row_part}
+
+-- The rows begin within bytes that aren't too many, and their sizes are small enough to count with.
+pub record IsPlaced (bytes : List ℕ) (rows : RowsAt) : Type 0 where
+  pub begins : rows.from ≤ length bytes
+  pub short : length bytes ≤ most_bytes
+  pub narrow : rows.width < 2 ^ 60
+  pub few : rows.count < 2 ^ 32
+
+-- the first rows, so many
+abbrev pub rows_of : List ℕ → RowsAt → ℕ → List (List Bool)
+rows_of bytes rows count = map (row_of bytes rows) (range_with_len 0 count)
+
+-- So many rows are right, and the next one isn't, if there is one.
+pub record AreRightTo (bytes : List ℕ) (rows : RowsAt) (right : ℕ) : Type 0 where
+  pub within : right ≤ rows.count
+  pub inside : row_start rows right ≤ length bytes
+  pub each_is : (k : ℕ) → k < right → (row_part bytes rows k).Right
+  pub next : right < rows.count → (row_part bytes rows right).Right → ⊥
+
+-- So many rows are whole, and the next one isn't, if there is one.
+pub record AreWholeTo (len : ℕ) (rows : RowsAt) (whole : ℕ) : Type 0 where
+  pub within : whole ≤ rows.count
+  pub inside : row_start rows whole ≤ len
+  pub next : whole < rows.count → len < row_start rows whole + byte_count rows.width
+
+-- The fault tells the last byte of the first row that is equal to an earlier one.
+pub record TellsRepeat (read : List (List Bool)) (rows : RowsAt) (fault : DictFault) : Type 0 where
+  pub row : ℕ
+  pub repeats : IsFirstRepeat read row
+  pub fault_is : fault ≡ Value (row_start rows row + byte_count rows.width - 1)

@@ -1,0 +1,68 @@
+-- The bytes of a dictionary, in either version.
+use Rattle.std.specs.Prelude.{◌≡◌, ◌<◌, ◌≤◌, ◌^◌, ℕ, Bool, List, ◌∷◌, ◌++◌, flat_map, map, length, codes}
+use Rattle.std.specs.List.{range_with_len}
+use Rattle.byteorder.specs.Endian.{big_bytes}
+use Rattle.table_dicts.specs.declared.dict.Dict.{Dict}
+use Rattle.table_dicts.specs.declared.dict.DictKind.{DictKind}
+use Rattle.table_dicts.specs.declared.dict.DictKind.TheVariants.{PassFail, Full, SameDiff}
+use Rattle.table_dicts.specs.Dictionary.{IsShaped, IsGroupedDict, entry_of}
+use Rattle.dict_file.specs.declared.fault.DictVersion.{DictVersion}
+use Rattle.dict_file.specs.declared.fault.DictVersion.TheVariants.{One, Two}
+use Rattle.dict_file.specs.Packing.{packed_row}
+
+abbrev pub kind_number : DictKind → ℕ
+kind_number PassFail = 1
+kind_number Full = 2
+kind_number SameDiff = 3
+
+abbrev pub version_number : DictVersion → ℕ
+version_number One = 1
+version_number Two = 2
+
+-- the largest count of positions, patterns or numbers
+abbrev pub limit : ℕ
+limit = 67108864
+
+-- the most bytes of a file
+abbrev pub most_bytes : ℕ
+most_bytes = 2 ^ 40
+
+-- What has a spelling: a grouped dictionary of the right shape within the limits.
+pub record HasSpelling (d : Dict) : Type 0 where
+  pub grouped : IsGroupedDict d
+  pub shaped : IsShaped d
+  pub positions : d.positions ≤ limit
+  pub patterns : d.patterns ≤ limit
+  pub numbers : d.numbers ≤ limit
+  pub some_number : 0 < d.numbers
+
+-- rows, each up to a whole byte
+abbrev pub packed_rows : List (List Bool) → List ℕ
+packed_rows rows = flat_map packed_row rows
+
+-- the magic bytes, the version, the kind and the three counts
+abbrev pub head_bytes : DictVersion → Dict → List ℕ
+head_bytes version d = codes "DIAT" ++ (big_bytes 2 (version_number version) ++ (kind_number d.kind ∷ (big_bytes 4 d.positions ++ (big_bytes 4 d.patterns ++ big_bytes 4 d.numbers))))
+
+-- the entry of each number
+abbrev pub entry_rows : Dict → List (List Bool)
+entry_rows d = map (entry_of d) (range_with_len 0 d.numbers)
+
+-- Version 1 has the baselines and an entry row for each number. Version 2 has the number of groups, the baselines, a group number
+-- for each number, and an entry row for each group.
+abbrev pub body_bytes : DictVersion → Dict → List ℕ
+body_bytes One d = packed_rows d.baselines ++ packed_rows (entry_rows d)
+body_bytes Two d = big_bytes 4 (length d.entries) ++ (packed_rows d.baselines ++ (flat_map (big_bytes 4) d.groups ++ packed_rows d.entries))
+
+unfoldable pub spelling : DictVersion → Dict → List ℕ
+spelling version d = head_bytes version d ++ body_bytes version d
+
+-- The bytes are the file of the dictionary in this version.
+pub record Spells (version : DictVersion) (d : Dict) (bytes : List ℕ) : Type 0 where
+  pub has : HasSpelling d
+  pub bytes_are : bytes ≡ spelling version d
+  pub short : length bytes ≤ most_bytes
+
+-- The bytes are a file of the dictionary.
+abbrev pub IsFileOf : Dict → List ℕ → Type 0
+IsFileOf d bytes = (version : DictVersion) × Spells version d bytes
