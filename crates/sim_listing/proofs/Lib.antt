@@ -1,0 +1,3 @@
+pub mod TextLemmas
+mod AnswerLemmas
+mod RangeLemmas

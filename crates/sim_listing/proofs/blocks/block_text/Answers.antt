@@ -1,0 +1,39 @@
+use Rattle.std.proofs.Common.{◌≡◌, ◌∙◌, ◌+◌, List, Bool, length, sym, ap, subst, arith, All}
+use Rattle.std.specs.Prelude.{slice_range, min}
+use Rattle.net_model.specs.PatternRows.{IsAnswerRow, AreAnswerRows}
+use Rattle.table_dicts.proofs.BlockLemmas.{block_length}
+use Rattle.sim_listing.proofs.TextLemmas.{zip_length}
+use Rattle.sim_listing.proofs.RangeLemmas.{some_number, block_wide}
+use Rattle.sim_listing.proofs.blocks.block_text.Goals as goal
+
+pub answers_at-requires-clause-widths : goal.answers_at-requires-clause-widths
+answers_at-requires-clause-widths c =
+    let sources = c.args.circuit.now.sources in
+    subst (All (λ v. length v ≡ sources)) (sym c.in_ok-block.ensures) (block_wide sources c.args.vectors.now c.args.first (c.args.first + c.min.result) c.requires.widths)
+
+pub answers_at-requires-clause-few : goal.answers_at-requires-clause-few
+answers_at-requires-clause-few c =
+    let end = c.args.first + c.min.result in
+    let long = block_length c.args.vectors.now c.args.first end (omega arith) (omega (arith, c.min.ensures, c.requires.first)) in
+    omega (arith, ap length c.in_ok-block.ensures, long, c.min.ensures)
+
+pub table_text-requires-clause-numbers : goal.table_text-requires-clause-numbers
+table_text-requires-clause-numbers c = omega (arith, c.in_ok-table.ensures.numbers, some_number c.args.circuit.now)
+
+pub table_text-requires-clause-first : goal.table_text-requires-clause-first
+table_text-requires-clause-first c =
+    let end = c.args.first + c.min.result in
+    let long = block_length c.args.vectors.now c.args.first end (omega arith) (omega (arith, c.min.ensures, c.requires.first)) in
+    let rows = zip_length (IsAnswerRow c.args.circuit.now) c.in_ok-block.block c.in_ok-table.table.rows c.in_ok-table.ensures.rows in
+    omega (arith, ap length c.in_ok-block.ensures, long, rows, c.min.ensures, c.requires.first)
+
+pub returns : goal.returns
+returns c =
+    let vectors = c.args.vectors.now in
+    let first = c.args.first in
+    let end : first + c.min.result ≡ min (first + 64) (length vectors) = omega (arith, c.min.ensures, c.requires.first) in
+    record {
+      rows = c.in_ok-table.table.rows;
+      answers = subst (λ (block : List (List Bool)). AreAnswerRows c.args.circuit.now block c.in_ok-table.table.rows) (c.in_ok-block.ensures ∙ ap (slice_range vectors first) end) c.in_ok-table.ensures.rows;
+      text_is = c.in_ok-text.ensures;
+    }

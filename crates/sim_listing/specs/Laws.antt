@@ -1,0 +1,18 @@
+-- Laws of the texts of simulations.
+use Rattle.std.specs.Prelude.{◌≡◌, ℕ, ◌+◌, Bool, List, ◌++◌, length}
+use Rattle.net_model.specs.Circuit.{Circuit, IsCircuit}
+use Rattle.sim_listing.specs.SimText.{Text, IsSimTextFrom}
+
+-- There is a text, and no other.
+pub record HasOneText (c : Circuit) (first : ℕ) (vectors : List (List Bool)) : Type 0 where
+  pub text : Text
+  pub is : IsSimTextFrom c first vectors text
+  pub only : (other : Text) → IsSimTextFrom c first vectors other → other ≡ text
+
+-- each list of vectors has one text
+abbrev pub OneTextEach : Type 0
+OneTextEach = (c : Circuit) (first : ℕ) (vectors : List (List Bool)) → IsCircuit c → HasOneText c first vectors
+
+-- the texts of two blocks, one after the other, are the text of both
+abbrev pub BlocksMakeTheList : Type 0
+BlocksMakeTheList = (c : Circuit) (first : ℕ) (front back : List (List Bool)) (text more : Text) → IsSimTextFrom c first front text → IsSimTextFrom c (first + length front) back more → IsSimTextFrom c first (front ++ back) (text ++ more)

@@ -1,0 +1,2 @@
+pub mod SimText
+pub mod Laws

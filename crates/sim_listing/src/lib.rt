@@ -1,0 +1,9 @@
+//! The text of a simulation, a block of vectors at a time.
+#![tactic(auto)]
+
+mod blocks;
+mod laws;
+mod lines;
+
+pub use blocks::block_text;
+pub use laws::{blocks_make_the_list, one_text_each};
