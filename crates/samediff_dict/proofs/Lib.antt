@@ -1,0 +1,16 @@
+pub mod Opened
+pub mod PairLemmas
+pub mod ImproveLemmas
+pub mod BegunLemmas
+pub mod GainLemmas
+pub mod TallyLemmas
+pub mod DistinctLemmas
+pub mod ToldLemmas
+pub mod CandidateLemmas
+pub mod AnyRowLemmas
+pub mod StepLemmas
+pub mod GreedyLemmas
+pub mod SearchLemmas
+pub mod ChoiceLemmas
+pub mod EndLemmas
+pub mod Examples

@@ -1,0 +1,123 @@
+-- Pairs apart by groups: two classes have the same entry where each baseline is the answer of both or of neither.
+use Rattle.std.proofs.Common.{◌≡◌, ◌∙◌, ℕ, zero, suc, ◌+◌, ◌<◌, Bool, true, false, not, eqb, ◌&&◌, List, [], ◌∷◌, length, get_or, refl, sym, ap, arith, Decides}
+use Rattle.std.specs.Bool.{beq}
+use Rattle.std.proofs.lemmas.Bool.{eqb-true, eq-eqb, and_parts, and_from}
+use Rattle.std.proofs.lemmas.Bool.Decides.{same_from_decides}
+use Rattle.std.proofs.lemmas.List.{get_or-map, length-map}
+use Rattle.net_model.specs.Answer.{bit_at}
+use Rattle.net_model.specs.ClassTable.{ClassTable, class_count, representative, same_bits}
+use Rattle.net_model.proofs.Copies.{same_bits_same_list}
+use Rattle.table_dicts.specs.AnswerTable.{answer_in}
+use Rattle.table_dicts.specs.Entries.{differences, answers_of, same_diff_entry}
+use Rattle.table_dicts.specs.Apart.{has_apart}
+use Rattle.table_dicts.proofs.EntryLemmas.{same_bits-Decides}
+use Rattle.samediff_dict.specs.Chosen.{pairs_apart}
+use Rattle.samediff_dict.specs.Numbered.{answers_base, AlikeFrom}
+use Rattle.samediff_dict.specs.Partition.{IsPartition, pairs_where, pairs_between, gain_at, tells_apart}
+use Rattle.samediff_dict.proofs.PairLemmas.{one_if, pairs_to, pairs_are, pairs_same, pairs_both}
+use Rattle.samediff_dict.proofs.ImproveLemmas.{pairs_apart_are}
+
+difference_at : (answers baselines : List (List Bool)) (k : ℕ) → length answers ≡ length baselines → k < length answers → bit_at (differences answers baselines) k ≡ not (same_bits (get_or answers k []) (get_or baselines k []))
+unfolding differences
+difference_at [] baselines k e h = absurd (omega (arith, h))
+difference_at (a ∷ answers) [] k e h = absurd (omega (arith, e))
+difference_at (a ∷ answers) (b ∷ bs) zero e h = refl
+difference_at (a ∷ answers) (b ∷ bs) (suc k) e h = difference_at answers bs k (omega (arith, e)) (omega (arith, h))
+
+length-differences : (answers baselines : List (List Bool)) → length answers ≡ length baselines → length (differences answers baselines) ≡ length answers
+unfolding differences
+length-differences [] [] e = refl
+length-differences [] (b ∷ bs) e = refl
+length-differences (a ∷ answers) [] e = absurd (omega (arith, e))
+length-differences (a ∷ answers) (b ∷ bs) e = ap suc (length-differences answers bs (omega (arith, e)))
+
+not_once : (a b : Bool) → not a ≡ not b → a ≡ b
+not_once true true e = refl
+not_once true false e = absurd (cc)
+not_once false true e = absurd (cc)
+not_once false false e = refl
+
+same_beq : (a b : Bool) → beq a b ≡ true → a ≡ b
+same_beq true true e = refl
+same_beq true false e = absurd (cc)
+same_beq false true e = absurd (cc)
+same_beq false false e = refl
+
+beq_same : (a b : Bool) → a ≡ b → beq a b ≡ true
+beq_same true true e = refl
+beq_same true false e = absurd (cc)
+beq_same false true e = absurd (cc)
+beq_same false false e = refl
+
+part : (g b : Bool) → one_if (not g) + one_if (g && not b) ≡ one_if (not (g && b))
+part true true = refl
+part true false = refl
+part false b = refl
+
+module _ (t : ClassTable) (rows : List (List (List Bool))) (baselines : List (List Bool)) (long : length baselines ≡ length rows) where
+  entry_bit : (class pattern : ℕ) → pattern < length rows → bit_at (same_diff_entry rows baselines (representative t class)) pattern ≡ not (answers_base t rows baselines pattern class)
+  entry_bit class pattern h =
+      let answer : List (List Bool) → List Bool = λ row. answer_in row (representative t class) in
+      difference_at (answers_of rows (representative t class)) baselines pattern (length-map rows answer ∙ sym long) (omega (arith, h, length-map rows answer))
+      ∙ ap (λ (a : List Bool). not (same_bits a (get_or baselines pattern []))) (get_or-map answer rows pattern [] [] h)
+
+  length-entry : (class : ℕ) → length (same_diff_entry rows baselines (representative t class)) ≡ length rows
+  length-entry class =
+      let answer : List (List Bool) → List Bool = λ row. answer_in row (representative t class) in
+      length-differences (answers_of rows (representative t class)) baselines (length-map rows answer ∙ sym long) ∙ length-map rows answer
+
+  pub same_entries : (low high : ℕ) → Decides (same_bits (same_diff_entry rows baselines (representative t low)) (same_diff_entry rows baselines (representative t high))) (AlikeFrom t rows baselines 0 (length rows) low high)
+  same_entries low high =
+      let a = same_diff_entry rows baselines (representative t low) in
+      let b = same_diff_entry rows baselines (representative t high) in
+      let test = same_bits-Decides a b in (
+        λ so pattern from below. not_once (answers_base t rows baselines pattern low) (answers_base t rows baselines pattern high) (sym (entry_bit low pattern below) ∙ (ap (λ (e : List Bool). bit_at e pattern) (test.0 so) ∙ entry_bit high pattern below)),
+        λ alike. test.1 (same_bits_same_list a b (length-entry low ∙ sym (length-entry high))
+            (λ pattern h. let below : pattern < length rows = omega (arith, h, length-entry low) in
+            entry_bit low pattern below ∙ (ap not (alike pattern (omega arith) below) ∙ sym (entry_bit high pattern below)))),
+      )
+
+  -- counted by any test of that
+  apart_by : (same : ℕ → ℕ → Bool) → ((low high : ℕ) → low < class_count t → high < class_count t → Decides (same low high) (AlikeFrom t rows baselines 0 (length rows) low high))
+      → pairs_apart t rows baselines ≡ pairs_to (class_count t) (λ low high. not (same low high))
+  apart_by same decides =
+      pairs_apart_are t rows baselines
+      ∙ pairs_same (class_count t) (has_apart t (same_diff_entry rows baselines)) (λ low high. not (same low high))
+      (λ low high l h. ap not (same_from_decides (same_bits (same_diff_entry rows baselines (representative t low)) (same_diff_entry rows baselines (representative t high))) (same low high)
+      (same_entries low high) (decides low high (omega (arith, l, h)) h)))
+
+  -- by groups of classes that are alike in all baselines
+  pub apart_by_groups : (group_of : List ℕ) (count : ℕ) → IsPartition (class_count t) (AlikeFrom t rows baselines 0 (length rows)) group_of count → pairs_apart t rows baselines ≡ pairs_between group_of
+  unfolding pairs_between
+  apart_by_groups group_of count is =
+      let same : ℕ → ℕ → Bool = λ low high. eqb (get_or group_of low 0) (get_or group_of high 0) in
+      apart_by same (λ low high hl hh. (
+        λ so. is.together_are low high hl hh (eqb-true (get_or group_of low 0) (get_or group_of high 0) so),
+        λ alike. eq-eqb (get_or group_of low 0) (get_or group_of high 0) (is.same low high hl hh alike),
+      ))
+      ∙ (sym (pairs_are (class_count t) (λ low high. not (same low high))) ∙ ap (λ n. pairs_where n (λ low high. not (same low high))) (sym is.one_each))
+
+  -- by groups of classes that are alike in all other baselines, and which classes answer that of one pattern
+  pub apart_by_gain : (group_of : List ℕ) (count : ℕ) (others : ℕ → ℕ → Type 0) (answers : List ℕ) (answer pattern : ℕ) → IsPartition (class_count t) others group_of count
+      → ((class : ℕ) → class < class_count t → eqb (get_or answers class 0) answer ≡ answers_base t rows baselines pattern class)
+      → ((low high : ℕ) → low < class_count t → high < class_count t → AlikeFrom t rows baselines 0 (length rows) low high → others low high × (answers_base t rows baselines pattern low ≡ answers_base t rows baselines pattern high))
+      → ((low high : ℕ) → low < class_count t → high < class_count t → others low high × (answers_base t rows baselines pattern low ≡ answers_base t rows baselines pattern high) → AlikeFrom t rows baselines 0 (length rows) low high)
+      → pairs_apart t rows baselines ≡ pairs_between group_of + gain_at group_of answers answer
+  unfolding pairs_between gain_at
+  apart_by_gain group_of count others answers answer pattern is here into out =
+      let n = class_count t in
+      let group : ℕ → ℕ = λ class. get_or group_of class 0 in
+      let it : ℕ → Bool = λ class. eqb (get_or answers class 0) answer in
+      let grouped : ℕ → ℕ → Bool = λ low high. eqb (group low) (group high) in
+      let same : ℕ → ℕ → Bool = λ low high. grouped low high && beq (it low) (it high) in
+      apart_by same (λ low high hl hh. (
+        λ so.
+            let both = and_parts (grouped low high) (beq (it low) (it high)) so in
+            out low high hl hh (is.together_are low high hl hh (eqb-true (group low) (group high) both.0), sym (here low hl) ∙ (same_beq (it low) (it high) both.1 ∙ here high hh)),
+        λ alike.
+            let both = into low high hl hh alike in
+            and_from (grouped low high) (beq (it low) (it high)) (eq-eqb (group low) (group high) (is.same low high hl hh both.0)) (beq_same (it low) (it high) (here low hl ∙ (both.1 ∙ sym (here high hh)))),
+      ))
+      ∙ (sym (pairs_both n (λ low high. not (grouped low high)) (tells_apart group_of answers answer) (λ low high. not (same low high)) (λ low high l h. part (grouped low high) (beq (it low) (it high))))
+      ∙ (λ i. sym (pairs_are n (λ low high. not (grouped low high))) i + sym (pairs_are n (tells_apart group_of answers answer)) i)
+      ∙ ap (λ m. pairs_where m (λ low high. not (grouped low high)) + pairs_where m (tells_apart group_of answers answer)) (sym is.one_each))

@@ -1,0 +1,53 @@
+-- The answers of the classes by their numbers among the candidates.
+use Rattle.std.specs.Prelude.{◌≡◌, ℕ, ◌<◌, ◌≤◌, Bool, List, [], map, length, slice_index, slice_index_or}
+use Rattle.std.specs.List.{range_with_len}
+use Rattle.net_model.specs.ClassTable.{ClassTable, class_count, class_at, representative, same_bits}
+use Rattle.table_dicts.specs.AnswerTable.{Answers, answer_in, answer_to}
+use Rattle.table_dicts.specs.Rows.{row_at}
+use Rattle.table_dicts.specs.Grouped.{AreDifferent}
+use Rattle.table_dicts.specs.declared.grouping.Grouped.{Grouped}
+use Rattle.samediff_dict.specs.Chosen.{candidates}
+
+-- Members of one class have the same answers.
+pub record AnswerAlike (t : ClassTable) (table : Answers) : Type 0 where
+  pub numbers : length t.class_of ≡ table.numbers
+  pub each : (pattern m n : ℕ) → pattern < length table.rows → m < table.numbers → n < table.numbers → class_at t m ≡ class_at t n → answer_to table pattern m ≡ answer_to table pattern n
+
+-- what the classes answer, class by class
+abbrev pub class_answers : ClassTable → List (List Bool) → List (List Bool)
+class_answers t row = map (λ class. answer_in row (representative t class)) (range_with_len 0 (class_count t))
+
+-- The entries are the candidates of a pattern, and the groups say which of them each class answers.
+pub record AreCandidates (t : ClassTable) (row : List (List Bool)) (grouped : Grouped) : Type 0 where
+  pub answers : grouped.entries ≡ candidates t row
+  pub different : AreDifferent (candidates t row)
+  pub one_each : length grouped.groups ≡ class_count t
+  pub within : (class : ℕ) → class < class_count t → slice_index grouped.groups class < length (candidates t row)
+  pub own : (class : ℕ) → class < class_count t → row_at (candidates t row) (slice_index grouped.groups class) ≡ answer_in row (representative t class)
+
+-- There are candidates for each pattern.
+pub record AreNumbered (t : ClassTable) (rows : List (List (List Bool))) (patterns : List Grouped) : Type 0 where
+  pub count : length patterns ≡ length rows
+  pub each : (pattern : ℕ) (d : Grouped) → pattern < length rows → AreCandidates t (slice_index_or rows pattern []) (slice_index_or patterns pattern d)
+
+-- the baselines with these numbers among the candidates
+abbrev pub baselines_at : ClassTable → List (List (List Bool)) → List ℕ → List (List Bool)
+baselines_at t rows chosen = map (λ pattern. row_at (candidates t (slice_index_or rows pattern [])) (slice_index chosen pattern)) (range_with_len 0 (length chosen))
+
+-- Each number is that of a candidate of its pattern.
+abbrev pub AreChosen : ClassTable → List (List (List Bool)) → List ℕ → Type 0
+AreChosen t rows chosen = (pattern : ℕ) → pattern < length chosen → slice_index chosen pattern < length (candidates t (slice_index_or rows pattern []))
+
+-- There is a number for each pattern, and these are the baselines.
+pub record HasBaselines (t : ClassTable) (rows : List (List (List Bool))) (chosen : List ℕ) (baselines : List (List Bool)) : Type 0 where
+  pub one_each : length chosen ≡ length rows
+  pub chosen_are : AreChosen t rows chosen
+  pub baselines_are : baselines_at t rows chosen ≡ baselines
+
+-- whether a class answers the baseline of a pattern
+abbrev pub answers_base : ClassTable → List (List (List Bool)) → List (List Bool) → ℕ → ℕ → Bool
+answers_base t rows baselines pattern class = same_bits (answer_in (slice_index_or rows pattern []) (representative t class)) (slice_index_or baselines pattern [])
+
+-- Of each baseline in a range of patterns both classes answer it, or neither does.
+abbrev pub AlikeFrom : ClassTable → List (List (List Bool)) → List (List Bool) → ℕ → ℕ → ℕ → ℕ → Type 0
+AlikeFrom t rows baselines first end low high = (pattern : ℕ) → first ≤ pattern → pattern < end → answers_base t rows baselines pattern low ≡ answers_base t rows baselines pattern high

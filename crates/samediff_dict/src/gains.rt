@@ -1,0 +1,116 @@
+//! How many pairs of classes each candidate tells apart.
+
+ghost use Rattle.std.specs.Prelude.{◌≡◌, ◌<◌, ◌^◌, length, IfOk, MatchOption, slice_index};
+ghost use Rattle.samediff_dict.specs.Partition.{AreWithin, AreGains, gain_at, IsFirstMost, IsFirstAbove, NoneAbove};
+
+use crate::partition::Partition;
+use std::alloc::{AllocError, Global};
+
+impl Partition {
+    // How many pairs of classes of one group each candidate tells apart. The list has the candidate that each class answers.
+    fn gains(
+        &self,
+        alloc: Global,
+        answers: &[u32],
+        candidates: usize,
+    ) -> Result<Vec<u64>, AllocError>
+        requires long { length answers.now ≡ length self.now.group_of.items }
+        requires few { length answers.now < 2 ^ 32 }
+        requires within { AreWithin self.now.group_of.items self.now.count }
+        requires known { AreWithin answers.now candidates }
+        ensures { IfOk result (λ gains. AreGains self.now.group_of.items answers.now candidates gains.items) }
+    {
+        let cells = self.meet(alloc, answers)?;
+        let all = self.tally(alloc)?;
+        let alike = cells.tally(alloc)?;
+        let groups = self.group_of.as_slice();
+        let parts = cells.group_of.as_slice();
+        let sizes = all.sizes.as_slice();
+        let part_sizes = alike.sizes.as_slice();
+        let mut gains = vec![in alloc; 0u64; candidates]?;
+        for class in 0..answers.len() {
+            let size = size_of(groups, sizes, class);
+            let part = size_of(parts, part_sizes, class);
+            gains[answers[class] as usize] += u64::from(size - part);
+        }
+        Ok(gains)
+    }
+
+    /// The first candidate that tells most pairs apart.
+    pub(crate) fn first_most(
+        &self,
+        alloc: Global,
+        answers: &[u32],
+        candidates: usize,
+    ) -> Result<u32, AllocError>
+        requires long { length answers.now ≡ length self.now.group_of.items }
+        requires few { length answers.now < 2 ^ 32 }
+        requires within { AreWithin self.now.group_of.items self.now.count }
+        requires known { AreWithin answers.now candidates }
+        requires some { 0 < candidates }
+        requires not_many { candidates < 2 ^ 32 }
+        ensures { IfOk result (IsFirstMost (gain_at self.now.group_of.items answers.now) candidates) }
+    {
+        let gains = self.gains(alloc, answers, candidates)?;
+        Ok(place_of_most(gains.as_slice()) as u32)
+    }
+
+    /// The first candidate that tells more pairs apart than this one, if one does.
+    pub(crate) fn first_above(
+        &self,
+        alloc: Global,
+        answers: &[u32],
+        candidates: usize,
+        current: u32,
+    ) -> Result<Option<u32>, AllocError>
+        requires long { length answers.now ≡ length self.now.group_of.items }
+        requires few { length answers.now < 2 ^ 32 }
+        requires within { AreWithin self.now.group_of.items self.now.count }
+        requires known { AreWithin answers.now candidates }
+        requires current { current < candidates }
+        requires not_many { candidates < 2 ^ 32 }
+        ensures { IfOk result (λ found. MatchOption found (NoneAbove (gain_at self.now.group_of.items answers.now) candidates current) (IsFirstAbove (gain_at self.now.group_of.items answers.now) candidates current)) }
+    {
+        let gains = self.gains(alloc, answers, candidates)?;
+        match place_above(gains.as_slice(), current as usize) {
+            Some(place) => Ok(Some(place as u32)),
+            None => Ok(None),
+        }
+    }
+}
+
+// The size of the group of a class.
+fn size_of(groups: &[u32], sizes: &[u32], class: usize) -> u32
+    requires class { class < length groups.now }
+    requires within { AreWithin groups.now (length sizes.now) }
+    ensures { result ≡ slice_index sizes.now (slice_index groups.now class) }
+{
+    sizes[groups[class] as usize]
+}
+
+// The first place of the greatest number.
+fn place_of_most(gains: &[u64]) -> usize
+    requires { 0 < length gains.now }
+    ensures { IsFirstMost (slice_index gains.now) (length gains.now) result }
+{
+    let mut best = 0;
+    for place in 1..gains.len() {
+        if gains[best] < gains[place] {
+            best = place;
+        }
+    }
+    best
+}
+
+// The first place of a greater number than that at a place.
+fn place_above(gains: &[u64], current: usize) -> Option<usize>
+    requires { current < length gains.now }
+    ensures { MatchOption result (NoneAbove (slice_index gains.now) (length gains.now) current) (IsFirstAbove (slice_index gains.now) (length gains.now) current) }
+{
+    for place in 0..gains.len() {
+        if gains[current] < gains[place] {
+            return Some(place);
+        }
+    }
+    None
+}

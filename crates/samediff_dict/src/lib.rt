@@ -1,0 +1,11 @@
+//! The choice of baselines for a same/different dictionary.
+#![tactic(auto)]
+
+mod choosing;
+mod gains;
+mod laws;
+mod numbering;
+mod partition;
+
+pub use choosing::choose;
+pub use laws::{keeps_as_many, no_row_is_better, none_is_left};
