@@ -1,12 +1,11 @@
 -- What follows from a run's record, clause by clause.
-use Rattle.std.proofs.Common.{IsTrue, ◌≡◌, ◌<◌, ◌≤◌, ◌⊎◌, ℕ, Bool, true, List, [], ◌∷◌, ◌++◌, Option, Some, None, refl, sym, ap, subst, ◌∙◌, ◌==◌, inl, inr, arith}
+use Rattle.std.proofs.Common.{IsTrue, ◌≡◌, ◌<◌, ◌≤◌, ◌⊎◌, ℕ, Bool, true, false, ◌&&◌, List, [], ◌∷◌, ◌++◌, Option, Some, None, refl, sym, ap, subst, ◌∙◌, ◌==◌, inl, inr, arith}
 use Rattle.std.specs.Prelude.{nat_lt, not}
 use Rattle.std.specs.List.{list_all}
 use Rattle.std.proofs.lemmas.Bool.{cases_lt, ltb-true}
 use Rattle.std.specs.FinMap.{get, insert}
 use Rattle.diag_shelf.specs.World.{Files, World, State}
 use Rattle.diag_shelf.proofs.FileMaps.{get_at_insert, get_off_insert}
-use Rattle.clap.proofs.WalkLemmas.{both}
 use Rattle.net_model.specs.declared.circuit.Design.{Design}
 use Rattle.net_model.specs.Circuit.{Circuit}
 use Rattle.result_file.specs.declared.record.Budgets.{Budgets}
@@ -14,7 +13,7 @@ use Rattle.result_file.specs.Spelling.{text_of}
 use Rattle.result_file.specs.Summary.{summary_of}
 use Rattle.result_file.specs.Laws.{ValidIsTrue}
 use Rattle.dia_gen.proofs.Written.{made_closed}
-use Rattle.diatest.specs.Request.{Text, Request, gen, check, list_faults, synth}
+use Rattle.request_words.specs.Request.{Text, Request, gen, check, make_dict, convert, diagnose, list_faults, simulate, synth}
 use Rattle.diatest.specs.Synth.{synth_text}
 use Rattle.diatest.specs.Texts.{valid_text}
 use Rattle.diatest.specs.Netlists.{IsDesign}
@@ -33,7 +32,7 @@ pub record WasDone (files : Files) (name : Text) {X : Type 0} (Accepted : Text �
   pub accepted : Accepted bytes thing
   pub then : Then thing
 
-accepted_by : {files : Files} {name : Text} {status : ℕ} {X : Type 0} {Refused : Text → Text → Type 0} {Accepted : Text → X → Type 0} {Then : X → Type 0} {o : Outcome} → 0 < status → Judges files name X Refused Accepted (λ console. o ≡ said status console) Then → o.status ≡ 0 → WasDone files name Accepted Then
+pub accepted_by : {files : Files} {name : Text} {status : ℕ} {X : Type 0} {Refused : Text → Text → Type 0} {Accepted : Text → X → Type 0} {Then : X → Type 0} {o : Outcome} → 0 < status → Judges files name X Refused Accepted (λ console. o ≡ said status console) Then → o.status ≡ 0 → WasDone files name Accepted Then
 accepted_by {files} {name} {status} {X} {Refused} {Accepted} {Then} {o} above (refused_file bytes console held refused is) z = absurd (omega (arith, above, ap (λ (p : Outcome). p.status) is))
 accepted_by {files} {name} {status} {X} {Refused} {Accepted} {Then} {o} above (accepted_file bytes x held accepted then) z = record { bytes = bytes; held = held; thing = x; accepted = accepted; then = then }
 
@@ -60,7 +59,7 @@ leaves_result laws {bytes} {result} {budgets} {before} {design} {o} {old} {new} 
 
 module _ {asked : Option Request} {status : ℕ} {old new : World} (done : IsDone (plan_of asked) status old new) where
   -- what was done where the status is 0
-  done_for : (request : Request) → asked ≡ Some request → status ≡ 0 → (o : Outcome) × CallsFor old.files (plan_of (Some request)) o × (o.status ≡ 0) × Leaves o.made o.console old new
+  pub done_for : (request : Request) → asked ≡ Some request → status ≡ 0 → (o : Outcome) × CallsFor old.files (plan_of (Some request)) o × (o.status ≡ 0) × Leaves o.made o.console old new
   done_for request is z =
       let d = done (omega arith) in
       (d.0, subst (λ (r : Option Request). CallsFor old.files (plan_of r) d.0) is d.1, d.2 ∙ z, d.3)
@@ -118,6 +117,10 @@ module _ {asked : Option Request} {status : ℕ} {old new : World} (done : IsDon
 
 -- ---- statuses
 
+both : (a b : Bool) → (a && b) ≡ true → (a ≡ true) × (b ≡ true)
+both true b e = (refl, e)
+both false b e = absurd (cc)
+
 -- a test that all statuses of a list pass
 passes : (test : ℕ → Bool) (status : ℕ) (statuses : List ℕ) → list_all test statuses ≡ true → IsAmong status statuses → test status ≡ true
 passes test status [] all among = absurd among
@@ -128,7 +131,11 @@ at_most_nine : (asked : Option Request) → list_all (λ s. nat_lt s 10) (status
 at_most_nine None = refl
 at_most_nine (Some (gen bench result budgets)) = refl
 at_most_nine (Some (check bench result)) = refl
+at_most_nine (Some (make_dict kind bench result dict)) = refl
+at_most_nine (Some (convert old new)) = refl
+at_most_nine (Some (diagnose dict log)) = refl
 at_most_nine (Some (list_faults bench)) = refl
+at_most_nine (Some (simulate bench vectors)) = refl
 at_most_nine (Some (synth n bench result)) = refl
 
 known : (asked : Option Request) (status : ℕ) → IsAmong status (statuses_of asked) → status ≤ 9
@@ -138,7 +145,11 @@ known asked status among = omega (arith, ltb-true status 10 (passes (λ s. nat_l
 never_two : (request : Request) → list_all (λ s. not (s == 2)) (statuses_of (Some request)) ≡ true
 never_two (gen bench result budgets) = refl
 never_two (check bench result) = refl
+never_two (make_dict kind bench result dict) = refl
+never_two (convert old new) = refl
+never_two (diagnose dict log) = refl
 never_two (list_faults bench) = refl
+never_two (simulate bench vectors) = refl
 never_two (synth n bench result) = refl
 
 pub words_of : (asked : Option Request) (status : ℕ) → IsAmong status (statuses_of asked) → status ≡ 2 → asked ≡ None

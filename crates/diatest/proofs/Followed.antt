@@ -1,19 +1,22 @@
 -- A run follows its plan file by file.
-use Rattle.std.proofs.Common.{◌≡◌, ℕ, ◌<◌, ◌⊎◌, List, [], Option, Some, None, Ok, Err, IsTrue, refl, sym, ap, subst, ◌∙◌, inl, inr, arith}
+use Rattle.std.proofs.Common.{◌≡◌, ℕ, ◌<◌, ◌⊎◌, Bool, List, [], Option, Some, None, Ok, Err, IsTrue, refl, sym, ap, subst, ◌∙◌, inl, inr, arith}
 use Rattle.std.specs.Prelude.{IsSome}
 use Rattle.std.specs.FinMap.{get}
 use Rattle.diag_shelf.specs.declared.shelf.ShelfFault.{ShelfFault}
 use Rattle.diag_shelf.specs.declared.shelf.ShelfFault.TheVariants.{Failed, NoMemory}
 use Rattle.diag_shelf.specs.World.{Files, World, State}
 use Rattle.diag_shelf.specs.Calls.{IsReadCall, SameFacts, OnlyReads, Told, Rose}
-use Rattle.diatest.specs.Request.{Text}
+use Rattle.request_words.specs.Request.{Text}
 use Rattle.diatest.specs.Outcome.{said, IsPartOf, IsUntouched}
 use Rattle.diatest.specs.Plan.{Plan, judged, refused_file, accepted_file, CallsFor, MayLeave, AreHeld}
 use Rattle.net_model.specs.declared.circuit.Design.{Design}
 use Rattle.net_model.specs.Circuit.{Circuit}
 use Rattle.diatest.specs.Netlists.{IsDesign, IsRefused}
 use Rattle.diatest.specs.Results.{IsResult, IsRefusedResult}
-use Rattle.diatest.specs.Plans.{with_netlist, with_result}
+use Rattle.table_dicts.specs.declared.dict.Dict.{Dict}
+use Rattle.diatest.specs.Dictionaries.{IsDictionaryFile, IsRefusedDictionary}
+use Rattle.diatest.specs.Logs.{IsLogFor, IsRefusedLog, IsListFor, IsRefusedList}
+use Rattle.diatest.specs.Plans.{with_netlist, with_result, with_dictionary, with_log, with_vectors}
 use Rattle.diatest.specs.Ran.{IsAmong, Ends, Follows}
 use Rattle.diatest.specs.Steps.{IsReadStatus, HasOnlyRead, WasAccepted, IsOver, by_refusal, by_failure, by_memory}
 use Rattle.diatest.proofs.Runs.{MayBreak, cut_among, ran, ends_moved, leaves_moved, stays_same, stays_then, stays_facts, stays_read}
@@ -96,6 +99,16 @@ netlist_over {statuses} {outputs} {status} {bench} {a} {b} may among next over =
 pub result_over : {statuses : List ℕ} {outputs : List Text} {status : ℕ} {result : Text} {c : Circuit} {a b : State} → MayRead statuses → IsAmong 4 statuses → (next : Text → Plan) → IsOver result 4 (IsRefusedResult c) status a b → Follows (with_result result c next) statuses outputs status a b
 result_over {statuses} {outputs} {status} {result} {c} {a} {b} may among next over = follows_over may result 4 Text (IsRefusedResult c) (IsResult c) next (omega arith) among over
 
+-- or a dictionary, a log or a list of vectors
+pub dictionary_over : {statuses : List ℕ} {outputs : List Text} {status : ℕ} {dict : Text} {a b : State} → MayRead statuses → IsAmong 5 statuses → (next : Dict → Plan) → IsOver dict 5 IsRefusedDictionary status a b → Follows (with_dictionary dict next) statuses outputs status a b
+dictionary_over {statuses} {outputs} {status} {dict} {a} {b} may among next over = follows_over may dict 5 Dict IsRefusedDictionary IsDictionaryFile next (omega arith) among over
+
+pub log_over : (d : Dict) {statuses : List ℕ} {outputs : List Text} {status : ℕ} {log : Text} {a b : State} → MayRead statuses → IsAmong 6 statuses → (next : List (List Bool) → Plan) → IsOver log 6 (IsRefusedLog d) status a b → Follows (with_log log d next) statuses outputs status a b
+log_over d {statuses} {outputs} {status} {log} {a} {b} may among next over = follows_over may log 6 (List (List Bool)) (IsRefusedLog d) (IsLogFor d) next (omega arith) among over
+
+pub list_over : (c : Circuit) {statuses : List ℕ} {outputs : List Text} {status : ℕ} {vectors : Text} {a b : State} → MayRead statuses → IsAmong 6 statuses → (next : List (List Bool) → Plan) → IsOver vectors 6 (IsRefusedList c) status a b → Follows (with_vectors vectors c next) statuses outputs status a b
+list_over c {statuses} {outputs} {status} {vectors} {a} {b} may among next over = follows_over may vectors 6 (List (List Bool)) (IsRefusedList c) (IsListFor c) next (omega arith) among over
+
 -- ---- a file that is accepted
 
 follows_then : {statuses : List ℕ} {outputs : List Text} {status : ℕ} {a b c : State} (name : Text) (meant : ℕ) (X : Type 0) (Refused : Text → Text → Type 0) (Accepted : Text → X → Type 0) (next : X → Plan) (x : X) → (IsTrue a.sure → IsTrue a.tells)
@@ -135,6 +148,15 @@ netlist_then {statuses} {outputs} {status} {bench} {design} {a} {b} {c} next law
 
 pub result_then : {statuses : List ℕ} {outputs : List Text} {status : ℕ} {result file : Text} {circuit : Circuit} {a b c : State} → (next : Text → Plan) → (IsTrue a.sure → IsTrue a.tells) → WasAccepted result (IsResult circuit) file a b → Follows (next file) statuses outputs status b c → Follows (with_result result circuit next) statuses outputs status a c
 result_then {statuses} {outputs} {status} {result} {file} {circuit} {a} {b} {c} next law was r = follows_then result 4 Text (IsRefusedResult circuit) (IsResult circuit) next file law was r
+
+pub dictionary_then : {statuses : List ℕ} {outputs : List Text} {status : ℕ} {dict : Text} {d : Dict} {a b c : State} → (next : Dict → Plan) → (IsTrue a.sure → IsTrue a.tells) → WasAccepted dict IsDictionaryFile d a b → Follows (next d) statuses outputs status b c → Follows (with_dictionary dict next) statuses outputs status a c
+dictionary_then {statuses} {outputs} {status} {dict} {d} {a} {b} {c} next law was r = follows_then dict 5 Dict IsRefusedDictionary IsDictionaryFile next d law was r
+
+pub log_then : (d : Dict) {statuses : List ℕ} {outputs : List Text} {status : ℕ} {log : Text} {observed : List (List Bool)} {a b c : State} → (next : List (List Bool) → Plan) → (IsTrue a.sure → IsTrue a.tells) → WasAccepted log (IsLogFor d) observed a b → Follows (next observed) statuses outputs status b c → Follows (with_log log d next) statuses outputs status a c
+log_then d {statuses} {outputs} {status} {log} {observed} {a} {b} {c} next law was r = follows_then log 6 (List (List Bool)) (IsRefusedLog d) (IsLogFor d) next observed law was r
+
+pub list_then : (circuit : Circuit) {statuses : List ℕ} {outputs : List Text} {status : ℕ} {vectors : Text} {list : List (List Bool)} {a b c : State} → (next : List (List Bool) → Plan) → (IsTrue a.sure → IsTrue a.tells) → WasAccepted vectors (IsListFor circuit) list a b → Follows (next list) statuses outputs status b c → Follows (with_vectors vectors circuit next) statuses outputs status a c
+list_then circuit {statuses} {outputs} {status} {vectors} {list} {a} {b} {c} next law was r = follows_then vectors 6 (List (List Bool)) (IsRefusedList circuit) (IsListFor circuit) next list law was r
 
 -- ---- how a file ends the run
 

@@ -10,11 +10,11 @@ use Rattle.result_file.specs.declared.record.Budgets.{Budgets}
 use Rattle.result_file.specs.declared.record.Summary.{Summary}
 use Rattle.dia_gen.specs.Made.{IsMade, IsCutFile}
 use Rattle.dia_gen.proofs.Written.{nothing_cut}
-use Rattle.diatest.specs.Request.{Text}
+use Rattle.request_words.specs.Request.{Text}
 use Rattle.diatest.specs.Texts.{summary_text, not_understood_text}
 use Rattle.diatest.specs.Netlists.{IsDesign}
 use Rattle.diatest.specs.Outcome.{Outcome, said, saved, IsCut, IsPartOf}
-use Rattle.diatest.specs.Plans.{MakesResult, IsResultPart, makes_result, makes_both, says, plan_of}
+use Rattle.diatest.specs.Plans.{MakesResult, IsResultPart, makes_file, makes_result, makes_both, says, plan_of}
 use Rattle.diatest.specs.Ran.{IsAmong, Ends, SavesResult, Follows, Ran}
 use Rattle.diatest.specs.Steps.{IsWriteStatus}
 use Rattle.diatest.proofs.Runs.{MayBreak, Fits, MadeAmong, cut_among, cut_after, part_after, ran, ends_unmade, ends_cut, status_of, not_done}
@@ -30,6 +30,26 @@ one_read = record { failed = inr (inr (inl refl)); breaks = record { write = inr
 
 pub two_read : MayRead (0 ∷ 3 ∷ 4 ∷ 7 ∷ 8 ∷ 9 ∷ [])
 two_read = record { failed = inr (inr (inr (inl refl))); breaks = record { write = inr (inr (inr (inr (inl refl)))); memory = inr (inr (inr (inr (inr (inl refl))))) } }
+
+-- ---- statuses of requests that read a dictionary, a log too, or a netlist and a list of vectors
+
+pub dictionary_read : MayRead (0 ∷ 5 ∷ 7 ∷ 8 ∷ 9 ∷ [])
+dictionary_read = record { failed = inr (inr (inl refl)); breaks = record { write = inr (inr (inr (inl refl))); memory = inr (inr (inr (inr (inl refl)))) } }
+
+pub log_read : MayRead (0 ∷ 5 ∷ 6 ∷ 7 ∷ 8 ∷ 9 ∷ [])
+log_read = record { failed = inr (inr (inr (inl refl))); breaks = record { write = inr (inr (inr (inr (inl refl)))); memory = inr (inr (inr (inr (inr (inl refl))))) } }
+
+pub list_read : MayRead (0 ∷ 3 ∷ 6 ∷ 7 ∷ 8 ∷ 9 ∷ [])
+list_read = record { failed = inr (inr (inr (inl refl))); breaks = record { write = inr (inr (inr (inr (inl refl)))); memory = inr (inr (inr (inr (inr (inl refl))))) } }
+
+-- ---- a file and a text
+
+-- a file is made under a name, and a text is printed
+pub makes_follows : (AreMade : Text → Text → Type 0) {name file text : Text} {statuses : List ℕ} {outputs : List Text} {status : ℕ} {a b : State} → MayBreak statuses → IsAmong 0 statuses → IsAmong name outputs → AreMade file text
+    → Ends (saved ((name, file) ∷ []) text) (IsPartOf (saved ((name, file) ∷ []) text)) status a b → Follows (makes_file name AreMade) statuses outputs status a b
+makes_follows AreMade {name} {file} {text} {statuses} {outputs} {status} {a} {b} breaks zero among is ends =
+    ran (record { below = omega arith; answers = zero; breaks = breaks; names = λ made t part. cut_among made ((name, file) ∷ []) outputs part.files (among, tt) })
+    (λ s told. (file, text, is, refl)) (λ told made t part. inl (saved ((name, file) ∷ []) text, (file, text, is, refl), part)) ends
 
 -- ---- texts
 

@@ -1,7 +1,7 @@
 -- A plan of which no file is both refused and accepted ends in one way.
 use Rattle.std.proofs.Common.{◌≡◌, ℕ, ◌<◌, List, Some, sym, subst, ◌∙◌}
 use Rattle.diag_shelf.specs.World.{Files}
-use Rattle.diatest.specs.Request.{Text}
+use Rattle.request_words.specs.Request.{Text}
 use Rattle.diatest.specs.Outcome.{Outcome}
 use Rattle.diatest.specs.Plan.{Plan, finish, judged, refused_file, accepted_file, IsClear, EndsIn}
 

@@ -10,7 +10,7 @@ use Rattle.bench_reader.specs.Netlist.{Netlist}
 use Rattle.bench_reader.specs.Reading.{IsNetlist}
 use Rattle.bench_reader.specs.Stops.{IsTextFault}
 use Rattle.scan_cut.specs.Cut.{cut_circuit, cut_design, IsNetlistLoop}
-use Rattle.diatest.specs.Request.{Text}
+use Rattle.request_words.specs.Request.{Text}
 use Rattle.diatest.specs.Texts.{refusal_text}
 use Rattle.diatest.specs.Netlists.{IsDesign, IsRefused, by_text, by_loop}
 use Rattle.diatest.specs.Steps.{fault_text}

@@ -1,5 +1,5 @@
 -- From what the last steps of a run do to what the whole run promises.
-use Rattle.std.proofs.Common.{◌≡◌, ◌≢◌, ℕ, Bool, true, false, ◌<◌, ◌⊎◌, List, [], ◌∷◌, ◌++◌, take, length, Option, Some, None, Result, Ok, Err, refl, sym, ap, subst, ◌∙◌, inl, inr, arith, zero-le, IsTrue}
+use Rattle.std.proofs.Common.{◌≡◌, ◌≢◌, ℕ, Bool, true, false, ◌<◌, ◌≤◌, ◌⊎◌, List, [], ◌∷◌, ◌++◌, take, length, Option, Some, None, Result, Ok, Err, refl, sym, ap, subst, ◌∙◌, inl, inr, arith, zero-le, IsTrue}
 use Rattle.std.specs.FinMap.{get, insert}
 use Rattle.diag_shelf.specs.World.{Files, World, State, appended}
 use Rattle.diag_shelf.specs.declared.shelf.ShelfFault.{ShelfFault}
@@ -8,7 +8,7 @@ use Rattle.std.proofs.Math.Nat.{le_refl}
 use Rattle.std.proofs.lemmas.List.{append-nil, take_all}
 use Rattle.diag_shelf.specs.Calls.{Told, OfSome, Same, SameFacts, OnlyReads, Creates, Writes, Prints, IsReadCall, IsWriteCall}
 use Rattle.diag_shelf.proofs.FileMaps.{get_off_insert, insert_again, held_at_insert}
-use Rattle.diatest.specs.Request.{Text}
+use Rattle.request_words.specs.Request.{Text}
 use Rattle.diatest.specs.Outcome.{Outcome, IsCut, IsPartOf, Leaves, after_made, written_after, said, saved}
 use Rattle.diatest.specs.Plan.{Plan, CallsFor, MayLeave}
 use Rattle.diatest.specs.Ran.{IsAmong, Stays, Ends, Follows}
@@ -211,6 +211,13 @@ part_after name bytes text whole made t part = record {
   console = part.console;
   order = λ some. ap (λ (m : List (Text × List ℕ)). (name, bytes) ∷ m) (part.order some);
 }
+
+-- no file, or a file of which a beginning was written, is a part of what is to be made
+pub none_made : {whole : List (Text × List ℕ)} {text : List ℕ} → IsPartOf (saved whole text) [] []
+none_made {whole} {text} = record { files = tt; console = (0, zero-le, refl); order = λ some. absurd (some refl) }
+
+pub part_written : {name : Text} {bytes text : List ℕ} (n : ℕ) → n ≤ length bytes → IsPartOf (saved ((name, bytes) ∷ []) text) ((name, take n bytes) ∷ []) []
+part_written {name} {bytes} {text} n h = record { files = (refl, (n, h, refl)); console = (0, zero-le, refl); order = λ some. absurd (some refl) }
 
 -- ---- the whole run
 

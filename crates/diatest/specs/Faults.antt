@@ -2,7 +2,7 @@
 use Rattle.std.specs.Prelude.{◌≡◌}
 use Rattle.net_model.specs.declared.circuit.Design.{Design}
 use Rattle.fault_collapse.specs.Forest.{Forest, IsForestOf}
-use Rattle.diatest.specs.Request.{Text}
+use Rattle.request_words.specs.Request.{Text}
 use Rattle.diatest.specs.Texts.{faults_text}
 
 -- The text lists the faults of the design's circuit.

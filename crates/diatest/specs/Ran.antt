@@ -11,7 +11,8 @@ use Rattle.result_file.specs.Summary.{summary_of}
 use Rattle.result_file.specs.Valid.{IsValidFile}
 use Rattle.result_file.specs.Meaning.{stated_records, IsTrueFile}
 use Rattle.dia_gen.specs.Made.{IsMade}
-use Rattle.diatest.specs.Request.{Text, Request, gen, check, list_faults, synth, synth_budgets, outputs_of}
+use Rattle.request_words.specs.Request.{Text, Request, gen, check, make_dict, convert, diagnose, list_faults, simulate, synth}
+use Rattle.diatest.specs.Outputs.{synth_budgets, outputs_of}
 use Rattle.diatest.specs.Synth.{synth_text}
 use Rattle.diatest.specs.Texts.{summary_text, valid_text}
 use Rattle.diatest.specs.Netlists.{IsDesign, IsRefused}
@@ -30,7 +31,11 @@ abbrev pub statuses_of : Option Request → List ℕ
 statuses_of None = 2 ∷ 8 ∷ 9 ∷ []
 statuses_of (Some (gen bench result budgets)) = 0 ∷ 3 ∷ 7 ∷ 8 ∷ 9 ∷ []
 statuses_of (Some (check bench result)) = 0 ∷ 3 ∷ 4 ∷ 7 ∷ 8 ∷ 9 ∷ []
+statuses_of (Some (make_dict kind bench result dict)) = 0 ∷ 3 ∷ 4 ∷ 7 ∷ 8 ∷ 9 ∷ []
+statuses_of (Some (convert old new)) = 0 ∷ 5 ∷ 7 ∷ 8 ∷ 9 ∷ []
+statuses_of (Some (diagnose dict log)) = 0 ∷ 5 ∷ 6 ∷ 7 ∷ 8 ∷ 9 ∷ []
 statuses_of (Some (list_faults bench)) = 0 ∷ 3 ∷ 7 ∷ 8 ∷ 9 ∷ []
+statuses_of (Some (simulate bench vectors)) = 0 ∷ 3 ∷ 6 ∷ 7 ∷ 8 ∷ 9 ∷ []
 statuses_of (Some (synth n bench result)) = 0 ∷ 8 ∷ 9 ∷ []
 
 -- No count falls, and what a shelf tells and whether it is sure stay.

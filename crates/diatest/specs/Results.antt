@@ -7,7 +7,7 @@ use Rattle.result_file.specs.Spelling.{text_of}
 use Rattle.result_file.specs.Summary.{summary_of}
 use Rattle.result_file.specs.Valid.{IsValid, IsValidFile}
 use Rattle.result_file.specs.Refusal.{FileRefused}
-use Rattle.diatest.specs.Request.{Text}
+use Rattle.request_words.specs.Request.{Text}
 use Rattle.diatest.specs.Texts.{result_text, valid_text}
 
 -- The bytes are accepted as this file, which is valid.

@@ -7,7 +7,7 @@ use Rattle.diag_shelf.specs.declared.shelf.ShelfFault.{ShelfFault}
 use Rattle.diag_shelf.specs.declared.shelf.ShelfFault.TheVariants.{Failed, NoMemory}
 use Rattle.bench_reader.specs.declared.fault.NetFault.{NetFault}
 use Rattle.bench_reader.specs.declared.fault.NetFault.TheVariants as fault
-use Rattle.diatest.specs.Request.{Text}
+use Rattle.request_words.specs.Request.{Text}
 use Rattle.diatest.specs.Texts.{refusal_text, loop_text}
 use Rattle.diatest.specs.Outcome.{said, IsPartOf}
 use Rattle.diatest.specs.Ran.{Stays, Ends}

@@ -1,6 +1,6 @@
 -- The lines of the console.
 use Rattle.net_model.specs.FaultList.{fault_numbered}
-use Rattle.std.specs.Prelude.{ℕ, ◌-◌, List, ◌∷◌, ◌++◌, codes, decimal, flat_map, length}
+use Rattle.std.specs.Prelude.{ℕ, ◌-◌, List, ◌∷◌, ◌++◌, codes, decimal, flat_map, length, Option, Some, None}
 use Rattle.std.specs.List.{range_with_len}
 use Rattle.net_model.specs.declared.circuit.Design.{Design}
 use Rattle.net_model.specs.declared.fault.Fault.{Fault}
@@ -16,7 +16,11 @@ use Rattle.result_file.specs.declared.record.Summary.{Summary}
 use Rattle.result_file.specs.declared.fault.ResultKind.{ResultKind}
 use Rattle.result_file.specs.declared.fault.ResultKind.TheVariants as result
 use Rattle.result_file.specs.declared.fault.ResultFault.{ResultFault}
-use Rattle.diatest.specs.Request.{Text}
+use Rattle.dict_file.specs.declared.fault.DictFault.{DictFault}
+use Rattle.dict_file.specs.declared.fault.DictFault.TheVariants as dict
+use Rattle.diagnose.specs.declared.fault.LogKind.{LogKind}
+use Rattle.diagnose.specs.declared.fault.LogKind.TheVariants as log
+use Rattle.request_words.specs.Request.{Text}
 
 abbrev pub kind_name : NetKind → Text
 kind_name BadByte = codes "BadByte"
@@ -106,3 +110,51 @@ count_text numbers roots = codes "faults " ++ (decimal numbers ++ (codes " roots
 -- all faults, by number
 unfoldable pub faults_text : Design → Forest → Text
 faults_text design forest = flat_map (fault_line design forest) (range_with_len 0 (number_count forest)) ++ count_text (number_count forest - 1) (length (root_numbers forest))
+
+-- ---- dictionaries
+
+-- the rule that a dictionary breaks, and at which byte; want of memory is none
+abbrev pub dictionary_rule : DictFault → Option (Text × ℕ)
+dictionary_rule dict.Magic = Some (codes "Magic", 0)
+dictionary_rule dict.Version = Some (codes "Version", 4)
+dictionary_rule dict.Kind = Some (codes "Kind", 6)
+dictionary_rule (dict.Short byte) = Some (codes "Short", byte)
+dictionary_rule (dict.Value byte) = Some (codes "Value", byte)
+dictionary_rule (dict.Trailing byte) = Some (codes "Trailing", byte)
+dictionary_rule (dict.TooLong byte) = Some (codes "TooLong", byte)
+dictionary_rule dict.NoMemory = None
+
+-- why a dictionary is refused
+unfoldable pub dictionary_text : Text → ℕ → Text
+dictionary_text rule byte = codes "dictionary: " ++ (rule ++ (codes " at byte " ++ (decimal byte ++ codes "\n")))
+
+-- the numbers, patterns and classes of a dictionary, and how many pairs of classes it keeps apart
+unfoldable pub apart_text : ℕ → ℕ → ℕ → ℕ → Text
+apart_text numbers patterns classes apart = codes "numbers " ++ (decimal numbers ++ (codes " patterns " ++ (decimal patterns ++ (codes " classes " ++ (decimal classes ++ (codes " apart " ++ (decimal apart ++ codes "\n")))))))
+
+-- the numbers, patterns and groups of a dictionary
+unfoldable pub groups_text : ℕ → ℕ → ℕ → Text
+groups_text numbers patterns groups = codes "numbers " ++ (decimal numbers ++ (codes " patterns " ++ (decimal patterns ++ (codes " groups " ++ (decimal groups ++ codes "\n")))))
+
+-- ---- logs and lists of vectors
+
+abbrev pub log_rule : LogKind → Text
+log_rule log.Syntax = codes "Syntax"
+log_rule log.Order = codes "Order"
+log_rule log.Width = codes "Width"
+log_rule log.Missing = codes "Missing"
+log_rule log.TooLong = codes "TooLong"
+
+-- why a log or a list of vectors is refused
+unfoldable pub log_text : LogKind → ℕ → Text
+log_text kind line = codes "log: " ++ (log_rule kind ++ (codes " at line " ++ (decimal line ++ codes "\n")))
+
+unfoldable pub number_line : ℕ → Text
+number_line number = decimal number ++ codes "\n"
+
+unfoldable pub listed_text : ℕ → Text
+listed_text count = codes "listed " ++ (decimal count ++ codes "\n")
+
+-- numbers, one to a line, and how many they are
+unfoldable pub numbers_text : List ℕ → Text
+numbers_text numbers = flat_map number_line numbers ++ listed_text (length numbers)

@@ -1,46 +1,24 @@
 //! The command `faults`: the faults of a netlist's circuit, each with its root and its name.
 
 ghost use Rattle.std.specs.Prelude.{◌≡◌, ◌++◌, All, Some, IfOk, OnOk, flat_map, length};
-ghost use Rattle.clap.specs.Words.{app_of, found_of, rows_of};
 ghost use Rattle.std.specs.List.{range_with_len};
 ghost use Rattle.net_model.specs.Circuit.{line_count};
 ghost use Rattle.net_model.specs.FaultList.{faults};
 ghost use Rattle.fault_collapse.specs.Forest.{number_count};
-ghost use Rattle.diatest.specs.Request.{list_faults, faults_app, faults_by};
-ghost use Rattle.diatest.specs.Asked.{asked, HasLimits};
+ghost use Rattle.request_words.specs.Request.{list_faults};
 ghost use Rattle.net_model.specs.Fault.{IsFaultOf};
 ghost use Rattle.diatest.specs.Texts.{fault_line, fault_fields};
 ghost use Rattle.diatest.specs.Faults.{IsFaultsText};
 ghost use Rattle.diatest.specs.Ran.{Ran};
 
-use crate::arguments::{bare_command, name_arg, name_in};
 use crate::ends::say;
 use crate::netlists::read_design;
-use crate::request::Request;
 use crate::texts::{count_text, line_start};
-use clap::{ArgMatches, Command};
 use diag_shelf::Shelf;
 use fault_collapse::{Forest, collapse};
 use fault_list::{FaultList, list, name_text};
 use net_model::{Design, Fault};
 use std::alloc::{AllocError, Global};
-
-/// A name.
-pub(crate) fn faults_command<'a>(alloc: Global) -> Result<Command<'a>, AllocError>
-    ensures { IfOk result (λ c. app_of c ≡ faults_app) }
-{
-    let bench = name_arg(alloc, "bench");
-    let whole = bare_command(alloc, "faults").arg(bench)?;
-    Ok(whole)
-}
-
-/// The request of its matches.
-pub(crate) fn faults_in<'a>(matches: &ArgMatches<'a>) -> Request<'a>
-    ensures asked { asked result ≡ faults_by (rows_of (found_of matches.now)) }
-    ensures limits { HasLimits result }
-{
-    Request::ListFaults(name_in(matches, "bench"))
-}
 
 /// Reads and judges the netlist, and prints the faults of its circuit.
 pub(crate) fn list_faults<S: Shelf>(alloc: Global, shelf: &mut S, bench: &str) -> u8

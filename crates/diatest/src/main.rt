@@ -1,17 +1,21 @@
 //! DIATEST: tests that tell single stuck-at faults apart.
 #![tactic(auto)]
 
-mod arguments;
 mod cells;
 mod checks;
 mod commands;
+mod converts;
+mod diagnoses;
+mod dictionaries;
 mod ends;
 mod generates;
 mod listing;
+mod logs;
+mod makes_dicts;
 mod netlists;
 mod real;
-mod request;
 mod results;
+mod sims;
 mod synths;
 #[cfg(test)]
 mod tests;

@@ -1,9 +1,10 @@
 //! The lines of the console.
 
 ghost use Rattle.std.specs.Prelude.{◌≡◌, IfOk, string_bytes};
-ghost use Rattle.diatest.specs.Texts.{kind_name, refusal_text, loop_start, line_start, count_text, summary_text, valid_text, evidence_rule, evidence_text, result_rule, result_text};
+ghost use Rattle.diatest.specs.Texts.{kind_name, refusal_text, loop_start, line_start, count_text, summary_text, valid_text, evidence_rule, evidence_text, result_rule, result_text, dictionary_text, apart_text, groups_text, log_rule, log_text, number_line, listed_text};
 
 use bench_reader::{NetKind, Place};
+use diagnose::LogKind;
 use refute_check::{Refusal, RefusalKind};
 use result_file::{ResultFault, ResultKind, Summary};
 use std::alloc::{AllocError, Global};
@@ -133,4 +134,76 @@ fn evidence_rule(kind: RefusalKind) -> &'static str
         RefusalKind::BadTree => "BadTree",
         RefusalKind::WrongCount => "WrongCount",
     }
+}
+
+/// Why a dictionary is refused: the rule that it breaks, and at which byte.
+#[tactic(auto, unfolding(crate::specs::Texts::dictionary_text))]
+pub(crate) fn dictionary_text(alloc: Global, rule: &str, byte: u64) -> Result<String, AllocError>
+    ensures { IfOk result (λ text. string_bytes text ≡ dictionary_text rule.now byte) }
+{
+    format!(in alloc; "dictionary: {rule} at byte {byte}\n")
+}
+
+/// What a dictionary has, and how many pairs of classes it keeps apart.
+#[tactic(auto, unfolding(crate::specs::Texts::apart_text))]
+pub(crate) fn apart_text(
+    alloc: Global,
+    numbers: u32,
+    patterns: u32,
+    classes: u32,
+    apart: u64,
+) -> Result<String, AllocError>
+    ensures { IfOk result (λ text. string_bytes text ≡ apart_text numbers patterns classes apart) }
+{
+    format!(in alloc; "numbers {numbers} patterns {patterns} classes {classes} apart {apart}\n")
+}
+
+/// What a dictionary has.
+#[tactic(auto, unfolding(crate::specs::Texts::groups_text))]
+pub(crate) fn groups_text(
+    alloc: Global,
+    numbers: u32,
+    patterns: u32,
+    groups: u32,
+) -> Result<String, AllocError>
+    ensures { IfOk result (λ text. string_bytes text ≡ groups_text numbers patterns groups) }
+{
+    format!(in alloc; "numbers {numbers} patterns {patterns} groups {groups}\n")
+}
+
+/// Why a log or a list of vectors is refused.
+#[tactic(auto, unfolding(crate::specs::Texts::log_text))]
+pub(crate) fn log_text(alloc: Global, kind: LogKind, line: u64) -> Result<String, AllocError>
+    ensures { IfOk result (λ text. string_bytes text ≡ log_text kind line) }
+{
+    let rule = log_rule(kind);
+    format!(in alloc; "log: {rule} at line {line}\n")
+}
+
+fn log_rule(kind: LogKind) -> &'static str
+    ensures { result.now ≡ log_rule kind }
+{
+    match kind {
+        LogKind::Syntax => "Syntax",
+        LogKind::Order => "Order",
+        LogKind::Width => "Width",
+        LogKind::Missing => "Missing",
+        LogKind::TooLong => "TooLong",
+    }
+}
+
+/// A number.
+#[tactic(auto, unfolding(crate::specs::Texts::number_line))]
+pub(crate) fn number_line(alloc: Global, number: u32) -> Result<String, AllocError>
+    ensures { IfOk result (λ text. string_bytes text ≡ number_line number) }
+{
+    format!(in alloc; "{number}\n")
+}
+
+/// How many numbers were listed.
+#[tactic(auto, unfolding(crate::specs::Texts::listed_text))]
+pub(crate) fn listed_text(alloc: Global, count: usize) -> Result<String, AllocError>
+    ensures { IfOk result (λ text. string_bytes text ≡ listed_text count) }
+{
+    format!(in alloc; "listed {count}\n")
 }

@@ -1,5 +1,7 @@
 use Rattle.diatest.proofs.NetlistLemmas.{EvidenceLaws}
 use Rattle.diatest.proofs.Clauses.{words_of, not_understood_of, keeps_unless_done, made_of, checked_of, synth_made, faults_of, decided_by_files, keeps_refused, is_complete}
+use Rattle.diatest.proofs.SimLemmas.{simulated_of}
+use Rattle.diatest.proofs.DictionaryClauses.{dictionary_made, converted_of, diagnosed_of, diagnoses_alike}
 use Rattle.diatest.proofs.commands.run.Goals as goal
 
 pub returns-clause-words : goal.returns-clause-words
@@ -24,6 +26,9 @@ returns-clause-synth g c =
 pub returns-clause-faults : goal.returns-clause-faults
 returns-clause-faults g c = λ told. faults_of (c.dispatch.ensures.done told)
 
+pub returns-clause-simulated : goal.returns-clause-simulated
+returns-clause-simulated g c = λ told. simulated_of (c.dispatch.ensures.done told)
+
 pub returns-clause-checked : goal.returns-clause-checked
 returns-clause-checked g c = λ told. checked_of (c.dispatch.ensures.done told) c.valid_is_true.ensures.records
 
@@ -35,3 +40,15 @@ returns-clause-refused g c = λ told. keeps_refused c.files_are_judged_once.ensu
 
 pub returns-clause-complete : goal.returns-clause-complete
 returns-clause-complete g c = is_complete c.files_are_judged_once.ensures c.dispatch.ensures
+
+pub returns-clause-dictionary : goal.returns-clause-dictionary
+returns-clause-dictionary g c = λ told. dictionary_made (c.dispatch.ensures.done told) c.valid_is_true.ensures.records
+
+pub returns-clause-converted : goal.returns-clause-converted
+returns-clause-converted g c = λ told. converted_of (c.dispatch.ensures.done told)
+
+pub returns-clause-diagnosed : goal.returns-clause-diagnosed
+returns-clause-diagnosed g c = λ told. diagnosed_of (c.dispatch.ensures.done told)
+
+pub returns-clause-alike : goal.returns-clause-alike
+returns-clause-alike g c = diagnoses_alike c.dictionary_is_read_once.ensures.wrong c.dictionary_is_read_once.ensures.dictionary

@@ -1,5 +1,5 @@
 use Rattle.std.proofs.Common.{◌∙◌, ◌∷◌, [], ℕ, List, refl, inl, inr, subst}
-use Rattle.diatest.specs.Request.{synth_budgets}
+use Rattle.diatest.specs.Outputs.{synth_budgets}
 use Rattle.diatest.specs.Synth.{synth_text}
 use Rattle.diatest.specs.Netlists.{IsDesign, IsRefused}
 use Rattle.diatest.specs.Ran.{SavesResult}

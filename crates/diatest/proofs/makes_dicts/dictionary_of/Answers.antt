@@ -1,0 +1,32 @@
+use Rattle.std.proofs.Common.{sym, subst, arith}
+use Rattle.std.specs.Prelude.{IfOk}
+use Rattle.std.proofs.lemmas.Result.{IfOk-weaker}
+use Rattle.kept_vectors.proofs.KeepLemmas.{table_patterns}
+use Rattle.table_dicts.specs.AnswerTable.{Answers, AreAnswers}
+use Rattle.table_dicts.specs.declared.dict.Dict.{Dict}
+use Rattle.table_dicts.specs.Dictionary.{IsPassFail, IsFull}
+use Rattle.request_words.specs.declared.request.EntryKind.{EntryKind}
+use Rattle.request_words.specs.declared.request.EntryKind.TheVariants.{PassFail, Full}
+use Rattle.diatest.specs.Dictionaries.{IsOfPatterns}
+use Rattle.diatest.proofs.MadeLemmas.{of_patterns}
+use Rattle.diatest.proofs.makes_dicts.dictionary_of.Goals as goal
+
+pub pass_fail_at-requires-clause-few : goal.pass_fail_at-requires-clause-few
+pass_fail_at-requires-clause-few c = omega (arith, table_patterns c.requires.table, c.patterns-patterns.ensures.value, c.patterns-patterns.type_inv)
+
+pub full_at-requires-clause-few : goal.full_at-requires-clause-few
+full_at-requires-clause-few c = omega (arith, table_patterns c.requires.table, c.patterns-patterns.ensures.value, c.patterns-patterns.type_inv)
+
+pub returns-in-PassFail-clause-dictionary : goal.returns-in-PassFail-clause-dictionary
+returns-in-PassFail-clause-dictionary c =
+    let circuit = c.args.circuit.now in
+    let patterns = c.args.patterns.now in
+    subst (λ (kind : EntryKind). IfOk c.pass_fail_at.result (IsOfPatterns circuit kind patterns)) (sym c.in-PassFail.is)
+    (IfOk-weaker c.pass_fail_at.result (λ (d : Dict). (t : Answers) → AreAnswers circuit patterns t → IsPassFail t d) (IsOfPatterns circuit PassFail patterns) (λ d made. of_patterns PassFail c.requires.table made) c.pass_fail_at.ensures)
+
+pub returns-clause-dictionary : goal.returns-clause-dictionary
+returns-clause-dictionary c =
+    let circuit = c.args.circuit.now in
+    let patterns = c.args.patterns.now in
+    subst (λ (kind : EntryKind). IfOk c.full_at.result (IsOfPatterns circuit kind patterns)) (sym c.in-Full.is)
+    (IfOk-weaker c.full_at.result (λ (d : Dict). (t : Answers) → AreAnswers circuit patterns t → IsFull t d) (IsOfPatterns circuit Full patterns) (λ d made. of_patterns Full c.requires.table made) c.full_at.ensures)

@@ -1,0 +1,50 @@
+-- What a command's words ask for, by the definition of the command.
+use Rattle.std.proofs.Common.{◌≡◌, ◌≢◌, Bool, true, false, List, [], ◌∷◌, Option, Some, None, Result, Ok, Err, refl, sym, ap, ◌∙◌, ◌==◌, length, arith, if◌then◌else◌}
+use Rattle.std.proofs.lemmas.Bool.{eqb-true}
+use Rattle.clap.specs.Words.{Row, fault_of, matches_of, is_simple_and_free}
+use Rattle.std.specs.Result.{IsErrAnd}
+use Rattle.clap.specs.Walk.{is_empty}
+use Rattle.request_words.specs.Request.{Text, Request, asked_by, app_for, request_by, gen_app, check_app, dict_app, convert_app, diagnose_app, faults_app, sim_app, synth_app}
+use Rattle.request_words.specs.declared.request.Verb.{Verb}
+use Rattle.request_words.specs.declared.request.Verb.TheVariants.{Gen, Check, Dict, Convert, Diagnose, Faults, Sim, Synth}
+
+-- ---- each command is simple, and no argument has a rule on another
+
+pub is_simple : (verb : Verb) → is_simple_and_free (app_for verb) ≡ true
+unfolding gen_app check_app dict_app convert_app diagnose_app faults_app sim_app synth_app
+is_simple Gen = refl
+is_simple Check = refl
+is_simple Dict = refl
+is_simple Convert = refl
+is_simple Diagnose = refl
+is_simple Faults = refl
+is_simple Sim = refl
+is_simple Synth = refl
+
+-- ---- words that are taken, and words that aren't
+
+none_true : (b : Bool) → ¬ (b ≡ true) → b ≡ false
+none_true true off = absurd (off refl)
+none_true false off = refl
+
+some_fault : {A : Type 0} (kinds : List A) → kinds ≢ [] → is_empty kinds ≡ false
+some_fault [] some = absurd (some refl)
+some_fault (k ∷ kinds) some = none_true (length (k ∷ kinds) == 0) (λ e. absurd (omega (arith, eqb-true (length (k ∷ kinds)) 0 e)))
+
+module _ (verb : Verb) (words : List Text) where
+  abbrev asked_where : Bool → Option Request
+  asked_where taken = if taken then request_by verb (matches_of (app_for verb) words) else None
+
+  pub asked_taken : {rows : List Row} {r : Option Request} → fault_of (app_for verb) words ≡ [] → rows ≡ matches_of (app_for verb) words → r ≡ request_by verb rows → asked_by (Some verb) words ≡ r
+  asked_taken {rows} {r} taken is asks = ap (λ kinds. asked_where (is_empty kinds)) taken ∙ ap (request_by verb) (sym is) ∙ sym asks
+
+  pub asked_refused : fault_of (app_for verb) words ≢ [] → asked_by (Some verb) words ≡ None
+  asked_refused some = ap asked_where (some_fault (fault_of (app_for verb) words) some)
+
+-- a fault that `?` passed on
+same_fault : {U E : Type 0} {x y : E} → ◌≡◌ {A = Result U E} (Err x) (Err y) → x ≡ y
+same_fault e = cc
+
+pub passed_on : {T U E : Type 0} (r : Result U E) (fault want : E) → IsErrAnd r (λ y. y ≡ fault) → r ≡ Err want → ◌≡◌ {A = Result T E} (Err fault) (Err want)
+passed_on (Ok x) fault want and is = absurd and
+passed_on (Err y) fault want same is = ap Err (sym same ∙ same_fault is)

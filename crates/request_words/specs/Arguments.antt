@@ -1,0 +1,53 @@
+-- Words that the definition of a simple command of `clap` reads: the rules of its arguments, and what its matches hold.
+use Rattle.std.specs.Prelude.{ℕ, Bool, true, List, [], ◌∷◌, Option, Some, None, pos, codes, unwrap_or, if◌then◌else◌}
+use Rattle.std.specs.Str.{bytes_eq}
+use Rattle.std.specs.Str.Parse.{digits_value, without_leading_plus}
+use Rattle.clap.specs.Words.{App, Rule, Row, Text, first_of, one_of, new_app, new_rule, fault_of}
+use Rattle.clap.specs.Walk.{is_empty}
+use Rattle.clap.specs.Simple.{on_top}
+use Rattle.clap.specs.ValueTests.{is_unsigned_in}
+use Rattle.clap.specs.declared.builder.action.ArgAction.TheVariants.{Set}
+use Rattle.request_words.specs.declared.request.EntryKind.{EntryKind}
+use Rattle.request_words.specs.declared.request.EntryKind.TheVariants.{PassFail, Full}
+use Rattle.clap.specs.declared.builder.value_parser.ValueParser.TheVariants as vp
+
+-- ---- commands
+
+-- no flag for help or the version, and no argument yet
+abbrev pub bare_app : Text → App
+bare_app name = on_top (λ s. record s { no_binary_name = true; disable_help_flag = true; disable_version_flag = true }) (new_app name)
+
+-- a name that has to stand
+abbrev pub name_rule : Text → Rule
+name_rule id = record (new_rule id) { required = true; action = Some Set }
+
+-- a number that has to stand, from 1 to a most
+abbrev pub number_rule : Text → ℕ → Rule
+number_rule id most = record (name_rule id) { parser = Some (vp.Signed (pos 1) (pos most)) }
+
+-- an option with a number of at most this, and its default
+abbrev pub option_rule : Text → Text → ℕ → Rule
+option_rule id default most = record (new_rule id) { long = Some id; defaults = default ∷ []; parser = Some (vp.Signed (pos 0) (pos most)) }
+
+-- ---- matches
+
+-- whether the words are taken
+abbrev pub is_taken : App → List Text → Bool
+is_taken app words = is_empty (fault_of app words)
+
+-- the name under an id; of one that has to stand there is always one
+abbrev pub name_in : Text → List Row → Text
+name_in id rows = unwrap_or (first_of id rows) []
+
+-- the number that a text is, and the least where it is none from the least to the most
+abbrev pub number_from : ℕ → ℕ → Option Text → ℕ
+number_from least most None = least
+number_from least most (Some text) = if is_unsigned_in least most text then digits_value 10 (without_leading_plus text) else least
+
+-- the number under an id; of one that has to stand, or has a default, there is always one within its limits
+abbrev pub number_in : Text → ℕ → ℕ → List Row → ℕ
+number_in id least most rows = number_from least most (one_of id rows)
+
+-- the kind of dictionary that a word names
+abbrev pub kind_named : Text → Option EntryKind
+kind_named word = if bytes_eq word (codes "passfail") then Some PassFail else if bytes_eq word (codes "full") then Some Full else None

@@ -1,0 +1,27 @@
+-- The request that the code's own type stands for.
+use Rattle.std.specs.Prelude.{◌≤◌}
+use Rattle.result_file.specs.Lines.{AreWithinLimits}
+use Rattle.request_words.specs.Request as spec
+use Rattle.request_words.specs.declared.request.Request.{Request}
+use Rattle.request_words.specs.declared.request.Request.TheVariants.{Gen, Check, MakeDict, Convert, Diagnose, ListFaults, Simulate, Synth}
+
+abbrev pub asked : Request → spec.Request
+asked (Gen bench result budgets) = spec.gen bench.now result.now budgets
+asked (Check bench result) = spec.check bench.now result.now
+asked (MakeDict kind bench result dict) = spec.make_dict kind bench.now result.now dict.now
+asked (Convert old new) = spec.convert old.now new.now
+asked (Diagnose dict log) = spec.diagnose dict.now log.now
+asked (ListFaults bench) = spec.list_faults bench.now
+asked (Simulate bench vectors) = spec.simulate bench.now vectors.now
+asked (Synth n bench result) = spec.synth n bench.now result.now
+
+-- The numbers of a request are within their limits.
+abbrev pub HasLimits : Request → Type 0
+HasLimits (Gen bench result budgets) = AreWithinLimits budgets
+HasLimits (Check bench result) = Unit {0}
+HasLimits (MakeDict kind bench result dict) = Unit {0}
+HasLimits (Convert old new) = Unit {0}
+HasLimits (Diagnose dict log) = Unit {0}
+HasLimits (ListFaults bench) = Unit {0}
+HasLimits (Simulate bench vectors) = Unit {0}
+HasLimits (Synth n bench result) = (1 ≤ n) × (n ≤ 2000)

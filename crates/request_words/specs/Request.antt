@@ -1,0 +1,127 @@
+-- What the words ask for. Each command's words behind its first are read by one simple command of `clap`.
+use Rattle.std.specs.Prelude.{ℕ, List, [], ◌∷◌, Option, Some, None, codes, if◌then◌else◌, option_map}
+use Rattle.std.specs.Str.{bytes_eq}
+use Rattle.clap.specs.Words.{App, Row, matches_of, with_rule}
+use Rattle.result_file.specs.declared.record.Budgets.{Budgets}
+use Rattle.request_words.specs.Arguments.{bare_app, name_rule, number_rule, option_rule, is_taken, name_in, number_in, kind_named}
+use Rattle.request_words.specs.declared.request.Verb.{Verb}
+use Rattle.request_words.specs.declared.request.Verb.TheVariants.{Gen, Check, Dict, Convert, Diagnose, Faults, Sim, Synth}
+use Rattle.request_words.specs.declared.request.EntryKind.{EntryKind}
+
+abbrev pub Text : Type 0
+Text = List ℕ
+
+pub data Request : Type 0 where
+  -- generate a result for a netlist, with these budgets
+  gen : (bench result : Text) (budgets : Budgets) → Request
+  -- check a result for a netlist
+  check : (bench result : Text) → Request
+  -- make a dictionary of a kind for a netlist and a result
+  make_dict : (kind : EntryKind) (bench result dict : Text) → Request
+  -- write a dictionary anew
+  convert : (old new : Text) → Request
+  -- list the numbers that a dictionary and a log point to
+  diagnose : (dict log : Text) → Request
+  -- list the faults of a netlist
+  list_faults : (bench : Text) → Request
+  -- simulate a netlist at a list of vectors
+  simulate : (bench vectors : Text) → Request
+  -- write the netlist of a number, and generate a result for it
+  synth : (n : ℕ) (bench result : Text) → Request
+
+-- ---- each command: how its words are read, and what they ask for
+
+unfoldable pub gen_app : App
+gen_app = with_rule (with_rule (with_rule (with_rule (with_rule (bare_app (codes "gen")) (name_rule (codes "bench"))) (name_rule (codes "result")))
+    (option_rule (codes "blocks") (codes "4") 65536)) (option_rule (codes "cubes") (codes "64") 1048576)) (option_rule (codes "conflicts") (codes "2000") 100000)
+
+abbrev pub gen_by : List Row → Request
+gen_by rows = gen (name_in (codes "bench") rows) (name_in (codes "result") rows)
+    (record { blocks = number_in (codes "blocks") 0 65536 rows; cubes = number_in (codes "cubes") 0 1048576 rows; conflicts = number_in (codes "conflicts") 0 100000 rows })
+
+unfoldable pub check_app : App
+check_app = with_rule (with_rule (bare_app (codes "check")) (name_rule (codes "bench"))) (name_rule (codes "result"))
+
+abbrev pub check_by : List Row → Request
+check_by rows = check (name_in (codes "bench") rows) (name_in (codes "result") rows)
+
+unfoldable pub dict_app : App
+dict_app = with_rule (with_rule (with_rule (with_rule (bare_app (codes "dict")) (name_rule (codes "kind"))) (name_rule (codes "bench"))) (name_rule (codes "result"))) (name_rule (codes "dict"))
+
+-- its kind has to be one that is known
+abbrev pub dict_by : List Row → Option Request
+dict_by rows = option_map (λ kind. make_dict kind (name_in (codes "bench") rows) (name_in (codes "result") rows) (name_in (codes "dict") rows)) (kind_named (name_in (codes "kind") rows))
+
+unfoldable pub convert_app : App
+convert_app = with_rule (with_rule (bare_app (codes "convert")) (name_rule (codes "old"))) (name_rule (codes "new"))
+
+abbrev pub convert_by : List Row → Request
+convert_by rows = convert (name_in (codes "old") rows) (name_in (codes "new") rows)
+
+unfoldable pub diagnose_app : App
+diagnose_app = with_rule (with_rule (bare_app (codes "diagnose")) (name_rule (codes "dict"))) (name_rule (codes "log"))
+
+abbrev pub diagnose_by : List Row → Request
+diagnose_by rows = diagnose (name_in (codes "dict") rows) (name_in (codes "log") rows)
+
+unfoldable pub faults_app : App
+faults_app = with_rule (bare_app (codes "faults")) (name_rule (codes "bench"))
+
+abbrev pub faults_by : List Row → Request
+faults_by rows = list_faults (name_in (codes "bench") rows)
+
+unfoldable pub sim_app : App
+sim_app = with_rule (with_rule (bare_app (codes "sim")) (name_rule (codes "bench"))) (name_rule (codes "vectors"))
+
+abbrev pub sim_by : List Row → Request
+sim_by rows = simulate (name_in (codes "bench") rows) (name_in (codes "vectors") rows)
+
+unfoldable pub synth_app : App
+synth_app = with_rule (with_rule (with_rule (bare_app (codes "synth")) (number_rule (codes "n") 2000)) (name_rule (codes "bench"))) (name_rule (codes "result"))
+
+abbrev pub synth_by : List Row → Request
+synth_by rows = synth (number_in (codes "n") 1 2000 rows) (name_in (codes "bench") rows) (name_in (codes "result") rows)
+
+-- ---- the table of commands
+
+-- the command of a name
+unfoldable pub verb_named : Text → Option Verb
+verb_named name =
+    if bytes_eq name (codes "gen") then Some Gen
+    else if bytes_eq name (codes "check") then Some Check
+    else if bytes_eq name (codes "dict") then Some Dict
+    else if bytes_eq name (codes "convert") then Some Convert
+    else if bytes_eq name (codes "diagnose") then Some Diagnose
+    else if bytes_eq name (codes "faults") then Some Faults
+    else if bytes_eq name (codes "sim") then Some Sim
+    else if bytes_eq name (codes "synth") then Some Synth
+    else None
+
+abbrev pub app_for : Verb → App
+app_for Gen = gen_app
+app_for Check = check_app
+app_for Dict = dict_app
+app_for Convert = convert_app
+app_for Diagnose = diagnose_app
+app_for Faults = faults_app
+app_for Sim = sim_app
+app_for Synth = synth_app
+
+abbrev pub request_by : Verb → List Row → Option Request
+request_by Gen rows = Some (gen_by rows)
+request_by Check rows = Some (check_by rows)
+request_by Dict rows = dict_by rows
+request_by Convert rows = Some (convert_by rows)
+request_by Diagnose rows = Some (diagnose_by rows)
+request_by Faults rows = Some (faults_by rows)
+request_by Sim rows = Some (sim_by rows)
+request_by Synth rows = Some (synth_by rows)
+
+-- what the words behind a command's name ask for, where its definition takes them
+abbrev pub asked_by : Option Verb → List Text → Option Request
+asked_by None words = None
+asked_by (Some verb) words = if is_taken (app_for verb) words then request_by verb (matches_of (app_for verb) words) else None
+
+unfoldable pub request_of : List Text → Option Request
+request_of [] = None
+request_of (command ∷ words) = asked_by (verb_named command) words

@@ -1,0 +1,122 @@
+//! Words by the definition of a simple command of `clap`, and what its matches hold.
+
+ghost use Rattle.std.specs.Prelude.{◌≡◌, ◌≢◌, ◌≤◌, ◌<◌, ◌^◌, [], IfOk, OnOk, Err, map, string_bytes, true, false};
+ghost use Rattle.clap.specs.Words.{rule_of, app_of, found_of, rows_of, matches_of, fault_of, is_broken, is_simple_and_free};
+ghost use Rattle.request_words.specs.Arguments.{bare_app, name_rule, number_rule, option_rule, name_in, number_in, kind_named};
+
+use crate::request::EntryKind;
+use clap::error::ErrorKind;
+use clap::{Arg, ArgAction, ArgMatches, Command, value_parser};
+use std::alloc::{AllocError, Global};
+
+/// Why the words give no request.
+#[derive(Drop)]
+pub enum WordsFault {
+    NotUnderstood,
+    NoMemory,
+}
+
+impl From<AllocError> for WordsFault {
+    ghost use Rattle.request_words.specs.declared.arguments.WordsFault.TheVariants.{NoMemory};
+
+    ghost from_gives = { λ _ fault. fault ≡ NoMemory };
+
+    fn from(_: AllocError) -> Self {
+        WordsFault::NoMemory
+    }
+}
+
+// ---- definitions of commands
+
+/// A command without an argument yet, whose words begin behind its name.
+pub(crate) fn bare_command<'a>(alloc: Global, name: &'a str) -> Command<'a>
+    ensures app { app_of result ≡ bare_app name.entry.now }
+{
+    Command::new(alloc, name)
+        .no_binary_name(true)
+        .disable_help_flag(true)
+        .disable_version_flag(true)
+}
+
+/// A name that has to stand.
+pub(crate) fn name_arg<'a>(alloc: Global, id: &'a str) -> Arg<'a>
+    ensures rule { rule_of result ≡ name_rule id.entry.now }
+    ensures local { result.global ≡ false }
+{
+    Arg::new(alloc, id).required(true).action(ArgAction::Set)
+}
+
+/// A number that has to stand, from 1 to a most.
+pub(crate) fn number_arg<'a>(alloc: Global, id: &'a str, most: u32) -> Arg<'a>
+    ensures rule { rule_of result ≡ number_rule id.entry.now most }
+    ensures local { result.global ≡ false }
+{
+    Arg::new(alloc, id)
+        .required(true)
+        .action(ArgAction::Set)
+        .value_parser(value_parser!(u32).range(1..=i64::from(most)))
+}
+
+/// An option with a number of at most this, and its default.
+pub(crate) fn option_arg<'a>(alloc: Global, id: &'a str, default: &'a str, most: u32) -> Arg<'a>
+    ensures rule { rule_of result ≡ option_rule id.entry.now default.entry.now most }
+    ensures local { result.global ≡ false }
+{
+    Arg::new(alloc, id)
+        .long(id)
+        .default_value(default)
+        .value_parser(value_parser!(u32).range(0..=i64::from(most)))
+}
+
+// ---- matches
+
+/// The matches of the words, where the command's definition takes them.
+pub(crate) fn parse<'a>(
+    command: Command<'a>,
+    words: &'a [String],
+) -> Result<ArgMatches<'a>, WordsFault>
+    requires { is_simple_and_free (app_of command) ≡ true }
+    ensures ok { IfOk result (λ m. rows_of (found_of m) ≡ matches_of (app_of command.entry) (map string_bytes words.entry.now)) }
+    ensures taken { OnOk result (fault_of (app_of command.entry) (map string_bytes words.entry.now) ≡ []) }
+    ensures refused { result ≡ Err WordsFault.NotUnderstood → fault_of (app_of command.entry) (map string_bytes words.entry.now) ≢ [] }
+{
+    match command.try_get_matches_from(words) {
+        Ok(matches) => Ok(matches),
+        Err(error) if error.kind() == ErrorKind::OutOfMemory => Err(WordsFault::NoMemory),
+        Err(_) => Err(WordsFault::NotUnderstood),
+    }
+}
+
+/// The name under an id.
+pub(crate) fn name_in<'a>(matches: &ArgMatches<'a>, id: &str) -> &'a str
+    ensures { result.now ≡ name_in id.now (rows_of (found_of matches.now)) }
+{
+    match matches.get_str(id) {
+        Some(name) => name,
+        None => "",
+    }
+}
+
+/// The number under an id, from a least to a most.
+pub(crate) fn number_in(matches: &ArgMatches<'_>, id: &str, least: u32, most: u32) -> u32
+    requires { least ≤ most }
+    ensures number { result ≡ number_in id.now least most (rows_of (found_of matches.now)) }
+    ensures least { least ≤ result }
+    ensures most { result ≤ most }
+{
+    match matches.get_one::<u32>(id) {
+        Some(number) if least <= number && number <= most => number,
+        _ => least,
+    }
+}
+
+/// The kind of dictionary that a word names.
+pub(crate) fn kind_named(word: &str) -> Option<EntryKind>
+    ensures { result ≡ kind_named word.now }
+{
+    match word {
+        "passfail" => Some(EntryKind::PassFail),
+        "full" => Some(EntryKind::Full),
+        _ => None,
+    }
+}

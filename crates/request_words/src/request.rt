@@ -1,0 +1,138 @@
+//! From words to the request that they make.
+
+ghost use Rattle.std.specs.Prelude.{◌≡◌, IfOk, IfSome, Err, Some, None, map, option_map, string_bytes};
+ghost use Rattle.clap.specs.Words.{app_of, found_of, rows_of};
+ghost use Rattle.request_words.specs.Request.{verb_named, app_for, request_by, asked_by, request_of};
+ghost use Rattle.request_words.specs.Asked.{asked, HasLimits};
+
+use crate::arguments::{WordsFault, parse};
+use crate::dictionaries::{
+    convert_command, convert_in, diagnose_command, diagnose_in, dict_command, dict_in,
+};
+use crate::netlists::{faults_command, faults_in, sim_command, sim_in};
+use crate::results::{check_command, check_in, gen_command, gen_in, synth_command, synth_in};
+use clap::{ArgMatches, Command};
+use result_file::Budgets;
+use std::alloc::{AllocError, Global};
+
+/// The commands.
+#[derive(Clone, Copy)]
+pub(crate) enum Verb {
+    Gen,
+    Check,
+    Dict,
+    Convert,
+    Diagnose,
+    Faults,
+    Sim,
+    Synth,
+}
+
+/// What the entries of a dictionary tell of a number: at which patterns it answers otherwise than the fault-free circuit, or
+/// all that it answers.
+#[derive(Clone, Copy)]
+pub enum EntryKind {
+    PassFail,
+    Full,
+}
+
+/// What the words ask for, with each file given by its name.
+#[derive(Clone, Copy)]
+pub enum Request<'a> {
+    /// To generate a result for a netlist.
+    Gen(&'a str, &'a str, Budgets),
+    /// To check a result for a netlist.
+    Check(&'a str, &'a str),
+    /// To make a dictionary for a netlist and a result.
+    MakeDict(EntryKind, &'a str, &'a str, &'a str),
+    /// To write a dictionary anew.
+    Convert(&'a str, &'a str),
+    /// To list the numbers that a dictionary and a log point to.
+    Diagnose(&'a str, &'a str),
+    /// To list the faults of a netlist.
+    ListFaults(&'a str),
+    /// To simulate a netlist at a list of vectors.
+    Simulate(&'a str, &'a str),
+    /// To write the netlist of a number and generate a result for it.
+    Synth(u32, &'a str, &'a str),
+}
+
+/// The request of the words: the first is a command, which reads the others.
+#[tactic(auto, unfolding(crate::specs::Request::request_of))]
+pub fn read_words(alloc: Global, words: &[String]) -> Result<Request<'_>, WordsFault>
+    ensures asked { IfOk result (λ request. request_of (map string_bytes words.now) ≡ Some (asked request)) }
+    ensures limits { IfOk result HasLimits }
+    ensures refused { result ≡ Err WordsFault.NotUnderstood → request_of (map string_bytes words.now) ≡ None }
+{
+    let Some((command, words)) = words.split_first() else {
+        return Err(WordsFault::NotUnderstood);
+    };
+    match verb_named(command.as_str()) {
+        Some(verb) => read_request(alloc, verb, words),
+        None => Err(WordsFault::NotUnderstood),
+    }
+}
+
+// The command of a name.
+#[tactic(auto, unfolding(crate::specs::Request::verb_named))]
+fn verb_named(name: &str) -> Option<Verb>
+    ensures { result ≡ verb_named name.now }
+{
+    match name {
+        "gen" => Some(Verb::Gen),
+        "check" => Some(Verb::Check),
+        "dict" => Some(Verb::Dict),
+        "convert" => Some(Verb::Convert),
+        "diagnose" => Some(Verb::Diagnose),
+        "faults" => Some(Verb::Faults),
+        "sim" => Some(Verb::Sim),
+        "synth" => Some(Verb::Synth),
+        _ => None,
+    }
+}
+
+// The request of the words behind a command's name.
+fn read_request(alloc: Global, verb: Verb, words: &[String]) -> Result<Request<'_>, WordsFault>
+    ensures asked { IfOk result (λ request. asked_by (Some verb) (map string_bytes words.now) ≡ Some (asked request)) }
+    ensures limits { IfOk result HasLimits }
+    ensures refused { result ≡ Err WordsFault.NotUnderstood → asked_by (Some verb) (map string_bytes words.now) ≡ None }
+{
+    let matches = parse(definition(alloc, verb)?, words)?;
+    match requested(verb, &matches) {
+        Some(request) => Ok(request),
+        None => Err(WordsFault::NotUnderstood),
+    }
+}
+
+// How `clap` reads the words behind a command's name.
+fn definition<'a>(alloc: Global, verb: Verb) -> Result<Command<'a>, AllocError>
+    ensures { IfOk result (λ c. app_of c ≡ app_for verb) }
+{
+    match verb {
+        Verb::Gen => gen_command(alloc),
+        Verb::Check => check_command(alloc),
+        Verb::Dict => dict_command(alloc),
+        Verb::Convert => convert_command(alloc),
+        Verb::Diagnose => diagnose_command(alloc),
+        Verb::Faults => faults_command(alloc),
+        Verb::Sim => sim_command(alloc),
+        Verb::Synth => synth_command(alloc),
+    }
+}
+
+// What its matches ask for.
+fn requested<'a>(verb: Verb, matches: &ArgMatches<'a>) -> Option<Request<'a>>
+    ensures asked { option_map asked result ≡ request_by verb (rows_of (found_of matches.now)) }
+    ensures limits { IfSome result HasLimits }
+{
+    match verb {
+        Verb::Gen => Some(gen_in(matches)),
+        Verb::Check => Some(check_in(matches)),
+        Verb::Dict => dict_in(matches),
+        Verb::Convert => Some(convert_in(matches)),
+        Verb::Diagnose => Some(diagnose_in(matches)),
+        Verb::Faults => Some(faults_in(matches)),
+        Verb::Sim => Some(sim_in(matches)),
+        Verb::Synth => Some(synth_in(matches)),
+    }
+}
