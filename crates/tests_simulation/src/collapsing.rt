@@ -1,147 +1,108 @@
 //! Successors and roots of small circuits' faults.
 
-use crate::circuits::{and_of_two, circuit_of, gate, not_and_or};
 use fault_collapse::collapse;
 use fault_list::list;
-use net_model::{Circuit, Kind};
-use std::alloc::{AllocError, Global};
+use net_model::Kind;
+use sample_circuits::{AND_OF_TWO, NOT_AND_OR, Parts, WITH_CONSTANT, circuit};
+use std::alloc::Global;
 use std::test::Fail;
 
 // An AND, a NAND and an XOR of one pin each, one after another.
-fn single_pins(alloc: Global) -> Result<Circuit, AllocError> {
-    let mut gates = Vec::new(alloc);
-    gates.push(gate(alloc, Kind::And, &[0])?)?;
-    gates.push(gate(alloc, Kind::Nand, &[1])?)?;
-    gates.push(gate(alloc, Kind::Xor, &[2])?)?;
-    circuit_of(alloc, 1, gates, &[3])
-}
+const SINGLE_PINS: Parts<'static> = Parts {
+    sources: 1,
+    gates: &[(Kind::And, &[0]), (Kind::Nand, &[1]), (Kind::Xor, &[2])],
+    positions: &[3],
+};
 
-// A multiplexer of a and b, chosen by the NOT of s.
-fn multiplexer(alloc: Global) -> Result<Circuit, AllocError> {
-    let mut gates = Vec::new(alloc);
-    gates.push(gate(alloc, Kind::Not, &[0])?)?;
-    gates.push(gate(alloc, Kind::Mux, &[3, 1, 2])?)?;
-    circuit_of(alloc, 3, gates, &[4])
-}
+// A multiplexer of sources 1 and 2, chosen by the NOT of source 0.
+const MULTIPLEXER: Parts<'static> = Parts {
+    sources: 3,
+    gates: &[(Kind::Not, &[0]), (Kind::Mux, &[3, 1, 2])],
+    positions: &[4],
+};
 
-// The AND of a and of the constant 1.
-fn and_of_constant(alloc: Global) -> Result<Circuit, AllocError> {
-    let mut gates = Vec::new(alloc);
-    gates.push(gate(alloc, Kind::Const1, &[])?)?;
-    gates.push(gate(alloc, Kind::And, &[0, 1])?)?;
-    circuit_of(alloc, 1, gates, &[2])
-}
-
-// Whether these are the successors of the circuit's faults, by number.
-fn has_successors(
-    alloc: Global,
-    circuit: &Circuit,
-    expected: &[Option<u32>],
-) -> Result<bool, AllocError> {
-    let faults = list(alloc, circuit)?;
-    let forest = collapse(alloc, circuit, &faults)?;
-    if faults.len() as usize != expected.len() {
-        return Ok(false);
+// The successors and the roots of the circuit's faults, by number, and how many numbers but 0 are roots.
+fn collapsed(alloc: Global, parts: Parts) -> Result<(Vec<Option<u32>>, Vec<u32>, u32), Fail> {
+    let circuit = circuit(alloc, parts)?;
+    let faults = list(alloc, &circuit)?;
+    let forest = collapse(alloc, &circuit, &faults)?;
+    let mut successors = Vec::new(alloc);
+    let mut roots = Vec::new(alloc);
+    for number in 0..faults.len() {
+        successors.push(forest.successor(number))?;
+        roots.push(forest.root(number))?;
     }
-    for (number, next) in expected.iter().enumerate() {
-        if forest.successor(number as u32) != *next {
-            return Ok(false);
-        }
-    }
-    Ok(true)
+    Ok((successors, roots, forest.root_count()))
 }
 
-// Whether these are the roots of the circuit's faults, by number, and so many numbers but 0 are roots.
-fn has_roots(
-    alloc: Global,
-    circuit: &Circuit,
-    expected: &[u32],
-    count: u32,
-) -> Result<bool, AllocError> {
-    let faults = list(alloc, circuit)?;
-    let forest = collapse(alloc, circuit, &faults)?;
-    if faults.len() as usize != expected.len() {
-        return Ok(false);
-    }
-    for (number, root) in expected.iter().enumerate() {
-        if forest.root(number as u32) != *root {
-            return Ok(false);
-        }
-    }
-    Ok(forest.root_count() == count)
-}
+const NONE: Option<u32> = None;
 
+const LOW: Option<u32> = Some(7);
+
+const HIGH: Option<u32> = Some(8);
+
+// Two ANDs, the second of a constant; a line with two readers; gates of one pin; no fault goes through a multiplexer.
 #[test]
-fn and_gate(rt: HostRuntime) -> Result<(), Fail> {
-    let circuit = and_of_two(rt.alloc())?;
-    let low = Some(5);
-    assert!(rt;
-        has_successors(
-            rt.alloc(),
-            &circuit,
-            &[None, low, None, low, None, None, None]
-        )?
-    );
-    assert!(rt; has_roots(rt.alloc(), &circuit, &[0, 5, 2, 5, 4, 5, 6], 4)?);
-    Ok(())
-}
-
-#[test]
-fn and_gate_of_a_constant(rt: HostRuntime) -> Result<(), Fail> {
-    let circuit = and_of_constant(rt.alloc())?;
-    let low = Some(5);
-    assert!(rt;
-        has_successors(
-            rt.alloc(),
-            &circuit,
-            &[None, low, None, low, None, None, None]
-        )?
-    );
-    Ok(())
-}
-
-#[test]
-fn line_with_two_readers(rt: HostRuntime) -> Result<(), Fail> {
-    let circuit = not_and_or(rt.alloc())?;
-    let (low, high, last) = (Some(7), Some(8), Some(10));
-    let expected = [
-        None, None, None, high, low, None, last, None, last, None, None,
-    ];
-    assert!(rt; has_successors(rt.alloc(), &circuit, &expected)?);
-    assert!(rt;
-        has_roots(
-            rt.alloc(),
-            &circuit,
+fn successors_and_roots(rt: HostRuntime) -> Result<(), Fail> {
+    let (and, last) = (Some(5), Some(10));
+    let table: [(Parts, &[Option<u32>], &[u32], u32); 5] = [
+        (
+            AND_OF_TWO,
+            &[NONE, and, NONE, and, NONE, NONE, NONE],
+            &[0, 5, 2, 5, 4, 5, 6],
+            4,
+        ),
+        (
+            WITH_CONSTANT,
+            &[NONE, and, NONE, and, NONE, NONE, NONE],
+            &[0, 5, 2, 5, 4, 5, 6],
+            4,
+        ),
+        (
+            NOT_AND_OR,
+            &[
+                NONE, NONE, NONE, HIGH, LOW, NONE, last, NONE, last, NONE, NONE,
+            ],
             &[0, 1, 2, 10, 7, 5, 10, 7, 10, 9, 10],
-            6
-        )?
-    );
-    Ok(())
-}
-
-#[test]
-fn gates_of_one_pin(rt: HostRuntime) -> Result<(), Fail> {
-    let circuit = single_pins(rt.alloc())?;
-    assert!(rt; has_roots(rt.alloc(), &circuit, &[0, 8, 7, 8, 7, 7, 8, 7, 8], 2)?);
-    Ok(())
-}
-
-// No fault goes through the multiplexer.
-#[test]
-fn chosen_line(rt: HostRuntime) -> Result<(), Fail> {
-    let circuit = multiplexer(rt.alloc())?;
-    let (low, high) = (Some(7), Some(8));
-    let expected = [
-        None, high, low, None, None, None, None, None, None, None, None,
+            6,
+        ),
+        (
+            SINGLE_PINS,
+            &[
+                NONE,
+                Some(3),
+                Some(4),
+                Some(6),
+                Some(5),
+                LOW,
+                HIGH,
+                NONE,
+                NONE,
+            ],
+            &[0, 8, 7, 8, 7, 7, 8, 7, 8],
+            2,
+        ),
+        (
+            MULTIPLEXER,
+            &[
+                NONE, HIGH, LOW, NONE, NONE, NONE, NONE, NONE, NONE, NONE, NONE,
+            ],
+            &[0, 8, 7, 3, 4, 5, 6, 7, 8, 9, 10],
+            8,
+        ),
     ];
-    assert!(rt; has_successors(rt.alloc(), &circuit, &expected)?);
-    assert!(rt; has_roots(rt.alloc(), &circuit, &[0, 8, 7, 3, 4, 5, 6, 7, 8, 9, 10], 8)?);
+    for (parts, successors, roots, count) in table {
+        let found = collapsed(rt.alloc(), parts)?;
+        assert_eq!(rt; found.0.as_slice(), successors);
+        assert_eq!(rt; found.1.as_slice(), roots);
+        assert_eq!(rt; found.2, count);
+    }
     Ok(())
 }
 
 #[test]
 fn same_roots(rt: HostRuntime) -> Result<(), Fail> {
-    let circuit = and_of_two(rt.alloc())?;
+    let circuit = circuit(rt.alloc(), AND_OF_TWO)?;
     let faults = list(rt.alloc(), &circuit)?;
     let forest = collapse(rt.alloc(), &circuit, &faults)?;
     assert_eq!(rt; faults.len(), 7);

@@ -1,54 +1,37 @@
 //! Small circuits under faults of each kind.
 
-ghost use Rattle.std.specs.Prelude.{◌≡◌, ◌<◌, IfOk, IsTrue, IsSome, length};
-ghost use Rattle.net_model.specs.Fault.{IsFaultOf};
+ghost use Rattle.std.specs.Prelude.{◌≡◌, ◌<◌, IfOk, IsSome, length};
 
-use crate::circuits::{circuit_of, gate};
 use fault_sim::FaultSim;
-use net_model::{Bits, Circuit, Fault, Kind, Site};
+use net_model::{Bits, Fault, Kind};
+use sample_circuits::{Parts, circuit, pin, position, stands, stem};
 use std::alloc::{AllocError, Global};
 use std::test::Fail;
 use word_sim::{Block, GoodSim, Stream};
 
-// Whether the circuit has the fault's site.
-fn stands(circuit: &Circuit, fault: Fault) -> bool
-    ensures { IsTrue result → IsFaultOf circuit.now fault }
-{
-    match fault {
-        Fault::Free => true,
-        Fault::Stuck(Site::Stem(line), _) => line < circuit.lines(),
-        Fault::Stuck(Site::Pin(gate, pin), _) => {
-            circuit.sources() <= gate
-                && gate < circuit.lines()
-                && (pin as usize) < circuit.gate(gate).pins.as_slice().len()
-        }
-        Fault::Stuck(Site::Position(at), _) => (at as usize) < circuit.positions().len(),
-    }
-}
-
 // The sources 0 and 1; 2 is the XOR of 3 and 4, which are the AND and the OR of the sources.
 // The AND is shown first, then the OR and then the XOR.
-fn parity(alloc: Global) -> Result<Circuit, AllocError>
-    ensures { IfOk result (λ circuit. circuit.sources ≡ 2) }
-{
-    let mut gates = Vec::new(alloc);
-    gates.push(gate(alloc, Kind::Xor, &[3, 4])?)?;
-    gates.push(gate(alloc, Kind::And, &[0, 1])?)?;
-    gates.push(gate(alloc, Kind::Or, &[0, 1])?)?;
-    circuit_of(alloc, 2, gates, &[3, 4, 2])
-}
+const PARITY: Parts<'static> = Parts {
+    sources: 2,
+    gates: &[
+        (Kind::Xor, &[3, 4]),
+        (Kind::And, &[0, 1]),
+        (Kind::Or, &[0, 1]),
+    ],
+    positions: &[3, 4, 2],
+};
 
 // The sources s, a and b; 3 is the constant 1, 4 is b where s is 1 and else a, and 5 is the XOR of the constant and of that.
 // Shown are s, the chosen bit and the XOR.
-fn choice(alloc: Global) -> Result<Circuit, AllocError>
-    ensures { IfOk result (λ circuit. circuit.sources ≡ 3) }
-{
-    let mut gates = Vec::new(alloc);
-    gates.push(gate(alloc, Kind::Const1, &[])?)?;
-    gates.push(gate(alloc, Kind::Mux, &[0, 1, 2])?)?;
-    gates.push(gate(alloc, Kind::Xor, &[3, 4])?)?;
-    circuit_of(alloc, 3, gates, &[0, 4, 5])
-}
+const CHOICE: Parts<'static> = Parts {
+    sources: 3,
+    gates: &[
+        (Kind::Const1, &[]),
+        (Kind::Mux, &[0, 1, 2]),
+        (Kind::Xor, &[3, 4]),
+    ],
+    positions: &[0, 4, 5],
+};
 
 // The vectors 00, 10, 01 and 11.
 fn four_vectors(alloc: Global) -> Result<Block, AllocError>
@@ -86,7 +69,7 @@ fn differs_so(
     requires { IsSome good.now.ran }
 {
     let circuit = good.circuit();
-    let before = Fault::Stuck(Site::Stem(0), true);
+    let before = stem(0, true);
     if circuit.positions().len() != expected.len()
         || !stands(circuit, fault)
         || !stands(circuit, before)
@@ -122,109 +105,72 @@ fn shows_so(sim: &FaultSim, position: u32, expected: &[u8; 8]) -> bool
     true
 }
 
-// Whether a fault of `parity` makes these differences, at the AND, the OR and the XOR.
-fn parity_differs(
-    alloc: Global,
-    site: Site,
-    bit: bool,
-    expected: &[&[u8; 8]],
-) -> Result<bool, AllocError> {
-    let circuit = parity(alloc)?;
-    let mut good = GoodSim::new(alloc, &circuit)?;
-    good.run(&four_vectors(alloc)?);
-    differs_so(alloc, &good, Fault::Stuck(site, bit), expected)
-}
-
-// Whether a fault of `choice` makes these differences, at the select, the chosen bit and the XOR.
-fn choice_differs(
-    alloc: Global,
-    site: Site,
-    bit: bool,
-    expected: &[&[u8; 8]],
-) -> Result<bool, AllocError> {
-    let circuit = choice(alloc)?;
-    let mut good = GoodSim::new(alloc, &circuit)?;
-    good.run(&counted_vectors(alloc)?);
-    differs_so(alloc, &good, Fault::Stuck(site, bit), expected)
-}
-
 const NONE: &[u8; 8] = b"00000000";
 
 const ALL: &[u8; 8] = b"11111111";
 
+const FIRST: &[u8; 8] = b"10000000";
+
+const SECOND: &[u8; 8] = b"01000000";
+
+const LAST: &[u8; 8] = b"00010000";
+
+const BUT_LAST: &[u8; 8] = b"11100000";
+
+// No fault, stems, branches and positions. The differences are those of the AND, the OR and the XOR.
 #[test]
-fn no_fault(rt: HostRuntime) -> Result<(), Fail> {
-    let circuit = parity(rt.alloc())?;
+fn parity_under_faults(rt: HostRuntime) -> Result<(), Fail> {
+    let circuit = circuit(rt.alloc(), PARITY)?;
     let mut good = GoodSim::new(rt.alloc(), &circuit)?;
     good.run(&four_vectors(rt.alloc())?);
-    assert!(rt; differs_so(rt.alloc(), &good, Fault::Free, &[NONE, NONE, NONE])?);
+    for (fault, expected) in [
+        (Fault::Free, [NONE, NONE, NONE]),
+        (stem(3, false), [LAST, NONE, LAST]),
+        (stem(3, true), [BUT_LAST, NONE, BUT_LAST]),
+        (stem(0, false), [LAST, SECOND, b"01010000"]),
+        (pin(3, 0, false), [LAST, NONE, LAST]),
+        (pin(4, 0, false), [NONE, SECOND, SECOND]),
+        (pin(2, 1, true), [NONE, NONE, FIRST]),
+        (position(1, true), [NONE, FIRST, NONE]),
+        (position(2, false), [NONE, NONE, b"01100000"]),
+    ] {
+        assert!(rt;
+            differs_so(rt.alloc(), &good, fault, expected.as_slice())?,
+            "{fault:?}"
+        );
+    }
     Ok(())
 }
 
-#[test]
-fn stems(rt: HostRuntime) -> Result<(), Fail> {
-    let alloc = rt.alloc();
-    let last = b"00010000";
-    assert!(rt; parity_differs(alloc, Site::Stem(3), false, &[last, NONE, last])?);
-    let but_last = b"11100000";
-    assert!(rt; parity_differs(alloc, Site::Stem(3), true, &[but_last, NONE, but_last])?);
-    assert!(rt;
-        parity_differs(
-            alloc,
-            Site::Stem(0),
-            false,
-            &[last, b"01000000", b"01010000"]
-        )?
-    );
-    Ok(())
-}
+const CHOSEN_HIGH: &[u8; 8] = b"00101000";
 
-#[test]
-fn branches(rt: HostRuntime) -> Result<(), Fail> {
-    let alloc = rt.alloc();
-    let last = b"00010000";
-    assert!(rt; parity_differs(alloc, Site::Pin(3, 0), false, &[last, NONE, last])?);
-    let second = b"01000000";
-    assert!(rt; parity_differs(alloc, Site::Pin(4, 0), false, &[NONE, second, second])?);
-    assert!(rt; parity_differs(alloc, Site::Pin(2, 1), true, &[NONE, NONE, b"10000000"])?);
-    Ok(())
-}
+const CHOSEN_LOW: &[u8; 8] = b"00010100";
 
-#[test]
-fn positions(rt: HostRuntime) -> Result<(), Fail> {
-    let alloc = rt.alloc();
-    assert!(rt; parity_differs(alloc, Site::Position(1), true, &[NONE, b"10000000", NONE])?);
-    assert!(rt; parity_differs(alloc, Site::Position(2), false, &[NONE, NONE, b"01100000"])?);
-    Ok(())
-}
+const PIN_OF_A: &[u8; 8] = b"10001000";
 
-// A stuck select pin leaves the select itself as it is.
-#[test]
-fn selects(rt: HostRuntime) -> Result<(), Fail> {
-    let alloc = rt.alloc();
-    let high = b"00101000";
-    assert!(rt; choice_differs(alloc, Site::Pin(4, 0), true, &[NONE, high, high])?);
-    let low = b"00010100";
-    assert!(rt; choice_differs(alloc, Site::Pin(4, 0), false, &[NONE, low, low])?);
-    assert!(rt; choice_differs(alloc, Site::Stem(0), true, &[b"10101010", high, high])?);
-    Ok(())
-}
+const PIN_OF_B: &[u8; 8] = b"00000101";
 
+// Selects, chosen pins and constants. The differences are those of the select, the chosen bit and the XOR; a stuck select pin
+// leaves the select itself as it is.
 #[test]
-fn chosen_pins(rt: HostRuntime) -> Result<(), Fail> {
-    let alloc = rt.alloc();
-    let first = b"10001000";
-    assert!(rt; choice_differs(alloc, Site::Pin(4, 1), true, &[NONE, first, first])?);
-    let second = b"00000101";
-    assert!(rt; choice_differs(alloc, Site::Pin(4, 2), false, &[NONE, second, second])?);
-    Ok(())
-}
-
-#[test]
-fn constants(rt: HostRuntime) -> Result<(), Fail> {
-    let alloc = rt.alloc();
-    assert!(rt; choice_differs(alloc, Site::Stem(3), false, &[NONE, NONE, ALL])?);
-    assert!(rt; choice_differs(alloc, Site::Stem(3), true, &[NONE, NONE, NONE])?);
-    assert!(rt; choice_differs(alloc, Site::Pin(5, 0), false, &[NONE, NONE, ALL])?);
+fn choice_under_faults(rt: HostRuntime) -> Result<(), Fail> {
+    let circuit = circuit(rt.alloc(), CHOICE)?;
+    let mut good = GoodSim::new(rt.alloc(), &circuit)?;
+    good.run(&counted_vectors(rt.alloc())?);
+    for (fault, expected) in [
+        (pin(4, 0, true), [NONE, CHOSEN_HIGH, CHOSEN_HIGH]),
+        (pin(4, 0, false), [NONE, CHOSEN_LOW, CHOSEN_LOW]),
+        (stem(0, true), [b"10101010", CHOSEN_HIGH, CHOSEN_HIGH]),
+        (pin(4, 1, true), [NONE, PIN_OF_A, PIN_OF_A]),
+        (pin(4, 2, false), [NONE, PIN_OF_B, PIN_OF_B]),
+        (stem(3, false), [NONE, NONE, ALL]),
+        (stem(3, true), [NONE, NONE, NONE]),
+        (pin(5, 0, false), [NONE, NONE, ALL]),
+    ] {
+        assert!(rt;
+            differs_so(rt.alloc(), &good, fault, expected.as_slice())?,
+            "{fault:?}"
+        );
+    }
     Ok(())
 }

@@ -1,14 +1,10 @@
 //! The stream's words and vectors, blocks, and gates of each kind in lanes.
 
-ghost use Rattle.std.specs.Prelude.{◌≡◌, ◌<◌, ◌+◌, ◌^◌, IfOk, IsTrue, All, length};
-ghost use Rattle.net_model.specs.Gate.{takes_pins};
-ghost use Rattle.net_model.specs.Circuit.{line_count};
-
-use crate::circuits::{circuit_of, gate};
-use net_model::{Bits, Circuit, Kind};
+use net_model::{Bits, Kind};
 use rand_core::SeedableRng;
 use rand_core::utils::NextWord;
 use rand_xoshiro::SplitMix64;
+use sample_circuits::{Parts, circuit};
 use std::alloc::{AllocError, Global};
 use std::test::Fail;
 use word_sim::{Block, GoodSim, Stream};
@@ -80,14 +76,13 @@ fn pushed_vectors(rt: HostRuntime) -> Result<(), Fail> {
 }
 
 // Whether a gate over some of three sources has these values at 000, 100, 010, 110, 001, 101, 011 and 111.
-fn shows(alloc: Global, kind: Kind, pins: &[u32], expected: &[u8; 8]) -> Result<bool, AllocError>
-    requires arity { IsTrue (takes_pins kind (length pins.now)) }
-    requires inside { All (λ pin. pin < 3) pins.now }
-    requires few { length pins.now < 2 ^ 20 }
-{
-    let mut gates = Vec::new(alloc);
-    gates.push(gate(alloc, kind, pins)?)?;
-    let circuit = circuit_of(alloc, 3, gates, &[])?;
+fn shows(alloc: Global, kind: Kind, pins: &[u32], expected: &[u8; 8]) -> Result<bool, Fail> {
+    let parts = Parts {
+        sources: 3,
+        gates: &[(kind, pins)],
+        positions: &[],
+    };
+    let circuit = circuit(alloc, parts)?;
     let mut block = Block::new(alloc, 3)?;
     Stream::new(3).fill(1, &mut block);
     let mut sim = GoodSim::new(alloc, &circuit)?;
@@ -104,55 +99,37 @@ fn shows(alloc: Global, kind: Kind, pins: &[u32], expected: &[u8; 8]) -> Result<
 }
 
 #[test]
-fn gates_of_all_and_any(rt: HostRuntime) -> Result<(), Fail> {
-    let alloc = rt.alloc();
-    assert!(rt; shows(alloc, Kind::And, &[0, 1], b"00010001")?);
-    assert!(rt; shows(alloc, Kind::Nand, &[0, 1], b"11101110")?);
-    assert!(rt; shows(alloc, Kind::Or, &[0, 1], b"01110111")?);
-    assert!(rt; shows(alloc, Kind::Nor, &[0, 1], b"10001000")?);
-    Ok(())
-}
-
-#[test]
-fn gates_of_an_odd_number(rt: HostRuntime) -> Result<(), Fail> {
-    let alloc = rt.alloc();
-    assert!(rt; shows(alloc, Kind::Xor, &[0, 1, 2], b"01101001")?);
-    assert!(rt; shows(alloc, Kind::Xnor, &[0, 1, 2], b"10010110")?);
-    Ok(())
-}
-
-#[test]
-fn gates_of_one_pin(rt: HostRuntime) -> Result<(), Fail> {
-    let alloc = rt.alloc();
-    assert!(rt; shows(alloc, Kind::Buff, &[0], b"01010101")?);
-    assert!(rt; shows(alloc, Kind::Not, &[0], b"10101010")?);
-    Ok(())
-}
-
-#[test]
-fn multiplexers_and_constants(rt: HostRuntime) -> Result<(), Fail> {
-    let alloc = rt.alloc();
-    assert!(rt; shows(alloc, Kind::Mux, &[0, 1, 2], b"00100111")?);
-    assert!(rt; shows(alloc, Kind::Mux, &[0, 0, 0], b"01010101")?);
-    assert!(rt; shows(alloc, Kind::Const0, &[], b"00000000")?);
-    assert!(rt; shows(alloc, Kind::Const1, &[], b"11111111")?);
+fn gates_of_each_kind(rt: HostRuntime) -> Result<(), Fail> {
+    let table: [(Kind, &[u32], &[u8; 8]); 12] = [
+        (Kind::And, &[0, 1], b"00010001"),
+        (Kind::Nand, &[0, 1], b"11101110"),
+        (Kind::Or, &[0, 1], b"01110111"),
+        (Kind::Nor, &[0, 1], b"10001000"),
+        (Kind::Xor, &[0, 1, 2], b"01101001"),
+        (Kind::Xnor, &[0, 1, 2], b"10010110"),
+        (Kind::Buff, &[0], b"01010101"),
+        (Kind::Not, &[0], b"10101010"),
+        (Kind::Mux, &[0, 1, 2], b"00100111"),
+        (Kind::Mux, &[0, 0, 0], b"01010101"),
+        (Kind::Const0, &[], b"00000000"),
+        (Kind::Const1, &[], b"11111111"),
+    ];
+    for (kind, pins, expected) in table {
+        assert!(rt; shows(rt.alloc(), kind, pins, expected)?, "{kind:?}");
+    }
     Ok(())
 }
 
 // A NOT of the NAND that stands behind it, over two sources.
-fn not_first(alloc: Global) -> Result<Circuit, AllocError>
-    ensures sources { IfOk result (λ circuit. circuit.sources ≡ 2) }
-    ensures lines { IfOk result (λ circuit. line_count circuit ≡ 4) }
-{
-    let mut gates = Vec::new(alloc);
-    gates.push(gate(alloc, Kind::Not, &[3])?)?;
-    gates.push(gate(alloc, Kind::Nand, &[0, 1])?)?;
-    circuit_of(alloc, 2, gates, &[])
-}
+const NOT_FIRST: Parts<'static> = Parts {
+    sources: 2,
+    gates: &[(Kind::Not, &[3]), (Kind::Nand, &[0, 1])],
+    positions: &[],
+};
 
 #[test]
 fn gates_in_their_order(rt: HostRuntime) -> Result<(), Fail> {
-    let circuit = not_first(rt.alloc())?;
+    let circuit = circuit(rt.alloc(), NOT_FIRST)?;
     let mut v = Bits::zeros(rt.alloc(), 2)?;
     let mut block = Block::new(rt.alloc(), 2)?;
     block.push(&v);

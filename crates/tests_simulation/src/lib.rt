@@ -2,8 +2,6 @@
 #![tactic(auto)]
 
 #[cfg(test)]
-mod circuits;
-#[cfg(test)]
 mod collapsing;
 #[cfg(test)]
 mod injected;
