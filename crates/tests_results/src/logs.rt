@@ -5,6 +5,7 @@ use pair_miter::{Chain, Log};
 use pair_sets::{Token, Tree};
 use result_file::{Evidence, Proof, Record, write_record};
 use std::alloc::{AllocError, Global};
+use std::process::Abort;
 use std::test::Fail;
 
 // A tree that is one open leaf.
@@ -12,6 +13,18 @@ fn left_open(alloc: Global) -> Result<Tree, AllocError> {
     let mut tree = Tree::new(alloc);
     tree.push(Token::Rest)?;
     Ok(tree)
+}
+
+// Fails where number 10 is written otherwise, with 0 and this proof.
+fn check_written(rt: &impl Abort, alloc: Global, proof: Proof, line: &str) -> Result<(), Fail> {
+    let record = Record::Same(Evidence {
+        member: 10,
+        partner: 0,
+        proof,
+    });
+    let written = write_record(alloc, &record)?;
+    assert_eq!(rt; written.as_slice(), line.as_bytes());
+    Ok(())
 }
 
 #[test]
@@ -22,17 +35,13 @@ fn a_refutation_is_a_line(rt: HostRuntime) -> Result<(), Fail> {
     let mut log = Log::new(rt.alloc());
     log.push(chain)?;
     log.push(Chain::new(rt.alloc(), 12, None))?;
-    let record = Record::Same(Evidence {
-        member: 10,
-        partner: 0,
-        proof: Proof::Refuted(left_open(rt.alloc())?, log),
-    });
-    let written = write_record(rt.alloc(), &record)?;
-    assert_eq!(rt;
-        written.as_slice(),
-        b"same 10 0 R ? ; 8 -5 11 -4 6 ; 12\n".as_slice()
-    );
-    Ok(())
+    let proof = Proof::Refuted(left_open(rt.alloc())?, log);
+    check_written(
+        &rt,
+        rt.alloc(),
+        proof,
+        "same 10 0 R ? ; 8 -5 11 -4 6 ; 12\n",
+    )
 }
 
 #[test]
@@ -42,15 +51,6 @@ fn a_spent_log_names_its_literals(rt: HostRuntime) -> Result<(), Fail> {
     let mut log = Log::new(rt.alloc());
     log.push(chain)?;
     log.push(Chain::new(rt.alloc(), 1, Some(Lit::new(2, true))))?;
-    let record = Record::Same(Evidence {
-        member: 10,
-        partner: 0,
-        proof: Proof::Spent(left_open(rt.alloc())?, log),
-    });
-    let written = write_record(rt.alloc(), &record)?;
-    assert_eq!(rt;
-        written.as_slice(),
-        b"same 10 0 O ? ; -3 8 -5 11 ; 2 1\n".as_slice()
-    );
-    Ok(())
+    let proof = Proof::Spent(left_open(rt.alloc())?, log);
+    check_written(&rt, rt.alloc(), proof, "same 10 0 O ? ; -3 8 -5 11 ; 2 1\n")
 }
