@@ -14,7 +14,8 @@ use Rattle.net_model.specs.ClassTable.{same_bits}
 use Rattle.table_dicts.specs.declared.dict.Dict.{Dict}
 use Rattle.table_dicts.specs.declared.dict.DictKind.{DictKind}
 use Rattle.table_dicts.specs.declared.dict.DictKind.TheVariants.{PassFail, Full, SameDiff}
-use Rattle.table_dicts.specs.Rows.{AreRows, row_bit}
+use Rattle.net_model.specs.Rows.{row_bit}
+use Rattle.table_dicts.specs.Rows.{AreRows}
 use Rattle.table_dicts.specs.Entries.{differences}
 use Rattle.table_dicts.specs.Grouped.{IsGrouped}
 use Rattle.table_dicts.specs.Dictionary.{IsShaped, baseline_count, entry_width, entry_of, observed_entry, listed_numbers}

@@ -1,6 +1,6 @@
 -- Rows that are joined to one row.
 use Rattle.std.specs.Prelude.{◌≡◌, ℕ, ◌+◌, ◌*◌, ◌<◌, Bool, List, length}
-use Rattle.table_dicts.specs.Rows.{row_at, row_bit}
+use Rattle.net_model.specs.Rows.{row_at, row_bit}
 
 -- The one row has the bits of the first so many rows, one after another, and room for those of all.
 pub record AreJoined (observed : List (List Bool)) (width rows : ℕ) (joined : List (List Bool)) : Type 0 where

@@ -9,7 +9,6 @@ mod laws;
 mod packing;
 mod reading;
 mod row_bytes;
-mod set_words;
 mod writing;
 
 pub use fault::{DictFault, DictVersion};

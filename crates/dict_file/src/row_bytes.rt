@@ -1,9 +1,9 @@
 //! Rows of bits that stand in a file.
 
 ghost use Rattle.std.specs.Prelude.{◌≡◌, ◌≢◌, ◌↔◌, ◌<◌, ◌≤◌, ◌+◌, ◌-◌, ◌*◌, ◌^◌, ◌++◌, ℕ, false, [], length, slice_index_or, IsTrue, IfOk, IfErr, OnOk};
-ghost use Rattle.net_model.specs.Rows.{bit_of};
+ghost use Rattle.net_model.specs.Rows.{bit_of, row_at};
 ghost use Rattle.table_dicts.specs.Grouped.{AreDifferent};
-ghost use Rattle.table_dicts.specs.Rows.{IsRowSet, row_at};
+ghost use Rattle.table_dicts.specs.Rows.{IsRowSet};
 ghost use Rattle.dict_file.specs.Packing.{byte_count, row_in, packed_row};
 ghost use Rattle.dict_file.specs.Spelling.{packed_rows};
 ghost use Rattle.dict_file.specs.Parts.{each};
@@ -12,7 +12,6 @@ ghost use Rattle.dict_file.specs.Reading.{row_start, rows_end, row_part, new_row
 
 use crate::fault::DictFault;
 use crate::packing::{packed_byte, word_at};
-use crate::set_words::set_word;
 use net_model::AnswerRows;
 use std::alloc::{AllocError, Global};
 use table_dicts::first_repeat;
@@ -189,7 +188,7 @@ fn load_row(loaded: &mut AnswerRows, row: usize, bytes: &[u8], start: usize)
     ensures { IsRowSet loaded.old loaded.new row (row_in bytes.now start (length (row_at loaded.old row))) }
 {
     for word in 0..loaded.width().div_ceil(64) {
-        set_word(loaded, row, word, word_at(bytes, start + word * 8));
+        loaded.set_word(row, word, word_at(bytes, start + word * 8));
     }
 }
 

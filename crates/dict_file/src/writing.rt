@@ -2,7 +2,7 @@
 
 ghost use Rattle.std.specs.Prelude.{◌≡◌, ◌<◌, ◌++◌, length, flat_map, map, All, IfOk, OnOk};
 ghost use Rattle.byteorder.specs.Endian.{big_bytes};
-ghost use Rattle.table_dicts.specs.Rows.{row_at};
+ghost use Rattle.net_model.specs.Rows.{row_at};
 ghost use Rattle.table_dicts.specs.Dictionary.{IsShaped, IsGroupedDict};
 ghost use Rattle.dict_file.specs.Spelling.{spelling, body_bytes, packed_rows, entry_rows};
 

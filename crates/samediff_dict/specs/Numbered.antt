@@ -3,7 +3,7 @@ use Rattle.std.specs.Prelude.{◌≡◌, ℕ, ◌<◌, ◌≤◌, Bool, List, []
 use Rattle.std.specs.List.{range_with_len}
 use Rattle.net_model.specs.ClassTable.{ClassTable, class_count, class_at, representative, same_bits}
 use Rattle.table_dicts.specs.AnswerTable.{Answers, answer_in, answer_to}
-use Rattle.table_dicts.specs.Rows.{row_at}
+use Rattle.net_model.specs.Rows.{row_at}
 use Rattle.table_dicts.specs.Grouped.{AreDifferent}
 use Rattle.table_dicts.specs.declared.grouping.Grouped.{Grouped}
 use Rattle.samediff_dict.specs.Chosen.{candidates}

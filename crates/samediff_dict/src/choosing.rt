@@ -2,7 +2,8 @@
 
 ghost use Rattle.std.specs.Prelude.{◌≡◌, ◌+◌, ◌<◌, length, IfOk, None, MatchOption};
 ghost use Rattle.table_dicts.specs.Entries.{free_baselines};
-ghost use Rattle.table_dicts.specs.Rows.{AreRows, IsRowSet, row_at};
+ghost use Rattle.net_model.specs.Rows.{row_at};
+ghost use Rattle.table_dicts.specs.Rows.{AreRows, IsRowSet};
 ghost use Rattle.samediff_dict.specs.Chosen.{pairs_apart, greedy_baselines, better_baselines, improvement, chosen_baselines};
 ghost use Rattle.samediff_dict.specs.Numbered.{AnswerAlike, HasBaselines, baselines_at};
 ghost use Rattle.samediff_dict.specs.Choice.{classes_of, rows_of, IsChoice, IsChosen, AreEnds, IsFirstBetter};

@@ -2,7 +2,8 @@
 
 ghost use Rattle.std.specs.Prelude.{◌≡◌, ◌<◌, ◌^◌, [], length, slice_index_or, IfOk};
 ghost use Rattle.table_dicts.specs.AnswerTable.{answer_to};
-ghost use Rattle.table_dicts.specs.Rows.{IsBitSet, IsRowSet, row_at};
+ghost use Rattle.net_model.specs.Rows.{row_at};
+ghost use Rattle.table_dicts.specs.Rows.{IsBitSet, IsRowSet};
 ghost use Rattle.samediff_dict.specs.Numbered.{class_answers, AreNumbered};
 
 use class_refine::Classes;

@@ -17,7 +17,8 @@ use Rattle.class_refine.proofs.Pieces.{IsSound}
 use Rattle.class_refine.proofs.Refined.{numbers-refined, class-refined, after_same, same_after, sound-refined, sound-first}
 use Rattle.kept_vectors.proofs.AnswerLemmas.{answer_width, one_table}
 use Rattle.kept_vectors.proofs.KeepLemmas.{table_numbers}
-use Rattle.table_dicts.specs.Rows.{AreRows, row_at}
+use Rattle.net_model.specs.Rows.{row_at}
+use Rattle.table_dicts.specs.Rows.{AreRows}
 use Rattle.table_dicts.specs.AnswerTable.{Answers, answer_in, answer_to, IsTable, AreAnswers}
 use Rattle.table_dicts.specs.Entries.{answers_of, full_entry}
 use Rattle.table_dicts.specs.Blocks.{IsListedBit, AreRightTo}

@@ -13,7 +13,8 @@ use Rattle.net_model.proofs.Copies.{same_bits_same_list}
 use Rattle.table_dicts.specs.declared.dict.Dict.{Dict}
 use Rattle.table_dicts.specs.declared.dict.DictKind.{DictKind}
 use Rattle.table_dicts.specs.declared.dict.DictKind.TheVariants.{PassFail, Full, SameDiff}
-use Rattle.table_dicts.specs.Rows.{AreRows, row_at, row_bit}
+use Rattle.net_model.specs.Rows.{row_at, row_bit}
+use Rattle.table_dicts.specs.Rows.{AreRows}
 use Rattle.table_dicts.specs.AnswerTable.{Answers, IsTable, answer_in, answer_to, answer_bit}
 use Rattle.table_dicts.specs.Entries.{differences, answers_of, same_diff_entry}
 use Rattle.table_dicts.specs.Grouped.{IsGrouped, AreGroupsOf}

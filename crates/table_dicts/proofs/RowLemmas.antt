@@ -4,7 +4,8 @@ use Rattle.std.proofs.lemmas.Bool.{cases_lt, cases_eq}
 use Rattle.std.proofs.lemmas.List.{ext_get_or, get_or_default, get_or-replicate, get_or_past, length-replicate}
 use Rattle.net_model.specs.Answer.{bit_at}
 use Rattle.net_model.proofs.Copies.{same_bits_same_list}
-use Rattle.table_dicts.specs.Rows.{AreRows, row_at, row_bit, HaveSameShape, IsBitSet, IsRowBegun, IsRowSet, AreRowsBegun}
+use Rattle.net_model.specs.Rows.{row_at, row_bit, HaveSameShape}
+use Rattle.table_dicts.specs.Rows.{AreRows, IsBitSet, IsRowBegun, IsRowSet, AreRowsBegun}
 
 pub same_shape : {rows : List (List Bool)} → HaveSameShape rows rows
 same_shape = record { count = refl; widths = λ row. refl }

@@ -11,7 +11,8 @@ use Rattle.std.proofs.lemmas.List.Concat.{flat_map-append}
 use Rattle.std.proofs.lemmas.List.FromFn.{length-map-range_with_len, get_or-map-range_with_len, map-range_with_len_more, fill_by_all}
 use Rattle.net_model.specs.Answer.{bit_at}
 use Rattle.table_dicts.specs.declared.answer_table.AnswerTable.TheInside.{Inside}
-use Rattle.table_dicts.specs.Rows.{row_at, row_bit, IsBitSet}
+use Rattle.net_model.specs.Rows.{row_at, row_bit}
+use Rattle.table_dicts.specs.Rows.{IsBitSet}
 use Rattle.table_dicts.specs.AnswerTable.{answer_in, answer_to, answer_bit, IsTable, IsSetAt}
 use Rattle.table_dicts.specs.AnswerTableFields.{answer_part, table_of, AreCells}
 use Rattle.table_dicts.specs.Entries.{full_entry}

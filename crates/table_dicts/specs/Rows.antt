@@ -1,22 +1,12 @@
 -- Rows of bits of one width.
-use Rattle.std.specs.Prelude.{◌≡◌, ◌≢◌, ℕ, ◌<◌, Bool, List, [], length, All, slice_index_or}
+use Rattle.std.specs.Prelude.{◌≡◌, ◌≢◌, ℕ, ◌<◌, Bool, List, length, All}
 use Rattle.net_model.specs.Answer.{bit_at}
+use Rattle.net_model.specs.Rows.{row_at, row_bit, HaveSameShape}
 
 -- There are so many rows, each of this width.
 pub record AreRows (count width : ℕ) (rows : List (List Bool)) : Type 0 where
   pub count_is : length rows ≡ count
   pub width_is : All (λ row. length row ≡ width) rows
-
-abbrev pub row_at : List (List Bool) → ℕ → List Bool
-row_at rows row = slice_index_or rows row []
-
-abbrev pub row_bit : List (List Bool) → ℕ → ℕ → Bool
-row_bit rows row at = bit_at (row_at rows row) at
-
--- The rows are as many and as wide as before.
-pub record HaveSameShape (old new : List (List Bool)) : Type 0 where
-  pub count : length new ≡ length old
-  pub widths : (row : ℕ) → length (row_at new row) ≡ length (row_at old row)
 
 -- The new rows have this bit at one place, and all else as the old ones.
 pub record IsBitSet (old new : List (List Bool)) (row at : ℕ) (bit : Bool) : Type 0 where

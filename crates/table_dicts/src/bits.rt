@@ -1,7 +1,8 @@
 //! Where bits of rows are written and copied.
 
 ghost use Rattle.std.specs.Prelude.{◌≡◌, ◌<◌, ◌≤◌, ℕ, [], length, map, All, IfOk, slice_index, slice_index_or};
-ghost use Rattle.table_dicts.specs.Rows.{IsBitSet, IsRowSet, row_at};
+ghost use Rattle.net_model.specs.Rows.{row_at};
+ghost use Rattle.table_dicts.specs.Rows.{IsBitSet, IsRowSet};
 
 use net_model::AnswerRows;
 use std::alloc::{AllocError, Global};

@@ -4,7 +4,8 @@ ghost use Rattle.std.specs.Prelude.{◌≡◌, ◌<◌, ◌≢◌, [], length, m
 ghost use Rattle.std.specs.List.{range_with_len};
 ghost use Rattle.net_model.specs.ClassTable.{same_bits};
 ghost use Rattle.table_dicts.specs.AnswerTable.{answer_to};
-ghost use Rattle.table_dicts.specs.Rows.{AreRows, IsRowSet, row_at};
+ghost use Rattle.net_model.specs.Rows.{row_at};
+ghost use Rattle.table_dicts.specs.Rows.{AreRows, IsRowSet};
 ghost use Rattle.table_dicts.specs.Entries.{answers_of, same_diff_entry};
 ghost use Rattle.table_dicts.specs.Dictionary.{IsFull, IsPassFail, IsSameDiff, IsDictionary};
 

@@ -1,6 +1,6 @@
 use Rattle.std.proofs.Common.{◌≡◌, ◌∙◌, ◌*◌, ◌++◌, [], length, map, subst, arith}
 use Rattle.std.specs.List.{range_with_len}
-use Rattle.table_dicts.specs.Rows.{row_at}
+use Rattle.net_model.specs.Rows.{row_at}
 use Rattle.dict_file.specs.Packing.{byte_count, byte_of}
 use Rattle.dict_file.proofs.PushLemmas.{map_one_more}
 use Rattle.dict_file.proofs.row_bytes.push_row.Goals as goal

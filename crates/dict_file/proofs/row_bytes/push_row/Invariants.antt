@@ -1,6 +1,6 @@
 use Rattle.std.proofs.Common.{◌≡◌, ◌*◌, ◌++◌, map}
 use Rattle.std.specs.List.{range_with_len}
-use Rattle.table_dicts.specs.Rows.{row_at}
+use Rattle.net_model.specs.Rows.{row_at}
 use Rattle.dict_file.specs.Packing.{byte_of}
 use Rattle.dict_file.proofs.row_bytes.push_row.Given as goal
 

@@ -1,5 +1,5 @@
 use Rattle.std.proofs.Common.{◌≡◌, ◌++◌, map, take}
-use Rattle.table_dicts.specs.Rows.{row_at}
+use Rattle.net_model.specs.Rows.{row_at}
 use Rattle.dict_file.specs.Spelling.{packed_rows}
 use Rattle.dict_file.proofs.writing.push_picked.Given as goal
 

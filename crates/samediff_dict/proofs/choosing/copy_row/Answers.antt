@@ -1,5 +1,5 @@
 use Rattle.std.proofs.Common.{[], arith}
-use Rattle.table_dicts.specs.Rows.{row_at}
+use Rattle.net_model.specs.Rows.{row_at}
 use Rattle.table_dicts.proofs.RowLemmas.{begun_none, begun_more, begun_all}
 use Rattle.samediff_dict.proofs.choosing.copy_row.Goals as goal
 

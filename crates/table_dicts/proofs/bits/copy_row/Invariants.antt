@@ -1,4 +1,5 @@
-use Rattle.table_dicts.specs.Rows.{row_at, IsRowBegun}
+use Rattle.net_model.specs.Rows.{row_at}
+use Rattle.table_dicts.specs.Rows.{IsRowBegun}
 use Rattle.table_dicts.proofs.bits.copy_row.Given as goal
 
 abbrev pub invariant-loop-at : goal.invariant-loop-at

@@ -1,5 +1,5 @@
 use Rattle.std.proofs.Common.{◌∙◌, [], refl, sym, arith}
-use Rattle.table_dicts.specs.Rows.{row_at}
+use Rattle.net_model.specs.Rows.{row_at}
 use Rattle.table_dicts.proofs.RowLemmas.{width_at, zeros_begun, rows_more, rows_all}
 use Rattle.table_dicts.proofs.bits.copy_rows.Goals as goal
 

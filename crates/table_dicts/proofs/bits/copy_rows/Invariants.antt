@@ -1,4 +1,5 @@
-use Rattle.table_dicts.specs.Rows.{row_at, AreRowsBegun}
+use Rattle.net_model.specs.Rows.{row_at}
+use Rattle.table_dicts.specs.Rows.{AreRowsBegun}
 use Rattle.table_dicts.proofs.bits.copy_rows.Given as goal
 
 abbrev pub invariant-loop-row : goal.invariant-loop-row

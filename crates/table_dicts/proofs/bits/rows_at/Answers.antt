@@ -1,6 +1,6 @@
 use Rattle.std.proofs.Common.{◌∙◌, ◌<◌, [], length, get_or, map, refl, sym, arith}
 use Rattle.std.proofs.lemmas.List.{get_or-map, length-map}
-use Rattle.table_dicts.specs.Rows.{row_at}
+use Rattle.net_model.specs.Rows.{row_at}
 use Rattle.table_dicts.proofs.RowLemmas.{width_at, zeros_begun, rows_more, rows_all}
 use Rattle.table_dicts.proofs.bits.rows_at.Goals as goal
 

@@ -1,5 +1,6 @@
 use Rattle.std.proofs.Common.{length, get_or}
-use Rattle.table_dicts.specs.Rows.{row_at, AreRowsBegun}
+use Rattle.net_model.specs.Rows.{row_at}
+use Rattle.table_dicts.specs.Rows.{AreRowsBegun}
 use Rattle.table_dicts.proofs.bits.rows_at.Given as goal
 
 abbrev pub invariant-loop-at : goal.invariant-loop-at

@@ -8,7 +8,8 @@ use Rattle.kept_vectors.proofs.KeepLemmas.{some_number}
 use Rattle.table_dicts.specs.declared.dict.Dict.{Dict}
 use Rattle.table_dicts.specs.declared.dict.DictKind.TheVariants.{PassFail}
 use Rattle.table_dicts.specs.declared.simulating.Kept.TheVariants.{Bits, Fails}
-use Rattle.table_dicts.specs.Rows.{AreRows, row_at}
+use Rattle.net_model.specs.Rows.{row_at}
+use Rattle.table_dicts.specs.Rows.{AreRows}
 use Rattle.table_dicts.specs.Entries.{full_entry, free_baselines, pass_fail_entry}
 use Rattle.table_dicts.specs.Blocks.{IsAnswerBit, IsFailBit, AreRightTo}
 use Rattle.table_dicts.proofs.BlockLemmas.{right_of_all}

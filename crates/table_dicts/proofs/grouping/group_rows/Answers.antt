@@ -1,5 +1,5 @@
 use Rattle.std.proofs.Common.{◌∙◌, ap, map}
-use Rattle.table_dicts.specs.Rows.{row_at}
+use Rattle.net_model.specs.Rows.{row_at}
 use Rattle.table_dicts.proofs.GroupLemmas.{grouped_by}
 use Rattle.table_dicts.proofs.grouping.group_rows.Goals as goal
 

@@ -1,5 +1,5 @@
 use Rattle.std.proofs.Common.{◌≡◌, ◌<◌, ℕ}
-use Rattle.table_dicts.specs.Rows.{row_bit}
+use Rattle.net_model.specs.Rows.{row_bit}
 use Rattle.table_dicts.specs.AnswerTable.{answer_bit}
 use Rattle.table_dicts.proofs.projecting.differs.Given as goal
 

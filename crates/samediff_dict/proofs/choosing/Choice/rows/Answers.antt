@@ -1,5 +1,6 @@
 use Rattle.std.proofs.Common.{◌≡◌, ◌∙◌, [], List, Bool, length, get_or, refl, ap, sym, subst, arith}
-use Rattle.table_dicts.specs.Rows.{AreRows, IsRowSet, row_at}
+use Rattle.net_model.specs.Rows.{row_at}
+use Rattle.table_dicts.specs.Rows.{AreRows, IsRowSet}
 use Rattle.table_dicts.proofs.RowLemmas.{width_at, zeros_begun, rows_more, rows_all}
 use Rattle.samediff_dict.specs.Numbered.{AreCandidates, baselines_at}
 use Rattle.samediff_dict.proofs.CandidateLemmas.{length-baselines, base_at}

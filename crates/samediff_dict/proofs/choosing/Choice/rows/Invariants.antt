@@ -1,5 +1,6 @@
 use Rattle.std.proofs.Common.{length}
-use Rattle.table_dicts.specs.Rows.{AreRowsBegun, row_at}
+use Rattle.net_model.specs.Rows.{row_at}
+use Rattle.table_dicts.specs.Rows.{AreRowsBegun}
 use Rattle.samediff_dict.specs.Numbered.{baselines_at}
 use Rattle.samediff_dict.proofs.choosing.Choice.rows.Given as goal
 

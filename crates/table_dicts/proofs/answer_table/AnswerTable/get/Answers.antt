@@ -1,5 +1,5 @@
 use Rattle.std.proofs.Common.{◌∙◌, ◌<◌, sym, ap, length, arith}
-use Rattle.table_dicts.specs.Rows.{row_bit}
+use Rattle.net_model.specs.Rows.{row_bit}
 use Rattle.table_dicts.specs.AnswerTable.{Answers, answer_bit}
 use Rattle.table_dicts.proofs.RowLemmas.{width_at}
 use Rattle.table_dicts.proofs.TableLemmas.{patterns_are, bit_is, place_inside}

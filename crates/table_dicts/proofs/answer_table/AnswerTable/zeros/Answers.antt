@@ -1,5 +1,6 @@
 use Rattle.std.proofs.Common.{◌∙◌, ◌+◌, ◌*◌, List, Bool, refl, sym, ap, subst}
-use Rattle.table_dicts.specs.Rows.{AreRows, row_bit}
+use Rattle.net_model.specs.Rows.{row_bit}
+use Rattle.table_dicts.specs.Rows.{AreRows}
 use Rattle.table_dicts.specs.declared.answer_table.AnswerTable.TheInside.{Inside}
 use Rattle.table_dicts.proofs.RowLemmas.{zeros_are, zero_bits}
 use Rattle.table_dicts.proofs.TableLemmas.{patterns_are, bit_is, no_bit}
