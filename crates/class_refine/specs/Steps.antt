@@ -1,11 +1,11 @@
 -- What the steps of a cut make.
-use Rattle.std.specs.Prelude.{◌≡◌, ◌<◌, ◌≤◌, ℕ, ◌==◌, ◌++◌, ◌⊎◌, Bool, List, [], ◌∷◌, Some, map, filter, length, slice_get, slice_set, slice_index, slice_index_or, if◌then◌else◌, nat_eq, All, Contains}
+use Rattle.std.specs.Prelude.{◌≡◌, ◌<◌, ◌≤◌, ℕ, ◌==◌, ◌++◌, ◌⊎◌, Bool, List, [], ◌∷◌, Some, map, filter, length, slice_get, slice_set, slice_index, slice_index_or, if◌then◌else◌, nat_eq, All, Contains, IsTrue, ◌↔◌}
 use Rattle.std.specs.Borrow.{Bor}
 use Rattle.std.specs.Cmp.Lexicographic.{slice_cmp}
 use Rattle.std.specs.Ordering.{nat_cmp}
 use Rattle.std.specs.declared.cmp.Ordering.{Ordering}
 use Rattle.std.specs.Option.{option_eq}
-use Rattle.net_model.specs.ClassTable.{ClassTable, class_at, members, piece_lowest}
+use Rattle.net_model.specs.ClassTable.{ClassTable, class_at, members, piece_lowest, new_lowest, refined_table, cuts_class, SplitBy}
 
 -- the order of the words of rows
 abbrev pub words_order : Bor (List ℕ) → Bor (List ℕ) → Ordering
@@ -19,6 +19,18 @@ piece_of t row low = filter (λ n. piece_lowest t row n == low) (members t (clas
 pub record ArePieces (t : ClassTable) (row : List (List Bool)) (lows : List ℕ) (groups : List (List ℕ)) (parents : List ℕ) : Type 0 where
   pub groups_are : groups ≡ map (piece_of t row) lows
   pub parents_are : parents ≡ map (class_at t) lows
+
+-- The pieces are all that leave their classes.
+abbrev pub AreLeaving : ClassTable → List (List Bool) → List (List ℕ) → List ℕ → Type 0
+AreLeaving t row groups parents = ArePieces t row (new_lowest t row) groups parents
+
+-- The row has added so many classes to the table, or has left it as it was.
+pub record HasCut (old new : ClassTable) (row : List (List Bool)) (added : ℕ) : Type 0 where
+  pub count : added ≡ length (new_lowest old row)
+  pub cuts : (0 < added) ↔ IsTrue (cuts_class old row)
+  pub splits : (0 < added) ↔ SplitBy old row
+  pub refined : 0 < added → new ≡ refined_table old row
+  pub unchanged : added ≡ 0 → new ≡ old
 
 -- the groups after a number came into the one at a place, or into a new one behind them
 abbrev pub put_in : List (List ℕ) → ℕ → ℕ → List (List ℕ)

@@ -5,8 +5,9 @@ ghost use Rattle.std.specs.Borrow.{Bor};
 ghost use Rattle.std.specs.BTreeMap.{get};
 ghost use Rattle.std.specs.Option.{is_none};
 ghost use Rattle.std.specs.Ordering.{is_eq};
-ghost use Rattle.net_model.specs.ClassTable.{class_count, members, begins_class, new_lowest};
-ghost use Rattle.class_refine.specs.Steps.{words_order, put_in, ArePieces};
+ghost use Rattle.net_model.specs.ClassTable.{class_count, members, begins_class};
+ghost use Rattle.class_refine.specs.CutIn.{AreClassesOf, AreAlikeElsewhere};
+ghost use Rattle.class_refine.specs.Steps.{words_order, put_in, ArePieces, AreLeaving};
 
 use crate::classes::Classes;
 use crate::group::Group;
@@ -41,7 +42,7 @@ impl Classes {
     /// The pieces that leave their classes, by class and then by lowest member.
     pub(crate) fn pieces(&self, answers: &AnswerRows) -> Result<Pieces, AllocError>
         requires { length answers.now ≡ length self.now.class_of }
-        ensures { IfOk result (λ pieces. ArePieces self.now answers.now (new_lowest self.now answers.now) pieces.groups.items pieces.parents.items) }
+        ensures { IfOk result (λ pieces. AreLeaving self.now answers.now pieces.groups.items pieces.parents.items) }
     {
         let alloc = *self.class_of.allocator();
         let mut pieces = Pieces {
@@ -50,6 +51,30 @@ impl Classes {
         };
         for class in 0..self.count() {
             let mut cut = self.cut_class(alloc, answers, class)?;
+            pieces.groups.append(&mut cut.groups)?;
+            pieces.parents.append(&mut cut.parents)?;
+        }
+        Ok(pieces)
+    }
+
+    /// The same, where no piece leaves a class that isn't one of these.
+    pub(crate) fn pieces_in(
+        &self,
+        classes: &[u32],
+        answers: &AnswerRows,
+    ) -> Result<Pieces, AllocError>
+        requires rows { length answers.now ≡ length self.now.class_of }
+        requires classes { AreClassesOf self.now classes.now }
+        requires elsewhere { AreAlikeElsewhere self.now answers.now classes.now }
+        ensures { IfOk result (λ pieces. AreLeaving self.now answers.now pieces.groups.items pieces.parents.items) }
+    {
+        let alloc = *self.class_of.allocator();
+        let mut pieces = Pieces {
+            groups: Vec::new(alloc),
+            parents: Vec::new(alloc),
+        };
+        for class in classes {
+            let mut cut = self.cut_class(alloc, answers, *class)?;
             pieces.groups.append(&mut cut.groups)?;
             pieces.parents.append(&mut cut.parents)?;
         }
