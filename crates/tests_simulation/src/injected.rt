@@ -7,7 +7,7 @@ use net_model::{Bits, Fault, Kind};
 use sample_circuits::{Parts, circuit, pin, position, stands, stem};
 use std::alloc::{AllocError, Global};
 use std::test::Fail;
-use word_sim::{Block, GoodSim, Stream};
+use word_sim::{Block, GoodSim, LANES, Stream};
 
 // The sources 0 and 1; 2 is the XOR of 3 and 4, which are the AND and the OR of the sources.
 // The AND is shown first, then the OR and then the XOR.
@@ -171,6 +171,26 @@ fn choice_under_faults(rt: HostRuntime) -> Result<(), Fail> {
             differs_so(rt.alloc(), &good, fault, expected.as_slice())?,
             "{fault:?}"
         );
+    }
+    Ok(())
+}
+
+// The word of a position in which each lane differs that has a vector, and those in which no lane has one.
+#[test]
+fn lanes_without_a_vector_do_not_differ(rt: HostRuntime) -> Result<(), Fail> {
+    let circuit = circuit(rt.alloc(), CHOICE)?;
+    let mut good = GoodSim::new(rt.alloc(), &circuit)?;
+    good.run(&counted_vectors(rt.alloc())?);
+    let fault = stem(3, false);
+    if !stands(&circuit, fault) || circuit.positions().len() != 3 {
+        return Err(Fail::new("the fault does not stand on the circuit"));
+    }
+    let mut sim = FaultSim::new(rt.alloc(), &circuit)?;
+    sim.inject(&good, &fault);
+    assert_eq!(rt; sim.differs(2).word(0), u64::MAX);
+    for at in 1..LANES / 64 {
+        assert_eq!(rt; sim.differs(2).word(at), 0);
+        assert_eq!(rt; sim.any_difference().word(at), 0);
     }
     Ok(())
 }

@@ -1,5 +1,5 @@
 -- The words of the stream, in the order in which the generator gives them.
-use Rattle.std.proofs.Common.{◌≡◌, ℕ, zero, suc, ◌+◌, ◌*◌, ◌/◌, ◌%◌, ◌<◌, ◌≤◌, List, [], length, refl, sym, ◌∙◌, ap, subst, arith, inl, inr}
+use Rattle.std.proofs.Common.{◌≡◌, ◌≢◌, ℕ, zero, suc, ◌+◌, ◌*◌, ◌/◌, ◌%◌, ◌<◌, ◌≤◌, List, [], length, get_or, refl, sym, ◌∙◌, ap, subst, arith, inl, inr}
 use Rattle.std.specs.Prelude.{Bool, true, false, ◌&&◌, ◌==◌, nat_lt, slice_index, map, if◌then◌else◌}
 use Rattle.std.specs.Int.{bit_at as digit_at}
 use Rattle.std.specs.List.{range_with_len}
@@ -10,9 +10,11 @@ use Rattle.rand_xoshiro.specs.SplitMix64.{next_state, mix_u64}
 use Rattle.word_sim.specs.declared.stream.TheConstants.{COUNTING}
 use Rattle.word_sim.specs.Stream.{has_digit, state_after, stream_word, word_number, stream_bit, stream_vector}
 use Rattle.word_sim.specs.StreamState.{StreamState, stream_with, stream_at, IsAfter}
+use Rattle.net_model.specs.Answer.{bit_at}
+use Rattle.word_sim.specs.declared.lanes.TheConstants.{LANES}
 use Rattle.word_sim.specs.BlockFields.{column, columns}
 use Rattle.word_sim.proofs.Columns.{column_is, columns_is}
-use Rattle.word_sim.proofs.Written.{AreSet}
+use Rattle.word_sim.proofs.Written.{ArePut, AreBeside}
 
 -- ---- the words that count
 
@@ -96,31 +98,78 @@ is_after own sources done first rng at = record {
 pub next_block : (sources done : ℕ) → word_number sources done sources ≡ word_number sources (done + 1) 0
 next_block sources done = omega arith
 
+-- the blocks after the first don't count
+none_done : (done count : ℕ) → (done == 0 && count == 0) ≡ (done + count == 0)
+none_done done count = grind (arith, nat_tests)
+
+-- so many blocks on
+pub is_on : (sources done count : ℕ) (first : Bool) (start rng : ℕ) → IsAfter sources done first start → rng ≡ state_after (word_number sources (done + count) 0)
+    → IsAfter sources (done + count) (first && count == 0) rng
+is_on sources done count first start rng after is = record {
+  comes_first = ap (λ b. b && count == 0) after.comes_first ∙ none_done done count;
+  state = is;
+}
+
 -- ---- one block
 
--- the first rows have their words in a block of the stream
-abbrev pub AreDrawn : ℕ → ℕ → List (List Bool) → ℕ → Type 0
-AreDrawn sources done rows n = AreSet (λ k lane. stream_bit sources done lane k) 64 rows n
+-- the first rows have their words in a block of the stream, in the lanes of one word
+abbrev pub AreDrawn : ℕ → ℕ → ℕ → List (List Bool) → ℕ → Type 0
+AreDrawn sources done at rows n = ArePut (λ lane. lane / 64) at (λ k lane. stream_bit sources done (lane % 64) k) rows n
 
 -- the first rows have their words, and the generator stands at the next one
-pub record IsDrawnTo (sources done : ℕ) (rows : List (List Bool)) (rng n : ℕ) : Type 0 where
+pub record IsDrawnTo (sources done at : ℕ) (rows : List (List Bool)) (rng n : ℕ) : Type 0 where
   pub state : rng ≡ state_after (word_number sources done n)
-  pub drawn : AreDrawn sources done rows n
+  pub drawn : AreDrawn sources done at rows n
+
+-- so it is of each block that can come next, and the lanes of the other words are as they were
+pub record IsDrawing (sources at : ℕ) (first : Bool) (start : ℕ) (old rows : List (List Bool)) (rng n : ℕ) : Type 0 where
+  pub next : (done : ℕ) → IsAfter sources done first start → IsDrawnTo sources done at rows rng n
+  pub others : AreBeside (λ lane. lane / 64) at old rows
 
 -- a lane of drawn rows is a vector of the stream
-pub drawn_column : (sources done : ℕ) (rows : List (List Bool)) (lane : ℕ) → AreDrawn sources done rows sources → length rows ≡ sources → lane < 64
-    → column rows lane ≡ stream_vector sources (64 * done + lane)
-drawn_column sources done rows lane drawn wide h =
-    let block : (64 * done + lane) / 64 ≡ done = omega arith in
-    let at : (64 * done + lane) % 64 ≡ lane = omega arith in
-    column_is rows lane (stream_vector sources (64 * done + lane)) (length-map-range_with_len (stream_bit sources ((64 * done + lane) / 64) ((64 * done + lane) % 64)) 0 sources ∙ sym wide)
+pub drawn_column : (sources done at : ℕ) (rows : List (List Bool)) (lane : ℕ) → ((k : ℕ) → k < sources → bit_at (get_or rows k []) lane ≡ stream_bit sources done at k) → length rows ≡ sources → at < 64
+    → column rows lane ≡ stream_vector sources (64 * done + at)
+drawn_column sources done at rows lane drawn wide h =
+    let n = 64 * done + at in
+    let block : n / 64 ≡ done = omega arith in
+    let place : n % 64 ≡ at = omega arith in
+    column_is rows lane (stream_vector sources n) (length-map-range_with_len (stream_bit sources (n / 64) (n % 64)) 0 sources ∙ sym wide)
     (λ k l.
-    let within : k < sources = subst (λ n. k < n) wide l in
-    drawn k lane within h ∙ sym (get_or-map-range_with_len (stream_bit sources ((64 * done + lane) / 64) ((64 * done + lane) % 64)) 0 sources k k false within (omega arith) ∙ (λ i. stream_bit sources (block i) (at i) k)))
+    let within : k < sources = subst (λ m. k < m) wide l in
+    drawn k within ∙ sym (get_or-map-range_with_len (stream_bit sources (n / 64) (n % 64)) 0 sources k k false within (omega arith) ∙ (λ i. stream_bit sources (block i) (place i) k)))
 
--- the lanes of drawn rows are a block of the stream
-pub drawn_block : (sources done count : ℕ) (rows : List (List Bool)) → count ≤ 1 → ((lane : ℕ) → lane < 64 → column rows lane ≡ stream_vector sources (64 * done + lane))
+-- ---- blocks one after another
+
+-- the first lanes have so many blocks, and the generator stands at the next one
+pub record AreDrawnTo (sources done count : ℕ) (rows : List (List Bool)) (rng : ℕ) : Type 0 where
+  pub state : rng ≡ state_after (word_number sources (done + count) 0)
+  pub drawn : (lane : ℕ) → lane < 64 * count → column rows lane ≡ stream_vector sources (64 * done + lane)
+
+pub drawn_none : (sources done : ℕ) (first : Bool) (rows : List (List Bool)) (rng : ℕ) → IsAfter sources done first rng → AreDrawnTo sources done 0 rows rng
+drawn_none sources done first rows rng after =
+    let here : done ≡ done + 0 = omega arith in
+    record {
+      state = after.state ∙ ap (λ n. state_after (word_number sources n 0)) here;
+      drawn = λ lane h. absurd (omega arith);
+    }
+
+pub drawn_more : (sources done count : ℕ) (old new : List (List Bool)) (start rng : ℕ) → AreDrawnTo sources done count old start → count < LANES / 64
+    → rng ≡ state_after (word_number sources (done + count + 1) 0)
+    → ((lane : ℕ) → lane < LANES → lane / 64 ≡ count → column new lane ≡ stream_vector sources (64 * (done + count) + lane % 64))
+    → ((lane : ℕ) → lane < LANES → lane / 64 ≢ count → column new lane ≡ column old lane) → AreDrawnTo sources done (count + 1) new rng
+drawn_more sources done count old new start rng before room is here others =
+    let on : done + count + 1 ≡ done + (count + 1) = omega arith in
+    record {
+      state = is ∙ ap (λ n. state_after (word_number sources n 0)) on;
+      drawn = λ lane h. elim (cases_eq (lane / 64) count) [
+        | inl last ↦ let same : 64 * (done + count) + lane % 64 ≡ 64 * done + lane = omega arith in here lane (omega arith) last ∙ ap (stream_vector sources) same
+        | inr ne ↦ others lane (omega arith) ne ∙ before.drawn lane (omega arith)
+      ];
+    }
+
+-- the lanes of drawn rows are blocks of the stream
+pub drawn_blocks : (sources done count : ℕ) (rows : List (List Bool)) → ((lane : ℕ) → lane < 64 * count → column rows lane ≡ stream_vector sources (64 * done + lane))
     → columns rows (64 * count) ≡ map (stream_vector sources) (range_with_len (64 * done) (64 * count))
-drawn_block sources done count rows few h =
+drawn_blocks sources done count rows h =
     columns_is rows (64 * count) (map (stream_vector sources) (range_with_len (64 * done) (64 * count))) (length-map-range_with_len (stream_vector sources) (64 * done) (64 * count))
-    (λ lane l. h lane (omega arith) ∙ sym (get_or-map-range_with_len (stream_vector sources) (64 * done) (64 * count) lane (64 * done + lane) [] l refl))
+    (λ lane l. h lane l ∙ sym (get_or-map-range_with_len (stream_vector sources) (64 * done) (64 * count) lane (64 * done + lane) [] l refl))

@@ -6,31 +6,48 @@ use Rattle.std.proofs.lemmas.List.{get_or-set_same, get_or-set_other, get_or_rea
 use Rattle.net_model.specs.Answer.{bit_at}
 use Rattle.word_sim.specs.declared.lanes.TheConstants.{LANES}
 
--- the first rows have the vector's bits in the lane, and all rows have what they had in the other lanes
-pub record IsWritten (first rows : List (List Bool)) (lane : ℕ) (v : List Bool) (n : ℕ) : Type 0 where
-  pub written : (k : ℕ) → k < n → bit_at (get_or rows k []) lane ≡ bit_at v k
-  pub others : (k other : ℕ) → other < LANES → other ≢ lane → bit_at (get_or rows k []) other ≡ bit_at (get_or first k []) other
+-- all rows have what they had in the lanes of other keys than one
+abbrev pub AreBeside : (ℕ → ℕ) → ℕ → List (List Bool) → List (List Bool) → Type 0
+AreBeside key own first rows = (k lane : ℕ) → lane < LANES → key lane ≢ own → bit_at (get_or rows k []) lane ≡ bit_at (get_or first k []) lane
 
-pub written_none : (rows : List (List Bool)) (lane : ℕ) (v : List Bool) → IsWritten rows rows lane v 0
-written_none rows lane v = record { written = λ k h. absurd (omega arith); others = λ k other h ne. refl }
-
-pub written_more : (first rows : List (List Bool)) (lane : ℕ) (v : List Bool) (n : ℕ) (old new : List Bool)
-    → IsWritten first rows lane v n → n < length rows → old ≡ get_or rows n old → bit_at new lane ≡ bit_at v n
-    → ((other : ℕ) → other < LANES → other ≢ lane → bit_at new other ≡ bit_at old other) → IsWritten first (set rows n new) lane v (n + 1)
-written_more first rows lane v n old new w h read here there =
+pub beside_more : (key : ℕ → ℕ) (own : ℕ) (first rows : List (List Bool)) (n : ℕ) (old new : List Bool) → AreBeside key own first rows → n < length rows → old ≡ get_or rows n old
+    → ((lane : ℕ) → lane < LANES → key lane ≢ own → bit_at new lane ≡ bit_at old lane) → AreBeside key own first (set rows n new)
+beside_more key own first rows n old new before h read there k lane within apart =
     let was : get_or rows n [] ≡ old = sym (get_or_read rows n old h read []) in
-    record {
-      written = λ k l. elim (cases_eq k n) [
-        | inl same ↦ let P : ℕ → Type 0 = λ j. bit_at (get_or (set rows n new) j []) lane ≡ bit_at v j in
-            subst P (sym same) (ap (λ row. bit_at row lane) (get_or-set_same rows n new [] h) ∙ here)
-        | inr ne ↦ ap (λ row. bit_at row lane) (get_or-set_other rows n k new [] ne) ∙ w.written k (omega arith)
-      ];
-      others = λ k other l apart. elim (cases_eq k n) [
-        | inl same ↦ let P : ℕ → Type 0 = λ j. bit_at (get_or (set rows n new) j []) other ≡ bit_at (get_or first j []) other in
-            subst P (sym same) (ap (λ row. bit_at row other) (get_or-set_same rows n new [] h) ∙ there other l apart ∙ ap (λ row. bit_at row other) (sym was) ∙ w.others n other l apart)
-        | inr ne ↦ ap (λ row. bit_at row other) (get_or-set_other rows n k new [] ne) ∙ w.others k other l apart
-      ];
-    }
+    elim (cases_eq k n) [
+      | inl same ↦ let P : ℕ → Type 0 = λ j. bit_at (get_or (set rows n new) j []) lane ≡ bit_at (get_or first j []) lane in
+          subst P (sym same) (ap (λ row. bit_at row lane) (get_or-set_same rows n new [] h) ∙ there lane within apart ∙ ap (λ row. bit_at row lane) (sym was) ∙ before n lane within apart)
+      | inr ne ↦ ap (λ row. bit_at row lane) (get_or-set_other rows n k new [] ne) ∙ before k lane within apart
+    ]
+
+-- the first rows have these bits in the lanes of one key
+abbrev pub ArePut : (ℕ → ℕ) → ℕ → (ℕ → ℕ → Bool) → List (List Bool) → ℕ → Type 0
+ArePut key own bit rows n = (k lane : ℕ) → k < n → lane < LANES → key lane ≡ own → bit_at (get_or rows k []) lane ≡ bit k lane
+
+pub put_more : (key : ℕ → ℕ) (own : ℕ) (bit : ℕ → ℕ → Bool) (rows : List (List Bool)) (n : ℕ) (new : List Bool) → ArePut key own bit rows n → n < length rows
+    → ((lane : ℕ) → lane < LANES → key lane ≡ own → bit_at new lane ≡ bit n lane) → ArePut key own bit (set rows n new) (n + 1)
+put_more key own bit rows n new before h here k lane l within e =
+    elim (cases_eq k n) [
+      | inl same ↦ let P : ℕ → Type 0 = λ j. bit_at (get_or (set rows n new) j []) lane ≡ bit j lane in
+          subst P (sym same) (ap (λ row. bit_at row lane) (get_or-set_same rows n new [] h) ∙ here lane within e)
+      | inr ne ↦ ap (λ row. bit_at row lane) (get_or-set_other rows n k new [] ne) ∙ before k lane (omega arith) within e
+    ]
+
+-- the first rows have the vector's bits in the lane, and all rows have what they had in the other lanes
+pub record IsWritten (first rows : List (List Bool)) (own : ℕ) (v : List Bool) (n : ℕ) : Type 0 where
+  pub written : ArePut (λ lane. lane) own (λ k lane. bit_at v k) rows n
+  pub others : AreBeside (λ lane. lane) own first rows
+
+pub written_none : (rows : List (List Bool)) (own : ℕ) (v : List Bool) → IsWritten rows rows own v 0
+written_none rows own v = record { written = λ k lane h. absurd (omega arith); others = λ k lane h ne. refl }
+
+pub written_more : (first rows : List (List Bool)) (own : ℕ) (v : List Bool) (n : ℕ) (old new : List Bool)
+    → IsWritten first rows own v n → n < length rows → old ≡ get_or rows n old → bit_at new own ≡ bit_at v n
+    → ((other : ℕ) → other < LANES → other ≢ own → bit_at new other ≡ bit_at old other) → IsWritten first (set rows n new) own v (n + 1)
+written_more first rows own v n old new w h read here there = record {
+  written = put_more (λ lane. lane) own (λ k lane. bit_at v k) rows n new w.written h (λ lane l e. ap (bit_at new) e ∙ here);
+  others = beside_more (λ lane. lane) own first rows n old new w.others h read there;
+}
 
 -- the first rows have these bits in the first lanes
 abbrev pub AreSet : (ℕ → ℕ → Bool) → ℕ → List (List Bool) → ℕ → Type 0

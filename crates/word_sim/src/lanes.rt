@@ -1,37 +1,39 @@
 //! One bit for each vector of a block.
 
-ghost use Rattle.std.specs.Prelude.{◌≡◌, ℕ, ◌<◌, ◌≤◌, ◌≢◌, Bool, List, [], ◌∷◌, ◌++◌, length, true, not, ◌&&◌, ◌||◌, nat_lt, IsTrue, ◌↔◌, if◌then◌else◌};
+ghost use Rattle.std.specs.Prelude.{◌≡◌, ℕ, ◌+◌, ◌/◌, ◌%◌, ◌<◌, ◌≤◌, ◌≢◌, Bool, List, [], ◌∷◌, ◌++◌, length, true, not, ◌&&◌, ◌||◌, nat_lt, IsTrue, ◌↔◌, if◌then◌else◌};
 ghost use Rattle.net_model.specs.Gate.{folded_bit, inverted};
 ghost use Rattle.net_model.specs.Answer.{bit_at};
 ghost use Rattle.word_sim.specs.Stream.{has_digit};
 
 use net_model::Fold;
 use std::marker::Model;
+use std::simd::u64x4;
 
 /// How many vectors a block can hold.
-pub const LANES: u32 = 64;
+pub const LANES: u32 = 256;
 
 /// A bit for each lane. Lane `t` is that of vector `t` of a block.
 #[derive(Clone, Copy)]
 pub struct Lanes {
-    word: u64,
+    // Each word has 64 lanes, the lowest digit first.
+    words: u64x4,
 }
 
 impl Model for Lanes {
-    ghost use Rattle.std.specs.Prelude.{List, Bool, ◌^◌, ◌<◌};
+    ghost use Rattle.std.specs.Prelude.{List, Bool};
 
     ghost Value = { List Bool };
 
-    ghost use Rattle.word_sim.specs.Lanes.{word_of};
-    ghost use Rattle.word_sim.specs.LanesFields.{bits_of, word_of-bits_of};
+    ghost use Rattle.word_sim.specs.Lanes.{words_of};
+    ghost use Rattle.word_sim.specs.LanesFields.{bits_of, AreWords, words_of-bits_of};
 
     ghost view = { bits_of };
 
-    ghost invariant = { λ l. l.word < 2 ^ 64 };
+    ghost invariant = { λ l. AreWords l.words };
 
-    ghost inverse = { λ bits. record { word = word_of bits } };
+    ghost inverse = { λ bits. record { words = words_of bits } };
 
-    ghost inverse_ok = { λ l h. λ i. record { word = word_of-bits_of l h i } };
+    ghost inverse_ok = { λ l h. λ i. record { words = words_of-bits_of l h i } };
 }
 
 impl Lanes {
@@ -41,7 +43,7 @@ impl Lanes {
         ensures { (lane : ℕ) → lane < LANES → bit_at result lane ≡ bit }
     {
         Lanes {
-            word: if bit { u64::MAX } else { 0 },
+            words: u64x4::splat(if bit { u64::MAX } else { 0 }),
         }
     }
 
@@ -52,7 +54,7 @@ impl Lanes {
         ensures value { result ≡ bit_at self.now lane }
         ensures whole { length self.now ≡ LANES }
     {
-        (self.word >> lane) & 1 == 1
+        (self.words.to_array()[(lane / 64) as usize] >> (lane % 64)) & 1 == 1
     }
 
     /// 1 in the lanes where both have 1.
@@ -61,7 +63,7 @@ impl Lanes {
         ensures { (lane : ℕ) → lane < LANES → bit_at result lane ≡ (bit_at self lane && bit_at other lane) }
     {
         Lanes {
-            word: self.word & other.word,
+            words: self.words & other.words,
         }
     }
 
@@ -71,7 +73,7 @@ impl Lanes {
         ensures { (lane : ℕ) → lane < LANES → bit_at result lane ≡ (bit_at self lane || bit_at other lane) }
     {
         Lanes {
-            word: self.word | other.word,
+            words: self.words | other.words,
         }
     }
 
@@ -81,7 +83,7 @@ impl Lanes {
         ensures { (lane : ℕ) → lane < LANES → bit_at result lane ≡ (if bit_at self lane then not (bit_at other lane) else bit_at other lane) }
     {
         Lanes {
-            word: self.word ^ other.word,
+            words: self.words ^ other.words,
         }
     }
 
@@ -90,7 +92,7 @@ impl Lanes {
     pub fn not(self) -> Lanes
         ensures { (lane : ℕ) → lane < LANES → bit_at result lane ≡ not (bit_at self lane) }
     {
-        Lanes { word: !self.word }
+        Lanes { words: !self.words }
     }
 
     /// The other bit in every lane where `inverts` is true, else the same.
@@ -137,7 +139,7 @@ impl Lanes {
     pub fn any(self) -> bool
         ensures { IsTrue result ↔ ((lane : ℕ) × (lane < LANES) × IsTrue (bit_at self lane)) }
     {
-        self.word != 0
+        self.words.reduce_or() != 0
     }
 
     // The same bits but for one lane, which has this bit.
@@ -147,14 +149,8 @@ impl Lanes {
         ensures same { bit_at result lane ≡ bit }
         ensures others { (other : ℕ) → other < LANES → other ≢ lane → bit_at result other ≡ bit_at self other }
     {
-        let mask = 1 << lane;
-        Lanes {
-            word: if bit {
-                self.word | mask
-            } else {
-                self.word & !mask
-            },
-        }
+        let at = lane / 64;
+        self.with_word(at, digit_put(self.word(at), lane % 64, bit))
     }
 
     // 1 in the first lanes, this many.
@@ -164,19 +160,55 @@ impl Lanes {
         ensures { (lane : ℕ) → lane < LANES → bit_at result lane ≡ nat_lt lane live }
     {
         Lanes {
-            word: if live < LANES {
-                (1 << live) - 1
-            } else {
-                u64::MAX
-            },
+            words: u64x4::from_array([
+                first_word(live, 0),
+                first_word(live, 64),
+                first_word(live, 128),
+                first_word(live, 192),
+            ]),
         }
     }
 
-    // The binary digits of a word.
+    /// The bits of 64 lanes as a word, the lowest first.
     #[inline]
-    pub(crate) fn from_word(word: u64) -> Lanes
-        ensures { (lane : ℕ) → lane < LANES → bit_at result lane ≡ has_digit word lane }
+    pub fn word(self, at: u32) -> u64
+        requires { at < LANES / 64 }
+        ensures { (lane : ℕ) → lane < LANES → lane / 64 ≡ at → has_digit result (lane % 64) ≡ bit_at self lane }
     {
-        Lanes { word }
+        self.words.to_array()[at as usize]
     }
+
+    // The same bits but for the 64 lanes of a word, which have its binary digits.
+    #[inline]
+    pub(crate) fn with_word(self, at: u32, word: u64) -> Lanes
+        requires { at < LANES / 64 }
+        ensures here { (lane : ℕ) → lane < LANES → lane / 64 ≡ at → bit_at result lane ≡ has_digit word (lane % 64) }
+        ensures others { (lane : ℕ) → lane < LANES → lane / 64 ≢ at → bit_at result lane ≡ bit_at self lane }
+    {
+        let mut words = self.words.to_array();
+        words[at as usize] = word;
+        Lanes {
+            words: u64x4::from_array(words),
+        }
+    }
+}
+
+// The same binary digits but for one, which is this bit.
+#[inline]
+fn digit_put(word: u64, at: u32, bit: bool) -> u64
+    requires { at < 64 }
+    ensures same { has_digit result at ≡ bit }
+    ensures others { (other : ℕ) → other < 64 → other ≢ at → has_digit result other ≡ has_digit word other }
+{
+    let mask = 1 << at;
+    if bit { word | mask } else { word & !mask }
+}
+
+// The word of the lanes from `start` on that has 1 in the lanes below `live`.
+#[inline]
+fn first_word(live: u32, start: u32) -> u64
+    ensures { (at : ℕ) → at < 64 → has_digit result at ≡ nat_lt (start + at) live }
+{
+    let here = live.saturating_sub(start);
+    if here < 64 { (1 << here) - 1 } else { u64::MAX }
 }

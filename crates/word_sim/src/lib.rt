@@ -2,6 +2,7 @@
 #![tactic(auto)]
 
 mod block;
+mod fixing;
 mod gate_lanes;
 mod good_sim;
 mod lanes;

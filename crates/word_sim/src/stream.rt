@@ -1,6 +1,6 @@
 //! The stream of vectors.
 
-ghost use Rattle.std.specs.Prelude.{◌≡◌, ℕ, ◌+◌, ◌*◌, ◌/◌, ◌<◌, ◌≤◌, min, [], length, map, nat_lt, ◌&&◌, slice_index, if◌then◌else◌};
+ghost use Rattle.std.specs.Prelude.{◌≡◌, ◌≢◌, ℕ, ◌+◌, ◌*◌, ◌/◌, ◌%◌, ◌<◌, ◌≤◌, min, [], length, map, nat_lt, ◌&&◌, slice_index, if◌then◌else◌};
 ghost use Rattle.std.specs.List.{range_with_len};
 ghost use Rattle.rand_xoshiro.specs.SplitMix64.{mix_u64};
 ghost use Rattle.word_sim.specs.Stream.{state_after, word_number, stream_vector};
@@ -68,20 +68,33 @@ impl Stream {
         ensures block { (sources done : ℕ) → self.old ≡ stream_at sources done → block.new ≡ block_with sources (map (stream_vector sources) (range_with_len (64 * done) (64 * result))) }
     {
         let filled = left.min(LANES / 64);
-        draw(&mut self.rng, self.first, &mut block.rows);
+        draw_blocks(&mut self.rng, self.first, filled, &mut block.rows);
         self.first = false;
         block.live = 64 * filled;
         filled
     }
 }
 
-// Writes the words of the next block of the stream.
-fn draw(rng: &mut SplitMix64, first: bool, rows: &mut [Lanes])
+// Writes the next blocks of the stream, this many, each into the lanes of a word.
+fn draw_blocks(rng: &mut SplitMix64, first: bool, count: u32, rows: &mut [Lanes])
+    requires { count ≤ LANES / 64 }
+    ensures state { (done : ℕ) → IsAfter (length rows.old) done first rng.old → rng.new ≡ state_after (word_number (length rows.old) (done + count) 0) }
+    ensures rows { (done lane : ℕ) → IsAfter (length rows.old) done first rng.old → lane < 64 * count → column rows.new lane ≡ stream_vector (length rows.old) (64 * done + lane) }
+{
+    for at in 0..count {
+        draw(rng, first && at == 0, at, rows);
+    }
+}
+
+// Writes the next block of the stream into the lanes of a word.
+fn draw(rng: &mut SplitMix64, first: bool, at: u32, rows: &mut [Lanes])
+    requires { at < LANES / 64 }
     ensures state { (done : ℕ) → IsAfter (length rows.old) done first rng.old → rng.new ≡ state_after (word_number (length rows.old) (done + 1) 0) }
-    ensures rows { (done lane : ℕ) → IsAfter (length rows.old) done first rng.old → lane < LANES → column rows.new lane ≡ stream_vector (length rows.old) (64 * done + lane) }
+    ensures rows { (done lane : ℕ) → IsAfter (length rows.old) done first rng.old → lane < LANES → lane / 64 ≡ at → column rows.new lane ≡ stream_vector (length rows.old) (64 * done + lane % 64) }
+    ensures others { (lane : ℕ) → lane < LANES → lane / 64 ≢ at → column rows.new lane ≡ column rows.old lane }
 {
     for source in 0..rows.len() {
-        rows[source] = Lanes::from_word(source_word(rng, first, source));
+        rows[source] = rows[source].with_word(at, source_word(rng, first, source));
     }
 }
 

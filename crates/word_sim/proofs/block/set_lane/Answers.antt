@@ -1,4 +1,4 @@
-use Rattle.std.proofs.Common.{arith, ◌∙◌, sym}
+use Rattle.std.proofs.Common.{arith, refl, ◌∙◌, sym}
 use Rattle.word_sim.specs.BlockFields.{column}
 use Rattle.word_sim.proofs.Columns.{length-column, column_at, column_is}
 use Rattle.word_sim.proofs.Written.{written_none, written_more}
@@ -14,7 +14,7 @@ loop-source-preserved c =
 
 pub returns-clause-written : goal.returns-clause-written
 returns-clause-written c =
-    column_is c.loop-source.rows c.args.lane c.args.v.now (omega arith) (λ k h. c.loop-source.invariant.written k (omega arith))
+    column_is c.loop-source.rows c.args.lane c.args.v.now (omega arith) (λ k h. c.loop-source.invariant.written k c.args.lane (omega arith) c.requires.lane refl)
 
 pub returns-clause-others : goal.returns-clause-others
 returns-clause-others c = λ other h ne.

@@ -1,5 +1,6 @@
 use Rattle.std.proofs.Common.{◌≡◌, ◌<◌, length, ap, arith, ◌∙◌, ◌+◌}
 use Rattle.std.proofs.lemmas.List.{with_items_is}
+use Rattle.word_sim.specs.declared.lanes.TheConstants.{LANES}
 use Rattle.word_sim.specs.Block.{Block, block_with}
 use Rattle.word_sim.specs.BlockFields.{columns}
 use Rattle.word_sim.proofs.Columns.{length-columns, columns_more}
@@ -25,7 +26,7 @@ returns c =
     let wide : length new ≡ c.self.inside.rows.len = omega (arith, c.set_lane.auto.rows, c.deref_mut.ensures.len) in
     let same_width : length new ≡ length old = omega (arith, wide, c.self.inside.rows.ok.0) in
     let same = with_items_is c.self.inside.rows new wide in
-    let few : live < 64 = omega (arith, c.requires.room, length-columns old live, ap (λ (b : Block). length b.vectors) c.self.view_is) in
+    let few : live < LANES = omega (arith, c.requires.room, length-columns old live, ap (λ (b : Block). length b.vectors) c.self.view_is) in
     let others = rw c.deref_mut.ensures.value at c.set_lane.ensures.others in
     rw (← c.self.view_is)
     ((λ i. block_with (length (same i)) (columns (same i) (live + 1)))

@@ -1,4 +1,4 @@
-use Rattle.std.proofs.Common.{◌∙◌, sym, ap}
+use Rattle.std.proofs.Common.{◌/◌, ◌%◌, ◌∙◌, get_or, sym, ap, arith}
 use Rattle.std.specs.Prelude.{◌==◌}
 use Rattle.std.proofs.lemmas.Nat.Bits.{shr_and_one}
 use Rattle.word_sim.proofs.Digits.{lane_digit, length-lanes_of}
@@ -6,8 +6,12 @@ use Rattle.word_sim.proofs.lanes.Lanes.get.Goals as goal
 
 pub returns-clause-value : goal.returns-clause-value
 returns-clause-value c =
-    let word = c.self.inside.word in
-    rw (← c.self.view_is) (ap (λ d. d == 1) (shr_and_one word c.args.lane) ∙ sym (lane_digit word c.args.lane c.requires))
+    let words = c.self.inside.words in
+    let lane = c.args.lane in
+    let four = c.self.invariant.four in
+    rw (← c.self.view_is) (ap (λ d. d == 1) (shr_and_one (get_or words (lane / 64) 0) (lane % 64)) ∙ sym (lane_digit words lane (omega (arith, c.requires, four))))
 
 pub returns-clause-whole : goal.returns-clause-whole
-returns-clause-whole c = rw (← c.self.view_is) (length-lanes_of c.self.inside.word)
+returns-clause-whole c =
+    let four = c.self.invariant.four in
+    rw (← c.self.view_is) (omega (arith, length-lanes_of c.self.inside.words, four))
