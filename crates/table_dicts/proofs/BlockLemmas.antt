@@ -1,10 +1,8 @@
 -- Blocks of patterns: what is written of them, and that it is right.
-use Rattle.std.proofs.Common.{zero-add, ◌≡◌, ◌≢◌, ◌∙◌, ℕ, ◌+◌, ◌-◌, ◌<◌, ◌≤◌, ◌↔◌, Bool, true, false, not, cond, List, [], ◌∷◌, ◌++◌, length, get_or, take, drop, refl, sym, ap, subst, arith, inl, inr, IsTrue}
+use Rattle.std.proofs.Common.{◌≡◌, ◌≢◌, ◌∙◌, ℕ, ◌+◌, ◌-◌, ◌<◌, ◌≤◌, ◌↔◌, Bool, true, false, not, cond, List, [], ◌∷◌, ◌++◌, length, get_or, take, drop, refl, sym, ap, subst, arith, inl, inr, IsTrue}
 use Rattle.std.specs.Prelude.{slice_get, slice_range, Option, Some, unwrap_or}
 use Rattle.std.proofs.lemmas.Bool.{cases_lt, cases_eq, false≢true, false_from_ne_true}
 use Rattle.std.proofs.lemmas.List.{ext_get_or, take_more, get_or-take, get_or-drop, length-drop, length-take-le}
-use Rattle.std.specs.List.{range_with_len}
-use Rattle.std.proofs.lemmas.List.FromFn.{length-range_with_len, get_or-range_with_len}
 use Rattle.std.proofs.lemmas.Slice.Zip.{AllZip-long}
 use Rattle.std.proofs.lemmas.Option.{get_or_from_slice_get, slice_get_within}
 use Rattle.net_model.specs.declared.fault.Fault.{Fault}
@@ -23,10 +21,10 @@ use Rattle.fault_sim.proofs.FaultyLemmas.{seen_at}
 use Rattle.kept_vectors.proofs.AnswerLemmas.{answer_exists, answer_width, answer_in_row}
 use Rattle.kept_vectors.proofs.KeepLemmas.{rows_exist}
 use Rattle.table_dicts.proofs.EntryLemmas.{same_bits-Decides}
-use Rattle.table_dicts.specs.AnswerTable.{Answers, answer_to, answer_bit, HasSizes, IsTable, IsSetAt, AreAnswers}
+use Rattle.table_dicts.specs.AnswerTable.{Answers, answer_to, answer_bit, HasSizes, IsTable, AreAnswers}
 use Rattle.table_dicts.specs.declared.simulating.Kept.{Kept}
 use Rattle.table_dicts.specs.declared.simulating.Kept.TheVariants.{Bits, Fails}
-use Rattle.table_dicts.specs.Blocks.{IsAnswerBit, IsFailBit, IsKeptBit, IsListedBit, AreLanesSet, IsNumberSet, AreNumbersSet, AreRightTo}
+use Rattle.table_dicts.specs.Blocks.{IsAnswerBit, IsFailBit, IsKeptBit, IsListedBit, IsNumberSet, AreNumbersSet, AreRightTo}
 
 -- ---- what is written
 
@@ -35,48 +33,6 @@ same_sizes t = record { patterns_are = refl; numbers_are = refl; positions_are =
 
 sizes_later : (old mid new : Answers) → HasSizes mid (length old.rows) old.numbers old.positions → HasSizes new (length mid.rows) mid.numbers mid.positions → HasSizes new (length old.rows) old.numbers old.positions
 sizes_later old mid new one two = record { patterns_are = two.patterns_are ∙ one.patterns_are; numbers_are = two.numbers_are ∙ one.numbers_are; positions_are = two.positions_are ∙ one.positions_are }
-
-pub lanes_none : (t : Answers) (number position first : ℕ) (bits : List Bool) → AreLanesSet t t number position first 0 bits
-lanes_none t number position first bits = record { sizes = same_sizes t; here = λ lane h. absurd (omega (arith, h)); others = λ p n k hp hn hk apart. refl }
-
-pub lanes_more : {old mid new : Answers} {number position first pattern : ℕ} {bits : List Bool} {bit : Bool} → AreLanesSet old mid number position first (pattern - first) bits → IsSetAt mid new pattern number position bit → bit ≡ bit_at bits (pattern - first)
-    → first ≤ pattern → pattern < length old.rows → number < old.numbers → position < old.positions → AreLanesSet old new number position first (pattern + 1 - first) bits
-lanes_more {old} {mid} {new} {number} {position} {first} {pattern} {bits} {bit} so_far one is order inside hn hk = record {
-  sizes = sizes_later old mid new so_far.sizes one.sizes;
-  here = λ l h. elim (cases_eq (first + l) pattern) [
-    | inl same ↦
-        let lane : l ≡ pattern - first = omega (arith, same) in
-        ap (λ j. answer_bit new j number position) same ∙ (one.here ∙ (is ∙ ap (bit_at bits) (sym lane)))
-    | inr ne ↦
-        one.others (first + l) number position (omega (arith, h, order, inside, so_far.sizes.patterns_are)) (omega (arith, hn, so_far.sizes.numbers_are)) (omega (arith, hk, so_far.sizes.positions_are)) (inl ne)
-        ∙ so_far.here l (omega (arith, h, ne, order))
-  ];
-  others = λ p n k hp hm hj apart.
-      one.others p n k (omega (arith, hp, so_far.sizes.patterns_are)) (omega (arith, hm, so_far.sizes.numbers_are)) (omega (arith, hj, so_far.sizes.positions_are))
-      (elim apart [ inl low ↦ inl (λ e. omega (arith, e, low, order)) | inr rest ↦ inr rest ])
-      ∙ so_far.others p n k hp hm hj apart;
-}
-
-pub number_none : (right : ℕ → ℕ → ℕ → Bool → Type 0) (count : ℕ) (t : Answers) (number first : ℕ) → IsNumberSet right count t t number first 0
-number_none right count t number first = record { sizes = same_sizes t; here = λ lane k hl hk. absurd (omega (arith, hk)); others = λ p n k hp hn hk apart. refl }
-
-pub number_more : {right : ℕ → ℕ → ℕ → Bool → Type 0} {count : ℕ} {old mid new : Answers} {number first position : ℕ} (lanes : ℕ) (bits : List Bool) → IsNumberSet right count old mid number first position → AreLanesSet mid new number position first lanes bits
-    → lanes ≡ count → ((lane : ℕ) → lane < count → right lane number position (bit_at bits lane)) → first + count ≤ length old.rows → number < old.numbers → position < old.positions
-    → IsNumberSet right count old new number first (position + 1)
-number_more {right} {count} {old} {mid} {new} {number} {first} {position} lanes bits so_far one all are inside hn hk = record {
-  sizes = sizes_later old mid new so_far.sizes one.sizes;
-  here = λ lane k hl hj. elim (cases_eq k position) [
-    | inl same ↦ subst (λ j. right lane number j (answer_bit new (first + lane) number j)) (sym same) (subst (right lane number position) (sym (one.here lane (omega (arith, hl, all)))) (are lane hl))
-    | inr ne ↦
-        subst (right lane number k)
-        (sym (one.others (first + lane) number k (omega (arith, hl, inside, so_far.sizes.patterns_are)) (omega (arith, hn, so_far.sizes.numbers_are)) (omega (arith, hj, hk, so_far.sizes.positions_are)) (inr (inr ne))))
-        (so_far.here lane k hl (omega (arith, hj, ne)))
-  ];
-  others = λ p n k hp hm hj apart.
-      one.others p n k (omega (arith, hp, so_far.sizes.patterns_are)) (omega (arith, hm, so_far.sizes.numbers_are)) (omega (arith, hj, so_far.sizes.positions_are))
-      (elim apart [ inl low ↦ inl low | inr ne ↦ inr (inl ne) ])
-      ∙ so_far.others p n k hp hm hj apart;
-}
 
 pub numbers_none : (right : ℕ → ℕ → ℕ → Bool → Type 0) (count : ℕ) (t : Answers) (first : ℕ) → AreNumbersSet right count t t 0 first
 numbers_none right count t first = record { sizes = same_sizes t; here = λ lane n k hl hn hk. absurd (omega (arith, hn)); others = λ p n k low hp hn hk. refl }
@@ -98,11 +54,11 @@ numbers_more {right} {count} {old} {mid} {new} {number} {first} positions so_far
 }
 
 -- what is right of a number at a place is right by what is asked there
-pub number_as : {right : ℕ → ℕ → ℕ → Bool → Type 0} {count : ℕ} {old new : Answers} {place first positions : ℕ} (over : ℕ → ℕ → ℕ → Bool → Type 0) → ((lane k : ℕ) (bit : Bool) → right lane place k bit → over lane place k bit)
+pub number_as : {right : ℕ → ℕ → ℕ → Bool → Type 0} {count : ℕ} {old new : Answers} {place first positions : ℕ} (over : ℕ → ℕ → ℕ → Bool → Type 0) → ((lane k : ℕ) (bit : Bool) → lane < count → k < positions → right lane place k bit → over lane place k bit)
     → IsNumberSet right count old new place first positions → IsNumberSet over count old new place first positions
 number_as {right} {count} {old} {new} {place} {first} {positions} over asked set = record {
   sizes = set.sizes;
-  here = λ lane k hl hk. asked lane k (answer_bit new (first + lane) place k) (set.here lane k hl hk);
+  here = λ lane k hl hk. asked lane k (answer_bit new (first + lane) place k) hl hk (set.here lane k hl hk);
   others = set.others;
 }
 
@@ -159,16 +115,6 @@ module _ (c : Circuit) (patterns vectors : List (List Bool)) (first end : ℕ) (
 
   pub listed_moved : (kept : Kept) (numbers : List ℕ) (lane place k : ℕ) (bit : Bool) → lane < length vectors → IsListedBit kept c vectors numbers lane place k bit → IsListedBit kept c patterns numbers (first + lane) place k bit
   listed_moved kept numbers lane place k bit h right = kept_moved kept lane (get_or numbers place 0) k bit h right
-
--- where all numbers are listed each is at its own place
-pub right_of_all : (kept : Kept) (c : Circuit) (patterns : List (List Bool)) (numbers : List ℕ) (count positions end : ℕ) (t : Answers) → numbers ≡ range_with_len 0 count
-    → AreRightTo (IsListedBit kept c patterns numbers) (length patterns) (length numbers) positions end t → AreRightTo (IsKeptBit kept c patterns) (length patterns) count positions end t
-right_of_all kept c patterns numbers count positions end t all right = record {
-  sizes = record { patterns_are = right.sizes.patterns_are; numbers_are = right.sizes.numbers_are ∙ (ap length all ∙ length-range_with_len 0 count); positions_are = right.sizes.positions_are };
-  each = λ p n k hp hn hk.
-      let at : get_or numbers n 0 ≡ n = ap (λ (ns : List ℕ). get_or ns n 0) all ∙ (get_or-range_with_len 0 count n 0 hn ∙ zero-add n) in
-      subst (λ m. IsKeptBit kept c patterns p m k (answer_bit t p n k)) at (right.each p n k hp (omega (arith, hn, ap length all, length-range_with_len 0 count)) hk);
-}
 
 -- a table whose bits are all right has the circuit's answers
 pub right_all : {c : Circuit} {patterns : List (List Bool)} {t : Answers} (end : ℕ) → IsCircuit c → IsTable t → AreRightTo (IsAnswerBit c patterns) (length patterns) (fault_count c) (length c.positions) end t → length patterns ≤ end → AreAnswers c patterns t

@@ -1,12 +1,12 @@
 -- Classes of numbers, and the entries of full-response dictionaries: two numbers are of one class exactly where their entries are equal.
-use Rattle.std.proofs.Common.{◌≡◌, ◌∙◌, ◌↔◌, ℕ, zero, suc, ◌*◌, ◌<◌, Bool, List, [], ◌∷◌, ◌++◌, length, get_or, map, take, fold, refl, sym, ap, subst, arith}
+use Rattle.std.proofs.Common.{◌≡◌, ◌∙◌, ◌↔◌, ℕ, zero, suc, ◌*◌, ◌<◌, ◌≤◌, Bool, List, [], ◌∷◌, ◌++◌, length, get_or, map, take, fold, refl, sym, ap, subst, arith}
 use Rattle.std.specs.Prelude.{flat_map, All}
 use Rattle.std.specs.List.{range_with_len}
 use Rattle.std.proofs.Math.Nat.{zero-mul}
 use Rattle.std.proofs.lemmas.List.{ext_get_or, get_or-map, length-map, get_or-replicate, length-replicate, length-append, append_cancel_left}
 use Rattle.std.proofs.Math.Seq.{take-append_seam}
 use Rattle.std.proofs.lemmas.List.Concat.{flat_map-cons}
-use Rattle.std.proofs.lemmas.List.Elements.{All-head, All-tail}
+use Rattle.std.proofs.lemmas.List.Elements.{All-head, All-tail, Contains-get_or}
 use Rattle.std.proofs.lemmas.List.FromFn.{length-map-range_with_len, get_or-map-range_with_len}
 use Rattle.net_model.specs.Circuit.{Circuit, IsCircuit}
 use Rattle.net_model.specs.FaultList.{fault_count}
@@ -24,8 +24,10 @@ use Rattle.table_dicts.specs.Entries.{answers_of, full_entry}
 use Rattle.table_dicts.specs.Blocks.{IsListedBit, AreRightTo}
 use Rattle.table_dicts.specs.declared.simulating.Kept.TheVariants.{Bits}
 use Rattle.table_dicts.specs.ByClass.{AreRowsOfClasses}
+use Rattle.table_dicts.specs.Grouped.{AreFirstsOf}
 use Rattle.table_dicts.proofs.EntryLemmas.{length-answers, answer_at as answer_of_at, answers_are}
 use Rattle.table_dicts.proofs.FailLemmas.{patterns_are, is_table, answer_is}
+use Rattle.table_dicts.proofs.GroupLemmas.{few_firsts}
 
 -- ---- classes and answers
 
@@ -57,7 +59,8 @@ module _ (m n : ℕ) where
       let now = class-refined t row m hm ∙ (after_same t row m n hm hn same (alike 0 (omega arith)) ∙ sym (class-refined t row n hn)) in
       together_since rows (refined_table t row) (omega (arith, hm, long)) (omega (arith, hn, long)) now (λ p h. alike (suc p) (omega (arith, h)))
 
-together_where_alike : (numbers m n : ℕ) (rows : List (List (List Bool))) → m < numbers → n < numbers → (class_at (class_table numbers rows) m ≡ class_at (class_table numbers rows) n) ↔ AreAlike rows m n
+-- two numbers are of one class exactly where they answer alike in each row
+pub together_where_alike : (numbers m n : ℕ) (rows : List (List (List Bool))) → m < numbers → n < numbers → (class_at (class_table numbers rows) m ≡ class_at (class_table numbers rows) n) ↔ AreAlike rows m n
 together_where_alike numbers m n rows hm hn =
     let long = length-replicate {A = ℕ} numbers 0 in
     let im : m < length (first_table numbers).class_of = omega (arith, hm, long) in
@@ -106,6 +109,13 @@ module _ (t : Answers) (is : IsTable t) where
       ap length (entry_of_answers t.rows n)
       ∙ (length-parts t.positions (answers_of t.rows n) (answers_are t is n h).width_is ∙ ap (λ k. k * t.positions) (length-answers t n))
 
+  -- equal entries are those of equal answers
+  pub same_answers : (m n : ℕ) → m < t.numbers → n < t.numbers → full_entry t.rows m ≡ full_entry t.rows n → answers_of t.rows m ≡ answers_of t.rows n
+  same_answers m n hm hn same =
+      let one = answers_are t is m hm in
+      let two = answers_are t is n hn in
+      same_parts t.positions (answers_of t.rows m) (answers_of t.rows n) (one.count_is ∙ sym two.count_is) one.width_is two.width_is (sym (entry_of_answers t.rows m) ∙ (same ∙ entry_of_answers t.rows n))
+
   alike_entries : (m n : ℕ) → m < t.numbers → n < t.numbers → AreAlike t.rows m n ↔ (full_entry t.rows m ≡ full_entry t.rows n)
   alike_entries m n hm hn =
       let one = answers_are t is m hm in
@@ -114,9 +124,7 @@ module _ (t : Answers) (is : IsTable t) where
             (ext_get_or [] (answers_of t.rows m) (answers_of t.rows n) (one.count_is ∙ sym two.count_is) (λ p h.
             let inside : p < length t.rows = omega (arith, h, one.count_is) in
             answer_of_at t p m inside ∙ (alike p inside ∙ sym (answer_of_at t p n inside)))) ∙ sym (entry_of_answers t.rows n)),
-        λ same p h.
-            let all = same_parts t.positions (answers_of t.rows m) (answers_of t.rows n) (one.count_is ∙ sym two.count_is) one.width_is two.width_is (sym (entry_of_answers t.rows m) ∙ (same ∙ entry_of_answers t.rows n)) in
-            sym (answer_of_at t p m h) ∙ (ap (λ (answers : List (List Bool)). row_at answers p) all ∙ answer_of_at t p n h),
+        λ same p h. sym (answer_of_at t p m h) ∙ (ap (λ (answers : List (List Bool)). row_at answers p) (same_answers m n hm hn same) ∙ answer_of_at t p n h),
       )
 
 -- the entries of all numbers
@@ -185,3 +193,32 @@ module _ (c : Circuit) (is : IsCircuit c) (patterns : List (List Bool)) (t : Ans
         ∙ (get_or-map-range_with_len (full_entry listed.rows) 0 listed.numbers place place [] (omega (arith, h_in, right.sizes.numbers_are)) (omega arith)
         ∙ (entry_listed place h_in
         ∙ (sym (entry_at (get_or numbers place 0) (omega (arith, inside place 0 h_in, are.numbers))) ∙ sym (get_or-map (λ n. row_at (entries_of t) n) numbers place 0 [] h_in)))))
+
+-- ---- groups of the numbers of a circuit by their classes
+
+module _ (c : Circuit) (is : IsCircuit c) (patterns : List (List Bool)) (classes : ClassTable) (of : IsTableOf c patterns classes) (numbers : ℕ) (all : numbers ≡ fault_count c) (groups firsts : List ℕ)
+    (sorted : (rows : List (List Bool)) → AreRowsOfClasses classes rows → AreFirstsOf rows numbers groups firsts) where
+  -- the groups are those of equal entries
+  pub firsts_by : (t : Answers) → AreAnswers c patterns t → AreFirstsOf (entries_of t) (length (entries_of t)) groups firsts
+  firsts_by t are =
+      let long : numbers ≡ length (entries_of t) = all ∙ (sym are.numbers ∙ sym (entries_are c is patterns t are).count_is) in
+      subst (λ n. AreFirstsOf (entries_of t) n groups firsts) long (sorted (entries_of t) (entries_of_classes c is patterns t are classes of))
+
+  -- the answers of which the classes are those
+  abbrev own : Answers
+  own = record { numbers = fault_count c; positions = length c.positions; rows = of.rows }
+
+  own_are : AreAnswers c patterns own
+  own_are = record { numbers = refl; positions = refl; rows = of.answers }
+
+  own_count : length (entries_of own) ≡ fault_count c
+  own_count = (entries_are c is patterns own own_are).count_is
+
+  pub lowest_inside : All (λ number. number < fault_count c) firsts
+  lowest_inside = subst (λ n. All (λ number. number < n) firsts) own_count (firsts_by own own_are).inside
+
+  pub lowest_few : length firsts ≤ numbers
+  lowest_few = omega (arith, few_firsts (firsts_by own own_are), own_count, all)
+
+  pub lowest_known : (n : ℕ) → n < length groups → get_or groups n 0 < length firsts
+  lowest_known n h = ((firsts_by own own_are).used (get_or groups n 0)).0 (Contains-get_or groups n 0 h)

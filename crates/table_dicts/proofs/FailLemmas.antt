@@ -17,7 +17,8 @@ use Rattle.kept_vectors.proofs.AnswerLemmas.{answer_width, answer_in_row}
 use Rattle.kept_vectors.proofs.KeepLemmas.{some_number}
 use Rattle.table_dicts.specs.AnswerTable.{Answers, answer_in, answer_to, answer_bit, IsTable, AreAnswers}
 use Rattle.table_dicts.specs.Entries.{answers_of, full_entry, free_baselines, pass_fail_entry}
-use Rattle.table_dicts.specs.Blocks.{IsAnswerBit, IsFailBit, AreRightTo}
+use Rattle.table_dicts.specs.Blocks.{IsListedBit, AreRightTo}
+use Rattle.table_dicts.specs.declared.simulating.Kept.TheVariants.{Bits, Fails}
 use Rattle.table_dicts.proofs.EntryLemmas.{length-answers, answer_at, answers_are, length-entry, entry_bit}
 
 -- ---- entries of one bit for each pattern
@@ -67,7 +68,7 @@ module _ (c : Circuit) (patterns : List (List Bool)) (t : Answers) (are : AreAns
     positions = λ p n hp hn. answer_width (answer_is p n (omega (arith, hp, patterns_are)) (omega (arith, hn, are.numbers))) ∙ sym are.positions;
   }
 
-  module _ (free : Answers) (is : IsTable free) (right : AreRightTo (IsAnswerBit c patterns) (length patterns) 1 (length c.positions) (length patterns) free) where
+  module _ (free : Answers) (is : IsTable free) (right : AreRightTo (IsListedBit Bits c patterns (0 ∷ [])) (length patterns) 1 (length c.positions) (length patterns) free) where
     -- right answers of number 0 are the fault-free baselines
     pub baselines_are : answers_of free.rows 0 ≡ free_baselines t.rows
     baselines_are =
@@ -80,18 +81,20 @@ module _ (c : Circuit) (patterns : List (List Bool)) (t : Answers) (are : AreAns
         ∙ (same_bits_same_list (answer_to free p 0) (answer_to t p 0) (long ∙ sym (answer_width of)) (λ k hk. right.each p 0 k inside (omega arith) (omega (arith, hk, long)) (answer_to t p 0) of)
         ∙ sym (answer_at t p 0 (omega (arith, inside, patterns_are)))))
 
-  module _ (bits : Answers) (is : IsTable bits) (right : AreRightTo (IsFailBit c patterns) (length patterns) (fault_count c) 1 (length patterns) bits) where
-    -- right bits are the pass/fail entries
-    pub fails_are : (number : ℕ) → number < fault_count c → full_entry bits.rows number ≡ pass_fail_entry t.rows number
-    fails_are number h =
+  -- right bits of listed numbers are the pass/fail entries of these numbers
+  module _ (numbers : List ℕ) (within : All (λ number. number < fault_count c) numbers) (bits : Answers) (is : IsTable bits)
+      (right : AreRightTo (IsListedBit Fails c patterns numbers) (length patterns) (length numbers) 1 (length patterns) bits) where
+    pub fails_are : (place : ℕ) → place < length numbers → full_entry bits.rows place ≡ pass_fail_entry t.rows (get_or numbers place 0)
+    fails_are place h =
         let sizes = right.sizes in
-        let own : number < bits.numbers = omega (arith, h, sizes.numbers_are) in
+        let number = get_or numbers place 0 in
+        let own : place < bits.numbers = omega (arith, h, sizes.numbers_are) in
         let zero_in : 0 < t.numbers = omega (arith, some_number c, are.numbers) in
         let baselines = answers_are t is_table 0 zero_in in
-        let long = length-entry_is bits is sizes.positions_are number own in
-        same_bits_same_list (full_entry bits.rows number) (pass_fail_entry t.rows number) (long ∙ (sizes.patterns_are ∙ (sym patterns_are ∙ sym (length-entry t (free_baselines t.rows) baselines number)))) (λ p hp.
+        let long = length-entry_is bits is sizes.positions_are place own in
+        same_bits_same_list (full_entry bits.rows place) (pass_fail_entry t.rows number) (long ∙ (sizes.patterns_are ∙ (sym patterns_are ∙ sym (length-entry t (free_baselines t.rows) baselines number)))) (λ p hp.
         let inside : p < length patterns = omega (arith, hp, long, sizes.patterns_are) in
         let in_table : p < length t.rows = omega (arith, inside, patterns_are) in
-        entry_bit_is bits is sizes.positions_are number own p (omega (arith, hp, long))
-        ∙ (right.each p number 0 inside h (omega arith) (answer_to t p number) (answer_to t p 0) (answer_is p number inside h) (free_is p inside)
+        entry_bit_is bits is sizes.positions_are place own p (omega (arith, hp, long))
+        ∙ (right.each p place 0 inside h (omega arith) (answer_to t p number) (answer_to t p 0) (answer_is p number inside (within place 0 h)) (free_is p inside)
         ∙ (ap (λ (b : List Bool). not (same_bits (answer_to t p number) b)) (sym (answer_at t p 0 in_table)) ∙ entry_bit t (free_baselines t.rows) baselines p number in_table)))

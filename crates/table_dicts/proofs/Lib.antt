@@ -7,3 +7,8 @@ pub mod BlockLemmas
 pub mod FailLemmas
 pub mod ClassLemmas
 pub mod ClassGroupLemmas
+pub mod RegroupLemmas
+pub mod RootLemmas
+pub mod OneTable
+pub mod ClassFailLemmas
+pub mod BlockWordLemmas

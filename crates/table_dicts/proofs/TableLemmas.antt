@@ -1,19 +1,19 @@
 -- What the fields of a table show.
 use Rattle.std.proofs.Common.{◌≡◌, ◌∙◌, ℕ, zero, suc, ◌+◌, ◌*◌, ◌/◌, ◌<◌, Bool, false, List, [], ◌∷◌, ◌++◌, length, get_or, map, take, drop, refl, sym, ap, subst, arith, add-one, inl, inr}
-use Rattle.std.specs.Prelude.{flat_map}
+use Rattle.std.specs.Prelude.{flat_map, All}
 use Rattle.std.specs.List.{range_with_len}
 use Rattle.std.proofs.Math.Seq.{take-add}
 use Rattle.std.proofs.Math.Nat.{zero-mul, mul_comm}
 use Rattle.std.proofs.lemmas.Bool.{cases_lt, cases_eq}
 use Rattle.std.proofs.lemmas.Nat.{mul-le, mul-add-lt, div-mul-add}
-use Rattle.std.proofs.lemmas.List.{get_or-map, get_or-take, get_or-drop, length-map, length-drop, length-take-le, take_all, append-nil, get_or_past}
+use Rattle.std.proofs.lemmas.List.{get_or-map, get_or-take, get_or-drop, length-map, length-drop, length-take-le, take_all, append-nil, get_or_past, get_or_default}
 use Rattle.std.proofs.lemmas.List.Concat.{flat_map-append}
 use Rattle.std.proofs.lemmas.List.FromFn.{length-map-range_with_len, get_or-map-range_with_len, map-range_with_len_more, fill_by_all}
 use Rattle.net_model.specs.Answer.{bit_at}
 use Rattle.table_dicts.specs.declared.answer_table.AnswerTable.TheInside.{Inside}
 use Rattle.net_model.specs.Rows.{row_at, row_bit}
 use Rattle.table_dicts.specs.Rows.{IsBitSet}
-use Rattle.table_dicts.specs.AnswerTable.{answer_in, answer_to, answer_bit, IsTable, IsSetAt}
+use Rattle.table_dicts.specs.AnswerTable.{answer_in, answer_to, answer_bit, IsTable, IsSetAt, ArePicked}
 use Rattle.table_dicts.specs.AnswerTableFields.{answer_part, table_of, AreCells}
 use Rattle.table_dicts.specs.Entries.{full_entry}
 use Rattle.table_dicts.proofs.RowLemmas.{rows_later, width_at}
@@ -119,4 +119,32 @@ module _ (a : Inside) (are : AreCells a) (new : List (List Bool)) (pattern numbe
               elim apart [ inl np ↦ np at.0 | inr rest ↦ elim rest [ inl nn ↦ nn same | inr nk ↦ nk at.1 ] ]))
         ]
         ∙ sym (bit_is a are p n k ip ln lk));
+  }
+
+-- ---- the answers of some numbers
+
+module _ (a : Inside) (are : AreCells a) (numbers : List ℕ) (within : All (λ number. number < a.numbers) numbers) (cells : List (List Bool)) (is : cells ≡ map (row_at a.cells) numbers) where
+  abbrev picked : Inside
+  picked = record { cells = cells; patterns = a.patterns; numbers = length numbers; positions = a.positions }
+
+  picked_long : length cells ≡ length numbers
+  picked_long = ap length is ∙ length-map numbers (row_at a.cells)
+
+  picked_row : (n : ℕ) → n < length numbers → row_at cells n ≡ row_at a.cells (get_or numbers n 0)
+  picked_row n h = ap (λ (rows : List (List Bool)). row_at rows n) is ∙ get_or-map (row_at a.cells) numbers n 0 [] h
+
+  pub cells_picked : AreCells picked
+  cells_picked = record {
+    count_is = picked_long;
+    width_is = λ k d h.
+        let inside : k < length numbers = omega (arith, h, picked_long) in
+        ap length (get_or_default cells k d [] h ∙ picked_row k inside) ∙ width_at are (get_or numbers k 0) (within k 0 inside);
+  }
+
+  pub are_picked : ArePicked (table_of a) numbers (table_of picked)
+  are_picked = record {
+    sizes = record { patterns_are = patterns_are picked cells_picked ∙ sym (patterns_are a are); numbers_are = refl; positions_are = refl };
+    each = λ pattern n hp hn.
+        let inside : pattern < a.patterns = omega (arith, hp, patterns_are a are) in
+        answer_is picked cells_picked pattern n inside hn ∙ (ap (answer_part a.positions pattern) (picked_row n hn) ∙ sym (answer_is a are pattern (get_or numbers n 0) inside (within n 0 hn)));
   }

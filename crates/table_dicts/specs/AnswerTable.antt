@@ -1,5 +1,5 @@
 -- The answers of all fault numbers to all patterns.
-use Rattle.std.specs.Prelude.{◌≡◌, ℕ, ◌<◌, ◌⊎◌, ◌≢◌, Bool, List, [], length, slice_index_or}
+use Rattle.std.specs.Prelude.{◌≡◌, ℕ, ◌<◌, ◌⊎◌, ◌≢◌, Bool, List, [], length, slice_index, slice_index_or}
 use Rattle.net_model.specs.Circuit.{Circuit}
 use Rattle.net_model.specs.Answer.{bit_at}
 use Rattle.net_model.specs.FaultList.{fault_count}
@@ -38,6 +38,11 @@ pub record IsSetAt (old new : Answers) (pattern number position : ℕ) (bit : Bo
   pub sizes : HasSizes new (length old.rows) old.numbers old.positions
   pub here : answer_bit new pattern number position ≡ bit
   pub others : (p n k : ℕ) → p < length old.rows → n < old.numbers → k < old.positions → (p ≢ pattern) ⊎ ((n ≢ number) ⊎ (k ≢ position)) → answer_bit new p n k ≡ answer_bit old p n k
+
+-- The table has the answers of these numbers of another.
+pub record ArePicked (t : Answers) (numbers : List ℕ) (picked : Answers) : Type 0 where
+  pub sizes : HasSizes picked (length t.rows) (length numbers) t.positions
+  pub each : (pattern n : ℕ) → pattern < length t.rows → n < length numbers → answer_to picked pattern n ≡ answer_to t pattern (slice_index numbers n)
 
 -- These are the answers of the circuit's fault numbers to the patterns.
 pub record AreAnswers (c : Circuit) (patterns : List (List Bool)) (t : Answers) : Type 0 where

@@ -47,13 +47,6 @@ abbrev pub kept_width : Kept → ℕ → ℕ
 kept_width Bits positions = positions
 kept_width Fails positions = 1
 
--- The new table has these bits of a number at a position, from the first pattern on, so many, and other numbers, other positions
--- and earlier patterns have theirs as before.
-pub record AreLanesSet (old new : Answers) (number position first count : ℕ) (bits : List Bool) : Type 0 where
-  pub sizes : HasSizes new (length old.rows) old.numbers old.positions
-  pub here : (lane : ℕ) → lane < count → answer_bit new (first + lane) number position ≡ bit_at bits lane
-  pub others : (p n k : ℕ) → p < length old.rows → n < old.numbers → k < old.positions → (p < first) ⊎ ((n ≢ number) ⊎ (k ≢ position)) → answer_bit new p n k ≡ answer_bit old p n k
-
 -- The new table has right bits of a number at the positions below a limit, from the first pattern on, so many, and other numbers and
 -- earlier patterns have theirs as before. Which bits are right is said by place in the block, number and position.
 pub record IsNumberSet (right : ℕ → ℕ → ℕ → Bool → Type 0) (count : ℕ) (old new : Answers) (number first limit : ℕ) : Type 0 where

@@ -4,6 +4,9 @@ pub mod AnswerTableFields
 pub mod Entries
 pub mod Grouped
 pub mod ByClass
+pub mod ByRoot
 pub mod Dictionary
 pub mod Apart
 pub mod Blocks
+pub mod Laws
+pub mod BlockWords

@@ -1,15 +1,19 @@
 //! The answers of all fault numbers to all patterns.
 
-ghost use Rattle.std.specs.Prelude.{◌≡◌, ◌+◌, ◌*◌, ◌<◌, ◌≤◌, ℕ, false, length, map, IfOk};
+ghost use Rattle.std.specs.Prelude.{◌≡◌, ◌+◌, ◌*◌, ◌<◌, ◌≤◌, ◌%◌, ◌^◌, ℕ, false, [], length, slice_index_or, map, All, IfOk};
 ghost use Rattle.std.specs.List.{range_with_len};
-ghost use Rattle.table_dicts.specs.AnswerTable.{HasSizes, IsTable, IsSetAt, answer_bit};
+ghost use Rattle.table_dicts.specs.AnswerTable.{HasSizes, IsTable, IsSetAt, ArePicked, answer_bit};
+ghost use Rattle.net_model.specs.Answer.{bit_at};
+ghost use Rattle.table_dicts.specs.Blocks.{IsNumberSet};
 ghost use Rattle.table_dicts.specs.Entries.{full_entry};
 ghost use Rattle.table_dicts.specs.Rows.{AreRows};
 
-use crate::bits::set_bit;
+use crate::bits::{rows_at, set_bit};
+use crate::block_words::write_words;
 use net_model::AnswerRows;
 use std::alloc::{AllocError, Global};
 use std::marker::Model;
+use word_sim::{LANES, Lanes};
 
 /// A bit for each pattern, fault number and position: what the number answers to the pattern at the position.
 #[derive(Drop)]
@@ -75,6 +79,7 @@ impl AnswerTable {
 
     // The answers of each number, pattern by pattern.
     pub(crate) fn cells(&self) -> &AnswerRows
+        ensures table { IsTable self.now }
         ensures entries { result.now ≡ map (full_entry self.now.rows) (range_with_len 0 self.now.numbers) }
         ensures shape { AreRows self.now.numbers (length self.now.rows * self.now.positions) result.now }
     {
@@ -87,6 +92,21 @@ impl AnswerTable {
         ensures shape { AreRows self.numbers (length self.rows * self.positions) result }
     {
         self.cells
+    }
+
+    /// The table with the answers of these numbers.
+    pub(crate) fn pick(&self, alloc: Global, numbers: &[u32]) -> Result<AnswerTable, AllocError>
+        requires inside { All (λ number. number < self.now.numbers) numbers.now }
+        requires few { length numbers.now < 2 ^ 32 }
+        ensures { IfOk result (ArePicked self.now numbers.now) }
+    {
+        let cells = rows_at(alloc, &self.cells, numbers)?;
+        Ok(AnswerTable {
+            cells,
+            patterns: self.patterns,
+            numbers: numbers.len() as u32,
+            positions: self.positions,
+        })
     }
 
     pub fn get(&self, pattern: u32, number: u32, position: u32) -> bool
@@ -108,6 +128,21 @@ impl AnswerTable {
         let at = place(pattern, self.positions, position);
         set_bit(&mut self.cells, number as usize, at, bit);
     }
+
+    /// Writes what a number answers to so many patterns from the first one on: at each position what its lanes have, one lane
+    /// for each pattern.
+    pub(crate) fn set_block(&mut self, number: u32, first: u32, count: u32, lanes: &[Lanes])
+        requires number { number < self.old.numbers }
+        requires aligned { first % 64 ≡ 0 }
+        requires within { first + count ≤ length self.old.rows }
+        requires few { count ≤ LANES }
+        requires positions { length lanes.now ≡ self.old.positions }
+        ensures { IsNumberSet (λ lane n k bit. bit ≡ bit_at (slice_index_or lanes.now k []) lane) count self.old self.new number first self.old.positions }
+    {
+        let begin = words_before(first, self.positions);
+        let words = width_of(count, self.positions).div_ceil(64);
+        write_words(&mut self.cells, number as usize, begin, words, lanes);
+    }
 }
 
 // How many bits a number has.
@@ -123,4 +158,13 @@ fn place(pattern: u32, positions: u32, position: u32) -> usize
     ensures { result ≡ pattern * positions + position }
 {
     pattern as usize * positions as usize + position as usize
+}
+
+// How many words the answers to the patterns before one are, where they fill words.
+fn words_before(first: u32, positions: u32) -> usize
+    requires { first % 64 ≡ 0 }
+    ensures words { result * 64 ≡ first * positions }
+    ensures few { result ≤ 2 ^ 58 }
+{
+    first as usize / 64 * positions as usize
 }

@@ -1,17 +1,19 @@
 //! The answers of all fault numbers to patterns.
 
 ghost use Rattle.std.specs.Prelude.{◌≡◌, ◌<◌, ◌^◌, length, All, IfOk};
-ghost use Rattle.std.specs.List.{range_with_len};
 ghost use Rattle.net_model.specs.FaultList.{faults as faults_of};
 ghost use Rattle.table_dicts.specs.AnswerTable.{AreAnswers};
 
 use crate::answer_table::AnswerTable;
+use crate::by_root::root_groups;
 use crate::simulating::{Kept, tabulate};
+use fault_collapse::collapse;
 use fault_list::FaultList;
 use net_model::{Circuit, Vectors};
 use std::alloc::{AllocError, Global};
 
-/// The answers of all fault numbers of a circuit to patterns. `faults` is the list of the circuit's faults.
+/// The answers of all fault numbers of a circuit to patterns. `faults` is the list of the circuit's faults. Of the faults
+/// that collapse into one only the lowest is simulated.
 pub fn answers_at(
     alloc: Global,
     circuit: &Circuit,
@@ -23,20 +25,12 @@ pub fn answers_at(
     requires few { length patterns.now < 2 ^ 32 }
     ensures { IfOk result (AreAnswers circuit.now patterns.now) }
 {
-    let all = numbers_below(alloc, faults.len())?;
+    let forest = collapse(alloc, circuit, faults)?;
+    let sorted = root_groups(alloc, forest.roots())?;
     let patterns = patterns.as_slice();
-    let table = tabulate(alloc, circuit, faults, patterns, Kept::Bits, all.as_slice())?;
-    let _ = (circuit.sources(), table.numbers());
+    let lowest = sorted.firsts.as_slice();
+    let listed = tabulate(alloc, circuit, faults, patterns, Kept::Bits, lowest)?;
+    let table = listed.pick(alloc, sorted.groups.as_slice())?;
+    let _ = table.numbers();
     Ok(table)
-}
-
-/// The numbers below a count.
-pub(crate) fn numbers_below(alloc: Global, count: u32) -> Result<Vec<u32>, AllocError>
-    ensures { IfOk result (λ numbers. numbers.items ≡ range_with_len 0 count) }
-{
-    let mut numbers = Vec::with_capacity(alloc, count as usize)?;
-    for number in 0..count {
-        numbers.push(number)?;
-    }
-    Ok(numbers)
 }

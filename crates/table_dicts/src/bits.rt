@@ -24,8 +24,8 @@ pub(crate) fn copy_row(from: &AnswerRows, source: usize, to: &mut AnswerRows, ta
     requires width { length (row_at to.old target) ≡ length (row_at from.now source) }
     ensures { IsRowSet to.old to.new target (row_at from.now source) }
 {
-    for at in 0..from.width() {
-        set_bit(to, target, at, from.get(source, at));
+    for (word, bits) in from.row_words(source).iter().enumerate() {
+        to.set_word(target, word, *bits);
     }
 }
 

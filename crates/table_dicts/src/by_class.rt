@@ -1,10 +1,11 @@
 //! Numbers in groups by their classes.
 
-ghost use Rattle.std.specs.Prelude.{◌≡◌, ◌<◌, ◌==◌, Bool, List, length, slice_index, slice_set, if◌then◌else◌, IfOk};
+ghost use Rattle.std.specs.Prelude.{◌≡◌, ◌<◌, ◌==◌, Bool, List, length, map, slice_index, slice_set, if◌then◌else◌, All, IfOk};
 ghost use Rattle.net_model.specs.ClassTable.{class_count, class_at, representative};
 ghost use Rattle.table_dicts.specs.Grouped.{AreFirstsOf};
 ghost use Rattle.table_dicts.specs.ByClass.{AreRowsOfClasses};
 
+use crate::dict::Groups;
 use crate::grouping::Sorted;
 use class_refine::Classes;
 use std::alloc::{AllocError, Global};
@@ -41,4 +42,16 @@ fn group_of(classes: &Classes, noted: &mut [u32], number: u32, next: u32) -> u32
         noted[class as usize] = next;
     }
     noted[class as usize]
+}
+
+/// Groups of groups: the outer group of each number's inner one.
+pub(crate) fn regroup(alloc: Global, inner: &[u32], outer: &[u32]) -> Result<Groups, AllocError>
+    requires { All (λ group. group < length outer.now) inner.now }
+    ensures { IfOk result (λ groups. groups ≡ map (slice_index outer.now) inner.now) }
+{
+    let mut groups = Groups::new(alloc);
+    for group in inner {
+        groups.push(outer[*group as usize])?;
+    }
+    Ok(groups)
 }

@@ -6,8 +6,7 @@ ghost use Rattle.net_model.specs.PatternRows.{IsTableOf};
 ghost use Rattle.table_dicts.specs.AnswerTable.{Answers, AreAnswers};
 ghost use Rattle.table_dicts.specs.Dictionary.{IsFull, IsPassFail};
 
-use crate::answers::numbers_below;
-use crate::by_class::class_groups;
+use crate::by_class::{class_groups, regroup};
 use crate::dict::{Dict, DictKind};
 use crate::grouping::group_rows;
 use crate::projecting::answers_of;
@@ -50,40 +49,40 @@ pub fn full_at(
     })
 }
 
-/// The pass/fail dictionary of a circuit at patterns. `faults` is the list of the circuit's faults. In memory there are a
-/// bit for each number and pattern, and the fault-free answers.
+/// The pass/fail dictionary of a circuit at patterns. `faults` is the list of the circuit's faults, and `classes` are the
+/// classes of these patterns. Only the lowest number of each class is simulated, so that in memory there are a bit for each
+/// class and pattern, a group for each number, and the fault-free answers.
 pub fn pass_fail_at(
     alloc: Global,
     circuit: &Circuit,
     faults: &FaultList,
     patterns: &Vectors,
+    classes: &Classes,
 ) -> Result<Dict, AllocError>
     requires faults { faults.now ≡ faults_of circuit.now }
     requires widths { All (λ v. length v ≡ circuit.now.sources) patterns.now }
     requires few { length patterns.now < 2 ^ 32 }
+    requires classes { IsTableOf circuit.now patterns.now classes.now }
     ensures { IfOk result (λ dict. (t : Answers) → AreAnswers circuit.now patterns.now t → IsPassFail t dict) }
 {
-    let all = numbers_below(alloc, faults.len())?;
+    let _ = circuit.sources();
+    let numbers = faults.len();
     let patterns = patterns.as_slice();
     let free = tabulate(alloc, circuit, faults, patterns, Kept::Bits, &[0])?;
-    let fails = tabulate(
-        alloc,
-        circuit,
-        faults,
-        patterns,
-        Kept::Fails,
-        all.as_slice(),
-    )?;
-    let numbers = fails.numbers();
     let baselines = answers_of(alloc, &free, 0)?;
+    let sorted = class_groups(alloc, classes, numbers)?;
+    let lowest = sorted.firsts.as_slice();
+    let fails = tabulate(alloc, circuit, faults, patterns, Kept::Fails, lowest)?;
     let grouped = group_rows(alloc, fails.cells())?;
+    let outer = grouped.groups.as_slice();
+    let groups = regroup(alloc, sorted.groups.as_slice(), outer)?;
     Ok(Dict {
         kind: DictKind::PassFail,
         positions: free.positions(),
         patterns: free.patterns(),
         numbers,
         baselines,
-        groups: grouped.groups,
+        groups,
         entries: grouped.entries,
     })
 }

@@ -1,15 +1,17 @@
 //! What fault numbers answer to patterns, by simulation of a block of patterns at once.
 
-ghost use Rattle.std.specs.Prelude.{◌≡◌, ◌+◌, ◌-◌, ◌<◌, ◌≤◌, ◌^◌, length, All, IfOk};
-ghost use Rattle.net_model.specs.FaultList.{faults as faults_of, fault_count};
-ghost use Rattle.table_dicts.specs.Blocks.{HasRun, IsKeptBit, IsListedBit, kept_width, AreLanesSet, IsNumberSet, AreNumbersSet, AreRightTo};
+ghost use Rattle.std.specs.Prelude.{◌≡◌, ◌+◌, ◌%◌, ◌<◌, ◌≤◌, ◌^◌, ℕ, [], length, slice_index_or, All, IfOk};
+ghost use Rattle.net_model.specs.Answer.{bit_at};
+ghost use Rattle.net_model.specs.FaultList.{faults as faults_of, fault_count, fault_numbered};
+ghost use Rattle.fault_sim.specs.FaultSim.{AreDifferences};
+ghost use Rattle.table_dicts.specs.Blocks.{HasRun, IsKeptBit, IsListedBit, kept_width, IsNumberSet, AreNumbersSet, AreRightTo};
 
 use crate::answer_table::AnswerTable;
 use crate::bench::Bench;
 use fault_list::FaultList;
 use net_model::{Circuit, Vector};
 use std::alloc::{AllocError, Global};
-use word_sim::{LANES, Lanes};
+use word_sim::Lanes;
 
 /// What is kept of a number's answer to a pattern: its bits, or whether it differs from the fault-free one.
 #[derive(Clone, Copy)]
@@ -37,17 +39,12 @@ pub(crate) fn tabulate(
     let width = width_of(kept, circuit.positions().len() as u32);
     let mut table = AnswerTable::zeros(alloc, patterns.len() as u32, numbers.len() as u32, width)?;
     let mut bench = Bench::new(alloc, circuit, faults)?;
+    let mut lanes = vec![in alloc; Lanes::all(false); width as usize]?;
     let mut first = 0;
     while first < patterns.len() {
         let end = bench.run(patterns, first);
-        write_block(
-            &mut bench,
-            kept,
-            numbers,
-            first as u32,
-            end as u32,
-            &mut table,
-        );
+        let read = lanes.as_mut_slice();
+        write_block(&mut bench, kept, numbers, first as u32, read, &mut table);
         first = end;
     }
     Ok(table)
@@ -63,13 +60,13 @@ fn width_of(kept: Kept, positions: u32) -> u32
     }
 }
 
-// Writes what is kept of the numbers at the patterns that were run, which are those from the first one on up to the end.
+// Writes what is kept of the numbers at the patterns that were run, which are those from the first one on.
 fn write_block(
     bench: &mut Bench,
     kept: Kept,
     numbers: &[u32],
     first: u32,
-    end: u32,
+    lanes: &mut [Lanes],
     table: &mut AnswerTable,
 )
     requires run { HasRun bench.old }
@@ -77,15 +74,15 @@ fn write_block(
     requires count { length numbers.now < 2 ^ 32 }
     requires rows { table.old.numbers ≡ length numbers.now }
     requires width { table.old.positions ≡ kept_width kept (length bench.old.good.circuit.positions) }
-    requires end { end ≡ first + length bench.old.block.vectors }
-    requires within { end ≤ length table.old.rows }
-    requires few { end ≤ first + LANES }
+    requires lanes { length lanes.old ≡ table.old.positions }
+    requires aligned { first % 64 ≡ 0 }
+    requires within { first + length bench.old.block.vectors ≤ length table.old.rows }
     ensures bench { bench.new ≡ record bench.old { sim = bench.new.sim } }
     ensures run { HasRun bench.new }
     ensures set { AreNumbersSet (IsListedBit kept bench.old.good.circuit bench.old.block.vectors numbers.now) (length bench.old.block.vectors) table.old table.new (length numbers.now) first }
 {
     for (place, number) in numbers.iter().enumerate() {
-        write_number(bench, kept, *number, place as u32, first, end, table);
+        write_number(bench, kept, *number, place as u32, first, lanes, table);
     }
 }
 
@@ -96,44 +93,34 @@ fn write_number(
     number: u32,
     place: u32,
     first: u32,
-    end: u32,
+    lanes: &mut [Lanes],
     table: &mut AnswerTable,
 )
     requires run { HasRun bench.old }
     requires number { number < fault_count bench.old.good.circuit }
     requires place { place < table.old.numbers }
     requires width { table.old.positions ≡ kept_width kept (length bench.old.good.circuit.positions) }
-    requires end { end ≡ first + length bench.old.block.vectors }
-    requires within { end ≤ length table.old.rows }
-    requires few { end ≤ first + LANES }
+    requires lanes { length lanes.old ≡ table.old.positions }
+    requires aligned { first % 64 ≡ 0 }
+    requires within { first + length bench.old.block.vectors ≤ length table.old.rows }
     ensures bench { bench.new ≡ record bench.old { sim = bench.new.sim } }
     ensures run { HasRun bench.new }
     ensures set { IsNumberSet (λ lane at. IsKeptBit kept bench.old.good.circuit bench.old.block.vectors lane number) (length bench.old.block.vectors) table.old table.new place first table.old.positions }
 {
     bench.inject(number);
-    for position in 0..table.positions() {
-        let lanes = bench.lanes(kept, number, position);
-        write_lanes(table, place, position, first, end, lanes);
-    }
+    read_lanes(bench, kept, number, table.positions(), lanes);
+    table.set_block(place, first, bench.block.live(), lanes);
 }
 
-// Writes bits of a number at a position, lane by lane, from the first pattern on up to the end.
-fn write_lanes(
-    table: &mut AnswerTable,
-    number: u32,
-    position: u32,
-    first: u32,
-    end: u32,
-    lanes: Lanes,
-)
-    requires number { number < table.old.numbers }
-    requires position { position < table.old.positions }
-    requires order { first ≤ end }
-    requires within { end ≤ length table.old.rows }
-    requires few { end ≤ first + LANES }
-    ensures { AreLanesSet table.old table.new number position first (end - first) lanes }
+// Reads what is kept of the injected number's answers, at each position a lane for each pattern that was run.
+fn read_lanes(bench: &Bench, kept: Kept, number: u32, positions: u32, lanes: &mut [Lanes])
+    requires run { HasRun bench.now }
+    requires lanes { length lanes.old ≡ positions }
+    requires width { positions ≡ kept_width kept (length bench.now.good.circuit.positions) }
+    requires differ { AreDifferences bench.now.good.circuit (fault_numbered bench.now.good.circuit number) bench.now.block.vectors bench.now.sim.differences }
+    ensures { (position : ℕ) → position < positions → (lane : ℕ) → lane < length bench.now.block.vectors → IsKeptBit kept bench.now.good.circuit bench.now.block.vectors lane number position (bit_at (slice_index_or lanes.new position []) lane) }
 {
-    for pattern in first..end {
-        table.set(pattern, number, position, lanes.get(pattern - first));
+    for position in 0..positions {
+        lanes[position as usize] = bench.lanes(kept, number, position);
     }
 }

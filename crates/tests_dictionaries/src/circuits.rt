@@ -80,7 +80,7 @@ fn check_direct(
 {
     let all = full_at(alloc, circuit, faults, &kept.patterns, &kept.classes)?;
     check_dict(rt, alloc, &all, case.full)?;
-    let fails = pass_fail_at(alloc, circuit, faults, &kept.patterns)?;
+    let fails = pass_fail_at(alloc, circuit, faults, &kept.patterns, &kept.classes)?;
     check_dict(rt, alloc, &fails, case.pass_fail)
 }
 

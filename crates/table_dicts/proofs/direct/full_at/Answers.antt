@@ -5,49 +5,37 @@ use Rattle.kept_vectors.proofs.KeepLemmas.{table_numbers}
 use Rattle.table_dicts.specs.declared.dict.Dict.{Dict}
 use Rattle.table_dicts.specs.declared.dict.DictKind.TheVariants.{Full}
 use Rattle.table_dicts.specs.declared.simulating.Kept.TheVariants.{Bits}
-use Rattle.table_dicts.specs.AnswerTable.{Answers, AreAnswers}
 use Rattle.table_dicts.specs.Entries.{full_entry}
-use Rattle.table_dicts.specs.Grouped.{AreFirstsOf}
 use Rattle.table_dicts.specs.Blocks.{IsListedBit, AreRightTo}
 use Rattle.table_dicts.proofs.EntryLemmas.{dictionary_of, no_rows}
 use Rattle.table_dicts.proofs.FailLemmas.{patterns_are}
-use Rattle.table_dicts.proofs.GroupLemmas.{few_firsts, grouped_by}
-use Rattle.table_dicts.proofs.ClassLemmas.{entries_of, entries_are, entries_of_classes, cells_listed}
+use Rattle.table_dicts.proofs.GroupLemmas.{grouped_by}
+use Rattle.table_dicts.proofs.ClassLemmas.{entries_of, entries_are, cells_listed, firsts_by, lowest_inside, lowest_few}
 use Rattle.table_dicts.proofs.direct.full_at.Goals as goal
 use Rattle.table_dicts.proofs.direct.full_at.Goals.{In_ok-sorted}
 
 pub class_groups-requires : goal.class_groups-requires
 class_groups-requires c = c.len-numbers.ensures.value ∙ (ap length c.requires.faults ∙ sym (table_numbers c.requires.classes))
 
--- the groups, by the answers of which the classes are those
 module _ (c : In_ok-sorted) where
   numbers_are : c.len-numbers.result ≡ fault_count c.args.circuit.now
   numbers_are = c.len-numbers.ensures.value ∙ ap length c.requires.faults
 
-  firsts_by : (t : Answers) → AreAnswers c.args.circuit.now c.args.patterns.now t → AreFirstsOf (entries_of t) c.len-numbers.result c.in_ok-sorted.sorted.groups c.in_ok-sorted.sorted.firsts.items
-  firsts_by t are = c.in_ok-sorted.ensures (entries_of t) (entries_of_classes c.args.circuit.now c.sources.ensures.circuit c.args.patterns.now t are c.args.classes.now c.requires.classes)
+  inside : All (λ number. number < fault_count c.args.circuit.now) c.in_ok-sorted.sorted.firsts.items
+  inside =
+      lowest_inside c.args.circuit.now c.sources.ensures.circuit c.args.patterns.now c.args.classes.now c.requires.classes c.len-numbers.result numbers_are c.in_ok-sorted.sorted.groups c.in_ok-sorted.sorted.firsts.items c.in_ok-sorted.ensures
 
-  abbrev own : Answers
-  own = record { numbers = fault_count c.args.circuit.now; positions = length c.args.circuit.now.positions; rows = c.requires.classes.rows }
-
-  own_are : AreAnswers c.args.circuit.now c.args.patterns.now own
-  own_are = record { numbers = refl; positions = refl; rows = c.requires.classes.answers }
-
-  lowest_inside : All (λ number. number < fault_count c.args.circuit.now) c.in_ok-sorted.sorted.firsts.items
-  lowest_inside = subst (λ n. All (λ number. number < n) c.in_ok-sorted.sorted.firsts.items) (entries_are c.args.circuit.now c.sources.ensures.circuit c.args.patterns.now own own_are).count_is (firsts_by own own_are).inside
-
-  lowest_few : length c.in_ok-sorted.sorted.firsts.items ≤ c.len-numbers.result
-  lowest_few = few_firsts (firsts_by own own_are)
+  few : length c.in_ok-sorted.sorted.firsts.items ≤ c.len-numbers.result
+  few = lowest_few c.args.circuit.now c.sources.ensures.circuit c.args.patterns.now c.args.classes.now c.requires.classes c.len-numbers.result numbers_are c.in_ok-sorted.sorted.groups c.in_ok-sorted.sorted.firsts.items c.in_ok-sorted.ensures
 
 pub tabulate-requires-clause-widths : goal.tabulate-requires-clause-widths
 tabulate-requires-clause-widths c = subst (All (λ v. length v ≡ c.args.circuit.now.sources)) (sym c.as_slice-patterns.ensures) c.requires.widths
 
 pub tabulate-requires-clause-numbers : goal.tabulate-requires-clause-numbers
-tabulate-requires-clause-numbers c = rw c.as_slice-lowest.ensures.value (lowest_inside (goal.at.tabulate-requires-clause-numbers c).In_ok-sorted)
+tabulate-requires-clause-numbers c = rw c.as_slice-lowest.ensures.value (inside (goal.at.tabulate-requires-clause-numbers c).In_ok-sorted)
 
 pub tabulate-requires-clause-count : goal.tabulate-requires-clause-count
-tabulate-requires-clause-count c =
-    omega (arith, ap length c.as_slice-lowest.ensures.value, lowest_few (goal.at.tabulate-requires-clause-count c).In_ok-sorted, c.len-numbers.ensures.few)
+tabulate-requires-clause-count c = omega (arith, ap length c.as_slice-lowest.ensures.value, few (goal.at.tabulate-requires-clause-count c).In_ok-sorted, c.len-numbers.ensures.few)
 
 pub returns : goal.returns
 returns c = λ t are.
@@ -62,11 +50,9 @@ returns c = λ t are.
     let same = c.as_slice-patterns.ensures in
     let right_at = subst (λ (ps : List (List Bool)). AreRightTo (IsListedBit Bits circuit ps lowest) (length ps) (length lowest) (length circuit.positions) (length ps) table) same c.in_ok-table.ensures in
     let right = subst (λ (ns : List ℕ). AreRightTo (IsListedBit Bits circuit patterns ns) (length patterns) (length ns) (length circuit.positions) (length patterns) table) c.as_slice-lowest.ensures.value right_at in
-    let shape = entries_are circuit is patterns t are in
-    let all : c.len-numbers.result ≡ length (entries_of t) = numbers_are at ∙ (sym are.numbers ∙ sym shape.count_is) in
-    let are_firsts = subst (λ n. AreFirstsOf (entries_of t) n groups firsts) all (firsts_by at t are) in
-    let cells = cells_listed circuit is patterns t are firsts (lowest_inside at) table c.positions.ensures.table right c.into_cells.result c.into_cells.ensures.entries in
+    let are_firsts = firsts_by circuit is patterns c.args.classes.now c.requires.classes c.len-numbers.result (numbers_are at) groups firsts c.in_ok-sorted.ensures t are in
+    let cells = cells_listed circuit is patterns t are firsts (inside at) table c.positions.ensures.table right c.into_cells.result c.into_cells.ensures.entries in
     let d : Dict = record { kind = Full; positions = c.positions.result; patterns = c.patterns.result; numbers = c.len-numbers.result; baselines = c.in_ok-zeros.field-0; groups = groups; entries = c.into_cells.result } in
-    dictionary_of d t [] (full_entry t.rows) (entries_of t) refl (grouped_by (entries_of t) groups firsts are_firsts c.into_cells.result cells) shape
+    dictionary_of d t [] (full_entry t.rows) (entries_of t) refl (grouped_by (entries_of t) groups firsts are_firsts c.into_cells.result cells) (entries_are circuit is patterns t are)
     (c.positions.ensures.value ∙ (right.sizes.positions_are ∙ sym are.positions)) (c.patterns.ensures.value ∙ (right.sizes.patterns_are ∙ sym (patterns_are circuit patterns t are)))
     (numbers_are at ∙ sym are.numbers) c.in_ok-zeros.ensures (no_rows t.positions)

@@ -1,4 +1,5 @@
 use Rattle.std.proofs.Common.{◌≡◌, ◌∙◌, ◌<◌, ◌≤◌, ℕ, List, All, length, sym, ap, subst, arith}
+use Rattle.std.proofs.lemmas.List.{with_items_is}
 use Rattle.net_model.specs.Circuit.{Circuit}
 use Rattle.net_model.specs.FaultList.{fault_count}
 use Rattle.table_dicts.specs.declared.bench.Bench.{Bench}
@@ -16,6 +17,8 @@ loop-first-init c =
       bench = c.in_ok-bench.ensures.bench;
       circuit = c.in_ok-bench.ensures.circuit;
       within = omega arith;
+      aligned = λ h. omega arith;
+      places = omega (arith, c.in_ok-lanes.ensures.len, c.in_ok-lanes.lanes.ok.0, c.width_of-width.ensures, ap (λ (ps : List ℕ). kept_width c.args.kept (length ps)) c.positions.ensures.value);
       right = right_none (IsListedBit c.args.kept circuit patterns numbers) (length patterns) (length numbers) (kept_width c.args.kept (length circuit.positions)) c.in_ok-table.table
           (record { patterns_are = sizes.patterns_are; numbers_are = sizes.numbers_are; positions_are = sizes.positions_are ∙ (c.width_of-width.ensures ∙ ap (λ (ps : List ℕ). kept_width c.args.kept (length ps)) c.positions.ensures.value) });
     }
@@ -34,17 +37,17 @@ pub write_block-requires-clause-width : goal.write_block-requires-clause-width
 write_block-requires-clause-width c =
     c.loop-first.invariant.right.sizes.positions_are ∙ sym (ap (λ (k : Circuit). kept_width c.args.kept (length k.positions)) (c.run-end.ensures.circuit ∙ c.loop-first.invariant.circuit))
 
-pub write_block-requires-clause-end : goal.write_block-requires-clause-end
-write_block-requires-clause-end c =
-    let order : c.loop-first.first ≤ c.run-end.result = omega (arith, c.run-end.ensures.end) in
-    let within : c.run-end.result ≤ length c.args.patterns.now = omega (arith, c.run-end.ensures.end) in
-    omega (arith, ap length c.run-end.ensures.vectors, block_length c.args.patterns.now c.loop-first.first c.run-end.result order within, order)
+pub write_block-requires-clause-lanes : goal.write_block-requires-clause-lanes
+write_block-requires-clause-lanes c = omega (arith, ap length c.as_mut_slice-read.ensures.value, c.loop-first.invariant.places, c.loop-first.invariant.right.sizes.positions_are)
+
+pub write_block-requires-clause-aligned : goal.write_block-requires-clause-aligned
+write_block-requires-clause-aligned c = c.loop-first.invariant.aligned c.loop-first-test.true
 
 pub write_block-requires-clause-within : goal.write_block-requires-clause-within
-write_block-requires-clause-within c = omega (arith, c.run-end.ensures.end, c.loop-first.invariant.right.sizes.patterns_are)
-
-pub write_block-requires-clause-few : goal.write_block-requires-clause-few
-write_block-requires-clause-few c = omega (arith, c.run-end.ensures.end)
+write_block-requires-clause-within c =
+    let order : c.loop-first.first ≤ c.run-end.result = omega (arith, c.run-end.ensures.end) in
+    let within : c.run-end.result ≤ length c.args.patterns.now = omega (arith, c.run-end.ensures.end) in
+    omega (arith, ap length c.run-end.ensures.vectors, block_length c.args.patterns.now c.loop-first.first c.run-end.result order within, order, within, c.loop-first.invariant.right.sizes.patterns_are)
 
 pub loop-first-preserved : goal.loop-first-preserved
 loop-first-preserved c =
@@ -59,11 +62,14 @@ loop-first-preserved c =
     let within : end ≤ length patterns = omega (arith, c.run-end.ensures.end) in
     let circuit : bench.good.circuit ≡ c.args.circuit.now = c.run-end.ensures.circuit ∙ so_far.circuit in
     let vectors = bench.block.vectors in
+    let held = with_items_is c.loop-first.lanes c.write_block.new.lanes (omega (arith, c.write_block.auto.lanes, c.as_mut_slice-read.ensures.len)) in
     let set = subst (λ (k : Circuit). AreNumbersSet (IsListedBit kept k vectors numbers) (length vectors) c.loop-first.table c.write_block.new.table (length numbers) first) circuit c.write_block.ensures.set in
     record {
       bench = c.write_block.ensures.run.bench;
       circuit = ap (λ (b : Bench). b.good.circuit) c.write_block.ensures.bench ∙ circuit;
       within = within;
+      aligned = λ h. omega (arith, h, c.run-end.ensures.end, so_far.aligned c.loop-first-test.true);
+      places = ap length held ∙ (omega (arith, c.write_block.auto.lanes, ap length c.as_mut_slice-read.ensures.value, so_far.places));
       right = right_more end so_far.right set (listed_moved c.args.circuit.now patterns vectors first end c.run-end.ensures.vectors order within kept numbers)
           (block_end c.args.circuit.now patterns vectors first end c.run-end.ensures.vectors order within) within;
     }

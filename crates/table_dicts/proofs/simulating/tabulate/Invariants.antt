@@ -1,4 +1,4 @@
-use Rattle.std.proofs.Common.{◌≤◌, ◌-◌, ◌≡◌, length}
+use Rattle.std.proofs.Common.{◌<◌, ◌≤◌, ◌-◌, ◌%◌, ◌≡◌, length}
 use Rattle.table_dicts.specs.Blocks.{IsBench, IsListedBit, kept_width, AreRightTo}
 use Rattle.table_dicts.proofs.simulating.tabulate.Given as goal
 
@@ -7,6 +7,8 @@ invariant-loop-first l = record {
   bench : IsBench l.bench.good.circuit l.bench;
   circuit : l.bench.good.circuit ≡ l.circuit;
   within : l.first ≤ length l.patterns;
+  aligned : l.first < length l.patterns → l.first % 64 ≡ 0;
+  places : length l.lanes.items ≡ kept_width l.kept (length l.circuit.positions);
   right : AreRightTo (IsListedBit l.kept l.circuit l.patterns l.numbers) (length l.patterns) (length l.numbers) (kept_width l.kept (length l.circuit.positions)) l.first l.table;
 }
 

@@ -21,11 +21,11 @@ write_number-requires-clause-place c = omega (arith, c.requires.rows, c.loop-pla
 pub write_number-requires-clause-width : goal.write_number-requires-clause-width
 write_number-requires-clause-width c = c.loop-place.invariant.set.sizes.positions_are ∙ (c.requires.width ∙ sym (ap (λ (b : Bench). kept_width c.args.kept (length b.good.circuit.positions)) c.loop-place.invariant.bench))
 
-pub write_number-requires-clause-end : goal.write_number-requires-clause-end
-write_number-requires-clause-end c = omega (arith, c.requires.end, ap (λ (b : Bench). length b.block.vectors) c.loop-place.invariant.bench)
+pub write_number-requires-clause-lanes : goal.write_number-requires-clause-lanes
+write_number-requires-clause-lanes c = omega (arith, c.requires.lanes, c.loop-place.auto.lanes, c.loop-place.invariant.set.sizes.positions_are)
 
 pub write_number-requires-clause-within : goal.write_number-requires-clause-within
-write_number-requires-clause-within c = omega (arith, c.requires.within, c.loop-place.invariant.set.sizes.patterns_are)
+write_number-requires-clause-within c = omega (arith, c.requires.within, ap (λ (b : Bench). length b.block.vectors) c.loop-place.invariant.bench, c.loop-place.invariant.set.sizes.patterns_are)
 
 pub loop-place-preserved : goal.loop-place-preserved
 loop-place-preserved c =
@@ -36,11 +36,11 @@ loop-place-preserved c =
     let number = get_or c.args.numbers.now place 0 in
     let vectors = bench.block.vectors in
     let Set : Bench → Type 0 = λ b. IsNumberSet (λ lane at. IsKeptBit c.args.kept b.good.circuit b.block.vectors lane number) (length b.block.vectors) c.loop-place.table c.write_number.new.table place c.args.first c.loop-place.table.positions in
-    let one = number_as (IsListedBit c.args.kept bench.good.circuit vectors c.args.numbers.now) (λ lane k bit right. right) (subst Set so_far.bench c.write_number.ensures.set) in
+    let one = number_as (IsListedBit c.args.kept bench.good.circuit vectors c.args.numbers.now) (λ lane k bit hl hk right. right) (subst Set so_far.bench c.write_number.ensures.set) in
     record {
       bench = c.write_number.ensures.bench ∙ ap (λ (b : Bench). let made : Bench = record b { sim = new.sim } in made) so_far.bench;
       run = c.write_number.ensures.run;
-      set = numbers_more c.loop-place.table.positions so_far.set one so_far.set.sizes.positions_are (omega (arith, c.requires.end, c.requires.within)) (omega (arith, c.requires.rows));
+      set = numbers_more c.loop-place.table.positions so_far.set one so_far.set.sizes.positions_are c.requires.within (omega (arith, c.requires.rows));
     }
 
 pub returns-clause-set : goal.returns-clause-set

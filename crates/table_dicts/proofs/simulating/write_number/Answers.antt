@@ -1,42 +1,30 @@
-use Rattle.std.proofs.Common.{◌≡◌, ◌-◌, ◌<◌, ℕ, length, ap, subst, arith}
+use Rattle.std.proofs.Common.{◌≡◌, ◌∙◌, [], length, get_or, sym, ap, subst, arith}
 use Rattle.net_model.specs.Answer.{bit_at}
 use Rattle.table_dicts.specs.declared.bench.Bench.{Bench}
 use Rattle.table_dicts.specs.Blocks.{IsKeptBit, kept_width, IsNumberSet}
-use Rattle.table_dicts.proofs.BlockLemmas.{number_none, number_more}
+use Rattle.table_dicts.proofs.BlockLemmas.{number_as}
 use Rattle.table_dicts.proofs.simulating.write_number.Goals as goal
 
-pub loop-position-init : goal.loop-position-init
-loop-position-init c =
-    let bench = c.args.bench.now in
-    number_none (λ lane at. IsKeptBit c.args.kept bench.good.circuit bench.block.vectors lane c.args.number) (length bench.block.vectors) c.args.table.now c.args.place c.args.first
+pub read_lanes-requires-clause-width : goal.read_lanes-requires-clause-width
+read_lanes-requires-clause-width c = c.positions.ensures.value ∙ (c.requires.width ∙ sym (ap (λ (b : Bench). kept_width c.args.kept (length b.good.circuit.positions)) c.inject.ensures.kept))
 
-pub lanes-lanes-requires-clause-position : goal.lanes-lanes-requires-clause-position
-lanes-lanes-requires-clause-position c =
-    omega (arith, c.requires.width, c.positions-position-end.ensures.value, ap (λ (b : Bench). kept_width c.args.kept (length b.good.circuit.positions)) c.inject.ensures.kept)
+pub set_block-requires-clause-within : goal.set_block-requires-clause-within
+set_block-requires-clause-within c = omega (arith, c.requires.within, c.live.ensures.value, ap (λ (b : Bench). length b.block.vectors) c.inject.ensures.kept)
 
-pub write_lanes-requires-clause-number : goal.write_lanes-requires-clause-number
-write_lanes-requires-clause-number c = omega (arith, c.requires.place, c.loop-position.invariant.sizes.numbers_are)
-
-pub write_lanes-requires-clause-position : goal.write_lanes-requires-clause-position
-write_lanes-requires-clause-position c = omega (arith, c.positions-position-end.ensures.value, c.loop-position.invariant.sizes.positions_are)
-
-pub write_lanes-requires-clause-order : goal.write_lanes-requires-clause-order
-write_lanes-requires-clause-order c = omega (arith, c.requires.end)
-
-pub write_lanes-requires-clause-within : goal.write_lanes-requires-clause-within
-write_lanes-requires-clause-within c = omega (arith, c.requires.within, c.loop-position.invariant.sizes.patterns_are)
-
-pub loop-position-preserved : goal.loop-position-preserved
-loop-position-preserved c =
-    let number = c.args.number in
-    let position = c.loop-position.position in
-    let lanes = c.lanes-lanes.result in
-    let Shown : Bench → Type 0 = λ b. (lane : ℕ) → lane < length b.block.vectors → IsKeptBit c.args.kept b.good.circuit b.block.vectors lane number position (bit_at lanes lane) in
-    number_more (c.args.end - c.args.first) lanes c.loop-position.invariant c.write_lanes.ensures (omega (arith, c.requires.end)) (subst Shown c.inject.ensures.kept c.lanes-lanes.ensures)
-    (omega (arith, c.requires.end, c.requires.within)) c.requires.place (omega (arith, c.positions-position-end.ensures.value))
+pub set_block-requires-clause-few : goal.set_block-requires-clause-few
+set_block-requires-clause-few c = omega (arith, c.live.ensures.value, c.inject.ensures.run.few)
 
 pub returns-clause-set : goal.returns-clause-set
 returns-clause-set c =
-    let bench = c.args.bench.now in
-    let all : c.loop-position.position ≡ c.args.table.now.positions = omega (arith, c.positions-position-end.ensures.value) in
-    subst (IsNumberSet (λ lane at. IsKeptBit c.args.kept bench.good.circuit bench.block.vectors lane c.args.number) (length bench.block.vectors) c.args.table.now c.loop-position.table c.args.place c.args.first) all c.loop-position.invariant
+    let lanes = c.read_lanes.new.lanes in
+    let kept = c.args.kept in
+    let number = c.args.number in
+    let bench = c.inject.new.self in
+    let vectors = bench.block.vectors in
+    let old = c.args.table.now in
+    let new = c.set_block.new.self in
+    let made = subst (λ n. IsNumberSet (λ lane n k bit. bit ≡ bit_at (get_or lanes k []) lane) n old new c.args.place c.args.first old.positions) c.live.ensures.value c.set_block.ensures in
+    let Kept : Bench → Type 0 = λ b. IsNumberSet (λ lane at. IsKeptBit kept b.good.circuit b.block.vectors lane number) (length b.block.vectors) old new c.args.place c.args.first old.positions in
+    subst Kept c.inject.ensures.kept
+    (number_as (λ lane at. IsKeptBit kept bench.good.circuit vectors lane number)
+    (λ lane k bit hl hk e. subst (IsKeptBit kept bench.good.circuit vectors lane number k) (sym e) (c.read_lanes.ensures k (omega (arith, hk, c.positions.ensures.value)) lane hl)) made)

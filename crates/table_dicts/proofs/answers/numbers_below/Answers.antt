@@ -1,6 +1,0 @@
-use Rattle.std.proofs.Common.{◌∙◌, ◌++◌, ◌∷◌, [], sym, ap}
-use Rattle.class_refine.proofs.Ranges.{range_more}
-use Rattle.table_dicts.proofs.answers.numbers_below.Goals as goal
-
-pub loop-number-preserved : goal.loop-number-preserved
-loop-number-preserved c = c.in_ok-push.ensures.items ∙ (ap (λ xs. xs ++ c.loop-number.number ∷ []) c.loop-number.invariant ∙ sym (range_more c.loop-number.number))

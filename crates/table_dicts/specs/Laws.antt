@@ -1,0 +1,8 @@
+-- Laws of tables.
+use Rattle.std.specs.Prelude.{◌≡◌, Bool, List}
+use Rattle.net_model.specs.Circuit.{Circuit, IsCircuit}
+use Rattle.table_dicts.specs.AnswerTable.{Answers, AreAnswers}
+
+-- there is one table of a circuit's answers to patterns, and no other
+abbrev pub HaveOneTable : Type 0
+HaveOneTable = (c : Circuit) (patterns : List (List Bool)) → IsCircuit c → (t : Answers) × AreAnswers c patterns t × ((other : Answers) → AreAnswers c patterns other → other ≡ t)
