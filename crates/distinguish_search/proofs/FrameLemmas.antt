@@ -1,18 +1,20 @@
 -- Splits that are under way: one more, and one less.
-use Rattle.std.proofs.Common.{◌≡◌, ℕ, suc, ◌+◌, ◌-◌, ◌^◌, ◌<◌, List, [], ◌∷◌, ◌++◌, length, get_or, take, drop, refl, sym, ◌∙◌, ap, subst, arith}
-use Rattle.std.specs.Prelude.{Bool, true, false, not, Option, None, Some, reverse, slice_set, cond, unwrap_or, if◌then◌else◌}
+use Rattle.std.proofs.Common.{◌≡◌, ◌≢◌, ℕ, suc, inl, inr, eq-eqb, ◌+◌, ◌-◌, ◌^◌, ◌<◌, List, [], ◌∷◌, ◌++◌, length, get_or, take, drop, refl, sym, ◌∙◌, ap, subst, arith}
+use Rattle.std.specs.Prelude.{Bool, true, false, not, Option, None, Some, find, option_map, ◌==◌, replicate, reverse, slice_set, cond, unwrap_or, if◌then◌else◌}
 use Rattle.std.proofs.Math.Nat.{one-le-pow, two-pow-succ}
-use Rattle.std.proofs.lemmas.List.{take-append-drop, take_more, reverse-append, map-append, length-map}
+use Rattle.std.proofs.lemmas.Bool.{cases_eq, cases_lt, ne_eqb}
+use Rattle.std.proofs.lemmas.List.{take-append-drop, take_more, reverse-append, map-append, length-map, length-replicate, get_or-set_same, get_or-set_other, get_or-replicate, get_or_past}
 use Rattle.std.proofs.lemmas.List.Sums.{sum_by-cons, sum_by-append}
 use Rattle.net_model.specs.declared.fault.Fault.{Fault}
 use Rattle.net_model.specs.Circuit.{Circuit}
+use Rattle.net_model.specs.Answer.{bit_at}
 use Rattle.pair_sets.specs.declared.tree.Token.{Token}
 use Rattle.pair_sets.specs.declared.tree.Token.TheVariants.{Split}
-use Rattle.pair_sets.specs.Cube.{Cube, InCube, FixesOnce}
+use Rattle.pair_sets.specs.Cube.{Cube, fixed_bit, InCube, FixesOnce}
 use Rattle.pair_sets.specs.PairSim.{PairSim, pair_sim, with_cube}
 use Rattle.pair_sets.specs.Subtree.{IsSubtree}
 use Rattle.pair_sets.specs.Tree.{IsRightAt, is_closed, closed_count}
-use Rattle.pair_sets.proofs.CubeLemmas.{few_fixed, set_fixed}
+use Rattle.pair_sets.proofs.CubeLemmas.{few_fixed}
 use Rattle.pair_sets.proofs.TreeLemmas.{split_tree}
 use Rattle.distinguish_search.specs.declared.frames.Frame.{Frame}
 use Rattle.distinguish_search.specs.Frames.{cube_of, AreFrames, IsUnderWay, is_open, open_count, closed_in, open_in, vectors_ahead, SplitsOn, IsWhole, GoesOn}
@@ -20,7 +22,35 @@ use Rattle.distinguish_search.specs.Frames.{cube_of, AreFrames, IsUnderWay, is_o
 abbrev pub frame_with : ℕ → Bool → Option (List Token) → ℕ → Frame
 frame_with source bit half place = record { source = source; bit = bit; half = half; place = place }
 
--- ---- the vector of the bits
+-- ---- the cube of the bits
+
+fixed_here : (cube : Cube) (source : ℕ) (bit : Bool) → fixed_bit ((source, bit) ∷ cube) source ≡ Some bit
+fixed_here cube source bit =
+    let t : (source == source) ≡ true = eq-eqb source source refl in
+    ap (λ b. option_map (λ (fixed : ℕ × Bool). fixed.1) (cond b (Some (source, bit)) (find (λ (fixed : ℕ × Bool). fixed.0 == source) cube))) t
+
+fixed_beside : (cube : Cube) (source : ℕ) (bit : Bool) (other : ℕ) → source ≢ other → fixed_bit ((source, bit) ∷ cube) other ≡ fixed_bit cube other
+fixed_beside cube source bit other ne =
+    let t : (source == other) ≡ false = ne_eqb source other ne in
+    ap (λ b. option_map (λ (fixed : ℕ × Bool). fixed.1) (cond b (Some (source, bit)) (find (λ (fixed : ℕ × Bool). fixed.0 == other) cube))) t
+
+-- before any frame no source is fixed
+pub bits_none : (n source : ℕ) → get_or {A = Option Bool} (replicate n None) source None ≡ None
+bits_none n source =
+    let none : Option Bool = None in elim (cases_lt source n) [
+      | inl below ↦ get_or-replicate n source none none below
+      | inr past ↦ get_or_past (replicate n none) source none (omega (arith, past, length-replicate n none))
+    ]
+
+-- a vector that has all bits of a cube is in it
+pub has_fixed : (n : ℕ) (cube : Cube) (v : List Bool) → FixesOnce n cube → ((source : ℕ) (bit : Bool) → fixed_bit cube source ≡ Some bit → bit_at v source ≡ bit) → InCube cube v
+has_fixed n [] v once each = tt
+has_fixed n (fixed ∷ cube) v once each = (
+  each fixed.0 fixed.1 (fixed_here cube fixed.0 fixed.1),
+  has_fixed n cube v once.2 (λ source bit e.
+      let ne : fixed.0 ≢ source = λ same. (let clash : Some bit ≡ None = sym e ∙ subst (λ k. fixed_bit cube k ≡ None) same once.1 in cc) in
+      each source bit (fixed_beside cube fixed.0 fixed.1 source ne ∙ e)),
+)
 
 once_after : (n : ℕ) (before cube : Cube) → FixesOnce n (before ++ cube) → FixesOnce n cube
 once_after n [] cube once = once
@@ -42,11 +72,16 @@ module _ (items : List Frame) (i : ℕ) (frame : Frame) (h : i < length items) (
   pub source_within : (sources : ℕ) → FixesOnce sources (cube_of (reverse items)) → frame.source < sources
   source_within sources once = (once_here sources once).0
 
-  pub vector_more : (sources : ℕ) (v : List Bool) → FixesOnce sources (cube_of (reverse items)) → length v ≡ sources → InCube (cube_of (reverse (take i items))) v → InCube (cube_of (reverse (take (i + 1) items))) (slice_set v frame.source frame.bit)
-  vector_more sources v once width inside =
-      let here = once_here sources once in
-      subst (λ xs. InCube (cube_of xs) (slice_set v frame.source frame.bit)) (sym taken)
-      (set_fixed v frame.source frame.bit (cube_of (reverse (take i items))) (omega (arith, here.0, width)) here.1 inside)
+  pub bits_more : (sources : ℕ) (bits : List (Option Bool)) → FixesOnce sources (cube_of (reverse items)) → length bits ≡ sources → ((source : ℕ) → get_or bits source None ≡ fixed_bit (cube_of (reverse (take i items))) source)
+      → (source : ℕ) → get_or (slice_set bits frame.source (Some frame.bit)) source None ≡ fixed_bit (cube_of (reverse (take (i + 1) items))) source
+  bits_more sources bits once width are source =
+      let before = cube_of (reverse (take i items)) in
+      let set = slice_set bits frame.source (Some frame.bit) in
+      let within : frame.source < length bits = omega (arith, source_within sources once, width) in
+      subst (λ xs. get_or set source None ≡ fixed_bit (cube_of xs) source) (sym taken) (elim (cases_eq source frame.source) [
+        | inl same ↦ subst (λ k. get_or set k None ≡ fixed_bit ((frame.source, frame.bit) ∷ before) k) (sym same) (get_or-set_same bits frame.source (Some frame.bit) None within ∙ sym (fixed_here before frame.source frame.bit))
+        | inr ne ↦ get_or-set_other bits frame.source source (Some frame.bit) None ne ∙ are source ∙ sym (fixed_beside before frame.source frame.bit source (λ e. ne (sym e)))
+      ])
 
 -- ---- leaves
 

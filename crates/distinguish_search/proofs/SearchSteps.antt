@@ -1,12 +1,11 @@
 -- One turn of the search: a descent to the end of a way, and a climb from a leaf there.
-use Rattle.std.proofs.Common.{◌≡◌, ℕ, ◌+◌, List, [], ◌∷◌, length, eqb-true, eq-eqb, refl, sym, subst}
+use Rattle.std.proofs.Common.{◌≡◌, ℕ, ◌+◌, List, [], ◌∷◌, length, get_or, eqb-true, eq-eqb, refl, sym, ◌∙◌, subst}
 use Rattle.std.specs.Prelude.{Bool, true, false, ◌==◌, Option, None, Some, if◌then◌else◌}
 use Rattle.std.specs.List.{list_any}
 use Rattle.net_model.specs.declared.fault.Fault.{Fault}
 use Rattle.net_model.specs.Circuit.{Circuit, IsCircuit}
-use Rattle.net_model.specs.Answer.{Separates}
 use Rattle.pair_sets.specs.declared.tree.Token.{Token}
-use Rattle.pair_sets.specs.Cube.{FixesOnce, InCube}
+use Rattle.pair_sets.specs.Cube.{fixed_bit, FixesOnce, InCube}
 use Rattle.pair_sets.specs.PairSim.{PairSim, pair_sim}
 use Rattle.pair_sets.specs.Subtree.{IsSubtree}
 use Rattle.pair_sets.proofs.StateLemmas.{apart_differs}
@@ -14,9 +13,9 @@ use Rattle.distinguish_search.specs.declared.end.End.TheVariants.{Leaf, Apart}
 use Rattle.distinguish_search.specs.declared.frames.Frame.{Frame}
 use Rattle.distinguish_search.specs.declared.found.Found.TheVariants.{Covered, Spent}
 use Rattle.distinguish_search.specs.End.{IsEnd, leaf_token}
-use Rattle.distinguish_search.specs.Found.{IsFound}
+use Rattle.distinguish_search.specs.Found.{SeparatesAll, IsFound}
 use Rattle.distinguish_search.specs.Frames.{cube_of, is_open, IsUnderWay, SplitsOn, IsClimbed}
-use Rattle.distinguish_search.proofs.FrameLemmas.{once_of}
+use Rattle.distinguish_search.proofs.FrameLemmas.{once_of, has_fixed}
 use Rattle.distinguish_search.proofs.Leaves.{IsInBudget, leaf_right, whole_found, still_in_budget}
 
 -- how many leaves are closed with the new one
@@ -45,10 +44,14 @@ module _ (c : Circuit) (f g : Fault) (leaves closed : ℕ) (sim : PairSim) (star
   pub once_here : FixesOnce c.sources (cube_of stack)
   once_here = once_of c f g stack here.right
 
-  pub vector_found : (full : Bool) (v : List Bool) → IsCircuit c → IsEnd sim.circuit sim.f sim.g new.cube full Apart → length v ≡ c.sources → InCube (cube_of stack) v → Separates c v f g
-  vector_found full v w end width inside =
-      let apart : IsEnd c f g new.cube full Apart = subst (λ (s : PairSim). IsEnd s.circuit s.f s.g new.cube full Apart) was end in
-      (apart_differs c f g new.cube v apart.0 w width apart.1 (subst (λ (s : PairSim). InCube s.cube v) (sym is) inside)).separates
+  pub cube_found : (full : Bool) (cube : List (Option Bool)) → IsCircuit c → IsEnd sim.circuit sim.f sim.g new.cube full Apart → length cube ≡ c.sources → ((source : ℕ) → get_or cube source None ≡ fixed_bit (cube_of stack) source) → SeparatesAll c f g cube
+  cube_found full cube w end width bits =
+      let apart : IsEnd c f g new.cube full Apart = subst (λ (s : PairSim). IsEnd s.circuit s.f s.g new.cube full Apart) was end in record {
+        width = width;
+        each = λ v wide has.
+            let inside : InCube (cube_of stack) v = has_fixed c.sources (cube_of stack) v once_here (λ source bit e. has source bit (bits source ∙ e)) in
+            (apart_differs c f g new.cube v apart.0 w wide apart.1 (subst (λ (s : PairSim). InCube s.cube v) (sym is) inside)).separates;
+      }
 
   pub leaf_here : (full : Bool) (tree : List Token) → IsEnd sim.circuit sim.f sim.g new.cube full Leaf → tree ≡ leaf_token full ∷ [] → IsSubtree new.circuit new.f new.g new.cube tree
   leaf_here full tree end leaf =

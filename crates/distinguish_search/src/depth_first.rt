@@ -11,17 +11,51 @@ use crate::climb::climb;
 use crate::descent::descend;
 use crate::end::End;
 use crate::found::Found;
+use crate::levels::Levels;
+use crate::rule::Rule;
 use crate::stack::Stack;
 use net_model::{Circuit, Fault};
 use pair_sets::{PairSim, Token, Tree};
 use std::alloc::{AllocError, Global};
 
-/// Searches the cubes of all vectors for one that separates two faults. It splits undecided cubes by sources that can
-/// still decide them. No more leaves are closed than `leaves`, which is 1 or more: with so many the cubes that are left
-/// stay open. Its own stack is in memory from `alloc`, and grows by a frame for each source that is fixed.
+/// Searches the cubes of all vectors for one every vector of which separates two faults. It splits undecided cubes by
+/// sources that can still decide them. No more leaves are closed than `leaves`, which is 1 or more: with so many the
+/// cubes that are left stay open. Where a first run spends them, a second one has as many again, and weighs the pins of
+/// its walks otherwise; what it finds is what is found. Its own stack is in memory from `alloc`, and grows by a frame for
+/// each source that is fixed.
 pub fn search(
     alloc: Global,
     circuit: &Circuit,
+    levels: &Levels,
+    f: &Fault,
+    g: &Fault,
+    leaves: u32,
+) -> Result<Found, AllocError>
+    requires first { IsFaultOf circuit.now f.now }
+    requires second { IsFaultOf circuit.now g.now }
+    requires leaves { 1 ≤ leaves }
+    ensures { IfOk result (IsFound circuit.now f.now g.now leaves) }
+{
+    let by_bit = Rule {
+        levels,
+        differences_first: false,
+    };
+    let by_difference = Rule {
+        levels,
+        differences_first: true,
+    };
+    match run(alloc, circuit, by_bit, f, g, leaves)? {
+        Found::Apart(cube) => Ok(Found::Apart(cube)),
+        Found::Covered(tree) => Ok(Found::Covered(tree)),
+        Found::Spent(_tree) => run(alloc, circuit, by_difference, f, g, leaves),
+    }
+}
+
+// One run of the search, with walks by a rule.
+fn run(
+    alloc: Global,
+    circuit: &Circuit,
+    rule: Rule,
     f: &Fault,
     g: &Fault,
     leaves: u32,
@@ -36,9 +70,9 @@ pub fn search(
     let mut closed = 0;
     loop {
         let full = closed == leaves;
-        match descend(&mut sim, &mut stack, full)? {
+        match descend(&mut sim, &mut stack, rule, full)? {
             End::Leaf => {}
-            End::Apart => return Ok(Found::Vector(stack.vector(alloc, circuit.sources())?)),
+            End::Apart => return Ok(Found::Apart(stack.cube(alloc, circuit.sources())?)),
         }
         if !full {
             closed += 1;

@@ -6,6 +6,7 @@ ghost use Rattle.distinguish_search.specs.End.{IsEnd};
 
 use crate::end::End;
 use crate::frames::Frame;
+use crate::rule::Rule;
 use crate::stack::Stack;
 use crate::walk::choose;
 use pair_sets::{PairSim, PairState};
@@ -13,7 +14,12 @@ use std::alloc::AllocError;
 
 /// Splits the cube, and then a half of it, and so on, until it is decided. Where no leaf may be closed any more (`full`)
 /// nothing is split.
-pub(crate) fn descend(sim: &mut PairSim, stack: &mut Stack, full: bool) -> Result<End, AllocError>
+pub(crate) fn descend(
+    sim: &mut PairSim,
+    stack: &mut Stack,
+    rule: Rule,
+    full: bool,
+) -> Result<End, AllocError>
     requires { IsUnderWay sim.old.circuit sim.old.f sim.old.g sim.old stack.old }
     ensures under_way { IfOk result (λ end. IsUnderWay sim.old.circuit sim.old.f sim.old.g sim.new stack.new) }
     ensures splits { IfOk result (λ end. SplitsOn sim.old.circuit.sources stack.old stack.new) }
@@ -28,7 +34,7 @@ pub(crate) fn descend(sim: &mut PairSim, stack: &mut Stack, full: bool) -> Resul
         if full {
             return Ok(End::Leaf);
         }
-        let choice = choose(sim, stack.place());
+        let choice = choose(sim, rule, stack.place());
         stack.push(Frame {
             source: choice.source,
             bit: choice.bit,

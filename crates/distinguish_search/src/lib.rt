@@ -7,9 +7,12 @@ mod descent;
 mod end;
 mod found;
 mod frames;
+mod levels;
+mod rule;
 mod stack;
 mod step;
 mod walk;
 
 pub use depth_first::search;
 pub use found::Found;
+pub use levels::Levels;

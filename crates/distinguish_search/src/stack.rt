@@ -1,11 +1,10 @@
 //! The stack of a search.
 
-ghost use Rattle.std.specs.Prelude.{◌≡◌, ◌∷◌, [], IfOk, OnOk, MatchOption, length};
-ghost use Rattle.pair_sets.specs.Cube.{FixesOnce, InCube};
+ghost use Rattle.std.specs.Prelude.{◌≡◌, ℕ, ◌∷◌, [], None, IfOk, OnOk, MatchOption, length, replicate, slice_index_or};
+ghost use Rattle.pair_sets.specs.Cube.{FixesOnce, fixed_bit};
 ghost use Rattle.distinguish_search.specs.Frames.{cube_of, last_place};
 
 use crate::frames::Frame;
-use net_model::Vector;
 use std::alloc::{AllocError, Global};
 use std::marker::Model;
 
@@ -56,16 +55,24 @@ impl Stack {
         }
     }
 
-    /// The vector of the cube at which the sources that are free are 0.
-    pub(crate) fn vector(&self, alloc: Global, sources: u32) -> Result<Vector, AllocError>
+    /// The cube of the bits that are tried: a bit for each source that is fixed, and none for one that is free.
+    pub(crate) fn cube(&self, alloc: Global, sources: u32) -> Result<Vec<Option<bool>>, AllocError>
         requires { FixesOnce sources (cube_of self.now) }
-        ensures width { IfOk result (λ v. length v ≡ sources) }
-        ensures inside { IfOk result (InCube (cube_of self.now)) }
+        ensures width { IfOk result (λ cube. length cube.items ≡ sources) }
+        ensures bits { IfOk result (λ cube. (source : ℕ) → slice_index_or cube.items source None ≡ fixed_bit (cube_of self.now) source) }
     {
-        let mut v = Vector::zeros(alloc, sources as usize)?;
+        let mut cube = free_cube(alloc, sources)?;
         for frame in &self.frames {
-            v.set(frame.source as usize, frame.bit);
+            cube[frame.source as usize] = Some(frame.bit);
         }
-        Ok(v)
+        Ok(cube)
     }
+}
+
+// The cube of all vectors.
+fn free_cube(alloc: Global, sources: u32) -> Result<Vec<Option<bool>>, AllocError>
+    ensures { IfOk result (λ cube. cube.items ≡ replicate sources None) }
+{
+    let cube = vec![in alloc; None; sources as usize]?;
+    Ok(cube)
 }

@@ -5,6 +5,7 @@ ghost use Rattle.net_model.specs.Circuit.{Feeds, pins_of};
 ghost use Rattle.distinguish_search.specs.Asked.{passing_bit, asked_bit};
 ghost use Rattle.distinguish_search.specs.Open.{IsOpen};
 
+use crate::rule::{Rule, Weight};
 use net_model::{Kind, Operation};
 use pair_sets::{PairSet, PairSim};
 
@@ -16,7 +17,7 @@ pub(crate) struct Step {
 }
 
 /// A step from a line that a gate drives.
-pub(crate) fn step_back(sim: &PairSim, from: Step) -> Step
+pub(crate) fn step_back(sim: &PairSim, rule: Rule, from: Step) -> Step
     requires gate { sim.now.circuit.sources ≤ from.line }
     requires open { IsOpen sim.now.circuit sim.now.f sim.now.g sim.now.cube from.line }
     ensures feeds { Feeds sim.now.circuit result.line from.line }
@@ -27,15 +28,15 @@ pub(crate) fn step_back(sim: &PairSim, from: Step) -> Step
     let bit = asked_bit(sim.pairs(line), passing_bit(kind, bit), bit) != kind.inverts();
     match kind.operation() {
         Operation::Folded(_) => Step {
-            line: open_pin(sim, line, bit),
+            line: open_pin(sim, rule, kind, line, bit),
             bit,
         },
-        Operation::Chosen => chosen_pin(sim, line, bit),
+        Operation::Chosen => chosen_pin(sim, rule, line, bit),
     }
 }
 
 // From a multiplexer through its first pin where that is open, else through the data pin that it shows.
-fn chosen_pin(sim: &PairSim, line: u32, bit: bool) -> Step
+fn chosen_pin(sim: &PairSim, rule: Rule, line: u32, bit: bool) -> Step
     requires gate { sim.now.circuit.sources ≤ line }
     requires open { IsOpen sim.now.circuit sim.now.f sim.now.g sim.now.cube line }
     requires three { length (pins_of sim.now.circuit line) ≡ 3 }
@@ -60,7 +61,7 @@ fn chosen_pin(sim: &PairSim, line: u32, bit: bool) -> Step
         };
     }
     Step {
-        line: open_pin(sim, line, bit),
+        line: open_pin(sim, rule, Kind::Mux, line, bit),
         bit,
     }
 }
@@ -73,8 +74,8 @@ fn shown_pin(select: PairSet) -> u32
 }
 
 // A line that the gate of an open line reads, and of which the pin sees two pairs or more; where there are several such
-// pins, one that may have the bit.
-fn open_pin(sim: &PairSim, line: u32, bit: bool) -> u32
+// pins, the heaviest by the rule, and the first among those.
+fn open_pin(sim: &PairSim, rule: Rule, kind: Kind, line: u32, bit: bool) -> u32
     requires gate { sim.now.circuit.sources ≤ line }
     requires open { IsOpen sim.now.circuit sim.now.f sim.now.g sim.now.cube line }
     ensures feeds { Feeds sim.now.circuit result line }
@@ -82,13 +83,19 @@ fn open_pin(sim: &PairSim, line: u32, bit: bool) -> u32
 {
     let pins = sim.circuit().gate(line).pins.as_slice();
     let mut found = None;
+    let mut most = Weight {
+        first: false,
+        second: false,
+        third: 0,
+    };
     for (pin, read) in pins.iter().enumerate() {
         let pairs = sim.pin_pairs(line, pin as u32, *read);
         if pairs.has_several() {
-            if pairs.has(bit, bit) {
-                return *read;
+            let weight = rule.weight(kind, *read, pairs, bit);
+            if found.is_none() | weight.is_heavier(most) {
+                found = Some(*read);
+                most = weight;
             }
-            found = Some(*read);
         }
     }
     match found {

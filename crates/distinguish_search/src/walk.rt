@@ -8,6 +8,7 @@ ghost use Rattle.pair_sets.specs.CubeState.{IsState};
 ghost use Rattle.pair_sets.specs.Tree.{IsRightAt};
 ghost use Rattle.distinguish_search.specs.Open.{IsOpenAt, AreDecided};
 
+use crate::rule::Rule;
 use crate::step::{Step, asked_bit, step_back};
 use pair_sets::PairSim;
 
@@ -21,7 +22,7 @@ pub(crate) struct Choice {
 
 /// A source by which an undecided cube can be split. It is sought from the reached positions at `from` and behind it
 /// first: those before it are most often decided.
-pub(crate) fn choose(sim: &PairSim, from: usize) -> Choice
+pub(crate) fn choose(sim: &PairSim, rule: Rule, from: usize) -> Choice
     requires { IsState sim.now.circuit sim.now.f sim.now.g sim.now.cube Undecided }
     ensures { IsRightAt sim.now.circuit sim.now.f sim.now.g (Split result.source) sim.now.cube }
 {
@@ -41,7 +42,7 @@ pub(crate) fn choose(sim: &PairSim, from: usize) -> Choice
                 place,
             };
         }
-        here = step_back(sim, here);
+        here = step_back(sim, rule, here);
     }
     unreachable!()
 }

@@ -1,16 +1,17 @@
 //! What searches find, and the shapes of their trees.
 
-use distinguish_search::{Found, search};
+use distinguish_search::{Found, Levels, search};
 use net_model::{Fault, Kind};
 use pair_sets::{Token, Tree};
 use sample_circuits::{BETWEEN_CONSTANTS, NOT_AND_OR, Parts, SAME_DATA, circuit, stands, stem};
 use std::alloc::Global;
 use std::test::Fail;
 
-// What is found: a vector; or a tree, whether it is spent, and how many leaves are closed and how many are open.
+// What is found: a cube, and how many sources it fixes; or a tree, whether it is spent, and how many leaves are closed
+// and how many are open.
 #[derive(Clone, Copy, Debug, PartialEq, Eq)]
 enum Shape {
-    Vector,
+    Apart(usize),
     Covered(usize, usize),
     Spent(usize, usize),
 }
@@ -50,8 +51,9 @@ fn shape_of(alloc: Global, parts: Parts, line: u32, bit: bool, leaves: u32) -> R
     if leaves == 0 || !stands(&circuit, stuck) {
         return Err(Fail::new("there is no leaf, or the fault doesn't stand"));
     }
-    let shape = match search(alloc, &circuit, &Fault::Free, &stuck, leaves)? {
-        Found::Vector(_v) => Shape::Vector,
+    let levels = Levels::new(alloc, &circuit)?;
+    let shape = match search(alloc, &circuit, &levels, &Fault::Free, &stuck, leaves)? {
+        Found::Apart(cube) => Shape::Apart(cube.iter().filter(|bit| bit.is_some()).count()),
         Found::Covered(tree) => {
             Shape::Covered(count(&tree, Token::Closed), count(&tree, Token::Rest))
         }
@@ -66,15 +68,15 @@ fn shapes_of_trees(rt: HostRuntime) -> Result<(), Fail> {
         (NOT_AND_OR, 0, false, 64, Shape::Covered(2, 0)),
         (NOT_AND_OR, 0, false, 2, Shape::Covered(2, 0)),
         (NOT_AND_OR, 0, false, 1, Shape::Spent(1, 1)),
-        (NOT_AND_OR, 2, false, 1, Shape::Vector),
+        (NOT_AND_OR, 2, false, 1, Shape::Apart(1)),
         (PARITIES, 14, true, 4, Shape::Spent(4, 7)),
         (PARITIES, 14, true, 512, Shape::Covered(512, 0)),
-        (PARITIES, 14, false, 1, Shape::Vector),
+        (PARITIES, 14, false, 1, Shape::Apart(9)),
         (SAME_DATA, 0, true, 64, Shape::Covered(3, 0)),
         (SAME_DATA, 0, true, 2, Shape::Spent(2, 1)),
-        (BETWEEN_CONSTANTS, 0, true, 1, Shape::Vector),
+        (BETWEEN_CONSTANTS, 0, true, 1, Shape::Apart(1)),
         (CONSTANT, 0, true, 1, Shape::Covered(1, 0)),
-        (CONSTANT, 0, false, 1, Shape::Vector),
+        (CONSTANT, 0, false, 1, Shape::Apart(0)),
     ];
     for (parts, line, bit, leaves, expected) in table {
         let found = shape_of(rt.alloc(), parts, line, bit, leaves)?;

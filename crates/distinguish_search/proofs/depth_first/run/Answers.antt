@@ -4,12 +4,12 @@ use Rattle.pair_sets.specs.Cube.{FixesOnce}
 use Rattle.distinguish_search.specs.End.{IsEnd}
 use Rattle.distinguish_search.specs.Found.{IsFound}
 use Rattle.distinguish_search.specs.Frames.{cube_of, IsClimbed}
-use Rattle.distinguish_search.proofs.SearchSteps.{more_then, more_else, once_here, vector_found, leaf_here, tree_found, goes_on}
-use Rattle.distinguish_search.proofs.depth_first.search.Goals as goal
-use Rattle.distinguish_search.proofs.depth_first.search.Goals.{then-not-full, else-not-full}
+use Rattle.distinguish_search.proofs.SearchSteps.{more_then, more_else, once_here, cube_found, leaf_here, tree_found, goes_on}
+use Rattle.distinguish_search.proofs.depth_first.run.Goals as goal
+use Rattle.distinguish_search.proofs.depth_first.run.Goals.{then-not-full, else-not-full}
 
-pub vector-requires : goal.vector-requires
-vector-requires c =
+pub cube-requires : goal.cube-requires
+cube-requires c =
     let loop = c.loop-stack in
     subst (λ n. FixesOnce n (cube_of c.descend.new.stack)) (sym c.sources.ensures.value)
     (once_here c.args.circuit.now c.args.f.now c.args.g.now c.args.leaves loop.closed loop.sim loop.stack loop.invariant c.descend.new.sim c.descend.new.stack c.in_ok-descend.ensures.under_way)
@@ -19,9 +19,9 @@ returns-in-Apart c =
     let loop = c.loop-stack in
     let new = c.descend.new.sim in
     let full = loop.closed == c.args.leaves in
-    vector_found c.args.circuit.now c.args.f.now c.args.g.now c.args.leaves loop.closed loop.sim loop.stack loop.invariant new c.descend.new.stack c.in_ok-descend.ensures.under_way full
-    c.in_ok-vector-in-Apart.field-0 c.sources.ensures.circuit (subst (IsEnd loop.sim.circuit loop.sim.f loop.sim.g new.cube full) c.in-Apart.is c.in_ok-descend.ensures.ends)
-    (c.in_ok-vector-in-Apart.ensures.width ∙ c.sources.ensures.value) c.in_ok-vector-in-Apart.ensures.inside
+    cube_found c.args.circuit.now c.args.f.now c.args.g.now c.args.leaves loop.closed loop.sim loop.stack loop.invariant new c.descend.new.stack c.in_ok-descend.ensures.under_way full
+    c.in_ok-cube-in-Apart.field-0.items c.sources.ensures.circuit (subst (IsEnd loop.sim.circuit loop.sim.f loop.sim.g new.cube full) c.in-Apart.is c.in_ok-descend.ensures.ends)
+    (c.in_ok-cube-in-Apart.ensures.width ∙ c.sources.ensures.value) c.in_ok-cube-in-Apart.ensures.bits
 
 pub climb-requires-clause-tree : goal.climb-requires-clause-tree
 climb-requires-clause-tree c =

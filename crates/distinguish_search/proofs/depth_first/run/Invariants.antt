@@ -1,6 +1,6 @@
 use Rattle.distinguish_search.specs.Frames.{vectors_left}
 use Rattle.distinguish_search.proofs.Leaves.{IsInBudget}
-use Rattle.distinguish_search.proofs.depth_first.search.Given as goal
+use Rattle.distinguish_search.proofs.depth_first.run.Given as goal
 
 abbrev pub invariant-loop-stack : goal.invariant-loop-stack
 invariant-loop-stack l = IsInBudget l.circuit l.f l.g l.leaves l.closed l.sim l.stack
