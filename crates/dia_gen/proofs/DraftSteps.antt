@@ -1,8 +1,9 @@
 -- A draft with one line more, and a draft that is broken off.
-use Rattle.std.proofs.Common.{◌≡◌, ◌∙◌, ◌<◌, ℕ, List, [], ◌∷◌, ◌++◌, Bool, Result, Ok, Err, sym, ap, subst, arith}
+use Rattle.std.proofs.Common.{◌≡◌, ◌∙◌, ◌<◌, ◌-◌, length, length-append, get_or, ℕ, List, [], ◌∷◌, ◌++◌, Bool, Result, Ok, Err, sym, ap, subst, arith}
 use Rattle.std.specs.Prelude.{OnOk, IfErr, Option, Some, slice_set}
 use Rattle.std.proofs.lemmas.List.{append-nil, append_assoc}
 use Rattle.std.proofs.lemmas.List.Elements.{filter_map-append}
+use Rattle.std.proofs.Math.Seq.{get_or-append_seam}
 use Rattle.diag_shelf.specs.World.{State}
 use Rattle.diag_shelf.specs.declared.shelf.ShelfFault.{ShelfFault}
 use Rattle.diag_shelf.specs.declared.shelf.ShelfFault.TheVariants.{NoMemory}
@@ -26,9 +27,11 @@ use Rattle.member_marks.specs.declared.marks.Given.{Given}
 use Rattle.dia_gen.specs.Setting.{Setting}
 use Rattle.member_marks.specs.Given.{IsLowestOpen}
 use Rattle.dia_gen.specs.Made.{lines_with}
+use Rattle.dia_gen.specs.Marked.{DoMarksStay}
 use Rattle.dia_gen.specs.Settled.{IsApartBy, IsProofFor}
 use Rattle.dia_gen.specs.Writing.{HasWritten, WritesText, BrokeOff}
 use Rattle.dia_gen.specs.Draft.{AreDraftLines, IsDrafted, IsDraft}
+use Rattle.dia_gen.proofs.FallenLemmas.{mark_stays}
 use Rattle.dia_gen.proofs.LineLemmas.{text-append}
 use Rattle.member_marks.proofs.MarkLemmas.{lowest_is_next, lead_inside, given_risen, given_more}
 use Rattle.dia_gen.proofs.DraftLemmas.{lines_more, pattern_added, evidence_added}
@@ -79,6 +82,19 @@ module _ {s : Setting} {d : Draft} {kept : List (List Bool)} {later : List Recor
 
     pub more_classes : class_count d.keeper.kept.table < class_count keeper.kept.table
     more_classes = added.more
+
+    -- it stands behind the others
+    pub last_added : (vectors : List (List Bool)) → vectors ≡ keeper.kept.vectors → get_or vectors (length vectors - 1) [] ≡ v
+    last_added vectors is =
+        let now : vectors ≡ d.keeper.kept.vectors ++ v ∷ [] = is ∙ added.vectors in
+        let place : length vectors - 1 ≡ length d.keeper.kept.vectors = omega (arith, ap length now, length-append d.keeper.kept.vectors (v ∷ [])) in
+        rw place (rw now (get_or-append_seam d.keeper.kept.vectors v [] []))
+
+    pub some_added : (vectors : List (List Bool)) → vectors ≡ keeper.kept.vectors → 0 < length vectors
+    some_added vectors is = omega (arith, ap length (is ∙ added.vectors), length-append d.keeper.kept.vectors (v ∷ []))
+
+    pub marks_stay : DoMarksStay d.keeper.kept.table keeper.kept.table d.marks d.marks
+    marks_stay = λ n below old some. mark_stays d.keeper.kept.table keeper.kept.table d.marks n (added.leads n below old) some
 
     pub pattern_drafted : keeper.circuit ≡ d.keeper.circuit → IsDrafted s (record d { keeper = keeper }) kept (later ++ Pattern v ∷ [])
     pattern_drafted circuit =

@@ -9,3 +9,5 @@ pub mod LogSpelling
 pub mod BeginLemmas
 pub mod DraftSteps
 pub mod EndLemmas
+pub mod FallenLemmas
+pub mod FreeSources

@@ -1,10 +1,12 @@
 -- Proofs that a search gives.
-use Rattle.std.proofs.Common.{◌≡◌, ◌≢◌, ℕ, ◌+◌, ◌<◌, ◌^◌, List, [], ◌∷◌, ◌++◌, length, length-append, refl, sym, ap, subst, ◌∙◌, arith}
+use Rattle.std.proofs.Common.{◌≡◌, ◌≢◌, ℕ, ◌+◌, ◌<◌, ◌^◌, List, [], ◌∷◌, ◌++◌, length, length-append, refl, sym, ap, subst, ◌∙◌, inl, inr, Bool, true, Option, arith}
 use Rattle.std.specs.Prelude.{All, Some, None, slice_get, Result, Ok, Err, IfOk}
 use Rattle.std.specs.declared.alloc.AllocError.{AllocError}
 use Rattle.std.proofs.lemmas.List.Elements.{All-from_get_or, All-nil, All-weaker}
 use Rattle.std.proofs.lemmas.Option.{get_or_from_slice_get, slice_get_within}
 use Rattle.net_model.specs.declared.fault.Fault.{Fault}
+use Rattle.net_model.specs.Answer.{bit_at, Separates}
+use Rattle.net_model.specs.Scope.{is_relevant}
 use Rattle.net_model.specs.Circuit.{Circuit, IsCircuit}
 use Rattle.clause_pool.specs.Clauses.{Clause}
 use Rattle.clause_pool.specs.Proper.{HasVariablesUpTo, IsProper}
@@ -19,6 +21,7 @@ use Rattle.pair_miter.proofs.LogEnds.{log_long}
 use Rattle.pair_miter.proofs.Within.{miter_proper}
 use Rattle.pair_miter.proofs.Bounds.{few_clauses, few_variables_of}
 use Rattle.distinguish_search.specs.declared.found.Found.TheVariants as found
+use Rattle.distinguish_search.specs.Found.{SeparatesAll}
 use Rattle.learn_solver.specs.Solved.{HasRefutation, HasSpentLog}
 use Rattle.result_file.specs.declared.record.Budgets.{Budgets}
 use Rattle.result_file.specs.declared.record.Proof.TheVariants as proof
@@ -29,7 +32,8 @@ use Rattle.net_model.specs.FaultList.{fault_numbered}
 use Rattle.result_file.specs.declared.record.Proof.{Proof}
 use Rattle.dia_gen.specs.declared.pair.Settled.{Settled}
 use Rattle.dia_gen.specs.declared.pair.Settled.TheVariants.{Apart, By}
-use Rattle.dia_gen.specs.Settled.{IsSearched, IsOpenFor, IsProofBy, IsProofFor, IsSettledBy, IsSettledFor}
+use Rattle.dia_gen.specs.Settled.{AreApartBy, HasRelevant, IsSearched, IsOpenFor, IsProofBy, IsProofFor, IsSettledBy, IsSettledFor}
+use Rattle.dia_gen.proofs.FreeSources.{separates_also}
 use Rattle.dia_gen.proofs.LogSpelling.{literal_spelled, log_spelled}
 
 module _ (c : Circuit) (f g : Fault) (small : c.sources < 2 ^ 32) where
@@ -117,6 +121,27 @@ module _ (c : Circuit) (is : IsCircuit c) (f g : Fault) (budgets : Budgets) (tok
         right = (left.spending, r.spent);
         no_search = left.none;
       }
+
+module _ (c : Circuit) (f g : Fault) (budgets : Budgets) where
+  -- a cube that a search finds
+  pub cube_apart : (cube : List (Option Bool)) → budgets.cubes ≢ 0 → SeparatesAll c f g cube → AreApartBy c f g budgets cube
+  cube_apart cube some all = record {
+    width = all.width;
+    each = λ v of.
+        let width : length v ≡ c.sources = of.width ∙ all.width in
+        record { budget = inl some; width = width; separates = all.each v width of.fixed };
+  }
+
+  -- the bits at the relevant sources of a vector that separates the two
+  pub vector_apart : IsCircuit c → (v : List Bool) (cube : List (Option Bool)) → budgets.conflicts ≢ 0 → Separates c v f g → length cube ≡ length v → HasRelevant c f g v cube → AreApartBy c f g budgets cube
+  vector_apart is v cube some apart wide fixed = record {
+    width = wide ∙ apart.width;
+    each = λ w of.
+        let width : length w ≡ c.sources = of.width ∙ wide ∙ apart.width in
+        let same : (source : ℕ) → source < c.sources → is_relevant c f g source ≡ true → bit_at v source ≡ bit_at w source =
+        λ source inside relevant. sym (of.fixed source (bit_at v source) (fixed source (omega (arith, inside, apart.width)) relevant)) in
+        record { budget = inr some; width = width; separates = separates_also c is f g v w same apart width };
+  }
 
 pub proof_for : {c : Circuit} {budgets : Budgets} {m n : ℕ} {p : Proof} → root c (fault_numbered c m) ≢ root c (fault_numbered c n) → IsProofBy c (fault_numbered c m) (fault_numbered c n) budgets p → IsProofFor c budgets m n p
 proof_for apart is = record { roots = is.roots apart; spelled = is.spelled; right = is.right; no_search = is.no_search }

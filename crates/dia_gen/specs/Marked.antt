@@ -1,7 +1,7 @@
--- How many members are marked equal or left open.
-use Rattle.std.specs.Prelude.{◌≡◌, ◌+◌, ℕ, List, map, count_by, Option, unwrap_or}
+-- Which numbers are marked, and how many members are marked equal or left open.
+use Rattle.std.specs.Prelude.{◌≡◌, ◌+◌, ◌<◌, ℕ, List, map, length, count_by, Option, unwrap_or, IsSome}
 use Rattle.std.specs.List.{range_with_len}
-use Rattle.net_model.specs.ClassTable.{ClassTable, class_at}
+use Rattle.net_model.specs.ClassTable.{ClassTable, class_at, class_count}
 use Rattle.result_file.specs.declared.record.Mark.{Mark}
 use Rattle.result_file.specs.declared.record.Mark.TheVariants as mark
 use Rattle.result_file.specs.declared.record.Record.{Record}
@@ -29,3 +29,11 @@ members_below t given n = member_records (map (member_for t given) (range_with_l
 pub record AreMarkedBelow (t : ClassTable) (given : List (Option Given)) (n : ℕ) (marked : Marked) : Type 0 where
   pub equal : marked.equal ≡ count_by is_equal (members_below t given n)
   pub spent : marked.spent ≡ count_by is_open (members_below t given n)
+
+-- Each number below a bound is a representative or marked.
+abbrev pub AreMarkedUpTo : ClassTable → List (Option Given) → ℕ → Type 0
+AreMarkedUpTo t given bound = (n : ℕ) → n < bound → IsSome (given_mark t given n)
+
+-- A number that is a representative or marked stays so, where after more cuts it is in an old class.
+abbrev pub DoMarksStay : ClassTable → ClassTable → List (Option Given) → List (Option Given) → Type 0
+DoMarksStay t u given later = (n : ℕ) → n < length t.class_of → class_at u n < class_count t → IsSome (given_mark t given n) → IsSome (given_mark u later n)

@@ -1,8 +1,9 @@
--- What becomes of a number and its representative: a vector that separates them, or evidence.
-use Rattle.std.specs.Prelude.{◌≡◌, ◌⊎◌, ◌≢◌, ℕ, Bool, List, [], ◌∷◌, length}
+-- What becomes of a number and its representative: a cube whose vectors separate them, or evidence.
+use Rattle.std.specs.Prelude.{◌≡◌, ◌⊎◌, ◌≢◌, ◌<◌, ℕ, Bool, true, Option, Some, None, slice_index_or, List, [], ◌∷◌, length}
 use Rattle.net_model.specs.declared.fault.Fault.{Fault}
 use Rattle.net_model.specs.Circuit.{Circuit}
-use Rattle.net_model.specs.Answer.{Separates}
+use Rattle.net_model.specs.Answer.{bit_at, Separates}
+use Rattle.net_model.specs.Scope.{is_relevant}
 use Rattle.net_model.specs.Collapse.{root}
 use Rattle.net_model.specs.FaultList.{fault_numbered}
 use Rattle.pair_sets.specs.declared.tree.Token.{Token}
@@ -11,6 +12,7 @@ use Rattle.pair_sets.specs.Tree.{IsSpending}
 use Rattle.distinguish_search.specs.declared.found.Found.{Found}
 use Rattle.distinguish_search.specs.declared.found.Found.TheVariants as found
 use Rattle.distinguish_search.specs.Found.{IsFound}
+use Rattle.kept_vectors.specs.Cube.{IsOfCube}
 use Rattle.result_file.specs.declared.record.Budgets.{Budgets}
 use Rattle.result_file.specs.declared.record.Proof.{Proof}
 use Rattle.result_file.specs.Spelling.{HasProofSpelling}
@@ -18,6 +20,10 @@ use Rattle.result_file.specs.Lines.{HasRightRoots, IsRightProof}
 use Rattle.dia_gen.specs.declared.pair.Settled.{Settled}
 use Rattle.dia_gen.specs.declared.pair.Settled.TheVariants.{Apart, By}
 use Rattle.dia_gen.specs.Made.{HasNoSearch}
+
+-- The cube has the vector's bit at each source that is relevant for the two.
+abbrev pub HasRelevant : Circuit → Fault → Fault → List Bool → List (Option Bool) → Type 0
+HasRelevant c f g v cube = (source : ℕ) → source < length v → is_relevant c f g source ≡ true → slice_index_or cube source None ≡ Some (bit_at v source)
 
 module _ (c : Circuit) (f g : Fault) (budgets : Budgets) where
   -- What a search finds within the budget of cubes: without one, a tree of one open leaf.
@@ -36,6 +42,11 @@ module _ (c : Circuit) (f g : Fault) (budgets : Budgets) where
     pub width : length v ≡ c.sources
     pub separates : Separates c v f g
 
+  -- Every vector of the cube separates the two.
+  pub record AreApartBy (cube : List (Option Bool)) : Type 0 where
+    pub width : length cube ≡ c.sources
+    pub each : (v : List Bool) → IsOfCube cube v → IsApartBy v
+
   -- The proof is right for the two and the budgets where their roots differ.
   pub record IsProofBy (proof : Proof) : Type 0 where
     pub roots : root c f ≢ root c g → HasRightRoots c f g proof
@@ -44,7 +55,7 @@ module _ (c : Circuit) (f g : Fault) (budgets : Budgets) where
     pub no_search : budgets.cubes ≡ 0 → HasNoSearch proof
 
   abbrev pub IsSettledBy : Settled → Type 0
-  IsSettledBy (Apart v) = IsApartBy v
+  IsSettledBy (Apart cube) = AreApartBy cube.items
   IsSettledBy (By proof) = IsProofBy proof
 
 -- The proof is right for two numbers and the budgets.
@@ -55,5 +66,5 @@ pub record IsProofFor (c : Circuit) (budgets : Budgets) (lead member : ℕ) (pro
   pub no_search : budgets.cubes ≡ 0 → HasNoSearch proof
 
 abbrev pub IsSettledFor : Circuit → Budgets → ℕ → ℕ → Settled → Type 0
-IsSettledFor c budgets lead member (Apart v) = IsApartBy c (fault_numbered c lead) (fault_numbered c member) budgets v
+IsSettledFor c budgets lead member (Apart cube) = AreApartBy c (fault_numbered c lead) (fault_numbered c member) budgets cube.items
 IsSettledFor c budgets lead member (By proof) = IsProofFor c budgets lead member proof

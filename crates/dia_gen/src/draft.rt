@@ -1,22 +1,23 @@
 //! A result under way.
 
-ghost use Rattle.std.specs.Prelude.{◌≡◌, ◌<◌, ◌+◌, ℕ, IfOk, IfErr, OnOk, IsSome, IsTrue};
+ghost use Rattle.std.specs.Prelude.{◌≡◌, ◌<◌, ◌+◌, ℕ, IfOk, IfErr, OnOk, IsSome, IsTrue, MatchOption};
 ghost use Rattle.diag_shelf.specs.World.{State};
 ghost use Rattle.net_model.specs.FaultList.{fault_numbered};
 ghost use Rattle.net_model.specs.ClassTable.{class_at, class_count, representative};
-ghost use Rattle.dia_gen.specs.Settled.{IsApartBy, IsProofFor};
+ghost use Rattle.dia_gen.specs.Settled.{AreApartBy, IsProofFor};
 ghost use Rattle.member_marks.specs.Given.{given_mark, AreAllMarked, IsLowestOpen};
 ghost use Rattle.dia_gen.specs.Draft.{IsBegun, IsDraft};
+ghost use Rattle.dia_gen.specs.Marked.{AreMarkedUpTo, DoMarksStay};
 ghost use Rattle.dia_gen.specs.Writing.{BrokeOff};
 
+use crate::fallen::lowest_fallen;
 use crate::pair::{Settled, settle_pair};
 use crate::setting::Setting;
-use crate::writing::{write_head, write_line, write_pattern, write_patterns};
+use crate::writing::{write_head, write_last, write_line, write_patterns};
 use clause_pool::Pool;
 use diag_shelf::{Shelf, ShelfFault};
 use kept_vectors::Keeper;
 use member_marks::{Marks, mark_of};
-use net_model::Vector;
 use result_file::{Evidence, Proof, Record};
 use std::alloc::{AllocError, Global};
 
@@ -74,33 +75,40 @@ impl<'a> Draft<'a> {
         ensures marked { OnOk result (AreAllMarked self.new.keeper.kept.table self.new.marks) }
         ensures err { IfErr result (λ fault. BrokeOff setting.now.circuit fault start (S.state shelf.new)) }
     {
-        while self.mark_round(alloc, setting, shelf)? {}
+        let mut from = 0;
+        while let Some(next) = self.mark_round(alloc, setting, shelf, from)? {
+            from = next;
+        }
         Ok(())
     }
 
     // Writes evidence for one number after another, up to the first that a new pattern tells from its representative.
-    // Answers whether there was one, since it may take marks away; else all numbers are marked.
+    // Each number below `first` is a representative or marked. Answers up to where this is so with the new pattern, which may
+    // take marks away; without one all numbers are marked.
     fn mark_round<S: Shelf>(
         &mut self,
         alloc: Global,
         setting: &Setting,
         shelf: &mut S,
-    ) -> Result<bool, ShelfFault>
+        first: u32,
+    ) -> Result<Option<u32>, ShelfFault>
         ghost start: { State }
         requires draft { IsDraft setting.now self.old start (S.state shelf.old) }
+        requires first { AreMarkedUpTo self.old.keeper.kept.table self.old.marks first }
         ensures draft { OnOk result (IsDraft setting.now self.new start (S.state shelf.new)) }
-        ensures more { IfOk result (λ more. IsTrue more → class_count self.old.keeper.kept.table < class_count self.new.keeper.kept.table) }
-        ensures marked { IfOk result (λ more. ¬ IsTrue more → AreAllMarked self.new.keeper.kept.table self.new.marks) }
+        ensures more { IfOk result (λ next. IsSome next → class_count self.old.keeper.kept.table < class_count self.new.keeper.kept.table) }
+        ensures marked { IfOk result (λ next. MatchOption next (AreAllMarked self.new.keeper.kept.table self.new.marks) (AreMarkedUpTo self.new.keeper.kept.table self.new.marks)) }
         ensures err { IfErr result (λ fault. BrokeOff setting.now.circuit fault start (S.state shelf.new)) }
     {
-        let mut from = 0;
+        let mut from = first;
         while let Some(member) = self.marks.next_open(self.keeper.classes(), from) {
+            let count = self.keeper.classes().count();
             if self.settle(alloc, setting, shelf, member)? {
-                return Ok(true);
+                return Ok(Some(lowest_fallen(self.keeper.classes(), count, member)));
             }
             from = member + 1;
         }
-        Ok(false)
+        Ok(None)
     }
 
     // Writes evidence for the lowest number that isn't marked, or the pattern that tells it from its representative.
@@ -117,6 +125,7 @@ impl<'a> Draft<'a> {
         requires lowest { IsLowestOpen self.old.keeper.kept.table self.old.marks member }
         ensures draft { OnOk result (IsDraft setting.now self.new start (S.state shelf.new)) }
         ensures more { IfOk result (λ apart. IsTrue apart → class_count self.old.keeper.kept.table < class_count self.new.keeper.kept.table) }
+        ensures stay { IfOk result (λ apart. IsTrue apart → DoMarksStay self.old.keeper.kept.table self.new.keeper.kept.table self.old.marks self.new.marks) }
         ensures same { IfOk result (λ apart. ¬ IsTrue apart → self.new.keeper.kept ≡ self.old.keeper.kept) }
         ensures marked { IfOk result (λ apart. ¬ IsTrue apart → (n : ℕ) → n < member + 1 → IsSome (given_mark self.new.keeper.kept.table self.new.marks n)) }
         ensures err { IfErr result (λ fault. BrokeOff setting.now.circuit fault start (S.state shelf.new)) }
@@ -124,8 +133,8 @@ impl<'a> Draft<'a> {
         let classes = self.keeper.classes();
         let lead = classes.representative(classes.class_of(member));
         match settle_pair(alloc, setting, &mut self.pool, lead, member) {
-            Ok(Settled::Apart(v)) => {
-                self.add_pattern(alloc, setting, shelf, member, v)?;
+            Ok(Settled::Apart(cube)) => {
+                self.add_pattern(alloc, setting, shelf, member, &cube)?;
                 Ok(true)
             }
             Ok(Settled::By(proof)) => {
@@ -143,18 +152,19 @@ impl<'a> Draft<'a> {
         setting: &Setting,
         shelf: &mut S,
         member: u32,
-        v: Vector,
+        cube: &[Option<bool>],
     ) -> Result<(), ShelfFault>
         ghost start: { State }
         requires draft { IsDraft setting.now self.old start (S.state shelf.old) }
         requires lowest { IsLowestOpen self.old.keeper.kept.table self.old.marks member }
-        requires apart { IsApartBy setting.now.circuit (fault_numbered setting.now.circuit (representative self.old.keeper.kept.table (class_at self.old.keeper.kept.table member))) (fault_numbered setting.now.circuit member) setting.now.budgets v }
+        requires apart { AreApartBy setting.now.circuit (fault_numbered setting.now.circuit (representative self.old.keeper.kept.table (class_at self.old.keeper.kept.table member))) (fault_numbered setting.now.circuit member) setting.now.budgets cube.now }
         ensures draft { OnOk result (IsDraft setting.now self.new start (S.state shelf.new)) }
         ensures more { OnOk result (class_count self.old.keeper.kept.table < class_count self.new.keeper.kept.table) }
+        ensures stay { OnOk result (DoMarksStay self.old.keeper.kept.table self.new.keeper.kept.table self.old.marks self.new.marks) }
         ensures err { IfErr result (λ fault. BrokeOff setting.now.circuit fault start (S.state shelf.new)) }
     {
-        match self.keeper.keep(&v) {
-            Ok(()) => write_pattern(alloc, shelf, &v),
+        match self.keeper.keep_of_cube(cube) {
+            Ok(()) => write_last(alloc, shelf, self.keeper.vectors()),
             Err(_) => Err(ShelfFault::NoMemory),
         }
     }

@@ -3,6 +3,7 @@
 
 mod counts;
 mod draft;
+mod fallen;
 mod output;
 mod pair;
 mod setting;

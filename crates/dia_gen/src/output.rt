@@ -15,6 +15,7 @@ use crate::setting::Setting;
 use crate::writing::{write_classes, write_line, write_members};
 use class_refine::named_separates_faults;
 use diag_shelf::{Shelf, ShelfFault};
+use distinguish_search::Levels;
 use fault_collapse::{collapse, same_root_equal};
 use fault_list::list;
 use net_model::Circuit;
@@ -45,7 +46,10 @@ pub fn generate<S: Shelf>(
     let Ok(forest) = collapse(alloc, circuit, &listed) else {
         return Err(ShelfFault::NoMemory);
     };
-    let setting = Setting::new(circuit, &listed, &forest, budgets);
+    let Ok(levels) = Levels::new(alloc, circuit) else {
+        return Err(ShelfFault::NoMemory);
+    };
+    let setting = Setting::new(circuit, &listed, &forest, &levels, budgets);
     write_result(alloc, &setting, shelf)
 }
 

@@ -1,24 +1,26 @@
 //! What becomes of a number and its representative.
 
-ghost use Rattle.std.specs.Prelude.{◌≡◌, ◌<◌, ◌∷◌, [], IfOk, OnOk};
+ghost use Rattle.std.specs.Prelude.{◌≡◌, ◌<◌, ◌∷◌, [], IfOk, OnOk, length};
+ghost use Rattle.net_model.specs.Circuit.{IsCircuit};
 ghost use Rattle.net_model.specs.Fault.{IsFaultOf};
 ghost use Rattle.net_model.specs.FaultList.{fault_count, fault_numbered};
-ghost use Rattle.dia_gen.specs.Settled.{IsSettledFor, IsSearched, IsOpenFor, IsSettledBy};
+ghost use Rattle.dia_gen.specs.Settled.{HasRelevant, IsSettledFor, IsSearched, IsOpenFor, IsSettledBy};
 
 use crate::setting::Setting;
 use clause_pool::Pool;
 use distinguish_search::{Found, search};
+use fault_list::Scope;
 use learn_solver::{Solved, solve};
 use net_model::{Circuit, Fault, Vector};
 use pair_miter::{Log, build};
 use pair_sets::{Token, Tree};
-use result_file::{Budgets, Proof};
+use result_file::Proof;
 use std::alloc::{AllocError, Global};
 
-// A vector that separates the two, or evidence.
+// A cube whose vectors all separate the two, or evidence.
 #[derive(Drop)]
 pub(crate) enum Settled {
-    Apart(Vector),
+    Apart(Vec<Option<bool>>),
     By(Proof),
 }
 
@@ -40,30 +42,26 @@ pub(crate) fn settle_pair(
     if setting.same_root(lead, member) {
         return Ok(Settled::By(Proof::Collapse));
     }
-    let circuit = setting.circuit();
     let f = setting.fault(lead);
     let g = setting.fault(member);
-    match search_cubes(alloc, circuit, &f, &g, setting.budgets())? {
-        Found::Vector(v) => Ok(Settled::Apart(v)),
+    match search_cubes(alloc, setting, &f, &g)? {
+        Found::Apart(cube) => Ok(Settled::Apart(cube)),
         Found::Covered(tree) => Ok(Settled::By(Proof::Covered(tree))),
         Found::Spent(tree) => learn(alloc, setting, pool, &f, &g, tree),
     }
 }
 
 // What a search of cubes finds: without a budget for it, the tree of one open leaf.
-fn search_cubes(
-    alloc: Global,
-    circuit: &Circuit,
-    f: &Fault,
-    g: &Fault,
-    budgets: Budgets,
-) -> Result<Found, AllocError>
-    requires first { IsFaultOf circuit.now f.now }
-    requires second { IsFaultOf circuit.now g.now }
-    ensures { IfOk result (IsSearched circuit.now f.now g.now budgets) }
+fn search_cubes(alloc: Global, setting: &Setting, f: &Fault, g: &Fault) -> Result<Found, AllocError>
+    requires first { IsFaultOf setting.now.circuit f.now }
+    requires second { IsFaultOf setting.now.circuit g.now }
+    ensures found { IfOk result (IsSearched setting.now.circuit f.now g.now setting.now.budgets) }
+    ensures circuit { IsCircuit setting.now.circuit }
 {
-    if budgets.cubes > 0 {
-        return search(alloc, circuit, f, g, budgets.cubes);
+    let circuit = setting.circuit();
+    let cubes = setting.budgets().cubes;
+    if cubes > 0 {
+        return search(alloc, circuit, setting.levels(), f, g, cubes);
     }
     let mut tree = Tree::new(alloc);
     tree.push(Token::Rest)?;
@@ -96,8 +94,30 @@ fn learn(
     let solved = solve(alloc, &miter, pool, conflicts)?;
     pool.release(empty);
     match solved {
-        Solved::Vector(v) => Ok(Settled::Apart(v)),
+        Solved::Vector(v) => Ok(Settled::Apart(cube_of(alloc, circuit, f, g, &v)?)),
         Solved::Refuted(log) => Ok(Settled::By(Proof::Refuted(tree, log))),
         Solved::Spent(log) => Ok(Settled::By(Proof::Spent(tree, log))),
     }
+}
+
+// The cube of the bits that a vector has at the relevant sources of two faults. The others are free.
+fn cube_of(
+    alloc: Global,
+    circuit: &Circuit,
+    f: &Fault,
+    g: &Fault,
+    v: &Vector,
+) -> Result<Vec<Option<bool>>, AllocError>
+    requires { length v.now ≡ circuit.now.sources }
+    ensures width { IfOk result (λ cube. length cube.items ≡ length v.now) }
+    ensures fixed { IfOk result (λ cube. HasRelevant circuit.now f.now g.now v.now cube.items) }
+{
+    let scope = Scope::of(alloc, circuit, f, g)?;
+    let mut cube = vec![in alloc; None; v.len()]?;
+    for source in 0..circuit.sources() {
+        if scope.relevant(source) {
+            cube[source as usize] = Some(v.get(source as usize));
+        }
+    }
+    Ok(cube)
 }

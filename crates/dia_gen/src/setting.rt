@@ -13,6 +13,7 @@ ghost use Rattle.dia_gen.specs.Setting as spec;
 ghost use Rattle.dia_gen.specs.Setting.{setting_with};
 ghost use Rattle.dia_gen.specs.SettingFields.{setting_of, IsReady};
 
+use distinguish_search::Levels;
 use fault_collapse::Forest;
 use fault_list::FaultList;
 use kept_vectors::Keeper;
@@ -21,12 +22,13 @@ use result_file::Budgets;
 use std::alloc::{AllocError, Global};
 use std::marker::Model;
 
-// A circuit, the list of its faults, the forest in which they are collapsed, and the budgets.
+// A circuit, the list of its faults, the forest in which they are collapsed, the levels of its lines, and the budgets.
 #[derive(Drop)]
 pub(crate) struct Setting<'a> {
     circuit: &'a Circuit,
     listed: &'a FaultList,
     forest: &'a Forest,
+    levels: &'a Levels,
     budgets: Budgets,
 }
 
@@ -43,6 +45,7 @@ impl<'a> Setting<'a> {
         circuit: &'a Circuit,
         listed: &'a FaultList,
         forest: &'a Forest,
+        levels: &'a Levels,
         budgets: Budgets,
     ) -> Setting<'a>
         requires listed { listed.now ≡ faults circuit.now }
@@ -54,6 +57,7 @@ impl<'a> Setting<'a> {
             circuit,
             listed,
             forest,
+            levels,
             budgets,
         }
     }
@@ -63,6 +67,11 @@ impl<'a> Setting<'a> {
         ensures circuit { IsCircuit result.now }
     {
         self.circuit
+    }
+
+    // The levels of the circuit's lines.
+    pub(crate) fn levels(&self) -> &'a Levels {
+        self.levels
     }
 
     pub(crate) fn budgets(&self) -> Budgets

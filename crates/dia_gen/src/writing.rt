@@ -1,6 +1,6 @@
 //! Lines that are written to a shelf as they are made.
 
-ghost use Rattle.std.specs.Prelude.{◌≡◌, ◌∷◌, [], map, length};
+ghost use Rattle.std.specs.Prelude.{◌≡◌, ◌∷◌, ◌<◌, ◌-◌, [], map, length, slice_index_or};
 ghost use Rattle.net_model.specs.ClassTable.{number_range};
 ghost use Rattle.result_file.specs.declared.record.Record.TheVariants.{Pattern};
 ghost use Rattle.result_file.specs.Spelling.{text_of};
@@ -45,6 +45,18 @@ pub(crate) fn write_pattern<S: Shelf>(
         Ok(()) => write_all(shelf, text.as_bytes()),
         Err(_) => Err(ShelfFault::NoMemory),
     }
+}
+
+// Writes the line of the last pattern.
+pub(crate) fn write_last<S: Shelf>(
+    alloc: Global,
+    shelf: &mut S,
+    vectors: &[Vector],
+) -> Result<(), ShelfFault>
+    requires { 0 < length vectors.now }
+    ensures { WritesText (text_of (Pattern (slice_index_or vectors.now (length vectors.now - 1) []) ∷ [])) result (S.state shelf.old) (S.state shelf.new) }
+{
+    write_pattern(alloc, shelf, &vectors[vectors.len() - 1])
 }
 
 // Writes the first two lines.

@@ -13,6 +13,7 @@ use Rattle.class_refine.proofs.Refined.{sound_from, split_adds, cuts_from}
 use Rattle.word_sim.specs.GoodSim.{GoodSim}
 use Rattle.fault_sim.specs.FaultyLanes.{vector_at}
 use Rattle.kept_vectors.specs.declared.notes.Note.{Note}
+use Rattle.kept_vectors.specs.declared.spans.Span.{Span}
 use Rattle.kept_vectors.specs.Kept.{KeptSoFar, Keeps, KeepsFirst, KeepsRun, IsFiner}
 use Rattle.kept_vectors.specs.Keeper.{keeper_with, IsKeeper}
 use Rattle.kept_vectors.specs.Notes.{AreTold}
@@ -21,7 +22,7 @@ use Rattle.kept_vectors.proofs.AnswerLemmas.{one_table}
 use Rattle.kept_vectors.proofs.KeepLemmas.{ran_vectors, keeps_none, keeps_lane, keeper_after}
 
 -- what is told of a table is told of one in which more numbers are apart
-pub told_later : {good : GoodSim} {vectors : List (List Bool)} {splitting : List Bool} {notes : List Note} {t u : ClassTable} → IsWhole u → IsFiner t u → AreTold good vectors splitting notes t → AreTold good vectors splitting notes u
+pub told_later : {good : GoodSim} {vectors : List (List Bool)} {splitting : List Bool} {spans : List Span} {notes : List Note} {t u : ClassTable} → IsWhole u → IsFiner t u → AreTold good vectors splitting spans notes t → AreTold good vectors splitting spans notes u
 told_later {t = t} {u = u} whole finer told =
     let numbers = finer.numbers in
     let same : (m n : ℕ) → m < length u.class_of → n < length u.class_of → class_at u m ≡ class_at u n → (m < length t.class_of) × (n < length t.class_of) × (class_at t m ≡ class_at t n) =
@@ -34,6 +35,8 @@ told_later {t = t} {u = u} whole finer told =
       right = told.right;
       noted = λ m n hm hn e. let old = same m n hm hn e in told.noted m n old.0 old.1 old.2;
       alike = λ m n lane hm hn e. let old = same m n hm hn e in told.alike m n lane old.0 old.1 old.2;
+      parts = told.parts;
+      shown = λ m n lane hm hn e. let old = same m n hm hn e in told.shown m n lane old.0 old.1 old.2;
     }
 
 -- ---- one vector

@@ -22,9 +22,9 @@ use Rattle.fault_sim.specs.FaultyLanes.{vector_at}
 use Rattle.kept_vectors.specs.declared.notes.Note.{Note}
 use Rattle.kept_vectors.specs.Kept.{KeptSoFar, nothing_kept, with_vector, Keeps, KeepsFirst, SplitInTurn, IsFiner}
 use Rattle.kept_vectors.specs.Keeper.{keeper_with, IsKeeper}
-use Rattle.kept_vectors.specs.Notes.{is_noted, AreRight, AreNoted, AreAlikeAt, IsBlank, bit_in}
+use Rattle.kept_vectors.specs.Notes.{is_noted, AreRight, AreAlikeAt, IsBlank, bit_in}
 use Rattle.kept_vectors.proofs.AnswerLemmas.{row_exists, answer_in_row}
-use Rattle.kept_vectors.proofs.RowLemmas.{tell_same}
+use Rattle.kept_vectors.proofs.RowLemmas.{AreNotedAt, tell_same}
 use Rattle.kept_vectors.proofs.SameCuts.{same_kept, none_kept, whole_kept}
 
 -- ---- vectors with their rows
@@ -264,13 +264,13 @@ keeps_lane {old} {mid} {new} good all lane ran inside before one =
 
 module _ (good : GoodSim) (is : IsCircuit good.circuit) (kept : KeptSoFar) (numbers : length kept.table.class_of ≡ fault_count good.circuit) (lane : ℕ) (live : lane < length (vectors_of good)) where
   -- a lane whose vector is offered with the row of what is noted
-  pub offered_lane : (notes : List Note) → AreRight good notes → ((m n : ℕ) → m < length kept.table.class_of → n < length kept.table.class_of → class_at kept.table m ≡ class_at kept.table n → AreNoted good notes m n)
+  pub offered_lane : (notes : List Note) → AreRight good notes → ((m n : ℕ) → m < length kept.table.class_of → n < length kept.table.class_of → class_at kept.table m ≡ class_at kept.table n → AreNotedAt good lane notes m n)
       → (row : List (List Bool)) → ((number position : ℕ) → bit_in row number position ≡ is_noted notes lane number position)
       → ((number : ℕ) → number < fault_count good.circuit → length (get_or row number []) ≡ length good.circuit.positions)
       → (new : KeptSoFar) → new ≡ with_vector kept (vector_at good lane, row) → Keeps good.circuit (vector_at good lane ∷ []) kept new
   offered_lane notes right noted row set widths new offered =
       keeps_one good.circuit (vector_at good lane) kept new (λ answers are.
-      offered ∙ same_kept kept (vector_at good lane) row answers (tell_same good is notes right kept.table numbers noted lane live row answers set widths are))
+      offered ∙ same_kept kept (vector_at good lane) row answers (tell_same good is notes right kept.table numbers lane live noted row answers set widths are))
 
   -- a lane that splits no class
   pub skipped_lane : IsWhole kept.table → ((m n : ℕ) → m < length kept.table.class_of → n < length kept.table.class_of → class_at kept.table m ≡ class_at kept.table n → AreAlikeAt good lane m n)

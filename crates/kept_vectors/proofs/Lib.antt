@@ -2,7 +2,9 @@ pub mod AnswerLemmas
 mod NoteLemmas
 mod SpanLemmas
 mod RowLemmas
+mod ShownLemmas
 mod SameCuts
+mod CubeLemmas
 pub mod KeepLemmas
 pub mod JudgeLemmas
 mod RootLemmas

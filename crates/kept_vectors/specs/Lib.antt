@@ -1,5 +1,7 @@
+pub mod Cube
 pub mod Kept
 pub mod Keeper
 pub mod KeeperFields
 pub mod Notes
 pub mod Scan
+pub mod Spans

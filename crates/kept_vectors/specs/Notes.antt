@@ -12,7 +12,9 @@ use Rattle.word_sim.specs.GoodSim.{GoodSim, vectors_of}
 use Rattle.fault_sim.specs.FaultyLanes.{vector_at}
 use Rattle.fault_sim.specs.FaultSim.{FaultSim, row_at, IsDifference}
 use Rattle.kept_vectors.specs.declared.notes.Note.{Note}
+use Rattle.kept_vectors.specs.declared.spans.Span.{Span}
 use Rattle.kept_vectors.specs.declared.differences.Differences.{Differences}
+use Rattle.kept_vectors.specs.Spans.{ArePartsOf, lane_notes}
 
 -- whether a note has the lane, for a position of a number
 abbrev pub has_lane : ℕ → ℕ → ℕ → Note → Bool
@@ -67,9 +69,20 @@ module _ (good : GoodSim) where
   abbrev pub AreNoted : List Note → ℕ → ℕ → Type 0
   AreNoted notes m n = (IsWholeOf notes m × IsWholeOf notes n) ⊎ (IsUnnoted notes m × IsUnnoted notes n × ((lane : ℕ) → lane < length (vectors_of good) → AreAlikeAt lane m n))
 
+  -- All that is noted of the number in the lane is shown, or nothing is.
+  abbrev pub IsShown : List Note → List Note → ℕ → ℕ → Type 0
+  IsShown shown notes lane number = (position : ℕ) → position < length good.circuit.positions → is_noted shown lane number position ≡ is_noted notes lane number position
+
+  abbrev pub IsHidden : List Note → ℕ → ℕ → Type 0
+  IsHidden shown lane number = (position : ℕ) → position < length good.circuit.positions → is_noted shown lane number position ≡ false
+
+  -- Both numbers are shown in the lane, or neither is, and they answer alike to its vector.
+  abbrev pub AreShown : List Note → List Note → ℕ → ℕ → ℕ → Type 0
+  AreShown shown notes lane m n = (IsShown shown notes lane m × IsShown shown notes lane n) ⊎ (IsHidden shown lane m × IsHidden shown lane n × AreAlikeAt lane m n)
+
 -- The circuit has run these vectors, and it is noted how the numbers of each class of the table answer to them. A lane that is false in
--- `splitting` tells no two of one class apart.
-pub record AreTold (good : GoodSim) (vectors : List (List Bool)) (splitting : List Bool) (notes : List Note) (t : ClassTable) : Type 0 where
+-- `splitting` tells no two of one class apart, nor does one that is false in the span of a class two of that class.
+pub record AreTold (good : GoodSim) (vectors : List (List Bool)) (splitting : List Bool) (spans : List Span) (notes : List Note) (t : ClassTable) : Type 0 where
   pub circuit : IsCircuit good.circuit
   pub ran : good.ran ≡ Some vectors
   pub whole : IsWhole t
@@ -77,6 +90,8 @@ pub record AreTold (good : GoodSim) (vectors : List (List Bool)) (splitting : Li
   pub right : AreRight good notes
   pub noted : (m n : ℕ) → m < length t.class_of → n < length t.class_of → class_at t m ≡ class_at t n → AreNoted good notes m n
   pub alike : (m n lane : ℕ) → m < length t.class_of → n < length t.class_of → class_at t m ≡ class_at t n → lane < length (vectors_of good) → bit_at splitting lane ≡ false → AreAlikeAt good lane m n
+  pub parts : ArePartsOf notes spans
+  pub shown : (m n lane : ℕ) → m < length t.class_of → n < length t.class_of → class_at t m ≡ class_at t n → lane < length (vectors_of good) → AreShown good (lane_notes spans notes lane) notes lane m n
 
 -- Numbers with one root answer alike to every vector.
 pub record AreRootsOf (c : Circuit) (roots : List ℕ) : Type 0 where

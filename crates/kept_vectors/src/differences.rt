@@ -6,9 +6,12 @@ ghost use Rattle.net_model.specs.Answer.{bit_at};
 ghost use Rattle.net_model.specs.ClassTable.{class_at};
 ghost use Rattle.word_sim.specs.GoodSim.{vectors_of};
 ghost use Rattle.fault_sim.specs.FaultSim.{row_at, AreDifferences};
-ghost use Rattle.kept_vectors.specs.Notes.{AreRight, AreNoted, IsUnnoted, AreAlikeAt, HasRun, AreOf, AreSpans, IsReportOf};
+ghost use Rattle.kept_vectors.specs.Notes.{AreRight, AreNoted, IsUnnoted, AreAlikeAt, HasRun, AreOf, AreSpans, IsReportOf, AreShown};
+ghost use Rattle.kept_vectors.specs.Spans.{ArePartsOf, lane_notes};
 
 use crate::notes::{Note, copy_notes, have_one_root, simulate};
+use crate::spans::{Span, add_span};
+use crate::tally::Tally;
 use class_refine::Classes;
 use fault_list::FaultList;
 use fault_sim::FaultSim;
@@ -17,15 +20,18 @@ use std::alloc::{AllocError, Global};
 use word_sim::{GoodSim, LANES, Lanes};
 
 // The simulators of a class's representative and of its other members, and what was noted of the numbers' answers
-// to the vectors of a block. In a class only one number of each root is simulated: `places` has by root the place of the
-// number that was, and `starts` by place where its notes start.
+// to the vectors of a block, with the spans of the classes of which something was. In a class only one number of each
+// root is simulated: `places` has by root the place of the number that was, and `starts` by place where its notes start.
+// `tally` has by lane how many of them answer otherwise than their representatives.
 #[derive(Drop)]
 pub(crate) struct Differences<'a> {
     pub(crate) lead: FaultSim<'a>,
     pub(crate) member: FaultSim<'a>,
     pub(crate) notes: Vec<Note>,
+    pub(crate) spans: Vec<Span>,
     pub(crate) places: Vec<usize>,
     pub(crate) starts: Vec<usize>,
+    pub(crate) tally: Tally,
 }
 
 impl<'a> Differences<'a> {
@@ -42,8 +48,10 @@ impl<'a> Differences<'a> {
             lead: FaultSim::new(alloc, circuit)?,
             member: FaultSim::new(alloc, circuit)?,
             notes: Vec::new(alloc),
+            spans: Vec::new(alloc),
             places: vec![in alloc; 0; numbers]?,
             starts: vec![in alloc; 0; numbers + 1]?,
+            tally: Tally::new(alloc)?,
         })
     }
 
@@ -63,11 +71,17 @@ impl<'a> Differences<'a> {
         ensures right { OnOk result (AreRight good.now self.new.notes.items) }
         ensures noted { OnOk result ((m n : ℕ) → m < length classes.now.class_of → n < length classes.now.class_of → class_at classes.now m ≡ class_at classes.now n → AreNoted good.now self.new.notes.items m n) }
         ensures alike { IfOk result (λ lanes. (m n lane : ℕ) → m < length classes.now.class_of → n < length classes.now.class_of → class_at classes.now m ≡ class_at classes.now n → lane < length (vectors_of good.now) → bit_at lanes lane ≡ false → AreAlikeAt good.now lane m n) }
+        ensures parts { OnOk result (ArePartsOf self.new.notes.items self.new.spans.items) }
+        ensures shown { OnOk result ((m n lane : ℕ) → m < length classes.now.class_of → n < length classes.now.class_of → class_at classes.now m ≡ class_at classes.now n → lane < length (vectors_of good.now) → AreShown good.now (lane_notes self.new.spans.items self.new.notes.items lane) self.new.notes.items lane m n) }
     {
         self.notes.clear();
+        self.spans.clear();
+        self.tally.clear();
         let mut lanes = Lanes::all(false);
         for class in 0..classes.count() {
+            let start = self.notes.len();
             let apart = self.note_class(listed, good, roots, classes.members(class))?;
+            add_span(&mut self.spans, apart, start, self.notes.len())?;
             lanes = lanes.or(apart);
         }
         Ok(lanes)
@@ -88,6 +102,7 @@ impl<'a> Differences<'a> {
         requires of { AreOf good.now.circuit self.old }
         requires right { AreRight good.now self.old.notes.items }
         ensures of { AreOf good.now.circuit self.new }
+        ensures spans { self.new.spans ≡ self.old.spans }
         ensures right { OnOk result (AreRight good.now self.new.notes.items) }
         ensures more { OnOk result ((more : List Note) × (self.new.notes.items ≡ self.old.notes.items ++ more) × All (λ note. Contains group.now note.number) more) }
         ensures noted { OnOk result ((m n : ℕ) → Contains group.now m → Contains group.now n → AreNoted good.now self.new.notes.items m n) }
@@ -128,6 +143,7 @@ impl<'a> Differences<'a> {
         requires start { slice_index self.old.starts.items at ≡ length self.old.notes.items }
         requires alike { (k lane : ℕ) → k < at → lane < length (vectors_of good.now) → bit_at lanes lane ≡ false → AreAlikeAt good.now lane (slice_index group.now 0) (slice_index group.now k) }
         ensures of { AreOf good.now.circuit self.new }
+        ensures kept { self.new.spans ≡ self.old.spans }
         ensures lead { OnOk result (self.new.lead ≡ self.old.lead) }
         ensures more { OnOk result ((more : List Note) × (self.new.notes.items ≡ self.old.notes.items ++ more) × IsReportOf good.now (slice_index group.now at) more) }
         ensures spans { OnOk result (AreSpans good.now group.now (at + 1) self.new.starts.items self.new.notes.items) }
@@ -146,7 +162,9 @@ impl<'a> Differences<'a> {
         simulate(&mut self.member, listed, good, number, &mut self.notes)?;
         self.starts[at + 1] = self.notes.len();
         self.places[root as usize] = at;
-        Ok(lanes.or(apart(&self.lead, &self.member)))
+        let told = apart(&self.lead, &self.member);
+        self.tally.add(told);
+        Ok(lanes.or(told))
     }
 }
 

@@ -1,14 +1,16 @@
 //! The keeper of vectors.
 
-ghost use Rattle.std.specs.Prelude.{◌≡◌, ◌≤◌, ◌<◌, ℕ, [], ◌∷◌, All, IfOk, OnOk, OnErr, length, slice_index_or};
+ghost use Rattle.std.specs.Prelude.{◌≡◌, ◌≤◌, ◌<◌, ℕ, List, Bool, [], ◌∷◌, All, IfOk, OnOk, OnErr, length, slice_index_or};
 ghost use Rattle.net_model.specs.FaultList.{faults as faults_of, fault_count};
 ghost use Rattle.net_model.specs.PatternRows.{SplitsClass};
 ghost use Rattle.fault_collapse.specs.Forest.{IsForestOf};
 ghost use Rattle.word_sim.specs.Block.{block_with};
 ghost use Rattle.word_sim.specs.Stream.{stream};
+ghost use Rattle.kept_vectors.specs.Cube.{IsOfCube};
 ghost use Rattle.kept_vectors.specs.Kept.{nothing_kept, Keeps, KeepsFirst, KeepsRun};
 ghost use Rattle.kept_vectors.specs.Keeper.{keeper_with, IsKeeper};
 
+use crate::cube::fix_sources;
 use crate::scan::{Kept, Scan};
 use class_refine::Classes;
 use fault_collapse::Forest;
@@ -23,13 +25,19 @@ use word_sim::{Block, LANES, Stream, stream_continues};
 pub struct Keeper<'a> {
     scan: Scan<'a>,
     kept: Kept,
+    // Behind the blocks that were drawn of it.
+    stream: Stream,
 }
 
 // Written out, it is one step in the proof of each function that lets a keeper go, where a derived one is a step for
 // each vector in it.
 impl Drop for Keeper<'_> {
     fn drop(self) {
-        let Keeper { scan: _, kept: _ } = self;
+        let Keeper {
+            scan: _,
+            kept: _,
+            stream: _,
+        } = self;
     }
 }
 
@@ -62,7 +70,8 @@ impl<'a> Keeper<'a> {
             vectors: Vec::new(alloc),
             classes: Classes::new(alloc, faults.len())?,
         };
-        Ok(Keeper { scan, kept })
+        let stream = Stream::new(circuit.sources());
+        Ok(Keeper { scan, kept, stream })
     }
 
     /// Keeps of the vectors of the first blocks of the stream those that split a class. After an error the first of them
@@ -80,6 +89,7 @@ impl<'a> Keeper<'a> {
             left -= stream.fill(left, &mut self.scan.block);
             self.scan.keep_block(&mut self.kept)?;
         }
+        self.stream = stream;
         Ok(())
     }
 
@@ -93,6 +103,20 @@ impl<'a> Keeper<'a> {
         self.scan.block.clear();
         self.scan.block.push(v);
         self.scan.keep_block(&mut self.kept)
+    }
+
+    /// Keeps a vector of a cube if it splits a class: of the next block of the stream, with the bits of the cube in each
+    /// vector, the one at which most members of classes answer otherwise than their representatives.
+    pub fn keep_of_cube(&mut self, cube: &[Option<bool>]) -> Result<(), AllocError>
+        requires { length cube.now ≡ self.old.circuit.sources }
+        ensures circuit { self.new.circuit ≡ self.old.circuit }
+        ensures ok { OnOk result ((v : List Bool) × IsOfCube cube.now v × Keeps self.old.circuit (v ∷ []) self.old.kept self.new.kept) }
+        ensures err { OnErr result (self.new.kept ≡ self.old.kept) }
+    {
+        self.scan.block.clear();
+        self.stream.fill(1, &mut self.scan.block);
+        fix_sources(&mut self.scan.block, cube);
+        self.scan.keep_fullest(&mut self.kept)
     }
 
     /// Keeps the vectors of a run, one after another, up to the first that splits no class. Answers how many are kept. After
@@ -132,7 +156,11 @@ impl<'a> Keeper<'a> {
         ensures classes { result.1 ≡ self.entry.kept.table }
         ensures keeper { IsKeeper self.entry }
     {
-        let Keeper { scan: _, kept } = self;
+        let Keeper {
+            scan: _,
+            kept,
+            stream: _,
+        } = self;
         kept.into_parts()
     }
 }

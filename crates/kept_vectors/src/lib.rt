@@ -2,9 +2,12 @@
 #![tactic(auto)]
 
 mod answers;
+mod cube;
 mod differences;
 mod keeper;
 mod notes;
 mod scan;
+mod spans;
+mod tally;
 
 pub use keeper::Keeper;

@@ -1,7 +1,10 @@
 //! The scan of a block for vectors that split a class.
 
-ghost use Rattle.std.specs.Prelude.{◌≡◌, ◌≤◌, ◌<◌, ℕ, [], ◌∷◌, IfOk, OnOk, OnErr, length};
+ghost use Rattle.std.specs.Prelude.{◌≡◌, ◌≤◌, ◌<◌, ◌++◌, ◌⊎◌, ℕ, [], ◌∷◌, All, Contains, IfOk, OnOk, OnErr, length};
+ghost use Rattle.std.specs.List.Sorted.{IsStrictlyIncreasing};
 ghost use Rattle.net_model.specs.FaultList.{faults as faults_of, fault_count};
+ghost use Rattle.net_model.specs.ClassTable.{class_at};
+ghost use Rattle.class_refine.specs.CutIn.{AreClassesOf, AreAlikeElsewhere};
 ghost use Rattle.class_refine.specs.Fields.{IsWhole};
 ghost use Rattle.fault_collapse.specs.Forest.{IsForestOf};
 ghost use Rattle.fault_sim.specs.FaultyLanes.{vector_at};
@@ -12,6 +15,7 @@ ghost use Rattle.kept_vectors.specs.Notes.{AreTold, IsBlank};
 use crate::answers::{clear_row, fill_row};
 use crate::differences::Differences;
 use crate::notes::Note;
+use crate::spans::{Span, notes_at};
 use class_refine::Classes;
 use fault_collapse::Forest;
 use fault_list::FaultList;
@@ -27,19 +31,36 @@ pub(crate) struct Kept {
 }
 
 impl Kept {
-    // Keeps a vector with this row of answers where it splits a class. Answers whether it does.
-    fn offer(&mut self, v: Vector, row: &AnswerRows) -> Result<bool, AllocError>
-        requires { length row.now ≡ length self.old.classes.class_of }
+    // Keeps a vector with this row of answers where it splits a class. Answers whether it does. It can split no classes
+    // but these.
+    fn offer(&mut self, v: Vector, classes: &[u32], row: &AnswerRows) -> Result<bool, AllocError>
+        requires rows { length row.now ≡ length self.old.classes.class_of }
+        requires classes { AreClassesOf self.old.classes classes.now }
+        requires elsewhere { AreAlikeElsewhere self.old.classes row.now classes.now }
         ensures ok { OnOk result (kept_now self.new ≡ with_vector (kept_now self.old) (v, row.now)) }
         ensures kept { IfOk result (λ splits. IsOffered splits v (kept_now self.old) (kept_now self.new)) }
         ensures err { OnErr result (kept_now self.new ≡ kept_now self.old) }
     {
         self.vectors.reserve(1)?;
-        let splits = self.classes.refine(row)? > 0;
+        let splits = self.classes.refine_in(classes, row)? > 0;
         if splits {
             self.vectors.push_reserved(v);
         }
         Ok(splits)
+    }
+
+    // The classes of the numbers of these notes, ascending.
+    fn classes_of(&self, notes: &[Note]) -> Result<Vec<u32>, AllocError>
+        requires { All (λ note. note.number < length self.now.classes.class_of) notes.now }
+        ensures classes { IfOk result (λ listed. AreClassesOf self.now.classes listed.items) }
+        ensures listed { IfOk result (λ listed. All (λ note. Contains listed.items (class_at self.now.classes note.number)) notes.now) }
+    {
+        let mut listed = Vec::new(*self.vectors.allocator());
+        for note in notes {
+            list(&mut listed, self.classes.class_of(note.number))?;
+        }
+        put_in_order(&mut listed);
+        Ok(listed)
     }
 
     // The vectors and the classes.
@@ -50,6 +71,28 @@ impl Kept {
         let Kept { vectors, classes } = self;
         (vectors, classes)
     }
+}
+
+// Lists a class, unless it is the last that was listed.
+fn list(listed: &mut Vec<u32>, class: u32) -> Result<(), AllocError>
+    ensures { OnOk result ((Contains listed.old.items class × (listed.new.items ≡ listed.old.items)) ⊎ (listed.new.items ≡ listed.old.items ++ class ∷ [])) }
+{
+    let len = listed.len();
+    if len > 0 && listed[len - 1] == class {
+        return Ok(());
+    }
+    listed.push(class)?;
+    Ok(())
+}
+
+// Puts classes in order, each once.
+fn put_in_order(listed: &mut Vec<u32>)
+    ensures ascend { IsStrictlyIncreasing listed.new.items }
+    ensures all { (class : ℕ) → Contains listed.old.items class → Contains listed.new.items class }
+    ensures others { (class : ℕ) → Contains listed.new.items class → Contains listed.old.items class }
+{
+    listed.sort_unstable();
+    listed.dedup();
 }
 
 // What tells which vectors split a class: the circuit's faults and the forest in which they collapse, a block of
@@ -122,12 +165,13 @@ impl<'a> Scan<'a> {
         let splitting = self
             .differences
             .note_classes(self.listed, &self.good, roots, &kept.classes)?;
-        let notes = self.differences.notes.as_slice();
+        let Differences { spans, notes, .. } = &self.differences;
         judge_lanes(
             &self.block,
             &self.good,
             splitting,
-            notes,
+            spans.as_slice(),
+            notes.as_slice(),
             &mut self.row,
             kept,
             run,
@@ -140,12 +184,13 @@ fn judge_lanes(
     block: &Block,
     good: &GoodSim,
     splitting: Lanes,
+    spans: &[Span],
     notes: &[Note],
     row: &mut AnswerRows,
     kept: &mut Kept,
     run: bool,
 ) -> Result<u32, AllocError>
-    requires told { AreTold good.now block.now.vectors splitting notes.now kept.old.classes }
+    requires told { AreTold good.now block.now.vectors splitting spans.now notes.now kept.old.classes }
     requires blank { IsBlank good.now.circuit row.old }
     ensures blank { IsBlank good.now.circuit row.new }
     ensures ok { IfOk result (λ count. HasJudged good.now.circuit block.now.vectors run count (kept_now kept.old) (kept_now kept.new)) }
@@ -154,7 +199,7 @@ fn judge_lanes(
 {
     let live = block.live();
     for lane in 0..live {
-        let splits = judge_lane(block, good, lane, splitting, notes, row, kept)?;
+        let splits = judge_lane(block, good, lane, splitting, spans, notes, row, kept)?;
         if run && !splits {
             return Ok(lane);
         }
@@ -163,16 +208,17 @@ fn judge_lanes(
 }
 
 // Keeps the vector of a lane if it splits a class. Answers whether it does.
-fn judge_lane(
+pub(crate) fn judge_lane(
     block: &Block,
     good: &GoodSim,
     lane: u32,
     splitting: Lanes,
+    spans: &[Span],
     notes: &[Note],
     row: &mut AnswerRows,
     kept: &mut Kept,
 ) -> Result<bool, AllocError>
-    requires told { AreTold good.now block.now.vectors splitting notes.now kept.old.classes }
+    requires told { AreTold good.now block.now.vectors splitting spans.now notes.now kept.old.classes }
     requires blank { IsBlank good.now.circuit row.old }
     requires lane { lane < length block.now.vectors }
     requires few { length block.now.vectors ≤ LANES }
@@ -185,8 +231,11 @@ fn judge_lane(
         return Ok(false);
     }
     let v = block.vector(lane)?;
-    fill_row(notes, lane, row);
-    let offered = kept.offer(v, row);
-    clear_row(notes, lane, row);
+    let picked = notes_at(*kept.vectors.allocator(), spans, notes, lane)?;
+    let shown = picked.as_slice();
+    let classes = kept.classes_of(shown)?;
+    fill_row(shown, lane, row);
+    let offered = kept.offer(v, classes.as_slice(), row);
+    clear_row(shown, lane, row);
     offered
 }

@@ -1,4 +1,4 @@
-use Rattle.std.proofs.Common.{◌≡◌, ℕ, ◌<◌, ◌++◌, List, set, length, get_or, sym, ap, subst, ◌∙◌, arith, inl, inr}
+use Rattle.std.proofs.Common.{◌≡◌, ℕ, ◌<◌, ◌++◌, List, set, length, get_or, refl, sym, ap, subst, ◌∙◌, arith, inl, inr}
 use Rattle.std.specs.Prelude.{Contains}
 use Rattle.std.proofs.lemmas.Bool.{cases_lt}
 use Rattle.std.proofs.lemmas.Grind.{get_or_default_zero}
@@ -68,6 +68,7 @@ loop-at-init c =
         places = length-set c.args.self.now.places.items (get_or c.args.roots.now first 0) 0 ∙ c.requires.of.places;
         starts = length-set zeroed 1 c.len-2.result ∙ (length-set starts 0 c.len.result ∙ c.requires.of.starts);
       };
+      kept = refl;
       lead = c.in_ok-simulate.ensures.differ;
       right = subst (AreRight good) (sym noted.1) (right_more good old noted.0 first inside noted.2 c.requires.right);
       more = (noted.0, noted.1, λ k d h. subst (λ n. Contains group n) (sym (noted.2.numbers k d h)) (Contains-get_or group 0 0 (omega (arith, two))));
@@ -92,6 +93,7 @@ loop-at-preserved c =
     let inside : number < fault_count good.circuit = c.requires.inside at 0 (omega arith) in
     record {
       of = ensures.of;
+      kept = ensures.kept ∙ so_far.kept;
       lead = subst (λ (s : FaultSim). AreDifferences good.circuit (fault_numbered good.circuit (get_or group 0 0)) (vectors_of good) s.differences) (sym ensures.lead) so_far.lead;
       right = subst (AreRight good) (sym more.1) (right_more good old more.0 number inside more.2 so_far.right);
       more = (

@@ -11,6 +11,7 @@ use Rattle.kept_vectors.proofs.differences.Differences.note_class.Given as goal
 abbrev pub invariant-loop-at : goal.invariant-loop-at
 invariant-loop-at l = record {
   of : AreOf l.good.circuit l.self;
+  kept : l.self.spans ≡ l.fn.self.spans;
   lead : AreDifferences l.good.circuit (fault_numbered l.good.circuit (get_or l.group 0 0)) (vectors_of l.good) l.self.lead.differences;
   right : AreRight l.good l.self.notes.items;
   more : (more : List Note) × (l.self.notes.items ≡ l.fn.self.notes.items ++ more) × All (λ note. Contains l.group note.number) more;

@@ -1,4 +1,4 @@
-use Rattle.std.proofs.Common.{◌≡◌, ℕ, ◌<◌, length, sym, subst, ◌∙◌, arith, inl, inr}
+use Rattle.std.proofs.Common.{◌≡◌, ℕ, ◌<◌, ◌++◌, length, sym, ap, subst, ◌∙◌, arith, inl, inr}
 use Rattle.std.specs.Prelude.{All, Contains}
 use Rattle.std.proofs.lemmas.Bool.{cases_lt, or_parts}
 use Rattle.std.proofs.lemmas.List.Elements.{All-contains}
@@ -10,6 +10,7 @@ use Rattle.word_sim.specs.GoodSim.{vectors_of}
 use Rattle.kept_vectors.specs.Notes.{AreNoted, IsUnnoted}
 use Rattle.kept_vectors.proofs.NoteLemmas.{unnoted_other, unnoted_later, noted_later}
 use Rattle.kept_vectors.proofs.KeepLemmas.{few_members}
+use Rattle.kept_vectors.proofs.ShownLemmas.{parts_more, shown_later, shown_class}
 use Rattle.kept_vectors.proofs.differences.Differences.note_classes.Goals as goal
 
 pub note_class-requires-clause-inside : goal.note_class-requires-clause-inside
@@ -37,13 +38,16 @@ loop-class-preserved c =
     let old = c.loop-class.self.notes.items in
     let new = c.note_class.new.self.notes.items in
     let more = one.more in
+    let first : c.len-start.result ≡ length old = omega (arith, c.len-start.ensures, c.loop-class.self.notes.ok.0) in
+    let last : c.len.result ≡ length (old ++ more.0) = omega (arith, c.len.ensures, c.note_class.new.self.notes.ok.0, ap length more.1) in
+    let spans = rw one.spans at c.in_ok-add_span.ensures in
     let within = λ (number : ℕ) (h : number < length t.class_of) (e : class_at t number ≡ class). subst (λ g. Contains g number) (sym c.members.ensures) (subst (λ k. Contains (members t k) number) e (members-contains t number h)) in
     let class_of = λ (number : ℕ) (has : Contains group number).
     (All-contains (λ n. (n < length t.class_of) × (class_at t n ≡ class)) (members t class) number (members-All t class) (subst (λ g. Contains g number) c.members.ensures has)).1 in
     let outside = λ (number : ℕ) (ne : class_at t number ≡ class → ⊥) (position lane : ℕ) (h : position < length good.circuit.positions) (live : lane < length (vectors_of good)).
     unnoted_other group number lane position more.0 more.2 (λ has. ne (class_of number has)) in
     record {
-      of = one.of;
+      of = record { lead = one.of.lead; member = one.of.member; places = one.of.places; starts = one.of.starts };
       right = one.right;
       fresh = λ number h above. subst (λ ns. IsUnnoted good ns number) (sym more.1)
           (unnoted_later good old more.0 number (so_far.fresh number h (omega (arith, above))) (outside number (λ e. absurd (omega (arith, e, above)))));
@@ -62,12 +66,26 @@ loop-class-preserved c =
                 let e : class_at t m ≡ class = omega (arith, below, most) in
                 one.alike m n lane (within m hm e) (within n hn (sym same ∙ e)) live parts.1
           ];
+      parts = rw (spans, more.1) (parts_more c.loop-class.self.spans.items old more.0 0 c.in_ok-apart.apart c.len-start.result c.len.result first last so_far.parts);
+      shown = λ m n lane hm hn same below live. rw (spans, more.1) (elim (cases_lt (class_at t m) class) [
+        | inl less ↦ shown_later good c.loop-class.self.spans.items old more.0 c.in_ok-apart.apart c.len-start.result c.len.result lane first last so_far.parts live m n
+            (outside m (λ e. absurd (omega (arith, e, less)))) (outside n (λ e. absurd (omega (arith, e, less, same)))) (so_far.shown m n lane hm hn same less live)
+        | inr most ↦
+            let e : class_at t m ≡ class = omega (arith, below, most) in
+            shown_class good c.loop-class.self.spans.items old more.0 c.in_ok-apart.apart c.len-start.result c.len.result lane first last so_far.parts live m n
+            (so_far.fresh m hm most) (so_far.fresh n hn (omega (arith, most, same))) (λ off. one.alike m n lane (within m hm e) (within n hn (sym same ∙ e)) live off)
+      ]);
     }
 
 pub returns-clause-noted : goal.returns-clause-noted
 returns-clause-noted c m n hm hn same =
     let class = c.count-class-end.ensures.whole.classes m hm in
     c.loop-class.invariant.noted m n hm hn same (omega (arith, class, c.count-class-end.ensures.value, c.loop-class-test.false))
+
+pub returns-clause-shown : goal.returns-clause-shown
+returns-clause-shown c m n lane hm hn same live =
+    let class = c.count-class-end.ensures.whole.classes m hm in
+    c.loop-class.invariant.shown m n lane hm hn same (omega (arith, class, c.count-class-end.ensures.value, c.loop-class-test.false)) live
 
 pub returns-clause-alike : goal.returns-clause-alike
 returns-clause-alike c m n lane hm hn same live none =

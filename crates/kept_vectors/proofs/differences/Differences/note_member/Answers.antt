@@ -76,12 +76,12 @@ returns-clause-alike c k lane h live none =
     let good = c.args.good.now in
     let group = c.args.group.now in
     let few : lane < LANES = omega (arith, live, c.requires.run.few) in
-    let parts = or_parts (bit_at c.args.lanes lane) (bit_at c.apart.result lane) (sym (c.or.ensures lane few) ∙ none) in
+    let parts = or_parts (bit_at c.args.lanes lane) (bit_at c.apart-told.result lane) (sym (c.or.ensures lane few) ∙ none) in
     elim (cases_lt k c.args.at) [
       | inl less ↦ c.requires.alike k lane less live parts.0
       | inr most ↦
           let e : c.args.at ≡ k = omega (arith, h, most) in
           subst (λ n. AreAlikeAt good lane (get_or group 0 0) (get_or group n 0)) e
           (alike_by_sims good c.requires.run.circuit c.args.self.now.lead c.simulate.new.sim (get_or group 0 0) (get_or group c.args.at 0) lane c.requires.lead c.in_ok-simulate.ensures.differ live
-          (λ position inside. c.apart.ensures lane position few (subst (λ k. position < length k.positions) (sym c.requires.of.lead) inside) parts.1))
+          (λ position inside. c.apart-told.ensures lane position few (subst (λ k. position < length k.positions) (sym c.requires.of.lead) inside) parts.1))
     ]

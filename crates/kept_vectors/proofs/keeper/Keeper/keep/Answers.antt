@@ -20,4 +20,8 @@ invariant_of-self c =
     let widths : All (λ v. length v ≡ circuit.sources) vectors = rw offered (λ k d below. let e : k ≡ 0 = omega arith in rw e width) in
     let keeper : IsKeeper (keeper_with circuit new) =
     either_way c.keep_block.result c.keep_block.ensures.ok c.keep_block.ensures.err (λ all. keeper_after circuit vectors old new c.self.invariant.keeper widths all) (λ some. keeper_first_after circuit vectors old new c.self.invariant.keeper widths some) in
-    record { scan = c.keep_block.ensures.scan; keeper = rw c.keep_block.ensures.circuit keeper }
+    record {
+      scan = c.keep_block.ensures.scan;
+      keeper = rw c.keep_block.ensures.circuit keeper;
+      stream = rw c.keep_block.ensures.circuit c.self.invariant.stream;
+    }

@@ -38,10 +38,18 @@ judge-requires-clause-numbers c = table_numbers c.self.invariant.keeper.table
 pub invariant_of-self : goal.invariant_of-self
 invariant_of-self c =
     let some = c.in_err-count.ensures.err in
-    record { scan = c.judge.ensures.scan; keeper = rw c.judge.ensures.circuit (keeper ((goal.at.invariant_of-self c).After-judge) some.0 some.1) }
+    record {
+      scan = c.judge.ensures.scan;
+      keeper = rw c.judge.ensures.circuit (keeper ((goal.at.invariant_of-self c).After-judge) some.0 some.1);
+      stream = rw c.judge.ensures.circuit c.self.invariant.stream;
+    }
 
 pub invariant_of-self-2 : goal.invariant_of-self-2
-invariant_of-self-2 c = record { scan = c.judge.ensures.scan; keeper = rw c.judge.ensures.circuit (keeper ((goal.at.invariant_of-self-2 c).After-judge) c.in_ok-count.count c.in_ok-count.ensures.ok) }
+invariant_of-self-2 c = record {
+  scan = c.judge.ensures.scan;
+  keeper = rw c.judge.ensures.circuit (keeper ((goal.at.invariant_of-self-2 c).After-judge) c.in_ok-count.count c.in_ok-count.ensures.ok);
+  stream = rw c.judge.ensures.circuit c.self.invariant.stream;
+}
 
 pub returns-in_err-count-clause-err : goal.returns-in_err-count-clause-err
 returns-in_err-count-clause-err c =

@@ -20,14 +20,19 @@ loop-left-init c =
     record {
       left = omega arith;
       place = c.new-stream.ensures ∙ ap (λ n. stream_at n 0) (c.sources.ensures.value ∙ c.self.invariant.scan.block) ∙ ap (stream_at circuit.sources) none;
+      drawn = c.self.invariant.stream;
       circuit = refl;
       scan = c.self.invariant.scan;
       keeper = c.self.invariant.keeper;
       keeps = subst (λ (n : ℕ). Keeps circuit (stream circuit.sources n) old old) none (keeps_none circuit old);
     }
 
-pub invariant_of-self : goal.invariant_of-self
-invariant_of-self c = record { scan = c.loop-left.invariant.scan; keeper = rw c.loop-left.invariant.circuit c.loop-left.invariant.keeper }
+pub invariant_of-self-2 : goal.invariant_of-self-2
+invariant_of-self-2 c = record {
+  scan = c.loop-left.invariant.scan;
+  keeper = rw c.loop-left.invariant.circuit c.loop-left.invariant.keeper;
+  stream = rw c.loop-left.invariant.circuit (c.args.blocks - c.loop-left.left, c.loop-left.invariant.place);
+}
 
 pub fill-left-requires-clause-sources : goal.fill-left-requires-clause-sources
 fill-left-requires-clause-sources c =
@@ -63,14 +68,15 @@ loop-left-preserved c =
     record {
       left = omega (arith, so_far.left);
       place = c.fill-left.ensures.stream circuit.sources done so_far.place ∙ ap (stream_at circuit.sources) (sym now);
+      drawn = so_far.drawn;
       circuit = c.in_ok-keep_block.ensures.circuit ∙ so_far.circuit;
       scan = c.in_ok-keep_block.ensures.scan;
       keeper = keeper_after circuit (blocks_from circuit.sources done count) old new so_far.keeper (stream_widths circuit.sources _) keeps;
       keeps = rw now (stream_more c.stream_continues.ensures done count so_far.keeps keeps);
     }
 
-pub invariant_of-self-in_err-keep_block : goal.invariant_of-self-in_err-keep_block
-invariant_of-self-in_err-keep_block c =
+pub invariant_of-self : goal.invariant_of-self
+invariant_of-self c =
     let circuit = c.self.inside.scan.good.circuit in
     let so_far = c.loop-left.invariant in
     let done = c.args.blocks - c.loop-left.left in
@@ -81,6 +87,7 @@ invariant_of-self-in_err-keep_block c =
       scan = c.in_err-keep_block.ensures.scan;
       keeper = rw (c.in_err-keep_block.ensures.circuit, c.loop-left.invariant.circuit)
           (keeper_first_after circuit (blocks_from circuit.sources done c.fill-left.result) old new so_far.keeper (stream_widths circuit.sources _) some);
+      stream = rw (c.in_err-keep_block.ensures.circuit, c.loop-left.invariant.circuit) c.loop-left.invariant.drawn;
     }
 
 pub returns-in_err-keep_block-clause-circuit : goal.returns-in_err-keep_block-clause-circuit

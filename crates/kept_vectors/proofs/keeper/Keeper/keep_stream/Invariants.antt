@@ -1,4 +1,4 @@
-use Rattle.std.proofs.Common.{◌≡◌, ◌-◌, ◌≤◌}
+use Rattle.std.proofs.Common.{◌≡◌, ℕ, ◌-◌, ◌≤◌}
 use Rattle.word_sim.specs.Stream.{stream}
 use Rattle.word_sim.specs.StreamState.{stream_at}
 use Rattle.kept_vectors.specs.Kept.{Keeps}
@@ -10,6 +10,7 @@ abbrev pub invariant-loop-left : goal.invariant-loop-left
 invariant-loop-left l = record {
   left : l.left ≤ l.blocks;
   place : l.stream ≡ stream_at l.initial.self-inside.scan.good.circuit.sources (l.blocks - l.left);
+  drawn : (done : ℕ) × (l.self-inside.stream ≡ stream_at l.initial.self-inside.scan.good.circuit.sources done);
   circuit : l.self-inside.scan.good.circuit ≡ l.initial.self-inside.scan.good.circuit;
   scan : IsScan l.self-inside.scan;
   keeper : IsKeeper (keeper_with l.initial.self-inside.scan.good.circuit (kept_now l.self-inside.kept));

@@ -16,3 +16,18 @@ note_classes-requires-clause-run c =
       faults_are = rw c.run.ensures scan.faults_are;
       roots_are = rw c.roots-roots.ensures (subst (λ k. AreRootsOf k c.args.self.now.forest.now.roots) (sym circuit) (forest_roots scan.forest_of));
     }
+
+pub judge_lanes-requires-clause-told : goal.judge_lanes-requires-clause-told
+judge_lanes-requires-clause-told c =
+    let told = c.in_ok-splitting.ensures in
+    rw (c.as_slice.ensures.value, c.as_slice-2.ensures.value) (record {
+      circuit = rw c.run.ensures c.requires.scan.circuit;
+      ran = rw c.run.ensures refl;
+      whole = c.requires.whole;
+      numbers = rw c.run.ensures c.requires.numbers;
+      right = told.right;
+      noted = told.noted;
+      alike = told.alike;
+      parts = told.parts;
+      shown = told.shown;
+    })

@@ -1,0 +1,62 @@
+//! The vectors of a cube: some sources have a bit, and the others are free.
+
+ghost use Rattle.std.specs.Prelude.{◌≡◌, ◌<◌, ℕ, List, Bool, [], ◌∷◌, All, Contains, OnOk, OnErr, length};
+ghost use Rattle.net_model.specs.FaultList.{fault_count};
+ghost use Rattle.class_refine.specs.Fields.{IsWhole};
+ghost use Rattle.kept_vectors.specs.Cube.{IsOfCube};
+ghost use Rattle.kept_vectors.specs.Kept.{Keeps};
+ghost use Rattle.kept_vectors.specs.Scan.{kept_now, IsScan};
+
+use crate::differences::Differences;
+use crate::scan::{Kept, Scan, judge_lane};
+use std::alloc::AllocError;
+use word_sim::Block;
+
+// Gives the fixed sources of a cube their bits in all vectors of a block.
+pub(crate) fn fix_sources(block: &mut Block, cube: &[Option<bool>])
+    requires { length cube.now ≡ block.old.sources }
+    ensures sources { block.new.sources ≡ block.old.sources }
+    ensures count { length block.new.vectors ≡ length block.old.vectors }
+    ensures cube { All (IsOfCube cube.now) block.new.vectors }
+{
+    for source in 0..block.sources() {
+        if let Some(bit) = cube[source as usize] {
+            block.fix(source, bit);
+        }
+    }
+}
+
+impl Scan<'_> {
+    // Keeps of the vectors of the block the one at which most members answer otherwise than their representatives, if it
+    // splits a class.
+    pub(crate) fn keep_fullest(&mut self, kept: &mut Kept) -> Result<(), AllocError>
+        requires scan { IsScan self.old }
+        requires whole { IsWhole kept.old.classes }
+        requires numbers { length kept.old.classes.class_of ≡ fault_count self.old.good.circuit }
+        requires some { 0 < length self.old.block.vectors }
+        ensures scan { IsScan self.new }
+        ensures circuit { self.new.good.circuit ≡ self.old.good.circuit }
+        ensures ok { OnOk result ((v : List Bool) × Contains self.old.block.vectors v × Keeps self.old.good.circuit (v ∷ []) (kept_now kept.old) (kept_now kept.new)) }
+        ensures err { OnErr result (kept_now kept.new ≡ kept_now kept.old) }
+    {
+        let live = self.block.live();
+        self.good.run(&self.block);
+        let roots = self.forest.roots();
+        let splitting = self
+            .differences
+            .note_classes(self.listed, &self.good, roots, &kept.classes)?;
+        let lane = self.differences.tally.fullest(live);
+        let Differences { spans, notes, .. } = &self.differences;
+        judge_lane(
+            &self.block,
+            &self.good,
+            lane,
+            splitting,
+            spans.as_slice(),
+            notes.as_slice(),
+            &mut self.row,
+            kept,
+        )?;
+        Ok(())
+    }
+}

@@ -1,0 +1,72 @@
+//! How many members answer otherwise than their representatives, lane by lane.
+
+ghost use Rattle.std.specs.Prelude.{◌≤◌, ◌<◌};
+
+use std::alloc::{AllocError, Global};
+use word_sim::{LANES, Lanes};
+
+// The binary digits of a count: there are fewer than 2^27 fault numbers.
+const DIGITS: usize = 27;
+
+// A count for each lane: its binary digits, the lowest first.
+#[derive(Drop)]
+pub(crate) struct Tally {
+    digits: Vec<Lanes>,
+}
+
+impl Tally {
+    pub(crate) fn new(alloc: Global) -> Result<Tally, AllocError> {
+        let digits = vec![in alloc; Lanes::all(false); DIGITS]?;
+        Ok(Tally { digits })
+    }
+
+    pub(crate) fn clear(&mut self) {
+        for at in 0..self.digits.len() {
+            self.digits[at] = Lanes::all(false);
+        }
+    }
+
+    // Counts one more in these lanes.
+    pub(crate) fn add(&mut self, lanes: Lanes) {
+        let mut carry = lanes;
+        for at in 0..self.digits.len() {
+            if !carry.any() {
+                return;
+            }
+            let digit = self.digits[at];
+            self.digits[at] = digit.xor(carry);
+            carry = digit.and(carry);
+        }
+    }
+
+    // Of the first lanes, this many, the one with the highest count: the lowest of these.
+    pub(crate) fn fullest(&self, live: u32) -> u32
+        requires some { 0 < live }
+        requires few { live ≤ LANES }
+        ensures { result < live }
+    {
+        let mut fullest = 0;
+        let mut most = 0;
+        for lane in 0..live {
+            let count = self.count(lane);
+            if count > most {
+                fullest = lane;
+                most = count;
+            }
+        }
+        fullest
+    }
+
+    // The count of a lane.
+    fn count(&self, lane: u32) -> u32
+        requires { lane < LANES }
+    {
+        let mut count: u32 = 0;
+        for digit in self.digits.iter().rev() {
+            count = count
+                .wrapping_mul(2)
+                .wrapping_add(u32::from(digit.get(lane)));
+        }
+        count
+    }
+}
