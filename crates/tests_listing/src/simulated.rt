@@ -96,11 +96,11 @@ fn lines_at_zero(alloc: Global, count: u32) -> Result<String, AllocError> {
 // One vector more than a block has.
 #[test]
 fn texts_of_two_blocks(rt: HostRuntime) -> Result<(), Fail> {
-    let mut digits = ["0"; 65];
-    digits[64] = "1";
+    let mut digits = ["0"; LANES as usize + 1];
+    digits[LANES as usize] = "1";
     let found = simulated(rt.alloc(), BUFFER, digits.as_slice())?;
-    let mut expected = lines_at_zero(rt.alloc(), 64)?;
-    expected.push_str("pattern 64 answer 1\nfault 1 0\nfault 3 0\n")?;
+    let mut expected = lines_at_zero(rt.alloc(), LANES)?;
+    write!(expected, "pattern {LANES} answer 1\nfault 1 0\nfault 3 0\n")?;
     assert_eq!(rt; found.as_slice(), expected.as_bytes());
     Ok(())
 }

@@ -6,6 +6,11 @@ use Rattle.dia_check.proofs.RestLemmas.{rest_refused}
 use Rattle.dia_check.proofs.AnswerLemmas.{on_any, told_read, valid_after}
 use Rattle.dia_check.proofs.checking.check.Goals as goal
 
+pub returns-in_err-read_rest-clause-call : goal.returns-in_err-read_rest-clause-call
+returns-in_err-read_rest-clause-call g c =
+    let p = err_from_is_err_and c.from_residual-in_err-read_rest.result c.from_residual-in_err-read_rest.ensures.1 in
+    rw (p.1, p.2) c.in_err-read_rest.ensures.call
+
 pub returns-in_err-read_rest-clause-refused : goal.returns-in_err-read_rest-clause-refused
 returns-in_err-read_rest-clause-refused g c =
     let p = err_from_is_err_and c.from_residual-in_err-read_rest.result c.from_residual-in_err-read_rest.ensures.1 in

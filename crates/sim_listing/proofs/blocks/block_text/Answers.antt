@@ -5,6 +5,7 @@ use Rattle.table_dicts.proofs.BlockLemmas.{block_length}
 use Rattle.sim_listing.proofs.TextLemmas.{zip_length}
 use Rattle.sim_listing.proofs.RangeLemmas.{some_number, block_wide}
 use Rattle.sim_listing.proofs.blocks.block_text.Goals as goal
+use Rattle.word_sim.specs.declared.lanes.TheConstants.{LANES}
 
 pub answers_at-requires-clause-widths : goal.answers_at-requires-clause-widths
 answers_at-requires-clause-widths c =
@@ -31,7 +32,7 @@ pub returns : goal.returns
 returns c =
     let vectors = c.args.vectors.now in
     let first = c.args.first in
-    let end : first + c.min.result ≡ min (first + 64) (length vectors) = omega (arith, c.min.ensures, c.requires.first) in
+    let end : first + c.min.result ≡ min (first + LANES) (length vectors) = omega (arith, c.min.ensures, c.requires.first) in
     record {
       rows = c.in_ok-table.table.rows;
       answers = subst (λ (block : List (List Bool)). AreAnswerRows c.args.circuit.now block c.in_ok-table.table.rows) (c.in_ok-block.ensures ∙ ap (slice_range vectors first) end) c.in_ok-table.ensures.rows;
