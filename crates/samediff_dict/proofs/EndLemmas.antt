@@ -43,6 +43,13 @@ ends_more c chosen end next ends new last pattern m answers grouped chosen_is h 
       each = each_push (λ k p. IsPartitionFrom c chosen (length chosen - k) (length chosen) p) ends next (last + 1) so_far.count so_far.each (subst (λ k. IsPartitionFrom c chosen k (length chosen) next) down here);
     })
 
+-- the partition by the baselines behind a pattern
+pub end_at : {c : Choice} {chosen : List ℕ} {ends : List Partition} (pattern : ℕ) (end : Partition) → AreEnds c chosen (length chosen + 1) ends → pattern < length chosen → end ≡ get_or ends (length chosen - 1 - pattern) end
+    → IsPartitionFrom c chosen (pattern + 1) (length chosen) end
+end_at {c} {chosen} {ends} pattern end are h is =
+    let up : length chosen - (length chosen - 1 - pattern) ≡ pattern + 1 = omega (arith, h) in
+    subst (λ k. IsPartitionFrom c chosen k (length chosen) end) up (subst (IsPartitionFrom c chosen (length chosen - (length chosen - 1 - pattern)) (length chosen)) (sym is) (are.each (length chosen - 1 - pattern) end (omega arith)))
+
 -- ---- the search so far
 
 pub record IsSearchTo (c : Choice) (chosen : List ℕ) (pattern : ℕ) (before : Partition) : Type 0 where
@@ -59,8 +66,8 @@ pub search_done : (c : Choice) (chosen : List ℕ) (pattern : ℕ) (before : Par
     → improvement c.classes.now c.table.now.rows (baselines_at c.classes.now c.table.now.rows chosen) ≡ None
 search_done c chosen pattern before chosen_is is over = none_at_all c.classes.now c.table.now.rows (baselines_at c.classes.now c.table.now.rows chosen) pattern (omega (arith, over, chosen_is.one_each)) is.none
 
-module _ (c : Choice) (chosen : List ℕ) (chosen_is : IsChosen c chosen) (pattern : ℕ) (h : pattern < length chosen) (before after others : Partition) (so_far : IsSearchTo c chosen pattern before) (m : ℕ) (e : m ≡ class_count c.classes.now)
-    (grouped : Grouped) (are : AreCandidates c.classes.now (get_or c.table.now.rows pattern []) grouped) (answers afters : List ℕ) (same : answers ≡ grouped.groups) (same_after : afters ≡ after.group_of.items) where
+module _ (c : Choice) (chosen : List ℕ) (chosen_is : IsChosen c chosen) (pattern : ℕ) (h : pattern < length chosen) (before after : Partition) (others : List ℕ) (others_count : ℕ) (so_far : IsSearchTo c chosen pattern before) (m : ℕ) (e : m ≡ class_count c.classes.now)
+    (grouped : Grouped) (are : AreCandidates c.classes.now (get_or c.table.now.rows pattern []) grouped) (answers : List ℕ) (same : answers ≡ grouped.groups) where
   abbrev t : ClassTable
   t = c.classes.now
 
@@ -76,14 +83,14 @@ module _ (c : Choice) (chosen : List ℕ) (chosen_is : IsChosen c chosen) (patte
   inside : pattern < length c.table.now.rows
   inside = omega (arith, h, chosen_is.one_each)
 
-  pub others_are : IsPartitionFrom c chosen (pattern + 1) (length chosen) after → IsPartition m (InBoth before.group_of.items afters) others.group_of.items others.count
-      → IsPartition (class_count c.classes.now) (λ low high. AlikeFrom c.classes.now c.table.now.rows (baselines_at c.classes.now c.table.now.rows chosen) 0 pattern low high × AlikeFrom c.classes.now c.table.now.rows (baselines_at c.classes.now c.table.now.rows chosen) (pattern + 1) (length c.table.now.rows) low high) others.group_of.items others.count
+  pub others_are : IsPartitionFrom c chosen (pattern + 1) (length chosen) after → IsPartition m (InBoth before.group_of.items after.group_of.items) others others_count
+      → IsPartition (class_count c.classes.now) (λ low high. AlikeFrom c.classes.now c.table.now.rows (baselines_at c.classes.now c.table.now.rows chosen) 0 pattern low high × AlikeFrom c.classes.now c.table.now.rows (baselines_at c.classes.now c.table.now.rows chosen) (pattern + 1) (length c.table.now.rows) low high) others others_count
   others_are after_is is =
       let after_is' = subst (λ k. IsPartition (class_count t) (AlikeFrom t rows bases (pattern + 1) k) after.group_of.items after.count) chosen_is.one_each after_is in
-      meet_is (AlikeFrom t rows bases 0 pattern) (AlikeFrom t rows bases (pattern + 1) (length rows)) so_far.before_is after_is' (subst (λ (gs : List ℕ). IsPartition m (InBoth before.group_of.items gs) others.group_of.items others.count) same_after is) e
+      meet_is (AlikeFrom t rows bases 0 pattern) (AlikeFrom t rows bases (pattern + 1) (length rows)) so_far.before_is after_is' is e
 
   module _ (n : ℕ) (wide : n ≡ length grouped.entries)
-      (is : IsPartition (class_count c.classes.now) (λ low high. AlikeFrom c.classes.now c.table.now.rows (baselines_at c.classes.now c.table.now.rows chosen) 0 pattern low high × AlikeFrom c.classes.now c.table.now.rows (baselines_at c.classes.now c.table.now.rows chosen) (pattern + 1) (length c.table.now.rows) low high) others.group_of.items others.count) where
+      (is : IsPartition (class_count c.classes.now) (λ low high. AlikeFrom c.classes.now c.table.now.rows (baselines_at c.classes.now c.table.now.rows chosen) 0 pattern low high × AlikeFrom c.classes.now c.table.now.rows (baselines_at c.classes.now c.table.now.rows chosen) (pattern + 1) (length c.table.now.rows) low high) others others_count) where
     count_is : n ≡ length (candidates t (get_or rows pattern []))
     count_is = wide ∙ ap length are.answers
 
@@ -93,19 +100,19 @@ module _ (c : Choice) (chosen : List ℕ) (chosen_is : IsChosen c chosen) (patte
     now : get_or (baselines_at c.classes.now c.table.now.rows chosen) pattern [] ≡ get_or (candidates c.classes.now (get_or c.table.now.rows pattern [])) (get_or chosen pattern 0) []
     now = base_at t rows chosen pattern h
 
-    pub search_more : (next : Partition) (k : ℕ) → NoneAbove (gain_at others.group_of.items answers) n (get_or chosen pattern 0) → IsPartition k (InBothAt before.group_of.items answers (get_or chosen pattern 0)) next.group_of.items next.count → k ≡ class_count c.classes.now
+    pub search_more : (next : Partition) (k : ℕ) → NoneAbove (gain_at others answers) n (get_or chosen pattern 0) → IsPartition k (InBothAt before.group_of.items answers (get_or chosen pattern 0)) next.group_of.items next.count → k ≡ class_count c.classes.now
         → IsSearchTo c chosen (pattern + 1) next
     search_more next k none cut ek = record {
       before_is = cut_last t rows chosen pattern grouped before.group_of.items next.group_of.items before.count next.count k h chosen_is.chosen_are are so_far.before_is
           (subst (λ (ys : List ℕ). IsPartition k (InBothAt before.group_of.items ys (get_or chosen pattern 0)) next.group_of.items next.count) same cut) ek;
-      none = none_here t rows bases long pattern inside others.group_of.items others.count grouped (get_or chosen pattern 0) is are known now so_far.none
-          (subst (λ j. NoneAbove (gain_at others.group_of.items grouped.groups) j (get_or chosen pattern 0)) count_is (subst (λ (ys : List ℕ). NoneAbove (gain_at others.group_of.items ys) n (get_or chosen pattern 0)) same none));
+      none = none_here t rows bases long pattern inside others others_count grouped (get_or chosen pattern 0) is are known now so_far.none
+          (subst (λ j. NoneAbove (gain_at others grouped.groups) j (get_or chosen pattern 0)) count_is (subst (λ (ys : List ℕ). NoneAbove (gain_at others ys) n (get_or chosen pattern 0)) same none));
     }
 
-    pub search_found : (answer : ℕ) → IsFirstAbove (gain_at others.group_of.items answers) n (get_or chosen pattern 0) answer
+    pub search_found : (answer : ℕ) → IsFirstAbove (gain_at others answers) n (get_or chosen pattern 0) answer
         → (answer < length (candidates c.classes.now (get_or c.table.now.rows pattern []))) × (improvement c.classes.now c.table.now.rows (baselines_at c.classes.now c.table.now.rows chosen) ≡ Some (baselines_at c.classes.now c.table.now.rows (set chosen pattern answer)))
     search_found answer first =
-        let first' = subst (λ j. IsFirstAbove (gain_at others.group_of.items grouped.groups) j (get_or chosen pattern 0) answer) count_is (subst (λ (ys : List ℕ). IsFirstAbove (gain_at others.group_of.items ys) n (get_or chosen pattern 0) answer) same first) in (
+        let first' = subst (λ j. IsFirstAbove (gain_at others grouped.groups) j (get_or chosen pattern 0) answer) count_is (subst (λ (ys : List ℕ). IsFirstAbove (gain_at others ys) n (get_or chosen pattern 0) answer) same first) in (
           first'.within,
-          found_at t rows bases long pattern inside others.group_of.items others.count grouped (get_or chosen pattern 0) is are known now answer so_far.none first' ∙ ap Some (sym (baselines_set t rows chosen pattern answer h)),
+          found_at t rows bases long pattern inside others others_count grouped (get_or chosen pattern 0) is are known now answer so_far.none first' ∙ ap Some (sym (baselines_set t rows chosen pattern answer h)),
         )

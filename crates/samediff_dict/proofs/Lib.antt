@@ -13,4 +13,6 @@ pub mod GreedyLemmas
 pub mod SearchLemmas
 pub mod ChoiceLemmas
 pub mod EndLemmas
+pub mod SharingLemmas
 pub mod Examples
+pub mod MadeLemmas

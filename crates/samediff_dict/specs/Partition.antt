@@ -1,5 +1,5 @@
 -- Classes in groups, and how many pairs of classes a candidate tells apart.
-use Rattle.std.specs.Prelude.{◌≡◌, ℕ, ◌<◌, ◌≤◌, ◌==◌, ◌&&◌, Bool, not, List, length, sum_by, count_by, slice_index}
+use Rattle.std.specs.Prelude.{◌≡◌, ℕ, ◌<◌, ◌≤◌, ◌==◌, ◌&&◌, Bool, not, List, length, nat_lt, sum_by, count_by, slice_index}
 use Rattle.std.specs.Bool.{beq}
 use Rattle.std.specs.List.{range_with_len}
 use Rattle.std.specs.Ordering.{nat_cmp, ordering_then}
@@ -45,6 +45,10 @@ pairs_between group_of = pairs_where (length group_of) (λ low high. not (slice_
 -- how many of the first classes are in a group
 abbrev pub size_to : List ℕ → ℕ → ℕ → ℕ
 size_to group_of classes group = count_by (λ class. slice_index group_of class == group) (range_with_len 0 classes)
+
+-- whether a class isn't alone in its group
+abbrev pub is_shared : List ℕ → ℕ → Bool
+is_shared group_of class = nat_lt 1 (size_to group_of (length group_of) (slice_index group_of class))
 
 -- The sizes are those of the groups, and so many pairs are in different groups.
 pub record IsTallyOf (group_of : List ℕ) (count : ℕ) (sizes : List ℕ) (apart : ℕ) : Type 0 where

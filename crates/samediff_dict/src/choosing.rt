@@ -142,9 +142,7 @@ impl Choice<'_> {
             let answers = grouped.groups.as_slice();
             let candidates = grouped.entries.rows();
             let end = &ends[chosen.len() - 1 - pattern];
-            let after = end.group_of.as_slice();
-            let others = before.meet(alloc, after)?;
-            let found = others.first_above(alloc, answers, candidates, chosen[pattern])?;
+            let found = before.first_above_in(alloc, end, answers, candidates, chosen[pattern])?;
             if let Some(answer) = found {
                 return Ok(Some(Replacement { pattern, answer }));
             }

@@ -80,7 +80,7 @@ impl Partition {
 }
 
 // The size of the group of a class.
-fn size_of(groups: &[u32], sizes: &[u32], class: usize) -> u32
+pub(crate) fn size_of(groups: &[u32], sizes: &[u32], class: usize) -> u32
     requires class { class < length groups.now }
     requires within { AreWithin groups.now (length sizes.now) }
     ensures { result ≡ slice_index sizes.now (slice_index groups.now class) }

@@ -4,8 +4,11 @@
 mod choosing;
 mod gains;
 mod laws;
+mod made;
 mod numbering;
 mod partition;
+mod sharing;
 
 pub use choosing::choose;
 pub use laws::{keeps_as_many, no_row_is_better, none_is_left};
+pub use made::same_diff_at;
