@@ -9,18 +9,21 @@ use Rattle.diag_shelf.proofs.FileMaps.{get_at_insert, get_off_insert}
 use Rattle.net_model.specs.declared.circuit.Design.{Design}
 use Rattle.net_model.specs.Circuit.{Circuit}
 use Rattle.result_file.specs.declared.record.Budgets.{Budgets}
+use Rattle.result_file.specs.declared.record.Record.{Record}
 use Rattle.result_file.specs.Spelling.{text_of}
 use Rattle.result_file.specs.Summary.{summary_of}
 use Rattle.result_file.specs.Laws.{ValidIsTrue}
+use Rattle.result_file.specs.Valid.{IsValid}
 use Rattle.dia_gen.proofs.Written.{made_closed}
 use Rattle.request_words.specs.Request.{Text, Request, gen, check, make_dict, convert, diagnose, list_faults, simulate, synth}
 use Rattle.diatest.specs.Synth.{synth_text}
 use Rattle.diatest.specs.Texts.{valid_text}
 use Rattle.diatest.specs.Netlists.{IsDesign}
+use Rattle.diatest.specs.Results.{IsResult}
 use Rattle.diatest.specs.Outcome.{Outcome, said, IsCut, IsPartOf, Leaves, KeepsFiles, after_made, written_after}
 use Rattle.diatest.specs.Plan.{Judges, refused_file, accepted_file, CallsFor, MayLeave, IsLeftBy, IsRefusedWith, AreAccepted}
 use Rattle.diatest.specs.Plans.{MakesResult, plan_of}
-use Rattle.diatest.specs.Ran.{IsAmong, statuses_of, Ran, IsDone, KeepsUnlessDone, LeavesResult, GeneratesResult, ChecksResult, Synthesizes, PrintsFaults, FilesAreJudgedOnce, DecidedByFiles, IsRefusedRequest, KeepsRefused, IsComplete}
+use Rattle.diatest.specs.Ran.{IsAmong, statuses_of, Ran, IsDone, KeepsUnlessDone, LeavesResult, GeneratesResult, HoldsTrueResult, ChecksResult, Synthesizes, PrintsFaults, FilesAreJudgedOnce, DecidedByFiles, IsRefusedRequest, KeepsRefused, IsComplete}
 use Rattle.diatest.proofs.NetlistLemmas.{EvidenceLaws, sound_design, circuit_of}
 use Rattle.diatest.proofs.PlanLemmas.{both_end, ends_by}
 
@@ -56,6 +59,23 @@ leaves_result laws {bytes} {result} {budgets} {before} {design} {o} {old} {new} 
   closed = made_closed (sound_design laws accepted) does.made;
   printed = leaves.console ∙ ap (λ (p : Outcome). old.console ++ p.console) does.outcome;
 }
+
+-- a netlist and a result that were accepted
+abbrev pub true_result : {files : Files} {bench result bytes read spelled : Text} {design : Design} {records : List Record} → (law : ValidIsTrue) → get files bench ≡ Some bytes → (accepted : IsDesign bytes design) → get files result ≡ Some read
+    → IsResult design.circuit read spelled → spelled ≡ text_of records → (valid : IsValid design.circuit records) → HoldsTrueResult bench result files
+true_result {files} {bench} {result} {bytes} {read} {spelled} {design} {records} law held accepted there found is valid =
+    let true_of = law design.circuit records (circuit_of accepted) valid in
+    record {
+      bytes = bytes;
+      held = held;
+      design = design;
+      accepted = accepted;
+      file = spelled;
+      there = there ∙ ap Some found.same;
+      valid = found.valid;
+      budgets = true_of.0.budgets;
+      is_true = record { stated = true_of.0; text = is ∙ ap text_of true_of.1; budgets_are = refl; is_true = true_of.2 };
+    }
 
 module _ {asked : Option Request} {status : ℕ} {old new : World} (done : IsDone (plan_of asked) status old new) where
   -- what was done where the status is 0
@@ -98,20 +118,11 @@ module _ {asked : Option Request} {status : ℕ} {old new : World} (done : IsDon
   checked_of law bench result is z =
       let d = done_for (check bench result) is z in
       let w = accepted_by (omega arith) d.1 d.2 in
-      let c = w.thing.circuit in
       let v = accepted_by (omega arith) w.then d.2 in
       let says = v.then.1 in
-      let true_of = law c says.records (circuit_of w.accepted) says.valid in
+      let true_of = law w.thing.circuit says.records (circuit_of w.accepted) says.valid in
       record {
-        bytes = w.bytes;
-        held = w.held;
-        design = w.thing;
-        accepted = w.accepted;
-        file = v.thing;
-        there = v.held ∙ ap Some v.accepted.same;
-        valid = v.accepted.valid;
-        budgets = true_of.0.budgets;
-        is_true = record { stated = true_of.0; text = says.spelled ∙ ap text_of true_of.1; budgets_are = refl; is_true = true_of.2 };
+        read = true_result law w.held w.accepted v.held v.accepted says.spelled says.valid;
         printed = d.3.console ∙ ap (λ (p : Outcome). old.console ++ p.console) v.then.2 ∙ ap (λ (t : Text). old.console ++ t) (says.text_is ∙ ap (λ rs. valid_text (summary_of rs)) true_of.1);
       }
 

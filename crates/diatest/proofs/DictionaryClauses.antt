@@ -3,7 +3,6 @@ use Rattle.std.proofs.Common.{◌≡◌, ℕ, List, [], ◌∷◌, ◌++◌, Opt
 use Rattle.std.specs.FinMap.{get}
 use Rattle.diag_shelf.specs.World.{Files, World}
 use Rattle.diag_shelf.proofs.FileMaps.{get_at_insert}
-use Rattle.result_file.specs.Spelling.{text_of}
 use Rattle.result_file.specs.Laws.{ValidIsTrue}
 use Rattle.table_dicts.specs.declared.dict.Dict.{Dict}
 use Rattle.dict_file.specs.Laws.{RefusedIsWrong, OneDictionary}
@@ -17,9 +16,8 @@ use Rattle.diatest.specs.Plan.{Plan, refused_file, accepted_file, CallsFor}
 use Rattle.diatest.specs.Plans.{with_dictionary, with_log, says, plan_of}
 use Rattle.diatest.specs.Ran.{IsDone}
 use Rattle.diatest.specs.DictionaryRuns.{MakesDictionary, ConvertsDictionary, PrintsDiagnosis, DiagnosesAlike}
-use Rattle.diatest.proofs.NetlistLemmas.{circuit_of}
 use Rattle.diatest.proofs.PlanLemmas.{some_same}
-use Rattle.diatest.proofs.Clauses.{accepted_by, done_for}
+use Rattle.diatest.proofs.Clauses.{accepted_by, true_result, done_for}
 
 -- the file that was made, and the text that was printed
 file_made : (o : Outcome) {name file : Text} {old new : World} → o.made ≡ (name, file) ∷ [] → Leaves o.made o.console old new → get new.files name ≡ Some file
@@ -35,17 +33,8 @@ module _ {asked : Option Request} {status : ℕ} {old new : World} (done : IsDon
       let w = accepted_by (omega arith) d.1 d.2 in
       let v = accepted_by (omega arith) w.then d.2 in
       let made = v.then.2 in
-      let true_of = law w.thing.circuit made.records (circuit_of w.accepted) made.valid in
       record {
-        bytes = w.bytes;
-        held = w.held;
-        design = w.thing;
-        accepted = w.accepted;
-        results = v.thing;
-        there = v.held ∙ ap Some v.accepted.same;
-        valid = v.accepted.valid;
-        budgets = true_of.0.budgets;
-        is_true = record { stated = true_of.0; text = made.spelled ∙ ap text_of true_of.1; budgets_are = refl; is_true = true_of.2 };
+        read = true_result law w.held w.accepted v.held v.accepted made.spelled made.valid;
         file = v.then.0;
         saved = file_made d.0 (ap (λ (p : Outcome). p.made) v.then.3) d.3;
         text = v.then.1;

@@ -20,8 +20,8 @@ use Rattle.table_dicts.proofs.EntryLemmas.{same_bits-Decides}
 use Rattle.table_dicts.proofs.ApartLemmas.{apart_to, apart_all, apart_more}
 use Rattle.table_dicts.proofs.ClassLemmas.{entry_at, entries_of_classes}
 use Rattle.request_words.specs.declared.request.EntryKind.{EntryKind}
-use Rattle.request_words.specs.declared.request.EntryKind.TheVariants.{PassFail, Full}
-use Rattle.diatest.specs.Dictionaries.{IsOfPatterns, pair_count}
+use Rattle.request_words.specs.declared.request.EntryKind.TheVariants.{PassFail, Full, SameDiff}
+use Rattle.diatest.specs.Dictionaries.{IsOfPatterns, pairs_kept, pair_count}
 
 one_in : (b : Bool) → b ≡ true → cond b 1 0 ≡ suc zero
 one_in true e = refl
@@ -64,7 +64,7 @@ module _ (t : ClassTable) (entry : ℕ → List Bool) (apart : (low high : ℕ) 
 
 -- ---- the classes of a circuit
 
-pub full_apart : {c : Circuit} {patterns : List (List Bool)} {d : Dict} {t : ClassTable} → IsCircuit c → IsOfPatterns c Full patterns d → IsTableOf c patterns t → IsWhole t → apart_count t (entry_of d) ≡ pair_count (class_count t)
+pub full_apart : {c : Circuit} {patterns : List (List Bool)} {d : Dict} {t : ClassTable} → IsCircuit c → IsOfPatterns c Full patterns t d → IsTableOf c patterns t → IsWhole t → pairs_kept t d ≡ pair_count (class_count t)
 full_apart {c} {patterns} {d} {t} circuit of table whole =
     each_pair t (entry_of d) (λ low high l h.
     let a = representative-member t whole low (omega (arith, l, h)) in
@@ -80,6 +80,7 @@ full_apart {c} {patterns} {d} {t} circuit of table whole =
     let classes : class_at t m ≡ class_at t n = (rows.equal m n a.0 b.0).1 entries in
     omega (arith, l, a.1, b.1, classes)))
 
-pub apart_by_kind : (kind : EntryKind) {c : Circuit} {patterns : List (List Bool)} {d : Dict} {t : ClassTable} → IsCircuit c → IsOfPatterns c kind patterns d → IsTableOf c patterns t → IsWhole t → kind ≡ Full → apart_count t (entry_of d) ≡ pair_count (class_count t)
+pub apart_by_kind : (kind : EntryKind) {c : Circuit} {patterns : List (List Bool)} {d : Dict} {t : ClassTable} → IsCircuit c → IsOfPatterns c kind patterns t d → IsTableOf c patterns t → IsWhole t → kind ≡ Full → pairs_kept t d ≡ pair_count (class_count t)
 apart_by_kind PassFail circuit of table whole full = absurd (cc)
+apart_by_kind SameDiff circuit of table whole full = absurd (cc)
 apart_by_kind Full circuit of table whole full = full_apart circuit of table whole

@@ -10,6 +10,7 @@ pub mod DictionaryClauses
 pub mod SimLemmas
 pub mod MadeLemmas
 pub mod FullApart
+pub mod MostApart
 pub mod CellLemmas
 -- The netlist of a number
 pub mod SynthStatements

@@ -18,7 +18,7 @@ use Rattle.table_dicts.specs.declared.dict.Dict.{Dict}
 use Rattle.table_dicts.specs.AnswerTable.{Answers, AreAnswers}
 use Rattle.table_dicts.specs.Dictionary.{IsGroupedDict, IsShaped}
 use Rattle.request_words.specs.declared.request.EntryKind.{EntryKind}
-use Rattle.request_words.specs.declared.request.EntryKind.TheVariants.{PassFail, Full}
+use Rattle.request_words.specs.declared.request.EntryKind.TheVariants.{PassFail, Full, SameDiff}
 use Rattle.diatest.specs.Dictionaries.{IsOfPatterns, IsOfAnswers}
 
 -- ---- the patterns of a valid result are as wide as the circuit
@@ -53,20 +53,21 @@ answers_of_table {c} {patterns} {t} is = record { numbers = fault_count c; posit
 pub are_answers : {c : Circuit} {patterns : List (List Bool)} {t : ClassTable} (is : IsTableOf c patterns t) → AreAnswers c patterns (answers_of_table is)
 are_answers {c} {patterns} {t} is = record { numbers = refl; positions = refl; rows = is.answers }
 
-pub of_patterns : {c : Circuit} {patterns : List (List Bool)} {t : ClassTable} (kind : EntryKind) {d : Dict} → IsTableOf c patterns t → ((answers : Answers) → AreAnswers c patterns answers → IsOfAnswers kind answers d) → IsOfPatterns c kind patterns d
+pub of_patterns : {c : Circuit} {patterns : List (List Bool)} {t : ClassTable} (kind : EntryKind) {d : Dict} → IsTableOf c patterns t → ((answers : Answers) → AreAnswers c patterns answers → IsOfAnswers kind t answers d) → IsOfPatterns c kind patterns t d
 of_patterns {c} {patterns} {t} kind {d} is made = record { answers = answers_of_table is; are = are_answers is; is = made (answers_of_table is) (are_answers is) }
 
-grouped_by : (kind : EntryKind) (answers : Answers) (d : Dict) → IsOfAnswers kind answers d → IsGroupedDict d × IsShaped d × (d.numbers ≡ answers.numbers)
-grouped_by PassFail answers d is = (is.grouped, is.shaped, is.numbers_are)
-grouped_by Full answers d is = (is.grouped, is.shaped, is.numbers_are)
+grouped_by : (kind : EntryKind) (t : ClassTable) (answers : Answers) (d : Dict) → IsOfAnswers kind t answers d → IsGroupedDict d × IsShaped d × (d.numbers ≡ answers.numbers)
+grouped_by PassFail t answers d is = (is.grouped, is.shaped, is.numbers_are)
+grouped_by Full t answers d is = (is.grouped, is.shaped, is.numbers_are)
+grouped_by SameDiff t answers d is = (is.grouped, is.shaped, is.numbers_are)
 
-module _ {c : Circuit} {kind : EntryKind} {patterns : List (List Bool)} {d : Dict} (is : IsOfPatterns c kind patterns d) where
+module _ {c : Circuit} {kind : EntryKind} {patterns : List (List Bool)} {t : ClassTable} {d : Dict} (is : IsOfPatterns c kind patterns t d) where
   pub grouped_of : IsGroupedDict d
-  grouped_of = (grouped_by kind is.answers d is.is).0
+  grouped_of = (grouped_by kind t is.answers d is.is).0
 
   pub shaped_of : IsShaped d
-  shaped_of = (grouped_by kind is.answers d is.is).1
+  shaped_of = (grouped_by kind t is.answers d is.is).1
 
   -- the numbers of its classes are those of the dictionary
-  pub numbers_of : {t : ClassTable} → IsTableOf c patterns t → length t.class_of ≡ d.numbers
-  numbers_of {t} table = table_numbers table ∙ (sym is.are.numbers ∙ sym (grouped_by kind is.answers d is.is).2)
+  pub numbers_of : IsTableOf c patterns t → length t.class_of ≡ d.numbers
+  numbers_of table = table_numbers table ∙ (sym is.are.numbers ∙ sym (grouped_by kind t is.answers d is.is).2)

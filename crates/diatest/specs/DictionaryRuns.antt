@@ -2,10 +2,6 @@
 use Rattle.std.specs.Prelude.{◌≡◌, ◌≤◌, ◌↔◌, ℕ, Bool, List, length, Option, Some}
 use Rattle.std.specs.FinMap.{get}
 use Rattle.diag_shelf.specs.World.{Files, World}
-use Rattle.net_model.specs.declared.circuit.Design.{Design}
-use Rattle.result_file.specs.declared.record.Budgets.{Budgets}
-use Rattle.result_file.specs.Valid.{IsValidFile}
-use Rattle.result_file.specs.Meaning.{IsTrueFile}
 use Rattle.table_dicts.specs.declared.dict.Dict.{Dict}
 use Rattle.table_dicts.specs.Dictionary.{listed_numbers}
 use Rattle.dict_file.specs.declared.fault.DictVersion.TheVariants.{Two}
@@ -13,29 +9,21 @@ use Rattle.dict_file.specs.Spelling.{spelling, most_bytes, IsFileOf}
 use Rattle.request_words.specs.declared.request.EntryKind.{EntryKind}
 use Rattle.request_words.specs.Request.{Text, Request, make_dict, convert, diagnose}
 use Rattle.diatest.specs.Texts.{groups_text, numbers_text}
-use Rattle.diatest.specs.Netlists.{IsDesign}
 use Rattle.diatest.specs.Dictionaries.{IsMadeDictionary}
 use Rattle.diatest.specs.Logs.{IsLogFor}
 use Rattle.diatest.specs.Outcome.{Outcome, ConsoleGained}
 use Rattle.diatest.specs.Plan.{CallsFor}
 use Rattle.diatest.specs.Plans.{plan_of}
+use Rattle.diatest.specs.Ran.{HoldsTrueResult}
 
--- The result's file is valid for the netlist's circuit, and what it states is true of it. Under the dictionary's name is the version 2
--- of the dictionary of this kind at the result's patterns, and the console gained its counts.
+-- The result is valid and true. Under the dictionary's name is the version 2 of the dictionary of this kind at the result's patterns, and
+-- the console gained its counts.
 pub record HasDictionary (kind : EntryKind) (bench result dict : Text) (old new : World) : Type 0 where
-  pub bytes : Text
-  pub held : get old.files bench ≡ Some bytes
-  pub design : Design
-  pub accepted : IsDesign bytes design
-  pub results : Text
-  pub there : get old.files result ≡ Some results
-  pub valid : IsValidFile design.circuit results
-  pub budgets : Budgets
-  pub is_true : IsTrueFile design.circuit budgets results
+  pub read : HoldsTrueResult bench result old.files
   pub file : Text
   pub saved : get new.files dict ≡ Some file
   pub text : Text
-  pub made : IsMadeDictionary design.circuit kind results file text
+  pub made : IsMadeDictionary read.design.circuit kind read.file file text
   pub printed : ConsoleGained text old new
 
 -- A run of `dict` that answers 0 leaves them.

@@ -1,7 +1,7 @@
 -- What a run did.
 use Rattle.std.specs.Prelude.{◌^◌, ◌≡◌, ◌≢◌, ℕ, ◌≤◌, ◌<◌, ◌⊎◌, List, [], ◌∷◌, ◌++◌, Option, Some, None, IsTrue, ⊤}
 use Rattle.std.specs.FinMap.{get}
-use Rattle.diag_shelf.specs.World.{World, State}
+use Rattle.diag_shelf.specs.World.{Files, World, State}
 use Rattle.diag_shelf.specs.Calls.{Rose, Told}
 use Rattle.net_model.specs.Circuit.{Circuit}
 use Rattle.net_model.specs.declared.circuit.Design.{Design}
@@ -143,18 +143,22 @@ pub record HasSynth (n : ℕ) (bench result : Text) (old new : World) : Type 0 w
 abbrev pub Synthesizes : Option Request → ℕ → World → World → Type 0
 Synthesizes request status old new = (n : ℕ) (bench result : Text) → request ≡ Some (synth n bench result) → status ≡ 0 → HasSynth n bench result old new
 
--- The result's file is valid for the netlist's circuit, and what it states is true of it. The console gained what it amounts to.
-pub record HasValid (bench result : Text) (old new : World) : Type 0 where
+-- The files hold a netlist and a result that is valid for its circuit, and what the result states is true of the circuit.
+pub record HoldsTrueResult (bench result : Text) (files : Files) : Type 0 where
   pub bytes : Text
-  pub held : get old.files bench ≡ Some bytes
+  pub held : get files bench ≡ Some bytes
   pub design : Design
   pub accepted : IsDesign bytes design
   pub file : Text
-  pub there : get old.files result ≡ Some file
+  pub there : get files result ≡ Some file
   pub valid : IsValidFile design.circuit file
   pub budgets : Budgets
   pub is_true : IsTrueFile design.circuit budgets file
-  pub printed : ConsoleGained (valid_text (summary_of (stated_records design.circuit is_true.stated))) old new
+
+-- The result is valid and true, and the console gained what it amounts to.
+pub record HasValid (bench result : Text) (old new : World) : Type 0 where
+  pub read : HoldsTrueResult bench result old.files
+  pub printed : ConsoleGained (valid_text (summary_of (stated_records read.design.circuit read.is_true.stated))) old new
 
 -- A run of `check` that answers 0 found that.
 abbrev pub ChecksResult : Option Request → ℕ → World → World → Type 0

@@ -1,14 +1,15 @@
 //! The command `dict`: from the bytes of a netlist and a result to a dictionary.
 
-ghost use Rattle.std.specs.Prelude.{◌≡◌, All, IfOk, Some, length, string_bytes};
+ghost use Rattle.std.specs.Prelude.{◌≡◌, ◌<◌, ◌^◌, All, IfOk, Some, length, string_bytes};
 ghost use Rattle.net_model.specs.Circuit.{IsCircuit};
+ghost use Rattle.net_model.specs.FaultList.{faults as faults_of};
 ghost use Rattle.net_model.specs.PatternRows.{IsTableOf};
 ghost use Rattle.class_refine.specs.Fields.{IsWhole};
 ghost use Rattle.table_dicts.specs.Dictionary.{IsGroupedDict, IsShaped};
 ghost use Rattle.dict_file.specs.declared.fault.DictVersion.TheVariants.{Two};
 ghost use Rattle.dict_file.specs.Spelling.{spelling};
 ghost use Rattle.request_words.specs.Request.{make_dict};
-ghost use Rattle.diatest.specs.Dictionaries.{IsOfPatterns, IsMadeOf, dictionary_counts};
+ghost use Rattle.diatest.specs.Dictionaries.{IsOfPatterns, KeepsMostApart, IsMadeOf, dictionary_counts};
 ghost use Rattle.diatest.specs.Ran.{Ran};
 
 use crate::ends::save;
@@ -19,9 +20,10 @@ use class_refine::Classes;
 use dia_check::Checked;
 use diag_shelf::Shelf;
 use dict_file::{DictVersion, encode};
-use fault_list::list;
+use fault_list::{FaultList, list};
 use net_model::{Circuit, Vectors};
 use request_words::EntryKind;
+use samediff_dict::{keeps_as_many, no_row_is_better, same_diff_at};
 use std::alloc::{AllocError, Global};
 use table_dicts::{Dict, apart, full_at, pass_fail_at};
 
@@ -84,16 +86,39 @@ fn dictionary_of(
     requires widths { All (λ v. length v ≡ circuit.now.sources) patterns.now }
     requires table { IsTableOf circuit.now patterns.now classes.now }
     ensures circuit { IsCircuit circuit.now }
-    ensures dictionary { IfOk result (IsOfPatterns circuit.now kind patterns.now) }
+    ensures dictionary { IfOk result (IsOfPatterns circuit.now kind patterns.now classes.now) }
+    ensures most { IfOk result (λ dict. kind ≡ EntryKind.SameDiff → KeepsMostApart circuit.now patterns.now classes.now dict) }
 {
     // That there are few patterns and that the circuit is one is known by these.
     let _patterns = classes.patterns();
     let _sources = circuit.sources();
     let faults = list(alloc, circuit)?;
     match kind {
-        EntryKind::PassFail => pass_fail_at(alloc, circuit, &faults, patterns),
+        EntryKind::PassFail => pass_fail_at(alloc, circuit, &faults, patterns, classes),
         EntryKind::Full => full_at(alloc, circuit, &faults, patterns, classes),
+        EntryKind::SameDiff => chosen_of(alloc, circuit, &faults, patterns, classes),
     }
+}
+
+// The same/different dictionary with the baselines that are chosen.
+fn chosen_of(
+    alloc: Global,
+    circuit: &Circuit,
+    faults: &FaultList,
+    patterns: &Vectors,
+    classes: &Classes,
+) -> Result<Dict, AllocError>
+    requires faults { faults.now ≡ faults_of circuit.now }
+    requires widths { All (λ v. length v ≡ circuit.now.sources) patterns.now }
+    requires few { length patterns.now < 2 ^ 32 }
+    requires table { IsTableOf circuit.now patterns.now classes.now }
+    ensures dictionary { IfOk result (IsOfPatterns circuit.now EntryKind.SameDiff patterns.now classes.now) }
+    ensures most { IfOk result (KeepsMostApart circuit.now patterns.now classes.now) }
+{
+    keeps_as_many();
+    no_row_is_better();
+    let _count = classes.count();
+    same_diff_at(alloc, circuit, faults, patterns, classes)
 }
 
 // A dictionary's file in version 2, and what is printed of it and the classes.

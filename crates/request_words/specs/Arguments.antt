@@ -8,7 +8,7 @@ use Rattle.clap.specs.Simple.{on_top}
 use Rattle.clap.specs.ValueTests.{is_unsigned_in}
 use Rattle.clap.specs.declared.builder.action.ArgAction.TheVariants.{Set}
 use Rattle.request_words.specs.declared.request.EntryKind.{EntryKind}
-use Rattle.request_words.specs.declared.request.EntryKind.TheVariants.{PassFail, Full}
+use Rattle.request_words.specs.declared.request.EntryKind.TheVariants.{PassFail, Full, SameDiff}
 use Rattle.clap.specs.declared.builder.value_parser.ValueParser.TheVariants as vp
 
 -- ---- commands
@@ -50,4 +50,8 @@ number_in id least most rows = number_from least most (one_of id rows)
 
 -- the kind of dictionary that a word names
 abbrev pub kind_named : Text → Option EntryKind
-kind_named word = if bytes_eq word (codes "passfail") then Some PassFail else if bytes_eq word (codes "full") then Some Full else None
+kind_named word =
+    if bytes_eq word (codes "passfail") then Some PassFail
+    else if bytes_eq word (codes "full") then Some Full
+    else if bytes_eq word (codes "samediff") then Some SameDiff
+    else None

@@ -117,6 +117,7 @@ pub(crate) fn kind_named(word: &str) -> Option<EntryKind>
     match word {
         "passfail" => Some(EntryKind::PassFail),
         "full" => Some(EntryKind::Full),
+        "samediff" => Some(EntryKind::SameDiff),
         _ => None,
     }
 }

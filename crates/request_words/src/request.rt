@@ -28,12 +28,13 @@ pub(crate) enum Verb {
     Synth,
 }
 
-/// What the entries of a dictionary tell of a number: at which patterns it answers otherwise than the fault-free circuit, or
-/// all that it answers.
+/// What the entries of a dictionary tell of a number: at which patterns it answers otherwise than the fault-free circuit, all
+/// that it answers, or at which patterns it answers otherwise than chosen answers.
 #[derive(Clone, Copy)]
 pub enum EntryKind {
     PassFail,
     Full,
+    SameDiff,
 }
 
 /// What the words ask for, with each file given by its name.

@@ -17,6 +17,10 @@ pub(super) const ONE: &[u8] =
 pub(super) const TWO: &[u8] =
     b"DIAT\x00\x02\x01\x00\x00\x00\x01\x00\x00\x00\x04\x00\x00\x00\x07\x00\x00\x00\x05\x00\x00\x00\x80\x00\x00\x00\x00\x00\x00\x00\x01\x00\x00\x00\x02\x00\x00\x00\x01\x00\x00\x00\x03\x00\x00\x00\x01\x00\x00\x00\x04\x00\x10\x20\x40\xe0";
 
+// Its same/different dictionary, whose baselines are the fault-free answers too.
+const SAME_DIFF: &[u8] =
+    b"DIAT\x00\x02\x03\x00\x00\x00\x01\x00\x00\x00\x04\x00\x00\x00\x07\x00\x00\x00\x05\x00\x00\x00\x80\x00\x00\x00\x00\x00\x00\x00\x01\x00\x00\x00\x02\x00\x00\x00\x01\x00\x00\x00\x03\x00\x00\x00\x01\x00\x00\x00\x04\x00\x10\x20\x40\xe0";
+
 // The full dictionary of the AND in version 1 and in version 2.
 const FULL_ONE: &[u8] =
     b"DIAT\x00\x01\x02\x00\x00\x00\x01\x00\x00\x00\x04\x00\x00\x00\x07\x10\x00\x30\x00P\x00\xf0";
@@ -33,12 +37,22 @@ const TWICE: &[u8] = b"INPUT(a)\nOUTPUT(a)\nOUTPUT(a)\n";
 const TWICE_RESULT: &[u8] =
     b"diatest 1 1 2 7\nbudget 0 0 0\npattern 0\npattern 1\nclass 0 - -\nclass 1 0 0\nclass 2 0 0\nclass 3 0 0\nclass 4 0 1\nclass 5 0 1\nclass 6 0 1\nmember 0 0 rep\nmember 1 4 rep\nmember 2 1 rep\nmember 3 5 rep\nmember 4 2 rep\nmember 5 6 rep\nmember 6 3 rep\nend\n";
 
+// An AND gate whose output is shown twice, its result, and its same/different dictionary: with the baseline 11 in place of the
+// fault-free 00 at the second pattern it keeps two pairs more apart than the pass/fail one.
+const AND_TWICE: &[u8] = b"INPUT(a)\nINPUT(b)\nOUTPUT(z)\nOUTPUT(z)\nz=AND(a,b)\n";
+
+const AND_TWICE_RESULT: &[u8] =
+    b"diatest 1 2 2 11\nbudget 4 64 2000\npattern 00\npattern 10\npattern 01\npattern 11\nsame 3 1 C\nsame 5 1 C\nclass 0 - -\nclass 1 0 0\nclass 2 0 0\nclass 3 0 0\nclass 4 0 1\nclass 5 0 2\nclass 6 0 3\nclass 7 0 3\nclass 8 0 3\nmember 0 0 rep\nmember 1 6 rep\nmember 2 5 rep\nmember 3 6 equal\nmember 4 4 rep\nmember 5 6 equal\nmember 6 1 rep\nmember 7 7 rep\nmember 8 2 rep\nmember 9 8 rep\nmember 10 3 rep\nend\n";
+
+const AND_TWICE_CHOSEN: &[u8] =
+    b"DIAT\x00\x02\x03\x00\x00\x00\x02\x00\x00\x00\x04\x00\x00\x00\x0b\x00\x00\x00\x06\x00\xc0\x00\xc0\x00\x00\x00\x00\x00\x00\x00\x01\x00\x00\x00\x02\x00\x00\x00\x01\x00\x00\x00\x03\x00\x00\x00\x01\x00\x00\x00\x04\x00\x00\x00\x01\x00\x00\x00\x05\x00\x00\x00\x01\x00\x00\x00\x05\x40P\x60\x00\xa0\xe0";
+
 // A netlist, a result, a kind, what is printed, and the dictionary where it is told.
 type Making<'a> = (&'a [u8], &'a [u8], &'a str, &'a [u8], Option<&'a [u8]>);
 
 #[test]
 fn dictionaries_that_are_made(rt: HostRuntime) -> Result<(), Fail> {
-    let cases: [Making; 4] = [
+    let cases: [Making; 8] = [
         (
             AND,
             AND_RESULT,
@@ -54,6 +68,13 @@ fn dictionaries_that_are_made(rt: HostRuntime) -> Result<(), Fail> {
             Some(FULL_TWO),
         ),
         (
+            AND,
+            AND_RESULT,
+            "samediff",
+            b"numbers 7 patterns 4 classes 5 apart 10\n",
+            Some(SAME_DIFF),
+        ),
+        (
             TWICE,
             TWICE_RESULT,
             "passfail",
@@ -66,6 +87,27 @@ fn dictionaries_that_are_made(rt: HostRuntime) -> Result<(), Fail> {
             "full",
             b"numbers 7 patterns 2 classes 7 apart 21\n",
             None,
+        ),
+        (
+            TWICE,
+            TWICE_RESULT,
+            "samediff",
+            b"numbers 7 patterns 2 classes 7 apart 15\n",
+            None,
+        ),
+        (
+            AND_TWICE,
+            AND_TWICE_RESULT,
+            "passfail",
+            b"numbers 11 patterns 4 classes 9 apart 30\n",
+            None,
+        ),
+        (
+            AND_TWICE,
+            AND_TWICE_RESULT,
+            "samediff",
+            b"numbers 11 patterns 4 classes 9 apart 32\n",
+            Some(AND_TWICE_CHOSEN),
         ),
     ];
     for (netlist, result, kind, console, dict) in &cases {
@@ -115,6 +157,7 @@ fn dictionaries_that_are_converted(rt: HostRuntime) -> Result<(), Fail> {
         (TWO, TWO),
         (FULL_ONE, FULL_TWO),
         (FULL_TWO, FULL_TWO),
+        (SAME_DIFF, SAME_DIFF),
     ] {
         for output in ["d", "o"] {
             let files = [("o", old)];
@@ -219,7 +262,7 @@ fn diagnosed(
     status: u8,
     console: &[u8],
 ) -> Result<(), Fail> {
-    for dict in [ONE, TWO, FULL_ONE, FULL_TWO] {
+    for dict in [ONE, TWO, FULL_ONE, FULL_TWO, SAME_DIFF] {
         let files = [("d", dict), ("l", log)];
         let (ended, shelf) = over_files(alloc, 7, &[], &files, &["diagnose", "d", "l"])?;
         assert_eq!(rt; ended, status);

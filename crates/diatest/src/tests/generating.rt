@@ -1,6 +1,7 @@
 //! Runs of `gen`.
 
-use super::{C17, S27, TRUTH, accepted, generated, has};
+use super::{C17, S27, TRUTH, accepted, generated, has, over};
+use crate::cells::synth_text;
 use std::test::Fail;
 
 // A wire; no line at all; an AND; an OR of a signal and its complement, without a search too; a flip-flop that toggles; the
@@ -163,6 +164,66 @@ fn a_pair_that_the_search_leaves_open(rt: HostRuntime) -> Result<(), Fail> {
         } else {
             groups == 1 || groups == 2
         }
+    );
+    Ok(())
+}
+
+// Five blocks of the stream are two fills of the lanes, of which the second has one block: the kept vectors are those of a plain
+// evaluation of each fault at each vector, worked out outside.
+#[test]
+fn kept_vectors_of_five_blocks(rt: HostRuntime) -> Result<(), Fail> {
+    let cases: [(&[u8], &[u8]); 2] = [
+        (
+            C17,
+            b"diatest 1 5 2 35\nbudget 5 0 0\npattern 00000\npattern 10000\npattern 01000\npattern 00100\npattern 10100\npattern 01100\npattern 01010\npattern 00110\npattern 01110\npattern 00001\npattern 00111\nsame ",
+        ),
+        (
+            S27,
+            b"diatest 1 7 4 53\nbudget 5 0 0\npattern 0000001\npattern 1000001\npattern 0100001\npattern 0010000\npattern 1010001\npattern 0001001\npattern 1001000\npattern 0000101\npattern 0101100\npattern 0000011\npattern 1000010\npattern 0101010\npattern 0000110\npattern 0010010\nsame ",
+        ),
+    ];
+    for (netlist, start) in &cases {
+        let all = [
+            "gen",
+            "n",
+            "r",
+            "--blocks",
+            "5",
+            "--cubes",
+            "0",
+            "--conflicts",
+            "0",
+        ];
+        let left = generated(rt.alloc(), *netlist, &all)?;
+        assert_eq!(rt; left.status, 0);
+        assert!(rt; left.result.ok_or("no file")?.as_slice().starts_with(*start));
+    }
+    Ok(())
+}
+
+// A netlist of 1,200 gates at 16,384 vectors: a simulation of one vector and one fault at a time wouldn't end in the time of a test.
+#[test]
+fn results_of_a_large_netlist(rt: HostRuntime) -> Result<(), Fail> {
+    let netlist = synth_text(rt.alloc(), 300)?;
+    let all = [
+        "gen",
+        "n",
+        "r",
+        "--blocks",
+        "256",
+        "--cubes",
+        "0",
+        "--conflicts",
+        "0",
+    ];
+    let left = over(rt.alloc(), 4096, &[], &netlist, &all)?;
+    assert_eq!(rt; left.status, 0);
+    assert!(rt; left.console.as_slice().starts_with(b"numbers 7203 "));
+    assert!(rt;
+        left.result
+            .ok_or("no file")?
+            .as_slice()
+            .starts_with(b"diatest 1 601 301 7203\nbudget 256 0 0\n")
     );
     Ok(())
 }

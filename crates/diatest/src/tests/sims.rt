@@ -4,6 +4,7 @@ use super::dictionaries::AND;
 use super::over_files;
 use std::alloc::{AllocError, Global};
 use std::test::Fail;
+use word_sim::LANES;
 
 // An AND at one vector; one too narrow; no vector; a line without LF; and a wire that is shown twice, at two vectors.
 #[test]
@@ -43,20 +44,26 @@ fn lines_at_zero(alloc: Global, count: u32) -> Result<String, AllocError> {
     Ok(text)
 }
 
-// The netlist is opened by call 0 and read by calls 1 and 2, and the list by calls 3 to 5; call 6 prints the lines of 64
-// vectors, and call 7 those of the last one.
+// The netlist is opened by call 0 and read by calls 1 and 2, and the list by calls 3 to 5; call 6 prints the lines of a
+// block of vectors, all in one piece, and call 7 those of the last one.
 #[test]
 fn each_failing_print_leaves_the_blocks_before_it(rt: HostRuntime) -> Result<(), Fail> {
     let mut list = Vec::new(rt.alloc());
-    for _ in 0..65 {
+    for _ in 0..LANES + 1 {
         list.extend_from_slice(b"0\n")?;
     }
     let netlist: &[u8] = b"INPUT(a)\nOUTPUT(z)\nz=BUFF(a)\n";
-    let cases: [(u64, u8, u32); 5] = [(2, 7, 0), (5, 7, 0), (6, 8, 0), (7, 8, 64), (8, 0, 65)];
+    let cases: [(u64, u8, u32); 5] = [
+        (2, 7, 0),
+        (5, 7, 0),
+        (6, 8, 0),
+        (7, 8, LANES),
+        (8, 0, LANES + 1),
+    ];
     for (failing, status, count) in cases {
         let files = [("n", netlist), ("v", list.as_slice())];
         let all = ["sim", "n", "v"];
-        let (found, shelf) = over_files(rt.alloc(), 4096, &[failing], &files, &all)?;
+        let (found, shelf) = over_files(rt.alloc(), 65_536, &[failing], &files, &all)?;
         assert_eq!(rt; found, status);
         let expected = lines_at_zero(rt.alloc(), count)?;
         assert_eq!(rt; shelf.console(), expected.as_bytes());

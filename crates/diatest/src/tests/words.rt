@@ -27,7 +27,7 @@ fn words_that_are_not_understood(rt: HostRuntime) -> Result<(), Fail> {
         &["check", "n", "r", "--cubes", "1"],
         &["synth", "2001", "n", "r"],
         &["dict", "passfail", "n", "r"],
-        &["dict", "samediff", "n", "r", "d"],
+        &["dict", "same", "n", "r", "d"],
         &["dict", "Full", "n", "r", "d"],
         &["dict", "n", "full", "r", "d"],
         &["convert", "d"],

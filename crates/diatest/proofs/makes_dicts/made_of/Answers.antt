@@ -20,4 +20,5 @@ returns c =
       file_is = c.in_ok-made.ensures.file;
       text_is = c.in_ok-made.ensures.text;
       all_apart = apart_by_kind c.args.kind c.in_ok-dict.ensures.circuit entries c.requires.table c.in_ok-made.ensures.whole;
+      most_apart = c.in_ok-dict.ensures.most;
     }

@@ -3,10 +3,11 @@ use Rattle.std.specs.Prelude.{min, slice_range}
 use Rattle.diatest.proofs.Runs.{ends_silent}
 use Rattle.sim_listing.proofs.TextLemmas.{one_text}
 use Rattle.diatest.proofs.sims.print_block.Goals as goal
+use Rattle.word_sim.specs.declared.lanes.TheConstants.{LANES}
 
 pub returns-in_default : goal.returns-in_default
 returns-in_default g c =
-    let block = one_text c.args.circuit.now c.sources.ensures.circuit c.args.first (slice_range c.args.vectors.now c.args.first (min (c.args.first + 64) (length c.args.vectors.now))) in
+    let block = one_text c.args.circuit.now c.sources.ensures.circuit c.args.first (slice_range c.args.vectors.now c.args.first (min (c.args.first + LANES) (length c.args.vectors.now))) in
     (block.text, block.is, ends_silent (omega arith))
 
 pub returns : goal.returns

@@ -4,6 +4,7 @@ use Rattle.diatest.proofs.Runs.{ends_silent}
 use Rattle.diatest.proofs.SimLemmas.{ArePrinted, none_printed, more_printed, all_printed, broken_off}
 use Rattle.sim_listing.proofs.TextLemmas.{one_text}
 use Rattle.diatest.proofs.sims.print_simulation.Goals as goal
+use Rattle.word_sim.specs.declared.lanes.TheConstants.{LANES}
 
 pub returns-in_default : goal.returns-in_default
 returns-in_default g c =
@@ -26,7 +27,7 @@ loop-first-preserved g c =
     let vectors = c.args.vectors.now in
     let first = c.loop-first.first in
     let state = g.S.Shelf.state in
-    let end : min (first + 64) (length vectors) ≡ first + c.min-first.result = omega (arith, c.min-first.ensures, c.loop-first.invariant.within) in
+    let end : min (first + LANES) (length vectors) ≡ first + c.min-first.result = omega (arith, c.min-first.ensures, c.loop-first.invariant.within) in
     let whole : c.print_block-status.result ≡ 0 = omega arith in
     let block = rw whole at c.print_block-status.ensures in
     subst (λ (n : ℕ). ArePrinted c.args.circuit.now vectors n (state c.args.shelf.now) (state c.print_block-status.new.shelf)) end
