@@ -1,6 +1,7 @@
 -- Lines that are settled: after one event, and once no gate waits.
-use Rattle.std.proofs.Common.{◌≡◌, ◌≢◌, ℕ, ◌^◌, ◌<◌, ◌≤◌, List, [], length, get_or, set, refl, sym, ◌∙◌, ap, subst, arith, inl, inr}
-use Rattle.std.specs.Prelude.{Bool, true}
+use Rattle.std.proofs.Common.{◌≡◌, ◌≢◌, ℕ, ◌+◌, ◌^◌, ◌<◌, ◌≤◌, List, [], length, get_or, set, refl, sym, ◌∙◌, ap, subst, arith, inl, inr}
+use Rattle.std.specs.Prelude.{◌⊎◌, Bool, true, false, All, Contains}
+use Rattle.std.proofs.lemmas.List.Elements.{Contains-get_or}
 use Rattle.std.proofs.lemmas.Bool.{cases_eq, false_from_ne_true}
 use Rattle.std.proofs.lemmas.List.{get_or-set_same, get_or-set_other, get_or_default}
 use Rattle.std.proofs.lemmas.Option.{slice_get-get_or}
@@ -12,11 +13,53 @@ use Rattle.net_model.proofs.Elements.{true_false}
 use Rattle.pair_sets.specs.PairSet.{PairSet}
 use Rattle.pair_sets.specs.PairSet.{free_pairs, IsWithin}
 use Rattle.pair_sets.specs.CubeState.{set_at}
-use Rattle.event_queue.specs.Pending.{is_pending}
+use Rattle.event_queue.specs.Pending.{is_pending, IsLowest}
+use Rattle.event_queue.proofs.Marks.{lowest_left}
 use Rattle.net_model.specs.Wiring.{Wiring, IsWiring}
-use Rattle.pair_sets.specs.Events.{IsIdle, gate_line_pairs, AreSettled, AreLoose, WakesReaders}
+use Rattle.pair_sets.specs.Events.{IsIdle, gate_line_pairs, AreSettled, AreLoose, ReadersWait, WakesOnly, AreWoken, WakesReaders}
 use Rattle.pair_sets.proofs.PairLemmas.{within_same, within_more}
 use Rattle.pair_sets.proofs.SeenLemmas.{same_line_pairs, fewer_line_pairs}
+
+-- ---- gates that wait
+
+-- a gate that reads a line whose readers wait is none that doesn't
+pub woken_waits : (c : Circuit) → IsCircuit c → (wiring : Wiring) → IsWiring c wiring → (line : ℕ) (more : List Bool)
+    → ReadersWait c wiring.order line more → (l : ℕ) → Feeds c line l → IsIdle wiring.order more l → ⊥
+woken_waits c w wiring wired line more woken l feeds idle =
+    let order = wiring.order in
+    let gate = reader_is_gate c line l feeds in
+    let found = order_has c (fits_from c w) order wired.order l gate.0 gate.1 in
+    let place = found.0 in
+    let there : get_or order place 0 ≡ l = get_or_default order place 0 l found.1 ∙ found.2 in
+    true_false (is_pending more place) (woken place found.1 (subst (Feeds c line) (sym there) feeds)) (idle place found.1 there)
+
+-- where gates that waited still do, one that doesn't wait didn't before
+pub idle_before : (order : List ℕ) (queue more : List Bool) → ((place : ℕ) → is_pending queue place ≡ true → is_pending more place ≡ true) → (l : ℕ) → IsIdle order more l → IsIdle order queue l
+idle_before order queue more kept l idle = λ place h e. false_from_ne_true (is_pending queue place) (λ t. true_false (is_pending more place) (kept place t) (idle place h e))
+
+-- the readers of a line are places of the order
+pub readers_within : (c : Circuit) (wiring : Wiring) → IsWiring c wiring → (line : ℕ) (readers : List ℕ) → readers ≡ get_or wiring.readers line [] → All (λ place. place < length wiring.order) readers
+readers_within c wiring wired line readers are = λ k d h.
+    wired.readers.below line (get_or readers k d) (subst (λ us. Contains us (get_or readers k d)) are (Contains-get_or readers k d h))
+
+-- where they are let wait
+pub readers_woken : (c : Circuit) (wiring : Wiring) → IsWiring c wiring → (line : ℕ) (readers : List ℕ) → readers ≡ get_or wiring.readers line [] → (queue more : List Bool)
+    → ((place : ℕ) → is_pending queue place ≡ true → is_pending more place ≡ true) → ((place : ℕ) → is_pending more place ≡ true → (is_pending queue place ≡ true) ⊎ Contains readers place)
+    → ((place : ℕ) → Contains readers place → is_pending more place ≡ true) → AreWoken c wiring.order line queue more
+readers_woken c wiring wired line readers are queue more kept only here =
+    let users = wired.readers in
+    record {
+      others = record {
+        kept = kept;
+        only = λ place t. elim (only place t) [
+          | inl was ↦ inl was
+          | inr woken ↦
+              let has = subst (λ us. Contains us place) are woken in
+              inr (users.below line place has, users.only line place has)
+        ];
+      };
+      readers = λ place h feeds. here place (subst (λ us. Contains us place) (sym are) (users.all line place h feeds));
+    }
 
 -- ---- one line is settled
 
@@ -58,16 +101,6 @@ module _ (c : Circuit) (f g : Fault) (w : IsCircuit c) (sets : List PairSet) (li
       omega arith
 
   module _ (wiring : Wiring) (wired : IsWiring c wiring) (queue more : List Bool) where
-    woken_idle : ((place : ℕ) → place < length wiring.order → Feeds c line (get_or wiring.order place 0) → is_pending more place ≡ true)
-        → (l : ℕ) → Feeds c line l → IsIdle wiring.order more l → ⊥
-    woken_idle woken l feeds idle =
-        let order = wiring.order in
-        let gate = reader_is_gate c line l feeds in
-        let found = order_has c (fits_from c w) order wired.order l gate.0 gate.1 in
-        let place = found.0 in
-        let there : get_or order place 0 ≡ l = get_or_default order place 0 l found.1 ∙ found.2 in
-        true_false (is_pending more place) (woken place found.1 (subst (Feeds c line) (sym there) feeds)) (idle place found.1 there)
-
     -- what a line that doesn't wait reads has stayed, or is the line itself
     reads_stay : WakesReaders c wiring.order line (set_at sets line) pairs queue more → (l : ℕ) → IsIdle wiring.order more l → (read : ℕ) → Feeds c read l → set_at sets read ≡ set_at (set sets line pairs) read
     reads_stay wakes l idle read m = elim (cases_eq read line) [
@@ -75,25 +108,27 @@ module _ (c : Circuit) (f g : Fault) (w : IsCircuit c) (sets : List PairSet) (li
         | inl same ↦
             let P : ℕ → Type 0 = λ k. set_at sets k ≡ set_at (set sets line pairs) k in
             subst P (sym own) (same ∙ sym here)
-        | inr woken ↦ absurd (woken_idle woken l (subst (λ r. Feeds c r l) own m) idle)
+        | inr woken ↦ absurd (woken_waits c w wiring wired line more woken l (subst (λ r. Feeds c r l) own m) idle)
       ]
       | inr ne ↦ sym (other read ne)
     ]
 
-    pub settled_after : WakesReaders c wiring.order line (set_at sets line) pairs queue more
-        → ((l : ℕ) → c.sources ≤ l → l < line_count c → l ≢ line → IsIdle wiring.order queue l → set_at sets l ≡ gate_line_pairs c f g sets l)
-        → AreSettled c f g wiring.order more (set sets line pairs)
-    settled_after wakes settled l above below idle =
+    pub settled_line : WakesReaders c wiring.order line (set_at sets line) pairs queue more
+        → (l : ℕ) → (l ≡ line → pairs ≡ gate_line_pairs c f g sets line) → (l ≢ line → IsIdle wiring.order queue l → set_at sets l ≡ gate_line_pairs c f g sets l)
+        → IsIdle wiring.order more l → set_at (set sets line pairs) l ≡ gate_line_pairs c f g (set sets line pairs) l
+    settled_line wakes l own settled idle =
         let new = set sets line pairs in
         elim (cases_eq l line) [
           | inl same ↦
               let P : ℕ → Type 0 = λ k. set_at new k ≡ gate_line_pairs c f g new k in
-              subst P (sym same) (here ∙ right (subst (λ n. c.sources ≤ n) same above)
-              ∙ same_line_pairs c f g [] sets new line (λ read m. sym (other read (not_own line read refl m))))
-          | inr ne ↦
-              let was_idle : IsIdle wiring.order queue l = λ place h e. false_from_ne_true (is_pending queue place) (λ t. true_false (is_pending more place) (wakes.kept place t) (idle place h e)) in
-              other l ne ∙ settled l above below ne was_idle ∙ same_line_pairs c f g [] sets new l (reads_stay wakes l idle)
+              subst P (sym same) (here ∙ own same ∙ same_line_pairs c f g [] sets new line (λ read m. sym (other read (not_own line read refl m))))
+          | inr ne ↦ other l ne ∙ settled ne (idle_before wiring.order queue more wakes.others.kept l idle) ∙ same_line_pairs c f g [] sets new l (reads_stay wakes l idle)
         ]
+
+    pub settled_after : WakesReaders c wiring.order line (set_at sets line) pairs queue more
+        → ((l : ℕ) → c.sources ≤ l → l < line_count c → l ≢ line → IsIdle wiring.order queue l → set_at sets l ≡ gate_line_pairs c f g sets l)
+        → AreSettled c f g wiring.order more (set sets line pairs)
+    settled_after wakes settled l above below idle = settled_line wakes l (λ same. right (subst (λ n. c.sources ≤ n) same above)) (settled l above below) idle
 
 -- ---- along the order
 
@@ -112,6 +147,18 @@ later_place c wiring wired place reader h k feeds =
     let order = wiring.order in
     wired.order.sorted reader place (get_or order place 0) (get_or order reader 0) (slice_get-get_or order reader 0 k) feeds
     (order_only c (fits_from c wired.circuit) order wired.order place h).0 (slice_get-get_or order place 0 h)
+
+-- once a gate is taken and the readers of its line are let wait, no place waits up to its own
+pub none_before : (c : Circuit) (wiring : Wiring) → IsWiring c wiring → (place line : ℕ) (queue taken more : List Bool) → place < length wiring.order → line ≡ get_or wiring.order place 0
+    → IsLowest queue taken place → WakesOnly c wiring.order line taken more → (p : ℕ) → p < place + 1 → is_pending more p ≡ false
+none_before c wiring wired place line queue taken more within at lowest wakes p h =
+    false_from_ne_true (is_pending more p)
+    (λ t.
+    let later : place < p = elim (wakes.only p t) [
+      | inl was ↦ (lowest_left queue taken place lowest p was).0
+      | inr (inside, feeds) ↦ later_place c wiring wired place p within inside (subst (λ l. Feeds c l (get_or wiring.order p 0)) at feeds)
+    ] in
+    omega arith)
 
 -- there are as many places as gates
 pub places_are_gates : (c : Circuit) (wiring : Wiring) → IsWiring c wiring → length wiring.order ≡ length c.gates

@@ -4,7 +4,7 @@ use Rattle.std.specs.Prelude.{Bool, true, false, Option, None, Some, option_map,
 use Rattle.std.specs.Option.{option_map_or}
 use Rattle.std.specs.List.{list_all, range_with_len}
 use Rattle.std.proofs.lemmas.Bool.{cases_eq, cases_lt, ne_eqb}
-use Rattle.std.proofs.lemmas.List.{get_or-set_same, get_or-set_other, length-map, take_at, drop_at}
+use Rattle.std.proofs.lemmas.List.{get_or-set_same, get_or-set_other, length-map, take_at, drop_at, take-append-drop}
 use Rattle.std.proofs.lemmas.List.Elements.{Contains-get_or}
 use Rattle.net_model.specs.declared.fault.Fault.{Fault}
 use Rattle.net_model.specs.Circuit.{Circuit, line_count}
@@ -28,6 +28,7 @@ use Rattle.pair_sets.specs.PairSimFields.{cube_of, IsLevelRight, AreLevels, IsRe
 use Rattle.pair_sets.proofs.CubeLemmas.{few_fixed}
 use Rattle.pair_sets.proofs.PairLemmas.{within_same, within_forced}
 use Rattle.pair_sets.proofs.SeenLemmas.{source_line_pairs, any_cube}
+use Rattle.pair_sets.proofs.TrailLemmas.{undone-append}
 
 -- ---- sources
 
@@ -88,8 +89,15 @@ module _ (c : Circuit) (f g : Fault) (cube : Cube) (sets : List PairSet) (are : 
 
 module _ (c : Circuit) (f g : Fault) (room : ℕ) where
   pub level_right : (levels : List Level) (changes : List Change) (sets : List PairSet) → AreLevels c f g room levels changes sets → IsLevelRight c f g (cube_of levels) room changes sets
-  level_right [] changes sets are = are
+  level_right [] changes sets are = are.1
   level_right (level ∷ levels) changes sets are = are.0
+
+  -- where all changes are taken back, the pairs are those of no fixed source
+  pub first_level : (levels : List Level) (changes : List Change) (sets : List PairSet) → AreLevels c f g room levels changes sets → ArePairSets c f g [] (undone changes sets)
+  first_level [] changes sets are = subst (λ xs. ArePairSets c f g [] (undone xs sets)) (sym are.0) are.1.right
+  first_level (level ∷ levels) changes sets are =
+      subst (ArePairSets c f g []) (sym (undone-append (take level.start changes) (drop level.start changes) sets) ∙ ap (λ xs. undone xs sets) (take-append-drop level.start changes))
+      (first_level levels (take level.start changes) (undone (drop level.start changes) sets) are.4)
 
   pub levels_more : (levels : List Level) (changes : List Change) (sets : List PairSet) (level : Level) (added all : List Change) (new : List PairSet)
       → AreLevels c f g room levels changes sets → level.source < c.sources → fixed_bit (cube_of levels) level.source ≡ None → level.start ≡ length changes

@@ -1,13 +1,15 @@
 pub mod PairLemmas
 pub mod GateLemmas
-pub mod FreeGates
 pub mod SeenLemmas
 pub mod TrailLemmas
 pub mod Bytes
 pub mod TallyLemmas
 pub mod EventLemmas
-pub mod StartLemmas
+pub mod BaseLemmas
+pub mod MarkLemmas
+pub mod SpreadLemmas
 pub mod LevelLemmas
+pub mod BlankLemmas
 pub mod Coverage
 pub mod StateLemmas
 pub mod SingleLemmas

@@ -1,6 +1,6 @@
 -- What is kept of the positions, and how it follows changes.
-use Rattle.std.proofs.Common.{◌≡◌, ◌≢◌, ℕ, ◌<◌, List, [], ◌∷◌, length, get_or, set, take, drop, ◌-◌, refl, sym, ◌∙◌, ap, subst, arith, inl, inr}
-use Rattle.std.specs.Prelude.{Bool, true, false, not, ◌&&◌, cond, Some, None, All, find, filter, map, if◌then◌else◌}
+use Rattle.std.proofs.Common.{◌≡◌, ◌≢◌, ℕ, ◌<◌, ◌≤◌, List, [], ◌∷◌, length, get_or, set, take, drop, ◌-◌, refl, sym, ◌∙◌, ap, subst, arith, inl, inr}
+use Rattle.std.specs.Prelude.{Bool, true, false, not, ◌&&◌, cond, Some, None, All, find, filter, map, vec_capacity, if◌then◌else◌}
 use Rattle.std.specs.List.{list_all, range_with_len}
 use Rattle.std.proofs.lemmas.Bool.{cases_eq, false≢true}
 use Rattle.std.proofs.lemmas.List.{get_or-set_same, get_or-set_other, length-map, ext_get_or, take_all, length-drop}
@@ -10,9 +10,9 @@ use Rattle.net_model.specs.declared.fault.Fault.{Fault}
 use Rattle.net_model.specs.Circuit.{Circuit}
 use Rattle.net_model.specs.Fault.{stuck_position}
 use Rattle.net_model.specs.Scope.{is_reached, reached_positions}
-use Rattle.fault_list.specs.Scope.{IsScopeOf}
+use Rattle.event_queue.specs.Pending.{IsEmpty}
 use Rattle.pair_sets.specs.declared.tally.Tally.{Tally}
-use Rattle.pair_sets.specs.Tally.{kept_pairs, IsShownAt, IsShown, IsTally, KeepsScope}
+use Rattle.pair_sets.specs.Tally.{kept_pairs, IsShownAt, IsShown, IsTally, KeepsAll}
 use Rattle.pair_sets.specs.declared.trail.Change.{Change}
 use Rattle.pair_sets.specs.PairSet.{PairSet, free_pairs, forced_pairs}
 use Rattle.pair_sets.specs.CubeState.{set_at, position_pairs}
@@ -29,6 +29,10 @@ module _ (c : Circuit) (f g : Fault) (sets shown : List PairSet) (at : ℕ) (pai
     | inl same ↦ subst (IsShownAt c f g sets (set shown at pairs)) (sym same) put_here
     | inr ne ↦ get_or-set_other shown at other pairs free_pairs ne ∙ was
   ]
+
+-- where a position isn't reached, equal pairs are right
+pub shown_unreached : (c : Circuit) (f g : Fault) (sets shown : List PairSet) (at : ℕ) → is_reached c f g at ≡ false → get_or shown at free_pairs ≡ free_pairs → IsShownAt c f g sets shown at
+shown_unreached c f g sets shown at unreached free = free ∙ sym (ap (λ b. if b then position_pairs c f g sets at else free_pairs) unreached)
 
 -- ---- changes
 
@@ -92,9 +96,13 @@ none_found test (x ∷ xs) e = by (test x) e (none_found test xs)
     by false t rest = rest t
 
 -- what is kept of the positions stands apart from the rest
-pub tally_kept : (c : Circuit) (f g : Fault) (old new : Tally) → IsTally c f g old → KeepsScope old new → IsTally c f g new
+pub tally_kept : (c : Circuit) (f g : Fault) (old new : Tally) → IsTally c f g old → KeepsAll old new → IsTally c f g new
 tally_kept c f g old new are kept = record {
   reached = ap (λ v. v.items) kept.reached ∙ are.reached;
-  scope = subst (IsScopeOf c f g) (sym kept.scope) are.scope;
-  whole = kept.whole ∙ are.whole;
+  places = record {
+    whole = kept.whole ∙ are.places.whole;
+    none_waits = subst IsEmpty (sym kept.waiting) are.places.none_waits;
+    queue_room = ap length kept.waiting ∙ are.places.queue_room;
+    room = subst (λ v. length c.positions ≤ vec_capacity v) (sym kept.reached) are.places.room;
+  };
 }

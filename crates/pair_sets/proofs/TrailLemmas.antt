@@ -1,13 +1,15 @@
 -- Changes of pairs, and how they are taken back.
-use Rattle.std.proofs.Common.{◌≡◌, ℕ, zero, suc, ◌<◌, List, [], ◌∷◌, ◌++◌, length, set, refl, sym, ◌∙◌, ap, arith, subst, append_assoc}
-use Rattle.std.specs.Prelude.{All, vec_capacity}
+use Rattle.std.proofs.Common.{◌≡◌, ℕ, zero, suc, ◌*◌, ◌<◌, ◌≤◌, List, [], ◌∷◌, ◌++◌, length, set, refl, sym, ◌∙◌, ap, arith, subst, append_assoc}
+use Rattle.std.specs.Prelude.{All, sum_by, vec_capacity}
 use Rattle.std.proofs.lemmas.List.{set-set, set-get_or, length-set, append-nil}
 use Rattle.std.proofs.lemmas.List.Elements.{All-append}
+use Rattle.std.proofs.lemmas.List.Sums.{sum_by-cons}
 use Rattle.pair_sets.specs.PairSet.{PairSet}
 use Rattle.pair_sets.specs.declared.trail.Change.{Change}
 use Rattle.pair_sets.specs.declared.trail.Trail.{Trail}
 use Rattle.pair_sets.specs.CubeState.{set_at}
-use Rattle.pair_sets.specs.Trail.{change_with, undone, IsLonger}
+use Rattle.pair_sets.specs.Trail.{change_with, pair_count, undone, IsLonger}
+use Rattle.pair_sets.proofs.GateLemmas.{four_at_most}
 
 pub undone-append : (first second : List Change) (sets : List PairSet) → undone (first ++ second) sets ≡ undone first (undone second sets)
 undone-append [] second sets = refl
@@ -16,6 +18,11 @@ undone-append (change ∷ first) second sets = ap (λ s. set s change.line chang
 pub length-undone : (changes : List Change) (sets : List PairSet) → length (undone changes sets) ≡ length sets
 length-undone [] sets = refl
 length-undone (change ∷ changes) sets = length-set (undone changes sets) change.line change.was ∙ length-undone changes sets
+
+-- there are at most four pairs for each line
+pub few_pairs : (sets : List PairSet) → sum_by pair_count sets ≤ 4 * length sets
+few_pairs [] = omega arith
+few_pairs (s ∷ sets) = omega (arith, sum_by-cons pair_count s sets, four_at_most s, few_pairs sets)
 
 pub longer_none : (trail : Trail) → IsLonger trail trail
 longer_none trail = record {

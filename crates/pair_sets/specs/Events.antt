@@ -1,8 +1,7 @@
 -- Changes under way: the gates that wait, and the lines that are settled.
 use Rattle.std.specs.Prelude.{◌≡◌, ℕ, ◌<◌, ◌≤◌, ◌⊎◌, Bool, true, false, List, [], length, slice_index}
 use Rattle.net_model.specs.declared.fault.Fault.{Fault}
-use Rattle.net_model.specs.Circuit.{Circuit, line_count, pins_of, Feeds}
-use Rattle.net_model.specs.Scope.{is_split}
+use Rattle.net_model.specs.Circuit.{Circuit, line_count, Feeds}
 use Rattle.event_queue.specs.Pending.{is_pending}
 use Rattle.pair_sets.specs.PairSet.{PairSet, IsWithin}
 use Rattle.pair_sets.specs.CubeState.{set_at, line_pairs}
@@ -23,13 +22,21 @@ AreSettled c f g order queue sets = (line : ℕ) → c.sources ≤ line → line
 abbrev pub AreLoose : Circuit → Fault → Fault → List PairSet → Type 0
 AreLoose c f g sets = (line : ℕ) → c.sources ≤ line → line < line_count c → IsWithin (gate_line_pairs c f g sets line) (set_at sets line)
 
--- Gates that waited still do; only readers of the line wait besides, and all of them where its pairs changed.
-pub record WakesReaders (c : Circuit) (order : List ℕ) (line : ℕ) (was pairs : PairSet) (old new : List Bool) : Type 0 where
+-- Each reader of the line waits.
+abbrev pub ReadersWait : Circuit → List ℕ → ℕ → List Bool → Type 0
+ReadersWait c order line queue = (place : ℕ) → place < length order → Feeds c line (slice_index order place) → is_pending queue place ≡ true
+
+-- Gates that waited still do, and only readers of the line wait besides.
+pub record WakesOnly (c : Circuit) (order : List ℕ) (line : ℕ) (old new : List Bool) : Type 0 where
   pub kept : (place : ℕ) → is_pending old place ≡ true → is_pending new place ≡ true
   pub only : (place : ℕ) → is_pending new place ≡ true → (is_pending old place ≡ true) ⊎ ((place < length order) × Feeds c line (slice_index order place))
-  pub readers : (was ≡ pairs) ⊎ ((place : ℕ) → place < length order → Feeds c line (slice_index order place) → is_pending new place ≡ true)
 
--- The line isn't split, and its gate reads some line.
-pub record IsUnchanged (c : Circuit) (f g : Fault) (line : ℕ) : Type 0 where
-  pub unsplit : is_split c f g line ≡ false
-  pub reads : 0 < length (pins_of c line)
+-- All readers of the line wait besides the gates that waited.
+pub record AreWoken (c : Circuit) (order : List ℕ) (line : ℕ) (old new : List Bool) : Type 0 where
+  pub others : WakesOnly c order line old new
+  pub readers : ReadersWait c order line new
+
+-- The same where its pairs changed; where they didn't, perhaps not all of them.
+pub record WakesReaders (c : Circuit) (order : List ℕ) (line : ℕ) (was pairs : PairSet) (old new : List Bool) : Type 0 where
+  pub others : WakesOnly c order line old new
+  pub readers : (was ≡ pairs) ⊎ ReadersWait c order line new

@@ -9,6 +9,8 @@ pub mod Subtree
 -- Changes, and what is kept up with them
 pub mod Trail
 pub mod Events
+pub mod ConeFields
+pub mod Spread
 pub mod ShownFields
 pub mod Tally
 -- Simulations

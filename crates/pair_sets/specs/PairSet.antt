@@ -16,10 +16,7 @@ pub record PairSet : Type 0 where
   pub one_zero : Bool
   pub both_one : Bool
 
--- all four pairs; the equal pairs of both values, which a free source has; and that of one value, which a fixed source has
-abbrev pub all_pairs : PairSet
-all_pairs = record { both_zero = true; zero_one = true; one_zero = true; both_one = true }
-
+-- the equal pairs of both values, which a free source has, and that of one value, which a fixed source has
 abbrev pub free_pairs : PairSet
 free_pairs = record { both_zero = true; zero_one = false; one_zero = false; both_one = true }
 

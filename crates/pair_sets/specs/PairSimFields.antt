@@ -1,7 +1,10 @@
 -- What the fields of a `PairSim` show, and what is true of them.
-use Rattle.std.specs.Prelude.{◌≡◌, ℕ, ◌+◌, ◌<◌, ◌≤◌, List, [], ◌∷◌, map, reverse, length, sum_by, take, drop, vec_capacity, All, None}
+use Rattle.std.specs.Prelude.{◌≡◌, ℕ, ◌+◌, ◌*◌, ◌<◌, ◌≤◌, List, [], ◌∷◌, map, reverse, length, sum_by, take, drop, vec_capacity, All, None}
 use Rattle.net_model.specs.declared.fault.Fault.{Fault}
-use Rattle.net_model.specs.Circuit.{Circuit, IsCircuit}
+use Rattle.net_model.specs.declared.fault.Fault.TheVariants.{Free}
+use Rattle.net_model.specs.Circuit.{Circuit, IsCircuit, line_count}
+use Rattle.net_model.specs.Scope.{is_split}
+use Rattle.fault_list.specs.Scope.{AreMarks}
 use Rattle.event_queue.specs.Pending.{IsEmpty}
 use Rattle.pair_sets.specs.PairSet.{PairSet}
 use Rattle.pair_sets.specs.declared.sim.Level.{Level}
@@ -25,9 +28,9 @@ pub record IsLevelRight (c : Circuit) (f g : Fault) (cube : Cube) (room : ℕ) (
   pub right : ArePairSets c f g cube sets
   pub room_left : length changes + sum_by pair_count sets ≤ room
 
--- The pairs are right, and so are those of each level further down, where the changes since its start are taken back. Each level fixes a source that was free.
+-- The pairs are right, and so are those of each level further down, where the changes since its start are taken back. Each level fixes a source that was free, and there are no changes before the first.
 abbrev pub AreLevels : Circuit → Fault → Fault → ℕ → List Level → List Change → List PairSet → Type 0
-AreLevels c f g room [] changes sets = IsLevelRight c f g [] room changes sets
+AreLevels c f g room [] changes sets = (changes ≡ []) × IsLevelRight c f g [] room changes sets
 AreLevels c f g room (level ∷ levels) changes sets =
     IsLevelRight c f g (cube_of (level ∷ levels)) room changes sets
     × (level.source < c.sources)
@@ -41,6 +44,9 @@ pub record IsReady (a : Inside) : Type 0 where
   pub queue_room : length a.queue ≡ length a.pair.circuit.now.gates
   pub levels : AreLevels a.pair.circuit.now a.pair.f a.pair.g (vec_capacity a.trail.changes) (reverse a.levels.items) a.trail.changes.items a.trail.sets.items
   pub within : All (λ change. change.line < length a.trail.sets.items) a.trail.changes.items
+  pub trail_room : 4 * line_count a.pair.circuit.now ≤ vec_capacity a.trail.changes
   pub levels_room : a.pair.circuit.now.sources ≤ vec_capacity a.levels
+  pub base : ArePairSets a.pair.circuit.now Free Free [] a.base.items
+  pub cone : AreMarks (is_split a.pair.circuit.now a.pair.f a.pair.g) (line_count a.pair.circuit.now) a.cone
   pub tally : IsTally a.pair.circuit.now a.pair.f a.pair.g a.tally
   pub shown : IsShown a.pair.circuit.now a.pair.f a.pair.g a.trail.sets.items a.tally.shown

@@ -1,12 +1,29 @@
 -- What is kept of the observed positions: the pairs that the reached ones show.
-use Rattle.std.specs.Prelude.{◌≡◌, ℕ, ◌<◌, List, length, slice_index_or, if◌then◌else◌}
+use Rattle.std.specs.Prelude.{◌≡◌, ℕ, ◌<◌, ◌≤◌, List, [], length, slice_index_or, vec_capacity, All, Contains, if◌then◌else◌}
 use Rattle.net_model.specs.declared.fault.Fault.{Fault}
 use Rattle.net_model.specs.Circuit.{Circuit}
 use Rattle.net_model.specs.Scope.{is_reached, reached_positions}
-use Rattle.fault_list.specs.Scope.{IsScopeOf}
+use Rattle.event_queue.specs.Pending.{IsEmpty}
 use Rattle.pair_sets.specs.declared.tally.Tally.{Tally}
 use Rattle.pair_sets.specs.PairSet.{PairSet, free_pairs}
 use Rattle.pair_sets.specs.CubeState.{position_pairs}
+
+-- There is a place for each of so many positions, and room to list all of them. None waits.
+pub record HasPlaces (count : ℕ) (tally : Tally) : Type 0 where
+  pub whole : length tally.shown ≡ count
+  pub none_waits : IsEmpty tally.waiting
+  pub queue_room : length tally.waiting ≡ count
+  pub room : count ≤ vec_capacity tally.reached
+
+-- Of all positions but these equal pairs are kept.
+pub record IsBlankBut (reached : List ℕ) (shown : List PairSet) : Type 0 where
+  pub within : All (λ at. at < length shown) reached
+  pub others : (at : ℕ) → (Contains reached at → ⊥) → slice_index_or shown at free_pairs ≡ free_pairs
+
+-- No position is listed, and of each equal pairs are kept.
+pub record IsBlank (tally : Tally) : Type 0 where
+  pub reached : tally.reached.items ≡ []
+  pub free : (at : ℕ) → slice_index_or tally.shown at free_pairs ≡ free_pairs
 
 module _ (c : Circuit) (f g : Fault) where
   -- what a reached position shows, and equal pairs for another
@@ -21,14 +38,13 @@ module _ (c : Circuit) (f g : Fault) where
   abbrev pub IsShown : List PairSet → List PairSet → Type 0
   IsShown sets shown = (at : ℕ) → at < length c.positions → IsShownAt sets shown at
 
-  -- The positions that two faults reach, their scope, and something kept of each position.
+  -- The positions that two faults reach are listed, with a place for each position.
   pub record IsTally (tally : Tally) : Type 0 where
     pub reached : tally.reached.items ≡ reached_positions c f g
-    pub scope : IsScopeOf c f g tally.scope
-    pub whole : length tally.shown ≡ length c.positions
+    pub places : HasPlaces (length c.positions) tally
 
 -- Nothing changes but what is kept of positions.
-pub record KeepsScope (old new : Tally) : Type 0 where
+pub record KeepsAll (old new : Tally) : Type 0 where
   pub reached : new.reached ≡ old.reached
-  pub scope : new.scope ≡ old.scope
+  pub waiting : new.waiting ≡ old.waiting
   pub whole : length new.shown ≡ length old.shown

@@ -1,6 +1,6 @@
 //! Two faults of a circuit, and the pairs of values that they give pins, lines and positions.
 
-ghost use Rattle.std.specs.Prelude.{◌≡◌, ◌<◌, ◌≤◌, ◌^◌, All, IsTrue, length};
+ghost use Rattle.std.specs.Prelude.{◌≡◌, ◌<◌, ◌≤◌, ◌^◌, [], All, IsTrue, length};
 ghost use Rattle.net_model.specs.declared.operation.Operation.TheVariants.{Folded, Chosen};
 ghost use Rattle.net_model.specs.Circuit.{line_count};
 ghost use Rattle.net_model.specs.Fault.{stuck_pin, stuck_stem};
@@ -54,6 +54,19 @@ impl<'a> FaultPair<'a> {
         ensures { (cube : Cube) → result ≡ line_pairs self.now.circuit.now self.now.f self.now.g cube sets.now line }
     {
         self.stem_pairs(line, self.gate_pairs(sets, line, self.circuit.gate(line)))
+    }
+
+    /// The pairs of a line where all sources are free.
+    pub(crate) fn free_line_pairs(&self, sets: &[PairSet], line: u32) -> PairSet
+        requires line { line < line_count self.now.circuit.now }
+        requires width { length sets.now ≡ line_count self.now.circuit.now }
+        ensures { result ≡ line_pairs self.now.circuit.now self.now.f self.now.g [] sets.now line }
+    {
+        if line < self.circuit.sources() {
+            self.stem_pairs(line, PairSet::free())
+        } else {
+            self.line_pairs(sets, line)
+        }
     }
 
     // The pairs that the gate of a line gives on what its pins see.

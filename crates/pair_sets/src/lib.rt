@@ -1,13 +1,16 @@
 //! Which pairs of values two faults can give a line under a cube, and trees of cubes.
 #![tactic(auto)]
 
+mod base;
+mod cone;
 mod events;
 mod fault_pair;
 mod laws;
 mod pair_set;
+mod reached;
 mod shown;
 mod sim;
-mod start;
+mod spread;
 mod state;
 mod tally;
 mod trail;

@@ -4,7 +4,7 @@ ghost use Rattle.std.specs.Prelude.{◌≡◌, ◌∷◌, [], Some, None};
 ghost use Rattle.net_model.specs.declared.gate.Kind.TheVariants.{Not};
 ghost use Rattle.net_model.specs.declared.operation.Operation.TheVariants.{Chosen, Folded};
 ghost use Rattle.net_model.specs.declared.operation.Fold.TheVariants.{AllOf, OddOf};
-ghost use Rattle.pair_sets.specs.PairSet.{forced_pairs, gate_pairs, operation_pairs, fixed_pairs, free_pairs, all_pairs, some_pair, has_first, has_second, has_pair, has_several, only_equal, only_unequal};
+ghost use Rattle.pair_sets.specs.PairSet.{forced_pairs, gate_pairs, operation_pairs, fixed_pairs, free_pairs, some_pair, has_first, has_second, has_pair, has_several, only_equal, only_unequal};
 
 use net_model::Fold;
 use std::marker::Model;
@@ -31,18 +31,6 @@ impl Model for PairSet {
 }
 
 impl PairSet {
-    // All four pairs.
-    pub(crate) fn all() -> PairSet
-        ensures { result ≡ all_pairs }
-    {
-        PairSet {
-            both_zero: true,
-            zero_one: true,
-            one_zero: true,
-            both_one: true,
-        }
-    }
-
     // The equal pairs of both values, as a free source has them.
     pub(crate) fn free() -> PairSet
         ensures { result ≡ free_pairs }

@@ -1,8 +1,8 @@
 //! The pairs that positions show, counted.
 
-ghost use Rattle.std.specs.Prelude.{◌≡◌, ◌<◌, [], ◌∷◌, ◌++◌, IfOk, OnOk, not, length, slice_set};
+ghost use Rattle.std.specs.Prelude.{◌≡◌, ◌<◌, IfOk, not, length, replicate, slice_set};
 ghost use Rattle.std.specs.List.{list_all};
-ghost use Rattle.pair_sets.specs.PairSet.{only_equal, only_unequal};
+ghost use Rattle.pair_sets.specs.PairSet.{free_pairs, only_equal, only_unequal};
 
 use crate::pair_set::PairSet;
 use std::alloc::{AllocError, Global};
@@ -30,24 +30,15 @@ impl Model for Shown {
 }
 
 impl Shown {
-    /// None, with room for so many.
-    pub(crate) fn with_capacity(alloc: Global, count: usize) -> Result<Shown, AllocError>
-        ensures { IfOk result (λ shown. shown ≡ []) }
+    /// Equal pairs at each of so many places.
+    pub(crate) fn equal(alloc: Global, count: usize) -> Result<Shown, AllocError>
+        ensures { IfOk result (λ shown. shown ≡ replicate count free_pairs) }
     {
         Ok(Shown {
-            pairs: Vec::with_capacity(alloc, count)?,
+            pairs: vec![in alloc; PairSet::free(); count]?,
             unlike: 0,
             apart: 0,
         })
-    }
-
-    pub(crate) fn push(&mut self, pairs: PairSet) -> Result<(), AllocError>
-        ensures { OnOk result (self.new ≡ self.old ++ pairs ∷ []) }
-    {
-        self.pairs.push(pairs)?;
-        self.unlike += usize::from(!pairs.only_equal());
-        self.apart += usize::from(pairs.only_unequal());
-        Ok(())
     }
 
     pub(crate) fn put(&mut self, place: u32, pairs: PairSet)

@@ -1,6 +1,7 @@
 //! Which pairs of values two faults can give a line under a cube.
 
 ghost use Rattle.std.specs.Prelude.{◌≡◌, ◌<◌, ◌∷◌, [], All, None, IfOk, drop, length};
+ghost use Rattle.net_model.specs.declared.fault.Fault.TheVariants.{Free};
 ghost use Rattle.net_model.specs.Circuit.{IsCircuit, line_count};
 ghost use Rattle.net_model.specs.Fault.{IsFaultOf};
 ghost use Rattle.pair_sets.specs.Cube.{fixed_bit};
@@ -10,15 +11,16 @@ ghost use Rattle.pair_sets.specs.PairSet.{forced_pairs};
 ghost use Rattle.pair_sets.specs.CubeState.{set_at, position_pairs, IsState, IsPart};
 ghost use Rattle.pair_sets.specs.PairSim.{pair_sim, with_cube};
 
+use crate::base::base_pairs;
+use crate::cone::Cone;
 use crate::events::{follow, settle};
 use crate::fault_pair::FaultPair;
 use crate::pair_set::PairSet;
-use crate::start::{first_pairs, first_queue};
+use crate::spread::spread;
 use crate::state::PairState;
 use crate::tally::{Tally, first_apart};
 use crate::trail::Trail;
 use event_queue::NumberQueue;
-use fault_list::Scope;
 use net_model::{Circuit, Fault};
 use std::alloc::{AllocError, Global};
 use std::marker::Model;
@@ -36,6 +38,8 @@ pub(crate) struct Level {
 #[derive(Drop)]
 pub struct PairSim<'a> {
     pair: FaultPair<'a>,
+    base: Vec<PairSet>,
+    cone: Cone,
     queue: NumberQueue,
     trail: Trail,
     tally: Tally,
@@ -66,26 +70,82 @@ impl<'a> PairSim<'a> {
         requires second { IsFaultOf circuit.now g.now }
         ensures { IfOk result (λ sim. sim ≡ pair_sim circuit.now f.now g.now []) }
     {
-        let pair = FaultPair {
-            circuit,
-            f: *f,
-            g: *g,
-        };
-        let wiring = circuit.wiring();
-        let scope = Scope::of(alloc, circuit, f, g)?;
-        let mut queue = first_queue(alloc, &pair, wiring, &scope)?;
-        let mut trail = first_pairs(alloc, &pair, &scope)?;
-        let levels = Vec::with_capacity(alloc, circuit.sources() as usize)?;
-        follow(&pair, wiring, &mut queue, &mut trail);
-        trail.changes.clear();
-        let tally = Tally::of(alloc, &pair, scope, trail.sets.as_slice())?;
+        let mut sim = PairSim::free(alloc, circuit)?;
+        sim.enter(f, g);
+        Ok(sim)
+    }
+
+    /// Puts two other faults of the circuit in the place of those that were simulated, under the cube of all vectors.
+    /// Only lines are touched that the faults reach, that the last ones did, or that changed with the cube. It takes no
+    /// memory.
+    pub fn restart(&mut self, f: &Fault, g: &Fault)
+        requires first { IsFaultOf self.old.circuit f.now }
+        requires second { IsFaultOf self.old.circuit g.now }
+        ensures { self.new ≡ pair_sim self.old.circuit f.now g.now [] }
+    {
+        self.clear();
+        self.enter(f, g);
+    }
+
+    // The simulation of the circuit without faults.
+    fn free(alloc: Global, circuit: &'a Circuit) -> Result<PairSim<'a>, AllocError>
+        ensures { IfOk result (λ sim. sim ≡ pair_sim circuit.now Free Free []) }
+    {
+        let lines = circuit.lines() as usize;
+        let base = base_pairs(alloc, circuit)?;
+        let mut sets = Vec::with_capacity(alloc, lines)?;
+        sets.extend_from_slice(base.as_slice())?;
         Ok(PairSim {
-            pair,
-            queue,
-            trail,
-            tally,
-            levels,
+            pair: FaultPair {
+                circuit,
+                f: Fault::Free,
+                g: Fault::Free,
+            },
+            base,
+            cone: Cone::none(alloc, lines)?,
+            queue: NumberQueue::new(alloc, circuit.order().len())?,
+            trail: Trail {
+                sets,
+                changes: Vec::with_capacity(alloc, 4 * lines)?,
+            },
+            tally: Tally::none(alloc, circuit.positions().len())?,
+            levels: Vec::with_capacity(alloc, circuit.sources() as usize)?,
         })
+    }
+
+    // Takes both faults away and frees all sources.
+    fn clear(&mut self)
+        ensures { self.new ≡ pair_sim self.old.circuit Free Free [] }
+    {
+        self.trail.restore(0);
+        self.trail.changes.clear();
+        self.levels.clear();
+        self.trail.copy(self.base.as_slice(), self.cone.lines());
+        self.tally.clear();
+        self.cone.unmark_all();
+        self.pair.f = Fault::Free;
+        self.pair.g = Fault::Free;
+    }
+
+    // Puts two faults into the circuit without faults.
+    fn enter(&mut self, f: &Fault, g: &Fault)
+        requires free { self.old ≡ pair_sim self.old.circuit Free Free [] }
+        requires first { IsFaultOf self.old.circuit f.now }
+        requires second { IsFaultOf self.old.circuit g.now }
+        ensures { self.new ≡ pair_sim self.old.circuit f.now g.now [] }
+    {
+        self.pair.f = *f;
+        self.pair.g = *g;
+        let wiring = self.pair.circuit.wiring();
+        spread(
+            &self.pair,
+            wiring,
+            &mut self.queue,
+            &mut self.cone,
+            &mut self.trail.sets,
+        );
+        self.tally
+            .fill(&self.pair, wiring, &self.cone, self.trail.sets.as_slice());
     }
 
     /// Fixes a source that is free. Only gates that read a line whose pairs change are evaluated. It takes no memory.
@@ -109,6 +169,7 @@ impl<'a> PairSim<'a> {
         self.tally.recount(
             &self.pair,
             wiring,
+            &self.cone,
             self.trail.sets.as_slice(),
             &self.trail.changes[start..],
         );
@@ -125,6 +186,7 @@ impl<'a> PairSim<'a> {
             self.tally.recount(
                 &self.pair,
                 self.pair.circuit.wiring(),
+                &self.cone,
                 self.trail.sets.as_slice(),
                 &self.trail.changes[level.start..],
             );

@@ -1,6 +1,6 @@
 //! The pairs of all lines, and how to take their changes back.
 
-ghost use Rattle.std.specs.Prelude.{◌≡◌, ◌<◌, ◌≤◌, ◌∷◌, [], ◌++◌, All, drop, length, slice_set, vec_capacity};
+ghost use Rattle.std.specs.Prelude.{◌≡◌, ℕ, ◌<◌, ◌≤◌, ◌∷◌, [], ◌++◌, All, Contains, drop, length, slice_set, vec_capacity};
 ghost use Rattle.pair_sets.specs.CubeState.{set_at};
 ghost use Rattle.pair_sets.specs.Trail.{HasRoom, change_with, pair_count, undone};
 
@@ -48,6 +48,20 @@ impl Trail {
             end -= 1;
             let change = self.changes[end];
             self.sets[change.line as usize] = change.was;
+        }
+    }
+
+    /// Gives these lines the pairs that they have there.
+    pub(crate) fn copy(&mut self, from: &[PairSet], lines: &[u32])
+        requires within { All (λ line. line < length self.old.sets.items) lines.now }
+        requires width { length from.now ≡ length self.old.sets.items }
+        ensures changes { self.new.changes ≡ self.old.changes }
+        ensures width { length self.new.sets.items ≡ length self.old.sets.items }
+        ensures here { (line : ℕ) → Contains lines.now line → set_at self.new.sets.items line ≡ set_at from.now line }
+        ensures kept { (line : ℕ) → set_at self.old.sets.items line ≡ set_at from.now line → set_at self.new.sets.items line ≡ set_at from.now line }
+    {
+        for line in lines {
+            self.sets[*line as usize] = from[*line as usize];
         }
     }
 }

@@ -1,13 +1,12 @@
-use Rattle.std.proofs.Common.{◌≡◌, ◌≢◌, ◌<◌, ◌≤◌, ◌∙◌, ℕ, [], length, get_or, true, sym, ap, subst, arith, inl, inr}
+use Rattle.std.proofs.Common.{◌≡◌, ◌≢◌, ◌<◌, ◌≤◌, ◌∙◌, ℕ, [], length, get_or, sym, ap, subst, arith}
 use Rattle.std.proofs.lemmas.List.{get_or-set_other}
-use Rattle.std.proofs.lemmas.Bool.{false_from_ne_true}
-use Rattle.net_model.specs.Circuit.{Feeds, line_count}
-use Rattle.event_queue.specs.Pending.{is_pending, IsLowest}
-use Rattle.event_queue.proofs.Marks.{pending_within, lowest_left}
+use Rattle.net_model.specs.Circuit.{line_count}
+use Rattle.event_queue.specs.Pending.{IsLowest}
+use Rattle.event_queue.proofs.Marks.{pending_within}
 use Rattle.pair_sets.specs.PairSet.{free_pairs, IsWithin}
 use Rattle.pair_sets.specs.CubeState.{set_at}
 use Rattle.pair_sets.specs.Events.{IsIdle, AreSettled, AreLoose, gate_line_pairs}
-use Rattle.pair_sets.proofs.EventLemmas.{loose_after, settled_after, ordered_line, later_place, few_places}
+use Rattle.pair_sets.proofs.EventLemmas.{loose_after, settled_after, ordered_line, none_before, few_places}
 use Rattle.pair_sets.proofs.TrailLemmas.{longer_more}
 use Rattle.pair_sets.proofs.events.follow.Goals as goal
 
@@ -65,18 +64,13 @@ loop-place-preserved c =
     let inside : line < length sets = omega (arith, width, at.1) in
     let is : pairs ≡ gate_line_pairs circuit f g sets line = c.line_pairs-pairs.ensures [] ∙ ap (λ s. gate_line_pairs circuit f g s line) c.as_slice.ensures.value in
     let fewer : IsWithin pairs (set_at sets line) = subst (λ s. IsWithin s (set_at sets line)) (sym is) (c.loop-place.invariant.loose line at.0 at.1) in
-    let above : (p : ℕ) → is_pending c.settle.new.queue p ≡ true → place < p =
-    λ p t. elim (c.settle.ensures.wakes.only p t) [
-      | inl was ↦ (lowest_left c.loop-place.queue taken place lowest p was).0
-      | inr (h, feeds) ↦ later_place circuit wiring c.requires.wiring place p within h (subst (λ l. Feeds circuit l (get_or order p 0)) at.2 feeds)
-    ] in
     let others : (l : ℕ) → circuit.sources ≤ l → l < line_count circuit → l ≢ line → IsIdle order taken l → set_at sets l ≡ gate_line_pairs circuit f g sets l =
     λ l over under ne idle. c.loop-place.invariant.settled l over under
     (λ p h e. let apart : p ≢ place = λ same. ne (sym e ∙ ap (λ k. get_or order k 0) same ∙ sym at.2) in sym (lowest.others p apart) ∙ idle p h e) in
     record {
       from = omega arith;
       queue = c.settle.ensures.queue ∙ c.in-Some.ensures.room ∙ c.loop-place.invariant.queue;
-      low = λ p h. false_from_ne_true (is_pending c.settle.new.queue p) (λ t. let up = above p t in omega arith);
+      low = none_before circuit wiring c.requires.wiring place line c.loop-place.queue taken c.settle.new.queue within at.2 lowest c.settle.ensures.wakes.others;
       longer = longer_more c.args.trail.now c.loop-place.trail c.settle.new.trail c.loop-place.invariant.longer c.settle.ensures.longer;
       room = c.settle.ensures.room;
       settled = subst (AreSettled circuit f g order c.settle.new.queue) (sym c.settle.ensures.sets)

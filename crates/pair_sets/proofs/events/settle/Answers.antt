@@ -1,10 +1,9 @@
-use Rattle.std.proofs.Common.{◌≡◌, ◌<◌, ◌∙◌, length, get_or, set, sym, ap, subst, arith, inl, inr}
-use Rattle.std.specs.Prelude.{Contains}
+use Rattle.std.proofs.Common.{◌≡◌, ◌<◌, ◌∙◌, length, set, sym, ap, arith, inr}
 use Rattle.std.proofs.lemmas.Bool.{false≢true}
 use Rattle.std.proofs.lemmas.List.{get_or_read, set-get_or}
-use Rattle.std.proofs.lemmas.List.Elements.{Contains-get_or}
 use Rattle.pair_sets.specs.PairSet.{free_pairs}
 use Rattle.pair_sets.specs.CubeState.{set_at}
+use Rattle.pair_sets.proofs.EventLemmas.{readers_within, readers_woken}
 use Rattle.pair_sets.proofs.GateLemmas.{same_sets, same_sets_are, same_sets_same, fewer_pairs}
 use Rattle.pair_sets.proofs.TrailLemmas.{longer_one}
 use Rattle.pair_sets.proofs.events.settle.Goals as goal
@@ -28,10 +27,7 @@ set-requires-clause-fewer c =
     (λ same. false≢true (sym c.if-eq.false ∙ c.eq.ensures ∙ ap (λ s. same_sets s c.args.pairs) (was ∙ sym same) ∙ same_sets_same c.args.pairs))
 
 pub wake-requires : goal.wake-requires
-wake-requires c = λ k d h.
-    let readers = c.readers.result.now in
-    let below = c.requires.wiring.readers.below c.args.line (get_or readers k d) (subst (λ us. Contains us (get_or readers k d)) c.readers.ensures (Contains-get_or readers k d h)) in
-    omega (arith, below, c.requires.queue)
+wake-requires c = λ k d h. omega (arith, readers_within c.args.pair.now.circuit.now c.args.wiring.now c.requires.wiring c.args.line c.readers.result.now c.readers.ensures k d h, c.requires.queue)
 
 pub returns-clause-longer : goal.returns-clause-longer
 returns-clause-longer c =
@@ -40,15 +36,6 @@ returns-clause-longer c =
 
 pub returns-clause-wakes : goal.returns-clause-wakes
 returns-clause-wakes c =
-    let line = c.args.line in
-    let users = c.requires.wiring.readers in
-    record {
-      kept = c.wake.ensures.kept;
-      only = λ place t. elim (c.wake.ensures.only place t) [
-        | inl was ↦ inl was
-        | inr woken ↦
-            let has = subst (λ us. Contains us place) c.readers.ensures woken in
-            inr (users.below line place has, users.only line place has)
-      ];
-      readers = inr (λ place h feeds. c.wake.ensures.here place (subst (λ us. Contains us place) (sym c.readers.ensures) (users.all line place h feeds)));
-    }
+    let woken =
+    readers_woken c.args.pair.now.circuit.now c.args.wiring.now c.requires.wiring c.args.line c.readers.result.now c.readers.ensures c.args.queue.now c.wake.new.self c.wake.ensures.kept c.wake.ensures.only c.wake.ensures.here in
+    record { others = woken.others; readers = inr woken.readers }

@@ -1,7 +1,8 @@
-use Rattle.std.proofs.Common.{◌≡◌, ◌≢◌, ◌<◌, ◌≤◌, ◌-◌, ◌∙◌, ◌∷◌, [], ℕ, List, length, get_or, take, drop, sym, ap, arith, subst}
+use Rattle.std.proofs.Common.{◌≡◌, ◌≢◌, ◌<◌, ◌≤◌, ◌-◌, ◌*◌, ◌∙◌, ◌∷◌, [], ℕ, List, length, get_or, take, drop, sym, ap, arith, subst}
 use Rattle.std.specs.Prelude.{All, Bool, None, reverse, vec_capacity}
 use Rattle.std.proofs.lemmas.List.{reverse-append, length-reverse, drop_at}
 use Rattle.std.proofs.lemmas.List.Elements.{All-append}
+use Rattle.net_model.specs.Circuit.{line_count}
 use Rattle.net_model.specs.Fault.{stuck_stem}
 use Rattle.pair_sets.specs.PairSet.{PairSet}
 use Rattle.pair_sets.specs.declared.sim.Level.{Level}
@@ -132,7 +133,10 @@ invariant_of-self c =
       within =
           subst (All P) (sym longer.extends)
           (All-append P a.trail.changes.items longer.added (subst (λ n. All (λ (change : Change). change.line < n) a.trail.changes.items) (sym longer.whole) c.self.invariant.within) longer.within);
+      trail_room = subst (λ n. 4 * line_count circuit ≤ n) (sym longer.capacity) c.self.invariant.trail_room;
       levels_room = subst (λ n. circuit.sources ≤ n) (sym c.push_reserved.ensures.capacity) c.self.invariant.levels_room;
+      base = c.self.invariant.base;
+      cone = c.self.invariant.cone;
       tally = c.recount.ensures.tally;
       shown = subst (λ xs. IsShown circuit a.pair.f a.pair.g xs c.recount.new.self.shown) c.as_slice.ensures.value c.recount.ensures.shown;
     }

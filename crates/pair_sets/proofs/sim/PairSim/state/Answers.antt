@@ -17,7 +17,7 @@ module _ (a : Inside) (ready : IsReady a) where
   -- what is kept says the same of the positions
   all_of : (test : PairSet → Bool) → test free_pairs ≡ true → list_all test a.tally.shown ≡ list_all (λ at. test (position_pairs a.pair.circuit.now a.pair.f a.pair.g a.trail.sets.items at)) a.tally.reached.items
   all_of test free =
-      all_of_shown a.pair.circuit.now a.pair.f a.pair.g test free a.trail.sets.items a.tally.shown ready.tally.whole ready.shown
+      all_of_shown a.pair.circuit.now a.pair.f a.pair.g test free a.trail.sets.items a.tally.shown ready.tally.places.whole ready.shown
       ∙ ap (list_all (λ at. test (position_pairs a.pair.circuit.now a.pair.f a.pair.g a.trail.sets.items at))) (sym ready.tally.reached)
 
   within_of : (reached : List ℕ) → reached ≡ a.tally.reached.items → All (λ at. at < length a.pair.circuit.now.positions) reached

@@ -1,8 +1,9 @@
-use Rattle.std.proofs.Common.{◌≡◌, ◌≢◌, ◌-◌, ℕ, List, ◌<◌, ◌≤◌, ◌∙◌, ◌∷◌, [], length, get_or, take, drop, sym, ap, subst, Vec}
+use Rattle.std.proofs.Common.{◌≡◌, ◌≢◌, ◌-◌, ◌*◌, ℕ, List, ◌<◌, ◌≤◌, ◌∙◌, ◌∷◌, [], length, get_or, take, drop, sym, ap, subst, Vec}
 use Rattle.std.specs.Prelude.{All, reverse, vec_capacity}
 use Rattle.std.proofs.lemmas.List.{reverse-append}
 use Rattle.std.proofs.lemmas.List.Elements.{All-take, All-drop}
 use Rattle.std.specs.declared.alloc.Global.{Global}
+use Rattle.net_model.specs.Circuit.{line_count}
 use Rattle.pair_sets.specs.declared.trail.Change.{Change}
 use Rattle.pair_sets.specs.Trail.{undone}
 use Rattle.pair_sets.specs.PairSimFields.{AreLevels}
@@ -40,7 +41,10 @@ invariant_of-self c =
       within =
           subst (λ n. All (λ (change : Change). change.line < n) new.items) (sym (ap length sets_are ∙ length-undone (drop level.start changes) sets))
           (subst (All (λ (change : Change). change.line < length sets)) (sym changes_are) (All-take (λ (change : Change). change.line < length sets) level.start changes c.self.invariant.within));
+      trail_room = subst (λ n. 4 * line_count circuit ≤ n) (sym capacity) c.self.invariant.trail_room;
       levels_room = subst (λ n. circuit.sources ≤ n) (sym c.in-Some.ensures.capacity) c.self.invariant.levels_room;
+      base = c.self.invariant.base;
+      cone = c.self.invariant.cone;
       tally = c.recount.ensures.tally;
       shown = subst (λ xs. IsShown circuit a.pair.f a.pair.g xs c.recount.new.self.shown) c.as_slice.ensures.value c.recount.ensures.shown;
     }

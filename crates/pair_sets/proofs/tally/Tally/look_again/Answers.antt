@@ -19,12 +19,12 @@ loop-at-preserved c =
     let shown = c.loop-at.self.shown in
     let pairs = c.kept_pairs-pairs.result in
     let was = c.loop-at.invariant in
-    let inside : at < length shown = omega (arith, c.requires.positions i 0 c.loop-at-test.true, c.requires.tally.whole, was.scope.whole) in
+    let inside : at < length shown = omega (arith, c.requires.positions i 0 c.loop-at-test.true, c.requires.tally.places.whole, was.all.whole) in
     let here = put_here circuit f g sets shown at pairs inside c.kept_pairs-pairs.ensures in
     let kept = put_kept circuit f g sets shown at pairs inside c.kept_pairs-pairs.ensures in
     let P : List PairSet → ℕ → Type 0 = IsShownAt circuit f g sets in
     record {
-      scope = record { reached = was.scope.reached; scope = was.scope.scope; whole = ap length c.put.ensures ∙ length-set shown at pairs ∙ was.scope.whole };
+      all = record { reached = was.all.reached; waiting = was.all.waiting; whole = ap length c.put.ensures ∙ length-set shown at pairs ∙ was.all.whole };
       here = λ other has. subst (λ xs. P xs other) (sym c.put.ensures) (elim (Contains-push_cases (take i positions) at other (subst (λ xs. Contains xs other) (take_more positions i 0 c.loop-at-test.true) has)) [
         | inl earlier ↦ kept other (was.here other earlier)
         | inr same ↦ subst (P (set shown at pairs)) same here

@@ -24,7 +24,7 @@ loop-change-preserved c =
     let was = c.loop-change.invariant in
     let again = c.look_again.ensures in
     record {
-      scope = record { reached = again.scope.reached ∙ was.scope.reached; scope = again.scope.scope ∙ was.scope.scope; whole = again.scope.whole ∙ was.scope.whole };
+      all = record { reached = again.all.reached ∙ was.all.reached; waiting = again.all.waiting ∙ was.all.waiting; whole = again.all.whole ∙ was.all.whole };
       others = λ at h unnamed. elim (cases_eq line (get_or positions at 0)) [
         | inl same ↦ again.here at (subst (λ us. Contains us at) (sym c.showing.ensures) (c.requires.wiring.showing.all line at h (0, omega arith, sym same)))
         | inr ne ↦ again.kept at (was.others at h (λ k d from below. elim (cases_lt i k) [

@@ -1,0 +1,78 @@
+-- Marks of lines with a list of the marked ones, and of positions in ascending order.
+use Rattle.std.proofs.Common.{◌≡◌, ℕ, zero, suc, ◌+◌, ◌-◌, ◌<◌, ◌≤◌, List, [], ◌∷◌, ◌++◌, length, set, refl, sym, ◌∙◌, ap, subst, arith, inl, inr}
+use Rattle.std.specs.Prelude.{Bool, true, false, not, cond, count_by, filter, Contains}
+use Rattle.std.specs.List.{range_with_len}
+use Rattle.std.proofs.lemmas.Bool.{cases_eq}
+use Rattle.std.proofs.lemmas.List.{append-nil, get_or-set_same, get_or-set_other}
+use Rattle.std.proofs.lemmas.List.Elements.{Contains-append_left, Contains-push, Contains-push_cases, filter-append}
+use Rattle.std.proofs.lemmas.List.Sums.{sum_by-set}
+use Rattle.net_model.specs.Answer.{bit_at}
+use Rattle.net_model.proofs.Elements.{true_false}
+use Rattle.net_model.proofs.Orders.{range_with_len_more}
+
+-- ---- one line
+
+module _ (marks : List Bool) (lines : List ℕ) (line : ℕ) (inside : line < length marks) where
+  pub listed_more : ((l : ℕ) → bit_at marks l ≡ true → Contains lines l) → (l : ℕ) → bit_at (set marks line true) l ≡ true → Contains (lines ++ line ∷ []) l
+  listed_more listed l m = elim (cases_eq l line) [
+    | inl same ↦ subst (Contains (lines ++ line ∷ [])) (sym same) (Contains-push lines line)
+    | inr ne ↦ Contains-append_left lines (line ∷ []) l (listed l (sym (get_or-set_other marks line l true false ne) ∙ m))
+  ]
+
+  pub marked_more : ((l : ℕ) → Contains lines l → bit_at marks l ≡ true) → (l : ℕ) → Contains (lines ++ line ∷ []) l → bit_at (set marks line true) l ≡ true
+  marked_more marked l m =
+      let P : ℕ → Type 0 = λ k. bit_at (set marks line true) k ≡ true in
+      let here : P line = get_or-set_same marks line true false inside in
+      elim (Contains-push_cases lines line l m) [
+        | inl before ↦ elim (cases_eq l line) [
+          | inl same ↦ subst P (sym same) here
+          | inr ne ↦ get_or-set_other marks line l true false ne ∙ marked l before
+        ]
+        | inr same ↦ subst P same here
+      ]
+
+  pub listed_less : ((l : ℕ) → bit_at marks l ≡ true → Contains (lines ++ line ∷ []) l) → (l : ℕ) → bit_at (set marks line false) l ≡ true → Contains lines l
+  listed_less listed l m = elim (cases_eq l line) [
+    | inl same ↦
+        let P : ℕ → Type 0 = λ k. bit_at (set marks line false) k ≡ false in
+        true_false (bit_at (set marks line false) l) m (subst P (sym same) (get_or-set_same marks line false false inside))
+    | inr ne ↦ elim (Contains-push_cases lines line l (listed l (sym (get_or-set_other marks line l false false ne) ∙ m))) [
+      | inl before ↦ before
+      | inr same ↦ absurd (ne (sym same))
+    ]
+  ]
+
+  -- how many lines aren't marked
+  pub unmarked_less : bit_at marks line ≡ false → count_by not (set marks line true) + 1 ≡ count_by not marks
+  unmarked_less e =
+      let counted = sum_by-set (λ (b : Bool). cond (not b) 1 0) marks line true false inside in
+      let was : ◌≡◌ {A = ℕ} (cond (not (bit_at marks line)) 1 0) 1 = ap (λ b. cond (not b) 1 0) e in
+      omega (arith, counted, was)
+
+  pub unmarked_more : count_by not (set marks line false) ≤ count_by not marks + 1
+  unmarked_more =
+      let counted = sum_by-set (λ (b : Bool). cond (not b) 1 0) marks line false false inside in
+      omega (arith, counted)
+
+-- ---- numbers that pass a test, ascending
+
+module _ (test : ℕ → Bool) where
+  -- none pass in a gap
+  pub filter_gap : (gap from to : ℕ) → from + gap ≡ to → ((n : ℕ) → from ≤ n → n < to → test n ≡ false) → filter test (range_with_len 0 to) ≡ filter test (range_with_len 0 from)
+  filter_gap zero from to e none = let same : to ≡ from = omega arith in ap (λ n. filter test (range_with_len 0 n)) same
+  filter_gap (suc gap) from to e none =
+      let last : ℕ = from + gap in
+      ap (filter test) (range_with_len_more 0 to last last (omega arith) (omega arith))
+      ∙ filter-append test (range_with_len 0 last) (last ∷ [])
+      ∙ ap (λ b. filter test (range_with_len 0 last) ++ cond b (last ∷ []) []) (none last (omega arith) (omega arith))
+      ∙ append-nil (filter test (range_with_len 0 last))
+      ∙ filter_gap gap from last refl (λ n low high. none n low (omega arith))
+
+  -- the next that passes
+  pub filter_next : (from at : ℕ) → from ≤ at → ((n : ℕ) → from ≤ n → n < at → test n ≡ false) → test at ≡ true → filter test (range_with_len 0 (at + 1)) ≡ filter test (range_with_len 0 from) ++ at ∷ []
+  filter_next from at h none passes =
+      let gap : ℕ = at - from in
+      ap (filter test) (range_with_len_more 0 (at + 1) at at refl (omega arith))
+      ∙ filter-append test (range_with_len 0 at) (at ∷ [])
+      ∙ ap (λ b. filter test (range_with_len 0 at) ++ cond b (at ∷ []) []) passes
+      ∙ ap (λ xs. xs ++ at ∷ []) (filter_gap gap from at (omega arith) none)

@@ -1,0 +1,19 @@
+-- The pairs of two faults on the way from those of the circuit without faults.
+use Rattle.std.specs.Prelude.{◌≡◌, ℕ, ◌<◌, Bool, true, false, List, [], slice_index}
+use Rattle.net_model.specs.declared.fault.Fault.{Fault}
+use Rattle.net_model.specs.Circuit.{Circuit, line_count, Feeds}
+use Rattle.net_model.specs.Answer.{bit_at}
+use Rattle.net_model.specs.Scope.{is_split}
+use Rattle.fault_list.specs.Scope.{begins_at}
+use Rattle.event_queue.specs.Pending.{is_pending}
+use Rattle.pair_sets.specs.PairSet.{PairSet}
+use Rattle.pair_sets.specs.CubeState.{set_at, line_pairs}
+use Rattle.pair_sets.specs.Events.{IsIdle}
+
+-- Apart from some lines and those whose gates wait, each line has its pairs, and is marked where a fault changes it first or its gate reads a marked line. Only split lines are marked, and only their gates wait.
+pub record IsSpread (c : Circuit) (f g : Fault) (order : List ℕ) (but : ℕ → Bool) (queue marks : List Bool) (sets : List PairSet) : Type 0 where
+  pub settled : (line : ℕ) → line < line_count c → but line ≡ false → IsIdle order queue line → set_at sets line ≡ line_pairs c f g [] sets line
+  pub begun : (line : ℕ) → begins_at f g line ≡ true → but line ≡ false → bit_at marks line ≡ true
+  pub onward : (read reader : ℕ) → bit_at marks read ≡ true → Feeds c read reader → but reader ≡ false → IsIdle order queue reader → bit_at marks reader ≡ true
+  pub split : (line : ℕ) → bit_at marks line ≡ true → is_split c f g line ≡ true
+  pub waiting : (place : ℕ) → is_pending queue place ≡ true → is_split c f g (slice_index order place) ≡ true
