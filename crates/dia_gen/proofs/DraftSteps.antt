@@ -109,6 +109,7 @@ module _ {s : Setting} {d : Draft} {kept : List (List Bool)} {later : List Recor
           keeper = added.keeper;
           patterns = added.vectors ∙ ap (λ (vs : List (List Bool)). vs ++ v ∷ []) is.patterns ∙ append_assoc kept (patterns_in later) (v ∷ []) ∙ ap (λ (vs : List (List Bool)). kept ++ vs) (sym patterns);
           marks = rw evidence (given_risen (record { numbers = added.finer.numbers; rise = leads_rise added.keeper.whole added.finer }) is.marks);
+          sim = is.sim;
           pool = is.pool;
         }
 
@@ -134,5 +135,6 @@ module _ {s : Setting} {d : Draft} {kept : List (List Bool)} {later : List Recor
           keeper = is.keeper;
           patterns = is.patterns ∙ ap (λ (vs : List (List Bool)). kept ++ vs) (sym patterns);
           marks = rw (gives, evidence) (given_more number member proof is.marks lowest.inside lowest.unmarked lead_is);
+          sim = is.sim;
           pool = is.pool;
         }

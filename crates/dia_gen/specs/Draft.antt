@@ -30,7 +30,7 @@ pub record AreDraftLines (c : Circuit) (budgets : Budgets) (kept : List (List Bo
   pub no_choice : (at : ℕ) (v : List Bool) → budgets.cubes ≡ 0 → budgets.conflicts ≡ 0 → slice_get later at ≡ Some (Pattern v) → ⊥
 
 -- What the lines are made from: these vectors of the stream are kept, and then the patterns of the later lines. The marks are those of
--- their evidence, and the pool is empty.
+-- their evidence, the simulation is one of the circuit, and the pool is empty.
 pub record IsDrafted (s : Setting) (d : Draft) (kept : List (List Bool)) (later : List Record) : Type 0 where
   pub first : IsKept s.circuit s.budgets.blocks kept
   pub lines : AreDraftLines s.circuit s.budgets kept later
@@ -39,6 +39,7 @@ pub record IsDrafted (s : Setting) (d : Draft) (kept : List (List Bool)) (later 
   pub keeper : IsKeeper (keeper_with s.circuit d.keeper.kept)
   pub patterns : d.keeper.kept.vectors ≡ kept ++ patterns_in later
   pub marks : AreGiven d.keeper.kept.table (evidence_in later) d.marks
+  pub sim : d.sim.circuit ≡ s.circuit
   pub pool : d.pool.clauses ≡ []
 
 -- The vectors of the stream are kept, and no number is marked.
@@ -49,6 +50,7 @@ pub record IsBegun (s : Setting) (d : Draft) : Type 0 where
   pub few : fault_count s.circuit < 2 ^ 27
   pub limits : AreWithinLimits s.budgets
   pub marks : d.marks ≡ replicate (fault_count s.circuit) None
+  pub sim : d.sim.circuit ≡ s.circuit
   pub pool : d.pool.clauses ≡ []
 
 -- The lines so far are written.

@@ -18,14 +18,18 @@ use clause_pool::Pool;
 use diag_shelf::{Shelf, ShelfFault};
 use kept_vectors::Keeper;
 use member_marks::{Marks, mark_of};
+use net_model::Fault;
+use pair_sets::PairSim;
 use result_file::{Evidence, Proof, Record};
 use std::alloc::{AllocError, Global};
 
-// What is kept, the marks that are given, and the pool in which each pair is solved.
+// What is kept, the marks that are given, the simulation that each search restarts, and the pool in which each pair is
+// solved.
 #[derive(Drop)]
 pub(crate) struct Draft<'a> {
     pub(crate) keeper: Keeper<'a>,
     pub(crate) marks: Marks,
+    pub(crate) sim: PairSim<'a>,
     pub(crate) pool: Pool,
 }
 
@@ -54,10 +58,12 @@ impl<'a> Draft<'a> {
         let mut keeper = setting.keeper(alloc)?;
         keeper.keep_stream(setting.budgets().blocks)?;
         let marks = Marks::none(alloc, setting.numbers())?;
+        let sim = PairSim::new(alloc, setting.circuit(), &Fault::Free, &Fault::Free)?;
         let pool = Pool::with_room(alloc, 0, 0)?;
         Ok(Draft {
             keeper,
             marks,
+            sim,
             pool,
         })
     }
@@ -132,7 +138,7 @@ impl<'a> Draft<'a> {
     {
         let classes = self.keeper.classes();
         let lead = classes.representative(classes.class_of(member));
-        match settle_pair(alloc, setting, &mut self.pool, lead, member) {
+        match settle_pair(alloc, setting, &mut self.sim, &mut self.pool, lead, member) {
             Ok(Settled::Apart(cube)) => {
                 self.add_pattern(alloc, setting, shelf, member, &cube)?;
                 Ok(true)

@@ -13,7 +13,7 @@ use fault_list::Scope;
 use learn_solver::{Solved, solve};
 use net_model::{Circuit, Fault, Vector};
 use pair_miter::{Log, build};
-use pair_sets::{Token, Tree};
+use pair_sets::{PairSim, Token, Tree};
 use result_file::Proof;
 use std::alloc::{AllocError, Global};
 
@@ -25,18 +25,22 @@ pub(crate) enum Settled {
 }
 
 // Settles a pair of numbers: by their roots, else by a search where there is a budget for it, else by what the solver
-// learns. The pool is empty, and stays so.
+// learns. The simulation is one of the circuit, and a search restarts it. The pool is empty, and stays so.
 pub(crate) fn settle_pair(
     alloc: Global,
     setting: &Setting,
+    sim: &mut PairSim,
     pool: &mut Pool,
     lead: u32,
     member: u32,
 ) -> Result<Settled, AllocError>
     requires lead { lead < fault_count setting.now.circuit }
     requires member { member < fault_count setting.now.circuit }
+    requires circuit { IsCircuit setting.now.circuit }
+    requires simulated { sim.old.circuit ≡ setting.now.circuit }
     requires empty { pool.old.clauses ≡ [] }
     ensures settled { IfOk result (IsSettledFor setting.now.circuit setting.now.budgets lead member) }
+    ensures circuit { sim.new.circuit ≡ sim.old.circuit }
     ensures emptied { OnOk result (pool.new.clauses ≡ []) }
 {
     if setting.same_root(lead, member) {
@@ -44,7 +48,7 @@ pub(crate) fn settle_pair(
     }
     let f = setting.fault(lead);
     let g = setting.fault(member);
-    match search_cubes(alloc, setting, &f, &g)? {
+    match search_cubes(alloc, setting, sim, &f, &g)? {
         Found::Apart(cube) => Ok(Settled::Apart(cube)),
         Found::Covered(tree) => Ok(Settled::By(Proof::Covered(tree))),
         Found::Spent(tree) => learn(alloc, setting, pool, &f, &g, tree),
@@ -52,16 +56,22 @@ pub(crate) fn settle_pair(
 }
 
 // What a search of cubes finds: without a budget for it, the tree of one open leaf.
-fn search_cubes(alloc: Global, setting: &Setting, f: &Fault, g: &Fault) -> Result<Found, AllocError>
+fn search_cubes(
+    alloc: Global,
+    setting: &Setting,
+    sim: &mut PairSim,
+    f: &Fault,
+    g: &Fault,
+) -> Result<Found, AllocError>
     requires first { IsFaultOf setting.now.circuit f.now }
     requires second { IsFaultOf setting.now.circuit g.now }
+    requires simulated { sim.old.circuit ≡ setting.now.circuit }
     ensures found { IfOk result (IsSearched setting.now.circuit f.now g.now setting.now.budgets) }
-    ensures circuit { IsCircuit setting.now.circuit }
+    ensures circuit { sim.new.circuit ≡ sim.old.circuit }
 {
-    let circuit = setting.circuit();
     let cubes = setting.budgets().cubes;
     if cubes > 0 {
-        return search(alloc, circuit, setting.levels(), f, g, cubes);
+        return search(alloc, sim, setting.levels(), f, g, cubes);
     }
     let mut tree = Tree::new(alloc);
     tree.push(Token::Rest)?;

@@ -2,3 +2,4 @@ pub mod Walks
 pub mod FrameLemmas
 pub mod Leaves
 pub mod SearchSteps
+pub mod LevelLemmas

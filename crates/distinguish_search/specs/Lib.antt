@@ -1,4 +1,5 @@
 pub mod Found
+pub mod Levels
 pub mod Asked
 pub mod Open
 pub mod Frames

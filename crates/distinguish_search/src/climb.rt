@@ -20,7 +20,8 @@ pub(crate) fn climb(
 ) -> Result<Option<Tree>, AllocError>
     requires under_way { IsUnderWay sim.old.circuit sim.old.f sim.old.g sim.old stack.old }
     requires tree { IsSubtree sim.old.circuit sim.old.f sim.old.g sim.old.cube tree }
-    ensures { IfOk result (IsClimbed sim.old.circuit sim.old.f sim.old.g tree stack.old sim.new stack.new) }
+    ensures circuit { sim.new.circuit ≡ sim.old.circuit }
+    ensures climbed { IfOk result (IsClimbed sim.old.circuit sim.old.f sim.old.g tree stack.old sim.new stack.new) }
 {
     let mut tree = tree;
     while let Some(frame) = stack.pop() {

@@ -14,27 +14,30 @@ use crate::found::Found;
 use crate::levels::Levels;
 use crate::rule::Rule;
 use crate::stack::Stack;
-use net_model::{Circuit, Fault};
+use net_model::Fault;
 use pair_sets::{PairSim, Token, Tree};
 use std::alloc::{AllocError, Global};
 
-/// Searches the cubes of all vectors for one every vector of which separates two faults. It splits undecided cubes by
-/// sources that can still decide them. No more leaves are closed than `leaves`, which is 1 or more: with so many the
-/// cubes that are left stay open. Where a first run spends them, a second one has as many again, and weighs the pins of
-/// its walks otherwise; what it finds is what is found. Its own stack is in memory from `alloc`, and grows by a frame for
-/// each source that is fixed.
+/// Searches the cubes of all vectors for one every vector of which separates two faults of the simulation's circuit. It
+/// splits undecided cubes by sources that can still decide them. No more leaves are closed than `leaves`, which is 1 or
+/// more: with so many the cubes that are left stay open. Where a first run spends them, a second one has as many again,
+/// and weighs the pins of its walks otherwise; what it finds is what is found.
+///
+/// Each run restarts the simulation, whatever faults and cube it stands at, so one simulation serves every search in a
+/// circuit. The stack of a run is in memory from `alloc`, and grows by a frame for each source that is fixed.
 pub fn search(
     alloc: Global,
-    circuit: &Circuit,
+    sim: &mut PairSim,
     levels: &Levels,
     f: &Fault,
     g: &Fault,
     leaves: u32,
 ) -> Result<Found, AllocError>
-    requires first { IsFaultOf circuit.now f.now }
-    requires second { IsFaultOf circuit.now g.now }
+    requires first { IsFaultOf sim.old.circuit f.now }
+    requires second { IsFaultOf sim.old.circuit g.now }
     requires leaves { 1 ≤ leaves }
-    ensures { IfOk result (IsFound circuit.now f.now g.now leaves) }
+    ensures found { IfOk result (IsFound sim.old.circuit f.now g.now leaves) }
+    ensures circuit { sim.new.circuit ≡ sim.old.circuit }
 {
     let by_bit = Rule {
         levels,
@@ -44,33 +47,35 @@ pub fn search(
         levels,
         differences_first: true,
     };
-    match run(alloc, circuit, by_bit, f, g, leaves)? {
+    match run(alloc, sim, by_bit, f, g, leaves)? {
         Found::Apart(cube) => Ok(Found::Apart(cube)),
         Found::Covered(tree) => Ok(Found::Covered(tree)),
-        Found::Spent(_tree) => run(alloc, circuit, by_difference, f, g, leaves),
+        Found::Spent(_tree) => run(alloc, sim, by_difference, f, g, leaves),
     }
 }
 
 // One run of the search, with walks by a rule.
 fn run(
     alloc: Global,
-    circuit: &Circuit,
+    sim: &mut PairSim,
     rule: Rule,
     f: &Fault,
     g: &Fault,
     leaves: u32,
 ) -> Result<Found, AllocError>
-    requires first { IsFaultOf circuit.now f.now }
-    requires second { IsFaultOf circuit.now g.now }
+    requires first { IsFaultOf sim.old.circuit f.now }
+    requires second { IsFaultOf sim.old.circuit g.now }
     requires leaves { 1 ≤ leaves }
-    ensures { IfOk result (IsFound circuit.now f.now g.now leaves) }
+    ensures found { IfOk result (IsFound sim.old.circuit f.now g.now leaves) }
+    ensures circuit { sim.new.circuit ≡ sim.old.circuit }
 {
-    let mut sim = PairSim::new(alloc, circuit, f, g)?;
+    let circuit = sim.circuit();
+    sim.restart(f, g);
     let mut stack = Stack::new(alloc);
     let mut closed = 0;
     loop {
         let full = closed == leaves;
-        match descend(&mut sim, &mut stack, rule, full)? {
+        match descend(sim, &mut stack, rule, full)? {
             End::Leaf => {}
             End::Apart => return Ok(Found::Apart(stack.cube(alloc, circuit.sources())?)),
         }
@@ -78,7 +83,7 @@ fn run(
             closed += 1;
         }
         let tree = leaf(alloc, full)?;
-        match climb(alloc, &mut sim, &mut stack, tree)? {
+        match climb(alloc, sim, &mut stack, tree)? {
             Some(tree) => return Ok(finished(tree)),
             None => {}
         }

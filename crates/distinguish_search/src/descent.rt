@@ -1,6 +1,6 @@
 //! Down from a cube, split by split, to one that is decided.
 
-ghost use Rattle.std.specs.Prelude.{IfOk};
+ghost use Rattle.std.specs.Prelude.{◌≡◌, IfOk};
 ghost use Rattle.distinguish_search.specs.Frames.{IsUnderWay, SplitsOn};
 ghost use Rattle.distinguish_search.specs.End.{IsEnd};
 
@@ -21,6 +21,7 @@ pub(crate) fn descend(
     full: bool,
 ) -> Result<End, AllocError>
     requires { IsUnderWay sim.old.circuit sim.old.f sim.old.g sim.old stack.old }
+    ensures circuit { sim.new.circuit ≡ sim.old.circuit }
     ensures under_way { IfOk result (λ end. IsUnderWay sim.old.circuit sim.old.f sim.old.g sim.new stack.new) }
     ensures splits { IfOk result (λ end. SplitsOn sim.old.circuit.sources stack.old stack.new) }
     ensures ends { IfOk result (IsEnd sim.old.circuit sim.old.f sim.old.g sim.new.cube full) }

@@ -2,7 +2,7 @@
 
 use distinguish_search::{Found, Levels, search};
 use net_model::{Fault, Kind};
-use pair_sets::{Token, Tree};
+use pair_sets::{PairSim, Token, Tree};
 use sample_circuits::{BETWEEN_CONSTANTS, NOT_AND_OR, Parts, SAME_DATA, circuit, stands, stem};
 use std::alloc::Global;
 use std::test::Fail;
@@ -44,15 +44,22 @@ const PARITIES: Parts<'static> = Parts {
     positions: &[14],
 };
 
-// The shape of what is found for the circuit without a fault and with a stem stuck at a value, with so many leaves.
-fn shape_of(alloc: Global, parts: Parts, line: u32, bit: bool, leaves: u32) -> Result<Shape, Fail> {
-    let circuit = circuit(alloc, parts)?;
+// The shape of what is found for a simulation's circuit without a fault and with a stem stuck at a value, with so many
+// leaves.
+fn shape_of(
+    alloc: Global,
+    sim: &mut PairSim,
+    line: u32,
+    bit: bool,
+    leaves: u32,
+) -> Result<Shape, Fail> {
+    let circuit = sim.circuit();
     let stuck = stem(line, bit);
-    if leaves == 0 || !stands(&circuit, stuck) {
+    if leaves == 0 || !stands(circuit, stuck) {
         return Err(Fail::new("there is no leaf, or the fault doesn't stand"));
     }
-    let levels = Levels::new(alloc, &circuit)?;
-    let shape = match search(alloc, &circuit, &levels, &Fault::Free, &stuck, leaves)? {
+    let levels = Levels::new(alloc, circuit)?;
+    let shape = match search(alloc, sim, &levels, &Fault::Free, &stuck, leaves)? {
         Found::Apart(cube) => Shape::Apart(cube.iter().filter(|bit| bit.is_some()).count()),
         Found::Covered(tree) => {
             Shape::Covered(count(&tree, Token::Closed), count(&tree, Token::Rest))
@@ -79,8 +86,34 @@ fn shapes_of_trees(rt: HostRuntime) -> Result<(), Fail> {
         (CONSTANT, 0, false, 1, Shape::Apart(0)),
     ];
     for (parts, line, bit, leaves, expected) in table {
-        let found = shape_of(rt.alloc(), parts, line, bit, leaves)?;
+        let circuit = circuit(rt.alloc(), parts)?;
+        let mut sim = PairSim::new(rt.alloc(), &circuit, &Fault::Free, &Fault::Free)?;
+        let found = shape_of(rt.alloc(), &mut sim, line, bit, leaves)?;
         assert_eq!(rt; found, expected, "line {line} at {bit} with {leaves}");
+    }
+    Ok(())
+}
+
+// Searches that follow one another with one simulation, of stems near the sources and near the end in turn, find what
+// each finds with a new one, whatever cube the one before it ended at.
+#[test]
+fn one_simulation_for_many_searches(rt: HostRuntime) -> Result<(), Fail> {
+    let table = [
+        (0, true, 4),
+        (14, true, 4),
+        (9, false, 1),
+        (14, false, 1),
+        (0, false, 512),
+        (14, true, 512),
+        (0, true, 4),
+    ];
+    let circuit = circuit(rt.alloc(), PARITIES)?;
+    let mut sim = PairSim::new(rt.alloc(), &circuit, &Fault::Free, &Fault::Free)?;
+    for (line, bit, leaves) in table {
+        let found = shape_of(rt.alloc(), &mut sim, line, bit, leaves)?;
+        let mut other = PairSim::new(rt.alloc(), &circuit, &Fault::Free, &Fault::Free)?;
+        let alone = shape_of(rt.alloc(), &mut other, line, bit, leaves)?;
+        assert_eq!(rt; found, alone, "line {line} at {bit} with {leaves}");
     }
     Ok(())
 }

@@ -6,7 +6,7 @@ pub returns-in-Covered-clause-settled : goal.returns-in-Covered-clause-settled
 returns-in-Covered-clause-settled c =
     let setting = c.args.setting.now in
     proof_for (λ same. let one = c.same_root.ensures.1 same in let two = c.if-same_root.false in cc)
-    (covered_by setting.circuit c.in_ok-cube.ensures.circuit (fault_numbered setting.circuit c.args.lead) (fault_numbered setting.circuit c.args.member) setting.budgets c.in-Covered.tree
+    (covered_by setting.circuit c.requires.circuit (fault_numbered setting.circuit c.args.lead) (fault_numbered setting.circuit c.args.member) setting.budgets c.in-Covered.tree
     (rw (c.in-Covered.is, c.fault-f.ensures.value, c.fault-g.ensures.value) at c.in_ok-cube.ensures.found))
 
 pub returns-in-Spent-clause-settled : goal.returns-in-Spent-clause-settled

@@ -8,8 +8,8 @@ use Rattle.distinguish_search.proofs.FrameLemmas.{frame_with, ClimbsFrom, climb_
 use Rattle.distinguish_search.proofs.climb.climb.Goals as goal
 use Rattle.distinguish_search.proofs.climb.climb.Goals.{then-bit+in_ok-tree-in-Some-half, else-bit+in_ok-tree-in-Some-half-2}
 
-pub returns-in-None : goal.returns-in-None
-returns-in-None c =
+pub returns-in-None-clause-climbed : goal.returns-in-None-clause-climbed
+returns-in-None-clause-climbed c =
     let sim = c.args.sim.now in
     let frame = c.in-Some.frame in
     let rest = c.pop.new.self in

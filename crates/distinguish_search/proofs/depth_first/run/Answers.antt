@@ -1,5 +1,6 @@
-use Rattle.std.proofs.Common.{◌≡◌, ◌∙◌, ◌+◌, sym, subst}
+use Rattle.std.proofs.Common.{◌≡◌, ◌∙◌, ◌+◌, sym, ap, subst}
 use Rattle.std.specs.Prelude.{◌==◌, if◌then◌else◌}
+use Rattle.net_model.specs.Circuit.{Circuit}
 use Rattle.pair_sets.specs.Cube.{FixesOnce}
 use Rattle.distinguish_search.specs.End.{IsEnd}
 use Rattle.distinguish_search.specs.Found.{IsFound}
@@ -11,28 +12,28 @@ use Rattle.distinguish_search.proofs.depth_first.run.Goals.{then-not-full, else-
 pub cube-requires : goal.cube-requires
 cube-requires c =
     let loop = c.loop-stack in
-    subst (λ n. FixesOnce n (cube_of c.descend.new.stack)) (sym c.sources.ensures.value)
-    (once_here c.args.circuit.now c.args.f.now c.args.g.now c.args.leaves loop.closed loop.sim loop.stack loop.invariant c.descend.new.sim c.descend.new.stack c.in_ok-descend.ensures.under_way)
+    subst (λ n. FixesOnce n (cube_of c.descend.new.stack)) (sym (c.sources.ensures.value ∙ ap (λ (k : Circuit). k.sources) c.circuit-circuit.ensures.value))
+    (once_here c.args.sim.now.circuit c.args.f.now c.args.g.now c.args.leaves loop.closed loop.sim loop.stack loop.invariant c.descend.new.sim c.descend.new.stack c.in_ok-descend.ensures.under_way)
 
-pub returns-in-Apart : goal.returns-in-Apart
-returns-in-Apart c =
+pub returns-in-Apart-clause-found : goal.returns-in-Apart-clause-found
+returns-in-Apart-clause-found c =
     let loop = c.loop-stack in
     let new = c.descend.new.sim in
     let full = loop.closed == c.args.leaves in
-    cube_found c.args.circuit.now c.args.f.now c.args.g.now c.args.leaves loop.closed loop.sim loop.stack loop.invariant new c.descend.new.stack c.in_ok-descend.ensures.under_way full
-    c.in_ok-cube-in-Apart.field-0.items c.sources.ensures.circuit (subst (IsEnd loop.sim.circuit loop.sim.f loop.sim.g new.cube full) c.in-Apart.is c.in_ok-descend.ensures.ends)
-    (c.in_ok-cube-in-Apart.ensures.width ∙ c.sources.ensures.value) c.in_ok-cube-in-Apart.ensures.bits
+    cube_found c.args.sim.now.circuit c.args.f.now c.args.g.now c.args.leaves loop.closed loop.sim loop.stack loop.invariant new c.descend.new.stack c.in_ok-descend.ensures.under_way full
+    c.in_ok-cube-in-Apart.field-0.items c.circuit-circuit.ensures.circuit (subst (IsEnd loop.sim.circuit loop.sim.f loop.sim.g new.cube full) c.in-Apart.is c.in_ok-descend.ensures.ends)
+    (c.in_ok-cube-in-Apart.ensures.width ∙ c.sources.ensures.value ∙ ap (λ (k : Circuit). k.sources) c.circuit-circuit.ensures.value) c.in_ok-cube-in-Apart.ensures.bits
 
 pub climb-requires-clause-tree : goal.climb-requires-clause-tree
 climb-requires-clause-tree c =
     let loop = c.loop-stack in
     let new = c.descend.new.sim in
     let full = loop.closed == c.args.leaves in
-    leaf_here c.args.circuit.now c.args.f.now c.args.g.now c.args.leaves loop.closed loop.sim loop.stack loop.invariant new c.descend.new.stack c.in_ok-descend.ensures.under_way full
+    leaf_here c.args.sim.now.circuit c.args.f.now c.args.g.now c.args.leaves loop.closed loop.sim loop.stack loop.invariant new c.descend.new.stack c.in_ok-descend.ensures.under_way full
     c.in_ok-tree.tree (subst (IsEnd loop.sim.circuit loop.sim.f loop.sim.g new.cube full) c.in-Leaf.is c.in_ok-descend.ensures.ends) c.in_ok-tree.ensures
 
-pub returns-in-Some : goal.returns-in-Some
-returns-in-Some c =
+pub returns-in-Some-clause-found : goal.returns-in-Some-clause-found
+returns-in-Some-clause-found c =
     let loop = c.loop-stack in
     let new = c.descend.new.sim in
     let stack = c.descend.new.stack in
@@ -41,10 +42,10 @@ returns-in-Some c =
       | then-not-full w ↦ more_then loop.closed c.args.leaves c.if-not-full.closed w.if-not-full.true w.closed-is
       | else-not-full w ↦ more_else loop.closed c.args.leaves c.if-not-full.closed w.if-not-full.false w.closed-is
     ] in
-    subst (IsFound c.args.circuit.now c.args.f.now c.args.g.now c.args.leaves) (sym c.finished.ensures)
-    (tree_found c.args.circuit.now c.args.f.now c.args.g.now c.args.leaves loop.closed loop.sim loop.stack loop.invariant new stack c.in_ok-descend.ensures.under_way c.in_ok-descend.ensures.splits
+    subst (IsFound c.args.sim.now.circuit c.args.f.now c.args.g.now c.args.leaves) (sym c.finished.ensures)
+    (tree_found c.args.sim.now.circuit c.args.f.now c.args.g.now c.args.leaves loop.closed loop.sim loop.stack loop.invariant new stack c.in_ok-descend.ensures.under_way c.in_ok-descend.ensures.splits
     c.if-not-full.closed more c.in_ok-tree.tree c.in_ok-tree.ensures c.climb.new.sim c.climb.new.stack c.in-Some.tree
-    (subst (IsClimbed new.circuit new.f new.g c.in_ok-tree.tree stack c.climb.new.sim c.climb.new.stack) c.in-Some.is c.in_ok-tree-2.ensures))
+    (subst (IsClimbed new.circuit new.f new.g c.in_ok-tree.tree stack c.climb.new.sim c.climb.new.stack) c.in-Some.is c.in_ok-tree-2.ensures.climbed))
 
 pub loop-stack-preserved : goal.loop-stack-preserved
 loop-stack-preserved c =
@@ -56,6 +57,6 @@ loop-stack-preserved c =
       | then-not-full w ↦ more_then loop.closed c.args.leaves c.if-not-full.closed w.if-not-full.true w.closed-is
       | else-not-full w ↦ more_else loop.closed c.args.leaves c.if-not-full.closed w.if-not-full.false w.closed-is
     ] in
-    goes_on c.args.circuit.now c.args.f.now c.args.g.now c.args.leaves loop.closed loop.sim loop.stack loop.invariant new stack c.in_ok-descend.ensures.under_way c.in_ok-descend.ensures.splits
+    goes_on c.args.sim.now.circuit c.args.f.now c.args.g.now c.args.leaves loop.closed loop.sim loop.stack loop.invariant new stack c.in_ok-descend.ensures.under_way c.in_ok-descend.ensures.splits
     c.if-not-full.closed more c.in_ok-tree.tree c.in_ok-tree.ensures c.climb.new.sim c.climb.new.stack
-    (subst (IsClimbed new.circuit new.f new.g c.in_ok-tree.tree stack c.climb.new.sim c.climb.new.stack) c.in-None.is c.in_ok-tree-2.ensures)
+    (subst (IsClimbed new.circuit new.f new.g c.in_ok-tree.tree stack c.climb.new.sim c.climb.new.stack) c.in-None.is c.in_ok-tree-2.ensures.climbed)

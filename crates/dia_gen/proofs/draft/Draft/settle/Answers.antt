@@ -11,5 +11,11 @@ settle_pair-requires-clause-lead g c =
     let lead = rw c.classes-classes.ensures.value at c.representative-lead.ensures.within in
     omega (arith, lead, table_numbers c.requires.1.0.is.keeper.table)
 
+pub settle_pair-requires-clause-circuit : goal.settle_pair-requires-clause-circuit
+settle_pair-requires-clause-circuit g c = c.requires.1.0.is.keeper.circuit
+
+pub settle_pair-requires-clause-simulated : goal.settle_pair-requires-clause-simulated
+settle_pair-requires-clause-simulated g c = c.requires.1.0.is.sim
+
 pub returns-in-Err-clause-err : goal.returns-in-Err-clause-err
 returns-in-Err-clause-err g c = draft_broken c.requires.1.0

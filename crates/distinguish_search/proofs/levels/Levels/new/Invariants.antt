@@ -1,6 +1,5 @@
-use Rattle.std.proofs.Common.{◌≡◌, length}
-use Rattle.net_model.specs.Circuit.{line_count}
+use Rattle.distinguish_search.proofs.LevelLemmas.{LevelsSoFar}
 use Rattle.distinguish_search.proofs.levels.Levels.new.Given as goal
 
 abbrev pub invariant-loop-line : goal.invariant-loop-line
-invariant-loop-line l = length l.levels.items ≡ line_count l.circuit
+invariant-loop-line l = LevelsSoFar l.circuit l.line-items l.line-index l.levels.items
