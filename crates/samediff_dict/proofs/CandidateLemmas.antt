@@ -1,33 +1,59 @@
 -- The candidates of a pattern by their numbers.
-use Rattle.std.proofs.Common.{◌≡◌, ◌∙◌, ℕ, ◌+◌, ◌<◌, Bool, eqb, set, List, [], ◌∷◌, ◌++◌, length, get_or, refl, sym, ap, subst, arith, inl, inr}
+use Rattle.std.proofs.Common.{◌≡◌, ◌∙◌, ℕ, ◌+◌, ◌<◌, ◌≤◌, Bool, eqb, set, List, [], ◌∷◌, ◌++◌, length, get_or, refl, sym, ap, subst, arith, inl, inr, Contains}
 use Rattle.std.proofs.lemmas.Bool.{cases_lt, cases_eq, eqb-true, eq-eqb}
-use Rattle.std.proofs.lemmas.List.{ext_get_or, length_push, length-set, get_or_append_left, get_or_push, get_or-set_same, get_or-set_other}
+use Rattle.std.proofs.lemmas.List.{ext_get_or, length_push, length-set, get_or_append_left, get_or_push, get_or-set_same, get_or-set_other, get_or_default}
+use Rattle.std.proofs.lemmas.List.Elements.{Contains-get_or}
 use Rattle.std.proofs.lemmas.List.FromFn.{get_or-map-range_with_len, length-map-range_with_len}
 use Rattle.net_model.specs.ClassTable.{ClassTable, class_count, representative, same_bits}
 use Rattle.class_refine.proofs.Ranges.{same_tests}
 use Rattle.table_dicts.specs.AnswerTable.{answer_in}
-use Rattle.table_dicts.specs.declared.grouping.Grouped.{Grouped}
 use Rattle.table_dicts.specs.Grouped.{AreGroupsOf, AreDifferent}
-use Rattle.samediff_dict.specs.Chosen.{candidates}
 use Rattle.table_dicts.proofs.EntryLemmas.{same_bits-Decides}
-use Rattle.samediff_dict.specs.Numbered.{class_answers, AreCandidates, AreChosen, baselines_at}
-use Rattle.samediff_dict.proofs.DistinctLemmas.{entries_distinct, group_below}
+use Rattle.samediff_dict.specs.declared.numbering.Candidates.{Candidates}
+use Rattle.samediff_dict.specs.Chosen.{candidates, distinct_answers}
+use Rattle.samediff_dict.specs.Numbered.{class_answers, AreNumbersOf, AreCandidates, AreChosen, answers_base, baselines_at}
+use Rattle.samediff_dict.proofs.DistinctLemmas.{entries_distinct, group_below, from_distinct, distinct-few}
 
--- the groups of the classes' answers are the candidates
-pub candidates_of_groups : (t : ClassTable) (row : List (List Bool)) (grouped : Grouped) → AreGroupsOf (class_answers t row) grouped.groups grouped.entries → AreCandidates t row grouped
+-- the groups of answers number the distinct ones
+pub numbers_of_groups : (answers : List (List Bool)) (groups : List ℕ) (entries : List (List Bool)) (c : Candidates) → AreGroupsOf answers groups entries → c.numbers ≡ groups → c.count ≡ length entries → AreNumbersOf answers c
+numbers_of_groups answers groups entries c are numbers count =
+    let same : entries ≡ distinct_answers answers = entries_distinct answers groups entries are in
+    record {
+      count_is = count ∙ ap length same;
+      different = subst AreDifferent same are.grouped.different;
+      one_each = ap length numbers ∙ are.grouped.one_each;
+      within = λ place h. omega (arith, group_below answers groups entries are place h, ap length same, ap (λ (xs : List ℕ). get_or xs place 0) numbers);
+      own = λ place h. ap (λ (es : List (List Bool)). get_or es (get_or c.numbers place 0) []) (sym same) ∙ (ap (λ (xs : List ℕ). get_or entries (get_or xs place 0) []) numbers ∙ are.own place h);
+    }
+
+-- there are no more of them than answers
+pub groups_few : {answers : List (List Bool)} {groups : List ℕ} {entries : List (List Bool)} → AreGroupsOf answers groups entries → length entries ≤ length answers
+groups_few {answers} {groups} {entries} are = omega (arith, ap length (entries_distinct answers groups entries are), distinct-few answers)
+
+-- the distinct answers of the classes are the candidates
+pub candidates_of_numbers : (t : ClassTable) (row : List (List Bool)) (c : Candidates) → AreNumbersOf (class_answers t row) c → AreCandidates t row c
 unfolding candidates
-candidates_of_groups t row grouped are =
+candidates_of_numbers t row c are =
     let answer : ℕ → List Bool = λ class. answer_in row (representative t class) in
     let long : length (class_answers t row) ≡ class_count t = length-map-range_with_len answer 0 (class_count t) in
-    let same : grouped.entries ≡ candidates t row = entries_distinct (class_answers t row) grouped.groups grouped.entries are in
     record {
-      answers = same;
-      different = subst AreDifferent same are.grouped.different;
-      one_each = are.grouped.one_each ∙ long;
-      within = λ class h. omega (arith, group_below (class_answers t row) grouped.groups grouped.entries are class (omega (arith, h, long)), ap length same);
-      own = λ class h. ap (λ (es : List (List Bool)). get_or es (get_or grouped.groups class 0) []) (sym same)
-          ∙ (are.own class (omega (arith, h, long)) ∙ get_or-map-range_with_len answer 0 (class_count t) class class [] h (omega arith));
+      count_is = are.count_is;
+      different = are.different;
+      one_each = are.one_each ∙ long;
+      within = λ class h. are.within class (omega (arith, h, long));
+      own = λ class h. are.own class (omega (arith, h, long)) ∙ get_or-map-range_with_len answer 0 (class_count t) class class [] h (omega arith);
     }
+
+-- there is a class for each candidate
+pub some_class : (t : ClassTable) (row : List (List Bool)) (c : Candidates) (answer : ℕ) → AreCandidates t row c → answer < length (candidates t row) → Contains c.numbers answer
+unfolding candidates
+some_class t row c answer are h =
+    let own : ℕ → List Bool = λ class. answer_in row (representative t class) in
+    let w = from_distinct (class_answers t row) (get_or (candidates t row) answer []) (Contains-get_or (distinct_answers (class_answers t row)) answer [] h) in
+    let below : w.0 < class_count t = omega (arith, w.1, length-map-range_with_len own 0 (class_count t)) in
+    let answers : own w.0 ≡ get_or (candidates t row) answer [] = sym (get_or-map-range_with_len own 0 (class_count t) w.0 w.0 [] below (omega arith)) ∙ (get_or_default (class_answers t row) w.0 [] (get_or (candidates t row) answer []) w.1 ∙ w.2) in
+    let number : get_or c.numbers w.0 0 ≡ answer = are.different.apart (get_or c.numbers w.0 0) answer (are.within w.0 below) h (are.own w.0 below ∙ answers) in
+    (w.0, omega (arith, below, are.one_each), get_or_default c.numbers w.0 answer 0 (omega (arith, below, are.one_each)) ∙ number)
 
 -- one more at the end of a list
 pub each_push : {X : Type 0} (P : ℕ → X → Type 0) (xs : List X) (x : X) (done : ℕ) → length xs ≡ done → ((k : ℕ) (d : X) → k < done → P k (get_or xs k d)) → P done x → (k : ℕ) (d : X) → k < done + 1 → P k (get_or (xs ++ x ∷ []) k d)
@@ -38,11 +64,21 @@ each_push P xs x done long each here k d h = elim (cases_lt k done) [
       subst (λ j. P j (get_or (xs ++ x ∷ []) j d)) e (subst (P done) (sym (get_or_push xs x d done long)) here)
 ]
 
+-- the same behind others, so many
+pub added_push : {X : Type 0} (P : ℕ → X → Type 0) (old : ℕ) (xs : List X) (x : X) (done : ℕ) → length xs ≡ old + done → ((k : ℕ) (d : X) → k < done → P k (get_or xs (old + k) d)) → P done x
+    → (k : ℕ) (d : X) → k < done + 1 → P k (get_or (xs ++ x ∷ []) (old + k) d)
+added_push P old xs x done long each here k d h = elim (cases_lt k done) [
+  | inl low ↦ subst (P k) (sym (get_or_append_left xs (x ∷ []) d (old + k) (omega (arith, low, long)))) (each k d low)
+  | inr over ↦
+      let e : done ≡ k = omega (arith, h, over) in
+      subst (λ j. P j (get_or (xs ++ x ∷ []) (old + j) d)) e (subst (P done) (sym (get_or_push xs x d (old + done) long)) here)
+]
+
 -- a class answers a candidate where it has its number
-pub code_is : (t : ClassTable) (row : List (List Bool)) (grouped : Grouped) → AreCandidates t row grouped → (class answer : ℕ) → class < class_count t → answer < length (candidates t row)
-    → eqb (get_or grouped.groups class 0) answer ≡ same_bits (answer_in row (representative t class)) (get_or (candidates t row) answer [])
-code_is t row grouped are class answer h ha =
-    let code = get_or grouped.groups class 0 in
+pub code_is : (t : ClassTable) (row : List (List Bool)) (c : Candidates) → AreCandidates t row c → (class answer : ℕ) → class < class_count t → answer < length (candidates t row)
+    → eqb (get_or c.numbers class 0) answer ≡ same_bits (answer_in row (representative t class)) (get_or (candidates t row) answer [])
+code_is t row c are class answer h ha =
+    let code = get_or c.numbers class 0 in
     let own = answer_in row (representative t class) in
     let test = same_bits-Decides own (get_or (candidates t row) answer []) in
     same_tests (eqb code answer) (same_bits own (get_or (candidates t row) answer []))
@@ -92,6 +128,12 @@ module _ (t : ClassTable) (rows : List (List (List Bool))) where
         | inr ne ↦
             ap (candidate k) (get_or-set_other chosen pattern k answer 0 ne) ∙ (sym (base_at chosen k inside) ∙ sym (get_or-set_other bs pattern k (candidate pattern answer) [] ne))
       ])
+
+  -- a replaced baseline leaves the others
+  pub base_kept : (chosen : List ℕ) (pattern answer q class : ℕ) → q < length chosen → (q ≡ pattern → ⊥) → answers_base t rows (baselines_at t rows (set chosen pattern answer)) q class ≡ answers_base t rows (baselines_at t rows chosen) q class
+  base_kept chosen pattern answer q class h ne =
+      ap (same_bits (answer_in (get_or rows q []) (representative t class)))
+      (base_at (set chosen pattern answer) q (omega (arith, h, length-set chosen pattern answer)) ∙ (ap (candidate q) (get_or-set_other chosen pattern q answer 0 ne) ∙ sym (base_at chosen q h)))
 
   pub chosen_push : (chosen : List ℕ) (answer : ℕ) → AreChosen t rows chosen → answer < length (candidates t (get_or rows (length chosen) [])) → AreChosen t rows (chosen ++ answer ∷ [])
   chosen_push chosen answer are is k h = elim (cases_lt k (length chosen)) [

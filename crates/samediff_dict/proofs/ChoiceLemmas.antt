@@ -1,60 +1,36 @@
 -- What the parts of the choice need of the classes and of their candidates.
 use Rattle.std.proofs.Common.{◌≡◌, ◌∙◌, ℕ, zero, suc, ◌+◌, ◌-◌, ◌*◌, ◌<◌, ◌≤◌, Bool, cond, eqb, List, [], ◌∷◌, ◌++◌, Some, None, length, get_or, set, take, fold, refl, sym, ap, subst, arith, inl, inr}
-use Rattle.std.specs.List.{range_with_len}
 use Rattle.std.specs.Option.{option_map_or}
 use Rattle.std.proofs.lemmas.Bool.{cases_lt, lt-ltb, le-ltb}
 use Rattle.std.proofs.lemmas.List.{ext_get_or, get_or-map, length-map, get_or_append_left, get_or_push, length_push, length-set, take_all}
-use Rattle.std.proofs.lemmas.List.Elements.{Contains-get_or}
-use Rattle.std.proofs.lemmas.List.FromFn.{get_or-range_with_len, length-range_with_len}
 use Rattle.net_model.specs.ClassTable.{ClassTable, class_count, class_at, representative, same_bits}
 use Rattle.class_refine.specs.Fields.{IsWhole}
-use Rattle.class_refine.proofs.Refined.{representative-member}
-use Rattle.table_dicts.specs.AnswerTable.{Answers, IsTable, answer_in}
+use Rattle.class_refine.proofs.Pieces.{representative_lowest}
+use Rattle.table_dicts.specs.AnswerTable.{answer_in}
 use Rattle.table_dicts.specs.Entries.{free_baselines}
-use Rattle.table_dicts.specs.declared.grouping.Grouped.{Grouped}
-use Rattle.samediff_dict.specs.Chosen.{candidates, distinct_answers, pairs_apart, with_next, greedy_baselines, better_baselines, improvement, improved_baselines, chosen_baselines}
-use Rattle.samediff_dict.specs.Partition.{IsPartition, InBothAt, AreWithin, IsFirstMost, gain_at}
-use Rattle.samediff_dict.specs.Numbered.{AnswerAlike, AreCandidates, AreNumbered, AreChosen, HasBaselines, AlikeFrom, answers_base, class_answers, baselines_at}
-use Rattle.samediff_dict.proofs.DistinctLemmas.{from_distinct, distinct-few}
+use Rattle.samediff_dict.specs.declared.numbering.Candidates.{Candidates}
+use Rattle.samediff_dict.specs.declared.partition.Partition.{Partition}
+use Rattle.samediff_dict.specs.Chosen.{candidates, pairs_apart, with_next, greedy_baselines, better_baselines, improvement, improved_baselines, chosen_baselines}
+use Rattle.samediff_dict.specs.Groups.{IsFirstMost, gain_at}
+use Rattle.samediff_dict.specs.Partition.{IsPartition, TogetherAt, are_together}
+use Rattle.samediff_dict.specs.Numbered.{AreCandidates, AreChosen, HasBaselines, AlikeFrom, answers_base, baselines_at}
 use Rattle.samediff_dict.proofs.CandidateLemmas.{code_is, candidate, length-baselines, base_at, chosen_push, chosen_set}
 use Rattle.samediff_dict.proofs.ImproveLemmas.{improves, score-few, improved_enough}
 use Rattle.samediff_dict.proofs.GreedyLemmas.{greedy_more}
 use Rattle.samediff_dict.proofs.StepLemmas.{partition_where, cut_is, alike_none, alike_where, from_last, with_last, from_first, with_first}
 
+-- number 0 is the lowest number of its class
+pub first_leads : (t : ClassTable) → IsWhole t → representative t (class_at t 0) ≡ 0
+first_leads t whole = omega (arith, (representative_lowest t 0 whole.some).within)
+
 -- the candidate that number 0 answers
-pub free_candidate : (t : ClassTable) (table : Answers) (pattern : ℕ) (grouped : Grouped) → IsWhole t → AnswerAlike t table → pattern < length table.rows → AreCandidates t (get_or table.rows pattern []) grouped
-    → candidate t table.rows pattern (get_or grouped.groups (class_at t 0) 0) ≡ answer_in (get_or table.rows pattern []) 0
-free_candidate t table pattern grouped whole alike h are =
-    let class = class_at t 0 in
-    let known : class < class_count t = whole.classes 0 whole.some in
-    let member = representative-member t whole class known in
-    are.own class known ∙ alike.each pattern (representative t class) 0 h (omega (arith, member.0, alike.numbers)) (omega (arith, whole.some, alike.numbers)) member.1
-
--- a candidate is as wide as any answer
-pub candidate_width : (t : ClassTable) (table : Answers) (pattern answer : ℕ) → IsWhole t → IsTable table → length t.class_of ≡ table.numbers → pattern < length table.rows → answer < length (candidates t (get_or table.rows pattern []))
-    → length (candidate t table.rows pattern answer) ≡ table.positions
-unfolding candidates
-candidate_width t table pattern answer whole is numbers h ha =
-    let row = get_or table.rows pattern [] in
-    let own : ℕ → List Bool = λ class. answer_in row (representative t class) in
-    let n = class_count t in
-    let w = from_distinct (class_answers t row) (get_or (distinct_answers (class_answers t row)) answer []) (Contains-get_or (distinct_answers (class_answers t row)) answer [] ha) in
-    let below : w.0 < n = omega (arith, w.1, length-map (range_with_len 0 n) own, length-range_with_len 0 n) in
-    let member = representative-member t whole w.0 below in
-    let zero_is : 0 + w.0 ≡ w.0 = omega arith in
-    let it : get_or (class_answers t row) w.0 (candidate t table.rows pattern answer) ≡ own w.0 = get_or-map own (range_with_len 0 n) w.0 0 (candidate t table.rows pattern answer) (omega (arith, below, length-range_with_len 0 n)) ∙ ap own (get_or-range_with_len 0 n w.0 0 below ∙ zero_is) in
-    ap (λ (a : List Bool). length a) (sym w.2 ∙ it) ∙ is.positions pattern (representative t w.0) h (omega (arith, member.0, numbers))
-
--- there are no more candidates than classes
-pub candidates-few : (t : ClassTable) (row : List (List Bool)) → length (candidates t row) ≤ class_count t
-unfolding candidates
-candidates-few t row =
-    let own : ℕ → List Bool = λ class. answer_in row (representative t class) in
-    omega (arith, distinct-few (class_answers t row), length-map (range_with_len 0 (class_count t)) own, length-range_with_len 0 (class_count t))
+pub free_candidate : (t : ClassTable) (rows : List (List (List Bool))) (pattern : ℕ) (c : Candidates) → IsWhole t → AreCandidates t (get_or rows pattern []) c
+    → candidate t rows pattern (get_or c.numbers (class_at t 0) 0) ≡ answer_in (get_or rows pattern []) 0
+free_candidate t rows pattern c whole are = are.own (class_at t 0) (whole.classes 0 whole.some) ∙ ap (answer_in (get_or rows pattern [])) (first_leads t whole)
 
 -- there is a candidate
-pub some_candidate : (t : ClassTable) (row : List (List Bool)) (grouped : Grouped) → IsWhole t → AreCandidates t row grouped → 0 < length (candidates t row)
-some_candidate t row grouped whole are = omega (arith, are.within (class_at t 0) (whole.classes 0 whole.some))
+pub some_candidate : (t : ClassTable) (row : List (List Bool)) (c : Candidates) → IsWhole t → AreCandidates t row c → 0 < length (candidates t row)
+some_candidate t row c whole are = omega (arith, are.within (class_at t 0) (whole.classes 0 whole.some))
 
 -- all baselines are free where each is
 pub all_free : (t : ClassTable) (rows : List (List (List Bool))) (chosen : List ℕ) (done : ℕ) → length chosen ≡ done → length rows ≤ done → done ≤ length rows
@@ -80,29 +56,29 @@ free_more t rows chosen code done long free here pattern h =
 
 module _ (t : ClassTable) (rows : List (List (List Bool))) where
   -- whether a class answers the chosen candidate of a pattern, by its number
-  pub base_is : (chosen : List ℕ) (pattern : ℕ) (grouped : Grouped) → pattern < length chosen → AreChosen t rows chosen → AreCandidates t (get_or rows pattern []) grouped
-      → (class : ℕ) → class < class_count t → eqb (get_or grouped.groups class 0) (get_or chosen pattern 0) ≡ answers_base t rows (baselines_at t rows chosen) pattern class
-  base_is chosen pattern grouped h are_chosen are class hc =
-      code_is t (get_or rows pattern []) grouped are class (get_or chosen pattern 0) hc (are_chosen pattern h)
+  pub base_is : (chosen : List ℕ) (pattern : ℕ) (c : Candidates) → pattern < length chosen → AreChosen t rows chosen → AreCandidates t (get_or rows pattern []) c
+      → (class : ℕ) → class < class_count t → eqb (get_or c.numbers class 0) (get_or chosen pattern 0) ≡ answers_base t rows (baselines_at t rows chosen) pattern class
+  base_is chosen pattern c h are_chosen are class hc =
+      code_is t (get_or rows pattern []) c are class (get_or chosen pattern 0) hc (are_chosen pattern h)
       ∙ ap (same_bits (answer_in (get_or rows pattern []) (representative t class))) (sym (base_at t rows chosen pattern h))
 
   -- the next pattern
-  pub cut_last : (chosen : List ℕ) (pattern : ℕ) (grouped : Grouped) (group_of cut : List ℕ) (count all m : ℕ) → pattern < length chosen → AreChosen t rows chosen → AreCandidates t (get_or rows pattern []) grouped
-      → IsPartition (class_count t) (AlikeFrom t rows (baselines_at t rows chosen) 0 pattern) group_of count → IsPartition m (InBothAt group_of grouped.groups (get_or chosen pattern 0)) cut all → m ≡ class_count t
-      → IsPartition (class_count t) (AlikeFrom t rows (baselines_at t rows chosen) 0 (pattern + 1)) cut all
-  cut_last chosen pattern grouped group_of cut count all m h are_chosen are before is e =
+  pub cut_last : (chosen : List ℕ) (pattern : ℕ) (c : Candidates) (p cut : Partition) (m : ℕ) → pattern < length chosen → AreChosen t rows chosen → AreCandidates t (get_or rows pattern []) c
+      → IsPartition (class_count t) (AlikeFrom t rows (baselines_at t rows chosen) 0 pattern) p → IsPartition m (TogetherAt p c.numbers (get_or chosen pattern 0)) cut → m ≡ class_count t
+      → IsPartition (class_count t) (AlikeFrom t rows (baselines_at t rows chosen) 0 (pattern + 1)) cut
+  cut_last chosen pattern c p cut m h are_chosen are before is e =
       let bs = baselines_at t rows chosen in
-      cut_is grouped.groups (AlikeFrom t rows bs 0 pattern) (AlikeFrom t rows bs 0 (pattern + 1)) (get_or chosen pattern 0) (answers_base t rows bs pattern) before is e
-      (base_is chosen pattern grouped h are_chosen are) (from_last t rows bs pattern) (with_last t rows bs pattern)
+      cut_is c.numbers (AlikeFrom t rows bs 0 pattern) (AlikeFrom t rows bs 0 (pattern + 1)) (get_or chosen pattern 0) (answers_base t rows bs pattern) before is e
+      (base_is chosen pattern c h are_chosen are) (from_last t rows bs pattern) (with_last t rows bs pattern)
 
   -- the pattern before
-  pub cut_first : (chosen : List ℕ) (pattern : ℕ) (grouped : Grouped) (group_of cut : List ℕ) (count all m : ℕ) → pattern < length chosen → AreChosen t rows chosen → AreCandidates t (get_or rows pattern []) grouped
-      → IsPartition (class_count t) (AlikeFrom t rows (baselines_at t rows chosen) (pattern + 1) (length chosen)) group_of count → IsPartition m (InBothAt group_of grouped.groups (get_or chosen pattern 0)) cut all → m ≡ class_count t
-      → IsPartition (class_count t) (AlikeFrom t rows (baselines_at t rows chosen) pattern (length chosen)) cut all
-  cut_first chosen pattern grouped group_of cut count all m h are_chosen are before is e =
+  pub cut_first : (chosen : List ℕ) (pattern : ℕ) (c : Candidates) (p cut : Partition) (m : ℕ) → pattern < length chosen → AreChosen t rows chosen → AreCandidates t (get_or rows pattern []) c
+      → IsPartition (class_count t) (AlikeFrom t rows (baselines_at t rows chosen) (pattern + 1) (length chosen)) p → IsPartition m (TogetherAt p c.numbers (get_or chosen pattern 0)) cut → m ≡ class_count t
+      → IsPartition (class_count t) (AlikeFrom t rows (baselines_at t rows chosen) pattern (length chosen)) cut
+  cut_first chosen pattern c p cut m h are_chosen are before is e =
       let bs = baselines_at t rows chosen in
-      cut_is grouped.groups (AlikeFrom t rows bs (pattern + 1) (length chosen)) (AlikeFrom t rows bs pattern (length chosen)) (get_or chosen pattern 0) (answers_base t rows bs pattern) before is e
-      (base_is chosen pattern grouped h are_chosen are) (λ low high a. from_first t rows bs pattern (length chosen) low high h a) (with_first t rows bs pattern (length chosen))
+      cut_is c.numbers (AlikeFrom t rows bs (pattern + 1) (length chosen)) (AlikeFrom t rows bs pattern (length chosen)) (get_or chosen pattern 0) (answers_base t rows bs pattern) before is e
+      (base_is chosen pattern c h are_chosen are) (λ low high a. from_first t rows bs pattern (length chosen) low high h a) (with_first t rows bs pattern (length chosen))
 
   -- a baseline more leaves the earlier ones
   base_was : (chosen : List ℕ) (answer q : ℕ) → q < length chosen → get_or (baselines_at t rows (chosen ++ answer ∷ [])) q [] ≡ get_or (baselines_at t rows chosen) q []
@@ -111,66 +87,49 @@ module _ (t : ClassTable) (rows : List (List (List Bool))) where
       ∙ (ap (candidate t rows q) (get_or_append_left chosen (answer ∷ []) 0 q h) ∙ sym (base_at t rows chosen q h))
 
   -- the next pattern, with the baseline that it gets
-  pub cut_added : (chosen : List ℕ) (best pattern : ℕ) (grouped : Grouped) (group_of cut : List ℕ) (count all m : ℕ) → length chosen ≡ pattern → AreChosen t rows (chosen ++ best ∷ []) → AreCandidates t (get_or rows pattern []) grouped
-      → IsPartition (class_count t) (AlikeFrom t rows (baselines_at t rows chosen) 0 pattern) group_of count → IsPartition m (InBothAt group_of grouped.groups best) cut all → m ≡ class_count t
-      → IsPartition (class_count t) (AlikeFrom t rows (baselines_at t rows (chosen ++ best ∷ [])) 0 (pattern + 1)) cut all
-  cut_added chosen best pattern grouped group_of cut count all m long are_chosen are before is e =
+  pub cut_added : (chosen : List ℕ) (best pattern : ℕ) (c : Candidates) (p cut : Partition) (m : ℕ) → length chosen ≡ pattern → AreChosen t rows (chosen ++ best ∷ []) → AreCandidates t (get_or rows pattern []) c
+      → IsPartition (class_count t) (AlikeFrom t rows (baselines_at t rows chosen) 0 pattern) p → IsPartition m (TogetherAt p c.numbers best) cut → m ≡ class_count t
+      → IsPartition (class_count t) (AlikeFrom t rows (baselines_at t rows (chosen ++ best ∷ [])) 0 (pattern + 1)) cut
+  cut_added chosen best pattern c p cut m long are_chosen are before is e =
       let more = chosen ++ best ∷ [] in
       let was : (q class : ℕ) → 0 ≤ q → q < pattern → answers_base t rows (baselines_at t rows more) q class ≡ answers_base t rows (baselines_at t rows chosen) q class = λ q class from below.
       ap (same_bits (answer_in (get_or rows q []) (representative t class))) (base_was chosen best q (omega (arith, below, long))) in
       let before' = partition_where (AlikeFrom t rows (baselines_at t rows chosen) 0 pattern) (AlikeFrom t rows (baselines_at t rows more) 0 pattern) before
       (λ low high hl hh a. alike_where t rows rows (baselines_at t rows more) (baselines_at t rows chosen) 0 pattern (λ q class from below. sym (was q class from below)) low high a)
       (λ low high hl hh a. alike_where t rows rows (baselines_at t rows chosen) (baselines_at t rows more) 0 pattern was low high a) in
-      cut_last more pattern grouped group_of cut count all m (omega (arith, length_push chosen best, long)) are_chosen are before'
-      (subst (λ b. IsPartition m (InBothAt group_of grouped.groups b) cut all) (sym (get_or_push chosen best 0 pattern long)) is) e
+      cut_last more pattern c p cut m (omega (arith, length_push chosen best, long)) are_chosen are before'
+      (subst (λ b. IsPartition m (TogetherAt p c.numbers b) cut) (sym (get_or_push chosen best 0 pattern long)) is) e
 
--- ---- what the calls of a pattern ask
-
-pub numbered_at : {t : ClassTable} {rows : List (List (List Bool))} {patterns : List Grouped} → AreNumbered t rows patterns → (pattern : ℕ) → pattern < length rows → (grouped : Grouped) → grouped ≡ get_or patterns pattern grouped
-    → AreCandidates t (get_or rows pattern []) grouped
-numbered_at {t} {rows} {patterns} are pattern h grouped e = subst (AreCandidates t (get_or rows pattern [])) (sym e) (are.each pattern grouped h)
-
-pub answers_within : {t : ClassTable} {row : List (List Bool)} {grouped : Grouped} → AreCandidates t row grouped → (items : List ℕ) (n : ℕ) → items ≡ grouped.groups → n ≡ length grouped.entries → AreWithin items n
-answers_within are items n same long = λ place h. omega (arith, ap (λ (xs : List ℕ). get_or xs place 0) same, are.within place (omega (arith, h, ap length same, are.one_each)), long, ap length are.answers)
-
-pub whole_is : (t : ClassTable) (rows : List (List (List Bool))) (baselines : List (List Bool)) (at : ℕ) (m count : ℕ) (group_of : List ℕ) → IsPartition m (λ _ _. Unit {0}) group_of count → m ≡ class_count t
-    → IsPartition (class_count t) (AlikeFrom t rows baselines at at) group_of count
-whole_is t rows baselines at m count group_of is e = partition_where (λ _ _. Unit {0}) (AlikeFrom t rows baselines at at) (subst (λ k. IsPartition k (λ _ _. Unit {0}) group_of count) e is)
+pub whole_is : (t : ClassTable) (rows : List (List (List Bool))) (baselines : List (List Bool)) (at m : ℕ) (p : Partition) → IsPartition m (λ _ _. Unit {0}) p → m ≡ class_count t
+    → IsPartition (class_count t) (AlikeFrom t rows baselines at at) p
+whole_is t rows baselines at m p is e = partition_where (λ _ _. Unit {0}) (AlikeFrom t rows baselines at at) (subst (λ k. IsPartition k (λ _ _. Unit {0}) p) e is)
     (λ low high hl hh a. tt) (λ low high hl hh a. alike_none t rows baselines at low high)
 
 -- ---- the first step so far
 
-pub record IsGreedyTo (t : ClassTable) (rows : List (List (List Bool))) (chosen : List ℕ) (pattern : ℕ) (group_of : List ℕ) (count : ℕ) : Type 0 where
+pub record IsGreedyTo (t : ClassTable) (rows : List (List (List Bool))) (chosen : List ℕ) (pattern : ℕ) (p : Partition) : Type 0 where
   pub one_each : length chosen ≡ pattern
   pub chosen_are : AreChosen t rows chosen
   pub so_far : baselines_at t rows chosen ≡ fold (with_next t rows) [] (take pattern rows)
-  pub before_is : IsPartition (class_count t) (AlikeFrom t rows (baselines_at t rows chosen) 0 pattern) group_of count
+  pub before_is : IsPartition (class_count t) (AlikeFrom t rows (baselines_at t rows chosen) 0 pattern) p
 
-pub greedy_none : (t : ClassTable) (rows : List (List (List Bool))) (chosen : List ℕ) (m count : ℕ) (group_of : List ℕ) → chosen ≡ [] → IsPartition m (λ _ _. Unit {0}) group_of count → m ≡ class_count t → IsGreedyTo t rows chosen 0 group_of count
-greedy_none t rows chosen m count group_of none is e = record {
-  one_each = ap length none;
-  chosen_are = λ q h. absurd (omega (arith, h, ap length none));
-  so_far = ap (baselines_at t rows) none;
-  before_is = whole_is t rows (baselines_at t rows chosen) 0 m count group_of is e;
-}
-
-pub greedy_step : (t : ClassTable) (rows : List (List (List Bool))) (chosen new : List ℕ) (pattern : ℕ) (group_of cut answers : List ℕ) (count all m n best : ℕ) (grouped : Grouped) → IsGreedyTo t rows chosen pattern group_of count → pattern < length rows
-    → AreCandidates t (get_or rows pattern []) grouped → answers ≡ grouped.groups → n ≡ length grouped.entries → IsFirstMost (gain_at group_of answers) n best → IsPartition m (InBothAt group_of answers best) cut all → m ≡ class_count t
-    → new ≡ chosen ++ best ∷ [] → IsGreedyTo t rows new (pattern + 1) cut all
-greedy_step t rows chosen new pattern group_of cut answers count all m n best grouped so_far h are same long most is e more =
-    let most' : IsFirstMost (gain_at group_of grouped.groups) (length (candidates t (get_or rows pattern []))) best =
-    subst (λ k. IsFirstMost (gain_at group_of grouped.groups) k best) (long ∙ ap length are.answers) (subst (λ (ys : List ℕ). IsFirstMost (gain_at group_of ys) n best) same most) in
-    let chosen_are : AreChosen t rows (chosen ++ best ∷ []) = chosen_push t rows chosen best so_far.chosen_are (subst (λ p. best < length (candidates t (get_or rows p []))) (sym so_far.one_each) most'.within) in
-    subst (λ (xs : List ℕ). IsGreedyTo t rows xs (pattern + 1) cut all) (sym more) (record {
+pub greedy_step : (t : ClassTable) (rows : List (List (List Bool))) (chosen new : List ℕ) (pattern : ℕ) (p cut : Partition) (numbers : List ℕ) (m best : ℕ) (c : Candidates) → IsGreedyTo t rows chosen pattern p → pattern < length rows
+    → AreCandidates t (get_or rows pattern []) c → numbers ≡ c.numbers → IsFirstMost (gain_at (are_together p) numbers) c.count best → IsPartition m (TogetherAt p numbers best) cut → m ≡ class_count t
+    → new ≡ chosen ++ best ∷ [] → IsGreedyTo t rows new (pattern + 1) cut
+greedy_step t rows chosen new pattern p cut numbers m best c so_far h are same most is e more =
+    let most' : IsFirstMost (gain_at (are_together p) c.numbers) (length (candidates t (get_or rows pattern []))) best =
+    subst (λ k. IsFirstMost (gain_at (are_together p) c.numbers) k best) are.count_is (subst (λ (ys : List ℕ). IsFirstMost (gain_at (are_together p) ys) c.count best) same most) in
+    let chosen_are : AreChosen t rows (chosen ++ best ∷ []) = chosen_push t rows chosen best so_far.chosen_are (subst (λ q. best < length (candidates t (get_or rows q []))) (sym so_far.one_each) most'.within) in
+    subst (λ (xs : List ℕ). IsGreedyTo t rows xs (pattern + 1) cut) (sym more) (record {
       one_each = omega (arith, length_push chosen best, so_far.one_each);
       chosen_are = chosen_are;
-      so_far = greedy_more t rows chosen pattern so_far.one_each h group_of count grouped best so_far.before_is are most' so_far.so_far;
-      before_is = cut_added t rows chosen best pattern grouped group_of cut count all m so_far.one_each chosen_are are so_far.before_is (subst (λ (ys : List ℕ). IsPartition m (InBothAt group_of ys best) cut all) same is) e;
+      so_far = greedy_more t rows chosen pattern so_far.one_each h p c best so_far.before_is are most' so_far.so_far;
+      before_is = cut_added t rows chosen best pattern c p cut m so_far.one_each chosen_are are so_far.before_is (subst (λ (ys : List ℕ). IsPartition m (TogetherAt p ys best) cut) same is) e;
     })
 
-pub greedy_done : (t : ClassTable) (rows : List (List (List Bool))) (chosen : List ℕ) (pattern : ℕ) (group_of : List ℕ) (count : ℕ) → IsGreedyTo t rows chosen pattern group_of count → pattern ≡ length rows → HasBaselines t rows chosen (greedy_baselines t rows)
+pub greedy_done : (t : ClassTable) (rows : List (List (List Bool))) (chosen : List ℕ) (pattern : ℕ) (p : Partition) → IsGreedyTo t rows chosen pattern p → pattern ≡ length rows → HasBaselines t rows chosen (greedy_baselines t rows)
 unfolding greedy_baselines
-greedy_done t rows chosen pattern group_of count is all = record {
+greedy_done t rows chosen pattern p is all = record {
   one_each = is.one_each ∙ all;
   chosen_are = is.chosen_are;
   baselines_are = is.so_far ∙ ap (fold (with_next t rows) []) (take_all pattern rows (omega (arith, all)));
@@ -183,17 +142,14 @@ pub record AreFreeTo (t : ClassTable) (rows : List (List (List Bool))) (chosen :
   pub chosen_are : AreChosen t rows chosen
   pub free : (q : ℕ) → q < pattern → get_or (baselines_at t rows chosen) q [] ≡ answer_in (get_or rows q []) 0
 
-pub free_none : (t : ClassTable) (rows : List (List (List Bool))) (chosen : List ℕ) → chosen ≡ [] → AreFreeTo t rows chosen 0
-free_none t rows chosen none = record { one_each = ap length none; chosen_are = λ q h. absurd (omega (arith, h, ap length none)); free = λ q h. absurd (omega (arith, h)) }
-
-pub free_step : (t : ClassTable) (table : Answers) (chosen new : List ℕ) (pattern code : ℕ) (grouped : Grouped) → IsWhole t → AnswerAlike t table → AreFreeTo t table.rows chosen pattern → pattern < length table.rows
-    → AreCandidates t (get_or table.rows pattern []) grouped → code ≡ get_or grouped.groups (class_at t 0) 0 → new ≡ chosen ++ code ∷ [] → AreFreeTo t table.rows new (pattern + 1)
-free_step t table chosen new pattern code grouped whole alike so_far h are is more =
-    let known : code < length (candidates t (get_or table.rows pattern [])) = omega (arith, is, are.within (class_at t 0) (whole.classes 0 whole.some)) in
-    subst (λ (xs : List ℕ). AreFreeTo t table.rows xs (pattern + 1)) (sym more) (record {
+pub free_step : (t : ClassTable) (rows : List (List (List Bool))) (chosen new : List ℕ) (pattern code : ℕ) (c : Candidates) → IsWhole t → AreFreeTo t rows chosen pattern
+    → AreCandidates t (get_or rows pattern []) c → code ≡ get_or c.numbers (class_at t 0) 0 → new ≡ chosen ++ code ∷ [] → AreFreeTo t rows new (pattern + 1)
+free_step t rows chosen new pattern code c whole so_far are is more =
+    let known : code < length (candidates t (get_or rows pattern [])) = omega (arith, is, are.within (class_at t 0) (whole.classes 0 whole.some)) in
+    subst (λ (xs : List ℕ). AreFreeTo t rows xs (pattern + 1)) (sym more) (record {
       one_each = omega (arith, length_push chosen code, so_far.one_each);
-      chosen_are = chosen_push t table.rows chosen code so_far.chosen_are (subst (λ p. code < length (candidates t (get_or table.rows p []))) (sym so_far.one_each) known);
-      free = free_more t table.rows chosen code pattern so_far.one_each so_far.free (ap (candidate t table.rows pattern) is ∙ free_candidate t table pattern grouped whole alike h are);
+      chosen_are = chosen_push t rows chosen code so_far.chosen_are (subst (λ q. code < length (candidates t (get_or rows q []))) (sym so_far.one_each) known);
+      free = free_more t rows chosen code pattern so_far.one_each so_far.free (ap (candidate t rows pattern) is ∙ free_candidate t rows pattern c whole are);
     })
 
 pub free_done : (t : ClassTable) (rows : List (List (List Bool))) (chosen : List ℕ) (pattern : ℕ) → AreFreeTo t rows chosen pattern → pattern ≡ length rows → HasBaselines t rows chosen (free_baselines rows)

@@ -6,12 +6,13 @@ use Rattle.std.proofs.lemmas.List.{get_or_default}
 use Rattle.std.proofs.lemmas.List.MinMax.{IsStrictWeakOrder-flip, IsStrictWeakOrder-by_number, IsFirstBest-unique, IsFirstBest-from_best_of}
 use Rattle.std.proofs.lemmas.List.Sums.{fold_more}
 use Rattle.net_model.specs.ClassTable.{ClassTable, class_count}
-use Rattle.table_dicts.specs.declared.grouping.Grouped.{Grouped}
+use Rattle.samediff_dict.specs.declared.numbering.Candidates.{Candidates}
+use Rattle.samediff_dict.specs.declared.partition.Partition.{Partition}
 use Rattle.samediff_dict.specs.Chosen.{candidates, pairs_apart, first_best, with_next}
-use Rattle.samediff_dict.specs.Partition.{IsPartition, IsFirstMost, pairs_between, gain_at}
-use Rattle.samediff_dict.specs.Numbered.{AreCandidates, baselines_at}
-use Rattle.samediff_dict.specs.Numbered.{AlikeFrom}
-use Rattle.samediff_dict.proofs.CandidateLemmas.{length-baselines, baselines_push}
+use Rattle.samediff_dict.specs.Groups.{IsFirstMost, gain_at}
+use Rattle.samediff_dict.specs.Partition.{IsPartition, are_together, pairs_between}
+use Rattle.samediff_dict.specs.Numbered.{AreCandidates, AlikeFrom, baselines_at}
+use Rattle.samediff_dict.proofs.CandidateLemmas.{code_is, length-baselines, baselines_push}
 use Rattle.samediff_dict.proofs.StepLemmas.{added_apart}
 
 -- the first of the highest scores is at the first of the highest gains
@@ -31,18 +32,19 @@ first_best_is t score (x ∷ xs) gain base best is same =
     let e : w.0 ≡ best = IsFirstBest-unique order all (length all) w.0 best x w.1 found in
     sym w.2 ∙ (ap (λ k. get_or all k x) e ∙ get_or_default all best x [] is.within)
 
-pub greedy_more : (t : ClassTable) (rows : List (List (List Bool))) (chosen : List ℕ) (pattern : ℕ) → length chosen ≡ pattern → pattern < length rows → (group_of : List ℕ) (count : ℕ) (grouped : Grouped) (best : ℕ)
-    → IsPartition (class_count t) (AlikeFrom t rows (baselines_at t rows chosen) 0 pattern) group_of count → AreCandidates t (get_or rows pattern []) grouped
-    → IsFirstMost (gain_at group_of grouped.groups) (length (candidates t (get_or rows pattern []))) best
+pub greedy_more : (t : ClassTable) (rows : List (List (List Bool))) (chosen : List ℕ) (pattern : ℕ) → length chosen ≡ pattern → pattern < length rows → (p : Partition) (c : Candidates) (best : ℕ)
+    → IsPartition (class_count t) (AlikeFrom t rows (baselines_at t rows chosen) 0 pattern) p → AreCandidates t (get_or rows pattern []) c
+    → IsFirstMost (gain_at (are_together p) c.numbers) (length (candidates t (get_or rows pattern []))) best
     → baselines_at t rows chosen ≡ fold (with_next t rows) [] (take pattern rows) → baselines_at t rows (chosen ++ best ∷ []) ≡ fold (with_next t rows) [] (take (pattern + 1) rows)
-greedy_more t rows chosen pattern long h group_of count grouped best is are most so_far =
+greedy_more t rows chosen pattern long h p c best is are most so_far =
     let bs = baselines_at t rows chosen in
     let row = get_or rows pattern [] in
     let wide : length bs ≡ pattern = length-baselines t rows chosen ∙ long in
     let score : List Bool → ℕ = λ answer. pairs_apart t (take (length bs + 1) rows) (bs ++ answer ∷ []) in
     let first : first_best t score (candidates t row) ≡ get_or (candidates t row) best [] =
-    first_best_is t score (candidates t row) (gain_at group_of grouped.groups) (pairs_between group_of) best most
-    (λ k hk. ap (λ n. pairs_apart t (take (n + 1) rows) (bs ++ get_or (candidates t row) k [] ∷ [])) wide ∙ added_apart t rows bs pattern wide h group_of count grouped k is are hk) in
+    first_best_is t score (candidates t row) (gain_at (are_together p) c.numbers) (pairs_between (class_count t) (are_together p)) best most
+    (λ k hk. ap (λ n. pairs_apart t (take (n + 1) rows) (bs ++ get_or (candidates t row) k [] ∷ [])) wide
+    ∙ added_apart t rows bs pattern wide h p c.numbers k (get_or (candidates t row) k []) is are.one_each (λ class hc. code_is t row c are class k hc hk)) in
     baselines_push t rows chosen best
     ∙ (ap (λ q. bs ++ get_or (candidates t (get_or rows q [])) best [] ∷ []) long
     ∙ (ap (λ answer. bs ++ answer ∷ []) (sym first)

@@ -2,6 +2,7 @@ pub mod Opened
 pub mod PairLemmas
 pub mod ImproveLemmas
 pub mod BegunLemmas
+pub mod CellLemmas
 pub mod GainLemmas
 pub mod TallyLemmas
 pub mod DistinctLemmas
@@ -14,5 +15,11 @@ pub mod SearchLemmas
 pub mod ChoiceLemmas
 pub mod EndLemmas
 pub mod SharingLemmas
+pub mod ListedLemmas
+pub mod CutLemmas
+pub mod MatchLemmas
 pub mod Examples
+pub mod DifferingLemmas
+pub mod EvaluatedLemmas
 pub mod MadeLemmas
+pub mod LeadLemmas

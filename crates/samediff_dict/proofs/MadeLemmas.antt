@@ -1,75 +1,172 @@
--- The one table of a circuit's answers to patterns, in which the members of a class answer alike.
-use Rattle.std.proofs.Common.{◌≡◌, ◌∙◌, ℕ, zero, suc, ◌<◌, Bool, List, [], ◌∷◌, length, get_or, fold, refl, sym, subst, arith}
-use Rattle.std.specs.List.{AllZip}
-use Rattle.std.proofs.lemmas.List.{ext_get_or, length-replicate}
-use Rattle.std.proofs.lemmas.Slice.Zip.{AllZip-long}
-use Rattle.net_model.specs.declared.fault.Fault.TheVariants.{Free}
+-- The answers of a circuit's classes to patterns, and the dictionary of their entries.
+use Rattle.std.proofs.Common.{◌≡◌, ◌∙◌, ℕ, ◌+◌, ◌-◌, ◌<◌, ◌≤◌, Bool, not, List, [], length, get_or, map, drop, refl, sym, ap, subst, arith, inl, inr}
+use Rattle.std.specs.Prelude.{slice_range, All}
+use Rattle.std.proofs.lemmas.Bool.{cases_lt}
+use Rattle.std.specs.List.{range_with_len}
+use Rattle.std.proofs.lemmas.List.{ext_get_or, get_or-map, length-map, get_or-take, get_or-drop, length-take-le, length-drop}
+use Rattle.std.proofs.lemmas.List.FromFn.{get_or-map-range_with_len, length-map-range_with_len, get_or-range_with_len, length-range_with_len, fill_by_all}
 use Rattle.net_model.specs.Circuit.{Circuit, IsCircuit}
-use Rattle.net_model.specs.Answer.{IsAnswer}
-use Rattle.net_model.specs.FaultList.{faults, fault_count}
-use Rattle.net_model.specs.PatternRows.{IsAnswerRow, IsTableOf}
-use Rattle.net_model.specs.ClassTable.{ClassTable, class_at, refined_table, first_table, class_table}
-use Rattle.class_refine.proofs.Pieces.{IsSound}
-use Rattle.class_refine.proofs.Ranges.{zip_at}
-use Rattle.class_refine.proofs.Refined.{numbers-refined, class-refined, same_after, sound-refined, sound-first}
-use Rattle.kept_vectors.proofs.AnswerLemmas.{one_answer, one_table}
+use Rattle.net_model.specs.FaultList.{fault_count}
+use Rattle.net_model.specs.PatternRows.{IsTableOf}
+use Rattle.net_model.specs.ClassTable.{ClassTable, class_count, class_at, class_table, representative}
+use Rattle.net_model.proofs.Copies.{same_bits_same_list}
+use Rattle.class_refine.specs.Fields.{IsWhole}
+use Rattle.class_refine.proofs.Refined.{representative-member}
+use Rattle.kept_vectors.proofs.AnswerLemmas.{one_table}
 use Rattle.kept_vectors.proofs.KeepLemmas.{table_numbers}
-use Rattle.table_dicts.specs.AnswerTable.{Answers, AreAnswers, answer_in}
-use Rattle.samediff_dict.specs.Numbered.{AnswerAlike}
+use Rattle.table_dicts.specs.AnswerTable.{Answers, AreAnswers, answer_in, answer_to}
+use Rattle.table_dicts.specs.ByClass.{AreEntriesOfClasses}
+use Rattle.table_dicts.specs.Entries.{answers_of, differences, same_diff_entry}
+use Rattle.table_dicts.specs.Rows.{AreRows}
+use Rattle.table_dicts.proofs.ClassLemmas.{together_where_alike}
+use Rattle.table_dicts.proofs.EntryLemmas.{length-entry, entry_bit}
+use Rattle.table_dicts.proofs.OneTable.{one_answers}
+use Rattle.samediff_dict.specs.declared.numbering.Candidates.{Candidates}
+use Rattle.samediff_dict.specs.declared.setting.Setting.{Setting}
+use Rattle.samediff_dict.specs.Setting.{AreAnswersAt, AreAnswersOfClasses}
+use Rattle.samediff_dict.specs.Copied.{HaveClasses, class_entry}
+use Rattle.samediff_dict.specs.Numbered.{AnswerAlike, AreNumbersOf, AreAdded, AreCandidates, AreNumbered, AreChosen, baselines_at, class_answers}
+use Rattle.samediff_dict.proofs.CandidateLemmas.{candidates_of_numbers, some_class}
+use Rattle.samediff_dict.proofs.ChoiceLemmas.{base_is}
+use Rattle.samediff_dict.proofs.DifferingLemmas.{length-class_entry, class_entry_at}
+use Rattle.samediff_dict.proofs.EvaluatedLemmas.{evaluated_row, evaluated_answers, evaluated_are, evaluated_at}
 
--- ---- members of a class answer alike
+pub length-range : {X : Type 0} (xs : List X) (first end : ℕ) → end ≤ length xs → length (slice_range xs first end) ≡ end - first
+length-range xs first end h = length-take-le (end - first) (drop first xs) (omega (arith, length-drop first xs, h))
 
--- two numbers answer alike in each row
-abbrev AreAlike : List (List (List Bool)) → ℕ → ℕ → Type 0
-AreAlike rows m n = (p : ℕ) → p < length rows → answer_in (get_or rows p []) m ≡ answer_in (get_or rows p []) n
+module _ (c : Circuit) (is : IsCircuit c) (patterns : List (List Bool)) where
+  -- members of a class of these patterns have the same answers
+  pub answer_alike : (classes : ClassTable) → IsTableOf c patterns classes → (t : Answers) → AreAnswers c patterns t → AnswerAlike classes t
+  answer_alike classes of t are =
+      let numbers = table_numbers of in
+      let own : IsTableOf c patterns (class_table (fault_count c) t.rows) = record { rows = t.rows; answers = are.rows; table = refl } in
+      let same : classes ≡ class_table (fault_count c) t.rows = one_table c is of own in
+      record {
+        numbers = numbers ∙ sym are.numbers;
+        each = λ pattern m n h hm hn together.
+            (together_where_alike (fault_count c) m n t.rows (omega (arith, hm, are.numbers)) (omega (arith, hn, are.numbers))).0
+            (subst (λ (u : ClassTable). class_at u m ≡ class_at u n) same together) pattern h;
+      }
 
-module _ (m n : ℕ) where
-  one_more : (row : List (List Bool)) (rows : List (List (List Bool))) → answer_in row m ≡ answer_in row n → AreAlike rows m n → (p : ℕ) → p < length (row ∷ rows) → answer_in (get_or (row ∷ rows) p []) m ≡ answer_in (get_or (row ∷ rows) p []) n
-  one_more row rows first rest zero h = first
-  one_more row rows first rest (suc p) h = rest p (omega (arith, h))
+  -- the answers to some of the patterns are among those to all
+  pub range_answers : (first end pattern number : ℕ) → first + pattern < end → end ≤ length patterns → (t : Answers) → AreAnswers c patterns t
+      → answer_to (evaluated_answers c (slice_range patterns first end)) pattern number ≡ answer_to t (first + pattern) number
+  range_answers first end pattern number h l t are =
+      let some = slice_range patterns first end in
+      let long = length-range patterns first end l in
+      let vector : get_or some pattern [] ≡ get_or patterns (first + pattern) [] = get_or-take (end - first) (drop first patterns) pattern [] (omega (arith, h)) ∙ get_or-drop first patterns pattern [] in
+      evaluated_at c some pattern number (omega (arith, long, h))
+      ∙ (ap (λ (v : List Bool). get_or (evaluated_row c v) number []) vector
+      ∙ (sym (evaluated_at c patterns (first + pattern) number (omega (arith, h, l)))
+      ∙ ap (λ (u : Answers). answer_to u (first + pattern) number) (one_answers c is (evaluated_are c is patterns) are)))
 
-  -- numbers that are together after more rows were together before, and answered alike since
-  together_was : (rows : List (List (List Bool))) (t : ClassTable) → IsSound t → m < length t.class_of → n < length t.class_of
-      → class_at (fold refined_table t rows) m ≡ class_at (fold refined_table t rows) n → (class_at t m ≡ class_at t n) × AreAlike rows m n
-  together_was [] t sound hm hn same = (same, λ p h. absurd (omega (arith, h)))
-  together_was (row ∷ rows) t sound hm hn same =
-      let long = numbers-refined t row in
-      let later = together_was rows (refined_table t row) (sound-refined t row sound) (omega (arith, hm, long)) (omega (arith, hn, long)) same in
-      let now = same_after t row sound m n hm hn (sym (class-refined t row m hm) ∙ (later.0 ∙ class-refined t row n hn)) in
-      (now.0, one_more row rows now.1 later.1)
+-- ---- candidates, some patterns at a time
 
--- ---- one table
+-- The table's numbers, in this order, answer what the classes do. It has the patterns from the first one on.
+pub record AnswerAsClasses (t : ClassTable) (rows : List (List (List Bool))) (table : Answers) (leads : List ℕ) (first : ℕ) : Type 0 where
+  pub are : (pattern : ℕ) → pattern < length table.rows → map (answer_to table pattern) leads ≡ class_answers t (get_or rows (first + pattern) [])
 
--- lists that stand in a relation, which gives one to each, are the same
-zip_once : {A B : Type 0} (R : A → B → Type 0) (none : A) (d : B) → ((a : A) (x y : B) → R a x → R a y → x ≡ y) → (ks : List A) (xs ys : List B) → AllZip R ks xs → AllZip R ks ys → xs ≡ ys
-zip_once R none d one ks xs ys first second =
-    let long = AllZip-long R ks xs first in
-    ext_get_or d xs ys (omega (arith, long, AllZip-long R ks ys second)) (λ k below.
-    let inside : k < length ks = omega (arith, below, long) in
-    one (get_or ks k none) (get_or xs k d) (get_or ys k d) (zip_at R ks xs k none d first inside) (zip_at R ks ys k none d second inside))
+pub as_classes : (t : ClassTable) (rows : List (List (List Bool))) (table : Answers) (leads : List ℕ) (first : ℕ) → length leads ≡ class_count t
+    → ((pattern class : ℕ) → pattern < length table.rows → class < class_count t → answer_to table pattern (get_or leads class 0) ≡ answer_in (get_or rows (first + pattern) []) (representative t class)) → AnswerAsClasses t rows table leads first
+as_classes t rows table leads first many same = record {
+  are = λ pattern h. fill_by_all (λ class. answer_in (get_or rows (first + pattern) []) (representative t class)) (map (answer_to table pattern) leads) (class_count t) [] (length-map leads (answer_to table pattern) ∙ many)
+      (λ class hc. get_or-map (answer_to table pattern) leads class 0 [] (omega (arith, hc, many)) ∙ same pattern class h hc);
+}
 
-module _ (c : Circuit) (is : IsCircuit c) where
-  one_row : (v : List Bool) (row other : List (List Bool)) → IsAnswerRow c v row → IsAnswerRow c v other → row ≡ other
-  one_row v row other first second = zip_once (λ f answer. IsAnswer c f v answer) Free [] (λ f x y. one_answer c is f v x y) (faults c) row other first second
+-- the lowest numbers of the classes are numbers
+pub leads_known : (t : ClassTable) → IsWhole t → (numbers : ℕ) → length t.class_of ≡ numbers → All (λ lead. lead < numbers) (map (representative t) (range_with_len 0 (class_count t)))
+leads_known t whole numbers e class d h =
+    let low : class < class_count t = omega (arith, h, length-map-range_with_len (representative t) 0 (class_count t)) in
+    omega (arith, (representative-member t whole class low).0, e, get_or-map-range_with_len (representative t) 0 (class_count t) class class d low (omega arith))
 
-  module _ (patterns : List (List Bool)) (t : Answers) (are : AreAnswers c patterns t) where
-    -- whatever is true of the answers' rows is true of those of any table of them
-    pub one_answers : (other : Answers) → AreAnswers c patterns other → t ≡ other
-    one_answers other others =
-        let numbers : t.numbers ≡ other.numbers = are.numbers ∙ sym others.numbers in
-        let positions : t.positions ≡ other.positions = are.positions ∙ sym others.positions in
-        let rows : t.rows ≡ other.rows = zip_once (IsAnswerRow c) [] [] one_row patterns t.rows other.rows are.rows others.rows in
-        λ i. record { numbers = numbers i; positions = positions i; rows = rows i }
+-- and answer as their classes do
+pub leads_answer : (t : ClassTable) (table : Answers) (leads : List ℕ) → leads ≡ map (representative t) (range_with_len 0 (class_count t)) → AnswerAsClasses t table.rows table leads 0
+leads_answer t table leads are =
+    as_classes t table.rows table leads 0 (ap length are ∙ length-map-range_with_len (representative t) 0 (class_count t)) (λ pattern class hp hc.
+    let lead : get_or leads class 0 ≡ representative t class = ap (λ (xs : List ℕ). get_or xs class 0) are ∙ get_or-map-range_with_len (representative t) 0 (class_count t) class class 0 hc (omega arith) in
+    let same : pattern ≡ 0 + pattern = omega arith in
+    ap (answer_to table pattern) lead ∙ ap (λ p. answer_in (get_or table.rows p []) (representative t class)) same)
 
-    -- members of a class of these patterns have the same answers
-    pub answer_alike : (classes : ClassTable) → IsTableOf c patterns classes → AnswerAlike classes t
-    answer_alike classes of =
-        let own : IsTableOf c patterns (class_table (fault_count c) t.rows) = record { rows = t.rows; answers = are.rows; table = refl } in
-        let same : classes ≡ class_table (fault_count c) t.rows = one_table c is of own in
-        let long : length (first_table (fault_count c)).class_of ≡ fault_count c = length-replicate {A = ℕ} (fault_count c) 0 in
-        record {
-          numbers = table_numbers of ∙ sym are.numbers;
-          each = λ pattern m n h hm hn together.
-              (together_was m n t.rows (first_table (fault_count c)) (sound-first (fault_count c)) (omega (arith, hm, long, are.numbers)) (omega (arith, hn, long, are.numbers))
-              (subst (λ (u : ClassTable). class_at u m ≡ class_at u n) same together)).1 pattern h;
-        }
+-- a table of the classes' answers has them in order
+pub places_answer : (s : Setting) (first end : ℕ) (table : Answers) (leads : List ℕ) → first ≤ end → AreAnswersOfClasses s first end table → leads ≡ range_with_len 0 (class_count s.classes.now) → (t : Answers) → AreAnswersAt s t → AnswerAsClasses s.classes.now t.rows table leads first
+places_answer s first end table leads le are places t of =
+    let n = class_count s.classes.now in
+    as_classes s.classes.now t.rows table leads first (ap length places ∙ length-range_with_len 0 n) (λ pattern class hp hc.
+    let same : 0 + class ≡ class = omega arith in
+    let place : get_or leads class 0 ≡ class = ap (λ (xs : List ℕ). get_or xs class 0) places ∙ (get_or-range_with_len 0 n class 0 hc ∙ same) in
+    ap (answer_to table pattern) place ∙ are.each t of pattern class (omega (arith, hp, are.sizes.patterns_are, le)) hc)
+
+-- The candidates of the first patterns are numbered, so many.
+pub record AreNumberedTo (t : ClassTable) (rows : List (List (List Bool))) (done : ℕ) (patterns : List Candidates) : Type 0 where
+  pub count : length patterns ≡ done
+  pub each : (pattern : ℕ) (d : Candidates) → pattern < done → AreCandidates t (get_or rows pattern []) (get_or patterns pattern d)
+
+pub numbered_none : (t : ClassTable) (rows : List (List (List Bool))) (patterns : List Candidates) → patterns ≡ [] → AreNumberedTo t rows 0 patterns
+numbered_none t rows patterns none = record { count = ap length none; each = λ pattern d h. absurd (omega (arith, h)) }
+
+pub numbered_more : {t : ClassTable} {rows : List (List (List Bool))} {table : Answers} {leads : List ℕ} {first : ℕ} {old new : List Candidates} (end : ℕ) → first + length table.rows ≡ end → AnswerAsClasses t rows table leads first
+    → AreNumberedTo t rows first old → AreAdded table leads old new → AreNumberedTo t rows end new
+numbered_more {t} {rows} {table} {leads} {first} {old} {new} end sum answers so_far added = record {
+  count = omega (arith, added.count, so_far.count, sum);
+  each = λ pattern d h. elim (cases_lt pattern first) [
+    | inl low ↦ subst (AreCandidates t (get_or rows pattern [])) (sym (added.before pattern d (omega (arith, low, so_far.count)))) (so_far.each pattern d low)
+    | inr over ↦
+        let at = pattern - first in
+        let here : at < length table.rows = omega (arith, h, over, sum) in
+        let place : length old + at ≡ pattern = omega (arith, over, so_far.count) in
+        let row : first + at ≡ pattern = omega (arith, over) in
+        candidates_of_numbers t (get_or rows pattern []) (get_or new pattern d)
+        (subst (λ k. AreNumbersOf (class_answers t (get_or rows k [])) (get_or new pattern d)) row
+        (subst (λ k. AreNumbersOf (class_answers t (get_or rows (first + at) [])) (get_or new k d)) place
+        (subst (λ (answers : List (List Bool)). AreNumbersOf answers (get_or new (length old + at) d)) (answers.are at here) (added.added at d here))))
+  ];
+}
+
+pub numbered_all : {t : ClassTable} {rows : List (List (List Bool))} {done : ℕ} {patterns : List Candidates} → AreNumberedTo t rows done patterns → done ≡ length rows → AreNumbered t rows patterns
+numbered_all so_far all = record { count = so_far.count ∙ all; each = λ pattern d h. so_far.each pattern d (omega (arith, h, all)) }
+
+-- ---- what is chosen among them
+
+module _ (t : ClassTable) (rows : List (List (List Bool))) (patterns : List Candidates) (chosen : List ℕ) (numbered : AreNumbered t rows patterns) (long : length chosen ≡ length rows) (are_chosen : AreChosen t rows chosen) where
+  pub have_classes : HaveClasses (class_count t) patterns chosen
+  have_classes = record {
+    count = numbered.count ∙ sym long;
+    each = λ pattern d h.
+        let are = numbered.each pattern d (omega (arith, h, long)) in
+        record { one_each = are.one_each; some = some_class t (get_or rows pattern []) (get_or patterns pattern d) (get_or chosen pattern 0) are (are_chosen pattern h) };
+  }
+
+-- ---- entries
+
+module _ (k : ClassTable) (t : Answers) (patterns : List Candidates) (chosen : List ℕ) (numbered : AreNumbered k t.rows patterns) (long : length chosen ≡ length t.rows) (are_chosen : AreChosen k t.rows chosen)
+    (baselines : AreRows (length t.rows) t.positions (baselines_at k t.rows chosen)) where
+  -- no candidates
+  abbrev none : Candidates
+  none = record { numbers = []; count = 0 }
+
+  -- the entry of a class is that of its lowest number
+  entry_is : (class : ℕ) → class < class_count k → class_entry patterns chosen class ≡ same_diff_entry t.rows (baselines_at k t.rows chosen) (representative k class)
+  entry_is class h =
+      let bases = baselines_at k t.rows chosen in
+      let count = numbered.count ∙ sym long in
+      let wide : length (class_entry patterns chosen class) ≡ length t.rows = length-class_entry patterns chosen count class ∙ long in
+      same_bits_same_list (class_entry patterns chosen class) (same_diff_entry t.rows bases (representative k class)) (wide ∙ sym (length-entry t bases baselines (representative k class))) (λ pattern hp.
+      let here : pattern < length t.rows = omega (arith, hp, wide) in
+      class_entry_at patterns chosen count class pattern none (omega (arith, here, long))
+      ∙ (ap not (base_is k t.rows chosen pattern (get_or patterns pattern none) (omega (arith, here, long)) are_chosen (numbered.each pattern none here) class h)
+      ∙ entry_bit t bases baselines pattern (representative k class) here))
+
+  pub entries_are : IsWhole k → AnswerAlike k t → AreEntriesOfClasses k (map (class_entry patterns chosen) (range_with_len 0 (class_count k))) (same_diff_entry t.rows (baselines_at k t.rows chosen))
+  entries_are whole alike = record {
+    own = λ number h.
+        let class = class_at k number in
+        let known = whole.classes number h in
+        let lead = representative-member k whole class known in
+        let same : answers_of t.rows (representative k class) ≡ answers_of t.rows number =
+        ext_get_or [] (answers_of t.rows (representative k class)) (answers_of t.rows number) (length-map t.rows (λ row. answer_in row (representative k class)) ∙ sym (length-map t.rows (λ row. answer_in row number))) (λ pattern hp.
+        let here : pattern < length t.rows = omega (arith, hp, length-map t.rows (λ row. answer_in row (representative k class))) in
+        get_or-map (λ row. answer_in row (representative k class)) t.rows pattern [] [] here
+        ∙ (alike.each pattern (representative k class) number here (omega (arith, lead.0, alike.numbers)) (omega (arith, h, alike.numbers)) lead.1 ∙ sym (get_or-map (λ row. answer_in row number) t.rows pattern [] [] here))) in
+        get_or-map-range_with_len (class_entry patterns chosen) 0 (class_count k) class class [] known (omega arith)
+        ∙ (entry_is class known ∙ ap (λ (answers : List (List Bool)). differences answers (baselines_at k t.rows chosen)) same);
+  }

@@ -6,7 +6,7 @@ use Rattle.std.specs.List.{range_with_len}
 use Rattle.std.proofs.lemmas.Bool.{cases_Bool, eqb-true, eq-eqb}
 use Rattle.std.proofs.lemmas.List.Sums.{sum_by_push}
 use Rattle.class_refine.proofs.Ranges.{range_more, same_tests}
-use Rattle.samediff_dict.specs.Partition.{pairs_where, tells_apart}
+use Rattle.samediff_dict.specs.Groups.{pairs_where, in_one, tells_apart}
 
 -- the sum of the values at the numbers below a limit
 unfoldable pub sum_to : (ℕ → ℕ) → ℕ → ℕ
@@ -124,35 +124,35 @@ eqb_back : (a b : ℕ) → eqb a b ≡ eqb b a
 eqb_back a b = same_tests (eqb a b) (eqb b a) (λ e. eq-eqb b a (sym (eqb-true a b e))) (λ e. eq-eqb a b (sym (eqb-true b a e)))
 
 module _ (group_of answers : List ℕ) (n : ℕ) where
-  -- how many classes of its group answer otherwise than a class
+  -- how many places of its group answer otherwise than a place
   abbrev pub others_of : ℕ → ℕ
-  others_of class = sum_to (λ other. one_if (eqb (get_or group_of other 0) (get_or group_of class 0) && not (eqb (get_or answers other 0) (get_or answers class 0)))) n
+  others_of place = sum_to (λ other. one_if (eqb (get_or group_of other 0) (get_or group_of place 0) && not (eqb (get_or answers other 0) (get_or answers place 0)))) n
 
   module _ (answer : ℕ) where
     abbrev answers_it : ℕ → Bool
-    answers_it class = eqb (get_or answers class 0) answer
+    answers_it place = eqb (get_or answers place 0) answer
 
     abbrev told : ℕ → ℕ → ℕ
-    told class other = one_if (answers_it class && (eqb (get_or group_of other 0) (get_or group_of class 0) && not (answers_it other)))
+    told place other = one_if (answers_it place && (eqb (get_or group_of other 0) (get_or group_of place 0) && not (answers_it other)))
 
-    one_row : (class : ℕ) → cond (answers_it class) (others_of class) 0 ≡ sum_to (told class) n
-    one_row class = elim (cases_Bool (answers_it class)) [
+    one_row : (place : ℕ) → cond (answers_it place) (others_of place) 0 ≡ sum_to (told place) n
+    one_row place = elim (cases_Bool (answers_it place)) [
       | inl so ↦
-          ap (λ b. cond b (others_of class) 0) so
-          ∙ sum_to_where (λ other. one_if (eqb (get_or group_of other 0) (get_or group_of class 0) && not (eqb (get_or answers other 0) (get_or answers class 0)))) (told class) n
-          (λ other h. ap (λ a. one_if (eqb (get_or group_of other 0) (get_or group_of class 0) && not (eqb (get_or answers other 0) a))) (eqb-true (get_or answers class 0) answer so)
-          ∙ sym (ap (λ b. one_if (b && (eqb (get_or group_of other 0) (get_or group_of class 0) && not (answers_it other)))) so))
+          ap (λ b. cond b (others_of place) 0) so
+          ∙ sum_to_where (λ other. one_if (eqb (get_or group_of other 0) (get_or group_of place 0) && not (eqb (get_or answers other 0) (get_or answers place 0)))) (told place) n
+          (λ other h. ap (λ a. one_if (eqb (get_or group_of other 0) (get_or group_of place 0) && not (eqb (get_or answers other 0) a))) (eqb-true (get_or answers place 0) answer so)
+          ∙ sym (ap (λ b. one_if (b && (eqb (get_or group_of other 0) (get_or group_of place 0) && not (answers_it other)))) so))
       | inr not_so ↦
-          ap (λ b. cond b (others_of class) 0) not_so
-          ∙ sym (sum_to-zero (told class) n (λ other h. ap (λ b. one_if (b && (eqb (get_or group_of other 0) (get_or group_of class 0) && not (answers_it other)))) not_so))
+          ap (λ b. cond b (others_of place) 0) not_so
+          ∙ sym (sum_to-zero (told place) n (λ other h. ap (λ b. one_if (b && (eqb (get_or group_of other 0) (get_or group_of place 0) && not (answers_it other)))) not_so))
     ]
 
-    -- class by class, those that answer it tell the others of their groups apart
-    pub gain_by_class : sum_to (λ class. cond (answers_it class) (others_of class) 0) n ≡ pairs_to n (tells_apart group_of answers answer)
-    gain_by_class =
-        sum_to_where (λ class. cond (answers_it class) (others_of class) 0) (λ class. sum_to (told class) n) n (λ class h. one_row class)
+    -- place by place, those that answer it tell the others of their groups apart
+    pub gain_by_place : sum_to (λ place. cond (answers_it place) (others_of place) 0) n ≡ pairs_to n (tells_apart (in_one group_of) answers answer)
+    gain_by_place =
+        sum_to_where (λ place. cond (answers_it place) (others_of place) 0) (λ place. sum_to (told place) n) n (λ place h. one_row place)
         ∙ (square_halves told n (λ k. none_itself (answers_it k) (eqb (get_or group_of k 0) (get_or group_of k 0)))
-        ∙ sum_to_where (λ high. sum_to (λ low. told low high + told high low) high) (λ high. sum_to (λ low. one_if (tells_apart group_of answers answer low high)) high) n
-        (λ high h. sum_to_where (λ low. told low high + told high low) (λ low. one_if (tells_apart group_of answers answer low high)) high
+        ∙ sum_to_where (λ high. sum_to (λ low. told low high + told high low) high) (λ high. sum_to (λ low. one_if (tells_apart (in_one group_of) answers answer low high)) high) n
+        (λ high h. sum_to_where (λ low. told low high + told high low) (λ low. one_if (tells_apart (in_one group_of) answers answer low high)) high
         (λ low l. ap (λ g. one_if (answers_it low && (g && not (answers_it high))) + told high low) (eqb_back (get_or group_of high 0) (get_or group_of low 0))
         ∙ halves (answers_it low) (answers_it high) (eqb (get_or group_of low 0) (get_or group_of high 0)))))

@@ -4,34 +4,27 @@ use Rattle.std.proofs.lemmas.Bool.{cases_lt, cases_order}
 use Rattle.std.proofs.lemmas.List.{length-set, length_push, length-take-le, get_or-take, get_or_append_left, get_or_push, get_or-set_same, get_or-set_other}
 use Rattle.net_model.specs.ClassTable.{ClassTable, class_count, representative, same_bits}
 use Rattle.table_dicts.specs.AnswerTable.{answer_in}
-use Rattle.table_dicts.specs.declared.grouping.Grouped.{Grouped}
-use Rattle.samediff_dict.specs.Chosen.{candidates, pairs_apart}
-use Rattle.samediff_dict.specs.Partition.{IsPartition, InBoth, InBothAt, pairs_between, gain_at}
-use Rattle.samediff_dict.specs.Numbered.{AreCandidates}
-use Rattle.samediff_dict.proofs.CandidateLemmas.{code_is}
+use Rattle.samediff_dict.specs.declared.partition.Partition.{Partition}
+use Rattle.samediff_dict.specs.Chosen.{pairs_apart}
+use Rattle.samediff_dict.specs.Groups.{gain_at}
+use Rattle.samediff_dict.specs.Partition.{are_together, together_in_both, TogetherAt, IsPartition, pairs_between}
 use Rattle.samediff_dict.specs.Numbered.{answers_base, AlikeFrom}
-use Rattle.samediff_dict.proofs.ToldLemmas.{apart_by_gain}
+use Rattle.samediff_dict.proofs.ToldLemmas.{together_decides, both_decide, apart_by_gain}
 
 -- ---- partitions of what is together by partitions of the parts
 
-pub partition_where : {n count : ℕ} {group_of : List ℕ} (before after : ℕ → ℕ → Type 0) → IsPartition n before group_of count
-    → ((low high : ℕ) → low < n → high < n → after low high → before low high) → ((low high : ℕ) → low < n → high < n → before low high → after low high) → IsPartition n after group_of count
+pub partition_where : {n : ℕ} {p : Partition} (before after : ℕ → ℕ → Type 0) → IsPartition n before p → ((low high : ℕ) → low < n → high < n → after low high → before low high)
+    → ((low high : ℕ) → low < n → high < n → before low high → after low high) → IsPartition n after p
 partition_where before after is into out = record {
-  one_each = is.one_each;
-  within = is.within;
+  listed = is.listed;
   same = λ low high hl hh a. is.same low high hl hh (into low high hl hh a);
   together_are = λ low high hl hh e. out low high hl hh (is.together_are low high hl hh e);
 }
 
-pub meet_is : {n m count other all : ℕ} {group_of numbers both : List ℕ} (first second : ℕ → ℕ → Type 0) → IsPartition n first group_of count → IsPartition n second numbers other → IsPartition m (InBoth group_of numbers) both all → m ≡ n
-    → IsPartition n (λ low high. first low high × second low high) both all
-meet_is {n} {m} {count} {other} {all} {group_of} {numbers} {both} first second one two is e = partition_where (InBoth group_of numbers) (λ low high. first low high × second low high) (subst (λ k. IsPartition k (InBoth group_of numbers) both all) e is)
-    (λ low high hl hh a. (one.same low high hl hh a.0, two.same low high hl hh a.1)) (λ low high hl hh a. (one.together_are low high hl hh a.0, two.together_are low high hl hh a.1))
-
-pub cut_is : {n m count all : ℕ} {group_of cut : List ℕ} (answers : List ℕ) (before after : ℕ → ℕ → Type 0) (answer : ℕ) (here : ℕ → Bool) → IsPartition n before group_of count → IsPartition m (InBothAt group_of answers answer) cut all → m ≡ n
+pub cut_is : {n m : ℕ} {p cut : Partition} (answers : List ℕ) (before after : ℕ → ℕ → Type 0) (answer : ℕ) (here : ℕ → Bool) → IsPartition n before p → IsPartition m (TogetherAt p answers answer) cut → m ≡ n
     → ((class : ℕ) → class < n → eqb (get_or answers class 0) answer ≡ here class)
-    → ((low high : ℕ) → after low high → before low high × (here low ≡ here high)) → ((low high : ℕ) → before low high × (here low ≡ here high) → after low high) → IsPartition n after cut all
-cut_is {n} {m} {count} {all} {group_of} {cut} answers before after answer here one is e same into out = partition_where (InBothAt group_of answers answer) after (subst (λ k. IsPartition k (InBothAt group_of answers answer) cut all) e is)
+    → ((low high : ℕ) → after low high → before low high × (here low ≡ here high)) → ((low high : ℕ) → before low high × (here low ≡ here high) → after low high) → IsPartition n after cut
+cut_is {n} {m} {p} {cut} answers before after answer here one is e same into out = partition_where (TogetherAt p answers answer) after (subst (λ k. IsPartition k (TogetherAt p answers answer) cut) e is)
     (λ low high hl hh a. let w = into low high a in (one.same low high hl hh w.0, same low hl ∙ (w.1 ∙ sym (same high hh))))
     (λ low high hl hh a. out low high (one.together_are low high hl hh a.0, sym (same low hl) ∙ (a.1 ∙ same high hh)))
 
@@ -69,21 +62,20 @@ module _ (t : ClassTable) (rows : List (List (List Bool))) where
 
   -- ---- what a candidate adds
 
-  -- One baseline is replaced: by groups of classes that are alike in the others.
-  pub replaced_apart : (baselines : List (List Bool)) → length baselines ≡ length rows → (pattern : ℕ) → pattern < length rows → (group_of : List ℕ) (count : ℕ) (grouped : Grouped) (answer : ℕ)
-      → IsPartition (class_count t) (λ low high. AlikeFrom t rows baselines 0 pattern low high × AlikeFrom t rows baselines (pattern + 1) (length rows) low high) group_of count
-      → AreCandidates t (get_or rows pattern []) grouped → answer < length (candidates t (get_or rows pattern []))
-      → pairs_apart t rows (set baselines pattern (get_or (candidates t (get_or rows pattern [])) answer [])) ≡ pairs_between group_of + gain_at group_of grouped.groups answer
-  replaced_apart baselines long pattern h group_of count grouped answer is are ha =
-      let base = get_or (candidates t (get_or rows pattern [])) answer [] in
+  -- One baseline is replaced: by the classes that are alike in the others, before it and behind it.
+  pub replaced_apart : (baselines : List (List Bool)) → length baselines ≡ length rows → (pattern : ℕ) → pattern < length rows → (before after : Partition) (answers : List ℕ) (answer : ℕ) (base : List Bool)
+      → IsPartition (class_count t) (AlikeFrom t rows baselines 0 pattern) before → IsPartition (class_count t) (AlikeFrom t rows baselines (pattern + 1) (length rows)) after → length answers ≡ class_count t
+      → ((class : ℕ) → class < class_count t → eqb (get_or answers class 0) answer ≡ same_bits (answer_in (get_or rows pattern []) (representative t class)) base)
+      → pairs_apart t rows (set baselines pattern base) ≡ pairs_between (class_count t) (together_in_both before after) + gain_at (together_in_both before after) answers answer
+  replaced_apart baselines long pattern h before after answers answer base is_before is_after many codes =
       let other = set baselines pattern base in
       let beside : (q class : ℕ) → (q ≡ pattern → ⊥) → answers_base t rows other q class ≡ answers_base t rows baselines q class = λ q class ne.
       ap (same_bits (answer_in (get_or rows q []) (representative t class))) (get_or-set_other baselines pattern q base [] ne) in
       let here : (class : ℕ) → answers_base t rows other pattern class ≡ same_bits (answer_in (get_or rows pattern []) (representative t class)) base = λ class.
       ap (same_bits (answer_in (get_or rows pattern []) (representative t class))) (get_or-set_same baselines pattern base [] (omega (arith, h, long))) in
-      apart_by_gain t rows other (length-set baselines pattern base ∙ long) group_of count (λ low high. AlikeFrom t rows baselines 0 pattern low high × AlikeFrom t rows baselines (pattern + 1) (length rows) low high)
-      grouped.groups answer pattern is
-      (λ class hc. code_is t (get_or rows pattern []) grouped are class answer hc ha ∙ sym (here class))
+      apart_by_gain t rows other (length-set baselines pattern base ∙ long) (together_in_both before after) (λ low high. AlikeFrom t rows baselines 0 pattern low high × AlikeFrom t rows baselines (pattern + 1) (length rows) low high)
+      answers answer pattern (λ low high hl hh. both_decide is_before is_after low high hl hh) many
+      (λ class hc. codes class hc ∙ sym (here class))
       (λ low high hl hh a. (
         (
           λ q from below. sym (beside q low (λ e. omega (arith, e, below))) ∙ (a q from (omega (arith, below, h)) ∙ beside q high (λ e. omega (arith, e, below))),
@@ -99,13 +91,12 @@ module _ (t : ClassTable) (rows : List (List (List Bool))) where
         ]
       ])
 
-  -- One baseline is added: by groups of classes that are alike in those so far.
-  pub added_apart : (baselines : List (List Bool)) (pattern : ℕ) → length baselines ≡ pattern → pattern < length rows → (group_of : List ℕ) (count : ℕ) (grouped : Grouped) (answer : ℕ)
-      → IsPartition (class_count t) (AlikeFrom t rows baselines 0 pattern) group_of count
-      → AreCandidates t (get_or rows pattern []) grouped → answer < length (candidates t (get_or rows pattern []))
-      → pairs_apart t (take (pattern + 1) rows) (baselines ++ get_or (candidates t (get_or rows pattern [])) answer [] ∷ []) ≡ pairs_between group_of + gain_at group_of grouped.groups answer
-  added_apart baselines pattern long h group_of count grouped answer is are ha =
-      let base = get_or (candidates t (get_or rows pattern [])) answer [] in
+  -- One baseline is added: by the classes that are alike in those so far.
+  pub added_apart : (baselines : List (List Bool)) (pattern : ℕ) → length baselines ≡ pattern → pattern < length rows → (p : Partition) (answers : List ℕ) (answer : ℕ) (base : List Bool)
+      → IsPartition (class_count t) (AlikeFrom t rows baselines 0 pattern) p → length answers ≡ class_count t
+      → ((class : ℕ) → class < class_count t → eqb (get_or answers class 0) answer ≡ same_bits (answer_in (get_or rows pattern []) (representative t class)) base)
+      → pairs_apart t (take (pattern + 1) rows) (baselines ++ base ∷ []) ≡ pairs_between (class_count t) (are_together p) + gain_at (are_together p) answers answer
+  added_apart baselines pattern long h p answers answer base is many codes =
       let other = baselines ++ base ∷ [] in
       let rows' = take (pattern + 1) rows in
       let few : length rows' ≡ pattern + 1 = length-take-le (pattern + 1) rows (omega (arith, h)) in
@@ -113,9 +104,9 @@ module _ (t : ClassTable) (rows : List (List (List Bool))) where
       same_bits (answer_in (get_or-take (pattern + 1) rows q [] (let l' : q < pattern + 1 = omega (arith, l) in l') i) (representative t class)) (get_or_append_left baselines (base ∷ []) [] q (let l' : q < length baselines = omega (arith, l, long) in l') i) in
       let here : (class : ℕ) → answers_base t rows' other pattern class ≡ same_bits (answer_in (get_or rows pattern []) (representative t class)) base = λ class. λ i.
       same_bits (answer_in (get_or-take (pattern + 1) rows pattern [] (let l' : pattern < pattern + 1 = omega arith in l') i) (representative t class)) (get_or_push baselines base [] pattern long i) in
-      apart_by_gain t rows' other (omega (arith, length_push baselines base, long, few)) group_of count (AlikeFrom t rows baselines 0 pattern)
-      grouped.groups answer pattern is
-      (λ class hc. code_is t (get_or rows pattern []) grouped are class answer hc ha ∙ sym (here class))
+      apart_by_gain t rows' other (omega (arith, length_push baselines base, long, few)) (are_together p) (AlikeFrom t rows baselines 0 pattern)
+      answers answer pattern (λ low high hl hh. together_decides is low high hl hh) many
+      (λ class hc. codes class hc ∙ sym (here class))
       (λ low high hl hh a. (
         λ q from below. sym (beside q low below) ∙ (a q from (omega (arith, below, few)) ∙ beside q high below),
         a pattern (omega arith) (omega (arith, few)),

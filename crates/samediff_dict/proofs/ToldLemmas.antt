@@ -13,7 +13,9 @@ use Rattle.table_dicts.specs.Apart.{has_apart}
 use Rattle.table_dicts.proofs.EntryLemmas.{same_bits-Decides}
 use Rattle.samediff_dict.specs.Chosen.{pairs_apart}
 use Rattle.samediff_dict.specs.Numbered.{answers_base, AlikeFrom}
-use Rattle.samediff_dict.specs.Partition.{IsPartition, pairs_where, pairs_between, gain_at, tells_apart}
+use Rattle.samediff_dict.specs.declared.partition.Partition.{Partition}
+use Rattle.samediff_dict.specs.Groups.{gain_at, pairs_where, tells_apart}
+use Rattle.samediff_dict.specs.Partition.{group_in, are_together, together_in_both, IsPartition, pairs_between}
 use Rattle.samediff_dict.proofs.PairLemmas.{one_if, pairs_to, pairs_are, pairs_same, pairs_both}
 use Rattle.samediff_dict.proofs.ImproveLemmas.{pairs_apart_are}
 
@@ -54,6 +56,20 @@ part true true = refl
 part true false = refl
 part false b = refl
 
+pub together_decides : {n : ℕ} {together : ℕ → ℕ → Type 0} {p : Partition} → IsPartition n together p → (low high : ℕ) → low < n → high < n → Decides (are_together p low high) (together low high)
+together_decides {n} {together} {p} is low high hl hh = (
+  λ so. is.together_are low high hl hh (eqb-true (group_in p low) (group_in p high) so),
+  λ alike. eq-eqb (group_in p low) (group_in p high) (is.same low high hl hh alike),
+)
+
+pub both_decide : {n : ℕ} {first second : ℕ → ℕ → Type 0} {p q : Partition} → IsPartition n first p → IsPartition n second q → (low high : ℕ) → low < n → high < n → Decides (together_in_both p q low high) (first low high × second low high)
+both_decide {n} {first} {second} {p} {q} one other low high hl hh =
+    let here = together_decides one low high hl hh in
+    let there = together_decides other low high hl hh in (
+      λ so. let both = and_parts (are_together p low high) (are_together q low high) so in (here.0 both.0, there.0 both.1),
+      λ alike. and_from (are_together p low high) (are_together q low high) (here.1 alike.0) (there.1 alike.1),
+    )
+
 module _ (t : ClassTable) (rows : List (List (List Bool))) (baselines : List (List Bool)) (long : length baselines ≡ length rows) where
   entry_bit : (class pattern : ℕ) → pattern < length rows → bit_at (same_diff_entry rows baselines (representative t class)) pattern ≡ not (answers_base t rows baselines pattern class)
   entry_bit class pattern h =
@@ -86,38 +102,36 @@ module _ (t : ClassTable) (rows : List (List (List Bool))) (baselines : List (Li
       (λ low high l h. ap not (same_from_decides (same_bits (same_diff_entry rows baselines (representative t low)) (same_diff_entry rows baselines (representative t high))) (same low high)
       (same_entries low high) (decides low high (omega (arith, l, h)) h)))
 
-  -- by groups of classes that are alike in all baselines
-  pub apart_by_groups : (group_of : List ℕ) (count : ℕ) → IsPartition (class_count t) (AlikeFrom t rows baselines 0 (length rows)) group_of count → pairs_apart t rows baselines ≡ pairs_between group_of
+  -- by a test of what is alike in all baselines
+  apart_between : (same : ℕ → ℕ → Bool) → ((low high : ℕ) → low < class_count t → high < class_count t → Decides (same low high) (AlikeFrom t rows baselines 0 (length rows) low high))
+      → pairs_apart t rows baselines ≡ pairs_between (class_count t) same
   unfolding pairs_between
-  apart_by_groups group_of count is =
-      let same : ℕ → ℕ → Bool = λ low high. eqb (get_or group_of low 0) (get_or group_of high 0) in
-      apart_by same (λ low high hl hh. (
-        λ so. is.together_are low high hl hh (eqb-true (get_or group_of low 0) (get_or group_of high 0) so),
-        λ alike. eq-eqb (get_or group_of low 0) (get_or group_of high 0) (is.same low high hl hh alike),
-      ))
-      ∙ (sym (pairs_are (class_count t) (λ low high. not (same low high))) ∙ ap (λ n. pairs_where n (λ low high. not (same low high))) (sym is.one_each))
+  apart_between same decides = apart_by same decides ∙ sym (pairs_are (class_count t) (λ low high. not (same low high)))
 
-  -- by groups of classes that are alike in all other baselines, and which classes answer that of one pattern
-  pub apart_by_gain : (group_of : List ℕ) (count : ℕ) (others : ℕ → ℕ → Type 0) (answers : List ℕ) (answer pattern : ℕ) → IsPartition (class_count t) others group_of count
+  -- by groups of classes that are alike in all baselines
+  pub apart_by_groups : (p : Partition) → IsPartition (class_count t) (AlikeFrom t rows baselines 0 (length rows)) p → pairs_apart t rows baselines ≡ pairs_between (class_count t) (are_together p)
+  apart_by_groups p is = apart_between (are_together p) (λ low high hl hh. together_decides is low high hl hh)
+
+  -- by a test of what is alike in all other baselines, and which classes answer that of one pattern
+  pub apart_by_gain : (together : ℕ → ℕ → Bool) (others : ℕ → ℕ → Type 0) (answers : List ℕ) (answer pattern : ℕ)
+      → ((low high : ℕ) → low < class_count t → high < class_count t → Decides (together low high) (others low high)) → length answers ≡ class_count t
       → ((class : ℕ) → class < class_count t → eqb (get_or answers class 0) answer ≡ answers_base t rows baselines pattern class)
       → ((low high : ℕ) → low < class_count t → high < class_count t → AlikeFrom t rows baselines 0 (length rows) low high → others low high × (answers_base t rows baselines pattern low ≡ answers_base t rows baselines pattern high))
       → ((low high : ℕ) → low < class_count t → high < class_count t → others low high × (answers_base t rows baselines pattern low ≡ answers_base t rows baselines pattern high) → AlikeFrom t rows baselines 0 (length rows) low high)
-      → pairs_apart t rows baselines ≡ pairs_between group_of + gain_at group_of answers answer
+      → pairs_apart t rows baselines ≡ pairs_between (class_count t) together + gain_at together answers answer
   unfolding pairs_between gain_at
-  apart_by_gain group_of count others answers answer pattern is here into out =
+  apart_by_gain together others answers answer pattern decides many here into out =
       let n = class_count t in
-      let group : ℕ → ℕ = λ class. get_or group_of class 0 in
       let it : ℕ → Bool = λ class. eqb (get_or answers class 0) answer in
-      let grouped : ℕ → ℕ → Bool = λ low high. eqb (group low) (group high) in
-      let same : ℕ → ℕ → Bool = λ low high. grouped low high && beq (it low) (it high) in
+      let same : ℕ → ℕ → Bool = λ low high. together low high && beq (it low) (it high) in
       apart_by same (λ low high hl hh. (
         λ so.
-            let both = and_parts (grouped low high) (beq (it low) (it high)) so in
-            out low high hl hh (is.together_are low high hl hh (eqb-true (group low) (group high) both.0), sym (here low hl) ∙ (same_beq (it low) (it high) both.1 ∙ here high hh)),
+            let both = and_parts (together low high) (beq (it low) (it high)) so in
+            out low high hl hh ((decides low high hl hh).0 both.0, sym (here low hl) ∙ (same_beq (it low) (it high) both.1 ∙ here high hh)),
         λ alike.
             let both = into low high hl hh alike in
-            and_from (grouped low high) (beq (it low) (it high)) (eq-eqb (group low) (group high) (is.same low high hl hh both.0)) (beq_same (it low) (it high) (here low hl ∙ (both.1 ∙ sym (here high hh)))),
+            and_from (together low high) (beq (it low) (it high)) ((decides low high hl hh).1 both.0) (beq_same (it low) (it high) (here low hl ∙ (both.1 ∙ sym (here high hh)))),
       ))
-      ∙ (sym (pairs_both n (λ low high. not (grouped low high)) (tells_apart group_of answers answer) (λ low high. not (same low high)) (λ low high l h. part (grouped low high) (beq (it low) (it high))))
-      ∙ (λ i. sym (pairs_are n (λ low high. not (grouped low high))) i + sym (pairs_are n (tells_apart group_of answers answer)) i)
-      ∙ ap (λ m. pairs_where m (λ low high. not (grouped low high)) + pairs_where m (tells_apart group_of answers answer)) (sym is.one_each))
+      ∙ (sym (pairs_both n (λ low high. not (together low high)) (tells_apart together answers answer) (λ low high. not (same low high)) (λ low high l h. part (together low high) (beq (it low) (it high))))
+      ∙ ((λ i. sym (pairs_are n (λ low high. not (together low high))) i + sym (pairs_are n (tells_apart together answers answer)) i)
+      ∙ ap (λ m. pairs_where n (λ low high. not (together low high)) + pairs_where m (tells_apart together answers answer)) (sym many)))

@@ -1,5 +1,9 @@
 pub mod Chosen
+pub mod Groups
+pub mod Cells
 pub mod Partition
 pub mod Numbered
 pub mod Choice
+pub mod Copied
+pub mod Setting
 pub mod Laws

@@ -1,12 +1,12 @@
 -- The answers of the classes by their numbers among the candidates.
-use Rattle.std.specs.Prelude.{◌≡◌, ℕ, ◌<◌, ◌≤◌, Bool, List, [], map, length, slice_index, slice_index_or}
+use Rattle.std.specs.Prelude.{◌≡◌, ℕ, ◌+◌, ◌<◌, ◌≤◌, Bool, List, [], map, length, slice_index, slice_index_or}
 use Rattle.std.specs.List.{range_with_len}
 use Rattle.net_model.specs.ClassTable.{ClassTable, class_count, class_at, representative, same_bits}
 use Rattle.table_dicts.specs.AnswerTable.{Answers, answer_in, answer_to}
 use Rattle.net_model.specs.Rows.{row_at}
 use Rattle.table_dicts.specs.Grouped.{AreDifferent}
-use Rattle.table_dicts.specs.declared.grouping.Grouped.{Grouped}
-use Rattle.samediff_dict.specs.Chosen.{candidates}
+use Rattle.samediff_dict.specs.declared.numbering.Candidates.{Candidates}
+use Rattle.samediff_dict.specs.Chosen.{candidates, distinct_answers}
 
 -- Members of one class have the same answers.
 pub record AnswerAlike (t : ClassTable) (table : Answers) : Type 0 where
@@ -17,18 +17,32 @@ pub record AnswerAlike (t : ClassTable) (table : Answers) : Type 0 where
 abbrev pub class_answers : ClassTable → List (List Bool) → List (List Bool)
 class_answers t row = map (λ class. answer_in row (representative t class)) (range_with_len 0 (class_count t))
 
--- The entries are the candidates of a pattern, and the groups say which of them each class answers.
-pub record AreCandidates (t : ClassTable) (row : List (List Bool)) (grouped : Grouped) : Type 0 where
-  pub answers : grouped.entries ≡ candidates t row
+-- There is a number for each answer, which says which of the distinct answers it is.
+pub record AreNumbersOf (answers : List (List Bool)) (c : Candidates) : Type 0 where
+  pub count_is : c.count ≡ length (distinct_answers answers)
+  pub different : AreDifferent (distinct_answers answers)
+  pub one_each : length c.numbers ≡ length answers
+  pub within : (place : ℕ) → place < length answers → slice_index c.numbers place < length (distinct_answers answers)
+  pub own : (place : ℕ) → place < length answers → row_at (distinct_answers answers) (slice_index c.numbers place) ≡ row_at answers place
+
+-- Behind the old ones there are those of each pattern of a table, by the answers of these numbers.
+pub record AreAdded (t : Answers) (leads : List ℕ) (old new : List Candidates) : Type 0 where
+  pub count : length new ≡ length old + length t.rows
+  pub before : (k : ℕ) (d : Candidates) → k < length old → slice_index_or new k d ≡ slice_index_or old k d
+  pub added : (pattern : ℕ) (d : Candidates) → pattern < length t.rows → AreNumbersOf (map (answer_to t pattern) leads) (slice_index_or new (length old + pattern) d)
+
+-- So many are the candidates of a pattern, and the numbers say which of them each class answers.
+pub record AreCandidates (t : ClassTable) (row : List (List Bool)) (c : Candidates) : Type 0 where
+  pub count_is : c.count ≡ length (candidates t row)
   pub different : AreDifferent (candidates t row)
-  pub one_each : length grouped.groups ≡ class_count t
-  pub within : (class : ℕ) → class < class_count t → slice_index grouped.groups class < length (candidates t row)
-  pub own : (class : ℕ) → class < class_count t → row_at (candidates t row) (slice_index grouped.groups class) ≡ answer_in row (representative t class)
+  pub one_each : length c.numbers ≡ class_count t
+  pub within : (class : ℕ) → class < class_count t → slice_index c.numbers class < length (candidates t row)
+  pub own : (class : ℕ) → class < class_count t → row_at (candidates t row) (slice_index c.numbers class) ≡ answer_in row (representative t class)
 
 -- There are candidates for each pattern.
-pub record AreNumbered (t : ClassTable) (rows : List (List (List Bool))) (patterns : List Grouped) : Type 0 where
+pub record AreNumbered (t : ClassTable) (rows : List (List (List Bool))) (patterns : List Candidates) : Type 0 where
   pub count : length patterns ≡ length rows
-  pub each : (pattern : ℕ) (d : Grouped) → pattern < length rows → AreCandidates t (slice_index_or rows pattern []) (slice_index_or patterns pattern d)
+  pub each : (pattern : ℕ) (d : Candidates) → pattern < length rows → AreCandidates t (slice_index_or rows pattern []) (slice_index_or patterns pattern d)
 
 -- the baselines with these numbers among the candidates
 abbrev pub baselines_at : ClassTable → List (List (List Bool)) → List ℕ → List (List Bool)

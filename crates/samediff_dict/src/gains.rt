@@ -1,13 +1,15 @@
 //! How many pairs of classes each candidate tells apart.
 
 ghost use Rattle.std.specs.Prelude.{◌≡◌, ◌<◌, ◌^◌, length, IfOk, MatchOption, slice_index};
-ghost use Rattle.samediff_dict.specs.Partition.{AreWithin, AreGains, gain_at, IsFirstMost, IsFirstAbove, NoneAbove};
+ghost use Rattle.samediff_dict.specs.Groups.{AreWithin, AreGains, gain_at, in_one, IsFirstMost, IsFirstAbove, NoneAbove};
+ghost use Rattle.samediff_dict.specs.Partition.{IsListed, are_together};
 
-use crate::partition::Partition;
+use crate::groups::Groups;
+use crate::partition::{Partition, picked};
 use std::alloc::{AllocError, Global};
 
-impl Partition {
-    // How many pairs of classes of one group each candidate tells apart. The list has the candidate that each class answers.
+impl Groups {
+    // How many pairs of places of one group each candidate tells apart. The list has the candidate that each place answers.
     fn gains(
         &self,
         alloc: Global,
@@ -18,7 +20,7 @@ impl Partition {
         requires few { length answers.now < 2 ^ 32 }
         requires within { AreWithin self.now.group_of.items self.now.count }
         requires known { AreWithin answers.now candidates }
-        ensures { IfOk result (λ gains. AreGains self.now.group_of.items answers.now candidates gains.items) }
+        ensures { IfOk result (λ gains. AreGains (in_one self.now.group_of.items) answers.now candidates gains.items) }
     {
         let cells = self.meet(alloc, answers)?;
         let all = self.tally(alloc)?;
@@ -28,28 +30,28 @@ impl Partition {
         let sizes = all.sizes.as_slice();
         let part_sizes = alike.sizes.as_slice();
         let mut gains = vec![in alloc; 0u64; candidates]?;
-        for class in 0..answers.len() {
-            let size = size_of(groups, sizes, class);
-            let part = size_of(parts, part_sizes, class);
-            gains[answers[class] as usize] += u64::from(size - part);
+        for place in 0..answers.len() {
+            let size = size_of(groups, sizes, place);
+            let part = size_of(parts, part_sizes, place);
+            gains[answers[place] as usize] += u64::from(size - part);
         }
         Ok(gains)
     }
+}
 
+impl Partition {
     /// The first candidate that tells most pairs apart.
     pub(crate) fn first_most(
         &self,
         alloc: Global,
         answers: &[u32],
-        candidates: usize,
+        candidates: u32,
     ) -> Result<u32, AllocError>
-        requires long { length answers.now ≡ length self.now.group_of.items }
+        requires listed { IsListed (length answers.now) self.now }
         requires few { length answers.now < 2 ^ 32 }
-        requires within { AreWithin self.now.group_of.items self.now.count }
         requires known { AreWithin answers.now candidates }
         requires some { 0 < candidates }
-        requires not_many { candidates < 2 ^ 32 }
-        ensures { IfOk result (IsFirstMost (gain_at self.now.group_of.items answers.now) candidates) }
+        ensures { IfOk result (IsFirstMost (gain_at (are_together self.now) answers.now) candidates) }
     {
         let gains = self.gains(alloc, answers, candidates)?;
         Ok(place_of_most(gains.as_slice()) as u32)
@@ -60,32 +62,45 @@ impl Partition {
         &self,
         alloc: Global,
         answers: &[u32],
-        candidates: usize,
+        candidates: u32,
         current: u32,
     ) -> Result<Option<u32>, AllocError>
-        requires long { length answers.now ≡ length self.now.group_of.items }
+        requires listed { IsListed (length answers.now) self.now }
         requires few { length answers.now < 2 ^ 32 }
-        requires within { AreWithin self.now.group_of.items self.now.count }
         requires known { AreWithin answers.now candidates }
         requires current { current < candidates }
-        requires not_many { candidates < 2 ^ 32 }
-        ensures { IfOk result (λ found. MatchOption found (NoneAbove (gain_at self.now.group_of.items answers.now) candidates current) (IsFirstAbove (gain_at self.now.group_of.items answers.now) candidates current)) }
+        ensures { IfOk result (λ found. MatchOption found (NoneAbove (gain_at (are_together self.now) answers.now) candidates current) (IsFirstAbove (gain_at (are_together self.now) answers.now) candidates current)) }
     {
+        if self.classes.is_empty() {
+            return Ok(None);
+        }
         let gains = self.gains(alloc, answers, candidates)?;
         match place_above(gains.as_slice(), current as usize) {
             Some(place) => Ok(Some(place as u32)),
             None => Ok(None),
         }
     }
+
+    // How many pairs of classes that are together each candidate tells apart.
+    fn gains(&self, alloc: Global, answers: &[u32], candidates: u32) -> Result<Vec<u64>, AllocError>
+        requires listed { IsListed (length answers.now) self.now }
+        requires few { length answers.now < 2 ^ 32 }
+        requires known { AreWithin answers.now candidates }
+        ensures { IfOk result (λ gains. AreGains (are_together self.now) answers.now candidates gains.items) }
+    {
+        let own_answers = picked(alloc, answers, self.classes.as_slice())?;
+        self.groups
+            .gains(alloc, own_answers.as_slice(), candidates as usize)
+    }
 }
 
-// The size of the group of a class.
-pub(crate) fn size_of(groups: &[u32], sizes: &[u32], class: usize) -> u32
-    requires class { class < length groups.now }
+// The size of the group of a place.
+pub(crate) fn size_of(groups: &[u32], sizes: &[u32], place: usize) -> u32
+    requires place { place < length groups.now }
     requires within { AreWithin groups.now (length sizes.now) }
-    ensures { result ≡ slice_index sizes.now (slice_index groups.now class) }
+    ensures { result ≡ slice_index sizes.now (slice_index groups.now place) }
 {
-    sizes[groups[class] as usize]
+    sizes[groups[place] as usize]
 }
 
 // The first place of the greatest number.

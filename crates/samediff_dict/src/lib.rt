@@ -2,13 +2,18 @@
 #![tactic(auto)]
 
 mod choosing;
+mod copying;
+mod differing;
 mod gains;
+mod groups;
+mod improving;
 mod laws;
 mod made;
 mod numbering;
 mod partition;
+mod setting;
 mod sharing;
 
-pub use choosing::choose;
+pub use copying::choose;
 pub use laws::{keeps_as_many, no_row_is_better, none_is_left};
 pub use made::same_diff_at;

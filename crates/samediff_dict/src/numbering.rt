@@ -1,75 +1,70 @@
-//! The candidates of each pattern, and which of them each class answers.
+//! The candidates of patterns, and which of them each class answers.
 
-ghost use Rattle.std.specs.Prelude.{◌≡◌, ◌<◌, ◌^◌, [], length, slice_index_or, IfOk};
+ghost use Rattle.std.specs.Prelude.{◌≡◌, ◌<◌, ◌^◌, length, map, All, IfOk, OnOk};
+ghost use Rattle.std.specs.List.{range_with_len};
+ghost use Rattle.net_model.specs.ClassTable.{class_count, representative};
 ghost use Rattle.table_dicts.specs.AnswerTable.{answer_to};
-ghost use Rattle.net_model.specs.Rows.{row_at};
-ghost use Rattle.table_dicts.specs.Rows.{IsBitSet, IsRowSet};
-ghost use Rattle.samediff_dict.specs.Numbered.{class_answers, AreNumbered};
+ghost use Rattle.table_dicts.specs.Rows.{AreRows};
+ghost use Rattle.samediff_dict.specs.Numbered.{AreAdded};
 
 use class_refine::Classes;
 use net_model::AnswerRows;
 use std::alloc::{AllocError, Global};
-use table_dicts::{AnswerTable, Grouped, group_rows};
+use table_dicts::{AnswerTable, Groups, group_rows};
 
-/// The candidates of all patterns.
-pub(crate) fn number_answers(
-    alloc: Global,
-    table: &AnswerTable,
-    classes: &Classes,
-) -> Result<Vec<Grouped>, AllocError>
-    requires { length classes.now.class_of ≡ table.now.numbers }
-    ensures { IfOk result (λ patterns. AreNumbered classes.now table.now.rows patterns.items) }
-{
-    let mut patterns = Vec::with_capacity(alloc, table.patterns() as usize)?;
-    for pattern in 0..table.patterns() {
-        let answers = class_answers(alloc, table, classes, pattern)?;
-        let grouped = group_rows(alloc, &answers)?;
-        patterns.push(grouped)?;
-    }
-    Ok(patterns)
+/// The candidates of a pattern by their numbers: which of them each class answers, and how many there are.
+#[derive(Drop)]
+pub(crate) struct Candidates {
+    pub(crate) numbers: Groups,
+    pub(crate) count: u32,
 }
 
-// What each class answers to a pattern.
-fn class_answers(
+/// Puts the candidates of a table's patterns behind others. For each class there is the number of the table that answers as
+/// it does.
+pub(crate) fn add_candidates(
     alloc: Global,
     table: &AnswerTable,
-    classes: &Classes,
-    pattern: u32,
-) -> Result<AnswerRows, AllocError>
-    requires numbers { length classes.now.class_of ≡ table.now.numbers }
+    leads: &[u32],
+    patterns: &mut Vec<Candidates>,
+) -> Result<(), AllocError>
+    requires known { All (λ lead. lead < table.now.numbers) leads.now }
+    requires few { length leads.now < 2 ^ 32 }
+    ensures { OnOk result (AreAdded table.now leads.now patterns.old.items patterns.new.items) }
+{
+    let mut rows = AnswerRows::zeros(alloc, leads.len(), table.positions() as usize)?;
+    for pattern in 0..table.patterns() {
+        copy_answers(table, leads, pattern, &mut rows);
+        let grouped = group_rows(alloc, &rows)?;
+        let count = grouped.entries.rows() as u32;
+        patterns.push(Candidates {
+            numbers: grouped.groups,
+            count,
+        })?;
+    }
+    Ok(())
+}
+
+// Writes what these numbers answer to a pattern, one behind another.
+fn copy_answers(table: &AnswerTable, leads: &[u32], pattern: u32, rows: &mut AnswerRows)
+    requires known { All (λ lead. lead < table.now.numbers) leads.now }
     requires pattern { pattern < length table.now.rows }
-    ensures rows { IfOk result (λ rows. rows ≡ class_answers classes.now (slice_index_or table.now.rows pattern [])) }
-    ensures few { IfOk result (λ rows. length rows < 2 ^ 32) }
+    requires shape { AreRows (length leads.now) table.now.positions rows.old }
+    ensures rows { rows.new ≡ map (answer_to table.now pattern) leads.now }
+    ensures shape { AreRows (length leads.now) table.now.positions rows.new }
+{
+    for (class, lead) in leads.iter().enumerate() {
+        table.copy_answer(pattern, *lead, rows, class);
+    }
+}
+
+/// The lowest number of each class.
+pub(crate) fn representatives(alloc: Global, classes: &Classes) -> Result<Vec<u32>, AllocError>
+    ensures { IfOk result (λ leads. leads.items ≡ map (representative classes.now) (range_with_len 0 (class_count classes.now))) }
 {
     let count = classes.count();
-    let mut rows = AnswerRows::zeros(alloc, count as usize, table.positions() as usize)?;
+    let mut leads = Vec::with_capacity(alloc, count as usize)?;
     for class in 0..count {
-        let number = classes.representative(class);
-        copy_answer(table, pattern, number, &mut rows, class);
+        leads.push(classes.representative(class))?;
     }
-    Ok(rows)
-}
-
-// Copies the answer of a number to a pattern into a row.
-fn copy_answer(table: &AnswerTable, pattern: u32, number: u32, rows: &mut AnswerRows, row: u32)
-    requires pattern { pattern < length table.now.rows }
-    requires number { number < table.now.numbers }
-    requires row { row < length rows.old }
-    requires width { length (row_at rows.old row) ≡ table.now.positions }
-    ensures { IsRowSet rows.old rows.new row (answer_to table.now pattern number) }
-{
-    for position in 0..table.positions() {
-        let bit = table.get(pattern, number, position);
-        set_bit(rows, row as usize, position as usize, bit);
-    }
-}
-
-// Writes one bit of a row.
-#[inline]
-pub(crate) fn set_bit(rows: &mut AnswerRows, row: usize, at: usize, bit: bool)
-    requires row { row < length rows.old }
-    requires at { at < length (row_at rows.old row) }
-    ensures { IsBitSet rows.old rows.new row at bit }
-{
-    rows.set(row, at, bit);
+    Ok(leads)
 }

@@ -1,74 +1,102 @@
 //! The search for a candidate among the classes that two partitions leave together.
 
-ghost use Rattle.std.specs.Prelude.{◌≡◌, ◌<◌, ◌^◌, ℕ, List, All, length, filter, slice_index, IfOk, MatchOption};
-ghost use Rattle.std.specs.List.{range_with_len};
-ghost use Rattle.samediff_dict.specs.Partition.{AreWithin, InBoth, IsPartition, is_shared, gain_at, IsFirstAbove, NoneAbove};
+ghost use Rattle.std.specs.Prelude.{◌≡◌, ◌<◌, ◌^◌, length, AllPairs, Contains, slice_index, IfOk, MatchOption};
+ghost use Rattle.samediff_dict.specs.Groups.{AreWithin, gain_at, IsFirstAbove, NoneAbove};
+ghost use Rattle.samediff_dict.specs.Partition.{AreMatched, IsListed, together_in_both};
 
-use crate::gains::size_of;
-use crate::partition::Partition;
+use crate::groups::Groups;
+use crate::partition::{Partition, picked};
 use std::alloc::{AllocError, Global};
+
+// Places of two lists, pairwise.
+#[derive(Drop)]
+struct Places {
+    here: Vec<u32>,
+    there: Vec<u32>,
+}
 
 impl Partition {
     /// The first candidate that tells more pairs apart than this one, if one does, of the classes that are together both here and
-    /// in another partition. A class that is alone in the other one is left out from the start.
+    /// in another partition.
     pub(crate) fn first_above_in(
         &self,
         alloc: Global,
         other: &Partition,
         answers: &[u32],
-        candidates: usize,
+        candidates: u32,
         current: u32,
     ) -> Result<Option<u32>, AllocError>
-        requires long { length answers.now ≡ length self.now.group_of.items }
-        requires as_long { length other.now.group_of.items ≡ length self.now.group_of.items }
+        requires listed { IsListed (length answers.now) self.now }
+        requires other_listed { IsListed (length answers.now) other.now }
         requires few { length answers.now < 2 ^ 32 }
-        requires within { AreWithin self.now.group_of.items self.now.count }
-        requires other_within { AreWithin other.now.group_of.items other.now.count }
         requires known { AreWithin answers.now candidates }
         requires current { current < candidates }
-        requires not_many { candidates < 2 ^ 32 }
-        ensures { IfOk result (λ found. (groups : List ℕ) (count : ℕ) → IsPartition (length answers.now) (InBoth self.now.group_of.items other.now.group_of.items) groups count → MatchOption found (NoneAbove (gain_at groups answers.now) candidates current) (IsFirstAbove (gain_at groups answers.now) candidates current)) }
+        ensures { IfOk result (λ found. MatchOption found (NoneAbove (gain_at (together_in_both self.now other.now) answers.now) candidates current) (IsFirstAbove (gain_at (together_in_both self.now other.now) answers.now) candidates current)) }
     {
-        let sharing = other.sharing(alloc)?;
-        let classes = sharing.as_slice();
-        let here = Partition {
-            group_of: picked(alloc, self.group_of.as_slice(), classes)?,
-            count: self.count,
-        };
-        let there = picked(alloc, other.group_of.as_slice(), classes)?;
-        let their_answers = picked(alloc, answers, classes)?;
-        let both = here.meet(alloc, there.as_slice())?;
-        both.first_above(alloc, their_answers.as_slice(), candidates, current)
+        if other.classes.len() < self.classes.len() {
+            return other.first_above_both(alloc, self, answers, candidates, current);
+        }
+        self.first_above_both(alloc, other, answers, candidates, current)
     }
 
-    // The classes that aren't alone in their groups, ascending.
-    fn sharing(&self, alloc: Global) -> Result<Vec<u32>, AllocError>
-        requires few { length self.now.group_of.items < 2 ^ 32 }
-        requires within { AreWithin self.now.group_of.items self.now.count }
-        ensures { IfOk result (λ sharing. sharing.items ≡ filter (is_shared self.now.group_of.items) (range_with_len 0 (length self.now.group_of.items))) }
+    // The same, by a search for each of the classes here.
+    fn first_above_both(
+        &self,
+        alloc: Global,
+        other: &Partition,
+        answers: &[u32],
+        candidates: u32,
+        current: u32,
+    ) -> Result<Option<u32>, AllocError>
+        requires listed { IsListed (length answers.now) self.now }
+        requires other_listed { IsListed (length answers.now) other.now }
+        requires few { length answers.now < 2 ^ 32 }
+        requires known { AreWithin answers.now candidates }
+        requires current { current < candidates }
+        ensures { IfOk result (λ found. MatchOption found (NoneAbove (gain_at (together_in_both self.now other.now) answers.now) candidates current) (IsFirstAbove (gain_at (together_in_both self.now other.now) answers.now) candidates current)) }
     {
-        let tally = self.tally(alloc)?;
-        let groups = self.group_of.as_slice();
-        let sizes = tally.sizes.as_slice();
-        let mut sharing = Vec::new(alloc);
-        for class in 0..groups.len() {
-            if size_of(groups, sizes, class) > 1 {
-                sharing.push(class as u32)?;
-            }
-        }
-        Ok(sharing)
+        let classes = self.classes.as_slice();
+        let places = matching(alloc, classes, other.classes.as_slice())?;
+        let here = places.here.as_slice();
+        let ours = Groups {
+            group_of: picked(alloc, self.groups.group_of.as_slice(), here)?,
+            count: self.groups.count,
+        };
+        let theirs = picked(
+            alloc,
+            other.groups.group_of.as_slice(),
+            places.there.as_slice(),
+        )?;
+        let both = Partition {
+            classes: picked(alloc, classes, here)?,
+            groups: ours.meet(alloc, theirs.as_slice())?,
+        };
+        both.first_above(alloc, answers, candidates, current)
     }
 }
 
-// The numbers of these classes in a list.
-fn picked(alloc: Global, numbers: &[u32], classes: &[u32]) -> Result<Vec<u32>, AllocError>
-    requires { All (λ class. class < length numbers.now) classes.now }
-    ensures long { IfOk result (λ picked. length picked.items ≡ length classes.now) }
-    ensures each { IfOk result (λ picked. (place : ℕ) → place < length classes.now → slice_index picked.items place ≡ slice_index numbers.now (slice_index classes.now place)) }
+// The places of the numbers that stand in both lists.
+fn matching(alloc: Global, numbers: &[u32], others: &[u32]) -> Result<Places, AllocError>
+    requires few { length numbers.now < 2 ^ 32 }
+    requires others_few { length others.now < 2 ^ 32 }
+    requires ascending { AllPairs (λ low high. low < high) others.now }
+    ensures { IfOk result (λ places. AreMatched numbers.now others.now (length numbers.now) places.here.items places.there.items) }
 {
-    let mut picked = Vec::with_capacity(alloc, classes.len())?;
-    for class in classes {
-        picked.push(numbers[*class as usize])?;
+    let mut here = Vec::new(alloc);
+    let mut there = Vec::new(alloc);
+    for place in 0..numbers.len() {
+        if let Some(other) = place_in(others, numbers[place]) {
+            here.push(place as u32)?;
+            there.push(other as u32)?;
+        }
     }
-    Ok(picked)
+    Ok(Places { here, there })
+}
+
+// The place of a number in an ascending list, if it stands there.
+fn place_in(numbers: &[u32], number: u32) -> Option<usize>
+    requires { AllPairs (λ low high. low < high) numbers.now }
+    ensures { MatchOption result (¬ Contains numbers.now number) (λ place. (place < length numbers.now) × (slice_index numbers.now place ≡ number)) }
+{
+    numbers.binary_search(&number).ok()
 }

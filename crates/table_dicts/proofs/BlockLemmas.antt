@@ -28,10 +28,10 @@ use Rattle.table_dicts.specs.Blocks.{IsAnswerBit, IsFailBit, IsKeptBit, IsListed
 
 -- ---- what is written
 
-same_sizes : (t : Answers) → HasSizes t (length t.rows) t.numbers t.positions
+pub same_sizes : (t : Answers) → HasSizes t (length t.rows) t.numbers t.positions
 same_sizes t = record { patterns_are = refl; numbers_are = refl; positions_are = refl }
 
-sizes_later : (old mid new : Answers) → HasSizes mid (length old.rows) old.numbers old.positions → HasSizes new (length mid.rows) mid.numbers mid.positions → HasSizes new (length old.rows) old.numbers old.positions
+pub sizes_later : (old mid new : Answers) → HasSizes mid (length old.rows) old.numbers old.positions → HasSizes new (length mid.rows) mid.numbers mid.positions → HasSizes new (length old.rows) old.numbers old.positions
 sizes_later old mid new one two = record { patterns_are = two.patterns_are ∙ one.patterns_are; numbers_are = two.numbers_are ∙ one.numbers_are; positions_are = two.positions_are ∙ one.positions_are }
 
 pub numbers_none : (right : ℕ → ℕ → ℕ → Bool → Type 0) (count : ℕ) (t : Answers) (first : ℕ) → AreNumbersSet right count t t 0 first

@@ -69,21 +69,20 @@ bit_at_place lanes lane position at h e =
 
 -- ---- a block of a table
 
-module _ (a : Inside) (are : AreCells a) (new : List (List Bool)) (number first count start words : ℕ) (lanes : List (List Bool)) (hn : number < a.numbers) (long : length lanes ≡ a.positions) (at : start ≡ first * a.positions)
-    (enough : count * a.positions ≤ words) (within : first + count ≤ a.patterns) (is : AreBitsSet a.cells new number start words (block_bit lanes)) where
-  pub cells_set : AreCells (record a { cells = new })
+module _ (a : Inside) (are : AreCells a) (new : List (List Bool)) (number first count start words : ℕ) (wanted : ℕ → Bool) (hn : number < a.numbers) (at : start ≡ first * a.positions)
+    (enough : count * a.positions ≤ words) (within : first + count ≤ a.patterns) (is : AreBitsSet a.cells new number start words wanted) where
+  cells_set : AreCells (record a { cells = new })
   cells_set = rows_later is.shape are
 
   -- the place of a lane and a position in the number's row
   place_is : (lane k : ℕ) → (first + lane) * a.positions + k ≡ start + (lane * a.positions + k)
   place_is lane k = omega (arith, at)
 
-  bit_here : (lane k : ℕ) → lane < count → k < a.positions → row_bit new number ((first + lane) * a.positions + k) ≡ bit_at (get_or lanes k []) lane
+  bit_here : (lane k : ℕ) → lane < count → k < a.positions → row_bit new number ((first + lane) * a.positions + k) ≡ wanted (lane * a.positions + k)
   bit_here lane k hl hk =
       let inside : (first + lane) * a.positions + k < a.patterns * a.positions = place_inside (first + lane) a.patterns k a.positions (omega (arith, hl, within)) hk in
       ap (row_bit new number) (place_is lane k)
-      ∙ (is.here (lane * a.positions + k) (omega (arith, place_inside lane count k a.positions hl hk, enough)) (omega (arith, inside, place_is lane k, width_at are number hn))
-      ∙ sym (bit_at_place lanes lane k (lane * a.positions + k) (omega (arith, hk, long)) (ap (λ n. lane * n + k) long)))
+      ∙ is.here (lane * a.positions + k) (omega (arith, place_inside lane count k a.positions hl hk, enough)) (omega (arith, inside, place_is lane k, width_at are number hn))
 
   bit_other : (p n k : ℕ) → k < a.positions → (p < first) ⊎ (n ≢ number) → row_bit new n (p * a.positions + k) ≡ row_bit a.cells n (p * a.positions + k)
   bit_other p n k hk apart = elim (cases_eq n number) [
@@ -96,7 +95,7 @@ module _ (a : Inside) (are : AreCells a) (new : List (List Bool)) (number first 
     ]
   ]
 
-  pub block_set : IsNumberSet (λ lane n k bit. bit ≡ bit_at (get_or lanes k []) lane) count (table_of a) (table_of (record a { cells = new })) number first a.positions
+  pub block_set : IsNumberSet (λ lane n k bit. bit ≡ wanted (lane * a.positions + k)) count (table_of a) (table_of (record a { cells = new })) number first a.positions
   block_set = record {
     sizes = record { patterns_are = patterns_are (record a { cells = new }) cells_set ∙ sym (patterns_are a are); numbers_are = refl; positions_are = refl };
     here = λ lane k hl hk. bit_is (record a { cells = new }) cells_set (first + lane) number k (omega (arith, hl, within)) hn hk ∙ bit_here lane k hl hk;

@@ -1,68 +1,48 @@
--- Pass/fail entries by classes: those of the lowest numbers, in groups, are those of all numbers.
+-- Pass/fail entries by classes: that of a class's lowest number is that of each of its numbers.
 use Rattle.std.proofs.Common.{◌≡◌, ◌∙◌, ℕ, ◌<◌, Bool, List, [], length, get_or, map, sym, ap, arith}
-use Rattle.std.specs.Prelude.{All}
 use Rattle.std.specs.List.{range_with_len}
-use Rattle.std.proofs.lemmas.List.Elements.{Contains-get_or}
+use Rattle.std.specs.Prelude.{All}
 use Rattle.std.proofs.lemmas.List.FromFn.{length-map-range_with_len, get_or-map-range_with_len}
 use Rattle.net_model.specs.Rows.{row_at}
 use Rattle.net_model.specs.Circuit.{Circuit, IsCircuit}
+use Rattle.net_model.specs.ClassTable.{ClassTable, class_count, class_at, representative}
 use Rattle.net_model.specs.FaultList.{fault_count}
-use Rattle.kept_vectors.proofs.KeepLemmas.{some_number}
-use Rattle.table_dicts.specs.Rows.{AreRows}
+use Rattle.net_model.specs.PatternRows.{IsTableOf}
+use Rattle.class_refine.specs.Fields.{IsWhole}
+use Rattle.class_refine.proofs.Refined.{representative-member}
+use Rattle.kept_vectors.proofs.KeepLemmas.{table_numbers}
 use Rattle.table_dicts.specs.AnswerTable.{Answers, IsTable, AreAnswers}
-use Rattle.table_dicts.specs.Entries.{differences, full_entry, free_baselines, pass_fail_entry}
-use Rattle.table_dicts.specs.Grouped.{AreFirstsOf, AreGroupsOf}
 use Rattle.table_dicts.specs.Blocks.{IsListedBit, AreRightTo}
+use Rattle.table_dicts.specs.ByClass.{AreEntriesOfClasses}
+use Rattle.table_dicts.specs.Entries.{differences, full_entry, free_baselines, pass_fail_entry}
 use Rattle.table_dicts.specs.declared.simulating.Kept.TheVariants.{Fails}
-use Rattle.table_dicts.proofs.EntryLemmas.{answers_are, length-entry}
 use Rattle.table_dicts.proofs.FailLemmas.{is_table, fails_are}
-use Rattle.table_dicts.proofs.ClassLemmas.{entries_of, entries_are, entry_at, same_answers}
-use Rattle.table_dicts.proofs.RegroupLemmas.{groups_over}
-
--- the pass/fail entries of all numbers
-abbrev pub fails_of : Answers → List (List Bool)
-fails_of t = map (pass_fail_entry t.rows) (range_with_len 0 t.numbers)
+use Rattle.table_dicts.proofs.ClassLemmas.{entries_of, entry_at, same_answers, entries_of_classes}
 
 module _ (c : Circuit) (is : IsCircuit c) (patterns : List (List Bool)) (t : Answers) (are : AreAnswers c patterns t) where
-  table : IsTable t
-  table = is_table c patterns t are
-
-  pub free_are : AreRows (length t.rows) t.positions (free_baselines t.rows)
-  free_are = answers_are t table 0 (omega (arith, some_number c, are.numbers))
-
-  fail_at : (n : ℕ) → n < t.numbers → row_at (fails_of t) n ≡ pass_fail_entry t.rows n
-  fail_at n h = get_or-map-range_with_len (pass_fail_entry t.rows) 0 t.numbers n n [] h (omega arith)
-
-  pub fail_rows : AreRows t.numbers (length t.rows) (fails_of t)
-  fail_rows = record {
-    count_is = length-map-range_with_len (pass_fail_entry t.rows) 0 t.numbers;
-    width_is = λ k d h.
-        let inside : k < t.numbers = omega (arith, h, length-map-range_with_len (pass_fail_entry t.rows) 0 t.numbers) in
-        ap length (get_or-map-range_with_len (pass_fail_entry t.rows) 0 t.numbers k k d inside (omega arith)) ∙ length-entry t (free_baselines t.rows) free_are k;
-  }
-
   -- numbers with the same answers have the same pass/fail entry
   same_fail : (m n : ℕ) → m < t.numbers → n < t.numbers → row_at (entries_of t) m ≡ row_at (entries_of t) n → pass_fail_entry t.rows m ≡ pass_fail_entry t.rows n
   same_fail m n hm hn same =
       let entries : full_entry t.rows m ≡ full_entry t.rows n = sym (entry_at c is patterns t are m hm) ∙ (same ∙ entry_at c is patterns t are n hn) in
-      ap (λ (answers : List (List Bool)). differences answers (free_baselines t.rows)) (same_answers t table m n hm hn entries)
+      ap (λ (answers : List (List Bool)). differences answers (free_baselines t.rows)) (same_answers t (is_table c patterns t are) m n hm hn entries)
 
-  module _ (groups firsts : List ℕ) (by : AreFirstsOf (entries_of t) (length (entries_of t)) groups firsts) (within : All (λ number. number < fault_count c) firsts) (bits : Answers) (whole : IsTable bits)
-      (right : AreRightTo (IsListedBit Fails c patterns firsts) (length patterns) (length firsts) 1 (length patterns) bits) (cells : List (List Bool)) (cells_are : cells ≡ map (full_entry bits.rows) (range_with_len 0 bits.numbers)) where
-    pub cells_long : length cells ≡ length firsts
-    cells_long = ap length cells_are ∙ (length-map-range_with_len (full_entry bits.rows) 0 bits.numbers ∙ right.sizes.numbers_are)
-
-    cell_is : (n : ℕ) → n < length (entries_of t) → row_at cells (get_or groups n 0) ≡ row_at (fails_of t) n
-    cell_is n h =
-        let many = (entries_are c is patterns t are).count_is in
-        let group = get_or groups n 0 in
-        let first = get_or firsts group 0 in
-        let known : group < length firsts = (by.used group).0 (Contains-get_or groups n 0 (omega (arith, h, by.one_each))) in
-        let inside : n < t.numbers = omega (arith, h, many) in
-        ap (λ (rows : List (List Bool)). row_at rows group) cells_are
-        ∙ (get_or-map-range_with_len (full_entry bits.rows) 0 bits.numbers group group [] (omega (arith, known, right.sizes.numbers_are)) (omega arith)
-        ∙ (fails_are c patterns t are firsts within bits whole right group known
-        ∙ (same_fail first n (omega (arith, within group 0 known, are.numbers)) inside (by.own n h) ∙ sym (fail_at n inside))))
-
-    pub fail_groups : (outer : List ℕ) (entries : List (List Bool)) → AreGroupsOf cells outer entries → AreGroupsOf (fails_of t) (map (λ group. get_or outer group 0) groups) entries
-    fail_groups outer entries grouped = groups_over by grouped cells_long (fail_rows.count_is ∙ sym (entries_are c is patterns t are).count_is) cell_is
+  module _ (classes : ClassTable) (of : IsTableOf c patterns classes) (whole : IsWhole classes) (lowest : List ℕ) (lowest_are : lowest ≡ map (representative classes) (range_with_len 0 (class_count classes)))
+      (within : All (λ number. number < fault_count c) lowest) (bits : Answers) (table : IsTable bits)
+      (right : AreRightTo (IsListedBit Fails c patterns lowest) (length patterns) (length lowest) 1 (length patterns) bits) (cells : List (List Bool)) (cells_are : cells ≡ map (full_entry bits.rows) (range_with_len 0 bits.numbers)) where
+    pub fails_of_classes : AreEntriesOfClasses classes cells (pass_fail_entry t.rows)
+    fails_of_classes = record {
+      own = λ n h.
+          let class = class_at classes n in
+          let inside = whole.classes n h in
+          let low = get_or lowest class 0 in
+          let lead = representative-member classes whole class inside in
+          let first : low ≡ representative classes class =
+          ap (λ (ns : List ℕ). get_or ns class 0) lowest_are ∙ get_or-map-range_with_len (representative classes) 0 (class_count classes) class class 0 inside (omega arith) in
+          let listed : class < length lowest = omega (arith, inside, ap length lowest_are, length-map-range_with_len (representative classes) 0 (class_count classes)) in
+          let numbers = table_numbers of in
+          let together : class_at classes low ≡ class = ap (class_at classes) first ∙ lead.1 in
+          let rows = ((entries_of_classes c is patterns t are classes of).equal low n (omega (arith, first, lead.0)) h).0 together in
+          ap (λ (rows : List (List Bool)). row_at rows class) cells_are
+          ∙ (get_or-map-range_with_len (full_entry bits.rows) 0 bits.numbers class class [] (omega (arith, listed, right.sizes.numbers_are)) (omega arith)
+          ∙ (fails_are c patterns t are lowest within bits table right class listed ∙ same_fail low n (omega (arith, first, lead.0, numbers, are.numbers)) (omega (arith, h, numbers, are.numbers)) rows));
+    }

@@ -1,33 +1,31 @@
 -- Classes of numbers, and the entries of full-response dictionaries: two numbers are of one class exactly where their entries are equal.
-use Rattle.std.proofs.Common.{◌≡◌, ◌∙◌, ◌↔◌, ℕ, zero, suc, ◌*◌, ◌<◌, ◌≤◌, Bool, List, [], ◌∷◌, ◌++◌, length, get_or, map, take, fold, refl, sym, ap, subst, arith}
+use Rattle.std.proofs.Common.{◌≡◌, ◌∙◌, ◌↔◌, ℕ, zero, suc, ◌*◌, ◌<◌, Bool, List, [], ◌∷◌, ◌++◌, length, get_or, map, take, fold, refl, sym, ap, subst, arith}
 use Rattle.std.specs.Prelude.{flat_map, All}
 use Rattle.std.specs.List.{range_with_len}
 use Rattle.std.proofs.Math.Nat.{zero-mul}
 use Rattle.std.proofs.lemmas.List.{ext_get_or, get_or-map, length-map, get_or-replicate, length-replicate, length-append, append_cancel_left}
 use Rattle.std.proofs.Math.Seq.{take-append_seam}
 use Rattle.std.proofs.lemmas.List.Concat.{flat_map-cons}
-use Rattle.std.proofs.lemmas.List.Elements.{All-head, All-tail, Contains-get_or}
+use Rattle.std.proofs.lemmas.List.Elements.{All-head, All-tail}
 use Rattle.std.proofs.lemmas.List.FromFn.{length-map-range_with_len, get_or-map-range_with_len}
 use Rattle.net_model.specs.Circuit.{Circuit, IsCircuit}
 use Rattle.net_model.specs.FaultList.{fault_count}
 use Rattle.net_model.specs.PatternRows.{IsTableOf}
 use Rattle.net_model.specs.ClassTable.{ClassTable, class_at, first_table, refined_table, class_table}
-use Rattle.net_model.proofs.Copies.{same_bits_same_list}
 use Rattle.class_refine.proofs.Pieces.{IsSound}
 use Rattle.class_refine.proofs.Refined.{numbers-refined, class-refined, after_same, same_after, sound-refined, sound-first}
-use Rattle.kept_vectors.proofs.AnswerLemmas.{answer_width, one_table}
+use Rattle.kept_vectors.proofs.AnswerLemmas.{one_table}
 use Rattle.kept_vectors.proofs.KeepLemmas.{table_numbers}
 use Rattle.net_model.specs.Rows.{row_at}
 use Rattle.table_dicts.specs.Rows.{AreRows}
-use Rattle.table_dicts.specs.AnswerTable.{Answers, answer_in, answer_to, IsTable, AreAnswers}
+use Rattle.table_dicts.specs.AnswerTable.{Answers, answer_in, IsTable, AreAnswers}
 use Rattle.table_dicts.specs.Entries.{answers_of, full_entry}
 use Rattle.table_dicts.specs.Blocks.{IsListedBit, AreRightTo}
 use Rattle.table_dicts.specs.declared.simulating.Kept.TheVariants.{Bits}
 use Rattle.table_dicts.specs.ByClass.{AreRowsOfClasses}
 use Rattle.table_dicts.specs.Grouped.{AreFirstsOf}
 use Rattle.table_dicts.proofs.EntryLemmas.{length-answers, answer_at as answer_of_at, answers_are}
-use Rattle.table_dicts.proofs.FailLemmas.{patterns_are, is_table, answer_is}
-use Rattle.table_dicts.proofs.GroupLemmas.{few_firsts}
+use Rattle.table_dicts.proofs.FailLemmas.{is_table, answers_listed}
 
 -- ---- classes and answers
 
@@ -167,22 +165,9 @@ module _ (c : Circuit) (is : IsCircuit c) (patterns : List (List Bool)) (t : Ans
   -- right bits of listed numbers are the entries of these numbers
   module _ (numbers : List ℕ) (inside : All (λ number. number < fault_count c) numbers) (listed : Answers) (whole : IsTable listed)
       (right : AreRightTo (IsListedBit Bits c patterns numbers) (length patterns) (length numbers) (length c.positions) (length patterns) listed) where
-    answer_listed : (p place : ℕ) → p < length patterns → place < length numbers → answer_to listed p place ≡ answer_to t p (get_or numbers place 0)
-    answer_listed p place hp h =
-        let number = get_or numbers place 0 in
-        let of = answer_is c patterns t are p number hp (inside place 0 h) in
-        let long : length (answer_to listed p place) ≡ length c.positions = whole.positions p place (omega (arith, hp, right.sizes.patterns_are)) (omega (arith, h, right.sizes.numbers_are)) ∙ right.sizes.positions_are in
-        same_bits_same_list (answer_to listed p place) (answer_to t p number) (long ∙ sym (answer_width of)) (λ k hk. right.each p place k hp h (omega (arith, hk, long)) (answer_to t p number) of)
-
     pub entry_listed : (place : ℕ) → place < length numbers → full_entry listed.rows place ≡ full_entry t.rows (get_or numbers place 0)
     entry_listed place h =
-        let number = get_or numbers place 0 in
-        let many = patterns_are c patterns t are in
-        entry_of_answers listed.rows place ∙ (ap joined
-        (ext_get_or [] (answers_of listed.rows place) (answers_of t.rows number) (length-answers listed place ∙ (right.sizes.patterns_are ∙ (sym many ∙ sym (length-answers t number)))) (λ p hp.
-        let live : p < length patterns = omega (arith, hp, length-answers listed place, right.sizes.patterns_are) in
-        answer_of_at listed p place (omega (arith, live, right.sizes.patterns_are)) ∙ (answer_listed p place live h ∙ sym (answer_of_at t p number (omega (arith, live, many))))))
-        ∙ sym (entry_of_answers t.rows number))
+        entry_of_answers listed.rows place ∙ (ap joined (answers_listed c patterns t are numbers inside listed whole right place h) ∙ sym (entry_of_answers t.rows (get_or numbers place 0)))
 
     pub cells_listed : (cells : List (List Bool)) → cells ≡ map (full_entry listed.rows) (range_with_len 0 listed.numbers) → cells ≡ map (λ n. row_at (entries_of t) n) numbers
     cells_listed cells is =
@@ -203,22 +188,3 @@ module _ (c : Circuit) (is : IsCircuit c) (patterns : List (List Bool)) (classes
   firsts_by t are =
       let long : numbers ≡ length (entries_of t) = all ∙ (sym are.numbers ∙ sym (entries_are c is patterns t are).count_is) in
       subst (λ n. AreFirstsOf (entries_of t) n groups firsts) long (sorted (entries_of t) (entries_of_classes c is patterns t are classes of))
-
-  -- the answers of which the classes are those
-  abbrev own : Answers
-  own = record { numbers = fault_count c; positions = length c.positions; rows = of.rows }
-
-  own_are : AreAnswers c patterns own
-  own_are = record { numbers = refl; positions = refl; rows = of.answers }
-
-  own_count : length (entries_of own) ≡ fault_count c
-  own_count = (entries_are c is patterns own own_are).count_is
-
-  pub lowest_inside : All (λ number. number < fault_count c) firsts
-  lowest_inside = subst (λ n. All (λ number. number < n) firsts) own_count (firsts_by own own_are).inside
-
-  pub lowest_few : length firsts ≤ numbers
-  lowest_few = omega (arith, few_firsts (firsts_by own own_are), own_count, all)
-
-  pub lowest_known : (n : ℕ) → n < length groups → get_or groups n 0 < length firsts
-  lowest_known n h = ((firsts_by own own_are).used (get_or groups n 0)).0 (Contains-get_or groups n 0 h)

@@ -1,25 +1,22 @@
 -- Entries of dictionaries, bit by bit.
-use Rattle.std.proofs.Common.{◌≡◌, ◌≢◌, ◌∙◌, ℕ, zero, suc, ◌<◌, Bool, true, false, not, List, [], ◌∷◌, length, get_or, map, refl, sym, ap, subst, arith, All}
+use Rattle.std.proofs.Common.{◌≡◌, ◌≢◌, ◌∙◌, ℕ, zero, suc, ◌<◌, Bool, not, List, [], ◌∷◌, length, get_or, map, refl, sym, ap, subst, arith, All}
 use Rattle.std.specs.Bool.{Decides}
 use Rattle.std.specs.Cmp.{booleans_Decides}
 use Rattle.std.specs.List.{range_with_len}
 use Rattle.std.proofs.lemmas.Slice.Eq.{slice_eq-Decides}
-use Rattle.std.proofs.lemmas.Bool.{false_from_ne_true}
 use Rattle.std.proofs.lemmas.List.{get_or-map, length-map, get_or_default}
-use Rattle.std.proofs.lemmas.List.FromFn.{get_or-map-range_with_len}
+use Rattle.std.proofs.lemmas.List.FromFn.{length-map-range_with_len, get_or-map-range_with_len}
 use Rattle.net_model.specs.Answer.{bit_at}
 use Rattle.net_model.specs.ClassTable.{same_bits}
-use Rattle.net_model.proofs.Copies.{same_bits_same_list}
 use Rattle.table_dicts.specs.declared.dict.Dict.{Dict}
 use Rattle.table_dicts.specs.declared.dict.DictKind.{DictKind}
 use Rattle.table_dicts.specs.declared.dict.DictKind.TheVariants.{PassFail, Full, SameDiff}
-use Rattle.net_model.specs.Rows.{row_at, row_bit}
+use Rattle.net_model.specs.Rows.{row_at}
 use Rattle.table_dicts.specs.Rows.{AreRows}
-use Rattle.table_dicts.specs.AnswerTable.{Answers, IsTable, answer_in, answer_to, answer_bit}
+use Rattle.table_dicts.specs.AnswerTable.{Answers, IsTable, answer_in, answer_to}
 use Rattle.table_dicts.specs.Entries.{differences, answers_of, same_diff_entry}
 use Rattle.table_dicts.specs.Grouped.{IsGrouped, AreGroupsOf}
 use Rattle.table_dicts.specs.Dictionary.{IsDictionary, baseline_count, entry_width}
-use Rattle.table_dicts.proofs.RowLemmas.{width_at}
 
 pub same_bits-Decides : (a b : List Bool) → Decides (same_bits a b) (a ≡ b)
 same_bits-Decides a b = slice_eq-Decides booleans_Decides a b (same_bits a b) refl
@@ -63,20 +60,15 @@ module _ (t : Answers) where
         sym (difference_at (answers_of t.rows number) baselines pattern (length-answers number ∙ sym are.count_is) (omega (arith, h, length-answers number))
         ∙ ap (λ (answer : List Bool). not (same_bits answer (row_at baselines pattern))) (answer_at pattern number h))
 
-    -- an answer differs from the baseline where a bit does, and is the same where all bits are
-    pub differ_at : (pattern number k : ℕ) → answer_bit t pattern number k ≢ row_bit baselines pattern k → true ≡ not (same_bits (answer_to t pattern number) (row_at baselines pattern))
-    differ_at pattern number k ne =
-        let test = same_bits-Decides (answer_to t pattern number) (row_at baselines pattern) in
-        let no : same_bits (answer_to t pattern number) (row_at baselines pattern) ≡ false =
-        false_from_ne_true (same_bits (answer_to t pattern number) (row_at baselines pattern)) (λ yes. ne (ap (λ (bits : List Bool). bit_at bits k) (test.0 yes))) in
-        sym (ap not no)
-
-    pub same_at : IsTable t → (pattern number : ℕ) → pattern < length t.rows → number < t.numbers → ((k : ℕ) → k < t.positions → answer_bit t pattern number k ≡ row_bit baselines pattern k)
-        → false ≡ not (same_bits (answer_to t pattern number) (row_at baselines pattern))
-    same_at is pattern number hp hn same =
-        let wide : length (answer_to t pattern number) ≡ t.positions = is.positions pattern number hp hn in
-        let all = same_bits_same_list (answer_to t pattern number) (row_at baselines pattern) (wide ∙ sym (width_at are pattern hp)) (λ k h. same k (omega (arith, h, wide))) in
-        sym (ap not ((same_bits-Decides (answer_to t pattern number) (row_at baselines pattern)).1 all))
+    -- the entries of all numbers are rows of as many bits as there are patterns
+    pub entry_rows_are : AreRows t.numbers (length t.rows) (map (same_diff_entry t.rows baselines) (range_with_len 0 t.numbers))
+    entry_rows_are =
+        let entry = same_diff_entry t.rows baselines in
+        let many = length-map-range_with_len entry 0 t.numbers in
+        record {
+          count_is = many;
+          width_is = λ k d h. ap length (get_or-map-range_with_len entry 0 t.numbers k k d (omega (arith, h, many)) (omega arith)) ∙ length-entry k;
+        }
 
 -- ---- dictionaries whole
 

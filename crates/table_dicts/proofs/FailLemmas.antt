@@ -68,18 +68,26 @@ module _ (c : Circuit) (patterns : List (List Bool)) (t : Answers) (are : AreAns
     positions = λ p n hp hn. answer_width (answer_is p n (omega (arith, hp, patterns_are)) (omega (arith, hn, are.numbers))) ∙ sym are.positions;
   }
 
-  module _ (free : Answers) (is : IsTable free) (right : AreRightTo (IsListedBit Bits c patterns (0 ∷ [])) (length patterns) 1 (length c.positions) (length patterns) free) where
-    -- right answers of number 0 are the fault-free baselines
-    pub baselines_are : answers_of free.rows 0 ≡ free_baselines t.rows
-    baselines_are =
-        let sizes = right.sizes in
-        ext_get_or [] (answers_of free.rows 0) (answers_of t.rows 0) (length-answers free 0 ∙ (sizes.patterns_are ∙ (sym patterns_are ∙ sym (length-answers t 0)))) (λ p h.
-        let inside : p < length patterns = omega (arith, h, length-answers free 0, sizes.patterns_are) in
-        let of = answer_is p 0 inside (some_number c) in
-        let long : length (answer_to free p 0) ≡ length c.positions = is.positions p 0 (omega (arith, inside, sizes.patterns_are)) (omega (arith, sizes.numbers_are)) ∙ sizes.positions_are in
-        answer_at free p 0 (omega (arith, inside, sizes.patterns_are))
-        ∙ (same_bits_same_list (answer_to free p 0) (answer_to t p 0) (long ∙ sym (answer_width of)) (λ k hk. right.each p 0 k inside (omega arith) (omega (arith, hk, long)) (answer_to t p 0) of)
-        ∙ sym (answer_at t p 0 (omega (arith, inside, patterns_are)))))
+  -- right answers of listed numbers are the answers of these numbers
+  module _ (numbers : List ℕ) (inside : All (λ number. number < fault_count c) numbers) (listed : Answers) (whole : IsTable listed)
+      (right : AreRightTo (IsListedBit Bits c patterns numbers) (length patterns) (length numbers) (length c.positions) (length patterns) listed) where
+    pub answer_listed : (p place : ℕ) → p < length patterns → place < length numbers → answer_to listed p place ≡ answer_to t p (get_or numbers place 0)
+    answer_listed p place hp h =
+        let number = get_or numbers place 0 in
+        let of = answer_is p number hp (inside place 0 h) in
+        let long : length (answer_to listed p place) ≡ length c.positions = whole.positions p place (omega (arith, hp, right.sizes.patterns_are)) (omega (arith, h, right.sizes.numbers_are)) ∙ right.sizes.positions_are in
+        same_bits_same_list (answer_to listed p place) (answer_to t p number) (long ∙ sym (answer_width of)) (λ k hk. right.each p place k hp h (omega (arith, hk, long)) (answer_to t p number) of)
+
+    pub answers_listed : (place : ℕ) → place < length numbers → answers_of listed.rows place ≡ answers_of t.rows (get_or numbers place 0)
+    answers_listed place h =
+        let number = get_or numbers place 0 in
+        ext_get_or [] (answers_of listed.rows place) (answers_of t.rows number) (length-answers listed place ∙ (right.sizes.patterns_are ∙ (sym patterns_are ∙ sym (length-answers t number)))) (λ p hp.
+        let live : p < length patterns = omega (arith, hp, length-answers listed place, right.sizes.patterns_are) in
+        answer_at listed p place (omega (arith, live, right.sizes.patterns_are)) ∙ (answer_listed p place live h ∙ sym (answer_at t p number (omega (arith, live, patterns_are)))))
+
+  -- right answers of number 0 are the fault-free baselines
+  pub baselines_are : (free : Answers) → IsTable free → AreRightTo (IsListedBit Bits c patterns (0 ∷ [])) (length patterns) 1 (length c.positions) (length patterns) free → answers_of free.rows 0 ≡ free_baselines t.rows
+  baselines_are free is right = answers_listed (0 ∷ []) (λ k d h. let zero : k ≡ 0 = omega (arith, h) in rw zero (some_number c)) free is right 0 (omega arith)
 
   -- right bits of listed numbers are the pass/fail entries of these numbers
   module _ (numbers : List ℕ) (within : All (λ number. number < fault_count c) numbers) (bits : Answers) (is : IsTable bits)

@@ -156,6 +156,29 @@ module _ (rows : List (List Bool)) (i : ℕ) (h : i < length rows) (groups first
     pub firsts_are : AreFirstsOf rows (i + 1) (groups ++ group ∷ []) (firsts_with firsts group i)
     pub noted_are : AreNoted rows (firsts_with firsts group i) noted
 
+  -- the first row is in group 0
+  first_group : 0 < i → get_or groups 0 0 ≡ 0
+  first_group later = elim (are.numbered.each 0 (omega (arith, later, are.one_each))) [
+    | inl has ↦ absurd (none_in (get_or groups 0 0) has)
+    | inr least ↦ elim (cases_lt 0 (get_or groups 0 0)) [
+      | inl some ↦ absurd (none_in 0 (least.lower 0 some))
+      | inr none ↦ omega (arith, none)
+    ]
+  ]
+
+  -- and so is a row that is equal to it
+  pub first_turn : {old new : Bor (List ℕ) → Option ℕ} → AreNoted rows firsts old → 0 < i → row 0 ≡ row i → ((q : Bor (List ℕ)) → new q ≡ old q) → Turn 0 new
+  first_turn {old} {new} noted later same news =
+      let first = first_group later in
+      let known : 0 < length firsts = omega (arith, group_known 0 later, first) in
+      let own : row (get_or firsts 0 0) ≡ row i = ap (λ g. row (get_or firsts g 0)) (sym first) ∙ (are.own 0 later ∙ same) in
+      let as_was : firsts_with firsts 0 i ≡ firsts = ap (λ b. cond b (firsts ++ i ∷ []) firsts) (ne_eqb 0 (length firsts) (λ e. omega (arith, e, known))) in
+      record {
+        within = omega (arith, known);
+        firsts_are = subst (AreFirstsOf rows (i + 1) (groups ++ 0 ∷ [])) (sym as_was) (joins 0 known own);
+        noted_are = subst (λ (fs : List ℕ). AreNoted rows fs new) (sym as_was) (record { at = λ q. rw (news q) (noted.at q) });
+      }
+
   module _ (old new : Bor (List ℕ) → Option ℕ) (key : Bor (List ℕ)) (packed : IsPacked (row i) key.now) (wide : (n : ℕ) → n < length rows → length (row n) ≡ length (row i)) (noted : AreNoted rows firsts old) where
     first_row : (k : ℕ) → k < length firsts → get_or firsts k 0 < length rows
     first_row k low = are.inside k 0 low

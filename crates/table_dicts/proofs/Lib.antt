@@ -11,4 +11,7 @@ pub mod RegroupLemmas
 pub mod RootLemmas
 pub mod OneTable
 pub mod ClassFailLemmas
+pub mod ClassEntryLemmas
 pub mod BlockWordLemmas
+pub mod WordLemmas
+pub mod ColumnLemmas

@@ -54,6 +54,18 @@ pub record IsNumberSet (right : ℕ → ℕ → ℕ → Bool → Type 0) (count 
   pub here : (lane k : ℕ) → lane < count → k < limit → right lane number k (answer_bit new (first + lane) number k)
   pub others : (p n k : ℕ) → p < length old.rows → n < old.numbers → k < old.positions → (p < first) ⊎ (n ≢ number) → answer_bit new p n k ≡ answer_bit old p n k
 
+-- The new table has the bits of lanes as a number's answers at a position, to so many patterns from the first one on, and other numbers,
+-- other positions and earlier patterns have theirs as before.
+pub record IsColumnSet (lanes : List Bool) (count : ℕ) (old new : Answers) (number first position : ℕ) : Type 0 where
+  pub sizes : HasSizes new (length old.rows) old.numbers old.positions
+  pub here : (lane : ℕ) → lane < count → answer_bit new (first + lane) number position ≡ bit_at lanes lane
+  pub others : (p n k : ℕ) → p < length old.rows → n < old.numbers → k < old.positions → (p < first) ⊎ ((n ≢ number) ⊎ (k ≢ position)) → answer_bit new p n k ≡ answer_bit old p n k
+
+-- The table has one number, whose answer to the pattern of each lane is what the lanes have.
+pub record HasLanes (t : Answers) (lanes : List (List Bool)) : Type 0 where
+  pub sizes : HasSizes t LANES 1 (length lanes)
+  pub same : (lane k : ℕ) → lane < LANES → k < length lanes → answer_bit t lane 0 k ≡ bit_at (slice_index_or lanes k []) lane
+
 -- The new table has right bits of the numbers below a limit, from the first pattern on, so many, and earlier patterns have theirs as
 -- before.
 pub record AreNumbersSet (right : ℕ → ℕ → ℕ → Bool → Type 0) (count : ℕ) (old new : Answers) (limit first : ℕ) : Type 0 where

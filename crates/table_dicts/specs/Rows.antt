@@ -1,7 +1,7 @@
 -- Rows of bits of one width.
-use Rattle.std.specs.Prelude.{◌≡◌, ◌≢◌, ℕ, ◌<◌, Bool, List, length, All}
+use Rattle.std.specs.Prelude.{◌≡◌, ◌≢◌, ℕ, ◌+◌, ◌*◌, ◌<◌, Bool, List, length, All}
 use Rattle.net_model.specs.Answer.{bit_at}
-use Rattle.net_model.specs.Rows.{row_at, row_bit, HaveSameShape}
+use Rattle.net_model.specs.Rows.{bit_of, row_at, row_bit, HaveSameShape}
 
 -- There are so many rows, each of this width.
 pub record AreRows (count width : ℕ) (rows : List (List Bool)) : Type 0 where
@@ -31,3 +31,7 @@ pub record IsRowSet (old new : List (List Bool)) (row : ℕ) (bits : List Bool) 
 pub record AreRowsBegun (count width done : ℕ) (wanted : ℕ → List Bool) (rows : List (List Bool)) : Type 0 where
   pub are : AreRows count width rows
   pub begun : (row : ℕ) → row < done → row_at rows row ≡ wanted row
+
+-- The word has the bits of a row at 64 places, the lowest first, and 0 past the end of the row.
+pub record IsWordOf (row : List Bool) (word bits : ℕ) : Type 0 where
+  pub are : (k : ℕ) → k < 64 → bit_of bits k ≡ bit_at row (word * 64 + k)

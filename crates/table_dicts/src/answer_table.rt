@@ -2,14 +2,17 @@
 
 ghost use Rattle.std.specs.Prelude.{◌≡◌, ◌+◌, ◌*◌, ◌<◌, ◌≤◌, ◌%◌, ◌^◌, ℕ, false, [], length, slice_index_or, map, All, IfOk};
 ghost use Rattle.std.specs.List.{range_with_len};
-ghost use Rattle.table_dicts.specs.AnswerTable.{HasSizes, IsTable, IsSetAt, ArePicked, answer_bit};
+ghost use Rattle.table_dicts.specs.AnswerTable.{HasSizes, IsTable, IsSetAt, ArePicked, answer_to, answer_bit};
 ghost use Rattle.net_model.specs.Answer.{bit_at};
+ghost use Rattle.net_model.specs.ClassTable.{same_bits};
+ghost use Rattle.net_model.specs.Rows.{row_at};
 ghost use Rattle.table_dicts.specs.Blocks.{IsNumberSet};
 ghost use Rattle.table_dicts.specs.Entries.{full_entry};
-ghost use Rattle.table_dicts.specs.Rows.{AreRows};
+ghost use Rattle.table_dicts.specs.Rows.{AreRows, IsRowSet, IsWordOf};
 
-use crate::bits::{rows_at, set_bit};
+use crate::bits::{copy_words, rows_at, set_bit};
 use crate::block_words::write_words;
+use crate::words::{low_bits, word_at};
 use net_model::AnswerRows;
 use std::alloc::{AllocError, Global};
 use std::marker::Model;
@@ -129,6 +132,50 @@ impl AnswerTable {
         set_bit(&mut self.cells, number as usize, at, bit);
     }
 
+    /// The bits of a number's answer to a pattern at the 64 positions of a word, the lowest first, and 0 past the last position.
+    pub fn answer_word(&self, pattern: u32, number: u32, word: u32) -> u64
+        requires pattern { pattern < length self.now.rows }
+        requires number { number < self.now.numbers }
+        requires word { word * 64 < self.now.positions }
+        ensures { IsWordOf (answer_to self.now pattern number) word result }
+    {
+        let positions = self.positions;
+        let first = word * 64;
+        let at = place(pattern, positions, first);
+        let bits = word_at(self.cells.row_words(number as usize), at);
+        low_bits(bits, positions - first)
+    }
+
+    /// Whether two numbers answer alike to a pattern.
+    pub fn answers_alike(&self, pattern: u32, a: u32, b: u32) -> bool
+        requires pattern { pattern < length self.now.rows }
+        requires a { a < self.now.numbers }
+        requires b { b < self.now.numbers }
+        ensures { result ≡ same_bits (answer_to self.now pattern a) (answer_to self.now pattern b) }
+    {
+        for word in 0..self.positions().div_ceil(64) {
+            let other = self.answer_word(pattern, b, word);
+            if self.answer_word(pattern, a, word) != other {
+                return false;
+            }
+        }
+        true
+    }
+
+    /// Copies the answer of a number to a pattern into a row of as many bits.
+    pub fn copy_answer(&self, pattern: u32, number: u32, rows: &mut AnswerRows, row: usize)
+        requires pattern { pattern < length self.now.rows }
+        requires number { number < self.now.numbers }
+        requires row { row < length rows.old }
+        requires width { length (row_at rows.old row) ≡ self.now.positions }
+        ensures { IsRowSet rows.old rows.new row (answer_to self.now pattern number) }
+    {
+        for word in 0..self.positions().div_ceil(64) {
+            let bits = self.answer_word(pattern, number, word);
+            rows.set_word(row, word as usize, bits);
+        }
+    }
+
     /// Writes what a number answers to so many patterns from the first one on: at each position what its lanes have, one lane
     /// for each pattern.
     pub(crate) fn set_block(&mut self, number: u32, first: u32, count: u32, lanes: &[Lanes])
@@ -142,6 +189,27 @@ impl AnswerTable {
         let begin = words_before(first, self.positions);
         let words = width_of(count, self.positions).div_ceil(64);
         write_words(&mut self.cells, number as usize, begin, words, lanes);
+    }
+
+    /// Copies the answers of the only number of a block as those of a number to so many patterns from the first one on.
+    pub(crate) fn copy_block(&mut self, number: u32, first: u32, count: u32, block: &AnswerTable)
+        requires number { number < self.old.numbers }
+        requires aligned { first % 64 ≡ 0 }
+        requires within { first + count ≤ length self.old.rows }
+        requires few { count ≤ LANES }
+        requires block { HasSizes block.now LANES 1 self.old.positions }
+        ensures { IsNumberSet (λ lane n k bit. bit ≡ answer_bit block.now lane 0 k) count self.old self.new number first self.old.positions }
+    {
+        let begin = words_before(first, self.positions);
+        let words = width_of(count, self.positions).div_ceil(64);
+        copy_words(
+            &block.cells,
+            0,
+            &mut self.cells,
+            number as usize,
+            begin,
+            words,
+        );
     }
 }
 

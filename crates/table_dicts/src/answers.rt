@@ -1,15 +1,18 @@
 //! The answers of all fault numbers to patterns.
 
-ghost use Rattle.std.specs.Prelude.{◌≡◌, ◌<◌, ◌^◌, length, All, IfOk};
-ghost use Rattle.net_model.specs.FaultList.{faults as faults_of};
-ghost use Rattle.table_dicts.specs.AnswerTable.{AreAnswers};
+ghost use Rattle.std.specs.Prelude.{◌≡◌, ◌<◌, ◌^◌, ℕ, length, slice_index, All, IfOk};
+ghost use Rattle.net_model.specs.ClassTable.{class_count, representative};
+ghost use Rattle.net_model.specs.FaultList.{faults as faults_of, fault_count};
+ghost use Rattle.table_dicts.specs.AnswerTable.{Answers, AreAnswers, HasSizes, answer_to};
 
 use crate::answer_table::AnswerTable;
+use crate::by_class::representatives;
 use crate::by_root::root_groups;
 use crate::simulating::{Kept, tabulate};
+use class_refine::Classes;
 use fault_collapse::collapse;
 use fault_list::FaultList;
-use net_model::{Circuit, Vectors};
+use net_model::{Circuit, Vector, Vectors};
 use std::alloc::{AllocError, Global};
 
 /// The answers of all fault numbers of a circuit to patterns. `faults` is the list of the circuit's faults. Of the faults
@@ -33,4 +36,44 @@ pub fn answers_at(
     let table = listed.pick(alloc, sorted.groups.as_slice())?;
     let _ = table.numbers();
     Ok(table)
+}
+
+/// The answers of these numbers, one behind another, to patterns. `faults` is the list of the circuit's faults.
+pub fn number_answers_at(
+    alloc: Global,
+    circuit: &Circuit,
+    faults: &FaultList,
+    patterns: &[Vector],
+    numbers: &[u32],
+) -> Result<AnswerTable, AllocError>
+    requires faults { faults.now ≡ faults_of circuit.now }
+    requires widths { All (λ v. length v ≡ circuit.now.sources) patterns.now }
+    requires few { length patterns.now < 2 ^ 32 }
+    requires numbers { All (λ number. number < fault_count circuit.now) numbers.now }
+    requires count { length numbers.now < 2 ^ 32 }
+    ensures sizes { IfOk result (λ table. HasSizes table (length patterns.now) (length numbers.now) (length circuit.now.positions)) }
+    ensures answers { IfOk result (λ table. (t : Answers) → AreAnswers circuit.now patterns.now t → (pattern place : ℕ) → pattern < length patterns.now → place < length numbers.now → answer_to table pattern place ≡ answer_to t pattern (slice_index numbers.now place)) }
+{
+    let table = tabulate(alloc, circuit, faults, patterns, Kept::Bits, numbers)?;
+    let _ = table.numbers();
+    Ok(table)
+}
+
+/// The answers of the lowest number of each class to patterns, class by class. `faults` is the list of the circuit's faults.
+pub fn class_answers_at(
+    alloc: Global,
+    circuit: &Circuit,
+    faults: &FaultList,
+    patterns: &[Vector],
+    classes: &Classes,
+) -> Result<AnswerTable, AllocError>
+    requires faults { faults.now ≡ faults_of circuit.now }
+    requires widths { All (λ v. length v ≡ circuit.now.sources) patterns.now }
+    requires few { length patterns.now < 2 ^ 32 }
+    requires numbers { length classes.now.class_of ≡ fault_count circuit.now }
+    ensures sizes { IfOk result (λ table. HasSizes table (length patterns.now) (class_count classes.now) (length circuit.now.positions)) }
+    ensures answers { IfOk result (λ table. (t : Answers) → AreAnswers circuit.now patterns.now t → (pattern class : ℕ) → pattern < length patterns.now → class < class_count classes.now → answer_to table pattern class ≡ answer_to t pattern (representative classes.now class)) }
+{
+    let lowest = representatives(alloc, classes)?;
+    number_answers_at(alloc, circuit, faults, patterns, lowest.as_slice())
 }

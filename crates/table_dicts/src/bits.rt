@@ -1,7 +1,8 @@
 //! Where bits of rows are written and copied.
 
-ghost use Rattle.std.specs.Prelude.{◌≡◌, ◌<◌, ◌≤◌, ℕ, [], length, map, All, IfOk, slice_index, slice_index_or};
-ghost use Rattle.net_model.specs.Rows.{row_at};
+ghost use Rattle.std.specs.Prelude.{◌≡◌, ◌+◌, ◌*◌, ◌^◌, ◌<◌, ◌≤◌, ℕ, [], length, map, All, IfOk, slice_index, slice_index_or};
+ghost use Rattle.net_model.specs.Rows.{row_at, row_bit};
+ghost use Rattle.table_dicts.specs.BlockWords.{AreBitsSet};
 ghost use Rattle.table_dicts.specs.Rows.{IsBitSet, IsRowSet};
 
 use net_model::AnswerRows;
@@ -26,6 +27,28 @@ pub(crate) fn copy_row(from: &AnswerRows, source: usize, to: &mut AnswerRows, ta
 {
     for (word, bits) in from.row_words(source).iter().enumerate() {
         to.set_word(target, word, *bits);
+    }
+}
+
+/// Copies words from the beginning of a row into a row from a word on, so many.
+pub(crate) fn copy_words(
+    from: &AnswerRows,
+    source: usize,
+    to: &mut AnswerRows,
+    target: usize,
+    begin: usize,
+    count: usize,
+)
+    requires source { source < length from.now }
+    requires target { target < length to.old }
+    requires few { begin + count < 2 ^ 63 }
+    requires room { count * 64 < length (row_at from.now source) + 64 }
+    requires within { (begin + count) * 64 < length (row_at to.old target) + 64 }
+    ensures { AreBitsSet to.old to.new target (begin * 64) (count * 64) (row_bit from.now source) }
+{
+    let words = from.row_words(source);
+    for word in 0..count {
+        to.set_word(target, begin + word, words[word]);
     }
 }
 

@@ -1,9 +1,10 @@
 //! Lanes of a block as words of a row.
 
-ghost use Rattle.std.specs.Prelude.{◌≡◌, ◌+◌, ◌*◌, ◌^◌, ◌==◌, ◌<◌, ◌≤◌, ℕ, length, if◌then◌else◌};
+ghost use Rattle.std.specs.Prelude.{◌≡◌, ◌+◌, ◌*◌, ◌^◌, ◌<◌, ◌≤◌, ℕ, length};
 ghost use Rattle.net_model.specs.Rows.{bit_of, row_at};
 ghost use Rattle.table_dicts.specs.BlockWords.{AreBitsSet, block_bit, number_of};
 
+use crate::words::with_bit;
 use net_model::AnswerRows;
 use word_sim::{LANES, Lanes};
 
@@ -67,13 +68,4 @@ fn step(place: &mut Place, positions: usize)
         place.position = 0;
         place.lane += 1;
     }
-}
-
-// A word with one bit set or cleared.
-fn with_bit(word: u64, at: u32, bit: bool) -> u64
-    requires { at < 64 }
-    ensures { (k : ℕ) → k < 64 → bit_of result k ≡ (if k == at then bit else bit_of word k) }
-{
-    let mask = 1u64 << at;
-    if bit { word | mask } else { word & !mask }
 }

@@ -1,14 +1,86 @@
-//! Numbers in groups by their classes.
+//! Numbers in groups by their classes, and dictionaries of the entries of classes.
 
-ghost use Rattle.std.specs.Prelude.{◌≡◌, ◌<◌, ◌==◌, Bool, List, length, map, slice_index, slice_set, if◌then◌else◌, All, IfOk};
+ghost use Rattle.std.specs.Prelude.{◌≡◌, ◌≢◌, ◌<◌, ◌==◌, ◌^◌, ℕ, Bool, List, length, map, slice_index, slice_set, if◌then◌else◌, All, IfOk};
+ghost use Rattle.std.specs.List.{range_with_len};
+ghost use Rattle.class_refine.specs.Fields.{IsWhole};
 ghost use Rattle.net_model.specs.ClassTable.{class_count, class_at, representative};
+ghost use Rattle.net_model.specs.Rows.{row_at};
+ghost use Rattle.table_dicts.specs.AnswerTable.{Answers, HasSizes};
+ghost use Rattle.table_dicts.specs.ByClass.{AreRowsOfClasses, AreEntriesOfClasses};
+ghost use Rattle.table_dicts.specs.Dictionary.{IsDictionary};
+ghost use Rattle.table_dicts.specs.Entries.{same_diff_entry};
 ghost use Rattle.table_dicts.specs.Grouped.{AreFirstsOf};
-ghost use Rattle.table_dicts.specs.ByClass.{AreRowsOfClasses};
+ghost use Rattle.table_dicts.specs.Rows.{AreRows};
 
-use crate::dict::Groups;
-use crate::grouping::Sorted;
+use crate::bits::rows_at;
+use crate::dict::{Dict, DictKind, Groups};
+use crate::grouping::{Sorted, group_rows};
 use class_refine::Classes;
+use net_model::AnswerRows;
 use std::alloc::{AllocError, Global};
+
+/// The dictionary of a kind with baselines, from the entry of each class. `numbers` are all numbers of the classes, and the
+/// baselines are of so many positions.
+pub fn dict_of_classes(
+    alloc: Global,
+    kind: DictKind,
+    classes: &Classes,
+    numbers: u32,
+    positions: u32,
+    baselines: AnswerRows,
+    entries: &AnswerRows,
+) -> Result<Dict, AllocError>
+    requires kind { kind ≢ DictKind.Full }
+    requires numbers { numbers ≡ length classes.now.class_of }
+    requires few { length baselines < 2 ^ 32 }
+    requires baselines { AreRows (length baselines) positions baselines }
+    requires entries { AreRows (class_count classes.now) (length baselines) entries.now }
+    ensures { IfOk result (λ dict. (t : Answers) → HasSizes t (length baselines) numbers positions → AreEntriesOfClasses classes.now entries.now (same_diff_entry t.rows baselines) → IsDictionary dict kind t baselines (same_diff_entry t.rows baselines)) }
+{
+    let sorted = class_groups(alloc, classes, numbers)?;
+    let begun = classes_of(alloc, classes, sorted.firsts.as_slice())?;
+    let cells = rows_at(alloc, entries, begun.as_slice())?;
+    let grouped = group_rows(alloc, &cells)?;
+    let outer = grouped.groups.as_slice();
+    let groups = regroup(alloc, sorted.groups.as_slice(), outer)?;
+    Ok(Dict {
+        kind,
+        positions,
+        patterns: baselines.rows() as u32,
+        numbers,
+        baselines,
+        groups,
+        entries: grouped.entries,
+    })
+}
+
+/// The lowest number of each class, in the order of the classes.
+pub(crate) fn representatives(alloc: Global, classes: &Classes) -> Result<Vec<u32>, AllocError>
+    ensures lowest { IfOk result (λ lowest. lowest.items ≡ map (representative classes.now) (range_with_len 0 (class_count classes.now))) }
+    ensures within { IfOk result (λ lowest. All (λ number. number < length classes.now.class_of) lowest.items) }
+    ensures few { IfOk result (λ lowest. length lowest.items < 2 ^ 32) }
+    ensures whole { IsWhole classes.now }
+{
+    let count = classes.count();
+    let mut lowest = Vec::with_capacity(alloc, count as usize)?;
+    for class in 0..count {
+        lowest.push(classes.representative(class))?;
+    }
+    Ok(lowest)
+}
+
+// The class of each of these numbers.
+fn classes_of(alloc: Global, classes: &Classes, numbers: &[u32]) -> Result<Vec<u32>, AllocError>
+    requires { All (λ number. number < length classes.now.class_of) numbers.now }
+    ensures classes { IfOk result (λ list. list.items ≡ map (class_at classes.now) numbers.now) }
+    ensures within { IfOk result (λ list. All (λ class. class < class_count classes.now) list.items) }
+{
+    let mut list = Vec::with_capacity(alloc, numbers.len())?;
+    for number in numbers {
+        list.push(classes.class_of(*number))?;
+    }
+    Ok(list)
+}
 
 /// A group for each class, numbered in order of their lowest numbers, which are the firsts. `numbers` are all numbers of the
 /// classes.

@@ -6,9 +6,8 @@ ghost use Rattle.net_model.specs.PatternRows.{IsTableOf};
 ghost use Rattle.table_dicts.specs.AnswerTable.{Answers, AreAnswers};
 ghost use Rattle.table_dicts.specs.Dictionary.{IsFull, IsPassFail};
 
-use crate::by_class::{class_groups, regroup};
+use crate::by_class::{class_groups, dict_of_classes, representatives};
 use crate::dict::{Dict, DictKind};
-use crate::grouping::group_rows;
 use crate::projecting::answers_of;
 use crate::simulating::{Kept, tabulate};
 use class_refine::Classes;
@@ -70,19 +69,22 @@ pub fn pass_fail_at(
     let patterns = patterns.as_slice();
     let free = tabulate(alloc, circuit, faults, patterns, Kept::Bits, &[0])?;
     let baselines = answers_of(alloc, &free, 0)?;
-    let sorted = class_groups(alloc, classes, numbers)?;
-    let lowest = sorted.firsts.as_slice();
-    let fails = tabulate(alloc, circuit, faults, patterns, Kept::Fails, lowest)?;
-    let grouped = group_rows(alloc, fails.cells())?;
-    let outer = grouped.groups.as_slice();
-    let groups = regroup(alloc, sorted.groups.as_slice(), outer)?;
-    Ok(Dict {
-        kind: DictKind::PassFail,
-        positions: free.positions(),
-        patterns: free.patterns(),
+    let lowest = representatives(alloc, classes)?;
+    let fails = tabulate(
+        alloc,
+        circuit,
+        faults,
+        patterns,
+        Kept::Fails,
+        lowest.as_slice(),
+    )?;
+    dict_of_classes(
+        alloc,
+        DictKind::PassFail,
+        classes,
         numbers,
+        free.positions(),
         baselines,
-        groups,
-        entries: grouped.entries,
-    })
+        fails.cells(),
+    )
 }

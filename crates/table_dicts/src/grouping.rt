@@ -1,11 +1,12 @@
 //! Equal rows in groups, by an ordered map over their words.
 
-ghost use Rattle.std.specs.Prelude.{◌≡◌, ◌<◌, ◌≤◌, ◌^◌, ◌&&◌, ◌==◌, ℕ, List, [], ◌∷◌, ◌++◌, if◌then◌else◌, unwrap_or, length, map, Some, IfOk, OnOk, MatchOption};
+ghost use Rattle.std.specs.Prelude.{◌≡◌, ◌↔◌, ◌<◌, ◌≤◌, ◌^◌, ◌&&◌, ◌==◌, ℕ, List, [], ◌∷◌, ◌++◌, if◌then◌else◌, not, unwrap_or, length, map, Some, IsTrue, IfOk, OnOk, MatchOption};
 ghost use Rattle.std.specs.Borrow.{Bor};
 ghost use Rattle.std.specs.BTreeMap.{get};
 ghost use Rattle.std.specs.Option.{is_none};
 ghost use Rattle.std.specs.Ordering.{is_eq};
 ghost use Rattle.class_refine.specs.Steps.{words_order};
+ghost use Rattle.net_model.specs.Rows.{row_at};
 ghost use Rattle.table_dicts.specs.Grouped.{AreGroupsOf, AreDifferent, IsFirstRepeat, AreFirstsOf};
 
 use crate::bits::rows_at;
@@ -88,22 +89,36 @@ fn sort(alloc: Global, rows: &AnswerRows) -> Result<Sorted, AllocError>
     let mut begun: BTreeMap<&[u64], u32> = BTreeMap::new(alloc);
     let mut sorted = Sorted::new(alloc);
     for row in 0..rows.rows() {
+        let first = equals_first(rows, row);
         let next = sorted.firsts.len() as u32;
-        let group = group_with(&mut begun, rows.row_words(row), next)?;
+        let group = group_with(&mut begun, rows.row_words(row), first, next)?;
         sorted.put(group, row as u32)?;
     }
     Ok(sorted)
 }
 
-// The group noted for these words, which is the next one where there was none.
+// Whether a row is behind the first one and equal to it.
+fn equals_first(rows: &AnswerRows, row: usize) -> bool
+    requires { row < length rows.now }
+    ensures { IsTrue result ↔ (0 < row) × (row_at rows.now 0 ≡ row_at rows.now row) }
+{
+    row > 0 && rows.same_rows(0, row)
+}
+
+// The group of the first row where the words are its words, else the one noted for them, which is the next one where there was
+// none.
 fn group_with<'a>(
     begun: &mut BTreeMap<&'a [u64], u32>,
     words: &'a [u64],
+    first: bool,
     next: u32,
 ) -> Result<u32, AllocError>
-    ensures group { IfOk result (λ group. group ≡ unwrap_or (get words_order begun.old words.entry) next) }
-    ensures noted { OnOk result ((q : Bor (List ℕ)) → get words_order begun.new q ≡ (if is_none (get words_order begun.old words.entry) && is_eq (words_order words.entry q) then Some next else get words_order begun.old q)) }
+    ensures group { IfOk result (λ group. group ≡ (if first then 0 else unwrap_or (get words_order begun.old words.entry) next)) }
+    ensures noted { OnOk result ((q : Bor (List ℕ)) → get words_order begun.new q ≡ (if not first && (is_none (get words_order begun.old words.entry) && is_eq (words_order words.entry q)) then Some next else get words_order begun.old q)) }
 {
+    if first {
+        return Ok(0);
+    }
     if let Some(group) = begun.get(&words) {
         return Ok(*group);
     }

@@ -10,14 +10,17 @@ mod by_class;
 mod by_root;
 mod dict;
 mod direct;
+mod free_block;
 mod grouping;
 mod laws;
 mod pairs;
 mod projecting;
 mod simulating;
+mod words;
 
 pub use answer_table::AnswerTable;
-pub use answers::answers_at;
+pub use answers::{answers_at, class_answers_at, number_answers_at};
+pub use by_class::dict_of_classes;
 pub use dict::{Dict, DictKind, Groups};
 pub use direct::{full_at, pass_fail_at};
 pub use grouping::{Grouped, first_repeat, group_rows};

@@ -1,18 +1,19 @@
 //! Dictionaries of a table of answers.
 
-ghost use Rattle.std.specs.Prelude.{◌≡◌, ◌<◌, ◌≢◌, [], length, map, not, IfOk};
+ghost use Rattle.std.specs.Prelude.{◌≡◌, ◌*◌, ◌<◌, ◌≢◌, [], length, map, not, IfOk};
 ghost use Rattle.std.specs.List.{range_with_len};
 ghost use Rattle.net_model.specs.ClassTable.{same_bits};
 ghost use Rattle.table_dicts.specs.AnswerTable.{answer_to};
 ghost use Rattle.net_model.specs.Rows.{row_at};
-ghost use Rattle.table_dicts.specs.Rows.{AreRows, IsRowSet};
+ghost use Rattle.table_dicts.specs.Rows.{AreRows, IsRowSet, IsWordOf};
 ghost use Rattle.table_dicts.specs.Entries.{answers_of, same_diff_entry};
 ghost use Rattle.table_dicts.specs.Dictionary.{IsFull, IsPassFail, IsSameDiff, IsDictionary};
 
 use crate::answer_table::AnswerTable;
-use crate::bits::{copy_rows, set_bit};
+use crate::bits::copy_rows;
 use crate::dict::{Dict, DictKind};
 use crate::grouping::group_rows;
+use crate::words::with_bit;
 use net_model::AnswerRows;
 use std::alloc::{AllocError, Global};
 
@@ -95,22 +96,9 @@ pub(crate) fn answers_of(
     let (patterns, positions) = (table.patterns(), table.positions());
     let mut rows = AnswerRows::zeros(alloc, patterns as usize, positions as usize)?;
     for pattern in 0..patterns {
-        copy_answer(table, pattern, number, &mut rows);
+        table.copy_answer(pattern, number, &mut rows, pattern as usize);
     }
     Ok(rows)
-}
-
-// Copies the answer of a number to a pattern into the pattern's row.
-fn copy_answer(table: &AnswerTable, pattern: u32, number: u32, rows: &mut AnswerRows)
-    requires pattern { pattern < length table.now.rows }
-    requires number { number < table.now.numbers }
-    requires shape { AreRows (length table.now.rows) table.now.positions rows.old }
-    ensures { IsRowSet rows.old rows.new pattern (answer_to table.now pattern number) }
-{
-    for position in 0..table.positions() {
-        let bit = table.get(pattern, number, position);
-        set_bit(rows, pattern as usize, position as usize, bit);
-    }
 }
 
 // The entry of each number: at which patterns it answers otherwise than the baseline.
@@ -143,10 +131,28 @@ fn write_differences(
     requires shape { AreRows table.now.numbers (length table.now.rows) rows.old }
     ensures { IsRowSet rows.old rows.new number (same_diff_entry table.now.rows baselines.now number) }
 {
-    for pattern in 0..table.patterns() {
-        let bit = differs(table, baselines, pattern, number);
-        set_bit(rows, number as usize, pattern as usize, bit);
+    for word in 0..table.patterns().div_ceil(64) {
+        let bits = entry_word(table, baselines, number, word);
+        rows.set_word(number as usize, word as usize, bits);
     }
+}
+
+// The bits of a number's entry at the 64 patterns of a word, the lowest first.
+fn entry_word(table: &AnswerTable, baselines: &AnswerRows, number: u32, word: u32) -> u64
+    requires number { number < table.now.numbers }
+    requires word { word * 64 < length table.now.rows }
+    requires baselines { AreRows (length table.now.rows) table.now.positions baselines.now }
+    ensures { IsWordOf (same_diff_entry table.now.rows baselines.now number) word result }
+{
+    let patterns = table.patterns();
+    let first = word * 64;
+    let count = (patterns - first).min(64);
+    let mut bits = 0;
+    for at in 0..count {
+        let bit = differs(table, baselines, first + at, number);
+        bits = with_bit(bits, at, bit);
+    }
+    bits
 }
 
 // Whether the answer of a number to a pattern differs from the baseline.
@@ -156,9 +162,9 @@ fn differs(table: &AnswerTable, baselines: &AnswerRows, pattern: u32, number: u3
     requires baselines { AreRows (length table.now.rows) table.now.positions baselines.now }
     ensures { result ≡ not (same_bits (answer_to table.now pattern number) (row_at baselines.now pattern)) }
 {
-    for position in 0..table.positions() {
-        let bit = table.get(pattern, number, position);
-        if bit != baselines.get(pattern as usize, position as usize) {
+    let baseline = baselines.row_words(pattern as usize);
+    for word in 0..table.positions().div_ceil(64) {
+        if table.answer_word(pattern, number, word) != baseline[word as usize] {
             return true;
         }
     }

@@ -1,17 +1,15 @@
 //! What fault numbers answer to patterns, by simulation of a block of patterns at once.
 
-ghost use Rattle.std.specs.Prelude.{◌≡◌, ◌+◌, ◌%◌, ◌<◌, ◌≤◌, ◌^◌, ℕ, [], length, slice_index_or, All, IfOk};
-ghost use Rattle.net_model.specs.Answer.{bit_at};
-ghost use Rattle.net_model.specs.FaultList.{faults as faults_of, fault_count, fault_numbered};
-ghost use Rattle.fault_sim.specs.FaultSim.{AreDifferences};
+ghost use Rattle.std.specs.Prelude.{◌≡◌, ◌+◌, ◌%◌, ◌<◌, ◌≤◌, ◌^◌, ℕ, length, All, IfOk};
+ghost use Rattle.net_model.specs.FaultList.{faults as faults_of, fault_count};
 ghost use Rattle.table_dicts.specs.Blocks.{HasRun, IsKeptBit, IsListedBit, kept_width, IsNumberSet, AreNumbersSet, AreRightTo};
 
 use crate::answer_table::AnswerTable;
 use crate::bench::Bench;
+use crate::free_block::FreeBlock;
 use fault_list::FaultList;
 use net_model::{Circuit, Vector};
 use std::alloc::{AllocError, Global};
-use word_sim::Lanes;
 
 /// What is kept of a number's answer to a pattern: its bits, or whether it differs from the fault-free one.
 #[derive(Clone, Copy)]
@@ -39,12 +37,11 @@ pub(crate) fn tabulate(
     let width = width_of(kept, circuit.positions().len() as u32);
     let mut table = AnswerTable::zeros(alloc, patterns.len() as u32, numbers.len() as u32, width)?;
     let mut bench = Bench::new(alloc, circuit, faults)?;
-    let mut lanes = vec![in alloc; Lanes::all(false); width as usize]?;
     let mut first = 0;
     while first < patterns.len() {
         let end = bench.run(patterns, first);
-        let read = lanes.as_mut_slice();
-        write_block(&mut bench, kept, numbers, first as u32, read, &mut table);
+        let free = FreeBlock::new(alloc, &mut bench, kept, width)?;
+        write_block(&mut bench, kept, numbers, first as u32, &free, &mut table);
         first = end;
     }
     Ok(table)
@@ -66,7 +63,7 @@ fn write_block(
     kept: Kept,
     numbers: &[u32],
     first: u32,
-    lanes: &mut [Lanes],
+    free: &FreeBlock,
     table: &mut AnswerTable,
 )
     requires run { HasRun bench.old }
@@ -74,7 +71,7 @@ fn write_block(
     requires count { length numbers.now < 2 ^ 32 }
     requires rows { table.old.numbers ≡ length numbers.now }
     requires width { table.old.positions ≡ kept_width kept (length bench.old.good.circuit.positions) }
-    requires lanes { length lanes.old ≡ table.old.positions }
+    requires free { length free.now.lanes.items ≡ table.old.positions }
     requires aligned { first % 64 ≡ 0 }
     requires within { first + length bench.old.block.vectors ≤ length table.old.rows }
     ensures bench { bench.new ≡ record bench.old { sim = bench.new.sim } }
@@ -82,7 +79,7 @@ fn write_block(
     ensures set { AreNumbersSet (IsListedBit kept bench.old.good.circuit bench.old.block.vectors numbers.now) (length bench.old.block.vectors) table.old table.new (length numbers.now) first }
 {
     for (place, number) in numbers.iter().enumerate() {
-        write_number(bench, kept, *number, place as u32, first, lanes, table);
+        write_number(bench, kept, *number, place as u32, first, free, table);
     }
 }
 
@@ -93,14 +90,14 @@ fn write_number(
     number: u32,
     place: u32,
     first: u32,
-    lanes: &mut [Lanes],
+    free: &FreeBlock,
     table: &mut AnswerTable,
 )
     requires run { HasRun bench.old }
     requires number { number < fault_count bench.old.good.circuit }
     requires place { place < table.old.numbers }
     requires width { table.old.positions ≡ kept_width kept (length bench.old.good.circuit.positions) }
-    requires lanes { length lanes.old ≡ table.old.positions }
+    requires free { length free.now.lanes.items ≡ table.old.positions }
     requires aligned { first % 64 ≡ 0 }
     requires within { first + length bench.old.block.vectors ≤ length table.old.rows }
     ensures bench { bench.new ≡ record bench.old { sim = bench.new.sim } }
@@ -108,19 +105,5 @@ fn write_number(
     ensures set { IsNumberSet (λ lane at. IsKeptBit kept bench.old.good.circuit bench.old.block.vectors lane number) (length bench.old.block.vectors) table.old table.new place first table.old.positions }
 {
     bench.inject(number);
-    read_lanes(bench, kept, number, table.positions(), lanes);
-    table.set_block(place, first, bench.block.live(), lanes);
-}
-
-// Reads what is kept of the injected number's answers, at each position a lane for each pattern that was run.
-fn read_lanes(bench: &Bench, kept: Kept, number: u32, positions: u32, lanes: &mut [Lanes])
-    requires run { HasRun bench.now }
-    requires lanes { length lanes.old ≡ positions }
-    requires width { positions ≡ kept_width kept (length bench.now.good.circuit.positions) }
-    requires differ { AreDifferences bench.now.good.circuit (fault_numbered bench.now.good.circuit number) bench.now.block.vectors bench.now.sim.differences }
-    ensures { (position : ℕ) → position < positions → (lane : ℕ) → lane < length bench.now.block.vectors → IsKeptBit kept bench.now.good.circuit bench.now.block.vectors lane number position (bit_at (slice_index_or lanes.new position []) lane) }
-{
-    for position in 0..positions {
-        lanes[position as usize] = bench.lanes(kept, number, position);
-    }
+    free.write(bench, kept, number, table, place, first);
 }

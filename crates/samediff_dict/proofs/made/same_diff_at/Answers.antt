@@ -1,27 +1,42 @@
-use Rattle.std.proofs.Common.{List, Bool, subst, arith}
+use Rattle.std.proofs.Common.{◌≡◌, List, Bool, length, sym, ap, subst, arith}
+use Rattle.std.specs.Prelude.{All}
 use Rattle.std.proofs.lemmas.Result.{IfOk-weaker}
-use Rattle.kept_vectors.proofs.KeepLemmas.{some_number}
+use Rattle.net_model.specs.PatternRows.{IsTableOf}
 use Rattle.table_dicts.specs.AnswerTable.{Answers, AreAnswers}
 use Rattle.table_dicts.specs.Dictionary.{IsSameDiff}
+use Rattle.table_dicts.proofs.OneTable.{one_answers}
+use Rattle.samediff_dict.specs.declared.numbering.Candidates.{Candidates}
 use Rattle.samediff_dict.specs.Chosen.{chosen_baselines}
-use Rattle.samediff_dict.proofs.MadeLemmas.{one_answers, answer_alike}
+use Rattle.samediff_dict.specs.Numbered.{AreNumbered}
+use Rattle.samediff_dict.proofs.EvaluatedLemmas.{evaluated_answers, evaluated_are}
 use Rattle.samediff_dict.proofs.made.same_diff_at.Goals as goal
 
-pub choose-requires : goal.choose-requires
-choose-requires c = answer_alike c.args.circuit.now c.sources.ensures.circuit c.args.patterns.now c.in_ok-table.table c.in_ok-table.ensures c.args.classes.now c.requires.classes
-
-pub project-requires-clause-some : goal.project-requires-clause-some
-project-requires-clause-some c = omega (arith, some_number c.args.circuit.now, c.in_ok-table.ensures.numbers)
+pub dict_among-requires : goal.dict_among-requires
+dict_among-requires c =
+    let circuit = c.args.circuit.now in
+    let is = c.sources-sources.ensures.circuit in
+    let classes = c.args.classes.now in
+    let patterns = c.as_slice.result.now in
+    let t = evaluated_answers circuit patterns in
+    let are = evaluated_are circuit is patterns in (
+      record {
+        circuit = is;
+        faults = c.requires.faults;
+        widths = subst (λ (ps : List (List Bool)). All (λ v. length v ≡ circuit.sources) ps) (sym c.as_slice.ensures) c.requires.widths;
+        few = omega (arith, ap length c.as_slice.ensures, c.requires.few);
+        classes = subst (λ (ps : List (List Bool)). IsTableOf circuit ps classes) (sym c.as_slice.ensures) c.requires.classes;
+      },
+      (are, subst (λ (xs : List Candidates). AreNumbered classes t.rows xs) (sym c.as_slice-2.ensures.value) (c.in_ok-candidates.ensures t are)),
+    )
 
 pub returns : goal.returns
 returns c =
     let circuit = c.args.circuit.now in
-    let patterns = c.args.patterns.now in
+    let is = c.sources-sources.ensures.circuit in
     let classes = c.args.classes.now in
-    let table = c.in_ok-table.table in
-    let are = c.in_ok-table.ensures in
-    let baselines = c.in_ok-baselines.baselines in
-    IfOk-weaker c.project.result (IsSameDiff table baselines) (λ dict. (t : Answers) → AreAnswers circuit patterns t → IsSameDiff t (chosen_baselines classes t.rows) dict)
-    (λ dict is t of.
-    let chosen = subst (λ (rows : List (List Bool)). IsSameDiff table rows dict) c.in_ok-baselines.ensures.chosen is in
-    subst (λ (answers : Answers). IsSameDiff answers (chosen_baselines classes answers.rows) dict) (one_answers circuit c.sources.ensures.circuit patterns table are t of) chosen) c.project.ensures
+    let patterns = c.as_slice.result.now in
+    let t = evaluated_answers circuit patterns in
+    IfOk-weaker c.dict_among.result (IsSameDiff t (chosen_baselines classes t.rows)) (λ dict. (u : Answers) → AreAnswers circuit c.args.patterns.now u → IsSameDiff u (chosen_baselines classes u.rows) dict)
+    (λ dict made u of.
+    let own : AreAnswers circuit patterns u = subst (λ (ps : List (List Bool)). AreAnswers circuit ps u) (sym c.as_slice.ensures) of in
+    subst (λ (v : Answers). IsSameDiff v (chosen_baselines classes v.rows) dict) (one_answers circuit is (evaluated_are circuit is patterns) own) made) c.dict_among.ensures

@@ -10,7 +10,8 @@ use Rattle.table_dicts.specs.Blocks.{IsListedBit, AreRightTo}
 use Rattle.table_dicts.proofs.EntryLemmas.{dictionary_of, no_rows}
 use Rattle.table_dicts.proofs.FailLemmas.{patterns_are}
 use Rattle.table_dicts.proofs.GroupLemmas.{grouped_by}
-use Rattle.table_dicts.proofs.ClassLemmas.{entries_of, entries_are, cells_listed, firsts_by, lowest_inside, lowest_few}
+use Rattle.table_dicts.proofs.ClassLemmas.{entries_of, entries_are, cells_listed, firsts_by}
+use Rattle.table_dicts.proofs.ClassEntryLemmas.{firsts_inside, firsts_few}
 use Rattle.table_dicts.proofs.direct.full_at.Goals as goal
 use Rattle.table_dicts.proofs.direct.full_at.Goals.{In_ok-sorted}
 
@@ -21,12 +22,16 @@ module _ (c : In_ok-sorted) where
   numbers_are : c.len-numbers.result ≡ fault_count c.args.circuit.now
   numbers_are = c.len-numbers.ensures.value ∙ ap length c.requires.faults
 
+  all : c.len-numbers.result ≡ length c.args.classes.now.class_of
+  all = numbers_are ∙ sym (table_numbers c.requires.classes)
+
   inside : All (λ number. number < fault_count c.args.circuit.now) c.in_ok-sorted.sorted.firsts.items
   inside =
-      lowest_inside c.args.circuit.now c.sources.ensures.circuit c.args.patterns.now c.args.classes.now c.requires.classes c.len-numbers.result numbers_are c.in_ok-sorted.sorted.groups c.in_ok-sorted.sorted.firsts.items c.in_ok-sorted.ensures
+      subst (λ n. All (λ number. number < n) c.in_ok-sorted.sorted.firsts.items) (table_numbers c.requires.classes)
+      (firsts_inside c.args.classes.now c.len-numbers.result all c.in_ok-sorted.sorted.groups c.in_ok-sorted.sorted.firsts.items c.in_ok-sorted.ensures)
 
   few : length c.in_ok-sorted.sorted.firsts.items ≤ c.len-numbers.result
-  few = lowest_few c.args.circuit.now c.sources.ensures.circuit c.args.patterns.now c.args.classes.now c.requires.classes c.len-numbers.result numbers_are c.in_ok-sorted.sorted.groups c.in_ok-sorted.sorted.firsts.items c.in_ok-sorted.ensures
+  few = firsts_few c.args.classes.now c.len-numbers.result all c.in_ok-sorted.sorted.groups c.in_ok-sorted.sorted.firsts.items c.in_ok-sorted.ensures
 
 pub tabulate-requires-clause-widths : goal.tabulate-requires-clause-widths
 tabulate-requires-clause-widths c = subst (All (λ v. length v ≡ c.args.circuit.now.sources)) (sym c.as_slice-patterns.ensures) c.requires.widths

@@ -1,9 +1,10 @@
-use Rattle.std.proofs.Common.{◌≡◌, ◌∙◌, ◌+◌, ◌<◌, ℕ, List, [], ◌∷◌, ◌++◌, length, refl, subst, sym, None, rules, arith}
+use Rattle.std.proofs.Common.{◌≡◌, ◌∙◌, ◌+◌, ◌<◌, ℕ, List, [], ◌∷◌, ◌++◌, length, refl, subst, sym, None, rules, arith, inl, inr}
 use Rattle.std.specs.BTreeMap.{get}
+use Rattle.std.proofs.lemmas.Bool.{cases_Bool}
 use Rattle.class_refine.specs.Steps.{words_order}
 use Rattle.class_refine.proofs.Leaving.{AreNoted}
 use Rattle.table_dicts.specs.Grouped.{AreFirstsOf}
-use Rattle.table_dicts.proofs.GroupLemmas.{firsts_none, few_firsts, Turn, turn}
+use Rattle.table_dicts.proofs.GroupLemmas.{firsts_none, few_firsts, Turn, turn, first_turn}
 use Rattle.table_dicts.proofs.grouping.sort.Goals as goal
 use Rattle.table_dicts.proofs.grouping.sort.Goals.{In_ok-group}
 
@@ -26,9 +27,23 @@ inside c = omega arith
 
 turned : (c : In_ok-group) → Turn c.args.rows.now c.loop-row.row (inside c) c.loop-row.sorted.groups c.loop-row.sorted.firsts.items c.loop-row.invariant.firsts c.in_ok-group.group (get words_order c.group_with.new.begun)
 turned c =
-    turn c.args.rows.now c.loop-row.row (inside c) c.loop-row.sorted.groups c.loop-row.sorted.firsts.items c.loop-row.invariant.firsts
-    (get words_order c.loop-row.begun) (get words_order c.group_with.new.begun) c.row_words.result c.row_words.ensures.packed (λ n h. c.row_words.ensures.one_width n [] h) c.loop-row.invariant.noted
-    (get words_order c.loop-row.begun c.row_words.result) c.len-next.result c.in_ok-group.group refl (c.len-next.ensures ∙ c.loop-row.sorted.firsts.ok.0) c.in_ok-group.ensures.group c.in_ok-group.ensures.noted
+    let rows = c.args.rows.now in
+    let groups = c.loop-row.sorted.groups in
+    let firsts = c.loop-row.sorted.firsts.items in
+    let are = c.loop-row.invariant.firsts in
+    let old = get words_order c.loop-row.begun in
+    let new = get words_order c.group_with.new.begun in
+    let group = c.in_ok-group.ensures.group in
+    let noted = c.in_ok-group.ensures.noted in
+    elim (cases_Bool c.equals_first-first.result) [
+      | inl again ↦
+          let first : c.in_ok-group.group ≡ 0 = rw again at group in
+          let same = c.equals_first-first.ensures.0 again in
+          subst (λ g. Turn rows c.loop-row.row (inside c) groups firsts are g new) (sym first) (first_turn rows c.loop-row.row (inside c) groups firsts are c.loop-row.invariant.noted same.0 same.1 (λ q. rw again at noted q))
+      | inr other ↦
+          turn rows c.loop-row.row (inside c) groups firsts are old new c.row_words.result c.row_words.ensures.packed (λ n h. c.row_words.ensures.one_width n [] h) c.loop-row.invariant.noted
+          (old c.row_words.result) c.len-next.result c.in_ok-group.group refl (c.len-next.ensures ∙ c.loop-row.sorted.firsts.ok.0) (rw other at group) (λ q. rw other at noted q)
+    ]
 
 pub put-requires : goal.put-requires
 put-requires c = let at = (goal.at.put-requires c).In_ok-group in (turned at).within

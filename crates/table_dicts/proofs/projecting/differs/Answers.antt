@@ -1,15 +1,31 @@
-use Rattle.std.proofs.Common.{◌∙◌, not, sym, ap, arith}
-use Rattle.std.specs.Cmp.{booleans_Decides}
-use Rattle.std.proofs.lemmas.Bool.{false≢true}
-use Rattle.table_dicts.proofs.EntryLemmas.{differ_at, same_at}
+use Rattle.std.proofs.Common.{◌∙◌, ◌*◌, ◌<◌, ◌≤◌, length, not, sym, ap, arith}
+use Rattle.net_model.specs.Rows.{row_at}
+use Rattle.table_dicts.specs.AnswerTable.{answer_to}
+use Rattle.table_dicts.proofs.RowLemmas.{width_at}
+use Rattle.table_dicts.proofs.WordLemmas.{word_of_packed, differ_by, alike_more, alike_all}
 use Rattle.table_dicts.proofs.projecting.differs.Goals as goal
 
-pub returns-then-bit-get : goal.returns-then-bit-get
-returns-then-bit-get c =
-    differ_at c.args.table.now c.args.baselines.now c.requires.baselines c.args.pattern c.args.number c.loop-position.position
-    (λ e. false≢true (ap not (sym ((booleans_Decides c.get-bit.result c.get.result).1 (c.get-bit.ensures ∙ (e ∙ sym c.get.ensures)))) ∙ c.if-bit-get.true))
+pub returns-then-answer_word-baseline : goal.returns-then-answer_word-baseline
+returns-then-answer_word-baseline c =
+    let answer = answer_to c.args.table.now c.args.pattern c.args.number in
+    let baseline = row_at c.args.baselines.now c.args.pattern in
+    let words = c.row_words-baseline.result.now in
+    let packed = c.row_words-baseline.ensures.packed in
+    let inside : c.loop-word.word * 64 < length baseline = omega (arith, width_at c.requires.baselines c.args.pattern c.requires.pattern, c.positions.ensures.value, c.div_ceil-word-end.ensures) in
+    sym (ap not
+    (differ_by answer baseline c.loop-word.word c.answer_word.ensures (word_of_packed packed c.loop-word.word inside) c.answer_word.type_inv (packed.fits c.loop-word.word) c.if-answer_word-baseline.true))
+
+pub loop-word-preserved : goal.loop-word-preserved
+loop-word-preserved c =
+    let answer = answer_to c.args.table.now c.args.pattern c.args.number in
+    let baseline = row_at c.args.baselines.now c.args.pattern in
+    let inside : c.loop-word.word * 64 < length baseline = omega (arith, width_at c.requires.baselines c.args.pattern c.requires.pattern, c.positions.ensures.value, c.div_ceil-word-end.ensures) in
+    alike_more answer baseline c.loop-word.word c.answer_word.ensures (word_of_packed c.row_words-baseline.ensures.packed c.loop-word.word inside) c.loop-word.invariant c.if-answer_word-baseline.false
 
 pub returns : goal.returns
 returns c =
-    same_at c.args.table.now c.args.baselines.now c.requires.baselines c.positions-position-end.ensures.table c.args.pattern c.args.number c.requires.pattern c.requires.number
-    (λ k h. c.loop-position.invariant k (omega (arith, h, c.positions-position-end.ensures.value)))
+    let answer = answer_to c.args.table.now c.args.pattern c.args.number in
+    let baseline = row_at c.args.baselines.now c.args.pattern in
+    let wide = c.positions.ensures.table.positions c.args.pattern c.args.number c.requires.pattern c.requires.number in
+    let all : length answer ≤ c.loop-word.word * 64 = omega (arith, wide, c.positions.ensures.value, c.div_ceil-word-end.ensures) in
+    sym (ap not (alike_all answer baseline (c.loop-word.word * 64) c.loop-word.invariant all (wide ∙ sym (width_at c.requires.baselines c.args.pattern c.requires.pattern))))

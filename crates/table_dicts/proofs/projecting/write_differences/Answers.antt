@@ -1,24 +1,31 @@
-use Rattle.std.proofs.Common.{◌∙◌, sym, arith}
+use Rattle.std.proofs.Common.{◌≡◌, ◌∙◌, ◌*◌, ℕ, sym, subst, arith}
+use Rattle.table_dicts.specs.Rows.{IsRowBegun}
 use Rattle.table_dicts.specs.Entries.{same_diff_entry}
-use Rattle.table_dicts.proofs.RowLemmas.{width_at, begun_none, begun_more, begun_all}
-use Rattle.table_dicts.proofs.EntryLemmas.{length-entry, entry_bit}
+use Rattle.table_dicts.proofs.RowLemmas.{width_at, begun_none, begun_all}
+use Rattle.table_dicts.proofs.BlockWordLemmas.{words_more}
+use Rattle.table_dicts.proofs.EntryLemmas.{length-entry}
+use Rattle.table_dicts.proofs.WordLemmas.{bit_in}
 use Rattle.table_dicts.proofs.projecting.write_differences.Goals as goal
 
-pub set_bit-requires-clause-row : goal.set_bit-requires-clause-row
-set_bit-requires-clause-row c = omega (arith, c.loop-pattern.invariant.shape.count, c.requires.shape.count_is, c.requires.number)
+pub set_word-requires-clause-row : goal.set_word-requires-clause-row
+set_word-requires-clause-row c = omega (arith, c.loop-word.invariant.shape.count, c.requires.shape.count_is, c.requires.number)
 
-pub set_bit-requires-clause-at : goal.set_bit-requires-clause-at
-set_bit-requires-clause-at c = omega (arith, c.loop-pattern.invariant.shape.widths c.args.number, width_at c.requires.shape c.args.number c.requires.number, c.patterns-pattern-end.ensures.value)
+pub set_word-requires-clause-word : goal.set_word-requires-clause-word
+set_word-requires-clause-word c =
+    omega (arith, c.loop-word.invariant.shape.widths c.args.number, width_at c.requires.shape c.args.number c.requires.number, c.patterns.ensures.value, c.div_ceil-word-end.ensures)
 
-pub loop-pattern-init : goal.loop-pattern-init
-loop-pattern-init c = begun_none c.args.number (same_diff_entry c.args.table.now.rows c.args.baselines.now c.args.number)
+pub loop-word-init : goal.loop-word-init
+loop-word-init c =
+    let entry = same_diff_entry c.args.table.now.rows c.args.baselines.now c.args.number in
+    let none : ◌≡◌ {A = ℕ} 0 (0 * 64) = omega arith in
+    subst (λ n. IsRowBegun c.args.rows.now c.args.rows.now c.args.number n entry) none (begun_none c.args.number entry)
 
-pub loop-pattern-preserved : goal.loop-pattern-preserved
-loop-pattern-preserved c =
-    begun_more c.loop-pattern.invariant c.set_bit.ensures
-    (c.differs-bit.ensures ∙ entry_bit c.args.table.now c.args.baselines.now c.requires.baselines c.loop-pattern.pattern c.args.number (omega (arith, c.patterns-pattern-end.ensures.value)))
+pub loop-word-preserved : goal.loop-word-preserved
+loop-word-preserved c =
+    let long = length-entry c.args.table.now c.args.baselines.now c.requires.baselines c.args.number in
+    words_more c.loop-word.invariant c.set_word.ensures (width_at c.requires.shape c.args.number c.requires.number ∙ sym long) (λ k h e. bit_in c.entry_word-bits.ensures k e)
 
 pub returns : goal.returns
 returns c =
     let long = length-entry c.args.table.now c.args.baselines.now c.requires.baselines c.args.number in
-    begun_all c.loop-pattern.invariant (width_at c.requires.shape c.args.number c.requires.number ∙ sym long) (omega (arith, long, c.patterns-pattern-end.ensures.value))
+    begun_all c.loop-word.invariant (width_at c.requires.shape c.args.number c.requires.number ∙ sym long) (omega (arith, long, c.patterns.ensures.value, c.div_ceil-word-end.ensures))

@@ -1,11 +1,12 @@
 use Rattle.std.proofs.Common.{◌≡◌, ◌∙◌, ◌<◌, ◌≤◌, ℕ, List, All, length, sym, ap, subst, arith}
-use Rattle.std.proofs.lemmas.List.{with_items_is}
+use Rattle.std.specs.Prelude.{slice_range}
 use Rattle.net_model.specs.Circuit.{Circuit}
 use Rattle.net_model.specs.FaultList.{fault_count}
 use Rattle.table_dicts.specs.declared.bench.Bench.{Bench}
 use Rattle.table_dicts.specs.Blocks.{IsListedBit, kept_width, AreNumbersSet, AreRightTo}
 use Rattle.table_dicts.proofs.BlockLemmas.{block_length, block_end, listed_moved, right_none, right_more}
 use Rattle.table_dicts.proofs.simulating.tabulate.Goals as goal
+use Rattle.table_dicts.proofs.simulating.tabulate.Goals.{After-new-in-loop-first}
 
 pub loop-first-init : goal.loop-first-init
 loop-first-init c =
@@ -18,7 +19,6 @@ loop-first-init c =
       circuit = c.in_ok-bench.ensures.circuit;
       within = omega arith;
       aligned = λ h. omega arith;
-      places = omega (arith, c.in_ok-lanes.ensures.len, c.in_ok-lanes.lanes.ok.0, c.width_of-width.ensures, ap (λ (ps : List ℕ). kept_width c.args.kept (length ps)) c.positions.ensures.value);
       right = right_none (IsListedBit c.args.kept circuit patterns numbers) (length patterns) (length numbers) (kept_width c.args.kept (length circuit.positions)) c.in_ok-table.table
           (record { patterns_are = sizes.patterns_are; numbers_are = sizes.numbers_are; positions_are = sizes.positions_are ∙ (c.width_of-width.ensures ∙ ap (λ (ps : List ℕ). kept_width c.args.kept (length ps)) c.positions.ensures.value) });
     }
@@ -26,19 +26,28 @@ loop-first-init c =
 pub run-end-requires-clause-widths : goal.run-end-requires-clause-widths
 run-end-requires-clause-widths c = subst (λ (k : Circuit). All (λ v. length v ≡ k.sources) c.args.patterns.now) (sym c.loop-first.invariant.circuit) c.requires.widths
 
+-- the bench that has run a block is that of the circuit, and has the patterns of the block
+module _ (c : After-new-in-loop-first) where
+  circuit_is : c.new-in-loop-first.new.bench.good.circuit ≡ c.args.circuit.now
+  circuit_is = ap (λ (b : Bench). b.good.circuit) c.new-in-loop-first.ensures.bench ∙ (c.run-end.ensures.circuit ∙ c.loop-first.invariant.circuit)
+
+  vectors_are : c.new-in-loop-first.new.bench.block.vectors ≡ slice_range c.args.patterns.now c.loop-first.first c.run-end.result
+  vectors_are = ap (λ (b : Bench). b.block.vectors) c.new-in-loop-first.ensures.bench ∙ c.run-end.ensures.vectors
+
 pub write_block-requires-clause-numbers : goal.write_block-requires-clause-numbers
 write_block-requires-clause-numbers c =
-    subst (λ (k : Circuit). All (λ number. number < fault_count k) c.args.numbers.now) (sym (c.run-end.ensures.circuit ∙ c.loop-first.invariant.circuit)) c.requires.numbers
+    subst (λ (k : Circuit). All (λ number. number < fault_count k) c.args.numbers.now) (sym (circuit_is (goal.at.write_block-requires-clause-numbers c).After-new-in-loop-first)) c.requires.numbers
 
 pub write_block-requires-clause-rows : goal.write_block-requires-clause-rows
 write_block-requires-clause-rows c = c.loop-first.invariant.right.sizes.numbers_are
 
 pub write_block-requires-clause-width : goal.write_block-requires-clause-width
 write_block-requires-clause-width c =
-    c.loop-first.invariant.right.sizes.positions_are ∙ sym (ap (λ (k : Circuit). kept_width c.args.kept (length k.positions)) (c.run-end.ensures.circuit ∙ c.loop-first.invariant.circuit))
+    c.loop-first.invariant.right.sizes.positions_are ∙ sym (ap (λ (k : Circuit). kept_width c.args.kept (length k.positions)) (circuit_is (goal.at.write_block-requires-clause-width c).After-new-in-loop-first))
 
-pub write_block-requires-clause-lanes : goal.write_block-requires-clause-lanes
-write_block-requires-clause-lanes c = omega (arith, ap length c.as_mut_slice-read.ensures.value, c.loop-first.invariant.places, c.loop-first.invariant.right.sizes.positions_are)
+pub write_block-requires-clause-free : goal.write_block-requires-clause-free
+write_block-requires-clause-free c =
+    omega (arith, c.in_ok-free.ensures.width, c.width_of-width.ensures, ap (λ (ps : List ℕ). kept_width c.args.kept (length ps)) c.positions.ensures.value, c.loop-first.invariant.right.sizes.positions_are)
 
 pub write_block-requires-clause-aligned : goal.write_block-requires-clause-aligned
 write_block-requires-clause-aligned c = c.loop-first.invariant.aligned c.loop-first-test.true
@@ -47,7 +56,7 @@ pub write_block-requires-clause-within : goal.write_block-requires-clause-within
 write_block-requires-clause-within c =
     let order : c.loop-first.first ≤ c.run-end.result = omega (arith, c.run-end.ensures.end) in
     let within : c.run-end.result ≤ length c.args.patterns.now = omega (arith, c.run-end.ensures.end) in
-    omega (arith, ap length c.run-end.ensures.vectors, block_length c.args.patterns.now c.loop-first.first c.run-end.result order within, order, within, c.loop-first.invariant.right.sizes.patterns_are)
+    omega (arith, ap length (vectors_are (goal.at.write_block-requires-clause-within c).After-new-in-loop-first), block_length c.args.patterns.now c.loop-first.first c.run-end.result order within, order, within, c.loop-first.invariant.right.sizes.patterns_are)
 
 pub loop-first-preserved : goal.loop-first-preserved
 loop-first-preserved c =
@@ -57,21 +66,20 @@ loop-first-preserved c =
     let kept = c.args.kept in
     let first = c.loop-first.first in
     let end = c.run-end.result in
-    let bench = c.run-end.new.self in
+    let at = (goal.at.loop-first-preserved c).After-new-in-loop-first in
+    let bench = c.new-in-loop-first.new.bench in
     let order : first ≤ end = omega (arith, c.run-end.ensures.end) in
     let within : end ≤ length patterns = omega (arith, c.run-end.ensures.end) in
-    let circuit : bench.good.circuit ≡ c.args.circuit.now = c.run-end.ensures.circuit ∙ so_far.circuit in
+    let circuit = circuit_is at in
     let vectors = bench.block.vectors in
-    let held = with_items_is c.loop-first.lanes c.write_block.new.lanes (omega (arith, c.write_block.auto.lanes, c.as_mut_slice-read.ensures.len)) in
     let set = subst (λ (k : Circuit). AreNumbersSet (IsListedBit kept k vectors numbers) (length vectors) c.loop-first.table c.write_block.new.table (length numbers) first) circuit c.write_block.ensures.set in
     record {
       bench = c.write_block.ensures.run.bench;
       circuit = ap (λ (b : Bench). b.good.circuit) c.write_block.ensures.bench ∙ circuit;
       within = within;
       aligned = λ h. omega (arith, h, c.run-end.ensures.end, so_far.aligned c.loop-first-test.true);
-      places = ap length held ∙ (omega (arith, c.write_block.auto.lanes, ap length c.as_mut_slice-read.ensures.value, so_far.places));
-      right = right_more end so_far.right set (listed_moved c.args.circuit.now patterns vectors first end c.run-end.ensures.vectors order within kept numbers)
-          (block_end c.args.circuit.now patterns vectors first end c.run-end.ensures.vectors order within) within;
+      right = right_more end so_far.right set (listed_moved c.args.circuit.now patterns vectors first end (vectors_are at) order within kept numbers)
+          (block_end c.args.circuit.now patterns vectors first end (vectors_are at) order within) within;
     }
 
 pub loop-first-smaller : goal.loop-first-smaller

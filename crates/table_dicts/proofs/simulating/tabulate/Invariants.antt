@@ -8,7 +8,6 @@ invariant-loop-first l = record {
   circuit : l.bench.good.circuit ≡ l.circuit;
   within : l.first ≤ length l.patterns;
   aligned : l.first < length l.patterns → l.first % 64 ≡ 0;
-  places : length l.lanes.items ≡ kept_width l.kept (length l.circuit.positions);
   right : AreRightTo (IsListedBit l.kept l.circuit l.patterns l.numbers) (length l.patterns) (length l.numbers) (kept_width l.kept (length l.circuit.positions)) l.first l.table;
 }
 

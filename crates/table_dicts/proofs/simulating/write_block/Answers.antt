@@ -21,9 +21,6 @@ write_number-requires-clause-place c = omega (arith, c.requires.rows, c.loop-pla
 pub write_number-requires-clause-width : goal.write_number-requires-clause-width
 write_number-requires-clause-width c = c.loop-place.invariant.set.sizes.positions_are ∙ (c.requires.width ∙ sym (ap (λ (b : Bench). kept_width c.args.kept (length b.good.circuit.positions)) c.loop-place.invariant.bench))
 
-pub write_number-requires-clause-lanes : goal.write_number-requires-clause-lanes
-write_number-requires-clause-lanes c = omega (arith, c.requires.lanes, c.loop-place.auto.lanes, c.loop-place.invariant.set.sizes.positions_are)
-
 pub write_number-requires-clause-within : goal.write_number-requires-clause-within
 write_number-requires-clause-within c = omega (arith, c.requires.within, ap (λ (b : Bench). length b.block.vectors) c.loop-place.invariant.bench, c.loop-place.invariant.set.sizes.patterns_are)
 

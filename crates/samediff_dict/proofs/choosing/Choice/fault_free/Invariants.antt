@@ -2,4 +2,4 @@ use Rattle.samediff_dict.proofs.ChoiceLemmas.{AreFreeTo}
 use Rattle.samediff_dict.proofs.choosing.Choice.fault_free.Given as goal
 
 abbrev pub invariant-loop-pattern : goal.invariant-loop-pattern
-invariant-loop-pattern l = AreFreeTo l.self.classes.now l.self.table.now.rows l.chosen.items l.pattern
+invariant-loop-pattern g l = AreFreeTo l.self.classes.now g.rows l.chosen.items l.pattern

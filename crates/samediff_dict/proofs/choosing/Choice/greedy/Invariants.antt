@@ -2,4 +2,4 @@ use Rattle.samediff_dict.proofs.ChoiceLemmas.{IsGreedyTo}
 use Rattle.samediff_dict.proofs.choosing.Choice.greedy.Given as goal
 
 abbrev pub invariant-loop-pattern : goal.invariant-loop-pattern
-invariant-loop-pattern l = IsGreedyTo l.self.classes.now l.self.table.now.rows l.chosen.items l.pattern l.before.group_of.items l.before.count
+invariant-loop-pattern g l = IsGreedyTo l.self.classes.now g.rows l.chosen.items l.pattern l.before

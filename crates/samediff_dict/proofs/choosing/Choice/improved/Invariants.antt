@@ -2,11 +2,22 @@ use Rattle.std.proofs.Common.{◌*◌, ◌-◌}
 use Rattle.net_model.specs.ClassTable.{class_count}
 use Rattle.samediff_dict.specs.Chosen.{pairs_apart}
 use Rattle.samediff_dict.specs.Numbered.{baselines_at}
+use Rattle.samediff_dict.specs.Choice.{AreSomeEnds, AreStarts}
 use Rattle.samediff_dict.proofs.ChoiceLemmas.{IsReplacing}
 use Rattle.samediff_dict.proofs.choosing.Choice.improved.Given as goal
 
 abbrev pub invariant-replacing : goal.invariant-replacing
-invariant-replacing l = IsReplacing l.self.classes.now l.self.table.now.rows l.chosen.items
+invariant-replacing g l = record {
+  so_far : IsReplacing l.self.classes.now g.rows l.chosen.items;
+  ends : AreSomeEnds g.rows l.self l.chosen.items l.ends.items;
+  starts : AreStarts g.rows l.self l.chosen.items l.starts.items;
+}
 
 abbrev pub decreases-replacing : goal.decreases-replacing
-decreases-replacing l = class_count l.self.classes.now * class_count l.self.classes.now - pairs_apart l.self.classes.now l.self.table.now.rows (baselines_at l.self.classes.now l.self.table.now.rows l.chosen.items)
+decreases-replacing g l = class_count l.self.classes.now * class_count l.self.classes.now - pairs_apart l.self.classes.now g.rows (baselines_at l.self.classes.now g.rows l.chosen.items)
+
+abbrev pub ghost-add_ends : goal.ghost-add_ends
+ghost-add_ends g a = g.rows
+
+abbrev pub ghost-improvement : goal.ghost-improvement
+ghost-improvement g a = g.rows

@@ -1,5 +1,15 @@
-use Rattle.samediff_dict.proofs.EndLemmas.{IsSearchTo}
+use Rattle.std.proofs.Common.{◌<◌, length}
+use Rattle.samediff_dict.specs.Choice.{AreStarts}
+use Rattle.samediff_dict.specs.Numbered.{baselines_at}
+use Rattle.samediff_dict.proofs.SearchLemmas.{NoneBefore}
 use Rattle.samediff_dict.proofs.choosing.Choice.improvement.Given as goal
 
+abbrev pub ghost-add_start : goal.ghost-add_start
+ghost-add_start g a = g.rows
+
 abbrev pub invariant-loop-pattern : goal.invariant-loop-pattern
-invariant-loop-pattern l = IsSearchTo l.self l.chosen l.pattern l.before
+invariant-loop-pattern g l = record {
+  starts : AreStarts g.rows l.self l.chosen l.starts.items;
+  there : l.pattern < length l.starts.items;
+  none : NoneBefore l.self.classes.now g.rows (baselines_at l.self.classes.now g.rows l.chosen) l.pattern;
+}

@@ -1,98 +1,41 @@
-use Rattle.std.proofs.Common.{◌≡◌, ◌∙◌, ◌<◌, ◌+◌, ◌*◌, ◌^◌, ℕ, cond, eqb, List, length, get_or, replicate, refl, sym, ap, subst, arith}
-use Rattle.std.proofs.lemmas.List.{length-replicate, length-set, get_or_read, get_or-replicate}
-use Rattle.samediff_dict.specs.Partition.{AreWithin}
-use Rattle.samediff_dict.proofs.PairLemmas.{others_of}
-use Rattle.samediff_dict.proofs.TallyLemmas.{sum_to_none}
-use Rattle.samediff_dict.proofs.GainLemmas.{size_split, others-few, gain_to, gain_all, gains_more, gains_bound}
+use Rattle.std.proofs.Common.{◌≡◌, ◌∙◌, ◌<◌, ℕ, List, length, get_or, ap, arith}
+use Rattle.std.proofs.lemmas.List.{get_or_default}
+use Rattle.std.proofs.lemmas.Result.{IfOk-weaker}
+use Rattle.samediff_dict.specs.Groups.{AreGains, in_one}
+use Rattle.samediff_dict.specs.Partition.{are_together}
+use Rattle.samediff_dict.proofs.GainLemmas.{gains_where}
+use Rattle.samediff_dict.proofs.ListedLemmas.{listed_few, gain_placed}
 use Rattle.samediff_dict.proofs.partition.Partition.gains.Goals as goal
-use Rattle.samediff_dict.proofs.partition.Partition.gains.Goals.{After-size_of-part}
+use Rattle.samediff_dict.proofs.partition.Partition.gains.Goals.{After-as_slice-2}
 
-pub size_of-size-requires-clause-class : goal.size_of-size-requires-clause-class
-size_of-size-requires-clause-class c = omega (arith, ap length c.as_slice-groups.ensures.value, c.requires.long)
+pub picked-requires : goal.picked-requires
+picked-requires c = λ k d h.
+    let inside : k < length c.args.self.now.classes.items = omega (arith, h, ap length c.as_slice.ensures.value) in
+    omega (arith, get_or_default c.as_slice.result.now k d 0 h, ap (λ (xs : List ℕ). get_or xs k 0) c.as_slice.ensures.value, c.requires.listed.below k inside)
 
-pub size_of-size-requires-clause-within : goal.size_of-size-requires-clause-within
-size_of-size-requires-clause-within c =
-    let long : length c.as_slice-sizes.result.now ≡ c.args.self.now.count = ap length c.as_slice-sizes.ensures.value ∙ c.in_ok-all.ensures.count_is in
-    subst (λ n. AreWithin c.as_slice-groups.result.now n) (sym long) (subst (λ (gs : List ℕ). AreWithin gs c.args.self.now.count) (sym c.as_slice-groups.ensures.value) c.requires.within)
+module _ (c : After-as_slice-2) where
+  own_long : length c.as_slice-2.result.now ≡ length c.args.self.now.classes.items
+  own_long = ap length c.as_slice-2.ensures.value ∙ (c.in_ok-own_answers.ensures.long ∙ ap length c.as_slice.ensures.value)
 
-pub size_of-part-requires-clause-class : goal.size_of-part-requires-clause-class
-size_of-part-requires-clause-class c = omega (arith, ap length c.as_slice-parts.ensures.value, c.in_ok-cells.ensures.one_each)
+  own_are : (k : ℕ) → k < length c.args.self.now.classes.items → get_or c.as_slice-2.result.now k 0 ≡ get_or c.args.answers.now (get_or c.args.self.now.classes.items k 0) 0
+  own_are k h =
+      ap (λ (xs : List ℕ). get_or xs k 0) c.as_slice-2.ensures.value
+      ∙ (c.in_ok-own_answers.ensures.each k (omega (arith, h, ap length c.as_slice.ensures.value)) ∙ ap (λ (xs : List ℕ). get_or c.args.answers.now (get_or xs k 0) 0) c.as_slice.ensures.value)
 
-pub size_of-part-requires-clause-within : goal.size_of-part-requires-clause-within
-size_of-part-requires-clause-within c =
-    let long : length c.as_slice-part_sizes.result.now ≡ c.in_ok-cells.cells.count = ap length c.as_slice-part_sizes.ensures.value ∙ c.in_ok-alike.ensures.count_is in
-    subst (λ n. AreWithin c.as_slice-parts.result.now n) (sym long) (subst (λ (gs : List ℕ). AreWithin gs c.in_ok-cells.cells.count) (sym c.as_slice-parts.ensures.value) c.in_ok-cells.ensures.within)
+pub gains-requires-clause-long : goal.gains-requires-clause-long
+gains-requires-clause-long c = omega (arith, own_long (goal.at.gains-requires-clause-long c).After-as_slice-2, c.requires.listed.one_each)
 
--- the size of a group is that of the part with the others that answer otherwise
-split : (c : After-size_of-part) → c.size_of-size.result ≡ c.size_of-part.result + others_of c.args.self.now.group_of.items c.args.answers.now (length c.args.answers.now) c.loop-class.class
-split c =
-    let groups = c.args.self.now.group_of.items in
-    let answers = c.args.answers.now in
-    let cells = c.in_ok-cells.cells.group_of.items in
-    let class = c.loop-class.class in
-    let inside : class < length answers = omega arith in
-    let size : c.size_of-size.result ≡ get_or c.in_ok-all.all.sizes.items (get_or groups class 0) 0 = c.size_of-size.ensures ∙ (λ i. get_or (c.as_slice-sizes.ensures.value i) (get_or (c.as_slice-groups.ensures.value i) class 0) 0) in
-    let part : c.size_of-part.result ≡ get_or c.in_ok-alike.alike.sizes.items (get_or cells class 0) 0 = c.size_of-part.ensures ∙ (λ i. get_or (c.as_slice-part_sizes.ensures.value i) (get_or (c.as_slice-parts.ensures.value i) class 0) 0) in
-    let both = size_split groups answers cells c.args.self.now.count c.in_ok-cells.cells.count c.in_ok-all.all.sizes.items c.in_ok-alike.alike.sizes.items c.in_ok-all.all.apart c.in_ok-alike.alike.apart
-    c.in_ok-cells.ensures c.requires.long c.in_ok-all.ensures c.in_ok-alike.ensures class inside (c.requires.within class (omega (arith, inside, c.requires.long))) in
-    size ∙ (both ∙ ap (λ n. n + others_of groups answers (length answers) class) (sym part))
+pub gains-requires-clause-few : goal.gains-requires-clause-few
+gains-requires-clause-few c = omega (arith, own_long (goal.at.gains-requires-clause-few c).After-as_slice-2, listed_few c.requires.listed, c.requires.few)
 
-pub loop-class-init : goal.loop-class-init
-loop-class-init c =
-    let groups = c.args.self.now.group_of.items in
-    let answers = c.args.answers.now in
-    let n = c.args.candidates in
-    let made : c.in_ok-gains.gains.items ≡ replicate {A = ℕ} n 0 = c.in_ok-gains.ensures.items_if_clones_equal (λ y e. e) in
-    let at : (answer : ℕ) → answer < n → get_or c.in_ok-gains.gains.items answer 0 ≡ 0 = λ answer h. ap (λ (xs : List ℕ). get_or xs answer 0) made ∙ get_or-replicate {A = ℕ} n answer 0 0 h in
-    record {
-      places = ap length made ∙ length-replicate {A = ℕ} n 0;
-      each = λ answer h. at answer h ∙ sym (sum_to_none (λ class. cond (eqb (get_or answers class 0) answer) (others_of groups answers (length answers) class) 0));
-      bound = λ answer h. omega (arith, at answer h);
-    }
+pub gains-requires-clause-known : goal.gains-requires-clause-known
+gains-requires-clause-known c = λ k h.
+    let at = (goal.at.gains-requires-clause-known c).After-as_slice-2 in
+    let inside : k < length c.args.self.now.classes.items = omega (arith, h, own_long at) in
+    omega (arith, own_are at k inside, c.requires.known (get_or c.args.self.now.classes.items k 0) (c.requires.listed.below k inside))
 
 pub returns : goal.returns
 returns c =
-    let groups = c.args.self.now.group_of.items in
-    let answers = c.args.answers.now in
-    let all : c.loop-class.class ≡ length answers = omega arith in
-    record {
-      count_is = c.loop-class.invariant.places;
-      each = λ answer h. c.loop-class.invariant.each answer h ∙ (ap (λ k. gain_to groups answers k answer) all ∙ gain_all groups answers answer c.requires.long);
-    }
-
-pub overflow_sub-size : goal.overflow_sub-size
-overflow_sub-size c = let at = (goal.at.overflow_sub-size c).After-size_of-part in omega (arith, split at)
-
-pub index_mut-requires : goal.index_mut-requires
-index_mut-requires c = let known = c.requires.known c.loop-class.class (omega arith) in omega (arith, known, c.loop-class.invariant.places, c.loop-class.gains.ok.0)
-
-pub overflow_add-index_mut : goal.overflow_add-index_mut
-overflow_add-index_mut c =
-    let at = (goal.at.overflow_add-index_mut c).After-size_of-part in
-    let answers = c.args.answers.now in
-    let class = c.loop-class.class in
-    let code = get_or answers class 0 in
-    let known = c.requires.known class (omega arith) in
-    let read : c.index_mut.result.now ≡ get_or c.loop-class.gains.items code 0 = get_or_read c.loop-class.gains.items code c.index_mut.result.now (omega (arith, known, c.loop-class.invariant.places)) c.index_mut.ensures.value 0 in
-    omega (arith, read, c.loop-class.invariant.bound code known, split at, others-few c.args.self.now.group_of.items answers (length answers) class, c.requires.few)
-
-pub loop-class-preserved : goal.loop-class-preserved
-loop-class-preserved c =
-    let at = (goal.at.loop-class-preserved c).After-size_of-part in
-    let groups = c.args.self.now.group_of.items in
-    let answers = c.args.answers.now in
-    let class = c.loop-class.class in
-    let code = get_or answers class 0 in
-    let so_far = c.loop-class.invariant in
-    let gains = c.loop-class.gains.items in
-    let known = c.requires.known class (omega arith) in
-    let others = others_of groups answers (length answers) class in
-    let read : c.index_mut.result.now ≡ get_or gains code 0 = get_or_read gains code c.index_mut.result.now (omega (arith, known, so_far.places)) c.index_mut.ensures.value 0 in
-    let sum = c.index_mut.result.now + c.from.result in
-    let added : sum ≡ get_or gains code 0 + others = omega (arith, read, c.from.ensures, split at) in
-    let few = others-few groups answers (length answers) class in
-    record {
-      places = length-set gains code sum ∙ so_far.places;
-      each = gains_more groups answers gains c.args.candidates class others so_far.places known refl so_far.each sum added;
-      bound = λ answer h. omega (arith, gains_bound groups answers gains c.args.candidates class others so_far.places known refl (class * 2 ^ 32) (2 ^ 32) (omega (arith, few, c.requires.few)) so_far.bound sum added answer h);
-    }
+    let at = (goal.at.returns c).After-as_slice-2 in
+    IfOk-weaker c.gains.result (λ gains. AreGains (in_one c.args.self.now.groups.group_of.items) c.as_slice-2.result.now c.args.candidates gains.items) (λ gains. AreGains (are_together c.args.self.now) c.args.answers.now c.args.candidates gains.items)
+    (λ gains are. gains_where are (gain_placed c.args.answers.now c.as_slice-2.result.now c.requires.listed (own_long at) (own_are at))) c.gains.ensures

@@ -7,7 +7,9 @@ use Rattle.table_dicts.specs.AnswerTableFields.{table_of}
 use Rattle.table_dicts.specs.Blocks.{IsNumberSet}
 use Rattle.table_dicts.proofs.RowLemmas.{width_at, rows_later}
 use Rattle.table_dicts.proofs.TableLemmas.{patterns_are}
-use Rattle.table_dicts.proofs.BlockWordLemmas.{block_set}
+use Rattle.table_dicts.specs.BlockWords.{block_bit}
+use Rattle.table_dicts.proofs.BlockLemmas.{number_as}
+use Rattle.table_dicts.proofs.BlockWordLemmas.{bit_at_place, block_set}
 use Rattle.table_dicts.proofs.answer_table.AnswerTable.set_block.Goals as goal
 use Rattle.table_dicts.proofs.answer_table.AnswerTable.set_block.Goals.{After-div_ceil-words}
 
@@ -54,5 +56,8 @@ returns c =
     let at = (goal.at.returns c).After-div_ceil-words in
     let a = c.self.inside in
     let lanes = c.args.lanes.now in
-    let made = block_set a c.self.invariant c.write_words.new.rows c.args.number c.args.first c.args.count (c.words_before-begin.result * 64) (c.div_ceil-words.result * 64) lanes (in_numbers at) (positions_are at) c.words_before-begin.ensures.words (enough at) (in_patterns at) c.write_words.ensures in
+    let set = block_set a c.self.invariant c.write_words.new.rows c.args.number c.args.first c.args.count (c.words_before-begin.result * 64) (c.div_ceil-words.result * 64) (block_bit lanes) (in_numbers at) c.words_before-begin.ensures.words (enough at) (in_patterns at)
+    c.write_words.ensures in
+    let made = number_as (λ lane n k bit. bit ≡ bit_at (get_or lanes k []) lane)
+    (λ lane k bit hl hk e. e ∙ sym (bit_at_place lanes lane k (lane * a.positions + k) (omega (arith, hk, positions_are at)) (ap (λ n. lane * n + k) (positions_are at)))) set in
     subst (λ (t : Answers). IsNumberSet (λ lane n k bit. bit ≡ bit_at (get_or lanes k []) lane) c.args.count t (table_of (record a { cells = c.write_words.new.rows })) c.args.number c.args.first t.positions) c.self.view_is made

@@ -1,0 +1,229 @@
+-- Partitions of some of the classes of another: after a cut, and by two partitions.
+use Rattle.std.proofs.Common.{◌≡◌, ◌≢◌, ◌∙◌, ℕ, ◌+◌, ◌<◌, Bool, true, not, eqb, ◌&&◌, List, length, get_or, replicate, refl, sym, ap, subst, arith, ◌*◌}
+use Rattle.std.specs.Prelude.{AllPairs, Contains, filter}
+use Rattle.std.specs.Bool.{beq}
+use Rattle.std.specs.List.{range_with_len}
+use Rattle.std.proofs.Math.Bool.{and_comm}
+use Rattle.std.proofs.lemmas.Bool.{eqb-true, eq-eqb, and_parts, and_from}
+use Rattle.std.proofs.lemmas.List.{get_or_default, get_or-replicate, length-replicate}
+use Rattle.std.proofs.lemmas.List.FromFn.{get_or-range_with_len, length-range_with_len}
+use Rattle.class_refine.proofs.Ranges.{same_tests, range_ascends}
+use Rattle.samediff_dict.specs.declared.partition.Partition.{Partition}
+use Rattle.samediff_dict.specs.Groups.{AreWithin, AreGroups, InBoth, InBothAt, in_one, is_shared, gain_at, pairs_where, tells_apart}
+use Rattle.samediff_dict.specs.Partition.{group_in, are_together, together_in_both, TogetherAt, TogetherInBoth, AreMatched, IsListed, IsPartition, pairs_between}
+use Rattle.samediff_dict.proofs.PairLemmas.{pairs_to, pairs_are, pairs_same}
+use Rattle.samediff_dict.proofs.TallyLemmas.{pairs_all}
+use Rattle.samediff_dict.proofs.SharingLemmas.{filter_ascends, filter_below, filter-contains, shared_with}
+use Rattle.samediff_dict.proofs.ListedLemmas.{group_at, placed, partition_by, together_placed}
+
+-- a number of a list at a place that is read with 0
+at_place : (xs : List ℕ) (x : ℕ) → Contains xs x → (k : ℕ) × (k < length xs) × (get_or xs k 0 ≡ x)
+at_place xs x (k, h, e) = (k, h, get_or_default xs k 0 x h ∙ e)
+
+-- The listed classes are those at some places of another partition's list, each with a group below the count.
+pub record ArePicked (p r : Partition) (places : List ℕ) : Type 0 where
+  pub ascending : AllPairs (λ low high. low < high) places
+  pub within : AreWithin places (length p.classes.items)
+  pub long : length r.classes.items ≡ length places
+  pub groups_long : length r.groups.group_of.items ≡ length places
+  pub classes_are : (k : ℕ) → k < length places → get_or r.classes.items k 0 ≡ get_or p.classes.items (get_or places k 0) 0
+  pub groups_within : AreWithin r.groups.group_of.items r.groups.count
+
+pub picked_listed : {n : ℕ} {p r : Partition} {places : List ℕ} → IsListed n p → ArePicked p r places → IsListed n r
+picked_listed {n} {p} {r} {places} listed are = record {
+  one_each = are.groups_long ∙ sym are.long;
+  ascending = λ i j d l h.
+      let hi : i < length places = omega (arith, l, h, are.long) in
+      let hj : j < length places = omega (arith, h, are.long) in
+      let low : get_or r.classes.items i d ≡ get_or p.classes.items (get_or places i 0) 0 = get_or_default r.classes.items i d 0 (omega (arith, l, h)) ∙ are.classes_are i hi in
+      let high : get_or r.classes.items j d ≡ get_or p.classes.items (get_or places j 0) 0 = get_or_default r.classes.items j d 0 h ∙ are.classes_are j hj in
+      omega (arith, low, high, listed.ascending (get_or places i 0) (get_or places j 0) 0 (are.ascending i j 0 l hj) (are.within j hj));
+  below = λ k h. let hk : k < length places = omega (arith, h, are.long) in omega (arith, are.classes_are k hk, listed.below (get_or places k 0) (are.within k hk));
+  within = are.groups_within;
+}
+
+-- ---- all classes in one group
+
+pub whole_partition : (n : ℕ) {p : Partition} → p.classes.items ≡ range_with_len 0 n → p.groups.group_of.items ≡ replicate n 0 → p.groups.count ≡ 1 → IsPartition n (λ _ _. Unit {0}) p
+whole_partition n {p} classes groups count =
+    let long : length p.classes.items ≡ n = ap length classes ∙ length-range_with_len 0 n in
+    let groups_long : length p.groups.group_of.items ≡ n = ap length groups ∙ length-replicate {A = ℕ} n 0 in
+    let group : (k : ℕ) → k < n → get_or p.groups.group_of.items k 0 ≡ 0 = λ k h. ap (λ (xs : List ℕ). get_or xs k 0) groups ∙ get_or-replicate {A = ℕ} n k 0 0 h in
+    let at : (k : ℕ) → k < n → get_or p.classes.items k 0 ≡ k = λ k h. ap (λ (xs : List ℕ). get_or xs k 0) classes ∙ (get_or-range_with_len 0 n k 0 h ∙ omega arith) in
+    let listed : IsListed n p = record {
+      one_each = groups_long ∙ sym long;
+      ascending = subst (λ (xs : List ℕ). AllPairs (λ (low high : ℕ). low < high) xs) (sym classes) (range_ascends n);
+      below = λ k h. let hk : k < n = omega (arith, h, long) in omega (arith, at k hk, hk);
+      within = λ k h. let hk : k < n = omega (arith, h, groups_long) in omega (arith, group k hk, count);
+    } in
+    partition_by listed (λ _ _. Unit {0}) (λ class. tt)
+    (λ low high hl hh ne both. record {
+      low_at = low;
+      high_at = high;
+      low_within = omega (arith, hl, long);
+      high_within = omega (arith, hh, long);
+      low_is = at low hl;
+      high_is = at high hh;
+      same = group low hl ∙ sym (group high hh);
+    })
+    (λ i j hi hj e. tt)
+
+-- ---- how many pairs are apart
+
+pub apart_is : {n : ℕ} {p : Partition} → IsListed n p → (together : ℕ) → together ≡ pairs_where (length p.groups.group_of.items) (in_one p.groups.group_of.items) → 2 * (together + pairs_between n (are_together p)) + n ≡ n * n
+unfolding pairs_between
+apart_is {n} {p} listed together is =
+    let same : together ≡ pairs_to n (are_together p) =
+    is ∙ (ap (λ k. pairs_where k (in_one p.groups.group_of.items)) listed.one_each ∙ (pairs_are (length p.classes.items) (in_one p.groups.group_of.items) ∙ sym (together_placed listed))) in
+    let others : pairs_where n (λ low high. not (are_together p low high)) ≡ pairs_to n (λ low high. not (are_together p low high)) = pairs_are n (λ low high. not (are_together p low high)) in
+    omega (arith, same, others, pairs_all (are_together p) n)
+
+-- ---- after a cut
+
+module _ (numbers : List ℕ) (number : ℕ) {p : Partition} (listed : IsListed (length numbers) p) (own : List ℕ) (own_long : length own ≡ length p.classes.items)
+    (own_are : (k : ℕ) → k < length p.classes.items → get_or own k 0 ≡ get_or numbers (get_or p.classes.items k 0) 0)
+    (parts : List ℕ) (count : ℕ) (cut : AreGroups (length own) (InBothAt p.groups.group_of.items own number) parts count)
+    (places : List ℕ) (are : places ≡ filter (is_shared parts) (range_with_len 0 (length parts))) where
+  abbrev it : ℕ → Bool
+  it class = eqb (get_or numbers class 0) number
+
+  place_within : (k : ℕ) → k < length places → get_or places k 0 < length p.classes.items
+  place_within k h =
+      let below : get_or places k 0 < length parts = subst (λ (xs : List ℕ). (j : ℕ) → j < length xs → get_or xs j 0 < length parts) (sym are) (λ j l. filter_below (is_shared parts) (length parts) j 0 l) k h in
+      omega (arith, below, cut.one_each, own_long)
+
+  its_own : (k : ℕ) (class : ℕ) → k < length p.classes.items → get_or p.classes.items k 0 ≡ class → eqb (get_or own k 0) number ≡ it class
+  its_own k class h is = ap (λ m. eqb m number) (own_are k h) ∙ ap it is
+
+  module _ {r : Partition} (long : length r.classes.items ≡ length places) (groups_long : length r.groups.group_of.items ≡ length places)
+      (classes_are : (k : ℕ) → k < length places → get_or r.classes.items k 0 ≡ get_or p.classes.items (get_or places k 0) 0)
+      (groups_are : (k : ℕ) → k < length places → get_or r.groups.group_of.items k 0 ≡ get_or parts (get_or places k 0) 0) (count_is : r.groups.count ≡ count) where
+    picked : ArePicked p r places
+    picked = record {
+      ascending = subst (λ (xs : List ℕ). AllPairs (λ (low high : ℕ). low < high) xs) (sym are) (filter_ascends (is_shared parts) (length parts));
+      within = place_within;
+      long = long;
+      groups_long = groups_long;
+      classes_are = classes_are;
+      groups_within = λ k h.
+          let hk : k < length places = omega (arith, h, groups_long) in
+          omega (arith, groups_are k hk, count_is, cut.within (get_or places k 0) (omega (arith, place_within k hk, cut.one_each, own_long)));
+    }
+
+    pub cut_partition : IsPartition (length numbers) (TogetherAt p numbers number) r
+    cut_partition = partition_by (picked_listed listed picked) (TogetherAt p numbers number) (λ class. (refl, refl))
+        (λ low high hl hh ne both.
+        let at = placed listed low high ne both.0 in
+        let i = at.low_at in
+        let j = at.high_at in
+        let other : i ≢ j = λ e. ne (sym at.low_is ∙ (ap (λ k. get_or p.classes.items k 0) e ∙ at.high_is)) in
+        let hi : i < length parts = omega (arith, at.low_within, cut.one_each, own_long) in
+        let hj : j < length parts = omega (arith, at.high_within, cut.one_each, own_long) in
+        let one : get_or parts i 0 ≡ get_or parts j 0 =
+        cut.same i j (omega (arith, hi, cut.one_each)) (omega (arith, hj, cut.one_each)) (at.same, its_own i low at.low_within at.low_is ∙ (both.1 ∙ sym (its_own j high at.high_within at.high_is))) in
+        let found : (k : ℕ) → k < length parts → is_shared parts k ≡ true → (m : ℕ) × (m < length places) × (get_or places m 0 ≡ k) = λ k h so.
+        at_place places k (subst (λ (xs : List ℕ). Contains xs k) (sym are) (filter-contains (is_shared parts) (length parts) k h so)) in
+        let a = found i hi (shared_with parts i j other hi hj one) in
+        let b = found j hj (shared_with parts j i (λ e. other (sym e)) hj hi (sym one)) in
+        record {
+          low_at = a.0;
+          high_at = b.0;
+          low_within = omega (arith, a.1, long);
+          high_within = omega (arith, b.1, long);
+          low_is = classes_are a.0 a.1 ∙ (ap (λ k. get_or p.classes.items k 0) a.2 ∙ at.low_is);
+          high_is = classes_are b.0 b.1 ∙ (ap (λ k. get_or p.classes.items k 0) b.2 ∙ at.high_is);
+          same = groups_are a.0 a.1 ∙ (ap (λ k. get_or parts k 0) a.2 ∙ (one ∙ sym (groups_are b.0 b.1 ∙ ap (λ k. get_or parts k 0) b.2)));
+        })
+        (λ i j hi hj e.
+        let li : i < length places = omega (arith, hi, long) in
+        let lj : j < length places = omega (arith, hj, long) in
+        let a = get_or places i 0 in
+        let b = get_or places j 0 in
+        let ha = place_within i li in
+        let hb = place_within j lj in
+        let both = cut.together_are a b (omega (arith, ha, own_long)) (omega (arith, hb, own_long)) (sym (groups_are i li) ∙ (e ∙ groups_are j lj)) in (
+          ap (group_in p) (classes_are i li) ∙ (group_at listed a ha ∙ (both.0 ∙ (sym (group_at listed b hb) ∙ sym (ap (group_in p) (classes_are j lj))))),
+          sym (its_own a (get_or r.classes.items i 0) ha (sym (classes_are i li))) ∙ (both.1 ∙ its_own b (get_or r.classes.items j 0) hb (sym (classes_are j lj))),
+        ))
+
+-- ---- by two partitions
+
+module _ {n : ℕ} {p q : Partition} (listed : IsListed n p) (other_listed : IsListed n q) (here there : List ℕ) (are : AreMatched p.classes.items q.classes.items (length p.classes.items) here there)
+    (ours theirs : List ℕ) (ours_are : (k : ℕ) → k < length here → get_or ours k 0 ≡ get_or p.groups.group_of.items (get_or here k 0) 0) (theirs_long : length theirs ≡ length here)
+    (theirs_are : (k : ℕ) → k < length here → get_or theirs k 0 ≡ get_or q.groups.group_of.items (get_or there k 0) 0) where
+  our_group : (k : ℕ) → k < length here → get_or ours k 0 ≡ group_in p (get_or p.classes.items (get_or here k 0) 0)
+  our_group k h = ours_are k h ∙ sym (group_at listed (get_or here k 0) (are.within k h))
+
+  their_group : (k : ℕ) → k < length here → get_or theirs k 0 ≡ group_in q (get_or p.classes.items (get_or here k 0) 0)
+  their_group k h =
+      let hk : get_or there k 0 < length q.classes.items = are.there_within k (omega (arith, h, are.one_each)) in
+      theirs_are k h ∙ (sym (group_at other_listed (get_or there k 0) hk) ∙ sym (ap (group_in q) (are.equal k h)))
+
+  module _ {r : Partition} (both : AreGroups (length theirs) (InBoth ours theirs) r.groups.group_of.items r.groups.count) (long : length r.classes.items ≡ length here)
+      (classes_are : (k : ℕ) → k < length here → get_or r.classes.items k 0 ≡ get_or p.classes.items (get_or here k 0) 0) where
+    met : ArePicked p r here
+    met = record {
+      ascending = are.ascending;
+      within = are.within;
+      long = long;
+      groups_long = both.one_each ∙ theirs_long;
+      classes_are = classes_are;
+      groups_within = both.within;
+    }
+
+    pub met_partition : IsPartition n (TogetherInBoth p q) r
+    met_partition = partition_by (picked_listed listed met) (TogetherInBoth p q) (λ class. (refl, refl))
+        (λ low high hl hh ne so.
+        let at = placed listed low high ne so.0 in
+        let also = placed other_listed low high ne so.1 in
+        let found : (i j class : ℕ) → i < length p.classes.items → j < length q.classes.items → get_or p.classes.items i 0 ≡ class → get_or q.classes.items j 0 ≡ class → (k : ℕ) × (k < length here) × (get_or r.classes.items k 0 ≡ class) =
+        λ i j class hi hj one other.
+        let same : get_or q.classes.items j 0 ≡ get_or p.classes.items i 0 = other ∙ sym one in
+        let w = at_place here i (are.complete i hi (j, hj, get_or_default q.classes.items j (get_or p.classes.items i 0) 0 hj ∙ same)) in
+        (w.0, w.1, classes_are w.0 w.1 ∙ (ap (λ k. get_or p.classes.items k 0) w.2 ∙ one)) in
+        let a = found at.low_at also.low_at low at.low_within also.low_within at.low_is also.low_is in
+        let b = found at.high_at also.high_at high at.high_within also.high_within at.high_is also.high_is in
+        record {
+          low_at = a.0;
+          high_at = b.0;
+          low_within = omega (arith, a.1, long);
+          high_within = omega (arith, b.1, long);
+          low_is = a.2;
+          high_is = b.2;
+          same = both.same a.0 b.0 (omega (arith, a.1, theirs_long)) (omega (arith, b.1, theirs_long)) (
+            our_group a.0 a.1 ∙ (ap (group_in p) (sym (classes_are a.0 a.1) ∙ a.2) ∙ (so.0 ∙ (sym (ap (group_in p) (sym (classes_are b.0 b.1) ∙ b.2)) ∙ sym (our_group b.0 b.1)))),
+            their_group a.0 a.1 ∙ (ap (group_in q) (sym (classes_are a.0 a.1) ∙ a.2) ∙ (so.1 ∙ (sym (ap (group_in q) (sym (classes_are b.0 b.1) ∙ b.2)) ∙ sym (their_group b.0 b.1)))),
+          );
+        })
+        (λ i j hi hj e.
+        let li : i < length here = omega (arith, hi, long) in
+        let lj : j < length here = omega (arith, hj, long) in
+        let alike = both.together_are i j (omega (arith, li, theirs_long)) (omega (arith, lj, theirs_long)) e in (
+          ap (group_in p) (classes_are i li) ∙ (sym (our_group i li) ∙ (alike.0 ∙ (our_group j lj ∙ sym (ap (group_in p) (classes_are j lj))))),
+          ap (group_in q) (classes_are i li) ∙ (sym (their_group i li) ∙ (alike.1 ∙ (their_group j lj ∙ sym (ap (group_in q) (classes_are j lj))))),
+        ))
+
+-- the gains by two partitions are those by one of both
+pub gain_met : (p q : Partition) {r : Partition} (answers : List ℕ) → IsPartition (length answers) (TogetherInBoth p q) r → (answer : ℕ) → gain_at (are_together r) answers answer ≡ gain_at (together_in_both p q) answers answer
+unfolding gain_at
+gain_met p q {r} answers is answer =
+    let n = length answers in
+    let same : (low high : ℕ) → low < length answers → high < length answers → are_together r low high ≡ together_in_both p q low high = λ low high hl hh.
+    same_tests (are_together r low high) (together_in_both p q low high)
+    (λ so. let both = is.together_are low high hl hh (eqb-true (group_in r low) (group_in r high) so) in and_from (are_together p low high) (are_together q low high) (eq-eqb (group_in p low) (group_in p high) both.0) (eq-eqb (group_in q low) (group_in q high) both.1))
+    (λ so.
+    let both = and_parts (are_together p low high) (are_together q low high) so in
+    eq-eqb (group_in r low) (group_in r high) (is.same low high hl hh (eqb-true (group_in p low) (group_in p high) both.0, eqb-true (group_in q low) (group_in q high) both.1))) in
+    pairs_are n (tells_apart (are_together r) answers answer)
+    ∙ (pairs_same n (tells_apart (are_together r) answers answer) (tells_apart (together_in_both p q) answers answer)
+    (λ low high l h. ap (λ b. b && not (beq (eqb (get_or answers low 0) answer) (eqb (get_or answers high 0) answer))) (same low high (omega (arith, l, h)) h))
+    ∙ sym (pairs_are n (tells_apart (together_in_both p q) answers answer)))
+
+pub gain_turned : (p q : Partition) (answers : List ℕ) (answer : ℕ) → gain_at (together_in_both p q) answers answer ≡ gain_at (together_in_both q p) answers answer
+unfolding gain_at
+gain_turned p q answers answer =
+    let n = length answers in
+    pairs_are n (tells_apart (together_in_both p q) answers answer)
+    ∙ (pairs_same n (tells_apart (together_in_both p q) answers answer) (tells_apart (together_in_both q p) answers answer)
+    (λ low high l h. ap (λ b. b && not (beq (eqb (get_or answers low 0) answer) (eqb (get_or answers high 0) answer))) (and_comm (are_together p low high) (are_together q low high)))
+    ∙ sym (pairs_are n (tells_apart (together_in_both q p) answers answer)))

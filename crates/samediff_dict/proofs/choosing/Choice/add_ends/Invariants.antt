@@ -1,0 +1,6 @@
+use Rattle.std.proofs.Common.{◌+◌}
+use Rattle.samediff_dict.specs.Choice.{AreEnds}
+use Rattle.samediff_dict.proofs.choosing.Choice.add_ends.Given as goal
+
+abbrev pub invariant-loop-last : goal.invariant-loop-last
+invariant-loop-last g l = AreEnds g.rows l.self l.chosen (l.last + 1) l.ends.items

@@ -1,0 +1,7 @@
+use Rattle.samediff_dict.proofs.made.dict_among.Given as goal
+
+abbrev pub ghost-choose_numbers : goal.ghost-choose_numbers
+ghost-choose_numbers g a = g.t.rows
+
+abbrev pub ghost-baselines : goal.ghost-baselines
+ghost-baselines g a = g.t

@@ -1,0 +1,13 @@
+use Rattle.std.proofs.Common.{◌∙◌, ◌++◌, ◌∷◌, [], List, ℕ, ap, sym, arith}
+use Rattle.std.specs.List.{range_with_len}
+use Rattle.class_refine.proofs.Ranges.{range_more}
+use Rattle.samediff_dict.proofs.partition.first_numbers.Goals as goal
+
+pub loop-number-init : goal.loop-number-init
+loop-number-init c = c.in_ok-numbers.ensures.items
+
+pub loop-number-preserved : goal.loop-number-preserved
+loop-number-preserved c = c.in_ok-push.ensures.items ∙ (ap (λ (xs : List ℕ). xs ++ c.loop-number.number ∷ []) c.loop-number.invariant ∙ sym (range_more c.loop-number.number))
+
+pub returns : goal.returns
+returns c = c.loop-number.invariant ∙ ap (range_with_len 0) (omega arith)

@@ -1,0 +1,126 @@
+//! The third step of the choice: single replacements, as long as one keeps more pairs apart.
+
+ghost use Rattle.std.specs.Prelude.{◌≡◌, ◌+◌, ◌<◌, Bool, List, length, IfOk, OnOk, None, MatchOption};
+ghost use Rattle.samediff_dict.specs.Chosen.{better_baselines, improvement, chosen_baselines};
+ghost use Rattle.samediff_dict.specs.Numbered.{HasBaselines, baselines_at};
+ghost use Rattle.samediff_dict.specs.Choice.{IsChoice, IsChosen, AreEnds, AreSomeEnds, AreStarts, IsFirstBetter};
+
+use crate::choosing::Choice;
+use crate::partition::Partition;
+use std::alloc::{AllocError, Global};
+
+/// A candidate in place of the baseline of a pattern.
+#[derive(Clone, Copy)]
+pub(crate) struct Replacement {
+    pub(crate) pattern: usize,
+    pub(crate) answer: u32,
+}
+
+impl Choice<'_> {
+    /// The baselines after replacements, as long as one keeps more pairs apart. The groups by the patterns before a replaced one
+    /// stay as they are, and those by the patterns behind it.
+    pub(crate) fn improved(
+        &self,
+        alloc: Global,
+        mut chosen: Vec<u32>,
+    ) -> Result<Vec<u32>, AllocError>
+        ghost rows: { List (List (List Bool)) }
+        requires choice { IsChoice rows self.now }
+        requires better { HasBaselines self.now.classes.now rows chosen.items (better_baselines self.now.classes.now rows) }
+        ensures { IfOk result (λ improved. HasBaselines self.now.classes.now rows improved.items (chosen_baselines self.now.classes.now rows)) }
+    {
+        let mut ends = Vec::with_capacity(alloc, chosen.len() + 1)?;
+        ends.push(Partition::whole(alloc, self.count)?)?;
+        let mut starts = Vec::with_capacity(alloc, chosen.len() + 1)?;
+        starts.push(Partition::whole(alloc, self.count)?)?;
+        'replacing: loop {
+            self.add_ends(alloc, chosen.as_slice(), &mut ends)?;
+            let found = self.improvement(alloc, chosen.as_slice(), ends.as_slice(), &mut starts)?;
+            let Some(better) = found else {
+                return Ok(chosen);
+            };
+            ends.truncate(chosen.len() - better.pattern);
+            starts.truncate(better.pattern + 1);
+            chosen[better.pattern] = better.answer;
+        }
+    }
+
+    // Adds the groups of classes that are alike in more of the last baselines, up to all.
+    fn add_ends(
+        &self,
+        alloc: Global,
+        chosen: &[u32],
+        ends: &mut Vec<Partition>,
+    ) -> Result<(), AllocError>
+        ghost rows: { List (List (List Bool)) }
+        requires choice { IsChoice rows self.now }
+        requires chosen { IsChosen rows self.now chosen.now }
+        requires some { AreSomeEnds rows self.now chosen.now ends.old.items }
+        ensures { OnOk result (AreEnds rows self.now chosen.now (length chosen.now + 1) ends.new.items) }
+    {
+        for last in ends.len() - 1..chosen.len() {
+            let pattern = chosen.len() - 1 - last;
+            let numbers = self.patterns[pattern].numbers.as_slice();
+            let next = ends[last].cut(alloc, numbers, chosen[pattern])?;
+            ends.push(next)?;
+        }
+        Ok(())
+    }
+
+    // Adds the groups of classes that are alike in one more of the first baselines, where they are missing.
+    fn add_start(
+        &self,
+        alloc: Global,
+        chosen: &[u32],
+        pattern: usize,
+        starts: &mut Vec<Partition>,
+    ) -> Result<(), AllocError>
+        ghost rows: { List (List (List Bool)) }
+        requires choice { IsChoice rows self.now }
+        requires chosen { IsChosen rows self.now chosen.now }
+        requires pattern { pattern < length chosen.now }
+        requires before { pattern < length starts.old.items }
+        requires starts { AreStarts rows self.now chosen.now starts.old.items }
+        ensures there { OnOk result (pattern + 1 < length starts.new.items) }
+        ensures starts { OnOk result (AreStarts rows self.now chosen.now starts.new.items) }
+    {
+        if pattern + 1 < starts.len() {
+            return Ok(());
+        }
+        let numbers = self.patterns[pattern].numbers.as_slice();
+        let next = starts[pattern].cut(alloc, numbers, chosen[pattern])?;
+        starts.push(next)?;
+        Ok(())
+    }
+
+    // The first replacement that keeps more pairs apart, if there is one. The groups are those of classes that are alike in the
+    // last baselines: in none, in the last one, and so on to all. Those by the first baselines are added as they are needed.
+    fn improvement(
+        &self,
+        alloc: Global,
+        chosen: &[u32],
+        ends: &[Partition],
+        starts: &mut Vec<Partition>,
+    ) -> Result<Option<Replacement>, AllocError>
+        ghost rows: { List (List (List Bool)) }
+        requires choice { IsChoice rows self.now }
+        requires chosen { IsChosen rows self.now chosen.now }
+        requires ends { AreEnds rows self.now chosen.now (length chosen.now + 1) ends.now }
+        requires starts { AreStarts rows self.now chosen.now starts.old.items }
+        ensures found { IfOk result (λ found. MatchOption found (improvement self.now.classes.now rows (baselines_at self.now.classes.now rows chosen.now) ≡ None) (IsFirstBetter rows self.now chosen.now)) }
+        ensures starts { OnOk result (AreStarts rows self.now chosen.now starts.new.items) }
+    {
+        for pattern in 0..chosen.len() {
+            let candidates = &self.patterns[pattern];
+            let numbers = candidates.numbers.as_slice();
+            let end = &ends[chosen.len() - 1 - pattern];
+            let (count, current) = (candidates.count, chosen[pattern]);
+            let found = starts[pattern].first_above_in(alloc, end, numbers, count, current)?;
+            if let Some(answer) = found {
+                return Ok(Some(Replacement { pattern, answer }));
+            }
+            self.add_start(alloc, chosen, pattern, starts)?;
+        }
+        Ok(None)
+    }
+}

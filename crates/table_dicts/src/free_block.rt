@@ -1,0 +1,104 @@
+//! What is kept of a number's answers to a block of patterns, written where it differs from that of the fault-free ones.
+
+ghost use Rattle.std.specs.Prelude.{◌≡◌, ◌+◌, ◌%◌, ◌^◌, ◌<◌, ◌≤◌, ℕ, length, IfOk};
+ghost use Rattle.net_model.specs.Answer.{bit_at};
+ghost use Rattle.net_model.specs.FaultList.{fault_numbered};
+ghost use Rattle.fault_sim.specs.FaultSim.{AreDifferences};
+ghost use Rattle.table_dicts.specs.AnswerTable.{answer_bit};
+ghost use Rattle.table_dicts.specs.Blocks.{HasRun, HasLanes, IsKeptBit, kept_width, IsNumberSet, IsColumnSet};
+
+use crate::answer_table::AnswerTable;
+use crate::bench::Bench;
+use crate::simulating::Kept;
+use std::alloc::{AllocError, Global};
+use word_sim::{LANES, Lanes};
+
+/// What is kept of the fault-free answers to a block of patterns: at each position its lanes, and as a table of one number.
+#[derive(Drop)]
+pub(crate) struct FreeBlock {
+    lanes: Vec<Lanes>,
+    answers: AnswerTable,
+    ghost same: { HasLanes answers lanes.items },
+}
+
+impl FreeBlock {
+    /// What is kept of the fault-free answers to the patterns that were run.
+    pub(crate) fn new(
+        alloc: Global,
+        bench: &mut Bench,
+        kept: Kept,
+        width: u32,
+    ) -> Result<FreeBlock, AllocError>
+        requires run { HasRun bench.old }
+        requires width { width ≡ kept_width kept (length bench.old.good.circuit.positions) }
+        ensures bench { bench.new ≡ record bench.old { sim = bench.new.sim } }
+        ensures run { HasRun bench.new }
+        ensures width { IfOk result (λ free. length free.lanes.items ≡ width) }
+    {
+        let mut lanes = Vec::with_capacity(alloc, width as usize)?;
+        bench.inject(0);
+        for position in 0..width {
+            lanes.push(bench.lanes(kept, 0, position))?;
+        }
+        let mut answers = AnswerTable::zeros(alloc, LANES, 1, width)?;
+        answers.set_block(0, 0, LANES, lanes.as_slice());
+        Ok(FreeBlock { lanes, answers })
+    }
+
+    /// Writes what is kept of the injected number at the patterns that were run, as the table's number at a place.
+    pub(crate) fn write(
+        &self,
+        bench: &Bench,
+        kept: Kept,
+        number: u32,
+        table: &mut AnswerTable,
+        place: u32,
+        first: u32,
+    )
+        requires run { HasRun bench.now }
+        requires differ { AreDifferences bench.now.good.circuit (fault_numbered bench.now.good.circuit number) bench.now.block.vectors bench.now.sim.differences }
+        requires place { place < table.old.numbers }
+        requires width { table.old.positions ≡ kept_width kept (length bench.now.good.circuit.positions) }
+        requires free { length self.now.lanes.items ≡ table.old.positions }
+        requires aligned { first % 64 ≡ 0 }
+        requires within { first + length bench.now.block.vectors ≤ length table.old.rows }
+        ensures { IsNumberSet (λ lane at. IsKeptBit kept bench.now.good.circuit bench.now.block.vectors lane number) (length bench.now.block.vectors) table.old table.new place first table.old.positions }
+    {
+        let _ = table.patterns();
+        let count = bench.block.live();
+        table.copy_block(place, first, count, &self.answers);
+        let free = self.lanes.as_slice();
+        for position in 0..table.positions() {
+            let stands = free[position as usize];
+            let column = bench.lanes(kept, number, position);
+            correct(table, place, first, count, position, stands, column);
+        }
+    }
+}
+
+// Writes a column of lanes as a number's answers at a position, where the fault-free ones stand there.
+fn correct(
+    table: &mut AnswerTable,
+    number: u32,
+    first: u32,
+    count: u32,
+    position: u32,
+    free: Lanes,
+    column: Lanes,
+)
+    requires number { number < table.old.numbers }
+    requires within { first + count ≤ length table.old.rows }
+    requires few { count ≤ LANES }
+    requires fits { first + count < 2 ^ 32 }
+    requires position { position < table.old.positions }
+    requires free { (lane : ℕ) → lane < count → answer_bit table.old (first + lane) number position ≡ bit_at free lane }
+    ensures { IsColumnSet column count table.old table.new number first position }
+{
+    let differ = column.xor(free).any();
+    if !differ {
+        return;
+    }
+    for lane in 0..count {
+        table.set(first + lane, number, position, column.get(lane));
+    }
+}
