@@ -1,10 +1,11 @@
 -- Bits as digits.
 use Rattle.std.proofs.Common.{◌≡◌, ◌≢◌, ◌∙◌, ℕ, ◌<◌, ◌≤◌, Bool, true, false, eqb, zero, suc, ◌+◌, List, [], ◌∷◌, map, length, get_or, set, replicate, below_more, refl, sym, ap, ap₂, subst, inl, inr, arith, lit<}
 use Rattle.std.specs.Prelude.{All, codes}
-use Rattle.std.proofs.lemmas.Bool.{eqb-false}
-use Rattle.std.proofs.lemmas.List.{ext_get_or, length-map, length-replicate, get_or-map, length-set, get_or-set_same, get_or-set_other, set-get_or, set-set}
+use Rattle.std.proofs.lemmas.Bool.{eqb-false, cases_eq}
+use Rattle.std.proofs.lemmas.List.{ext_get_or, length-map, length-replicate, get_or-map, length-set, get_or-set_same, get_or-set_other}
 use Rattle.std.proofs.lemmas.List.Elements.{All-nil, All-cons, All-map}
 use Rattle.net_model.specs.BitText.{bit_digit, bits_text}
+use Rattle.table_dicts.specs.Rows.{IsRowSet}
 use Rattle.diagnose.specs.Lines.{Text, IsDigit, SpellField, digit_bits}
 use Rattle.diagnose.proofs.Cuts.{tails}
 use Rattle.diagnose.proofs.NumberLemmas.{first_byte}
@@ -81,6 +82,9 @@ pub record AreBitsSoFar (digits : Text) (at : ℕ) (bits : List Bool) : Type 0 w
   pub size : length bits ≡ length digits
   pub read : (k : ℕ) → k < at → get_or bits k false ≡ eqb (get_or digits k 0) 49
 
+pub bits_none : (digits : Text) (bits : List Bool) → bits ≡ replicate (length digits) false → AreBitsSoFar digits 0 bits
+bits_none digits bits is = record { size = ap (λ (xs : List Bool). length xs) is ∙ length-replicate (length digits) false; read = λ k below. absurd (omega (arith, below)) }
+
 pub whole_bits : (digits : Text) (at : ℕ) (bits : List Bool) → AreBitsSoFar digits at bits → length digits ≤ at → bits ≡ digit_bits digits
 whole_bits digits at bits so_far past =
     ext_get_or false bits (digit_bits digits) (so_far.size ∙ sym (length-map digits (λ b. eqb b 49)))
@@ -94,33 +98,13 @@ bits_more digits at bits bit so_far below is = record {
       (get_or-set_same bits at bit false (omega (arith, below, so_far.size)) ∙ is);
 }
 
--- ---- a row that is written so far
+-- ---- a row of digits that is written word by word
 
--- A row has the bits of the digits before a place, and the other rows are as they were.
-pub record IsWrittenSoFar (old : List (List Bool)) (row : ℕ) (digits : Text) (at : ℕ) (new : List (List Bool)) : Type 0 where
-  pub whole : new ≡ set old row (get_or new row [])
-  pub bits : AreBitsSoFar digits at (get_or new row [])
-
-pub written_none : (rows : List (List Bool)) (row : ℕ) (digits : Text) → length (get_or rows row []) ≡ length digits → IsWrittenSoFar rows row digits 0 rows
-written_none rows row digits wide = record {
-  whole = sym (set-get_or rows row []);
-  bits = record { size = wide; read = λ k below. absurd (omega (arith, below)) };
-}
-
-pub written_more : (old : List (List Bool)) (row : ℕ) (digits : Text) (at : ℕ) (new : List (List Bool)) (bit : Bool) → IsWrittenSoFar old row digits at new → row < length new → at < length digits → bit ≡ eqb (get_or digits at 0) 49
-    → IsWrittenSoFar old row digits (at + 1) (set new row (set (get_or new row []) at bit))
-written_more old row digits at new bit so_far inside below is =
-    let after = set (get_or new row []) at bit in
-    let here : get_or (set new row after) row [] ≡ after = get_or-set_same new row after [] inside in record {
-      whole = ap (λ (rows : List (List Bool)). set rows row after) so_far.whole ∙ set-set old row (get_or new row []) after ∙ ap (λ (r : List Bool). set old row r) (sym here);
-      bits = subst (AreBitsSoFar digits (at + 1)) (sym here) (bits_more digits at (get_or new row []) bit so_far.bits below is);
-    }
-
-pub written_all : (old : List (List Bool)) (row : ℕ) (digits : Text) (at : ℕ) (new : List (List Bool)) → IsWrittenSoFar old row digits at new → length digits ≤ at → new ≡ set old row (digit_bits digits)
-written_all old row digits at new so_far past = so_far.whole ∙ ap (λ (r : List Bool). set old row r) (whole_bits digits at (get_or new row []) so_far.bits past)
-
-pub written_count : (old : List (List Bool)) (row : ℕ) (digits : Text) (at : ℕ) (new : List (List Bool)) → IsWrittenSoFar old row digits at new → length new ≡ length old
-written_count old row digits at new so_far = ap (λ (rows : List (List Bool)). length rows) so_far.whole ∙ length-set old row (get_or new row [])
-
-pub bits_none : (digits : Text) (bits : List Bool) → bits ≡ replicate (length digits) false → AreBitsSoFar digits 0 bits
-bits_none digits bits is = record { size = ap (λ (xs : List Bool). length xs) is ∙ length-replicate (length digits) false; read = λ k below. absurd (omega (arith, below)) }
+-- a row that is set, and the others as before
+pub row_set : {old new : List (List Bool)} {row : ℕ} {bits : List Bool} → IsRowSet old new row bits → row < length old → new ≡ set old row bits
+row_set {old} {new} {row} {bits} one inside =
+    ext_get_or [] new (set old row bits) (one.shape.count ∙ sym (length-set old row bits))
+    (λ k h. elim (cases_eq k row) [
+      | inl same ↦ subst (λ (n : ℕ). get_or new n [] ≡ get_or (set old row bits) n []) (sym same) (one.here ∙ sym (get_or-set_same old row bits [] inside))
+      | inr ne ↦ one.others k ne ∙ sym (get_or-set_other old row k bits [] ne)
+    ])

@@ -1,25 +1,28 @@
 -- Rows that are compared or joined, and numbers that are listed.
-use Rattle.std.proofs.Common.{◌≡◌, ◌≢◌, ◌∙◌, ℕ, zero, suc, ◌+◌, ◌*◌, ◌<◌, ◌≤◌, Bool, true, false, not, cond, eqb, List, [], ◌∷◌, ◌++◌, map, length, get_or, set, take, drop, replicate, refl, sym, ap, ap₂, subst, inl, inr, below_more, arith}
+use Rattle.std.proofs.Common.{◌≡◌, ◌∙◌, ℕ, zero, suc, ◌+◌, ◌-◌, ◌*◌, ◌<◌, ◌≤◌, Bool, true, false, not, cond, eqb, List, [], ◌∷◌, ◌++◌, length, get_or, replicate, refl, sym, ap, ap₂, subst, inl, inr, arith}
 use Rattle.std.specs.Prelude.{All, zip, filter, flat_map}
 use Rattle.std.specs.Bool.{Decides}
 use Rattle.std.specs.Cmp.{booleans_Decides}
 use Rattle.std.specs.List.{range_with_len}
-use Rattle.std.proofs.lemmas.Bool.{eq-eqb, eqb-true, cases_lt}
+use Rattle.std.proofs.lemmas.Bool.{eq-eqb, eqb-true, ne_eqb, cases_eq, cases_lt}
 use Rattle.std.proofs.lemmas.Slice.Eq.{slice_eq-Decides}
 use Rattle.std.proofs.lemmas.Slice.Zip.{length-zip, get_or-zip}
-use Rattle.std.proofs.lemmas.List.{ext_get_or, length-map, get_or-map, length-set, length-append, length-replicate, append-nil, get_or-set_same, get_or-set_other, take-append-drop, length-take-le, length-drop, get_or-take, get_or-drop}
+use Rattle.std.proofs.lemmas.List.{length-map, get_or-map, length-append, length-replicate, append-nil, get_or_append_left, get_or-append-add, get_or_past}
 use Rattle.std.proofs.lemmas.List.Elements.{All-head, All-tail, filter-append}
-use Rattle.std.proofs.lemmas.Nat.{row_fits}
+use Rattle.std.proofs.lemmas.Nat.Bits.{bit_at-zero}
 use Rattle.net_model.specs.ClassTable.{same_bits}
 use Rattle.table_dicts.specs.declared.dict.Dict.{Dict}
 use Rattle.table_dicts.specs.declared.dict.DictKind.{DictKind}
 use Rattle.table_dicts.specs.declared.dict.DictKind.TheVariants.{PassFail, Full, SameDiff}
-use Rattle.net_model.specs.Rows.{row_bit}
-use Rattle.table_dicts.specs.Rows.{AreRows}
+use Rattle.net_model.specs.Rows.{bit_of, word_bit, row_bit, IsPacked, IsWordSet}
+use Rattle.table_dicts.specs.Rows.{AreRows, IsWordOf, IsRowBegun}
 use Rattle.table_dicts.specs.Entries.{differences}
 use Rattle.table_dicts.specs.Grouped.{IsGrouped}
 use Rattle.table_dicts.specs.Dictionary.{IsShaped, baseline_count, entry_width, entry_of, observed_entry, listed_numbers}
-use Rattle.diagnose.specs.Joined.{AreJoined}
+use Rattle.table_dicts.proofs.RowLemmas.{begun_none, begun_all}
+use Rattle.table_dicts.proofs.BlockWordLemmas.{words_more}
+use Rattle.table_dicts.proofs.WordLemmas.{bit_in}
+use Rattle.diagnose.proofs.WordLemmas.{packed_bit, first_word_bit}
 
 -- ---- equal rows
 
@@ -42,115 +45,111 @@ told_other a b e same = let clash : ◌≡◌ {A = Bool} false true = e ∙ (sam
 pub by_same : (a b : List Bool) (r : Bool) → Decides r (a ≡ b) → r ≡ same_bits a b
 by_same a b r decides = same_answer r (same_bits a b) decides (same_decides a b)
 
--- ---- bits that tell which rows differ
-
--- The one row tells of each row before a place whether it isn't the baseline.
-pub record TellsDifferent (observed baselines : List (List Bool)) (place : ℕ) (bits : List (List Bool)) : Type 0 where
-  pub one : length bits ≡ 1
-  pub size : length (get_or bits 0 []) ≡ length observed
-  pub read : (k : ℕ) → k < place → get_or (get_or bits 0 []) k false ≡ not (same_bits (get_or observed k []) (get_or baselines k []))
+-- ---- an entry that is written word by word
 
 one_row : (bits : List (List Bool)) → length bits ≡ 1 → bits ≡ get_or bits 0 [] ∷ []
 one_row [] e = absurd (omega (arith, e))
 one_row (x ∷ []) e = refl
 one_row (x ∷ y ∷ more) e = absurd (omega (arith, e))
 
-pub tells_none : (observed baselines bits : List (List Bool)) (count : ℕ) → bits ≡ replicate 1 (replicate count false) → count ≡ length observed → TellsDifferent observed baselines 0 bits
-tells_none observed baselines bits count is many = record {
-  one = ap (λ (rows : List (List Bool)). length rows) is;
-  size = ap (λ (rows : List (List Bool)). length (get_or rows 0 [])) is ∙ length-replicate count false ∙ many;
-  read = λ k below. absurd (omega (arith, below));
-}
+-- The first words of the only row of a list have the bits of an entry, so many.
+abbrev pub IsEntryBegun : ℕ → List Bool → ℕ → List (List Bool) → Type 0
+IsEntryBegun count entry words bits = IsRowBegun (replicate 1 (replicate count false)) bits 0 (words * 64) entry
 
-pub tells_more : (observed baselines : List (List Bool)) (place : ℕ) (bits : List (List Bool)) (bit : Bool) → TellsDifferent observed baselines place bits → place < length observed
-    → bit ≡ not (same_bits (get_or observed place []) (get_or baselines place [])) → TellsDifferent observed baselines (place + 1) (set bits 0 (set (get_or bits 0 []) place bit))
-tells_more observed baselines place bits bit so_far below is =
-    let row = get_or bits 0 [] in
-    let here : get_or (set bits 0 (set row place bit)) 0 [] ≡ set row place bit = get_or-set_same bits 0 (set row place bit) [] (omega (arith, so_far.one)) in record {
-      one = length-set bits 0 (set row place bit) ∙ so_far.one;
-      size = ap length here ∙ length-set row place bit ∙ so_far.size;
-      read = below_more (λ k. get_or (get_or (set bits 0 (set row place bit)) 0 []) k false ≡ not (same_bits (get_or observed k []) (get_or baselines k []))) place
-          (λ k low. let other : k ≢ place = omega (arith, low) in ap (λ (r : List Bool). get_or r k false) here ∙ get_or-set_other row place k bit false other ∙ so_far.read k low)
-          (ap (λ (r : List Bool). get_or r place false) here ∙ get_or-set_same row place bit false (omega (arith, below, so_far.size)) ∙ is);
-    }
+pub entry_none : {bits : List (List Bool)} (count : ℕ) (entry : List Bool) → bits ≡ replicate 1 (replicate count false) → IsEntryBegun count entry 0 bits
+entry_none {bits} count entry is = subst (IsEntryBegun count entry 0) (sym is) (begun_none 0 entry)
 
-pub tells_all : (observed baselines : List (List Bool)) (place : ℕ) (bits : List (List Bool)) → TellsDifferent observed baselines place bits → length observed ≡ length baselines → length observed ≤ place → bits ≡ differences observed baselines ∷ []
+pub entry_size : {count : ℕ} (words : ℕ) {entry : List Bool} {bits : List (List Bool)} → IsEntryBegun count entry words bits → length (get_or bits 0 []) ≡ count
+entry_size {count} words so_far = so_far.shape.widths 0 ∙ length-replicate count false
+
+pub entry_more : {count : ℕ} (word : ℕ) {part : ℕ} {entry : List Bool} {old new : List (List Bool)} → IsEntryBegun count entry word old → IsWordSet old new 0 word part → IsWordOf entry word part → length entry ≡ count → IsEntryBegun count entry (word + 1) new
+entry_more {count} word so_far one is long = words_more so_far one (length-replicate count false ∙ sym long) (λ k h e. bit_in is k e)
+
+pub entry_all : {count : ℕ} (words : ℕ) {entry : List Bool} {bits : List (List Bool)} → IsEntryBegun count entry words bits → length entry ≡ count → count ≤ words * 64 → bits ≡ entry ∷ []
+entry_all {count} words {entry} {bits} so_far long past =
+    let set = begun_all so_far (length-replicate count false ∙ sym long) (omega (arith, long, past)) in
+    one_row bits set.shape.count ∙ ap (λ (r : List Bool). r ∷ []) set.here
+
+-- whether a row isn't the baseline
+pub difference_at : (observed baselines : List (List Bool)) → length observed ≡ length baselines → (k : ℕ) → k < length observed
+    → get_or (differences observed baselines) k false ≡ not (same_bits (get_or observed k []) (get_or baselines k []))
 unfolding differences
-tells_all observed baselines place bits so_far same past =
+difference_at observed baselines same k inside =
     let test : List Bool × List Bool → Bool = λ x. not (same_bits x.0 x.1) in
-    let many : length (zip observed baselines) ≡ length observed = omega (arith, length-zip observed baselines, same) in
-    one_row bits so_far.one ∙ ap (λ (r : List Bool). r ∷ [])
-    (ext_get_or false (get_or bits 0 []) (map test (zip observed baselines)) (so_far.size ∙ sym (length-map (zip observed baselines) test ∙ many))
-    (λ k below.
-    let inside : k < length observed = omega (arith, below, so_far.size) in
-    so_far.read k (omega (arith, inside, past))
-    ∙ sym (get_or-map test (zip observed baselines) k ([], []) false (omega (arith, inside, many)) ∙ ap test (get_or-zip observed baselines k ([], []) inside (omega (arith, inside, same))))))
+    get_or-map test (zip observed baselines) k ([], []) false (omega (arith, inside, length-zip observed baselines, same)) ∙ ap test (get_or-zip observed baselines k ([], []) inside (omega (arith, inside, same)))
 
--- ---- rows that are joined
+-- the bit at the place of a row's bit in all rows, one after another
+pub flat_bit : (rows : List (List Bool)) (width row at : ℕ) → All (λ r. length r ≡ width) rows → row < length rows → at < width → get_or (flat_map (λ r. r) rows) (row * width + at) false ≡ row_bit rows row at
+flat_bit [] width row at wide below inside = absurd (omega (arith, below))
+flat_bit (r ∷ rows) width zero at wide below inside =
+    get_or_append_left r (flat_map (λ r. r) rows) false (0 * width + at) (omega (arith, inside, All-head (λ r. length r ≡ width) r rows wide)) ∙ ap (λ (n : ℕ). get_or r n false) (omega arith)
+flat_bit (r ∷ rows) width (suc row) at wide below inside =
+    let long : length r ≡ width = All-head (λ r. length r ≡ width) r rows wide in
+    let place : suc row * width + at ≡ length r + (row * width + at) = omega (arith, long) in
+    ap (λ (n : ℕ). get_or (r ++ flat_map (λ r. r) rows) n false) place
+    ∙ (get_or-append-add r (flat_map (λ r. r) rows) (row * width + at) false ∙ flat_bit rows width row at (All-tail (λ r. length r ≡ width) r rows wide) (omega (arith, below)) inside)
 
--- The bits of a row before a place are joined too.
-pub record IsPartJoined (observed : List (List Bool)) (width row at : ℕ) (joined : List (List Bool)) : Type 0 where
-  pub before : AreJoined observed width row joined
-  pub here : (k : ℕ) → k < at → row_bit joined 0 (row * width + k) ≡ row_bit observed row k
+pub some_width : (count width place : ℕ) → place < count * width → 0 < width
+some_width count zero place h = absurd (omega (arith, h))
+some_width count (suc width) place h = omega arith
 
-pub place_below : (count width row at : ℕ) → row < count → at < width → row * width + at < count * width
-place_below count width row at low inside = omega (arith, row_fits row width count width low (omega arith), inside)
+-- The word has the bits of an entry from a place on, so many, and no others.
+pub record IsWordBegun (entry : List Bool) (first filled bits : ℕ) : Type 0 where
+  pub begun : (k : ℕ) → k < 64 → k < filled → bit_of bits k ≡ get_or entry (first + k) false
+  pub rest : (k : ℕ) → filled ≤ k → k < 64 → bit_of bits k ≡ false
 
-place_apart : (width row other at k : ℕ) → other < row → k < width → other * width + k ≢ row * width + at
-place_apart width row other at k low inside e = let below = place_below row width other k low inside in omega (arith, e, below)
+pub word_none : (entry : List Bool) (first : ℕ) → IsWordBegun entry first 0 0
+word_none entry first = record { begun = λ k h before. absurd (omega (arith, before)); rest = λ k past h. ap (λ n. eqb n 1) (bit_at-zero k) }
 
-pub start_below : (count width row : ℕ) → row < count → row * width ≤ count * width
-start_below count width row low = omega (arith, row_fits row width count width low (omega arith))
+module _ (observed : List (List Bool)) (width first : ℕ) (wide : All (λ row. length row ≡ width) observed) where
+  abbrev all_bits : List Bool
+  all_bits = flat_map (λ bits. bits) observed
 
-pub part_none : (observed joined : List (List Bool)) (width row : ℕ) → AreJoined observed width row joined → IsPartJoined observed width row 0 joined
-part_none observed joined width row so_far = record { before = so_far; here = λ k below. absurd (omega (arith, below)) }
+  -- the bits of a row from a place on
+  pub word_first : {bits : ℕ} {words : List ℕ} (row at : ℕ) → row * width + at ≡ first → row < length observed → at < width → IsPacked (get_or observed row []) words
+      → ((k : ℕ) → k < 64 → bit_of bits k ≡ word_bit words 0 (at + k)) → IsWordBegun all_bits first (width - at) bits
+  word_first row at start low inside packed read = record {
+    begun = λ k h before.
+        let place : row * width + (at + k) ≡ first + k = omega (arith, start) in
+        read k h ∙ (packed_bit packed (at + k) ∙ (sym (flat_bit observed width row (at + k) wide low (omega (arith, before, inside))) ∙ ap (λ (n : ℕ). get_or all_bits n false) place));
+    rest = λ k past h. read k h ∙ (packed_bit packed (at + k) ∙ get_or_past (get_or observed row []) (at + k) false (omega (arith, past, inside, wide row [] low)));
+  }
 
-pub part_more : (observed : List (List Bool)) (width row at : ℕ) (joined : List (List Bool)) (bit : Bool) → IsPartJoined observed width row at joined → row < length observed → at < width → bit ≡ row_bit observed row at
-    → IsPartJoined observed width row (at + 1) (set joined 0 (set (get_or joined 0 []) (row * width + at) bit))
-part_more observed width row at joined bit so_far below inside is =
-    let line = get_or joined 0 [] in
-    let place = row * width + at in
-    let here : get_or (set joined 0 (set line place bit)) 0 [] ≡ set line place bit = get_or-set_same joined 0 (set line place bit) [] (omega (arith, so_far.before.one)) in
-    let other : (k : ℕ) → k ≢ place → row_bit (set joined 0 (set line place bit)) 0 k ≡ row_bit joined 0 k = λ k apart. ap (λ (r : List Bool). get_or r k false) here ∙ get_or-set_other line place k bit false apart in record {
-      before = record {
-        one = length-set joined 0 (set line place bit) ∙ so_far.before.one;
-        size = ap length here ∙ length-set line place bit ∙ so_far.before.size;
-        bits = λ r k low within. other (r * width + k) (place_apart width row r at k low within) ∙ so_far.before.bits r k low within;
-      };
-      here = below_more (λ k. row_bit (set joined 0 (set line place bit)) 0 (row * width + k) ≡ row_bit observed row k) at
-          (λ k low. other (row * width + k) (λ e. omega (arith, e, low)) ∙ so_far.here k low)
-          (ap (λ (r : List Bool). get_or r place false) here ∙ get_or-set_same line place bit false (omega (arith, place_below (length observed) width row at below inside, so_far.before.size)) ∙ is);
-    }
+  -- the bits of the next row behind them
+  pub word_more : {old new filled : ℕ} {words : List ℕ} (row : ℕ) → IsWordBegun all_bits first filled old → first + filled ≡ row * width → row < length observed → IsPacked (get_or observed row []) words
+      → ((k : ℕ) → k < filled → bit_of new k ≡ bit_of old k) → ((k : ℕ) → filled + k < 64 → bit_of new (filled + k) ≡ bit_of (get_or words 0 0) k) → IsWordBegun all_bits first (filled + width) new
+  word_more {old} {new} {filled} {words} row so_far start low packed own more =
+      let behind : (k : ℕ) → filled ≤ k → k < 64 → bit_of new k ≡ get_or (get_or observed row []) (k - filled) false =
+      λ k past h. let place : filled + (k - filled) ≡ k = omega (arith, past) in
+      ap (bit_of new) (sym place) ∙ (more (k - filled) (omega (arith, place, h)) ∙ first_word_bit packed (k - filled) (omega (arith, h))) in record {
+        begun = λ k h before. elim (cases_lt k filled) [
+          | inl own_place ↦ own k own_place ∙ so_far.begun k h own_place
+          | inr past ↦
+              let place : row * width + (k - filled) ≡ first + k = omega (arith, start, past) in
+              behind k past h ∙ (sym (flat_bit observed width row (k - filled) wide low (omega (arith, before, past))) ∙ ap (λ (n : ℕ). get_or all_bits n false) place)
+        ];
+        rest = λ k past h. behind k (omega (arith, past)) h ∙ get_or_past (get_or observed row []) (k - filled) false (omega (arith, past, wide row [] low));
+      }
 
-pub part_all : (observed : List (List Bool)) (width row at : ℕ) (joined : List (List Bool)) → IsPartJoined observed width row at joined → width ≤ at → AreJoined observed width (row + 1) joined
-part_all observed width row at joined so_far past = record {
-  one = so_far.before.one;
-  size = so_far.before.size;
-  bits = λ r k low within. elim (cases_lt r row) [
-    | inl before ↦ so_far.before.bits r k before within
-    | inr after ↦ let same : row ≡ r = omega (arith, low, after) in subst (λ (n : ℕ). row_bit joined 0 (n * width + k) ≡ row_bit observed n k) same (so_far.here k (omega (arith, within, past)))
+-- the word of an entry, once it is full or the entry is at its end
+pub word_all : {entry : List Bool} {word filled bits : ℕ} → IsWordBegun entry (word * 64) filled bits → ((k : ℕ) → filled ≤ k → k < 64 → length entry ≤ word * 64 + k) → IsWordOf entry word bits
+word_all {entry} {word} {filled} {bits} so_far end = record {
+  are = λ k h. elim (cases_lt k filled) [
+    | inl before ↦ so_far.begun k h before
+    | inr past ↦ so_far.rest k past h ∙ sym (get_or_past entry (word * 64 + k) false (end k past h))
   ];
 }
 
--- a list that has the bits of rows in their places is the rows joined
-flat_rows : (observed : List (List Bool)) (width : ℕ) (bits : List Bool) → All (λ row. length row ≡ width) observed → length bits ≡ length observed * width
-    → ((row at : ℕ) → row < length observed → at < width → get_or bits (row * width + at) false ≡ row_bit observed row at) → bits ≡ flat_map (λ row. row) observed
-flat_rows [] width [] wide size read = refl
-flat_rows [] width (b ∷ bits) wide size read = absurd (omega (arith, size))
-flat_rows (row ∷ rows) width bits wide size read =
-    let long : length row ≡ width = All-head (λ r. length r ≡ width) row rows wide in
-    let room : width ≤ length bits = omega (arith, size) in
-    let front : take width bits ≡ row = ext_get_or false (take width bits) row (length-take-le width bits room ∙ sym long)
-    (λ k below. let inside : k < width = omega (arith, below, length-take-le width bits room) in
-    get_or-take width bits k false inside ∙ ap (λ (n : ℕ). get_or bits n false) (omega arith) ∙ read 0 k (omega arith) inside) in
-    let back = flat_rows rows width (drop width bits) (All-tail (λ r. length r ≡ width) row rows wide) (omega (arith, length-drop width bits, size))
-    (λ r k low inside. get_or-drop width bits (r * width + k) false ∙ ap (λ (n : ℕ). get_or bits n false) (omega arith) ∙ read (suc r) k (omega (arith, low)) inside) in
-    sym (take-append-drop width bits) ∙ ap₂ (λ (xs ys : List Bool). xs ++ ys) front back
-
-pub joined_all : (observed : List (List Bool)) (width row : ℕ) (joined : List (List Bool)) → AreJoined observed width row joined → All (λ r. length r ≡ width) observed → length observed ≤ row
-    → joined ≡ flat_map (λ r. r) observed ∷ []
-joined_all observed width row joined so_far wide past =
-    one_row joined so_far.one ∙ ap (λ (r : List Bool). r ∷ []) (flat_rows observed width (get_or joined 0 []) wide so_far.size (λ r k low inside. so_far.bits r k (omega (arith, low, past)) inside))
+-- one more bit of a word
+pub word_bit_more : {entry : List Bool} {first filled old new : ℕ} (bit : Bool) → IsWordBegun entry first filled old → ((k : ℕ) → k < 64 → bit_of new k ≡ cond (eqb k filled) bit (bit_of old k)) → bit ≡ get_or entry (first + filled) false
+    → IsWordBegun entry first (filled + 1) new
+word_bit_more {entry} {first} {filled} {old} {new} bit so_far is own = record {
+  begun = λ k h before. is k h ∙ elim (cases_eq k filled) [
+    | inl same ↦ ap (λ b. cond b bit (bit_of old k)) (eq-eqb k filled same) ∙ (own ∙ ap (λ (j : ℕ). get_or entry (first + j) false) (sym same))
+    | inr ne ↦ ap (λ b. cond b bit (bit_of old k)) (ne_eqb k filled ne) ∙ so_far.begun k h (omega (arith, before, ne))
+  ];
+  rest = λ k past h. is k h ∙ (ap (λ b. cond b bit (bit_of old k)) (ne_eqb k filled (λ e. omega (arith, e, past))) ∙ so_far.rest k (omega (arith, past)) h);
+}
 
 -- ---- numbers
 
@@ -225,12 +224,12 @@ like_baselines patterns positions count baselines observed same are rows = (
   λ row below. rows.width_is row [] below ∙ sym (are.width_is row [] (omega (arith, below, rows.count_is, are.count_is, same))),
 )
 
-length-flat : (rows : List (List Bool)) (width : ℕ) → All (λ row. length row ≡ width) rows → length (flat_map (λ row. row) rows) ≡ length rows * width
+pub length-flat : (rows : List (List Bool)) (width : ℕ) → All (λ row. length row ≡ width) rows → length (flat_map (λ row. row) rows) ≡ length rows * width
 length-flat [] width wide = omega arith
 length-flat (row ∷ rows) width wide =
     omega (arith, length-append row (flat_map (λ r. r) rows), All-head (λ r. length r ≡ width) row rows wide, length-flat rows width (All-tail (λ r. length r ≡ width) row rows wide))
 
-length-differences : (observed baselines : List (List Bool)) → length observed ≡ length baselines → length (differences observed baselines) ≡ length observed
+pub length-differences : (observed baselines : List (List Bool)) → length observed ≡ length baselines → length (differences observed baselines) ≡ length observed
 unfolding differences
 length-differences observed baselines same =
     length-map (zip observed baselines) (λ x. not (same_bits x.0 x.1)) ∙ omega (arith, length-zip observed baselines, same)

@@ -1,5 +1,4 @@
 pub mod Lines
 pub mod LogText
 pub mod VectorText
-pub mod Joined
 pub mod Laws

@@ -8,6 +8,7 @@ mod listing;
 mod log;
 mod number;
 mod vectors;
+mod words;
 
 pub use fault::{LogFault, LogKind};
 pub use laws::{list_is_read_once, log_is_read_once};

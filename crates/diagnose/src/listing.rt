@@ -3,11 +3,11 @@
 ghost use Rattle.std.specs.Prelude.{◌≡◌, ◌≢◌, ◌<◌, ◌+◌, ◌*◌, ◌^◌, ◌==◌, ℕ, Bool, List, [], ◌∷◌, ◌++◌, length, flat_map, filter, All, slice_index, slice_index_or, if◌then◌else◌, IfOk, OnOk, MatchOption};
 ghost use Rattle.std.specs.List.{range_with_len};
 ghost use Rattle.net_model.specs.ClassTable.{same_bits};
-ghost use Rattle.table_dicts.specs.Rows.{AreRows};
+ghost use Rattle.table_dicts.specs.Rows.{AreRows, IsWordOf};
 ghost use Rattle.table_dicts.specs.Dictionary.{IsGroupedDict, IsShaped, observed_entry, listed_numbers};
 ghost use Rattle.table_dicts.specs.Entries.{differences};
-ghost use Rattle.diagnose.specs.Joined.{AreJoined};
 
+use crate::words::{put_behind, with_bit, word_at};
 use net_model::AnswerRows;
 use std::alloc::{AllocError, Global};
 use table_dicts::{Dict, DictKind};
@@ -55,11 +55,30 @@ fn differing(
 {
     let count = observed.rows();
     let mut bits = AnswerRows::zeros(alloc, 1, count)?;
-    for row in 0..count {
-        let same = is_same(observed, row, baselines, row);
-        bits.set(0, row, !same);
+    for word in 0..count.div_ceil(64) {
+        let part = differing_word(observed, baselines, word);
+        bits.set_word(0, word, part);
     }
     Ok(bits)
+}
+
+// Which rows aren't the baseline, at the 64 rows of a word, the lowest first.
+fn differing_word(observed: &AnswerRows, baselines: &AnswerRows, word: usize) -> u64
+    requires rows { length observed.now ≡ length baselines.now }
+    requires wide { (row : ℕ) → row < length observed.now → length (slice_index_or observed.now row []) ≡ length (slice_index_or baselines.now row []) }
+    requires word { word * 64 < length observed.now }
+    ensures { IsWordOf (differences observed.now baselines.now) word result }
+{
+    let rows = observed.rows();
+    let first = word * 64;
+    let count = (rows - first).min(64);
+    let mut bits = 0;
+    for at in 0..count {
+        let row = first + at;
+        let same = is_same(observed, row, baselines, row);
+        bits = with_bit(bits, at, !same);
+    }
+    bits
 }
 
 // Whether a row is a row of other rows.
@@ -83,27 +102,35 @@ fn joined(
     requires room { rows * width < 2 ^ 64 }
     ensures { IfOk result (λ row. row ≡ flat_map (λ bits. bits) observed.now ∷ []) }
 {
-    let mut bits = AnswerRows::zeros(alloc, 1, rows * width)?;
-    for row in 0..rows {
-        write_part(&mut bits, observed, row, width);
+    let size = rows * width;
+    let mut bits = AnswerRows::zeros(alloc, 1, size)?;
+    for word in 0..size.div_ceil(64) {
+        let part = joined_word(observed, width, word);
+        bits.set_word(0, word, part);
     }
     Ok(bits)
 }
 
-// Writes the bits of one row behind those of the rows before it.
-fn write_part(bits: &mut AnswerRows, observed: &AnswerRows, row: usize, width: usize)
-    requires row { row < length observed.now }
+// The bits of all rows, one after another, at the 64 places of a word, the lowest first.
+fn joined_word(observed: &AnswerRows, width: usize, word: usize) -> u64
     requires wide { All (λ row. length row ≡ width) observed.now }
     requires room { length observed.now * width < 2 ^ 64 }
-    requires before { AreJoined observed.now width row bits.old }
-    ensures { AreJoined observed.now width (row + 1) bits.new }
+    requires word { word * 64 < length observed.now * width }
+    ensures { IsWordOf (flat_map (λ bits. bits) observed.now) word result }
 {
-    let start = row * width;
-    for at in 0..width {
-        let place = start + at;
-        let bit = observed.get(row, at);
-        bits.set(0, place, bit);
+    let first = word * 64;
+    let start = first / width;
+    let at = first % width;
+    let mut bits = word_at(observed.row_words(start), at);
+    let mut filled = width - at;
+    for row in start + 1..observed.rows() {
+        if filled >= 64 {
+            return bits;
+        }
+        bits = put_behind(bits, filled, observed.row_words(row)[0]);
+        filled += width;
     }
+    bits
 }
 
 // The row that is equal to the one row of another list.

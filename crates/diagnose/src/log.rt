@@ -1,6 +1,7 @@
 //! Tester logs.
 
-ghost use Rattle.std.specs.Prelude.{◌≡◌, ◌≢◌, ◌<◌, ◌≤◌, ◌^◌, ℕ, Bool, false, List, [], length, replicate, slice_index_or, slice_set, IfOk, IfErr, MatchOption, MatchResult};
+ghost use Rattle.std.specs.Prelude.{◌≡◌, ◌≢◌, ◌<◌, ◌≤◌, ◌*◌, ◌^◌, ℕ, Bool, false, List, [], length, replicate, slice_index_or, slice_set, IfOk, IfErr, MatchOption, MatchResult};
+ghost use Rattle.table_dicts.specs.Rows.{IsWordOf};
 ghost use Rattle.diagnose.specs.declared.fault.LogKind.TheVariants as log_kind;
 ghost use Rattle.diagnose.specs.Lines.{digit_bits, Tells};
 ghost use Rattle.diagnose.specs.LogText.{log_line, BeginsWithLine, HasNoLine, IsLog, LogRefused, LogRestRefused, IsRightLine};
@@ -8,6 +9,7 @@ ghost use Rattle.diagnose.specs.LogText.{log_line, BeginsWithLine, HasNoLine, Is
 use crate::fault::{LogFault, LogKind};
 use crate::lines::{check_size, cut, digits_of};
 use crate::number::number_of;
+use crate::words::with_bit;
 use net_model::AnswerRows;
 use std::alloc::Global;
 use table_dicts::Dict;
@@ -124,7 +126,24 @@ fn write_row(observed: &mut AnswerRows, row: usize, digits: &[u8])
     requires width { length (slice_index_or observed.old row []) ≡ length digits.now }
     ensures { observed.new ≡ slice_set observed.old row (digit_bits digits.now) }
 {
-    for (at, digit) in digits.iter().enumerate() {
-        observed.set(row, at, *digit == b'1');
+    for word in 0..digits.len().div_ceil(64) {
+        let part = digits_word(digits, word);
+        observed.set_word(row, word, part);
     }
+}
+
+// The bits of the 64 digits of a word, the lowest first.
+fn digits_word(digits: &[u8], word: usize) -> u64
+    requires { word * 64 < length digits.now }
+    ensures { IsWordOf (digit_bits digits.now) word result }
+{
+    let len = digits.len();
+    let first = word * 64;
+    let count = (len - first).min(64);
+    let mut bits = 0;
+    for at in 0..count {
+        let bit = digits[first + at] == b'1';
+        bits = with_bit(bits, at, bit);
+    }
+    bits
 }

@@ -1,36 +1,16 @@
--- Answers of a table, bit by bit, and the lines of those that differ.
-use Rattle.std.proofs.Common.{◌≡◌, ◌≢◌, ◌∙◌, ℕ, ◌+◌, ◌-◌, ◌<◌, ◌≤◌, Bool, true, false, cond, not, List, [], ◌∷◌, ◌++◌, length, map, refl, sym, ap, arith, append_assoc}
-use Rattle.std.specs.Prelude.{filter, flat_map}
+-- The lines of answers that differ, and the digits of answers.
+use Rattle.std.proofs.Common.{◌≡◌, ◌∙◌, ℕ, ◌+◌, ◌-◌, ◌*◌, ◌<◌, ◌≤◌, Bool, true, false, cond, List, [], ◌∷◌, ◌++◌, length, map, take, drop, refl, sym, ap, arith, append_assoc, length-drop}
+use Rattle.std.specs.Prelude.{filter, flat_map, min}
 use Rattle.std.specs.List.{range_with_len}
-use Rattle.std.proofs.lemmas.Bool.{false_from_ne_true}
-use Rattle.std.proofs.lemmas.List.{append-nil}
+use Rattle.std.proofs.Math.Seq.{take-add}
+use Rattle.std.proofs.lemmas.List.{append-nil, map-append, get_or-map, get_or-take, get_or-drop, length-map, length-take}
 use Rattle.std.proofs.lemmas.List.Elements.{filter-append}
+use Rattle.std.proofs.lemmas.List.FromFn.{fill_by_all}
 use Rattle.std.proofs.lemmas.Grind.{flat_map-append}
-use Rattle.net_model.specs.Answer.{bit_at}
-use Rattle.net_model.specs.ClassTable.{same_bits}
 use Rattle.net_model.specs.BitText.{bit_digit, bits_text}
-use Rattle.net_model.proofs.Copies.{same_bits_same_list}
+use Rattle.net_model.specs.Rows.{bit_of}
 use Rattle.net_model.proofs.Orders.{range_with_len_more}
-use Rattle.table_dicts.specs.AnswerTable.{Answers, IsTable, answer_to, answer_bit}
-use Rattle.table_dicts.proofs.EntryLemmas.{same_bits-Decides}
-
--- ---- whether answers differ
-
-module _ (t : Answers) (pattern number : ℕ) where
-  pub differ_at : (k : ℕ) → answer_bit t pattern number k ≢ answer_bit t pattern 0 k → true ≡ not (same_bits (answer_to t pattern number) (answer_to t pattern 0))
-  differ_at k ne =
-      let test = same_bits-Decides (answer_to t pattern number) (answer_to t pattern 0) in
-      let no : same_bits (answer_to t pattern number) (answer_to t pattern 0) ≡ false =
-      false_from_ne_true (same_bits (answer_to t pattern number) (answer_to t pattern 0)) (λ yes. ne (ap (λ (bits : List Bool). bit_at bits k) (test.0 yes))) in
-      sym (ap not no)
-
-  pub same_at : IsTable t → pattern < length t.rows → number < t.numbers → ((k : ℕ) → k < t.positions → answer_bit t pattern number k ≡ answer_bit t pattern 0 k)
-      → false ≡ not (same_bits (answer_to t pattern number) (answer_to t pattern 0))
-  same_at is hp hn same =
-      let wide : length (answer_to t pattern number) ≡ t.positions = is.positions pattern number hp hn in
-      let free : length (answer_to t pattern 0) ≡ t.positions = is.positions pattern 0 hp (omega (arith, hn)) in
-      let all = same_bits_same_list (answer_to t pattern number) (answer_to t pattern 0) (wide ∙ sym free) (λ k h. same k (omega (arith, h, wide))) in
-      sym (ap not ((same_bits-Decides (answer_to t pattern number) (answer_to t pattern 0)).1 all))
+use Rattle.table_dicts.specs.Rows.{IsWordOf}
 
 -- ---- lines
 
@@ -52,10 +32,25 @@ lines_more differs line number initial before after low is next =
 
 -- ---- bits
 
-pub bits_none : (bits : List Bool) → length bits ≡ 0 → bits_text bits ≡ 45 ∷ []
-bits_none [] none = refl
-bits_none (b ∷ bits) none = absurd (omega (arith, none))
+pub digit_small : (bit : Bool) → bit_digit bit < 128
+digit_small true = omega arith
+digit_small false = omega arith
 
 pub bits_some : (bits : List Bool) → 0 < length bits → bits_text bits ≡ map bit_digit bits
 bits_some [] some = absurd (omega (arith, some))
 bits_some (b ∷ bits) some = refl
+
+-- the digits of a word more
+pub digits_more : {answer : List Bool} {word bits : ℕ} (count : ℕ) → IsWordOf answer word bits → word * 64 ≤ length answer → count ≡ min (length answer - word * 64) 64
+    → map bit_digit (take ((word + 1) * 64) answer) ≡ map bit_digit (take (word * 64) answer) ++ map (λ k. bit_digit (bit_of bits k)) (range_with_len 0 count)
+digits_more {answer} {word} {bits} count is inside many =
+    let behind = drop (word * 64) answer in
+    let part = take 64 behind in
+    let long : length part ≡ count = length-take 64 behind ∙ omega (arith, many, inside, length-drop (word * 64) answer) in
+    let digits : map bit_digit part ≡ map (λ k. bit_digit (bit_of bits k)) (range_with_len 0 count) =
+    fill_by_all (λ k. bit_digit (bit_of bits k)) (map bit_digit part) count 0 (length-map part bit_digit ∙ long) (λ k h.
+    get_or-map bit_digit part k false 0 (omega (arith, h, long))
+    ∙ ap bit_digit (get_or-take 64 behind k false (omega (arith, h, many)) ∙ (get_or-drop (word * 64) answer k false ∙ sym (is.are k (omega (arith, h, many)))))) in
+    let end : (word + 1) * 64 ≡ word * 64 + 64 = omega arith in
+    ap (λ n. map bit_digit (take n answer)) end
+    ∙ (ap (map bit_digit) (take-add (word * 64) 64 answer) ∙ (map-append bit_digit (take (word * 64) answer) part ∙ ap (λ (ds : List ℕ). map bit_digit (take (word * 64) answer) ++ ds) digits))

@@ -1,10 +1,12 @@
 //! The lines of a vector, from a table of answers.
 
-ghost use Rattle.std.specs.Prelude.{◌≡◌, ◌++◌, ◌<◌, [], OnOk, flat_map, length, slice_index_or, if◌then◌else◌};
+ghost use Rattle.std.specs.Prelude.{◌≡◌, ◌++◌, ◌<◌, ◌≤◌, [], OnOk, flat_map, length, map, slice_index_or, if◌then◌else◌};
+ghost use Rattle.std.specs.List.{range_with_len};
 ghost use Rattle.std.specs.String.{string_bytes};
-ghost use Rattle.net_model.specs.BitText.{bits_text};
+ghost use Rattle.net_model.specs.BitText.{bit_digit, bits_text};
+ghost use Rattle.net_model.specs.Rows.{bit_of};
 ghost use Rattle.table_dicts.specs.AnswerTable.{answer_to};
-ghost use Rattle.sim_listing.specs.SimText.{vector_line, fault_line, answers_otherwise, differing_numbers, numbered_line, vector_text};
+ghost use Rattle.sim_listing.specs.SimText.{vector_line, fault_line, differing_numbers, numbered_line, vector_text};
 
 use std::alloc::AllocError;
 use table_dicts::AnswerTable;
@@ -50,7 +52,7 @@ fn push_fault_lines(text: &mut String, table: &AnswerTable, pattern: u32) -> Res
     ensures { OnOk result (string_bytes text.new ≡ string_bytes text.old ++ flat_map (numbered_line (slice_index_or table.now.rows pattern [])) (differing_numbers (slice_index_or table.now.rows pattern []))) }
 {
     for number in 1..table.numbers() {
-        let differs = differs(table, pattern, number);
+        let differs = !table.answers_alike(pattern, number, 0);
         push_if_differs(text, table, pattern, number, differs)?;
     }
     Ok(())
@@ -102,27 +104,32 @@ fn push_answer(
     requires number { number < table.now.numbers }
     ensures { OnOk result (string_bytes text.new ≡ string_bytes text.old ++ bits_text (answer_to table.now pattern number)) }
 {
-    if table.positions() == 0 {
+    let positions = table.positions();
+    if positions == 0 {
         return text.push('-');
     }
-    for position in 0..table.positions() {
-        let bit = table.get(pattern, number, position);
-        text.push(if bit { '1' } else { '0' })?;
+    for word in 0..positions.div_ceil(64) {
+        let bits = table.answer_word(pattern, number, word);
+        push_digits(text, bits, (positions - word * 64).min(64))?;
     }
     Ok(())
 }
 
-// Whether a number's answer differs from the fault-free one.
-fn differs(table: &AnswerTable, pattern: u32, number: u32) -> bool
-    requires pattern { pattern < length table.now.rows }
-    requires number { number < table.now.numbers }
-    ensures { result ≡ answers_otherwise (slice_index_or table.now.rows pattern []) number }
+// Appends the digits of the lowest bits of a word, so many.
+fn push_digits(text: &mut String, bits: u64, count: u32) -> Result<(), AllocError>
+    requires { count ≤ 64 }
+    ensures { OnOk result (string_bytes text.new ≡ string_bytes text.old ++ map (λ k. bit_digit (bit_of bits k)) (range_with_len 0 count)) }
 {
-    for position in 0..table.positions() {
-        let free = table.get(pattern, 0, position);
-        if table.get(pattern, number, position) != free {
-            return true;
-        }
+    for at in 0..count {
+        text.push(digit_at(bits, at))?;
     }
-    false
+    Ok(())
+}
+
+// The digit of a bit of a word.
+fn digit_at(bits: u64, at: u32) -> char
+    requires { at < 64 }
+    ensures { result ≡ bit_digit (bit_of bits at) }
+{
+    if (bits >> at) & 1 == 1 { '1' } else { '0' }
 }

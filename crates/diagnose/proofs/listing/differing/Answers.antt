@@ -1,20 +1,24 @@
-use Rattle.std.proofs.Common.{◌+◌, not, sym, ap, subst, arith}
-use Rattle.diagnose.proofs.ListingLemmas.{TellsDifferent, tells_none, tells_more, tells_all}
+use Rattle.std.proofs.Common.{◌∙◌, ℕ, false, replicate, ap, arith}
+use Rattle.table_dicts.specs.Entries.{differences}
+use Rattle.diagnose.proofs.ListingLemmas.{entry_none, entry_size, entry_more, entry_all, length-differences}
 use Rattle.diagnose.proofs.listing.differing.Goals as goal
 
-pub loop-row-init : goal.loop-row-init
-loop-row-init c = tells_none c.args.observed.now c.args.baselines.now c.in_ok-bits.bits c.rows-count.result c.in_ok-bits.ensures c.rows-count.ensures
+pub loop-word-init : goal.loop-word-init
+loop-word-init c =
+    entry_none _ (differences c.args.observed.now c.args.baselines.now) (c.in_ok-bits.ensures ∙ ap (λ (n : ℕ). replicate 1 (replicate n false)) c.rows-count.ensures)
 
-pub set-requires-clause-row : goal.set-requires-clause-row
-set-requires-clause-row c = omega (arith, c.loop-row.invariant.one)
+pub differing_word-part-requires-clause-word : goal.differing_word-part-requires-clause-word
+differing_word-part-requires-clause-word c = omega (arith, c.rows-count.ensures, c.loop-word-test.true, c.div_ceil-word-end.ensures)
 
-pub set-requires-clause-at : goal.set-requires-clause-at
-set-requires-clause-at c = omega (arith, c.loop-row.invariant.size, c.rows-count.ensures, c.loop-row-test.true)
+pub set_word-requires-clause-row : goal.set_word-requires-clause-row
+set_word-requires-clause-row c = omega (arith, c.loop-word.invariant.shape.count)
 
-pub loop-row-preserved : goal.loop-row-preserved
-loop-row-preserved c =
-    subst (TellsDifferent c.args.observed.now c.args.baselines.now (c.loop-row.row + 1)) (sym c.set.ensures)
-    (tells_more c.args.observed.now c.args.baselines.now c.loop-row.row c.loop-row.bits _ c.loop-row.invariant (omega (arith, c.rows-count.ensures, c.loop-row-test.true)) (ap not c.is_same-same.ensures))
+pub set_word-requires-clause-word : goal.set_word-requires-clause-word
+set_word-requires-clause-word c = omega (arith, entry_size c.loop-word.word c.loop-word.invariant, c.rows-count.ensures, c.loop-word-test.true, c.div_ceil-word-end.ensures)
+
+pub loop-word-preserved : goal.loop-word-preserved
+loop-word-preserved c = entry_more c.loop-word.word c.loop-word.invariant c.set_word.ensures c.differing_word-part.ensures (length-differences c.args.observed.now c.args.baselines.now c.requires.rows)
 
 pub returns : goal.returns
-returns c = tells_all c.args.observed.now c.args.baselines.now c.loop-row.row c.loop-row.bits c.loop-row.invariant c.requires.rows (omega (arith, c.rows-count.ensures, c.loop-row-test.false))
+returns c =
+    entry_all c.loop-word.word c.loop-word.invariant (length-differences c.args.observed.now c.args.baselines.now c.requires.rows) (omega (arith, c.rows-count.ensures, c.loop-word-test.false, c.div_ceil-word-end.ensures))

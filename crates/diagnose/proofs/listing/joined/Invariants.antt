@@ -1,5 +1,6 @@
-use Rattle.diagnose.specs.Joined.{AreJoined}
+use Rattle.std.specs.Prelude.{◌*◌, flat_map}
+use Rattle.diagnose.proofs.ListingLemmas.{IsEntryBegun}
 use Rattle.diagnose.proofs.listing.joined.Given as goal
 
-abbrev pub invariant-loop-row : goal.invariant-loop-row
-invariant-loop-row l = AreJoined l.observed l.width l.row l.bits
+abbrev pub invariant-loop-word : goal.invariant-loop-word
+invariant-loop-word l = IsEntryBegun (l.rows * l.width) (flat_map (λ bits. bits) l.observed) l.word l.bits

@@ -1,5 +1,7 @@
-use Rattle.diagnose.proofs.BitLemmas.{IsWrittenSoFar}
+use Rattle.std.specs.Prelude.{◌*◌}
+use Rattle.table_dicts.specs.Rows.{IsRowBegun}
+use Rattle.diagnose.specs.Lines.{digit_bits}
 use Rattle.diagnose.proofs.log.write_row.Given as goal
 
-abbrev pub invariant-loop-at : goal.invariant-loop-at
-invariant-loop-at l = IsWrittenSoFar l.initial.observed l.row l.digits l.at l.observed
+abbrev pub invariant-loop-word : goal.invariant-loop-word
+invariant-loop-word l = IsRowBegun l.initial.observed l.observed l.row (l.word * 64) (digit_bits l.digits)

@@ -8,7 +8,7 @@ pub loop-number-preserved : goal.loop-number-preserved
 loop-number-preserved c =
     let row = get_or c.args.table.now.rows c.args.pattern [] in
     lines_more (answers_otherwise row) (numbered_line row) c.loop-number.number (string_bytes c.args.text.now) (string_bytes c.loop-number.text) (string_bytes c.push_if_differs.new.text)
-    c.loop-number.auto.number c.loop-number.invariant (rw c.differs-differs.ensures at c.in_ok-push_if_differs.ensures)
+    c.loop-number.auto.number c.loop-number.invariant (rw c.answers_alike-differs.ensures at c.in_ok-push_if_differs.ensures)
 
 pub returns : goal.returns
 returns c =
