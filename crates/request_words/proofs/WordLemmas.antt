@@ -1,7 +1,10 @@
 -- What a command's words ask for, by the definition of the command.
-use Rattle.std.proofs.Common.{◌≡◌, ◌≢◌, Bool, true, false, List, [], ◌∷◌, Option, Some, None, Result, Ok, Err, refl, sym, ap, ◌∙◌, ◌==◌, length, arith, if◌then◌else◌}
+use Rattle.std.proofs.Common.{◌≡◌, ◌≢◌, Bool, true, false, List, [], ◌∷◌, Option, Some, None, Result, Ok, Err, refl, sym, ap, ap₂, ◌∙◌, ◌==◌, length, arith, if◌then◌else◌}
 use Rattle.std.proofs.lemmas.Bool.{eqb-true}
-use Rattle.clap.specs.Words.{Row, fault_of, matches_of, is_simple_and_free}
+use Rattle.clap.specs.Words.{App, Rule, Row, app_of, rule_of, with_rule, fault_of, matches_of, is_simple_and_free}
+use Rattle.clap.specs.Built.{AddsArg}
+use Rattle.clap.specs.declared.builder.command.Command.{Command}
+use Rattle.clap.specs.declared.builder.arg.Arg.{Arg}
 use Rattle.std.specs.Result.{IsErrAnd}
 use Rattle.clap.specs.Walk.{is_empty}
 use Rattle.request_words.specs.Request.{Text, Request, asked_by, app_for, request_by, gen_app, check_app, dict_app, convert_app, diagnose_app, faults_app, sim_app, synth_app}
@@ -20,6 +23,10 @@ is_simple Diagnose = refl
 is_simple Faults = refl
 is_simple Sim = refl
 is_simple Synth = refl
+
+-- a command with an argument more
+pub added : {old new : Command} {arg : Arg} {app : App} {rule : Rule} → AddsArg old arg new → app_of old ≡ app → rule_of arg ≡ rule → arg.global ≡ false → app_of new ≡ with_rule app rule
+added adds app_is rule_is local = adds.shape local ∙ ap₂ with_rule app_is rule_is
 
 -- ---- words that are taken, and words that aren't
 

@@ -2,7 +2,7 @@
 use Rattle.std.specs.Prelude.{ℕ, Bool, true, List, [], ◌∷◌, Option, Some, None, pos, codes, unwrap_or, if◌then◌else◌}
 use Rattle.std.specs.Str.{bytes_eq}
 use Rattle.std.specs.Str.Parse.{digits_value, without_leading_plus}
-use Rattle.clap.specs.Words.{App, Rule, Row, Text, first_of, one_of, new_app, new_rule, fault_of}
+use Rattle.clap.specs.Words.{App, Rule, Row, Text, first_of, one_of, new_app, new_rule, fault_of, with_rule}
 use Rattle.clap.specs.Walk.{is_empty}
 use Rattle.clap.specs.Simple.{on_top}
 use Rattle.clap.specs.ValueTests.{is_unsigned_in}
@@ -20,6 +20,10 @@ bare_app name = on_top (λ s. record s { no_binary_name = true; disable_help_fla
 -- a name that has to stand
 abbrev pub name_rule : Text → Rule
 name_rule id = record (new_rule id) { required = true; action = Some Set }
+
+-- a command of two names that have to stand
+abbrev pub two_names_app : Text → Text → Text → App
+two_names_app name first second = with_rule (with_rule (bare_app name) (name_rule first)) (name_rule second)
 
 -- a number that has to stand, from 1 to a most
 abbrev pub number_rule : Text → ℕ → Rule

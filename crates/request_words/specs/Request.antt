@@ -3,7 +3,7 @@ use Rattle.std.specs.Prelude.{ℕ, List, [], ◌∷◌, Option, Some, None, code
 use Rattle.std.specs.Str.{bytes_eq}
 use Rattle.clap.specs.Words.{App, Row, matches_of, with_rule}
 use Rattle.result_file.specs.declared.record.Budgets.{Budgets}
-use Rattle.request_words.specs.Arguments.{bare_app, name_rule, number_rule, option_rule, is_taken, name_in, number_in, kind_named}
+use Rattle.request_words.specs.Arguments.{bare_app, two_names_app, name_rule, number_rule, option_rule, is_taken, name_in, number_in, kind_named}
 use Rattle.request_words.specs.declared.request.Verb.{Verb}
 use Rattle.request_words.specs.declared.request.Verb.TheVariants.{Gen, Check, Dict, Convert, Diagnose, Faults, Sim, Synth}
 use Rattle.request_words.specs.declared.request.EntryKind.{EntryKind}
@@ -32,7 +32,7 @@ pub data Request : Type 0 where
 -- ---- each command: how its words are read, and what they ask for
 
 unfoldable pub gen_app : App
-gen_app = with_rule (with_rule (with_rule (with_rule (with_rule (bare_app (codes "gen")) (name_rule (codes "bench"))) (name_rule (codes "result")))
+gen_app = with_rule (with_rule (with_rule (two_names_app (codes "gen") (codes "bench") (codes "result"))
     (option_rule (codes "blocks") (codes "4") 65536)) (option_rule (codes "cubes") (codes "64") 1048576)) (option_rule (codes "conflicts") (codes "2000") 100000)
 
 abbrev pub gen_by : List Row → Request
@@ -40,26 +40,26 @@ gen_by rows = gen (name_in (codes "bench") rows) (name_in (codes "result") rows)
     (record { blocks = number_in (codes "blocks") 0 65536 rows; cubes = number_in (codes "cubes") 0 1048576 rows; conflicts = number_in (codes "conflicts") 0 100000 rows })
 
 unfoldable pub check_app : App
-check_app = with_rule (with_rule (bare_app (codes "check")) (name_rule (codes "bench"))) (name_rule (codes "result"))
+check_app = two_names_app (codes "check") (codes "bench") (codes "result")
 
 abbrev pub check_by : List Row → Request
 check_by rows = check (name_in (codes "bench") rows) (name_in (codes "result") rows)
 
 unfoldable pub dict_app : App
-dict_app = with_rule (with_rule (with_rule (with_rule (bare_app (codes "dict")) (name_rule (codes "kind"))) (name_rule (codes "bench"))) (name_rule (codes "result"))) (name_rule (codes "dict"))
+dict_app = with_rule (with_rule (two_names_app (codes "dict") (codes "kind") (codes "bench")) (name_rule (codes "result"))) (name_rule (codes "dict"))
 
 -- its kind has to be one that is known
 abbrev pub dict_by : List Row → Option Request
 dict_by rows = option_map (λ kind. make_dict kind (name_in (codes "bench") rows) (name_in (codes "result") rows) (name_in (codes "dict") rows)) (kind_named (name_in (codes "kind") rows))
 
 unfoldable pub convert_app : App
-convert_app = with_rule (with_rule (bare_app (codes "convert")) (name_rule (codes "old"))) (name_rule (codes "new"))
+convert_app = two_names_app (codes "convert") (codes "old") (codes "new")
 
 abbrev pub convert_by : List Row → Request
 convert_by rows = convert (name_in (codes "old") rows) (name_in (codes "new") rows)
 
 unfoldable pub diagnose_app : App
-diagnose_app = with_rule (with_rule (bare_app (codes "diagnose")) (name_rule (codes "dict"))) (name_rule (codes "log"))
+diagnose_app = two_names_app (codes "diagnose") (codes "dict") (codes "log")
 
 abbrev pub diagnose_by : List Row → Request
 diagnose_by rows = diagnose (name_in (codes "dict") rows) (name_in (codes "log") rows)
@@ -71,7 +71,7 @@ abbrev pub faults_by : List Row → Request
 faults_by rows = list_faults (name_in (codes "bench") rows)
 
 unfoldable pub sim_app : App
-sim_app = with_rule (with_rule (bare_app (codes "sim")) (name_rule (codes "bench"))) (name_rule (codes "vectors"))
+sim_app = two_names_app (codes "sim") (codes "bench") (codes "vectors")
 
 abbrev pub sim_by : List Row → Request
 sim_by rows = simulate (name_in (codes "bench") rows) (name_in (codes "vectors") rows)

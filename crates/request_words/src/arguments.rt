@@ -2,7 +2,7 @@
 
 ghost use Rattle.std.specs.Prelude.{◌≡◌, ◌≢◌, ◌≤◌, ◌<◌, ◌^◌, [], IfOk, OnOk, Err, map, string_bytes, true, false};
 ghost use Rattle.clap.specs.Words.{rule_of, app_of, found_of, rows_of, matches_of, fault_of, is_broken, is_simple_and_free};
-ghost use Rattle.request_words.specs.Arguments.{bare_app, name_rule, number_rule, option_rule, name_in, number_in, kind_named};
+ghost use Rattle.request_words.specs.Arguments.{bare_app, two_names_app, name_rule, number_rule, option_rule, name_in, number_in, kind_named};
 
 use crate::request::EntryKind;
 use clap::error::ErrorKind;
@@ -36,6 +36,21 @@ pub(crate) fn bare_command<'a>(alloc: Global, name: &'a str) -> Command<'a>
         .no_binary_name(true)
         .disable_help_flag(true)
         .disable_version_flag(true)
+}
+
+/// A command of two names that have to stand.
+pub(crate) fn two_names<'a>(
+    alloc: Global,
+    name: &'a str,
+    first: &'a str,
+    second: &'a str,
+) -> Result<Command<'a>, AllocError>
+    ensures { IfOk result (λ c. app_of c ≡ two_names_app name.entry.now first.entry.now second.entry.now) }
+{
+    let front = name_arg(alloc, first);
+    let back = name_arg(alloc, second);
+    let whole = bare_command(alloc, name).arg(front)?.arg(back)?;
+    Ok(whole)
 }
 
 /// A name that has to stand.

@@ -5,7 +5,7 @@ ghost use Rattle.clap.specs.Words.{app_of, found_of, rows_of};
 ghost use Rattle.request_words.specs.Request.{dict_app, dict_by, convert_app, convert_by, diagnose_app, diagnose_by};
 ghost use Rattle.request_words.specs.Asked.{asked, HasLimits};
 
-use crate::arguments::{bare_command, kind_named, name_arg, name_in};
+use crate::arguments::{kind_named, name_arg, name_in, two_names};
 use crate::request::Request;
 use clap::{ArgMatches, Command};
 use std::alloc::{AllocError, Global};
@@ -14,11 +14,9 @@ use std::alloc::{AllocError, Global};
 pub(crate) fn dict_command<'a>(alloc: Global) -> Result<Command<'a>, AllocError>
     ensures { IfOk result (λ c. app_of c ≡ dict_app) }
 {
-    let kind = name_arg(alloc, "kind");
-    let bench = name_arg(alloc, "bench");
     let results = name_arg(alloc, "result");
     let output = name_arg(alloc, "dict");
-    let named = bare_command(alloc, "dict").arg(kind)?.arg(bench)?;
+    let named = two_names(alloc, "dict", "kind", "bench")?;
     let whole = named.arg(results)?.arg(output)?;
     Ok(whole)
 }
@@ -38,13 +36,11 @@ pub(crate) fn dict_in<'a>(matches: &ArgMatches<'a>) -> Option<Request<'a>>
 }
 
 /// Two names.
+#[tactic(auto, unfolding(crate::specs::Request::convert_app))]
 pub(crate) fn convert_command<'a>(alloc: Global) -> Result<Command<'a>, AllocError>
     ensures { IfOk result (λ c. app_of c ≡ convert_app) }
 {
-    let old = name_arg(alloc, "old");
-    let new = name_arg(alloc, "new");
-    let whole = bare_command(alloc, "convert").arg(old)?.arg(new)?;
-    Ok(whole)
+    two_names(alloc, "convert", "old", "new")
 }
 
 /// The request of its matches.
@@ -56,13 +52,11 @@ pub(crate) fn convert_in<'a>(matches: &ArgMatches<'a>) -> Request<'a>
 }
 
 /// Two names.
+#[tactic(auto, unfolding(crate::specs::Request::diagnose_app))]
 pub(crate) fn diagnose_command<'a>(alloc: Global) -> Result<Command<'a>, AllocError>
     ensures { IfOk result (λ c. app_of c ≡ diagnose_app) }
 {
-    let dict = name_arg(alloc, "dict");
-    let log = name_arg(alloc, "log");
-    let whole = bare_command(alloc, "diagnose").arg(dict)?.arg(log)?;
-    Ok(whole)
+    two_names(alloc, "diagnose", "dict", "log")
 }
 
 /// The request of its matches.

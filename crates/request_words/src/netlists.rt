@@ -5,7 +5,7 @@ ghost use Rattle.clap.specs.Words.{app_of, found_of, rows_of};
 ghost use Rattle.request_words.specs.Request.{faults_app, faults_by, sim_app, sim_by};
 ghost use Rattle.request_words.specs.Asked.{asked, HasLimits};
 
-use crate::arguments::{bare_command, name_arg, name_in};
+use crate::arguments::{bare_command, name_arg, name_in, two_names};
 use crate::request::Request;
 use clap::{ArgMatches, Command};
 use std::alloc::{AllocError, Global};
@@ -28,13 +28,11 @@ pub(crate) fn faults_in<'a>(matches: &ArgMatches<'a>) -> Request<'a>
 }
 
 /// Two names.
+#[tactic(auto, unfolding(crate::specs::Request::sim_app))]
 pub(crate) fn sim_command<'a>(alloc: Global) -> Result<Command<'a>, AllocError>
     ensures { IfOk result (λ c. app_of c ≡ sim_app) }
 {
-    let bench = name_arg(alloc, "bench");
-    let vectors = name_arg(alloc, "vectors");
-    let whole = bare_command(alloc, "sim").arg(bench)?.arg(vectors)?;
-    Ok(whole)
+    two_names(alloc, "sim", "bench", "vectors")
 }
 
 /// The request of its matches.

@@ -5,7 +5,9 @@ ghost use Rattle.clap.specs.Words.{app_of, found_of, rows_of};
 ghost use Rattle.request_words.specs.Request.{gen_app, gen_by, check_app, check_by, synth_app, synth_by};
 ghost use Rattle.request_words.specs.Asked.{asked, HasLimits};
 
-use crate::arguments::{bare_command, name_arg, name_in, number_arg, number_in, option_arg};
+use crate::arguments::{
+    bare_command, name_arg, name_in, number_arg, number_in, option_arg, two_names,
+};
 use crate::request::Request;
 use clap::{ArgMatches, Command};
 use result_file::Budgets;
@@ -27,12 +29,10 @@ const SYNTH_LIMIT: u32 = 2000;
 pub(crate) fn gen_command<'a>(alloc: Global) -> Result<Command<'a>, AllocError>
     ensures { IfOk result (λ c. app_of c ≡ gen_app) }
 {
-    let bench = name_arg(alloc, "bench");
-    let output = name_arg(alloc, "result");
     let blocks = option_arg(alloc, "blocks", "4", BLOCKS_LIMIT);
     let cubes = option_arg(alloc, "cubes", "64", CUBES_LIMIT);
     let conflicts = option_arg(alloc, "conflicts", "2000", CONFLICTS_LIMIT);
-    let named = bare_command(alloc, "gen").arg(bench)?.arg(output)?;
+    let named = two_names(alloc, "gen", "bench", "result")?;
     let whole = named.arg(blocks)?.arg(cubes)?.arg(conflicts)?;
     Ok(whole)
 }
@@ -55,13 +55,11 @@ pub(crate) fn gen_in<'a>(matches: &ArgMatches<'a>) -> Request<'a>
 }
 
 /// Two names.
+#[tactic(auto, unfolding(crate::specs::Request::check_app))]
 pub(crate) fn check_command<'a>(alloc: Global) -> Result<Command<'a>, AllocError>
     ensures { IfOk result (λ c. app_of c ≡ check_app) }
 {
-    let bench = name_arg(alloc, "bench");
-    let output = name_arg(alloc, "result");
-    let whole = bare_command(alloc, "check").arg(bench)?.arg(output)?;
-    Ok(whole)
+    two_names(alloc, "check", "bench", "result")
 }
 
 /// The request of its matches.

@@ -1,16 +1,9 @@
-use Rattle.std.proofs.Common.{ap₂, ◌∙◌}
-use Rattle.clap.specs.Words.{with_rule}
 use Rattle.request_words.specs.Request.{dict_app}
+use Rattle.request_words.proofs.WordLemmas.{added}
 use Rattle.request_words.proofs.dictionaries.dict_command.Goals as goal
 
 pub returns : goal.returns
 unfolding dict_app
 returns c =
-    c.in_ok-whole.ensures.shape c.name_arg-output.ensures.local
-    ∙ ap₂ with_rule (c.in_ok-arg-2.ensures.shape c.name_arg-results.ensures.local
-    ∙ ap₂ with_rule (c.in_ok-named.ensures.shape c.name_arg-bench.ensures.local
-    ∙ ap₂ with_rule (c.in_ok-arg.ensures.shape c.name_arg-kind.ensures.local
-    ∙ ap₂ with_rule c.bare_command.ensures.app c.name_arg-kind.ensures.rule)
-    c.name_arg-bench.ensures.rule)
-    c.name_arg-results.ensures.rule)
-    c.name_arg-output.ensures.rule
+    let three = added c.in_ok-arg.ensures c.in_ok-named.ensures c.name_arg-results.ensures.rule c.name_arg-results.ensures.local in
+    added c.in_ok-whole.ensures three c.name_arg-output.ensures.rule c.name_arg-output.ensures.local
