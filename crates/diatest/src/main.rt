@@ -1,28 +1,10 @@
 //! DIATEST: tests that tell single stuck-at faults apart.
 #![tactic(auto)]
 
-mod cells;
-mod checks;
-mod commands;
-mod converts;
-mod diagnoses;
-mod dictionaries;
-mod ends;
-mod generates;
-mod listing;
-mod logs;
-mod makes_dicts;
-mod netlists;
 mod real;
-mod results;
-mod sims;
-mod synths;
-#[cfg(test)]
-mod tests;
-mod texts;
 
-use crate::commands::run;
 use crate::real::RealShelf;
+use dia_runs::run;
 use std::alloc::AllocError;
 use std::env;
 use std::io::ErrorKind;

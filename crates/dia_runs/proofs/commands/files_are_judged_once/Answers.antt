@@ -1,0 +1,19 @@
+use Rattle.dia_runs.proofs.NetlistLemmas.{HasLaws, clear}
+use Rattle.dia_runs.proofs.commands.files_are_judged_once.Goals as goal
+
+pub returns : goal.returns
+returns c =
+    let laws : HasLaws = record {
+      text = c.never_accepted_and_refused.ensures;
+      one = c.one_netlist.ensures;
+      none = c.none_reaches_itself.ensures;
+      walk = c.walk_reaches_itself.ensures;
+      results = c.file_is_refused_once.ensures.wrong;
+      dictionaries = c.dictionary_is_read_once.ensures.wrong;
+      one_dictionary = c.dictionary_is_read_once.ensures.dictionary;
+      logs = c.log_is_read_once.ensures.wrong;
+      one_log = c.log_is_read_once.ensures.reading;
+      lists = c.list_is_read_once.ensures.wrong;
+      one_list = c.list_is_read_once.ensures.reading;
+    } in
+    clear laws

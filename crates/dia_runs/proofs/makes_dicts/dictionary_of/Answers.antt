@@ -1,0 +1,55 @@
+use Rattle.std.proofs.Common.{◌≡◌, sym, subst, arith}
+use Rattle.std.specs.Prelude.{IfOk}
+use Rattle.std.proofs.lemmas.Result.{IfOk-weaker}
+use Rattle.kept_vectors.proofs.KeepLemmas.{table_patterns}
+use Rattle.table_dicts.specs.AnswerTable.{Answers, AreAnswers}
+use Rattle.table_dicts.specs.declared.dict.Dict.{Dict}
+use Rattle.table_dicts.specs.Dictionary.{IsPassFail, IsFull}
+use Rattle.request_words.specs.declared.request.EntryKind.{EntryKind}
+use Rattle.request_words.specs.declared.request.EntryKind.TheVariants.{SameDiff}
+use Rattle.dia_runs.specs.Dictionaries.{IsOfPatterns, KeepsMostApart}
+use Rattle.dia_runs.proofs.MadeLemmas.{kind_made}
+use Rattle.dia_runs.proofs.makes_dicts.dictionary_of.Goals as goal
+
+pub pass_fail_at-requires-clause-few : goal.pass_fail_at-requires-clause-few
+pass_fail_at-requires-clause-few c = omega (arith, table_patterns c.requires.table, c.patterns-patterns.ensures.value, c.patterns-patterns.type_inv)
+
+pub full_at-requires-clause-few : goal.full_at-requires-clause-few
+full_at-requires-clause-few c = omega (arith, table_patterns c.requires.table, c.patterns-patterns.ensures.value, c.patterns-patterns.type_inv)
+
+pub chosen_of-requires-clause-few : goal.chosen_of-requires-clause-few
+chosen_of-requires-clause-few c = omega (arith, table_patterns c.requires.table, c.patterns-patterns.ensures.value, c.patterns-patterns.type_inv)
+
+pub returns-in-PassFail-clause-dictionary : goal.returns-in-PassFail-clause-dictionary
+returns-in-PassFail-clause-dictionary c = kind_made c.pass_fail_at.result c.in-PassFail.is c.requires.table c.pass_fail_at.ensures
+
+pub returns-in-Full-clause-dictionary : goal.returns-in-Full-clause-dictionary
+returns-in-Full-clause-dictionary c = kind_made c.full_at.result c.in-Full.is c.requires.table c.full_at.ensures
+
+pub returns-clause-dictionary : goal.returns-clause-dictionary
+returns-clause-dictionary c =
+    let circuit = c.args.circuit.now in
+    let patterns = c.args.patterns.now in
+    let classes = c.args.classes.now in
+    subst (λ (kind : EntryKind). IfOk c.chosen_of.result (IsOfPatterns circuit kind patterns classes)) (sym c.in-SameDiff.is) c.chosen_of.ensures.dictionary
+
+pub returns-in-PassFail-clause-most : goal.returns-in-PassFail-clause-most
+returns-in-PassFail-clause-most c =
+    let circuit = c.args.circuit.now in
+    let patterns = c.args.patterns.now in
+    let is = c.in-PassFail.is in
+    IfOk-weaker c.pass_fail_at.result (λ (d : Dict). (t : Answers) → AreAnswers circuit patterns t → IsPassFail t d) (λ (d : Dict). c.args.kind ≡ SameDiff → KeepsMostApart circuit patterns c.args.classes.now d) (λ d made same. absurd (cc)) c.pass_fail_at.ensures
+
+pub returns-in-Full-clause-most : goal.returns-in-Full-clause-most
+returns-in-Full-clause-most c =
+    let circuit = c.args.circuit.now in
+    let patterns = c.args.patterns.now in
+    let is = c.in-Full.is in
+    IfOk-weaker c.full_at.result (λ (d : Dict). (t : Answers) → AreAnswers circuit patterns t → IsFull t d) (λ (d : Dict). c.args.kind ≡ SameDiff → KeepsMostApart circuit patterns c.args.classes.now d) (λ d made same. absurd (cc)) c.full_at.ensures
+
+pub returns-clause-most : goal.returns-clause-most
+returns-clause-most c =
+    let circuit = c.args.circuit.now in
+    let patterns = c.args.patterns.now in
+    let classes = c.args.classes.now in
+    IfOk-weaker c.chosen_of.result (KeepsMostApart circuit patterns classes) (λ (d : Dict). c.args.kind ≡ SameDiff → KeepsMostApart circuit patterns classes d) (λ d most same. most) c.chosen_of.ensures.most

@@ -1,0 +1,66 @@
+-- What the runs of `dict`, `convert` and `diagnose` that answer 0 leave.
+use Rattle.std.specs.Prelude.{◌≡◌, ◌≤◌, ◌↔◌, ℕ, Bool, List, length, Option, Some}
+use Rattle.std.specs.FinMap.{get}
+use Rattle.diag_shelf.specs.World.{Files, World}
+use Rattle.table_dicts.specs.declared.dict.Dict.{Dict}
+use Rattle.table_dicts.specs.Dictionary.{listed_numbers}
+use Rattle.dict_file.specs.declared.fault.DictVersion.TheVariants.{Two}
+use Rattle.dict_file.specs.Spelling.{spelling, most_bytes, IsFileOf}
+use Rattle.request_words.specs.declared.request.EntryKind.{EntryKind}
+use Rattle.request_words.specs.Request.{Text, Request, make_dict, convert, diagnose}
+use Rattle.dia_runs.specs.Texts.{groups_text, numbers_text}
+use Rattle.dia_runs.specs.Dictionaries.{IsMadeDictionary}
+use Rattle.dia_runs.specs.Logs.{IsLogFor}
+use Rattle.dia_runs.specs.Outcome.{Outcome, ConsoleGained}
+use Rattle.dia_runs.specs.Plan.{CallsFor}
+use Rattle.dia_runs.specs.Plans.{plan_of}
+use Rattle.dia_runs.specs.Ran.{HoldsTrueResult}
+
+-- The result is valid and true. Under the dictionary's name is the version 2 of the dictionary of this kind at the result's patterns, and
+-- the console gained its counts.
+pub record HasDictionary (kind : EntryKind) (bench result dict : Text) (old new : World) : Type 0 where
+  pub read : HoldsTrueResult bench result old.files
+  pub file : Text
+  pub saved : get new.files dict ≡ Some file
+  pub text : Text
+  pub made : IsMadeDictionary read.design.circuit kind read.file file text
+  pub printed : ConsoleGained text old new
+
+-- A run of `dict` that answers 0 leaves them.
+abbrev pub MakesDictionary : Option Request → ℕ → World → World → Type 0
+MakesDictionary request status old new = (kind : EntryKind) (bench result dict : Text) → request ≡ Some (make_dict kind bench result dict) → status ≡ 0 → HasDictionary kind bench result dict old new
+
+-- Under the new name is the version 2 of the dictionary that was read, and the console gained its counts.
+pub record HasConverted (name new_name : Text) (old new : World) : Type 0 where
+  pub bytes : Text
+  pub held : get old.files name ≡ Some bytes
+  pub dictionary : Dict
+  pub read : IsFileOf dictionary bytes
+  pub saved : get new.files new_name ≡ Some (spelling Two dictionary)
+  pub printed : ConsoleGained (groups_text dictionary.numbers dictionary.patterns (length dictionary.entries)) old new
+
+-- A run of `convert` that answers 0 leaves that.
+abbrev pub ConvertsDictionary : Option Request → ℕ → World → World → Type 0
+ConvertsDictionary request status old new = (name new_name : Text) → request ≡ Some (convert name new_name) → status ≡ 0 → HasConverted name new_name old new
+
+-- The console gained the numbers of which the dictionary has the entry of the log's answers, one to a line, and their count.
+pub record HasDiagnosis (dict log : Text) (old new : World) : Type 0 where
+  pub bytes : Text
+  pub held : get old.files dict ≡ Some bytes
+  pub dictionary : Dict
+  pub read : IsFileOf dictionary bytes
+  pub lines : Text
+  pub there : get old.files log ≡ Some lines
+  pub observed : List (List Bool)
+  pub tells : IsLogFor dictionary lines observed
+  pub printed : ConsoleGained (numbers_text (listed_numbers dictionary observed)) old new
+
+-- A run of `diagnose` that answers 0 prints that.
+abbrev pub PrintsDiagnosis : Option Request → ℕ → World → World → Type 0
+PrintsDiagnosis request status old new = (dict log : Text) → request ≡ Some (diagnose dict log) → status ≡ 0 → HasDiagnosis dict log old new
+
+-- A dictionary and its version 2, within the limit of bytes, are diagnosed alike: with every log a run by the one is to end as a run by
+-- the other.
+abbrev pub DiagnosesAlike : Type 0
+DiagnosesAlike = (files : Files) (first second log bytes : Text) (d : Dict) → get files first ≡ Some bytes → IsFileOf d bytes → get files second ≡ Some (spelling Two d) → length (spelling Two d) ≤ most_bytes
+    → (o : Outcome) → CallsFor files (plan_of (Some (diagnose first log))) o ↔ CallsFor files (plan_of (Some (diagnose second log))) o

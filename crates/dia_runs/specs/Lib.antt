@@ -1,0 +1,15 @@
+pub mod Synth
+pub mod Outputs
+pub mod Texts
+pub mod Faults
+pub mod Netlists
+pub mod Results
+pub mod Dictionaries
+pub mod Logs
+pub mod Simulations
+pub mod Outcome
+pub mod Plan
+pub mod Plans
+pub mod Ran
+pub mod DictionaryRuns
+pub mod Steps

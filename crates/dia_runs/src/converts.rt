@@ -1,0 +1,29 @@
+//! The command `convert`: a dictionary is written in version 2.
+
+ghost use Rattle.std.specs.Prelude.{Some};
+ghost use Rattle.request_words.specs.Request.{convert};
+ghost use Rattle.dia_runs.specs.Ran.{Ran};
+
+use crate::dictionaries::read_dictionary;
+use crate::ends::save;
+use crate::texts::groups_text;
+use diag_shelf::Shelf;
+use dict_file::{DictVersion, encode};
+use std::alloc::Global;
+
+/// Reads and judges a dictionary of either version, and writes it in version 2 under the new name.
+pub(crate) fn convert_file<S: Shelf>(alloc: Global, shelf: &mut S, old: &str, new: &str) -> u8
+    ensures { Ran (Some (convert old.now new.now)) result (S.state shelf.old) (S.state shelf.new) }
+{
+    let dict = match read_dictionary(alloc, shelf, old) {
+        Ok(dict) => dict,
+        Err(status) => return status,
+    };
+    let Ok(file) = encode(alloc, &dict, DictVersion::Two) else {
+        return 9;
+    };
+    let Ok(text) = groups_text(alloc, dict.numbers, dict.patterns, dict.group_count()) else {
+        return 9;
+    };
+    save(shelf, new, &file, text.as_bytes())
+}

@@ -1,0 +1,64 @@
+//! The command `diagnose`: the numbers that a dictionary and a log point to.
+
+ghost use Rattle.std.specs.Prelude.{◌≡◌, ◌++◌, IfOk, OnOk, Some, flat_map};
+ghost use Rattle.table_dicts.specs.Dictionary.{IsGroupedDict, IsShaped};
+ghost use Rattle.table_dicts.specs.Rows.{AreRows};
+ghost use Rattle.request_words.specs.Request.{diagnose};
+ghost use Rattle.dia_runs.specs.Dictionaries.{IsDiagnosis};
+ghost use Rattle.dia_runs.specs.Ran.{Ran};
+ghost use Rattle.dia_runs.specs.Texts.{number_line};
+
+use crate::dictionaries::read_dictionary;
+use crate::ends::say;
+use crate::logs::read_observed;
+use crate::texts::{listed_text, number_line};
+use diag_shelf::Shelf;
+use diagnose::matches;
+use net_model::AnswerRows;
+use std::alloc::{AllocError, Global};
+use table_dicts::Dict;
+
+/// Reads and judges the dictionary and then the log, and prints the numbers that they point to.
+pub(crate) fn diagnose_log<S: Shelf>(alloc: Global, shelf: &mut S, dict: &str, log: &str) -> u8
+    ensures { Ran (Some (diagnose dict.now log.now)) result (S.state shelf.old) (S.state shelf.new) }
+{
+    let dict = match read_dictionary(alloc, shelf, dict) {
+        Ok(dict) => dict,
+        Err(status) => return status,
+    };
+    let observed = match read_observed(alloc, shelf, &dict, log) {
+        Ok(observed) => observed,
+        Err(status) => return status,
+    };
+    let Ok(text) = diagnosis(alloc, &dict, &observed) else {
+        return 9;
+    };
+    say(shelf, 0, &text)
+}
+
+// A line for each number whose entry is that of the observed answers, and how many they are.
+#[tactic(auto, unfolding(crate::specs::Texts::numbers_text))]
+fn diagnosis(alloc: Global, dict: &Dict, observed: &AnswerRows) -> Result<Vec<u8>, AllocError>
+    requires grouped { IsGroupedDict dict.now }
+    requires shaped { IsShaped dict.now }
+    requires observed { AreRows dict.now.patterns dict.now.positions observed.now }
+    ensures { IfOk result (λ text. IsDiagnosis dict.now observed.now text.items) }
+{
+    let numbers = matches(alloc, dict, observed)?;
+    let mut text = Vec::new(alloc);
+    push_numbers(&mut text, &numbers)?;
+    let count = listed_text(alloc, numbers.len())?;
+    text.extend_from_slice(count.as_bytes())?;
+    Ok(text)
+}
+
+// A line for each number.
+fn push_numbers(text: &mut Vec<u8>, numbers: &[u32]) -> Result<(), AllocError>
+    ensures { OnOk result (text.new.items ≡ text.old.items ++ flat_map number_line numbers.now) }
+{
+    for number in numbers {
+        let line = number_line(*text.allocator(), *number)?;
+        text.extend_from_slice(line.as_bytes())?;
+    }
+    Ok(())
+}
