@@ -69,8 +69,8 @@ fn gates_of(alloc: Global, gates: &[(Kind, &[u32])]) -> Result<Vec<Gate>, AllocE
     Ok(made)
 }
 
-// A gate that reads these lines.
-fn gate(alloc: Global, kind: Kind, lines: &[u32]) -> Result<Gate, AllocError>
+/// A gate that reads these lines.
+pub fn gate(alloc: Global, kind: Kind, lines: &[u32]) -> Result<Gate, AllocError>
     ensures kind { IfOk result (λ gate. gate.kind ≡ kind) }
     ensures pins { IfOk result (λ gate. gate.pins ≡ lines.now) }
 {

@@ -31,13 +31,6 @@ pub const BUFFER: Parts<'static> = Parts {
     positions: &[1],
 };
 
-/// Line 1 is the XOR of the source with itself, and is shown.
-pub const XOR_OF_ONE: Parts<'static> = Parts {
-    sources: 1,
-    gates: &[(Kind::Xor, &[0, 0])],
-    positions: &[1],
-};
-
 /// The source is shown twice.
 pub const SHOWN_TWICE: Parts<'static> = Parts {
     sources: 1,
@@ -61,4 +54,11 @@ pub const BETWEEN_CONSTANTS: Parts<'static> = Parts {
         (Kind::Mux, &[0, 1, 2]),
     ],
     positions: &[3],
+};
+
+/// Line 1 is the XOR of the source with itself, and is shown.
+pub const XOR_OF_ONE: Parts<'static> = Parts {
+    sources: 1,
+    gates: &[(Kind::Xor, &[0, 0])],
+    positions: &[1],
 };

@@ -8,35 +8,35 @@ use std::alloc::{AllocError, Global};
 use std::test::Fail;
 use table_dicts::AnswerTable;
 
-/// How many numbers and positions there are, and for each pattern the answer of each number.
-#[derive(Clone, Copy)]
-pub(crate) struct Given {
-    pub(crate) numbers: u32,
-    pub(crate) positions: u32,
-    pub(crate) answers: &'static [&'static [&'static str]],
-}
+/// How many numbers and positions there are, and for each pattern the answer of each number, with blanks between.
+pub(crate) type Given = (u32, u32, &'static [&'static str]);
 
 /// The table of these answers.
-pub(crate) fn table_of(alloc: Global, given: &Given) -> Result<AnswerTable, Fail>
-    ensures { IfOk result (λ table. table.numbers ≡ given.now.numbers) }
+pub(crate) fn table_of(
+    alloc: Global,
+    numbers: u32,
+    positions: u32,
+    answers: &[&str],
+) -> Result<AnswerTable, Fail>
+    ensures { IfOk result (λ table. table.numbers ≡ numbers) }
 {
-    let Ok(patterns) = u32::try_from(given.answers.len()) else {
+    let Ok(patterns) = u32::try_from(answers.len()) else {
         return Err(Fail::new("there are too many patterns"));
     };
-    let mut table = AnswerTable::zeros(alloc, patterns, given.numbers, given.positions)?;
-    for (pattern, texts) in given.answers.iter().enumerate() {
-        enter_row(&mut table, pattern, texts)?;
+    let mut table = AnswerTable::zeros(alloc, patterns, numbers, positions)?;
+    for (pattern, text) in answers.iter().enumerate() {
+        enter_row(&mut table, pattern, text.as_bytes())?;
     }
-    if table.numbers() != given.numbers {
+    if table.numbers() != numbers {
         return Err(Fail::new("there is another number of numbers"));
     }
     Ok(table)
 }
 
 // Enters the answers to a pattern.
-fn enter_row(table: &mut AnswerTable, pattern: usize, texts: &[&str]) -> Result<(), Fail> {
-    for (number, text) in texts.iter().enumerate() {
-        for (position, digit) in text.as_bytes().iter().enumerate() {
+fn enter_row(table: &mut AnswerTable, pattern: usize, text: &[u8]) -> Result<(), Fail> {
+    for (number, digits) in text.split(|byte| *byte == b' ').enumerate() {
+        for (position, digit) in digits.iter().enumerate() {
             set_answer(table, pattern, number, position, *digit == b'1')?;
         }
     }
@@ -61,14 +61,19 @@ fn set_answer(
 }
 
 /// The classes that the answers to one pattern after another leave.
-pub(crate) fn classes_of(alloc: Global, given: &Given) -> Result<Classes, Fail>
-    requires { 0 < given.now.numbers }
-    ensures { IfOk result (λ classes. length classes.class_of ≡ given.now.numbers) }
+pub(crate) fn classes_of(
+    alloc: Global,
+    answers: &[&str],
+    numbers: u32,
+    positions: u32,
+) -> Result<Classes, Fail>
+    requires { 0 < numbers }
+    ensures { IfOk result (λ classes. length classes.class_of ≡ numbers) }
 {
-    let mut classes = Classes::new(alloc, given.numbers)?;
-    for texts in given.answers {
-        let answers = rows_of(alloc, given.positions as usize, texts)?;
-        refine(&mut classes, given.numbers, &answers)?;
+    let mut classes = Classes::new(alloc, numbers)?;
+    for text in answers {
+        let rows = rows_of(alloc, numbers as usize, positions as usize, text.as_bytes())?;
+        refine(&mut classes, numbers, &rows)?;
     }
     Ok(classes)
 }
@@ -84,11 +89,11 @@ fn refine(classes: &mut Classes, numbers: u32, answers: &AnswerRows) -> Result<(
     Ok(())
 }
 
-// Rows of the digits of these texts.
-fn rows_of(alloc: Global, width: usize, texts: &[&str]) -> Result<AnswerRows, Fail> {
-    let mut rows = AnswerRows::zeros(alloc, texts.len(), width)?;
-    for (row, text) in texts.iter().enumerate() {
-        for (at, digit) in text.as_bytes().iter().enumerate() {
+// Rows of the digits of a text, with a blank between two rows.
+fn rows_of(alloc: Global, count: usize, width: usize, text: &[u8]) -> Result<AnswerRows, Fail> {
+    let mut rows = AnswerRows::zeros(alloc, count, width)?;
+    for (row, digits) in text.split(|byte| *byte == b' ').enumerate() {
+        for (at, digit) in digits.iter().enumerate() {
             set_bit(&mut rows, row, at, *digit == b'1')?;
         }
     }

@@ -2,7 +2,7 @@
 
 use crate::outcome::{at, evidence, outcome};
 use crate::texts::{
-    AND_CLASSES, AND_EVIDENCE, AND_HEAD, AND_MEMBERS, LONE_END, LONE_HEAD, NOT_CLASSES,
+    AND_CLASSES, AND_EVIDENCE, AND_HEAD, AND_MEMBERS, LONE, LONE_END, LONE_HEAD, NOT_CLASSES,
     NOT_EVIDENCE, NOT_HEAD, NOT_MEMBERS, OPEN_EVIDENCE, OPEN_HEAD, OPEN_MEMBERS,
 };
 use dia_check::{FileFault, check};
@@ -10,7 +10,7 @@ use diag_shelf::{MemoryShelf, Shelf};
 use net_model::Circuit;
 use refute_check::RefusalKind;
 use result_file::{ResultKind, Summary};
-use sample_circuits::{AND_OF_TWO, NOT_AND_OR, Parts, circuit};
+use sample_circuits::{AND_OF_TWO, NOT_AND_OR, circuit};
 use std::alloc::Global;
 use std::process::Abort;
 use std::test::Fail;
@@ -98,16 +98,7 @@ fn forged_lines(rt: HostRuntime) -> Result<(), Fail> {
 
 #[test]
 fn forged_logs(rt: HostRuntime) -> Result<(), Fail> {
-    let lone = Parts {
-        sources: 1,
-        gates: &[],
-        positions: &[],
-    };
     let texts: [(&[&str], Refused); 4] = [
-        (
-            &[LONE_HEAD, "same 1 0 R ? ; 2\n", LONE_END],
-            evidence(RefusalKind::NoSuchClause, 0, 3),
-        ),
         (
             &[LONE_HEAD, "same 1 0 R ? ; 1 1 1\n"],
             evidence(RefusalKind::NoPivot, 0, 3),
@@ -120,8 +111,12 @@ fn forged_logs(rt: HostRuntime) -> Result<(), Fail> {
             &[LONE_HEAD, "same 1 0 R . ; 1\n"],
             evidence(RefusalKind::WrongCount, 1, 3),
         ),
+        (
+            &[LONE_HEAD, "same 1 0 R ? ; 2\n", LONE_END],
+            evidence(RefusalKind::NoSuchClause, 0, 3),
+        ),
     ];
-    are_refused(&rt, rt.alloc(), &circuit(rt.alloc(), lone)?, &texts)
+    are_refused(&rt, rt.alloc(), &circuit(rt.alloc(), LONE)?, &texts)
 }
 
 #[test]
@@ -196,7 +191,8 @@ fn repeated_lines(rt: HostRuntime) -> Result<(), Fail> {
                 AND_HEAD,
                 AND_EVIDENCE,
                 AND_CLASSES,
-                "member 0 0 rep\nmember 0 0 rep\n",
+                "member 0 0 rep\n",
+                "member 0 0 rep\n",
             ],
             at(ResultKind::Table, 15),
         ),

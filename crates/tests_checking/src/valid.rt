@@ -2,12 +2,12 @@
 
 use crate::outcome::outcome;
 use crate::texts::{
-    AND_CLASSES, AND_EVIDENCE, AND_HEAD, AND_MEMBERS, LONE_END, LONE_EVIDENCE, LONE_HEAD,
+    AND_CLASSES, AND_EVIDENCE, AND_HEAD, AND_MEMBERS, LONE, LONE_END, LONE_EVIDENCE, LONE_HEAD,
     NOT_CLASSES, NOT_EVIDENCE, NOT_HEAD, NOT_MEMBERS, OPEN_EVIDENCE, OPEN_HEAD, OPEN_MEMBERS,
 };
 use net_model::Circuit;
 use result_file::Summary;
-use sample_circuits::{AND_OF_TWO, NOT_AND_OR, Parts, circuit};
+use sample_circuits::{AND_OF_TWO, NOT_AND_OR, circuit};
 use std::alloc::Global;
 use std::process::Abort;
 use std::test::Fail;
@@ -102,11 +102,6 @@ fn results_of_two_gates(rt: HostRuntime) -> Result<(), Fail> {
 
 #[test]
 fn results_of_a_lone_source(rt: HostRuntime) -> Result<(), Fail> {
-    let lone = Parts {
-        sources: 1,
-        gates: &[],
-        positions: &[],
-    };
     let texts: [(&[&str], [u32; 4]); 2] = [
         (&[LONE_HEAD, LONE_EVIDENCE, LONE_END], [0, 1, 2, 0]),
         (
@@ -114,5 +109,5 @@ fn results_of_a_lone_source(rt: HostRuntime) -> Result<(), Fail> {
             [0, 1, 2, 0],
         ),
     ];
-    are_accepted(&rt, rt.alloc(), &circuit(rt.alloc(), lone)?, 3, &texts)
+    are_accepted(&rt, rt.alloc(), &circuit(rt.alloc(), LONE)?, 3, &texts)
 }

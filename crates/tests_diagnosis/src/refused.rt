@@ -42,7 +42,6 @@ fn check_logs(
 #[test]
 fn logs_of_four_patterns(rt: HostRuntime) -> Result<(), Fail> {
     let logs = [
-        ("0 0\n1 0\n2 0\n3 0\n", None),
         ("", Some((LogKind::Missing, 1))),
         ("0 0\n1 0\n2 0\n", Some((LogKind::Missing, 4))),
         ("1 0\n", Some((LogKind::Order, 1))),
@@ -74,6 +73,7 @@ fn logs_of_four_patterns(rt: HostRuntime) -> Result<(), Fail> {
         ("0\n", Some((LogKind::Syntax, 1))),
         ("0 \n", Some((LogKind::Syntax, 1))),
         ("\n", Some((LogKind::Syntax, 1))),
+        ("0 0\n1 0\n2 0\n3 0\n", None),
     ];
     check_logs(&rt, rt.alloc(), 4, 1, &logs)
 }

@@ -1,145 +1,223 @@
 //! Miters of small circuits, clause by clause, and a chain. All were worked out by hand.
 
-ghost use Rattle.std.specs.Prelude.{◌≡◌, []};
-ghost use Rattle.net_model.specs.Fault.{IsFaultOf};
+ghost use Rattle.std.specs.Prelude.{◌≡◌, ◌∷◌, [], true, false, IfOk};
+ghost use Rattle.net_model.specs.Circuit.{circuit_with};
+ghost use Rattle.pair_miter.specs.MiterView.{miter_with};
 
-use crate::circuits::{and_of_one, choice, constants, lone_source, not_and_or};
 use clause_pool::{Lit, Pool};
-use net_model::{Bits, Circuit, Fault, Site};
-use pair_miter::{Chain, Log, build};
+use net_model::Fault::{self, Free, Stuck};
+use net_model::Site::{self, Stem};
+use net_model::{Bits, Circuit, Gate, Kind, Pins, Vector};
+use pair_miter::{Chain, Log, Miter, build};
+use sample_circuits::{NOT_AND_OR, Parts, circuit, stands};
 use std::alloc::{AllocError, Global};
 use std::test::Fail;
 
-// The clauses of a pool, as signed numbers, with a 0 after each clause.
+// Two faults of a circuit, how many variables and clauses their miter has, the clauses of both copies, and those by which the
+// copies differ.
+#[derive(Clone, Copy)]
+struct Case {
+    parts: Parts<'static>,
+    f: Fault,
+    g: Fault,
+    counts: &'static str,
+    copies: &'static str,
+    difference: &'static str,
+}
+
+// An OR of opposites.
+const OPPOSITES: Case = Case {
+    parts: NOT_AND_OR,
+    f: Free,
+    g: Stuck(Stem(2), true),
+    counts: "5 11: ",
+    copies: "2 1 0 -2 -1 0 3 -1 0 3 -2 0 -3 1 2 0 4 0 ",
+    difference: "-5 3 4 0 -5 -3 -4 0 5 -3 4 0 5 3 -4 0 5 0 ",
+};
+
+// A source that nothing shows; a line at two pins; a multiplexer; and constants in both copies, 1 stuck at 0 against 0 stuck
+// at 1.
+const OTHERS: [Case; 4] = [
+    Case {
+        parts: Parts {
+            sources: 1,
+            gates: &[],
+            positions: &[],
+        },
+        f: Free,
+        g: Stuck(Stem(0), false),
+        counts: "0 1: ",
+        copies: "",
+        difference: "0 ",
+    },
+    Case {
+        parts: Parts {
+            sources: 1,
+            gates: &[(Kind::And, &[0, 0])],
+            positions: &[1],
+        },
+        f: Free,
+        g: Stuck(Stem(1), false),
+        counts: "4 9: ",
+        copies: "-2 1 0 -2 1 0 2 -1 0 -3 0 ",
+        difference: "-4 2 3 0 -4 -2 -3 0 4 -2 3 0 4 2 -3 0 4 0 ",
+    },
+    Case {
+        parts: Parts {
+            sources: 3,
+            gates: &[(Kind::Mux, &[0, 1, 2])],
+            positions: &[3],
+        },
+        f: Free,
+        g: Stuck(Stem(1), false),
+        counts: "7 14: ",
+        copies: "-3 0 -5 1 2 0 5 1 -2 0 -5 -1 4 0 5 -1 -4 0 -6 1 3 0 6 1 -3 0 -6 -1 4 0 6 -1 -4 0 ",
+        difference: "-7 5 6 0 -7 -5 -6 0 7 -5 6 0 7 5 -6 0 7 0 ",
+    },
+    Case {
+        parts: Parts {
+            sources: 0,
+            gates: &[(Kind::Const1, &[]), (Kind::Const0, &[])],
+            positions: &[0, 1],
+        },
+        f: Stuck(Stem(0), false),
+        g: Stuck(Stem(1), true),
+        counts: "6 13: ",
+        copies: "-1 0 2 0 -3 0 4 0 -5 1 2 0 -5 -1 -2 0 5 -1 2 0 5 1 -2 0 ",
+        difference: "-6 3 4 0 -6 -3 -4 0 6 -3 4 0 6 3 -4 0 5 6 0 ",
+    },
+];
+
+// The literals of a clause as signed numbers, with a 0 after them.
+fn push_clause(text: &mut String, clause: &[Lit]) -> Result<(), AllocError> {
+    for lit in clause {
+        text.push_str(if lit.positive() { "" } else { "-" })?;
+        write!(text, "{} ", lit.variable())?;
+    }
+    text.push_str("0 ")
+}
+
 fn pool_text(alloc: Global, pool: &Pool) -> Result<String, AllocError> {
     let mut text = String::new(alloc);
     for number in 1..=pool.len() {
-        for lit in pool.get(number) {
-            let sign = if lit.positive() { "" } else { "-" };
-            text.push_str(format!(in alloc; "{sign}{} ", lit.variable())?.as_str())?;
-        }
-        text.push_str("0 ")?;
+        push_clause(&mut text, pool.get(number))?;
     }
     Ok(text)
 }
 
 // How many variables and clauses a miter has, and the clauses, which are built into an empty pool.
-fn miter_text(
-    alloc: Global,
-    circuit: &Circuit,
-    f: &Fault,
-    g: &Fault,
-    pool: &mut Pool,
-) -> Result<String, AllocError>
-    requires empty { pool.old.clauses ≡ [] }
-    requires first { IsFaultOf circuit.now f.now }
-    requires second { IsFaultOf circuit.now g.now }
+fn miter_text(alloc: Global, case: &Case, pool: &mut Pool) -> Result<String, Fail>
+    requires { pool.old.clauses ≡ [] }
 {
-    let miter = build(alloc, circuit, f, g, pool)?;
+    let circuit = circuit(alloc, case.parts)?;
+    if !stands(&circuit, case.f) || !stands(&circuit, case.g) {
+        return Err(Fail::new("a fault doesn't stand"));
+    }
+    let miter = build(alloc, &circuit, &case.f, &case.g, pool)?;
+    let (variables, count) = (miter.variables(), miter.clause_count());
     let clauses = pool_text(alloc, pool)?;
-    format!(in alloc; "{} {}: {clauses}", miter.variables(), miter.clause_count())
+    Ok(format!(in alloc; "{variables} {count}: {clauses}")?)
 }
 
+fn wanted_text(alloc: Global, case: &Case) -> Result<String, AllocError> {
+    format!(in alloc; "{}{}{}", case.counts, case.copies, case.difference)
+}
+
+// A pool of just the room stays as it is.
 #[test]
-fn an_or_of_opposites(rt: HostRuntime) -> Result<(), Fail> {
-    let alloc = rt.alloc();
-    let circuit = not_and_or(alloc)?;
-    let stuck = Fault::Stuck(Site::Stem(2), true);
-    let mut pool = Pool::with_room(alloc, 11, 25)?;
-    let text = miter_text(alloc, &circuit, &Fault::Free, &stuck, &mut pool)?;
-    let lines = "2 1 0 -2 -1 0 3 -1 0 3 -2 0 -3 1 2 0 4 0 ";
-    let difference = "-5 3 4 0 -5 -3 -4 0 5 -3 4 0 5 3 -4 0 5 0 ";
-    let expected = format!(in alloc; "5 11: {lines}{difference}")?;
-    assert_eq!(rt; text.as_str(), expected.as_str());
+fn a_miter_in_its_room(rt: HostRuntime) -> Result<(), Fail> {
+    let mut pool = Pool::with_room(rt.alloc(), 11, 25)?;
+    let text = miter_text(rt.alloc(), &OPPOSITES, &mut pool)?;
+    assert_eq!(rt;
+        text.as_str(),
+        wanted_text(rt.alloc(), &OPPOSITES)?.as_str()
+    );
     assert_eq!(rt; (pool.spare_clauses(), pool.spare_literals()), (0, 0));
     Ok(())
 }
 
+// A pool without room grows.
 #[test]
-fn a_source_that_nothing_shows(rt: HostRuntime) -> Result<(), Fail> {
-    let alloc = rt.alloc();
-    let circuit = lone_source(alloc)?;
-    let stuck = Fault::Stuck(Site::Stem(0), false);
-    let mut pool = Pool::with_room(alloc, 0, 0)?;
-    let text = miter_text(alloc, &circuit, &Fault::Free, &stuck, &mut pool)?;
-    assert_eq!(rt; text.as_str(), "0 1: 0 ");
+fn clauses_of_miters(rt: HostRuntime) -> Result<(), Fail> {
+    for case in &OTHERS {
+        let mut pool = Pool::with_room(rt.alloc(), 0, 0)?;
+        let text = miter_text(rt.alloc(), case, &mut pool)?;
+        assert_eq!(rt; text.as_str(), wanted_text(rt.alloc(), case)?.as_str());
+    }
     Ok(())
 }
 
-#[test]
-fn a_line_at_two_pins(rt: HostRuntime) -> Result<(), Fail> {
-    let alloc = rt.alloc();
-    let circuit = and_of_one(alloc)?;
-    let stuck = Fault::Stuck(Site::Stem(1), false);
-    let mut pool = Pool::with_room(alloc, 0, 0)?;
-    let text = miter_text(alloc, &circuit, &Fault::Free, &stuck, &mut pool)?;
-    let lines = "-2 1 0 -2 1 0 2 -1 0 -3 0 ";
-    let difference = "-4 2 3 0 -4 -2 -3 0 4 -2 3 0 4 2 -3 0 4 0 ";
-    let expected = format!(in alloc; "4 9: {lines}{difference}")?;
-    assert_eq!(rt; text.as_str(), expected.as_str());
-    Ok(())
+// Line 1 is the AND of the source with itself.
+fn and_of_one(alloc: Global) -> Result<Circuit, AllocError>
+    ensures { IfOk result (λ circuit. circuit ≡ circuit_with 1 (record { kind = Kind.And; pins = 0 ∷ 0 ∷ [] } ∷ []) (1 ∷ [])) }
+{
+    let mut pins = Pins::new(alloc);
+    pins.push(0)?;
+    pins.push(0)?;
+    let mut gates = Vec::new(alloc);
+    gates.push(Gate {
+        kind: Kind::And,
+        pins,
+    })?;
+    let mut positions = Vec::new(alloc);
+    positions.push(1)?;
+    match Circuit::build(alloc, 1, gates, positions) {
+        Ok(circuit) => Ok(circuit),
+        Err(_) => Err(AllocError),
+    }
 }
 
-#[test]
-fn a_multiplexer(rt: HostRuntime) -> Result<(), Fail> {
-    let alloc = rt.alloc();
-    let circuit = choice(alloc)?;
-    let stuck = Fault::Stuck(Site::Stem(1), false);
-    let mut pool = Pool::with_room(alloc, 0, 0)?;
-    let text = miter_text(alloc, &circuit, &Fault::Free, &stuck, &mut pool)?;
-    let first = "-3 0 -5 1 2 0 5 1 -2 0 -5 -1 4 0 5 -1 -4 0 ";
-    let second = "-6 1 3 0 6 1 -3 0 -6 -1 4 0 6 -1 -4 0 ";
-    let difference = "-7 5 6 0 -7 -5 -6 0 7 -5 6 0 7 5 -6 0 7 0 ";
-    let expected = format!(in alloc; "7 14: {first}{second}{difference}")?;
-    assert_eq!(rt; text.as_str(), expected.as_str());
-    Ok(())
-}
-
-// Constant 1 is stuck at 0 against constant 0 stuck at 1.
-#[test]
-fn constants_in_both_copies(rt: HostRuntime) -> Result<(), Fail> {
-    let alloc = rt.alloc();
-    let circuit = constants(alloc)?;
-    let first = Fault::Stuck(Site::Stem(0), false);
-    let second = Fault::Stuck(Site::Stem(1), true);
-    let mut pool = Pool::with_room(alloc, 0, 0)?;
-    let text = miter_text(alloc, &circuit, &first, &second, &mut pool)?;
-    let lines = "-1 0 2 0 -3 0 4 0 -5 1 2 0 -5 -1 -2 0 5 -1 2 0 5 1 -2 0 ";
-    let difference = "-6 3 4 0 -6 -3 -4 0 6 -3 4 0 6 3 -4 0 5 6 0 ";
-    let expected = format!(in alloc; "6 13: {lines}{difference}")?;
-    assert_eq!(rt; text.as_str(), expected.as_str());
-    Ok(())
-}
-
-#[test]
-fn vector_of_a_model(rt: HostRuntime) -> Result<(), Fail> {
-    let alloc = rt.alloc();
-    let circuit = and_of_one(alloc)?;
-    let stuck = Fault::Stuck(Site::Stem(1), false);
-    let mut pool = Pool::with_room(alloc, 0, 0)?;
-    let miter = build(alloc, &circuit, &Fault::Free, &stuck, &mut pool)?;
+// The source and the line are 1 without the fault, and the line is 0 with it.
+fn model(alloc: Global) -> Result<Bits, AllocError>
+    ensures { IfOk result (λ model. model ≡ true ∷ true ∷ false ∷ true ∷ []) }
+{
     let mut model = Bits::zeros(alloc, 4)?;
     model.set(0, true);
     model.set(1, true);
     model.set(3, true);
-    let v = miter.vector_of(&model)?;
+    Ok(model)
+}
+
+fn miter_of_one<'a>(alloc: Global, circuit: &'a Circuit) -> Result<Miter<'a>, AllocError>
+    requires { circuit.now ≡ circuit_with 1 (record { kind = Kind.And; pins = 0 ∷ 0 ∷ [] } ∷ []) (1 ∷ []) }
+    ensures { IfOk result (λ built. built ≡ miter_with circuit.now Fault.Free (Fault.Stuck (Site.Stem 1) false)) }
+{
+    let mut pool = Pool::with_room(alloc, 0, 0)?;
+    build(alloc, circuit, &Free, &Stuck(Stem(1), false), &mut pool)
+}
+
+fn vector_of_model(alloc: Global) -> Result<Vector, AllocError> {
+    let circuit = and_of_one(alloc)?;
+    let model = model(alloc)?;
+    let miter = miter_of_one(alloc, &circuit)?;
+    miter.vector_of(&model)
+}
+
+#[test]
+fn vector_of_a_model(rt: HostRuntime) -> Result<(), Fail> {
+    let v = vector_of_model(rt.alloc())?;
     assert_eq!(rt; v.len(), 1);
     assert!(rt; v.get(0));
     Ok(())
 }
 
-#[test]
-fn a_log_of_one_chain(rt: HostRuntime) -> Result<(), Fail> {
-    let mut chain = Chain::new(rt.alloc(), 8, Some(Lit::new(3, false)));
+fn chain_of_two_steps(alloc: Global) -> Result<Chain, AllocError> {
+    let mut chain = Chain::new(alloc, 8, Some(Lit::new(3, false)));
     chain.push(Lit::new(5, false), 11)?;
     chain.push(Lit::new(4, false), 6)?;
     chain.set_at(Some(Lit::new(2, true)));
+    Ok(chain)
+}
+
+#[test]
+fn a_log_of_one_chain(rt: HostRuntime) -> Result<(), Fail> {
     let mut log = Log::new(rt.alloc());
-    log.push(chain)?;
+    log.push(chain_of_two_steps(rt.alloc())?)?;
     assert_eq!(rt; log.as_slice().len(), 1);
+    let chain = &log.as_slice()[0];
     let steps = [(Lit::new(5, false), 11), (Lit::new(4, false), 6)];
-    assert_eq!(rt; log.as_slice()[0].steps(), steps.as_slice());
-    assert_eq!(rt; log.as_slice()[0].start(), 8);
-    assert_eq!(rt; log.as_slice()[0].at(), Some(Lit::new(2, true)));
+    assert_eq!(rt; chain.steps(), steps.as_slice());
+    assert_eq!(rt; chain.start(), 8);
+    assert_eq!(rt; chain.at(), Some(Lit::new(2, true)));
     Ok(())
 }

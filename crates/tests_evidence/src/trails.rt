@@ -6,6 +6,7 @@ ghost use Rattle.solver_trail.specs.Trail.{Fits};
 
 use clause_pool::{Lit, Pool};
 use solver_trail::{Propagated, Trail, longer_pool_fits};
+use std::alloc::Global;
 use std::test::Fail;
 
 // Pushes a clause and attaches it.
@@ -50,10 +51,33 @@ fn attach_all(trail: &mut Trail, pool: &Pool) -> Result<(), Fail>
     Ok(())
 }
 
-#[test]
-fn units_and_reasons(rt: HostRuntime) -> Result<(), Fail> {
-    let mut pool = Pool::with_room(rt.alloc(), 4, 8)?;
-    let mut trail = Trail::new(rt.alloc(), 4)?;
+// Whether units and a reason are propagated, then a decision meets a conflict, and behind it the units are left.
+fn propagates(trail: &mut Trail, pool: &Pool) -> bool
+    requires fits { Fits trail.old pool.now.clauses }
+    requires variables { trail.old.assignment.variables ≡ 4 }
+{
+    let units = [Lit::new(1, true), Lit::new(2, true)];
+    if trail.propagate(pool) != Propagated::Quiet || trail.set_literals() != units.as_slice() {
+        return false;
+    }
+    if (trail.value(2), trail.level_of(2), trail.reason(2)) != (Some(true), Some(0), Some(2)) {
+        return false;
+    }
+    let met = decide(trail, pool, Lit::new(3, true));
+    if !matches!(met, Some(Propagated::Conflict(3 | 4))) {
+        return false;
+    }
+    if (trail.level(), trail.level_of(3), trail.reason(3)) != (1, Some(1), None) {
+        return false;
+    }
+    trail.back_to(0);
+    trail.set_literals() == units.as_slice()
+}
+
+// The clauses 1, -1 2, -2 -3 4 and -3 -4.
+fn four_propagate(alloc: Global) -> Result<bool, Fail> {
+    let mut pool = Pool::with_room(alloc, 4, 8)?;
+    let mut trail = Trail::new(alloc, 4)?;
     let (one, two) = (Lit::new(1, true), Lit::new(2, true));
     let (three, four) = (Lit::new(3, true), Lit::new(4, true));
     add(&mut trail, &mut pool, &[one])?;
@@ -64,24 +88,12 @@ fn units_and_reasons(rt: HostRuntime) -> Result<(), Fail> {
         &[two.opposite(), three.opposite(), four],
     )?;
     add(&mut trail, &mut pool, &[three.opposite(), four.opposite()])?;
-    assert_eq!(rt; trail.propagate(&pool), Propagated::Quiet);
-    assert_eq!(rt; trail.set_literals(), [one, two].as_slice());
-    assert_eq!(rt;
-        (trail.value(2), trail.level_of(2), trail.reason(2)),
-        (Some(true), Some(0), Some(2))
-    );
-    assert!(rt;
-        matches!(
-            decide(&mut trail, &pool, three),
-            Some(Propagated::Conflict(3 | 4))
-        )
-    );
-    assert_eq!(rt;
-        (trail.level(), trail.level_of(3), trail.reason(3)),
-        (1, Some(1), None)
-    );
-    trail.back_to(0);
-    assert_eq!(rt; trail.set_literals(), [one, two].as_slice());
+    Ok(propagates(&mut trail, &pool))
+}
+
+#[test]
+fn units_and_reasons(rt: HostRuntime) -> Result<(), Fail> {
+    assert!(rt; four_propagate(rt.alloc())?);
     Ok(())
 }
 

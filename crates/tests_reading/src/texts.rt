@@ -13,25 +13,26 @@ fn refusal(alloc: Global, text: &[u8]) -> Result<Option<(NetKind, u32, u32)>, Ne
     }
 }
 
+const READ: [&str; 14] = [
+    "",
+    "INPUT(a)",
+    "input(INPUT)\nAND=and(INPUT)",
+    "INPUT(a)INPUT(b)",
+    "# \x01\x0c\x7f é\nINPUT(a)",
+    "INPUT(a) # x\rINPUT(",
+    "OUTPUT(z)z=buf(a)INPUT(a)",
+    "a=nOt(b)\nb = DfF ( a )",
+    "INPUT(a)z=Xnor\n(\r\na\t,\n# (\na\n)\n",
+    "z=NAND(z,z,z)",
+    "z=CONST0 ( # )\n )",
+    "z=const1()",
+    "INPUT(s)INPUT(a)INPUT(b)z=MUX(s,a,b)",
+    "INPUT(MUX)CONST0=NOT(MUX)",
+];
+
 #[test]
 fn texts_are_read(rt: HostRuntime) -> Result<(), Fail> {
-    let texts = [
-        "",
-        "INPUT(a)",
-        "input(INPUT)\nAND=and(INPUT)",
-        "INPUT(a)INPUT(b)",
-        "# \x01\x0c\x7f é\nINPUT(a)",
-        "INPUT(a) # x\rINPUT(",
-        "OUTPUT(z)z=buf(a)INPUT(a)",
-        "a=nOt(b)\nb = DfF ( a )",
-        "INPUT(a)z=Xnor\n(\r\na\t,\n# (\na\n)\n",
-        "z=NAND(z,z,z)",
-        "z=CONST0 ( # )\n )",
-        "z=const1()",
-        "INPUT(s)INPUT(a)INPUT(b)z=MUX(s,a,b)",
-        "INPUT(MUX)CONST0=NOT(MUX)",
-    ];
-    for text in texts.iter() {
+    for text in &READ {
         assert!(rt; refusal(rt.alloc(), text.as_bytes())?.is_none());
     }
     Ok(())

@@ -1,52 +1,83 @@
 //! The states of cubes, and trees of them.
 
-use net_model::Fault::{self, Free};
+ghost use Rattle.std.specs.Prelude.{◌≡◌, ◌<◌, []};
+
+use net_model::Fault::{self, Free, Stuck};
 use net_model::Kind;
+use net_model::Site::{Pin, Position, Stem};
 use pair_sets::PairState::{AllSame, Apart, Undecided};
 use pair_sets::{PairSim, PairState, Token, Tree};
 use sample_circuits::{
     BETWEEN_CONSTANTS, BUFFER, NOT_AND_OR, Parts, SAME_DATA, SHOWN_TWICE, WITH_CONSTANT,
-    XOR_OF_ONE, circuit, pin, position, stands, stem,
+    XOR_OF_ONE, circuit, stands,
 };
 use std::alloc::Global;
 use std::test::Fail;
 
-// The states of the cube of all vectors, of source 0 at 0, and of source 0 at 1. Undone, the first one comes again.
-fn states(alloc: Global, parts: Parts, f: Fault, g: Fault) -> Result<[PairState; 3], Fail> {
+const OPEN: PairState = Undecided;
+
+const SAME: PairState = AllSame;
+
+// A circuit, two faults of it, and the states of the cube of all vectors, of source 0 at 0, and of source 0 at 1.
+type Cubes = (Parts<'static>, Fault, Fault, [PairState; 3]);
+
+// Two pins that read one line choose by themselves, those of an XOR and the data pins of a multiplexer.
+const CUBES: [Cubes; 7] = [
+    (NOT_AND_OR, Free, Stuck(Stem(2), true), [OPEN, SAME, SAME]),
+    (XOR_OF_ONE, Free, Stuck(Stem(1), false), [OPEN, SAME, SAME]),
+    (BUFFER, Free, Stuck(Stem(1), false), [OPEN, SAME, Apart(0)]),
+    (
+        SHOWN_TWICE,
+        Stuck(Position(1), true),
+        Free,
+        [OPEN, Apart(1), SAME],
+    ),
+    (SAME_DATA, Free, Stuck(Stem(0), true), [OPEN, OPEN, SAME]),
+    (
+        BETWEEN_CONSTANTS,
+        Free,
+        Stuck(Stem(0), true),
+        [OPEN, Apart(0), SAME],
+    ),
+    (
+        WITH_CONSTANT,
+        Free,
+        Stuck(Stem(1), false),
+        [OPEN, SAME, Apart(0)],
+    ),
+];
+
+// The state where source 0 has a value, which it has no longer behind the call.
+fn state_at(sim: &mut PairSim, bit: bool) -> PairState
+    requires source { 0 < sim.old.circuit.sources }
+    requires free { sim.old.cube ≡ [] }
+    ensures circuit { sim.new.circuit ≡ sim.old.circuit }
+    ensures free { sim.new.cube ≡ [] }
+{
+    sim.assign(0, bit);
+    let state = sim.state();
+    sim.undo();
+    state
+}
+
+// Whether these are the states of a pair. Undone, the first one comes again.
+fn has_states(alloc: Global, case: &Cubes) -> Result<bool, Fail> {
+    let (parts, f, g, [all, at_zero, at_one]) = *case;
     let circuit = circuit(alloc, parts)?;
     if circuit.sources() == 0 || !stands(&circuit, f) || !stands(&circuit, g) {
         return Err(Fail::new("there is no source, or a fault doesn't stand"));
     }
     let mut sim = PairSim::new(alloc, &circuit, &f, &g)?;
-    let all = sim.state();
-    sim.assign(0, false);
-    let at_zero = sim.state();
-    sim.undo();
-    sim.assign(0, true);
-    let at_one = sim.state();
-    sim.undo();
-    if sim.state() != all {
-        return Err(Fail::new("what was assigned isn't undone"));
-    }
-    Ok([all, at_zero, at_one])
+    let first = sim.state() == all;
+    let second = state_at(&mut sim, false) == at_zero;
+    let third = state_at(&mut sim, true) == at_one;
+    Ok(first && second && third && sim.state() == all)
 }
 
-// Two pins that read one line choose by themselves, those of an XOR and the data pins of a multiplexer.
 #[test]
 fn states_of_cubes(rt: HostRuntime) -> Result<(), Fail> {
-    let (open, same, apart) = (Undecided, AllSame, Apart(0));
-    let table = [
-        (NOT_AND_OR, Free, stem(2, true), [open, same, same]),
-        (XOR_OF_ONE, Free, stem(1, false), [open, same, same]),
-        (BUFFER, Free, stem(1, false), [open, same, apart]),
-        (SHOWN_TWICE, position(1, true), Free, [open, Apart(1), same]),
-        (SAME_DATA, Free, stem(0, true), [open, open, same]),
-        (BETWEEN_CONSTANTS, Free, stem(0, true), [open, apart, same]),
-        (WITH_CONSTANT, Free, stem(1, false), [open, same, apart]),
-    ];
-    for (parts, f, g, expected) in table {
-        let found = states(rt.alloc(), parts, f, g)?;
-        assert_eq!(rt; found, expected, "{f:?} and {g:?}");
+    for (at, case) in CUBES.iter().enumerate() {
+        assert!(rt; has_states(rt.alloc(), case)?, "case {at}");
     }
     Ok(())
 }
@@ -65,49 +96,74 @@ const CHAIN: Parts<'static> = Parts {
     positions: &[3, 4, 7, 0],
 };
 
-// What a simulation that is restarted for a pair says of the cube of all vectors, and of source 0 at 1, where it is left.
-// It says what a new simulation of the pair says.
-fn restarted(alloc: Global, sim: &mut PairSim, f: Fault, g: Fault) -> Result<[PairState; 2], Fail> {
+// Two faults, how many positions they reach, and the states of the cube of all vectors and of source 0 at 1.
+type Pair = (Fault, Fault, usize, [PairState; 2]);
+
+// From a pair that changes much of the circuit to one that changes a position alone, and back.
+const PAIRS: [Pair; 8] = [
+    (Free, Stuck(Stem(0), false), 4, [OPEN, Apart(3)]),
+    (Stuck(Position(1), true), Free, 1, [OPEN, OPEN]),
+    (
+        Stuck(Stem(3), false),
+        Stuck(Stem(3), true),
+        3,
+        [Apart(0), Apart(0)],
+    ),
+    (Free, Stuck(Stem(6), false), 1, [OPEN, OPEN]),
+    (Free, Stuck(Pin(3, 0), true), 3, [OPEN, SAME]),
+    (
+        Stuck(Pin(4, 1), true),
+        Stuck(Stem(4), true),
+        2,
+        [SAME, SAME],
+    ),
+    (Free, Free, 0, [SAME, SAME]),
+    (Free, Stuck(Stem(0), false), 4, [OPEN, Apart(3)]),
+];
+
+// Whether two simulations reach the same positions, so many, and are in the same state, in this one.
+fn stand_alike(sim: &PairSim, other: &PairSim, reached: usize, state: PairState) -> bool {
+    sim.reached() == other.reached()
+        && sim.reached().len() == reached
+        && sim.state() == state
+        && other.state() == state
+}
+
+// Whether a simulation that is restarted for a pair says what a new one says, and what is wanted, of the cube of all vectors,
+// and of source 0 at 1, where it is left.
+fn restarts(alloc: Global, sim: &mut PairSim, case: &Pair) -> Result<bool, Fail> {
+    let (f, g, reached, [all, at_one]) = *case;
     let circuit = sim.circuit();
     if circuit.sources() == 0 || !stands(circuit, f) || !stands(circuit, g) {
         return Err(Fail::new("there is no source, or a fault doesn't stand"));
     }
     let mut other = PairSim::new(alloc, circuit, &f, &g)?;
     sim.restart(&f, &g);
-    let all = sim.state();
-    if sim.reached() != other.reached() || other.state() != all {
-        return Err(Fail::new("a restarted simulation differs from a new one"));
-    }
+    let first = stand_alike(sim, &other, reached, all);
     sim.assign(0, true);
     other.assign(0, true);
-    let at_one = sim.state();
-    if other.state() != at_one {
-        return Err(Fail::new("a restarted simulation assigns otherwise than a new one"));
-    }
-    Ok([all, at_one])
+    Ok(first && stand_alike(sim, &other, reached, at_one))
 }
 
-// One simulation goes from a pair that changes much of the circuit to one that changes a position alone, and back.
+// The first pair, if any, of which a simulation that is restarted for one after another says something else.
+fn first_wrong(alloc: Global, sim: &mut PairSim) -> Result<Option<usize>, Fail> {
+    for (at, case) in PAIRS.iter().enumerate() {
+        if !restarts(alloc, sim, case)? {
+            return Ok(Some(at));
+        }
+    }
+    Ok(None)
+}
+
+fn first_wrong_of_chain(alloc: Global) -> Result<Option<usize>, Fail> {
+    let circuit = circuit(alloc, CHAIN)?;
+    let mut sim = PairSim::new(alloc, &circuit, &Free, &Free)?;
+    first_wrong(alloc, &mut sim)
+}
+
 #[test]
 fn one_simulation_for_many_pairs(rt: HostRuntime) -> Result<(), Fail> {
-    let (open, same) = (Undecided, AllSame);
-    let table = [
-        (Free, stem(0, false), 4, [open, Apart(3)]),
-        (position(1, true), Free, 1, [open, open]),
-        (stem(3, false), stem(3, true), 3, [Apart(0), Apart(0)]),
-        (Free, stem(6, false), 1, [open, open]),
-        (Free, pin(3, 0, true), 3, [open, same]),
-        (pin(4, 1, true), stem(4, true), 2, [same, same]),
-        (Free, Free, 0, [same, same]),
-        (Free, stem(0, false), 4, [open, Apart(3)]),
-    ];
-    let circuit = circuit(rt.alloc(), CHAIN)?;
-    let mut sim = PairSim::new(rt.alloc(), &circuit, &Free, &Free)?;
-    for (f, g, reached, expected) in table {
-        let found = restarted(rt.alloc(), &mut sim, f, g)?;
-        assert_eq!(rt; found, expected, "{f:?} and {g:?}");
-        assert_eq!(rt; sim.reached().len(), reached, "{f:?} and {g:?}");
-    }
+    assert_eq!(rt; first_wrong_of_chain(rt.alloc())?, None);
     Ok(())
 }
 

@@ -1,7 +1,7 @@
 //! What searches find, and the shapes of their trees.
 
 use distinguish_search::{Found, Levels, search};
-use net_model::{Fault, Kind};
+use net_model::{Circuit, Fault, Kind};
 use pair_sets::{PairSim, Token, Tree};
 use sample_circuits::{BETWEEN_CONSTANTS, NOT_AND_OR, Parts, SAME_DATA, circuit, stands, stem};
 use std::alloc::Global;
@@ -9,7 +9,7 @@ use std::test::Fail;
 
 // What is found: a cube, and how many sources it fixes; or a tree, whether it is spent, and how many leaves are closed
 // and how many are open.
-#[derive(Clone, Copy, Debug, PartialEq, Eq)]
+#[derive(Clone, Copy, PartialEq, Eq)]
 enum Shape {
     Apart(usize),
     Covered(usize, usize),
@@ -23,12 +23,37 @@ fn count(tree: &Tree, token: Token) -> usize {
         .count()
 }
 
-// The constant 1 alone, which is shown.
-const CONSTANT: Parts<'static> = Parts {
-    sources: 0,
-    gates: &[(Kind::Const1, &[])],
-    positions: &[0],
-};
+fn shape_of(found: &Found) -> Shape {
+    match found {
+        Found::Apart(cube) => Shape::Apart(cube.iter().filter(|bit| bit.is_some()).count()),
+        Found::Covered(tree) => {
+            Shape::Covered(count(tree, Token::Closed), count(tree, Token::Rest))
+        }
+        Found::Spent(tree) => Shape::Spent(count(tree, Token::Closed), count(tree, Token::Rest)),
+    }
+}
+
+// A search for the stem of a line, stuck at a value, with so many leaves.
+type Asked = (u32, bool, u32);
+
+// The shape of what is found for a simulation's circuit without a fault and with one.
+fn found_by(alloc: Global, sim: &mut PairSim, asked: Asked) -> Result<Shape, Fail> {
+    let circuit = sim.circuit();
+    let (line, bit, leaves) = asked;
+    let stuck = stem(line, bit);
+    if leaves == 0 || !stands(circuit, stuck) {
+        return Err(Fail::new("there is no leaf, or the fault doesn't stand"));
+    }
+    let levels = Levels::new(alloc, circuit)?;
+    let found = search(alloc, sim, &levels, &Fault::Free, &stuck, leaves)?;
+    Ok(shape_of(&found))
+}
+
+// The same with a simulation of its own.
+fn found_alone(alloc: Global, circuit: &Circuit, asked: Asked) -> Result<Shape, Fail> {
+    let mut sim = PairSim::new(alloc, circuit, &Fault::Free, &Fault::Free)?;
+    found_by(alloc, &mut sim, asked)
+}
 
 // The parity of nine sources, and the opposite parity by threes; line 14 is the XOR of both, which is always 1, and is shown.
 const PARITIES: Parts<'static> = Parts {
@@ -44,76 +69,73 @@ const PARITIES: Parts<'static> = Parts {
     positions: &[14],
 };
 
-// The shape of what is found for a simulation's circuit without a fault and with a stem stuck at a value, with so many
-// leaves.
-fn shape_of(
-    alloc: Global,
-    sim: &mut PairSim,
-    line: u32,
-    bit: bool,
-    leaves: u32,
-) -> Result<Shape, Fail> {
-    let circuit = sim.circuit();
-    let stuck = stem(line, bit);
-    if leaves == 0 || !stands(circuit, stuck) {
-        return Err(Fail::new("there is no leaf, or the fault doesn't stand"));
-    }
-    let levels = Levels::new(alloc, circuit)?;
-    let shape = match search(alloc, sim, &levels, &Fault::Free, &stuck, leaves)? {
-        Found::Apart(cube) => Shape::Apart(cube.iter().filter(|bit| bit.is_some()).count()),
-        Found::Covered(tree) => {
-            Shape::Covered(count(&tree, Token::Closed), count(&tree, Token::Rest))
-        }
-        Found::Spent(tree) => Shape::Spent(count(&tree, Token::Closed), count(&tree, Token::Rest)),
-    };
-    Ok(shape)
+// The constant 1 alone, which is shown.
+const CONSTANT: Parts<'static> = Parts {
+    sources: 0,
+    gates: &[(Kind::Const1, &[])],
+    positions: &[0],
+};
+
+const SHAPES: [(Parts<'static>, Asked, Shape); 12] = [
+    (NOT_AND_OR, (0, false, 64), Shape::Covered(2, 0)),
+    (NOT_AND_OR, (0, false, 2), Shape::Covered(2, 0)),
+    (NOT_AND_OR, (0, false, 1), Shape::Spent(1, 1)),
+    (NOT_AND_OR, (2, false, 1), Shape::Apart(1)),
+    (PARITIES, (14, true, 4), Shape::Spent(4, 7)),
+    (PARITIES, (14, true, 512), Shape::Covered(512, 0)),
+    (PARITIES, (14, false, 1), Shape::Apart(9)),
+    (SAME_DATA, (0, true, 64), Shape::Covered(3, 0)),
+    (SAME_DATA, (0, true, 2), Shape::Spent(2, 1)),
+    (BETWEEN_CONSTANTS, (0, true, 1), Shape::Apart(1)),
+    (CONSTANT, (0, true, 1), Shape::Covered(1, 0)),
+    (CONSTANT, (0, false, 1), Shape::Apart(0)),
+];
+
+// The shape of what is found in the circuit of these parts.
+fn found_in(alloc: Global, parts: Parts, asked: Asked) -> Result<Shape, Fail> {
+    let circuit = circuit(alloc, parts)?;
+    found_alone(alloc, &circuit, asked)
 }
 
 #[test]
 fn shapes_of_trees(rt: HostRuntime) -> Result<(), Fail> {
-    let table = [
-        (NOT_AND_OR, 0, false, 64, Shape::Covered(2, 0)),
-        (NOT_AND_OR, 0, false, 2, Shape::Covered(2, 0)),
-        (NOT_AND_OR, 0, false, 1, Shape::Spent(1, 1)),
-        (NOT_AND_OR, 2, false, 1, Shape::Apart(1)),
-        (PARITIES, 14, true, 4, Shape::Spent(4, 7)),
-        (PARITIES, 14, true, 512, Shape::Covered(512, 0)),
-        (PARITIES, 14, false, 1, Shape::Apart(9)),
-        (SAME_DATA, 0, true, 64, Shape::Covered(3, 0)),
-        (SAME_DATA, 0, true, 2, Shape::Spent(2, 1)),
-        (BETWEEN_CONSTANTS, 0, true, 1, Shape::Apart(1)),
-        (CONSTANT, 0, true, 1, Shape::Covered(1, 0)),
-        (CONSTANT, 0, false, 1, Shape::Apart(0)),
-    ];
-    for (parts, line, bit, leaves, expected) in table {
-        let circuit = circuit(rt.alloc(), parts)?;
-        let mut sim = PairSim::new(rt.alloc(), &circuit, &Fault::Free, &Fault::Free)?;
-        let found = shape_of(rt.alloc(), &mut sim, line, bit, leaves)?;
-        assert_eq!(rt; found, expected, "line {line} at {bit} with {leaves}");
+    for (at, (parts, asked, shape)) in SHAPES.iter().enumerate() {
+        let found = found_in(rt.alloc(), *parts, *asked)?;
+        assert!(rt; found == *shape, "case {at}");
     }
     Ok(())
+}
+
+const IN_TURN: [Asked; 7] = [
+    (0, true, 4),
+    (14, true, 4),
+    (9, false, 1),
+    (14, false, 1),
+    (0, false, 512),
+    (14, true, 512),
+    (0, true, 4),
+];
+
+// The first search, if any, by which one simulation finds something else than a new one.
+fn first_wrong(alloc: Global, circuit: &Circuit, sim: &mut PairSim) -> Result<Option<usize>, Fail> {
+    for (at, asked) in IN_TURN.iter().enumerate() {
+        if found_by(alloc, sim, *asked)? != found_alone(alloc, circuit, *asked)? {
+            return Ok(Some(at));
+        }
+    }
+    Ok(None)
+}
+
+fn first_wrong_of_parities(alloc: Global) -> Result<Option<usize>, Fail> {
+    let circuit = circuit(alloc, PARITIES)?;
+    let mut sim = PairSim::new(alloc, &circuit, &Fault::Free, &Fault::Free)?;
+    first_wrong(alloc, &circuit, &mut sim)
 }
 
 // Searches that follow one another with one simulation, of stems near the sources and near the end in turn, find what
 // each finds with a new one, whatever cube the one before it ended at.
 #[test]
 fn one_simulation_for_many_searches(rt: HostRuntime) -> Result<(), Fail> {
-    let table = [
-        (0, true, 4),
-        (14, true, 4),
-        (9, false, 1),
-        (14, false, 1),
-        (0, false, 512),
-        (14, true, 512),
-        (0, true, 4),
-    ];
-    let circuit = circuit(rt.alloc(), PARITIES)?;
-    let mut sim = PairSim::new(rt.alloc(), &circuit, &Fault::Free, &Fault::Free)?;
-    for (line, bit, leaves) in table {
-        let found = shape_of(rt.alloc(), &mut sim, line, bit, leaves)?;
-        let mut other = PairSim::new(rt.alloc(), &circuit, &Fault::Free, &Fault::Free)?;
-        let alone = shape_of(rt.alloc(), &mut other, line, bit, leaves)?;
-        assert_eq!(rt; found, alone, "line {line} at {bit} with {leaves}");
-    }
+    assert_eq!(rt; first_wrong_of_parities(rt.alloc())?, None);
     Ok(())
 }

@@ -1,5 +1,5 @@
 use Rattle.std.proofs.Common.{◌≡◌, length}
 use Rattle.tests_baselines.proofs.made.classes_of.Given as goal
 
-abbrev pub invariant-loop-texts : goal.invariant-loop-texts
-invariant-loop-texts l = length l.classes.class_of ≡ l.given.numbers
+abbrev pub invariant-loop-text : goal.invariant-loop-text
+invariant-loop-text l = length l.classes.class_of ≡ l.numbers

@@ -1,0 +1,171 @@
+//! Logs over miters of small circuits, and sets of literals.
+
+ghost use Rattle.std.specs.Prelude.{◌≢◌, ◌<◌, ◌^◌};
+ghost use Rattle.net_model.specs.Fault.{IsFaultOf};
+ghost use Rattle.refute_check.specs.declared.refusal.EvidenceKind as EvidenceKind;
+
+use clause_pool::{Lit, Pool};
+use net_model::Fault::{self, Free, Stuck};
+use net_model::Site::Stem;
+use net_model::{Circuit, Kind};
+use pair_miter::{Chain, Log, build};
+use refute_check::RefusalKind::{
+    self, EmptyEarly, NoPivot, NoSuchClause, NotEmpty, NotFresh, WrongCount,
+};
+use refute_check::{CheckFault, Clause, EvidenceKind, Refusal, check_log, run_chain};
+use sample_circuits::{NOT_AND_OR, Parts, circuit, stands};
+use std::alloc::{AllocError, Global};
+use std::test::Fail;
+
+// A literal of one of the first hundred variables.
+fn lit(number: i32) -> Lit {
+    Lit::new(number.unsigned_abs().clamp(1, 100), number > 0)
+}
+
+// A log of one chain: how many clauses may be learned, the literal of a fresh clause, the number of the first clause, the
+// literals and clauses of the steps, and the refusal, or none. With a literal the log is one that spends its budget, and
+// else a refutation.
+type Judged = (
+    u16,
+    Option<i32>,
+    u32,
+    &'static [(i32, u32)],
+    Option<(RefusalKind, u64)>,
+);
+
+const REFUTATION: &[(i32, u32)] = &[(1, 3), (2, 4), (3, 8), (-5, 11), (-4, 6)];
+
+// An OR of a line and its negation, with its output stuck at 1.
+const OF_OPPOSITES: [Judged; 10] = [
+    (1, None, 1, REFUTATION, None),
+    (1, None, 1, &[(-1, 3)], Some((NoPivot, 0))),
+    (1, None, 1, &[(2, 3)], Some((NoPivot, 0))),
+    (1, None, 12, &[], Some((NoSuchClause, 0))),
+    (1, None, 1, &[(1, 12)], Some((NoSuchClause, 0))),
+    (1, None, 6, &[], Some((NotEmpty, 0))),
+    (1, Some(3), 1, REFUTATION, Some((EmptyEarly, 0))),
+    (1, Some(5), 8, &[(-5, 11), (-4, 6)], Some((NotFresh, 0))),
+    (1, Some(-3), 8, &[(-5, 11), (-4, 6)], Some((NotFresh, 0))),
+    (2, Some(-3), 8, &[(-5, 11), (-4, 6)], Some((WrongCount, 1))),
+];
+
+// Line 2 is the NOT of b, lines 3 and 4 the ORs of a with b and with that, and line 5 their AND.
+const AND_OF_ORS: Parts<'static> = Parts {
+    sources: 2,
+    gates: &[
+        (Kind::Not, &[1]),
+        (Kind::Or, &[0, 1]),
+        (Kind::Or, &[0, 2]),
+        (Kind::And, &[3, 4]),
+    ],
+    positions: &[5],
+};
+
+// Where line 5 isn't 0 both ORs are 1. Then a is 1, which unit propagation doesn't see; that line 3 is 1 it sees.
+const OF_ORS: [Judged; 3] = [
+    (1, Some(1), 5, &[(2, 2), (-3, 8)], None),
+    (1, Some(-4), 5, &[(2, 2), (-3, 8)], Some((NotFresh, 0))),
+    (1, Some(1), 5, &[(2, 2)], Some((NotFresh, 0))),
+];
+
+// The log of one chain.
+fn log_of(alloc: Global, case: &Judged) -> Result<Log, AllocError> {
+    let mut chain = Chain::new(alloc, case.2, case.1.map(lit));
+    for (pivot, clause) in case.3 {
+        chain.push(lit(*pivot), *clause)?;
+    }
+    let mut log = Log::new(alloc);
+    log.push(chain)?;
+    Ok(log)
+}
+
+fn kind_of(at: Option<i32>) -> EvidenceKind
+    ensures { result ≢ EvidenceKind.Covered }
+{
+    match at {
+        Some(_) => EvidenceKind::Spent,
+        None => EvidenceKind::Refuted,
+    }
+}
+
+/// What the checker says of a log, over the clauses of the circuit without a fault and with this one.
+pub(crate) fn checked(
+    alloc: Global,
+    circuit: &Circuit,
+    stuck: Fault,
+    log: &Log,
+    kind: EvidenceKind,
+    conflicts: u32,
+) -> Result<Result<(), CheckFault>, AllocError>
+    requires fault { IsFaultOf circuit.now stuck }
+    requires kind { kind ≢ EvidenceKind.Covered }
+    requires few { conflicts < 2 ^ 16 }
+{
+    let mut pool = Pool::with_room(alloc, 0, 0)?;
+    let miter = build(alloc, circuit, &Free, &stuck, &mut pool)?;
+    let (built, counted) = (pool.len(), miter.clause_count());
+    prove!(built == counted);
+    Ok(check_log(alloc, &miter, &mut pool, log, kind, conflicts))
+}
+
+// Whether the checker says of a log, over the circuit of these parts, what is wanted.
+fn is_judged(alloc: Global, parts: Parts, stuck: Fault, case: &Judged) -> Result<bool, Fail> {
+    let circuit = circuit(alloc, parts)?;
+    if !stands(&circuit, stuck) {
+        return Err(Fail::new("the fault doesn't stand"));
+    }
+    let log = log_of(alloc, case)?;
+    let found = checked(alloc, &circuit, stuck, &log, kind_of(case.1), case.0 as u32)?;
+    Ok(is_refusal(found, case.4))
+}
+
+/// Whether the answer is this refusal, or none.
+pub(crate) fn is_refusal(
+    found: Result<(), CheckFault>,
+    wanted: Option<(RefusalKind, u64)>,
+) -> bool {
+    match (found, wanted) {
+        (Ok(()), None) => true,
+        (Err(CheckFault::Refused(refusal)), Some((kind, step))) => refusal
+            == Refusal { kind, step },
+        _ => false,
+    }
+}
+
+#[test]
+fn logs_are_checked(rt: HostRuntime) -> Result<(), Fail> {
+    for (at, case) in OF_OPPOSITES.iter().enumerate() {
+        let judged = is_judged(rt.alloc(), NOT_AND_OR, Stuck(Stem(2), true), case)?;
+        assert!(rt; judged, "case {at}");
+    }
+    for (at, case) in OF_ORS.iter().enumerate() {
+        let judged = is_judged(rt.alloc(), AND_OF_ORS, Stuck(Stem(5), false), case)?;
+        assert!(rt; judged, "case {at} of ORs");
+    }
+    Ok(())
+}
+
+// The end of a chain by which the clauses 1 2 and 1 -2 are resolved.
+fn resolved(alloc: Global) -> Result<Clause, Fail> {
+    let mut pool = Pool::with_room(alloc, 2, 4)?;
+    if pool.push(&[lit(1), lit(2)]).is_err() || pool.push(&[lit(1), lit(-2)]).is_err() {
+        return Err(Fail::new("there is no room"));
+    }
+    let mut chain = Chain::new(alloc, 1, None);
+    chain.push(lit(2), 2)?;
+    match run_chain(alloc, &pool, &chain) {
+        Ok(end) => Ok(end),
+        Err(_) => Err(Fail::new("the chain has an end")),
+    }
+}
+
+#[test]
+fn sets_of_literals(rt: HostRuntime) -> Result<(), Fail> {
+    let end = resolved(rt.alloc())?;
+    assert_eq!(rt; end.as_slice(), [lit(1)].as_slice());
+    let mut clause = Clause::with_room(rt.alloc(), 3)?;
+    clause.load(&[lit(3), lit(-1), lit(3)]);
+    assert_eq!(rt; clause.as_slice(), [lit(-1), lit(3)].as_slice());
+    assert_eq!(rt; clause.room(), 3);
+    Ok(())
+}

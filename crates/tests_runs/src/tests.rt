@@ -1,0 +1,13 @@
+//! A module tests the runs of a command, or of several.
+
+mod checking;
+mod dictionaries;
+mod failing;
+mod generating;
+mod listing;
+mod netlists;
+mod runs;
+mod sims;
+mod synths;
+mod texts;
+mod words;

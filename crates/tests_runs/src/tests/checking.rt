@@ -1,0 +1,130 @@
+//! Runs of `check`.
+
+use crate::tests::runs::Text::{Absent, Is};
+use crate::tests::runs::{joined, left_by, plain};
+use crate::tests::texts::TRUTH;
+use std::alloc::{AllocError, Global};
+use std::test::Fail;
+
+// A result in pieces. The third has room for one more pattern.
+const PIECES: [&[u8]; 10] = [
+    b"diatest 1 1 1 11\nbudget 4 64 2000\n",
+    b"pattern 0\npattern 1\n",
+    b"",
+    b"same 1 0 T 0 . .\n",
+    b"same 2 0 T 0 . .\nsame 3 0 T 0 . .\nsame 6 0 T 0 . .\n",
+    b"same 7 4 C\n",
+    b"same 8 0 T 0 . .\nsame 10 0 T 0 . .\n",
+    b"class 0 - -\nclass 1 0 0\nclass 2 0 1\nclass 3 1 1\nmember 0 0 rep\nmember 1 0 equal\nmember 2 0 equal\nmember 3 0 equal\nmember 4 1 rep\nmember 5 2 rep\nmember 6 0 equal\nmember 7 1 equal\nmember 8 0 equal\nmember 9 3 rep\n",
+    b"member 10 0 equal\n",
+    b"end\n",
+];
+
+// The result with another piece at this place.
+fn result_with(alloc: Global, at: usize, piece: &[u8]) -> Result<Vec<u8>, AllocError> {
+    let mut text = Vec::new(alloc);
+    for (place, own) in PIECES.iter().enumerate() {
+        text.extend_from_slice(if place == at { piece } else { *own })?;
+    }
+    Ok(text)
+}
+
+// The place of a piece, what stands there in its place, the status, and what is printed.
+type Checking = (usize, &'static [u8], u8, &'static [u8]);
+
+// The result as it was made; with a tree of one closed leaf, and with a tree that has an open leaf; without a line of
+// evidence, and with evidence of another kind; with a pattern twice; with another mark, and without the end.
+const CHECKED: [Checking; 8] = [
+    (
+        2,
+        b"",
+        0,
+        b"valid numbers 11 patterns 2 classes 4 equal 7 open 0\n",
+    ),
+    (
+        3,
+        b"same 1 0 T .\n",
+        4,
+        b"result: Evidence LeafOpen at step 0, line 5\n",
+    ),
+    (
+        3,
+        b"same 1 0 T 0 . ?\n",
+        4,
+        b"result: Evidence WrongCount at step 3, line 5\n",
+    ),
+    (5, b"", 4, b"result: Member at line 9\n"),
+    (5, b"same 7 4 T 0 . .\n", 4, b"result: Roots at line 9\n"),
+    (2, b"pattern 1\n", 4, b"result: Pattern at line 5\n"),
+    (8, b"member 10 0 open\n", 4, b"result: Table at line 26\n"),
+    (9, b"", 4, b"result: Order at line 27\n"),
+];
+
+// Whether a check ends with this status, prints this, and leaves the result as it is.
+fn is_checked(
+    alloc: Global,
+    chunk: usize,
+    netlist: &[u8],
+    output: &[u8],
+    status: u8,
+    console: &[u8],
+) -> Result<bool, AllocError> {
+    let files = [("n", netlist), ("r", output)];
+    let left = left_by(alloc, chunk, &[], &files, &["check", "n", "r"])?;
+    Ok(left.ended(status, Is(console)) && left.holds("r", Is(output)))
+}
+
+// Bytes come one by one, and all at once.
+#[test]
+fn results_that_are_checked(rt: HostRuntime) -> Result<(), Fail> {
+    for (at, piece, status, console) in &CHECKED {
+        let result = result_with(rt.alloc(), *at, *piece)?;
+        for chunk in [1usize, 4096] {
+            let checked = is_checked(rt.alloc(), chunk, TRUTH, &result, *status, *console)?;
+            assert!(rt; checked, "piece {at}");
+        }
+    }
+    Ok(())
+}
+
+const START: &[u8] = b"diatest 1 1 0 3\nbudget 4 0 2000\n";
+
+const END: &[u8] =
+    b"same 2 0 R ? ; 1\nclass 0 - -\nmember 0 0 rep\nmember 1 0 equal\nmember 2 0 equal\nend\n";
+
+// A refutation of one empty clause, and one that names a clause that isn't there.
+#[test]
+fn refutations_that_are_checked(rt: HostRuntime) -> Result<(), Fail> {
+    let cases: [(&[u8], u8, &[u8]); 2] = [
+        (
+            b"same 1 0 R ? ; 1\n",
+            0,
+            b"valid numbers 3 patterns 0 classes 1 equal 2 open 0\n",
+        ),
+        (
+            b"same 1 0 R ? ; 2\n",
+            4,
+            b"result: Evidence NoSuchClause at step 0, line 3\n",
+        ),
+    ];
+    for (line, status, console) in &cases {
+        let result = joined(rt.alloc(), &[START, *line, END])?;
+        let checked = is_checked(rt.alloc(), 7, b"INPUT(a)\n", &result, *status, *console)?;
+        assert!(rt; checked);
+    }
+    Ok(())
+}
+
+// A refused netlist, and an absent result.
+#[test]
+fn results_that_are_not_read(rt: HostRuntime) -> Result<(), Fail> {
+    let cases: [(&[u8], u8, &[u8]); 2] = [
+        (b"z=NOT(Z)\n", 3, b"netlist: Undriven at byte 6, line 1\n"),
+        (b"", 7, b""),
+    ];
+    for (netlist, status, console) in &cases {
+        let left = plain(rt.alloc(), &[("n", *netlist)], &["check", "n", "r"])?;
+        assert!(rt; left.ended(*status, Is(*console)) && left.holds("r", Absent));
+    }
+    Ok(())
+}

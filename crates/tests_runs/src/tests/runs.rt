@@ -1,0 +1,136 @@
+//! Runs over shelves in memory, and what they leave. What a run promises isn't told, so that no test carries it along.
+
+use dia_runs::run;
+use diag_shelf::MemoryShelf;
+use std::alloc::{AllocError, Global};
+use std::test::Fail;
+
+/// What a file holds, or what is printed: no file; whatever there is; just this; so many bytes from the front of this; or this
+/// at the front, at the end or anywhere.
+#[derive(Clone, Copy)]
+pub(crate) enum Text<'a> {
+    Absent,
+    Any,
+    Is(&'a [u8]),
+    Part(&'a [u8], usize),
+    Begins(&'a [u8]),
+    Ends(&'a [u8]),
+    Has(&'a [u8]),
+}
+
+/// Whether a text stands somewhere in another.
+pub(crate) fn has(text: &[u8], part: &[u8]) -> bool {
+    text.windows(part.len().max(1)).any(|window| window == part)
+}
+
+fn is_like(text: &[u8], wanted: Text) -> bool {
+    match wanted {
+        Text::Absent => false,
+        Text::Any => true,
+        Text::Is(all) => text == all,
+        Text::Part(all, length) => text.len() == length && all.starts_with(text),
+        Text::Begins(start) => text.starts_with(start),
+        Text::Ends(end) => text.ends_with(end),
+        Text::Has(part) => has(text, part),
+    }
+}
+
+/// What a run leaves: its status, and the shelf.
+#[derive(Drop)]
+pub(crate) struct Left {
+    status: u8,
+    shelf: MemoryShelf,
+}
+
+impl Left {
+    /// Whether the run ended with this status and printed this.
+    pub(crate) fn ended(&self, status: u8, console: Text) -> bool {
+        self.status == status && is_like(self.shelf.console(), console)
+    }
+
+    /// Whether the file under a name is like this.
+    pub(crate) fn holds(&self, name: &str, wanted: Text) -> bool {
+        match self.shelf.file(name) {
+            Some(bytes) => is_like(bytes, wanted),
+            None => matches!(wanted, Text::Absent),
+        }
+    }
+
+    /// What was printed.
+    pub(crate) fn console(&self) -> &[u8] {
+        self.shelf.console()
+    }
+
+    /// A copy of the file under a name.
+    pub(crate) fn copy_of(&self, alloc: Global, name: &str) -> Result<Vec<u8>, Fail> {
+        match self.shelf.file(name) {
+            Some(bytes) => Ok(bytes.to_vec(alloc)?),
+            None => Err(Fail::new("there is no such file")),
+        }
+    }
+}
+
+fn strings(alloc: Global, all: &[&str]) -> Result<Vec<String>, AllocError> {
+    let mut words = Vec::new(alloc);
+    for word in all {
+        words.push(String::from_str(alloc, *word)?)?;
+    }
+    Ok(words)
+}
+
+/// What a run leaves over a shelf that moves so many bytes at a time (one, for none), fails these calls, and holds these files.
+pub(crate) fn left_by(
+    alloc: Global,
+    chunk: usize,
+    failing: &[u64],
+    files: &[(&str, &[u8])],
+    words: &[&str],
+) -> Result<Left, AllocError> {
+    let mut shelf = MemoryShelf::new(alloc, chunk.max(1), failing.to_vec(alloc)?);
+    for (name, bytes) in files {
+        shelf.put_file(*name, *bytes)?;
+    }
+    let words = strings(alloc, words)?;
+    let status = run(alloc, &words, &mut shelf);
+    Ok(Left { status, shelf })
+}
+
+/// What a run leaves over a shelf that moves seven bytes at a time, fails no call, and holds these files.
+pub(crate) fn plain(
+    alloc: Global,
+    files: &[(&str, &[u8])],
+    words: &[&str],
+) -> Result<Left, AllocError> {
+    left_by(alloc, 7, &[], files, words)
+}
+
+/// Whether such a run ends with this status, prints this, and leaves this file under a name.
+pub(crate) fn leaves(
+    alloc: Global,
+    files: &[(&str, &[u8])],
+    words: &[&str],
+    status: u8,
+    console: Text,
+    name: &str,
+    file: Text,
+) -> Result<bool, AllocError> {
+    let left = plain(alloc, files, words)?;
+    Ok(left.ended(status, console) && left.holds(name, file))
+}
+
+/// Whether `check` accepts the netlist `n` and the result `r` that a run left, with the counts that it printed.
+pub(crate) fn is_accepted(alloc: Global, left: &Left) -> Result<bool, Fail> {
+    let netlist = left.copy_of(alloc, "n")?;
+    let file = left.copy_of(alloc, "r")?;
+    let files = [("n", netlist.as_slice()), ("r", file.as_slice())];
+    let again = left_by(alloc, 4096, &[], &files, &["check", "n", "r"])?;
+    Ok(again.ended(0, Text::Begins(b"valid ")) && again.ended(0, Text::Ends(left.console())))
+}
+
+pub(crate) fn joined(alloc: Global, pieces: &[&[u8]]) -> Result<Vec<u8>, AllocError> {
+    let mut text = Vec::new(alloc);
+    for piece in pieces {
+        text.extend_from_slice(*piece)?;
+    }
+    Ok(text)
+}
