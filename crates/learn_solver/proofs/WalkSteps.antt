@@ -36,7 +36,7 @@ is_set_before a trail place inside reason forces = λ k d h. by (get_or reason k
       | inr ne ↦ let found = false_before a place l (omega arith) (forces.others l h ne) in record { at = found.0; before = omega (arith, found.1); is = ap (λ (x : Literal). x.variable) found.2.is }
     ]
 
-module _ (a : Assignment) (trail : IsTrail a) (clauses : List Clause) (marks : List Bool) (chain : ChainView) (kept : List Literal) (left place : ℕ) (w : IsWalk a clauses marks chain kept left (place + 1)) where
+module _ {a : Assignment} (trail : IsTrail a) {clauses : List Clause} {marks : List Bool} {chain : ChainView} {kept : List Literal} {left : ℕ} (place : ℕ) (w : IsWalk a clauses marks chain kept left (place + 1)) where
   inside : place < length a.literals
   inside = omega (arith, w.within)
 
@@ -162,8 +162,8 @@ module _ (a : Assignment) (trail : IsTrail a) (clauses : List Clause) (marks : L
 
     -- ---- a literal that is resolved away
 
-    module _ (reason : Clause) (number : ℕ) (there : numbered_clause clauses number ≡ Some reason) (forces : IsReason (take place (held a)) reason (set_at a place).literal)
-        (choice : IsChoice a place left (Some number)) (more : List Bool) (opened : ℕ) (m : MarksClause a marks more reason opened) where
+    module _ {reason : Clause} (number : ℕ) (there : numbered_clause clauses number ≡ Some reason) (forces : IsReason (take place (held a)) reason (set_at a place).literal)
+        (choice : IsChoice a place left (Some number)) {more : List Bool} {opened : ℕ} (m : MarksClause a marks more reason opened) where
       counted : open_count a more (place + 1) ≡ open_count a marks (place + 1) + opened
       counted = m.count (place + 1) w.within (is_set_before a trail place inside reason forces)
 

@@ -4,9 +4,9 @@ ghost use Rattle.std.specs.Prelude.{◌≡◌, ℕ, ◌<◌, ◌≤◌, IfOk, Al
 ghost use Rattle.clause_pool.specs.Literal.{Literal};
 ghost use Rattle.solver_trail.specs.Assignment.{IsTrail};
 ghost use Rattle.learn_solver.specs.Places.{set_at, IsFalseAt};
+ghost use Rattle.learn_solver.specs.Learned.{IsLearned};
 ghost use Rattle.learn_solver.specs.Ready.{IsReady, IsConflict};
 ghost use Rattle.learn_solver.specs.Walk.{AreClear};
-ghost use Rattle.learn_solver.specs.Learned.{IsLearned};
 
 use crate::marking::mark_clause;
 use crate::marks::Marks;
@@ -20,8 +20,8 @@ use std::alloc::{AllocError, Global};
 #[derive(Drop)]
 pub(crate) struct Learned {
     pub(crate) chain: Chain,
-    pub(crate) clause: Vec<Lit>,
     pub(crate) back: u32,
+    pub(crate) clause: Vec<Lit>,
 }
 
 /// Resolves a false clause with reasons, to the first unique implication point of the present level and without the
@@ -57,8 +57,8 @@ pub(crate) fn analyze(
     let back = back_level(trail, kept.as_slice());
     Ok(Learned {
         chain,
-        clause: kept,
         back,
+        clause: kept,
     })
 }
 

@@ -1,9 +1,9 @@
 //! Which literal is decided next: of the variable that conflicts met last, with the sign that it had last.
 
-ghost use Rattle.std.specs.Prelude.{◌≡◌, ◌<◌, ◌≤◌, ◌^◌, All, IfOk, IfSome, MatchBool, MatchOption};
+ghost use Rattle.std.specs.Prelude.{◌≡◌, ℕ, ◌<◌, ◌≤◌, ◌^◌, All, IfOk, IfSome, MatchBool, MatchOption};
 ghost use Rattle.solver_trail.specs.Assignment.{IsTrail, IsUnset};
 ghost use Rattle.learn_solver.specs.Ready.{IsSet};
-ghost use Rattle.learn_solver.specs.Decisions.{AreBoth, IsDecidable, IsFree, IsWhole};
+ghost use Rattle.learn_solver.specs.Decisions.{AreBoth, HasSigns, IsDecidable, IsFree, IsWhole};
 
 use crate::aim::Both;
 use crate::places::{level_at, literal_at};
@@ -26,9 +26,6 @@ pub(crate) struct Decider {
 }
 
 impl Model for Decider {
-    ghost use Rattle.std.specs.Prelude.{ℕ};
-    ghost use Rattle.learn_solver.specs.Decisions.{HasSigns};
-
     ghost Value = { ℕ };
 
     ghost view = { λ d. d.queue };

@@ -2,6 +2,7 @@
 //! and Fröhlich 2015).
 
 ghost use Rattle.std.specs.Prelude.{◌≡◌, ℕ, ◌<◌, ◌≤◌, ◌^◌, All, IfOk};
+ghost use Rattle.learn_solver.specs.QueueFields.{IsRing};
 
 use std::alloc::{AllocError, Global};
 use std::marker::Model;
@@ -17,9 +18,6 @@ pub(crate) struct Queue {
 }
 
 impl Model for Queue {
-    ghost use Rattle.std.specs.Prelude.{ℕ};
-    ghost use Rattle.learn_solver.specs.QueueFields.{IsRing};
-
     ghost Value = { ℕ };
 
     ghost view = { λ q. q.variables };

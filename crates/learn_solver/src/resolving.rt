@@ -41,7 +41,7 @@ pub(crate) fn visit(
         return Ok(());
     }
     match reason_at(trail, place, analysis.left) {
-        None => keep(trail, pool, marks, analysis, place),
+        None => keep(trail, pool, place, marks, analysis),
         Some(number) => resolve(trail, pool, marks, analysis, place, number),
     }
 }
@@ -73,9 +73,9 @@ fn goes(level: u32, present: u32, left: usize) -> bool
 fn keep(
     trail: &Trail,
     pool: &Pool,
+    place: usize,
     marks: &mut Marks,
     analysis: &mut Analysis,
-    place: usize,
 ) -> Result<(), AllocError>
     requires ready { IsReady trail.now pool.now.clauses }
     requires walk { IsWalk trail.now.assignment pool.now.clauses marks.old analysis.old.chain analysis.old.kept.items analysis.old.left (place + 1) }

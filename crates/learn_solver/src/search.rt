@@ -72,8 +72,8 @@ pub(crate) fn learn_from(
     let learned = analyze(alloc, &search.trail, pool, &mut search.marks, conflict)?;
     let Learned {
         mut chain,
-        clause,
         back,
+        clause,
     } = learned;
     if clause.is_empty() {
         return Ok(Some(chain));

@@ -4,12 +4,12 @@ ghost use Rattle.std.specs.Prelude.{◌≡◌, ◌+◌, ◌<◌, ◌≤◌, ◌^
 ghost use Rattle.net_model.specs.Answer.{Separates};
 ghost use Rattle.clause_pool.specs.Clauses.{BeginsWith};
 ghost use Rattle.clause_pool.specs.Partial.{IsQuiet};
-ghost use Rattle.pair_miter.specs.Miter as spec;
 ghost use Rattle.pair_miter.specs.Variables.{variable_count};
-ghost use Rattle.solver_trail.specs.Assignment.{IsTrail, held};
+ghost use Rattle.pair_miter.specs.Miter as spec;
 ghost use Rattle.learn_solver.specs.Decisions.{IsWhole};
 ghost use Rattle.learn_solver.specs.Search.{IsSearch, clauses_of};
 ghost use Rattle.learn_solver.specs.Solved.{IsSolved};
+ghost use Rattle.solver_trail.specs.Assignment.{IsTrail, held};
 
 use crate::aim::Aim;
 use crate::logs::{bare_log, log_of};

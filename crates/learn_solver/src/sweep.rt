@@ -31,50 +31,19 @@ pub(crate) fn sweep(
     ensures ends { IfOk result (EndsSweep miter.now conflicts search.new pool.new.clauses) }
     ensures begins { BeginsWith pool.new.clauses (clauses_of miter.now) }
 {
+    let variables = miter.variables();
     let lines = miter.split_lines()?;
     for copies in &lines {
-        if let Some(last) = tell_apart(alloc, miter, search, pool, conflicts, *copies)? {
+        let one = apart(variables, *copies, true);
+        if let Some(last) = reach(alloc, miter, search, pool, conflicts, one)? {
+            return Ok(Some(last));
+        }
+        let other = apart(variables, *copies, false);
+        if let Some(last) = reach(alloc, miter, search, pool, conflicts, other)? {
             return Ok(Some(last));
         }
     }
     Ok(None)
-}
-
-// Tries both ways in which the copies of a line can differ.
-fn tell_apart(
-    alloc: Global,
-    miter: &Miter,
-    search: &mut Search,
-    pool: &mut Pool,
-    conflicts: u32,
-    copies: Copies,
-) -> Result<Option<Chain>, AllocError>
-    requires search { IsSearch miter.now conflicts search.old pool.old.clauses }
-    requires few { length (clauses_of miter.now) + conflicts < 2 ^ 32 }
-    requires copies { AreVariables (variable_count miter.now.circuit miter.now.f miter.now.g) copies }
-    ensures ends { IfOk result (EndsSweep miter.now conflicts search.new pool.new.clauses) }
-    ensures begins { BeginsWith pool.new.clauses (clauses_of miter.now) }
-{
-    let variables = miter.variables();
-    let found = reach(
-        alloc,
-        miter,
-        search,
-        pool,
-        conflicts,
-        apart(variables, copies, true),
-    )?;
-    if found.is_some() {
-        return Ok(found);
-    }
-    reach(
-        alloc,
-        miter,
-        search,
-        pool,
-        conflicts,
-        apart(variables, copies, false),
-    )
 }
 
 // One copy of a line with this bit, and the other with the other one.

@@ -1,5 +1,5 @@
 -- Clauses written one after the other.
-use Rattle.std.proofs.Common.{◌≡◌, ℕ, ◌+◌, ◌<◌, ◌^◌, refl, sym, ap, ◌∙◌, subst, arith}
+use Rattle.std.proofs.Common.{◌≡◌, ◌+◌, ◌<◌, ◌^◌, refl, sym, ap, ◌∙◌, subst, arith}
 use Rattle.std.specs.Prelude.{Result, Ok, Err, IsErr, OnOk, List, [], ◌∷◌, ◌++◌, length}
 use Rattle.std.proofs.lemmas.List.{append-nil, append_assoc, length-append}
 use Rattle.std.proofs.lemmas.List.Sums.{sum_by-append}
@@ -59,89 +59,97 @@ keeps_first a b xs ys first = record {
   in_room = λ room. first.in_room (record { enough_clauses = omega (arith, room.enough_clauses, length-append xs ys); enough_literals = omega (arith, room.enough_literals, sum_by-append length xs ys) });
 }
 
--- Some of the clauses stand tidied after the old ones, and these are left.
-pub record Remains (old now : Clauses) (all left : List Clause) : Type 0 where
-  pub done : List Clause
-  pub parted : all ≡ done ++ left
-  pub adds : Adds old now (tidy done)
+-- The first of some clauses, and those that are left.
+pub record InTwo (rows first left : List Clause) : Type 0 where
+  pub are : rows ≡ first ++ left
 
-pub remains_all : (pool : Clauses) (all : List Clause) → Remains pool pool all all
-remains_all pool all = record { done = []; parted = refl; adds = subst (Adds pool pool) (sym tidy_none) (adds_none pool) }
+pub beside : (first left : List Clause) → InTwo (first ++ left) first left
+beside first left = record { are = refl }
 
-pub remains_less : (old now new : Clauses) (all first left : List Clause) → Remains old now all (first ++ left) → Adds now new (tidy first) → Remains old new all left
-remains_less old now new all first left r adds = record {
-  done = r.done ++ first;
-  parted = r.parted ∙ sym (append_assoc r.done first left);
-  adds = subst (Adds old new) (sym (tidy-append r.done first)) (adds_both old now new (tidy r.done) (tidy first) r.adds adds);
-}
+-- tidied clauses come in two, and their numbers add up
+tidied : {rows first left : List Clause} → InTwo rows first left → tidy rows ≡ tidy first ++ tidy left
+tidied {first = first} {left = left} two = ap tidy two.are ∙ tidy-append first left
 
-pub remains_none : (old now : Clauses) (all : List Clause) → Remains old now all [] → Adds old now (tidy all)
-remains_none old now all r = subst (λ cs. Adds old now (tidy cs)) (sym (r.parted ∙ append-nil r.done)) r.adds
-
--- what is left is the last
-pub remains_last : (old now new : Clauses) (all left : List Clause) → Remains old now all left → Adds now new (tidy left) → Adds old new (tidy all)
-remains_last old now new all left r adds = remains_none old new all (remains_less old now new all left [] (subst (Remains old now all) (sym (append-nil left)) r) adds)
-
--- what fails in what is left fails in all
-pub remains_keeps : (old now new : Clauses) (all first left : List Clause) → Remains old now all (first ++ left) → Keeps now new (tidy first) → Keeps old new (tidy all)
-remains_keeps old now new all first left r keeps =
-    subst (Keeps old new) (sym (ap tidy r.parted ∙ tidy-append r.done (first ++ left)))
-    (keeps_both old now new (tidy r.done) (tidy (first ++ left)) r.adds (subst (Keeps now new) (sym (tidy-append first left)) (keeps_first now new (tidy first) (tidy left) keeps)))
-
--- all clauses are few, so those that are left are
-pub remains_few : (old now : Clauses) (all first left : List Clause) (n : ℕ) → Remains old now all (first ++ left) → length old.clauses + length (tidy all) < n → length now.clauses + length (tidy first) < n
-remains_few old now all first left n r few =
-    let there = ap length r.adds.written ∙ length-append old.clauses (tidy r.done) in
-    let parts = ap (λ cs. length (tidy cs)) r.parted ∙ (ap length (tidy-append r.done (first ++ left)) ∙ length-append (tidy r.done) (tidy (first ++ left))) in
-    let rest = ap length (tidy-append first left) ∙ length-append (tidy first) (tidy left) in
-    omega (arith, there, parts, rest, few)
-
--- ---- one clause, by the literals that were written
-
-pub step : {old now new : Clauses} {all left : List Clause} {row written : Clause} → Remains old now all (row ∷ left) → written ≡ row → Adds now new (tidy (written ∷ [])) → Remains old new all left
-step {old} {now} {new} {all} {left} {row} r same adds = remains_less old now new all (row ∷ []) left r (subst (λ (c : Clause). Adds now new (tidy (c ∷ []))) same adds)
-
-pub step_fails : {old now new : Clauses} {all left : List Clause} {row written : Clause} → Remains old now all (row ∷ left) → written ≡ row → Keeps now new (tidy (written ∷ [])) → Keeps old new (tidy all)
-step_fails {old} {now} {new} {all} {left} {row} r same keeps = remains_keeps old now new all (row ∷ []) left r (subst (λ (c : Clause). Keeps now new (tidy (c ∷ []))) same keeps)
-
-pub step_few : {old now : Clauses} {all left : List Clause} {row written : Clause} → Remains old now all (row ∷ left) → written ≡ row → length old.clauses + length (tidy all) < 2 ^ 30
-    → length now.clauses + length (tidy (written ∷ [])) < 2 ^ 30
-step_few {old} {now} {all} {left} {row} r same few = subst (λ (c : Clause). length now.clauses + length (tidy (c ∷ [])) < 2 ^ 30) (sym same) (remains_few old now all (row ∷ []) left (2 ^ 30) r few)
+tidied_count : {rows first left : List Clause} → InTwo rows first left → length (tidy rows) ≡ length (tidy first) + length (tidy left)
+tidied_count {first = first} {left = left} two = ap length (tidied two) ∙ length-append (tidy first) (tidy left)
 
 -- ---- rows that are written in two steps
 
-pub first_few : (old : Clauses) (rows first left : List Clause) → rows ≡ first ++ left → length old.clauses + length (tidy rows) < 2 ^ 30 → length old.clauses + length (tidy first) < 2 ^ 30
-first_few old rows first left parted few =
-    omega (arith, ap (λ cs. length (tidy cs)) parted ∙ (ap length (tidy-append first left) ∙ length-append (tidy first) (tidy left)), few)
+pub first_few : (old : Clauses) {rows first left : List Clause} → InTwo rows first left → length old.clauses + length (tidy rows) < 2 ^ 30 → length old.clauses + length (tidy first) < 2 ^ 30
+first_few old two few = omega (arith, tidied_count two, few)
 
-pub left_few : (old now : Clauses) (rows first left : List Clause) → rows ≡ first ++ left → Adds old now (tidy first) → length old.clauses + length (tidy rows) < 2 ^ 30 → length now.clauses + length (tidy left) < 2 ^ 30
-left_few old now rows first left parted adds few =
-    let there = ap length adds.written ∙ length-append old.clauses (tidy first) in
-    omega (arith, there, ap (λ cs. length (tidy cs)) parted ∙ (ap length (tidy-append first left) ∙ length-append (tidy first) (tidy left)), few)
+pub left_few : {old now : Clauses} {rows first left : List Clause} → InTwo rows first left → Adds old now (tidy first) → length old.clauses + length (tidy rows) < 2 ^ 30 → length now.clauses + length (tidy left) < 2 ^ 30
+left_few {old} {now} {rows} {first} {left} two adds few = let there = ap length adds.written ∙ length-append old.clauses (tidy first) in omega (arith, there, tidied_count two, few)
 
-pub both_parts : (old now new : Clauses) (rows first left : List Clause) → rows ≡ first ++ left → Adds old now (tidy first) → Adds now new (tidy left) → Adds old new (tidy rows)
-both_parts old now new rows first left parted one two = subst (Adds old new) (sym (ap tidy parted ∙ tidy-append first left)) (adds_both old now new (tidy first) (tidy left) one two)
+pub both_parts : {old now new : Clauses} {rows first left : List Clause} → InTwo rows first left → Adds old now (tidy first) → Adds now new (tidy left) → Adds old new (tidy rows)
+both_parts {old} {now} {new} {rows} {first} {left} two one other = subst (Adds old new) (sym (tidied two)) (adds_both old now new (tidy first) (tidy left) one other)
 
-pub first_fails : (old new : Clauses) (rows first left : List Clause) → rows ≡ first ++ left → Keeps old new (tidy first) → Keeps old new (tidy rows)
-first_fails old new rows first left parted keeps = subst (Keeps old new) (sym (ap tidy parted ∙ tidy-append first left)) (keeps_first old new (tidy first) (tidy left) keeps)
+pub first_fails : {old new : Clauses} {rows first left : List Clause} → InTwo rows first left → Keeps old new (tidy first) → Keeps old new (tidy rows)
+first_fails {old} {new} {rows} {first} {left} two keeps = subst (Keeps old new) (sym (tidied two)) (keeps_first old new (tidy first) (tidy left) keeps)
 
-pub left_fails : (old now new : Clauses) (rows first left : List Clause) → rows ≡ first ++ left → Adds old now (tidy first) → Keeps now new (tidy left) → Keeps old new (tidy rows)
-left_fails old now new rows first left parted adds keeps = subst (Keeps old new) (sym (ap tidy parted ∙ tidy-append first left)) (keeps_both old now new (tidy first) (tidy left) adds keeps)
+pub left_fails : {old now new : Clauses} {rows first left : List Clause} → InTwo rows first left → Adds old now (tidy first) → Keeps now new (tidy left) → Keeps old new (tidy rows)
+left_fails {old} {now} {new} {rows} {first} {left} two adds keeps = subst (Keeps old new) (sym (tidied two)) (keeps_both old now new (tidy first) (tidy left) adds keeps)
 
--- clauses of which some are written, and others are next
-pub next_few : (old now : Clauses) (rows before next rest : List Clause) → rows ≡ (before ++ next) ++ rest → Adds old now (tidy before) → length old.clauses + length (tidy rows) < 2 ^ 30 → length now.clauses + length (tidy next) < 2 ^ 30
-next_few old now rows before next rest parted adds few = left_few old now (before ++ next) before next refl adds (first_few old rows (before ++ next) rest parted few)
+-- a last call that writes what is left
+pub writes_left : {T E : Type 0} (r : Result T E) (new : Clauses) {old now : Clauses} {rows first left : List Clause} → InTwo rows first left → Adds old now (tidy first) → Writes r now new (tidy left) → Writes r old new (tidy rows)
+writes_left (Ok x) new two adds writes = both_parts two adds writes
+writes_left (Err e) new two adds writes = left_fails two adds writes
 
-pub next_fails : (old now new : Clauses) (rows before next rest : List Clause) → rows ≡ (before ++ next) ++ rest → Adds old now (tidy before) → Keeps now new (tidy next) → Keeps old new (tidy rows)
-next_fails old now new rows before next rest parted adds keeps = first_fails old new rows (before ++ next) rest parted (left_fails old now new (before ++ next) before next refl adds keeps)
+-- clauses of which some are written, others are next, and the rest follows
+pub record HasNext (rows before next : List Clause) : Type 0 where
+  pub rest : List Clause
+  pub are : InTwo rows (before ++ next) rest
 
--- ---- a last call that writes what is left
+pub next_few : {old now : Clauses} {rows before next : List Clause} → HasNext rows before next → Adds old now (tidy before) → length old.clauses + length (tidy rows) < 2 ^ 30 → length now.clauses + length (tidy next) < 2 ^ 30
+next_few {old} {before = before} {next = next} has adds few = left_few (beside before next) adds (first_few old has.are few)
 
-pub writes_left : {T E : Type 0} (r : Result T E) (old now new : Clauses) (rows first left : List Clause) → rows ≡ first ++ left → Adds old now (tidy first) → Writes r now new (tidy left) → Writes r old new (tidy rows)
-writes_left (Ok x) old now new rows first left parted adds writes = both_parts old now new rows first left parted adds writes
-writes_left (Err e) old now new rows first left parted adds writes = left_fails old now new rows first left parted adds writes
+pub next_fails : {old now new : Clauses} {rows before next : List Clause} → HasNext rows before next → Adds old now (tidy before) → Keeps now new (tidy next) → Keeps old new (tidy rows)
+next_fails {before = before} {next = next} has adds keeps = first_fails has.are (left_fails (beside before next) adds keeps)
 
-pub writes_last : {T E : Type 0} (r : Result T E) (old now new : Clauses) (all left : List Clause) → Remains old now all left → Writes r now new (tidy left) → Writes r old new (tidy all)
-writes_last (Ok x) old now new all left remains writes = remains_last old now new all left remains writes
-writes_last (Err e) old now new all left remains writes =
-    remains_keeps old now new all left [] (subst (Remains old now all) (sym (append-nil left)) remains) writes
+-- ---- what is left, step by step
+
+-- Some of the clauses stand tidied after the old ones, and these are left.
+pub record Remains (old now : Clauses) (all left : List Clause) : Type 0 where
+  pub done : List Clause
+  pub parted : InTwo all done left
+  pub adds : Adds old now (tidy done)
+
+pub remains_all : (pool : Clauses) (all : List Clause) → Remains pool pool all all
+remains_all pool all = record { done = []; parted = beside [] all; adds = subst (Adds pool pool) (sym tidy_none) (adds_none pool) }
+
+pub remains_less : {old now new : Clauses} {all rows first left : List Clause} → Remains old now all rows → InTwo rows first left → Adds now new (tidy first) → Remains old new all left
+remains_less {first = first} {left = left} r two adds = record {
+  done = r.done ++ first;
+  parted = record { are = r.parted.are ∙ (ap (λ xs. r.done ++ xs) two.are ∙ sym (append_assoc r.done first left)) };
+  adds = both_parts (beside r.done first) r.adds adds;
+}
+
+-- all clauses are few, so those that are left are
+pub remains_few : {old now : Clauses} {all rows first left : List Clause} → Remains old now all rows → InTwo rows first left → length old.clauses + length (tidy all) < 2 ^ 30 → length now.clauses + length (tidy first) < 2 ^ 30
+remains_few {now = now} r two few = first_few now two (left_few r.parted r.adds few)
+
+-- what fails in what is left fails in all
+pub remains_fails : {old now new : Clauses} {all rows first left : List Clause} → Remains old now all rows → InTwo rows first left → Keeps now new (tidy first) → Keeps old new (tidy all)
+remains_fails r two keeps = left_fails r.parted r.adds (first_fails two keeps)
+
+-- the last call writes what is left
+pub remains_last_few : {old now : Clauses} {all left : List Clause} → Remains old now all left → length old.clauses + length (tidy all) < 2 ^ 30 → length now.clauses + length (tidy left) < 2 ^ 30
+remains_last_few r few = left_few r.parted r.adds few
+
+pub writes_last : {T E : Type 0} (r : Result T E) (new : Clauses) {old now : Clauses} {all left : List Clause} → Remains old now all left → Writes r now new (tidy left) → Writes r old new (tidy all)
+writes_last r new remains writes = writes_left r new remains.parted remains.adds writes
+
+-- ---- one clause, by the literals that were written
+
+one_of : {row written : Clause} (left : List Clause) → written ≡ row → InTwo (row ∷ left) (written ∷ []) left
+one_of left same = record { are = ap (λ (c : Clause). c ∷ left) (sym same) }
+
+pub step : {old now new : Clauses} {all left : List Clause} {row written : Clause} → Remains old now all (row ∷ left) → written ≡ row → Adds now new (tidy (written ∷ [])) → Remains old new all left
+step {left = left} r same adds = remains_less r (one_of left same) adds
+
+pub step_fails : {old now new : Clauses} {all left : List Clause} {row written : Clause} → Remains old now all (row ∷ left) → written ≡ row → Keeps now new (tidy (written ∷ [])) → Keeps old new (tidy all)
+step_fails {left = left} r same keeps = remains_fails r (one_of left same) keeps
+
+pub step_few : {old now : Clauses} {all left : List Clause} {row written : Clause} → Remains old now all (row ∷ left) → written ≡ row → length old.clauses + length (tidy all) < 2 ^ 30
+    → length now.clauses + length (tidy (written ∷ [])) < 2 ^ 30
+step_few {left = left} r same few = remains_few r (one_of left same) few

@@ -178,15 +178,16 @@ module _ (bits : List Bool) where
 
   -- ---- exclusive or
 
+  lone : (b : Bool) → ((b || false) && true) ≡ b
+  lone true = refl
+  lone false = refl
+
   two_table : (a b c : Bool) → ((not a || (b || (c || false))) && ((not a || (not b || (not c || false))) && ((a || (not b || (c || false))) && ((a || (b || (not c || false))) && true)))) ≡ holds a (flip b c)
-  two_table true true true = refl
-  two_table true true false = refl
-  two_table true false true = refl
-  two_table true false false = refl
+  two_table true true c = lone (not c)
+  two_table true false c = lone c
   two_table false true true = refl
   two_table false true false = refl
-  two_table false false true = refl
-  two_table false false false = refl
+  two_table false false c = lone (not c)
 
   xor_of_two-holds : (a b c : Literal) → is_model bits (xor_of_two a b c) ≡ holds (literal_bit bits a) (flip (literal_bit bits b) (literal_bit bits c))
   xor_of_two-holds a b c =
@@ -316,8 +317,7 @@ module _ (bits : List Bool) where
   case_table true false true = refl
   case_table true false false = refl
   case_table false true v = refl
-  case_table false false true = refl
-  case_table false false false = refl
+  case_table false false v = refl
 
   case_rows-holds : (y : Literal) (unless : Bool) (chooser chosen : Operand) → is_model bits (case_rows y unless chooser chosen) ≡ (holds unless (operand_value bits chooser) || holds (literal_bit bits y) (operand_value bits chosen))
   case_rows-holds y unless chooser chosen =

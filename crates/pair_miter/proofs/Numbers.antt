@@ -45,6 +45,10 @@ module _ (c : Circuit) (f g : Fault) where
   unfolding variables_below
   variables_below-more line = sum_more (line_variables c f g) line
 
+  pub variables_below-none : variables_below c f g 0 ≡ 0
+  unfolding variables_below
+  variables_below-none = refl
+
   pub variables_below-rises : (n m : ℕ) → n ≤ m → variables_below c f g n ≤ variables_below c f g m
   unfolding variables_below
   variables_below-rises n m le = sum_rises (line_variables c f g) n m le
@@ -100,10 +104,6 @@ module _ (c : Circuit) (f g : Fault) where
               get_or_at firsts first [] 0 n (omega (arith, so_far.whole)) ∙ (is ∙ (sym (first_variable line) ∙ ap (line_variable c f g First) (sym here)))
         ];
   }
-
-  pub variables_below-none : variables_below c f g 0 ≡ 0
-  unfolding variables_below
-  variables_below-none = refl
 
   pub line_variable-from : (copy : Side) (line : ℕ) → 1 ≤ line_variable c f g copy line
   unfolding line_variable

@@ -1,6 +1,6 @@
 -- Clauses with the same literals: they can be resolved alike, to clauses with the same literals.
-use Rattle.std.proofs.Common.{◌≡◌, not, ◌&&◌, [], ◌∷◌, refl, sym, subst, arith, inl, inr}
-use Rattle.std.specs.Prelude.{Contains, true}
+use Rattle.std.proofs.Common.{◌≡◌, ◌≢◌, ◌∙◌, not, ◌&&◌, [], ◌∷◌, refl, ap, sym, subst, arith, inl, inr}
+use Rattle.std.specs.Prelude.{Bool, true, false, Contains}
 use Rattle.std.specs.Cmp.{both_ways}
 use Rattle.std.proofs.lemmas.List.Elements.{Contains-append_left, Contains-append_right, Contains-append_cases}
 use Rattle.net_model.proofs.Elements.{any_from, passing, Contains-filter, Contains-from_filter, none_in}
@@ -18,6 +18,23 @@ has_from clause l m = any_from (same_literal l) clause l m (same_literal-same l 
 
 pub from_has : (clause : Clause) (l : Literal) → has_literal clause l ≡ true → Contains clause l
 from_has clause l t = let found = passing (same_literal l) clause t in subst (Contains clause) (sym (same_is l found.0 found.2)) found.1
+
+-- ---- clauses without a literal
+
+pub differs : (l m : Literal) → m ≢ l → not (same_literal l m) ≡ true
+differs l m ne = by (same_literal l m) refl
+  where
+    by : (b : Bool) → same_literal l m ≡ b → not b ≡ true
+    by true e = absurd (ne (sym (same_is l m e)))
+    by false e = refl
+
+pub without_has : (l : Literal) (clause : Clause) (m : Literal) → Contains clause m → m ≢ l → Contains (clause_without l clause) m
+without_has l clause m h ne = Contains-filter (λ n. not (same_literal l n)) clause m h (differs l m ne)
+
+pub from_without : (l : Literal) (clause : Clause) (m : Literal) → Contains (clause_without l clause) m → Contains clause m × (m ≢ l)
+from_without l clause m h =
+    let both = Contains-from_filter (λ n. not (same_literal l n)) clause m h in
+    (both.0, λ same. let e = ap not (same_literal-same l m (sym same)) in let wrong : ◌≡◌ {A = Bool} true false = sym both.1 ∙ e in cc)
 
 -- ---- clauses with the same literals
 

@@ -1,5 +1,5 @@
 -- The copies of split lines, line by line.
-use Rattle.std.proofs.Common.{◌≡◌, ◌∙◌, ℕ, ◌+◌, ◌<◌, refl, sym, ap, subst, arith, length, take, get_or}
+use Rattle.std.proofs.Common.{◌≡◌, ◌∙◌, ℕ, ◌<◌, refl, sym, ap, subst, arith, length, get_or}
 use Rattle.std.specs.Prelude.{Bool, true, false, List, [], ◌∷◌, ◌++◌, ◌&&◌, map, filter, All, if◌then◌else◌}
 use Rattle.std.specs.List.{range_with_len}
 use Rattle.std.proofs.lemmas.Bool.{and_parts}
@@ -10,7 +10,7 @@ use Rattle.net_model.specs.Circuit.{Circuit, IsCircuit, line_count}
 use Rattle.net_model.specs.Order.{IsOrder}
 use Rattle.net_model.specs.Scope.{is_relevant, is_split}
 use Rattle.net_model.proofs.Listed.{All-range_with_len}
-use Rattle.net_model.proofs.Orders.{order_only, range_with_len_more}
+use Rattle.net_model.proofs.Orders.{order_only}
 use Rattle.net_model.proofs.SetSoFar.{fits_from}
 use Rattle.pair_miter.specs.declared.side.Side.TheVariants.{First, Second}
 use Rattle.pair_miter.specs.declared.split.Copies.{Copies}
@@ -36,6 +36,10 @@ module _ (c : Circuit) (f g : Fault) where
       by true true r s = refl
       by true false r s = cc
       by false b r s = cc
+
+  pub pushed_yes : (line : ℕ) (old : List Copies) {new : List Copies} {first second : ℕ} → is_relevant c f g line ≡ true → is_split c f g line ≡ true → first ≡ line_variable c f g First line → second ≡ line_variable c f g Second line
+      → new ≡ old ++ record { first = first; second = second } ∷ [] → new ≡ old ++ all_copies c f g (line ∷ [])
+  pushed_yes line old r s is_first is_second pushed = pushed ∙ ((λ i. old ++ record { first = is_first i; second = is_second i } ∷ []) ∙ ap (λ xs. old ++ xs) (sym (copies_yes line r s)))
 
   pub copies_no : (line : ℕ) → is_double c f g line ≡ false → all_copies c f g (line ∷ []) ≡ []
   unfolding all_copies

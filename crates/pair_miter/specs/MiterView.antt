@@ -8,5 +8,5 @@ pub record Miter : Type 0 where
   pub f : Fault
   pub g : Fault
 
-abbrev pub miter_with : Circuit → Fault → Fault → Miter
+abbrev pub miter_with : (circuit : Circuit) (f g : Fault) → Miter
 miter_with circuit f g = record { circuit = circuit; f = f; g = g }

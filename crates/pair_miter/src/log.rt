@@ -15,12 +15,27 @@ pub struct Chain {
     steps: Vec<(Lit, u32)>,
 }
 
+/// A list of chains.
+#[derive(Debug, Drop)]
+pub struct Log {
+    chains: Vec<Chain>,
+}
+
 impl Model for Chain {
     ghost use Rattle.pair_miter.specs.ChainView.{ChainView};
 
     ghost Value = { ChainView };
 
     ghost view = { λ a. record { start = a.start; fresh_at = a.at; steps = a.steps.items } };
+}
+
+impl Model for Log {
+    ghost use Rattle.std.specs.Prelude.{List};
+    ghost use Rattle.pair_miter.specs.ChainView.{ChainView};
+
+    ghost Value = { List ChainView };
+
+    ghost view = { λ a. a.chains.items };
 }
 
 impl Chain {
@@ -73,36 +88,21 @@ impl Chain {
     }
 }
 
-/// A list of chains.
-#[derive(Debug, Drop)]
-pub struct Log {
-    chains: Vec<Chain>,
-}
-
-impl Model for Log {
-    ghost use Rattle.std.specs.Prelude.{List};
-    ghost use Rattle.pair_miter.specs.ChainView.{ChainView};
-
-    ghost Value = { List ChainView };
-
-    ghost view = { λ a. a.chains.items };
-}
-
 impl Log {
-    pub fn new(alloc: Global) -> Log
-        ensures { result ≡ [] }
-    {
-        Log {
-            chains: Vec::new(alloc),
-        }
-    }
-
     pub fn push(&mut self, chain: Chain) -> Result<(), AllocError>
         ensures ok { OnOk result (self.new ≡ self.old ++ chain ∷ []) }
         ensures err { OnErr result (self.new ≡ self.old) }
     {
         self.chains.push(chain)?;
         Ok(())
+    }
+
+    pub fn new(alloc: Global) -> Log
+        ensures { result ≡ [] }
+    {
+        Log {
+            chains: Vec::new(alloc),
+        }
     }
 
     pub fn as_slice(&self) -> &[Chain]

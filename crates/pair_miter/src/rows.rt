@@ -7,8 +7,8 @@ ghost use Rattle.clause_pool.specs.Proper.{IsVariable};
 ghost use Rattle.pair_miter.specs.Adds.{Writes};
 ghost use Rattle.pair_miter.specs.Marks.{IsOperand, AreHelpers};
 ghost use Rattle.pair_miter.specs.Miter.{tidy};
-ghost use Rattle.pair_miter.specs.Rows.{variables, has_constant, has_odd_constants, with_each, same_value, xor_of_two, xor_onward, odd_rows, decided_rows, case_rows, chosen_rows, folded_rows, gate_rows};
-ghost use Rattle.pair_miter.specs.Variables.{is_parity, is_parity_fold};
+ghost use Rattle.pair_miter.specs.Rows.{variables, has_constant, has_odd_constants, same_value, xor_of_two, xor_onward, odd_rows, decided_rows, case_rows, chosen_rows, gate_rows};
+ghost use Rattle.pair_miter.specs.Variables.{is_parity};
 
 use crate::operand::Operand;
 use crate::tidier::Tidier;
@@ -36,31 +36,16 @@ pub(crate) fn write_gate(
 {
     let y = tidier.literal(output, !kind.inverts());
     match kind.operation() {
-        Operation::Folded(fold) => write_folded(tidier, pool, fold, y, helper, operands),
+        Operation::Folded(Fold::AllOf) => write_decided(
+            tidier,
+            pool,
+            false,
+            y.opposite(),
+            operands,
+        ),
+        Operation::Folded(Fold::AnyOf) => write_decided(tidier, pool, true, y, operands),
+        Operation::Folded(Fold::OddOf) => write_odd(tidier, pool, y, operands, helper),
         Operation::Chosen => write_chosen(tidier, pool, y, operands),
-    }
-}
-
-// A literal is a fold of the operands.
-fn write_folded(
-    tidier: &mut Tidier,
-    pool: &mut Pool,
-    fold: Fold,
-    y: Lit,
-    helper: u32,
-    operands: &[Operand],
-) -> Result<(), AllocError>
-    requires output { y.variable ≤ tidier.old }
-    requires operands { All (IsOperand tidier.old) operands.now }
-    requires helpers { is_parity_fold fold ≡ true → AreHelpers tidier.old helper (length (variables operands.now)) }
-    requires few { length pool.old.clauses + length (tidy (folded_rows fold y helper operands.now)) < 2 ^ 30 }
-    ensures written { Writes result pool.old pool.new (tidy (folded_rows fold y helper operands.now)) }
-    ensures variables { tidier.new ≡ tidier.old }
-{
-    match fold {
-        Fold::AllOf => write_decided(tidier, pool, false, y.opposite(), operands),
-        Fold::AnyOf => write_decided(tidier, pool, true, y, operands),
-        Fold::OddOf => write_odd(tidier, pool, y, helper, operands),
     }
 }
 
@@ -81,31 +66,13 @@ fn write_decided(
     if has_constant(decides, operands) {
         return tidier.write(pool, &[l]);
     }
-    write_each(tidier, pool, l, !decides, operands)?;
-    tidier.write_all(pool, l.opposite(), decides, operands)
-}
-
-// Clauses of a literal and each of the variables among operands.
-fn write_each(
-    tidier: &mut Tidier,
-    pool: &mut Pool,
-    first: Lit,
-    positive: bool,
-    operands: &[Operand],
-) -> Result<(), AllocError>
-    requires first { first.variable ≤ tidier.old }
-    requires operands { All (IsOperand tidier.old) operands.now }
-    requires few { length pool.old.clauses + length (tidy (with_each first positive (variables operands.now))) < 2 ^ 30 }
-    ensures written { Writes result pool.old pool.new (tidy (with_each first positive (variables operands.now))) }
-    ensures variables { tidier.new ≡ tidier.old }
-{
     for operand in operands {
         if let Some(x) = operand.variable() {
-            let lit = tidier.literal(x, positive);
-            tidier.write(pool, &[first, lit])?;
+            let lit = tidier.literal(x, !decides);
+            tidier.write(pool, &[l, lit])?;
         }
     }
-    Ok(())
+    tidier.write_all(pool, operands, l.opposite(), decides)
 }
 
 // A literal and a variable have one value.
@@ -125,8 +92,8 @@ fn write_odd(
     tidier: &mut Tidier,
     pool: &mut Pool,
     y: Lit,
-    helper: u32,
     operands: &[Operand],
+    helper: u32,
 ) -> Result<(), AllocError>
     requires output { y.variable ≤ tidier.old }
     requires operands { All (IsOperand tidier.old) operands.now }

@@ -2,9 +2,9 @@
 
 ghost use Rattle.std.specs.Prelude.{◌≡◌, ◌+◌, ◌-◌, ◌<◌, ◌≤◌, ◌^◌, [], ◌∷◌, ◌++◌, length, All, vec_capacity, IfOk, OnOk, OnErr};
 ghost use Rattle.clause_pool.specs.LiteralCode.{code_of};
+ghost use Rattle.clause_pool.specs.Proper.{IsVariable};
 ghost use Rattle.pair_miter.specs.Adds.{Writes};
 ghost use Rattle.pair_miter.specs.Marks.{AreMarks, HavePlaces, IsOperand};
-ghost use Rattle.clause_pool.specs.Proper.{IsVariable};
 ghost use Rattle.pair_miter.specs.Miter.{tidy, without_repeats, is_tautology};
 ghost use Rattle.pair_miter.specs.Rows.{variables, operand_literals, case_clause, with_all};
 
@@ -71,12 +71,12 @@ impl Tidier {
     pub(crate) fn write_all(
         &mut self,
         pool: &mut Pool,
+        operands: &[Operand],
         first: Lit,
         positive: bool,
-        operands: &[Operand],
     ) -> Result<(), AllocError>
-        requires first { first.variable ≤ self.old }
         requires operands { All (IsOperand self.old) operands.now }
+        requires first { first.variable ≤ self.old }
         requires few { length pool.old.clauses + length (tidy (with_all first positive (variables operands.now) ∷ [])) < 2 ^ 30 }
         ensures written { Writes result pool.old pool.new (tidy (with_all first positive (variables operands.now) ∷ [])) }
         ensures variables { self.new ≡ self.old }
@@ -106,7 +106,7 @@ impl Tidier {
         if chooser.is_constant(unless) || chosen.is_constant(positive) {
             return Ok(());
         }
-        fill_case(&mut self.row, l, unless, chooser, positive, chosen)?;
+        fill_case(&mut self.row, l, chooser, unless, chosen, positive)?;
         write_once(&mut self.marks, &mut self.kept, pool, self.row.as_slice())
     }
 }
@@ -133,10 +133,10 @@ fn fill(
 fn fill_case(
     row: &mut Vec<Lit>,
     l: Lit,
-    unless: bool,
     chooser: &Operand,
-    positive: bool,
+    unless: bool,
     chosen: &Operand,
+    positive: bool,
 ) -> Result<(), AllocError>
     requires chooser { IsOperand (2 ^ 31 - 1) chooser.now }
     requires chosen { IsOperand (2 ^ 31 - 1) chosen.now }

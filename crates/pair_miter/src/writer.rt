@@ -86,33 +86,11 @@ impl Writer {
             let unit = self.tidier.literal(numbering.variable(side, line), bit);
             return self.tidier.write(pool, &[unit]);
         }
-        if line < numbering.circuit().sources() {
+        let circuit = numbering.circuit();
+        if line < circuit.sources() {
             return Ok(());
         }
-        self.write_driven(pool, numbering, side, line)
-    }
-
-    // Writes the rows of a relevant line's gate in a copy in which the line isn't stuck.
-    fn write_driven(
-        &mut self,
-        pool: &mut Pool,
-        numbering: &Numbering,
-        side: Side,
-        line: u32,
-    ) -> Result<(), AllocError>
-        requires variables { self.old.tidier ≡ variable_count numbering.now.circuit numbering.now.f numbering.now.g }
-        requires line { line < line_count numbering.now.circuit }
-        requires gate { numbering.now.circuit.sources ≤ line }
-        requires relevant { is_relevant numbering.now.circuit numbering.now.f numbering.now.g line ≡ true }
-        requires free { stuck_stem (fault_of numbering.now.circuit numbering.now.f numbering.now.g side) line ≡ None }
-        requires copy { HasCopy numbering.now.circuit numbering.now.f numbering.now.g side line }
-        requires helper { self.old.helper ≡ first_helper numbering.now.circuit numbering.now.f numbering.now.g side line }
-        requires few { length pool.old.clauses + length (tidy (copy_clauses numbering.now.circuit numbering.now.f numbering.now.g side line)) < 2 ^ 30 }
-        ensures written { Writes result pool.old pool.new (tidy (copy_clauses numbering.now.circuit numbering.now.f numbering.now.g side line)) }
-        ensures helper { OnOk result (self.new.helper ≡ self.old.helper + copy_helpers numbering.now.circuit numbering.now.f numbering.now.g side line) }
-        ensures variables { self.new.tidier ≡ self.old.tidier }
-    {
-        let gate = numbering.circuit().gate(line);
+        let gate = circuit.gate(line);
         let output = numbering.variable(side, line);
         read_pins(&mut self.operands, numbering, side, line, gate)?;
         write_gate(
@@ -135,10 +113,10 @@ impl Writer {
         position: u32,
         difference: u32,
     ) -> Result<(), AllocError>
-        requires variables { self.old.tidier ≡ variable_count numbering.now.circuit numbering.now.f numbering.now.g }
         requires position { position < length numbering.now.circuit.positions }
         requires reached { is_reached numbering.now.circuit numbering.now.f numbering.now.g position ≡ true }
         requires difference { difference ≡ difference_variable numbering.now.circuit numbering.now.f numbering.now.g position }
+        requires variables { self.old.tidier ≡ variable_count numbering.now.circuit numbering.now.f numbering.now.g }
         requires few { length pool.old.clauses + length (tidy (difference_clauses numbering.now.circuit numbering.now.f numbering.now.g position)) < 2 ^ 30 }
         ensures written { Writes result pool.old pool.new (tidy (difference_clauses numbering.now.circuit numbering.now.f numbering.now.g position)) }
         ensures variables { self.new.tidier ≡ self.old.tidier }

@@ -1,7 +1,8 @@
 -- One chain of a log after another, over a pool whose clauses count as those of the miter and the ends so far.
-use Rattle.std.proofs.Common.{◌≡◌, ◌∙◌, ℕ, ◌+◌, ◌++◌, List, [], ◌∷◌, sym, ap, subst}
-use Rattle.std.specs.Prelude.{Some, slice_get, All}
+use Rattle.std.proofs.Common.{◌≡◌, ◌∙◌, ℕ, ◌+◌, ◌<◌, ◌==◌, ◌++◌, List, [], ◌∷◌, length, get_or, refl, sym, ap, subst, arith}
+use Rattle.std.specs.Prelude.{Option, Some, slice_get, All}
 use Rattle.std.proofs.lemmas.List.{append_assoc}
+use Rattle.std.proofs.lemmas.Option.{slice_get_read}
 use Rattle.clause_pool.specs.Clauses.{Clause}
 use Rattle.clause_pool.specs.Proper.{HasVariablesUpTo}
 use Rattle.pair_miter.specs.ChainView.{ChainView}
@@ -9,7 +10,7 @@ use Rattle.pair_miter.specs.Resolution.{chain_end, SameLiterals, AreAlike}
 use Rattle.refute_check.specs.declared.refusal.EvidenceKind.{EvidenceKind}
 use Rattle.refute_check.specs.declared.refusal.RefusalKind.{RefusalKind}
 use Rattle.refute_check.specs.declared.refusal.Refusal.{Refusal}
-use Rattle.refute_check.specs.LogRefusal.{AreRightBefore, ChainStops, EndsAs, HasRightLength, IsRightEnd, LogRefused, at_step, at_end, end_refusal, is_last}
+use Rattle.refute_check.specs.LogRefusal.{AreRightBefore, ChainStops, EndsAs, HasRightLength, IsRightEnd, IsRuleFor, LogRefused, at_step, at_end, end_refusal, is_last}
 use Rattle.refute_check.proofs.Alike.{refusal_alike, right_alike, stops_alike}
 use Rattle.pair_miter.proofs.EndVariables.{within_alike, chain_within}
 use Rattle.pair_miter.proofs.Alike.{alike_sym, alike_some, chain_alike, alike_more}
@@ -19,43 +20,66 @@ use Rattle.refute_check.proofs.Chains.{before_next, next_ends}
 pub end_within : (variable : ℕ) (pool : List Clause) (chain : ChainView) (literals : Clause) → All (HasVariablesUpTo variable) pool → EndsAs pool chain literals → HasVariablesUpTo variable literals
 end_within variable pool chain literals all (end, is, same) = within_alike variable literals end same (chain_within variable pool all chain end is)
 
-module _ (kind : EvidenceKind) (clauses : List Clause) (limit : ℕ) (log : List ChainView) (at : ℕ) (chain : ChainView) (pool : List Clause) (long : HasRightLength kind limit log)
-    (b : AreRightBefore kind clauses log at) (chain_is : slice_get log at ≡ Some chain) (are : AreAlike (clauses ++ b.ends) pool) where
+-- A chain stands at a place of a log of the right length. The chains before it are right, and a pool has the clauses and their ends.
+pub record IsNext (kind : EvidenceKind) (clauses : List Clause) (limit : ℕ) (log : List ChainView) (at : ℕ) (chain : ChainView) (pool : List Clause) : Type 0 where
+  pub long : HasRightLength kind limit log
+  pub before : AreRightBefore kind clauses log at
+  pub chain_is : slice_get log at ≡ Some chain
+  pub are : AreAlike (clauses ++ before.ends) pool
+
+pub next_chain : (limit : ℕ) {kind : EvidenceKind} {clauses : List Clause} {given log : List ChainView} {at : ℕ} {chain : ChainView} {pool : List Clause} → given ≡ log → HasRightLength kind limit given → at < length given → chain ≡ get_or given at chain
+    → (before : AreRightBefore kind clauses log at) → (at < length log → AreAlike (clauses ++ before.ends) pool) → IsNext kind clauses limit log at chain pool
+next_chain limit {kind = kind} {log = log} {at = at} {chain = chain} same long inside is before are =
+    let within : at < length log = omega (arith, inside, ap length same) in
+    record {
+      long = subst (HasRightLength kind limit) same long;
+      before = before;
+      chain_is = slice_get_read log (length log) at chain refl within (is ∙ ap (λ xs. get_or xs at chain) same);
+      are = are within;
+    }
+
+-- what is answered of an end, of the log itself
+pub rule_told : (kind : EvidenceKind) (at : ℕ) (pool : List Clause) (chain : ChainView) (literals : Clause) {given log : List ChainView} {rule found : Option RefusalKind} → given ≡ log → rule ≡ found
+    → IsRuleFor kind (at + 1 == length given) pool chain literals rule → IsRuleFor kind (is_last log at) pool chain literals found
+rule_told kind at pool chain literals {log = log} {rule = rule} same is told =
+    subst (IsRuleFor kind (is_last log at) pool chain literals) is (subst (λ (xs : List ChainView). IsRuleFor kind (at + 1 == length xs) pool chain literals rule) same told)
+
+module _ {kind : EvidenceKind} {clauses : List Clause} {limit : ℕ} {log : List ChainView} {at : ℕ} {chain : ChainView} {pool : List Clause} (n : IsNext kind clauses limit log at chain pool) where
   pub refused_step : (refusal : Refusal) → refusal.step ≡ at → ChainStops pool chain refusal.kind → LogRefused kind clauses limit log refusal
   refused_step refusal here stops =
-      at_step at refusal.kind long (record { before = b; chain = chain; chain_is = chain_is; stops = stops_alike (clauses ++ b.ends) pool are chain refusal.kind stops })
+      at_step at refusal.kind n.long (record { before = n.before; chain = chain; chain_is = n.chain_is; stops = stops_alike (clauses ++ n.before.ends) pool n.are chain refusal.kind stops })
       (λ i. record { kind = refusal.kind; step = here i })
 
   module _ (literals : Clause) (ends : EndsAs pool chain literals) where
     -- the end over the clauses and the ends so far
-    pub own_end : (end : Clause) × (chain_end (clauses ++ b.ends) chain ≡ Some end) × SameLiterals end literals
+    pub own_end : (end : Clause) × (chain_end (clauses ++ n.before.ends) chain ≡ Some end) × SameLiterals end literals
     own_end =
-        let own = alike_some (chain_end (clauses ++ b.ends) chain) (chain_end pool chain) ends.0 (chain_alike (clauses ++ b.ends) pool are chain) ends.1 in
+        let own = alike_some (chain_end (clauses ++ n.before.ends) chain) (chain_end pool chain) ends.0 (chain_alike (clauses ++ n.before.ends) pool n.are chain) ends.1 in
         (own.0, own.1, same_trans own.0 ends.0 literals own.2 (same_sym literals ends.0 ends.2))
 
     pub refused_end : (refusal : Refusal) (rule : RefusalKind) → (IsRightEnd kind (is_last log at) pool chain literals → ⊥) → rule ≡ end_refusal kind (is_last log at) literals → refusal ≡ record { kind = rule; step = at }
         → LogRefused kind clauses limit log refusal
     refused_end refusal rule wrong rule_is is =
         let own = own_end in
-        at_end at own.0 long (record {
-          before = b;
+        at_end at own.0 n.long (record {
+          before = n.before;
           chain = chain;
-          chain_is = chain_is;
+          chain_is = n.chain_is;
           end_is = own.1;
-          wrong = λ right. wrong (right_alike pool (clauses ++ b.ends) (alike_sym are) kind (is_last log at) chain literals own.0 (same_sym own.0 literals own.2) right);
+          wrong = λ right. wrong (right_alike pool (clauses ++ n.before.ends) (alike_sym n.are) kind (is_last log at) chain literals own.0 (same_sym own.0 literals own.2) right);
         })
         (is ∙ ap (λ rule. record { kind = rule; step = at }) (rule_is ∙ sym (refusal_alike kind (is_last log at) own.0 literals own.2)))
 
     pub right_step : IsRightEnd kind (is_last log at) pool chain literals → AreRightBefore kind clauses log (at + 1)
     right_step right =
         let own = own_end in
-        before_next kind clauses log at chain own.0 b chain_is own.1 (right_alike (clauses ++ b.ends) pool are kind (is_last log at) chain own.0 literals own.2 right)
+        before_next kind clauses log at chain own.0 n.before n.chain_is own.1 (right_alike (clauses ++ n.before.ends) pool n.are kind (is_last log at) chain own.0 literals own.2 right)
 
     pub alike_next : (right : IsRightEnd kind (is_last log at) pool chain literals) → AreAlike (clauses ++ (right_step right).ends) (pool ++ literals ∷ [])
     unfolding right_step
     alike_next right =
         let own = own_end in
-        let here = right_alike (clauses ++ b.ends) pool are kind (is_last log at) chain own.0 literals own.2 right in
+        let here = right_alike (clauses ++ n.before.ends) pool n.are kind (is_last log at) chain own.0 literals own.2 right in
         subst (λ cs. AreAlike cs (pool ++ literals ∷ []))
-        (append_assoc clauses b.ends (own.0 ∷ []) ∙ ap (λ ends. clauses ++ ends) (sym (next_ends kind clauses log at chain own.0 b chain_is own.1 here)))
-        (alike_more (clauses ++ b.ends) pool own.0 literals are own.2)
+        (append_assoc clauses n.before.ends (own.0 ∷ []) ∙ ap (λ ends. clauses ++ ends) (sym (next_ends kind clauses log at chain own.0 n.before n.chain_is own.1 here)))
+        (alike_more (clauses ++ n.before.ends) pool own.0 literals n.are own.2)

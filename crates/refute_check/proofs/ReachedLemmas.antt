@@ -6,14 +6,14 @@ use Rattle.std.proofs.lemmas.Bool.{cases_eq, cases_lt, and_from}
 use Rattle.std.proofs.lemmas.List.{append-nil, get_or-set_same, get_or-set_other, get_or_past, length-set, take_more}
 use Rattle.std.proofs.lemmas.List.Elements.{Contains-append_left, Contains-append_right, Contains-append_cases, filter-append}
 use Rattle.net_model.specs.Answer.{bit_at}
-use Rattle.net_model.proofs.Elements.{none_in, Contains-filter, Contains-from_filter}
+use Rattle.net_model.proofs.Elements.{none_in}
 use Rattle.clause_pool.specs.Literal.{Literal, opposite, same_literal}
 use Rattle.clause_pool.specs.LiteralCode.{code_of}
 use Rattle.clause_pool.specs.Clauses.{Clause}
-use Rattle.clause_pool.proofs.Literals.{same_is, same_literal-same, same_by_code, literal_cases}
+use Rattle.clause_pool.proofs.Literals.{same_literal-same, same_by_code, literal_cases}
 use Rattle.pair_miter.specs.Miter.{has_literal}
 use Rattle.pair_miter.specs.Resolution.{clause_without, can_resolve, SameLiterals}
-use Rattle.pair_miter.proofs.SameLiterals.{has_from, from_has}
+use Rattle.pair_miter.proofs.SameLiterals.{has_from, from_has, differs, without_has, from_without}
 use Rattle.refute_check.specs.declared.reached.Reached.{Reached}
 use Rattle.refute_check.specs.Reached.{IsReached}
 use Rattle.refute_check.proofs.AssignmentLemmas.{last_in, only_in}
@@ -46,18 +46,6 @@ kept_marked : (marks : List Bool) (pivot l : Literal) → bit_at marks (code_of 
 kept_marked marks pivot l t ne = get_or-set_other marks (code_of pivot) (code_of l) false false (λ e. ne (same_by_code l pivot e)) ∙ t
 
 -- ---- clauses without a literal
-
-differs : (l m : Literal) → m ≢ l → not (same_literal l m) ≡ true
-differs l m ne = by (same_literal l m) refl
-  where
-    by : (b : Bool) → same_literal l m ≡ b → not b ≡ true
-    by true e = absurd (ne (sym (same_is l m e)))
-    by false e = refl
-
-from_without : (l : Literal) (clause : Clause) (m : Literal) → Contains (clause_without l clause) m → Contains clause m × (m ≢ l)
-from_without l clause m h =
-    let both = Contains-from_filter (λ n. not (same_literal l n)) clause m h in
-    (both.0, λ same. let e = ap not (same_literal-same l m (sym same)) in let wrong : ◌≡◌ {A = Bool} true false = sym both.1 ∙ e in cc)
 
 without_same : (o m : Literal) (xs : Clause) → m ≡ o → clause_without o (xs ++ m ∷ []) ≡ clause_without o xs
 without_same o m xs e =
@@ -130,7 +118,7 @@ module _ (r new : Reached) (clause : Clause) (lit : Literal) (is : IsReached r c
     marked = λ l m. let w = from_without lit clause l m in ap (λ ms. bit_at ms (code_of l)) marks ∙ kept_marked r.marks.items lit l (is.marked l w.0) w.1;
     only = λ l t.
         let was = still_marked r.marks.items (code_of lit) l (sym (ap (λ ms. bit_at ms (code_of l)) marks) ∙ t) in
-        Contains-filter (λ n. not (same_literal lit n)) clause l (is.only l was.0) (differs lit l (λ e. was.1 (ap code_of e)));
+        without_has lit clause l (is.only l was.0) (λ e. was.1 (ap code_of e));
     listed = λ l m. subst (λ ls. Contains ls l) (sym listed) (is.listed l (from_without lit clause l m).0);
   }
 

@@ -1,10 +1,10 @@
 //! The clauses of a pool by their literals.
 
-ghost use Rattle.std.specs.Prelude.{◌≡◌, ◌+◌, ◌*◌, ◌<◌, [], ◌∷◌, ◌++◌, List, ℕ, All, IfOk, OnOk, IsTrue, IsFalse, length, replicate, slice_set};
+ghost use Rattle.std.specs.Prelude.{◌≡◌, ◌+◌, ◌*◌, ◌<◌, [], ◌∷◌, ◌++◌, List, ℕ, All, IfOk, OnOk, IsTrue, IsFalse, length, map, replicate, slice_set};
+ghost use Rattle.refute_check.specs.Index.{HasTwo, IsIndexOf, list_at};
 ghost use Rattle.clause_pool.specs.Clauses.{Clause};
 ghost use Rattle.clause_pool.specs.LiteralCode.{code_of};
 ghost use Rattle.clause_pool.specs.Proper.{HasVariablesUpTo};
-ghost use Rattle.refute_check.specs.Index.{HasTwo, IsIndexOf, list_at};
 
 use clause_pool::{Lit, Pool};
 use std::alloc::{AllocError, Global};
@@ -17,9 +17,15 @@ pub(crate) struct Lists {
     lists: Vec<Vec<u32>>,
 }
 
-impl Model for Lists {
-    ghost use Rattle.std.specs.Prelude.{List, ℕ, map};
+/// The clauses of a pool by their literals, and those of them that don't have two different literals. Unit propagation
+/// finds something at the latter from the start, and at the others only once a literal of theirs is false.
+#[derive(Drop)]
+pub(crate) struct Index {
+    pub(crate) lists: Lists,
+    pub(crate) short: Vec<u32>,
+}
 
+impl Model for Lists {
     ghost Value = { List (List ℕ) };
 
     ghost view = { λ a. map (λ list. list.items) a.lists.items };
@@ -54,14 +60,6 @@ impl Lists {
     {
         self.lists[place(lit)].as_slice()
     }
-}
-
-/// The clauses of a pool by their literals, and those of them that don't have two different literals. Unit propagation
-/// finds something at the latter from the start, and at the others only once a literal of theirs is false.
-#[derive(Drop)]
-pub(crate) struct Index {
-    pub(crate) lists: Lists,
-    pub(crate) short: Vec<u32>,
 }
 
 impl Index {

@@ -8,9 +8,9 @@ use std::alloc::{AllocError, Global};
 /// How many literals were held when a clause was looked at last, for each clause that was looked at since all was forgotten.
 #[derive(Drop)]
 pub(crate) struct Looked {
+    pub(crate) base: usize,
     // by the clause's number; up to the base where it wasn't looked at, else the number of literals and one more above it
     pub(crate) stamps: Vec<usize>,
-    pub(crate) base: usize,
 }
 
 impl Looked {
@@ -20,8 +20,8 @@ impl Looked {
         ensures none { IfOk result (λ looked. (number held : ℕ) → ¬ IsLookedAt looked number held) }
     {
         Ok(Looked {
-            stamps: vec![in alloc; 0; clauses as usize + 1]?,
             base: 0,
+            stamps: vec![in alloc; 0; clauses as usize + 1]?,
         })
     }
 

@@ -74,14 +74,6 @@ pub enum ChainFault {
     NoMemory,
 }
 
-impl From<AllocError> for ChainFault {
-    ghost from_gives = { λ _ e. e ≡ chain.NoMemory };
-
-    fn from(_: AllocError) -> Self {
-        ChainFault::NoMemory
-    }
-}
-
 /// Two clauses can't be resolved at a pivot.
 #[derive(Clone, Copy, Debug, PartialEq, Eq, Error)]
 #[error("the clauses can't be resolved at the pivot")]
@@ -92,6 +84,14 @@ impl From<NoPivot> for ChainFault {
 
     fn from(_: NoPivot) -> Self {
         ChainFault::NoPivot
+    }
+}
+
+impl From<AllocError> for ChainFault {
+    ghost from_gives = { λ _ e. e ≡ chain.NoMemory };
+
+    fn from(_: AllocError) -> Self {
+        ChainFault::NoMemory
     }
 }
 

@@ -92,17 +92,17 @@ fn follow(
     place: &mut usize,
 ) -> Option<u32>
     requires trail { IsTrail set.old }
-    requires place { place.old ≤ length set.old.literals }
     requires watches { HasWatches attached.now pool.now.clauses set.old watches.old }
     requires listed { AreInLists watches.old [] }
+    requires place { place.old ≤ length set.old.literals }
+    ensures from { place.old ≤ place.new }
+    ensures below { place.new ≤ length set.new.literals }
+    ensures done { IsNone result → place.new ≡ length set.new.literals }
     ensures set { Propagates set.old set.new }
     ensures trail { IsTrail set.new }
     ensures watches { HasWatches attached.now pool.now.clauses set.new watches.new }
     ensures listed { AreInLists watches.new [] }
-    ensures from { place.old ≤ place.new }
-    ensures below { place.new ≤ length set.new.literals }
     ensures kept { AreKept set.old.literals place.old place.old watches.old.literals.items → AreKept set.new.literals place.old place.new watches.new.literals.items }
-    ensures done { IsNone result → place.new ≡ length set.new.literals }
     ensures conflict { IfSome result (IsConflict (numbers_of attached.now) pool.now.clauses (held set.new)) }
 {
     while *place < set.literals().len() {

@@ -27,30 +27,21 @@ loop-place-init c =
 
 -- ---- the end
 
-pub returns-clause-learned : goal.returns-clause-learned
-returns-clause-learned c =
+pub returns : goal.returns
+returns c =
     let a = c.args.trail.now.assignment in
+    let clauses = c.args.pool.now.clauses in
     let l = c.loop-place in
-    let over : IsWalk a c.args.pool.now.clauses l.marks l.analysis.chain l.analysis.kept.items l.analysis.left 0 = elim c.loop-place-test.branch [
-      | then-loop-place-test+else-not-are_clear w ↦ walk_over a c.args.pool.now.clauses l.marks l.analysis.chain l.analysis.kept.items l.analysis.left l.place (w.are_clear.ensures w.if-not-are_clear.false) l.invariant
-      | else-loop-place-test w ↦
-          let none : l.place ≡ 0 = omega (arith, w.loop-place-test.false) in
-          subst (IsWalk a c.args.pool.now.clauses l.marks l.analysis.chain l.analysis.kept.items l.analysis.left) none l.invariant
-    ] in
     let kept = l.analysis.kept.items in
-    let value = c.as_slice.ensures.value in
-    learned_end a c.requires.ready.is_trail c.args.pool.now.clauses l.marks l.analysis.chain kept l.analysis.left over c.back_level-back.result
-    (subst (λ (ls : List Literal). length ls ≤ 1 → c.back_level-back.result ≡ 0) value c.back_level-back.ensures.none)
-    (subst (λ (ls : List Literal). (d : Literal) (place : ℕ) → 1 < length ls → IsFalseAt a (get_or ls 1 d) place → c.back_level-back.result ≡ (set_at a place).level) value c.back_level-back.ensures.some)
-
-pub returns-clause-clear : goal.returns-clause-clear
-returns-clause-clear c =
-    let a = c.args.trail.now.assignment in
-    let l = c.loop-place in
-    let over : IsWalk a c.args.pool.now.clauses l.marks l.analysis.chain l.analysis.kept.items l.analysis.left 0 = elim c.loop-place-test.branch [
-      | then-loop-place-test+else-not-are_clear w ↦ walk_over a c.args.pool.now.clauses l.marks l.analysis.chain l.analysis.kept.items l.analysis.left l.place (w.are_clear.ensures w.if-not-are_clear.false) l.invariant
-      | else-loop-place-test w ↦
-          let none : l.place ≡ 0 = omega (arith, w.loop-place-test.false) in
-          subst (IsWalk a c.args.pool.now.clauses l.marks l.analysis.chain l.analysis.kept.items l.analysis.left) none l.invariant
+    let over : IsWalk a clauses l.marks l.analysis.chain kept l.analysis.left 0 = elim c.loop-place-test.branch [
+      | then-loop-place-test+else-not-are_clear w ↦ walk_over a clauses l.marks l.analysis.chain kept l.analysis.left l.place (w.are_clear.ensures w.if-not-are_clear.false) l.invariant
+      | else-loop-place-test w ↦ let none : l.place ≡ 0 = omega (arith, w.loop-place-test.false) in subst (IsWalk a clauses l.marks l.analysis.chain kept l.analysis.left) none l.invariant
     ] in
-    clear_end a c.args.pool.now.clauses l.marks l.analysis.chain l.analysis.kept.items l.analysis.left over
+    let value = c.as_slice.ensures.value in
+    record {
+      learned =
+          learned_end a c.requires.ready.is_trail clauses l.marks l.analysis.chain kept l.analysis.left over c.back_level-back.result
+          (subst (λ (ls : List Literal). length ls ≤ 1 → c.back_level-back.result ≡ 0) value c.back_level-back.ensures.none)
+          (subst (λ (ls : List Literal). (d : Literal) (place : ℕ) → 1 < length ls → IsFalseAt a (get_or ls 1 d) place → c.back_level-back.result ≡ (set_at a place).level) value c.back_level-back.ensures.some);
+      clear = clear_end a clauses l.marks l.analysis.chain kept l.analysis.left over;
+    }

@@ -8,20 +8,6 @@ use Rattle.learn_solver.specs.Walk.{IsWalk}
 use Rattle.learn_solver.proofs.WalkSteps.{keep_step}
 use Rattle.learn_solver.proofs.resolving.keep.Goals as goal
 
-pub returns : goal.returns
-returns c =
-    let a = c.args.trail.now.assignment in
-    let clauses = c.args.pool.now.clauses in
-    let old = c.args.analysis.now in
-    let place = c.args.place in
-    let lit = c.literal_at-lit.ensures.is in
-    let step = keep_step a c.requires.ready.is_trail clauses c.args.marks.now old.chain old.kept.items old.left place c.requires.walk c.requires.marked c.requires.choice c.fewer-analysis.result c.fewer-analysis.ensures in
-    let variable = c.variable-variable.ensures.value ∙ ap (λ (l : Literal). l.variable) lit in
-    let marks : set c.args.marks.now (set_at a place).literal.variable false ≡ c.remove.new.self = sym (c.remove.ensures ∙ ap (λ v. set c.args.marks.now v false) variable) in
-    let kept : old.kept.items ++ opposite (set_at a place).literal ∷ [] ≡ c.push.new.self.items = sym (c.in_ok-push.ensures.items ∙ ap (λ l. old.kept.items ++ l ∷ []) (c.opposite.ensures ∙ ap opposite lit)) in
-    subst (λ ms. IsWalk a clauses ms old.chain c.push.new.self.items c.fewer-analysis.result place) marks
-    (subst (λ ls. IsWalk a clauses (set c.args.marks.now (set_at a place).literal.variable false) old.chain ls c.fewer-analysis.result place) kept step)
-
 pub remove-requires-clause-inside : goal.remove-requires-clause-inside
 remove-requires-clause-inside c =
     let a = c.args.trail.now.assignment in
@@ -33,3 +19,15 @@ pub remove-requires-clause-marked : goal.remove-requires-clause-marked
 remove-requires-clause-marked c =
     let variable = c.variable-variable.ensures.value ∙ ap (λ (l : Literal). l.variable) c.literal_at-lit.ensures.is in
     ap (bit_at c.args.marks.now) variable ∙ c.requires.marked
+
+pub returns : goal.returns
+returns c =
+    let there = (set_at c.args.trail.now.assignment c.args.place).literal in
+    let old = c.args.analysis.now in
+    let lit = c.literal_at-lit.ensures.is in
+    let step = keep_step c.requires.ready.is_trail c.args.place c.requires.walk c.requires.marked c.requires.choice c.fewer-analysis.result c.fewer-analysis.ensures in
+    let variable = c.variable-variable.ensures.value ∙ ap (λ (l : Literal). l.variable) lit in
+    let marks : set c.args.marks.now there.variable false ≡ c.remove.new.self = sym (c.remove.ensures ∙ ap (λ v. set c.args.marks.now v false) variable) in
+    let kept : old.kept.items ++ opposite there ∷ [] ≡ c.push.new.self.items = sym (c.in_ok-push.ensures.items ∙ ap (λ l. old.kept.items ++ l ∷ []) (c.opposite.ensures ∙ ap opposite lit)) in
+    subst (λ ms. IsWalk c.args.trail.now.assignment c.args.pool.now.clauses ms old.chain c.push.new.self.items c.fewer-analysis.result c.args.place) marks
+    (subst (λ ls. IsWalk c.args.trail.now.assignment c.args.pool.now.clauses (set c.args.marks.now there.variable false) old.chain ls c.fewer-analysis.result c.args.place) kept step)

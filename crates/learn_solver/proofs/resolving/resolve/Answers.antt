@@ -14,19 +14,12 @@ use Rattle.learn_solver.proofs.Levels.{inside_at}
 use Rattle.learn_solver.proofs.WalkSteps.{resolve_step, few_more, some_more}
 use Rattle.learn_solver.proofs.resolving.resolve.Goals as goal
 
-pub get-requires-clause-from : goal.get-requires-clause-from
-get-requires-clause-from c =
-    let clauses = c.args.pool.now.clauses in
+pub get-requires : goal.get-requires
+get-requires c =
     let ready = c.requires.ready in
     let is_in = ready.fits.reasons.is_attached c.args.place no_literal c.args.number (omega (arith, c.requires.walk.within)) c.requires.choice.0 in
-    (All-contains (λ n. (0 < n) × (n ≤ length clauses)) (attached_numbers c.args.trail.now) c.args.number ready.fits.attached.numbered is_in).0
-
-pub get-requires-clause-below : goal.get-requires-clause-below
-get-requires-clause-below c =
-    let clauses = c.args.pool.now.clauses in
-    let ready = c.requires.ready in
-    let is_in = ready.fits.reasons.is_attached c.args.place no_literal c.args.number (omega (arith, c.requires.walk.within)) c.requires.choice.0 in
-    (All-contains (λ n. (0 < n) × (n ≤ length clauses)) (attached_numbers c.args.trail.now) c.args.number ready.fits.attached.numbered is_in).1
+    let both = All-contains (λ n. (0 < n) × (n ≤ length c.args.pool.now.clauses)) (attached_numbers c.args.trail.now) c.args.number ready.fits.attached.numbered is_in in
+    record { from = both.0; below = both.1 }
 
 pub mark_clause-requires-clause-inside : goal.mark_clause-requires-clause-inside
 mark_clause-requires-clause-inside c =
@@ -35,21 +28,22 @@ mark_clause-requires-clause-inside c =
     (ready.fits.attached.proper c.args.number c.get.result.now is_in c.get.ensures).inside
 
 -- the reason of the literal at a place
-reason_of : (trail : TrailState) (clauses : List Clause) (place number : ℕ) (clause : Clause) → IsReady trail clauses → place < length trail.assignment.literals → (set_at trail.assignment place).reason ≡ Some number → numbered_clause clauses number ≡ Some clause
+reason_of : (place : ℕ) {trail : TrailState} {clauses : List Clause} {number : ℕ} {clause : Clause} → IsReady trail clauses → place < length trail.assignment.literals → (set_at trail.assignment place).reason ≡ Some number → numbered_clause clauses number ≡ Some clause
     → IsReason (take place (held trail.assignment)) clause (set_at trail.assignment place).literal
-reason_of trail clauses place number clause ready inside is there = ready.fits.reasons.is_reason place no_literal number clause inside is there
+reason_of place {number = number} {clause = clause} ready inside is there = ready.fits.reasons.is_reason place no_literal number clause inside is there
 
 pub overflow_add-analysis : goal.overflow_add-analysis
 overflow_add-analysis c =
-    let a = c.args.trail.now.assignment in
-    let old = c.args.analysis.now in
-    let place = c.args.place in
-    let within : place < length a.literals = omega (arith, c.requires.walk.within) in
-    let clause = c.get.result.now in
-    let forces = reason_of c.args.trail.now c.args.pool.now.clauses place c.args.number clause c.requires.ready within c.requires.choice.0 c.get.ensures in
-    let few = few_more a c.requires.ready.is_trail c.args.pool.now.clauses c.args.marks.now old.chain old.kept.items old.left place c.requires.walk c.requires.marked clause c.args.number c.get.ensures forces c.requires.choice
-    c.mark_clause.new.marks c.in_ok-opened.opened c.in_ok-opened.ensures in
+    let within : c.args.place < length c.args.trail.now.assignment.literals = omega (arith, c.requires.walk.within) in
+    let forces = reason_of c.args.place c.requires.ready within c.requires.choice.0 c.get.ensures in
+    let few = few_more c.requires.ready.is_trail c.args.place c.requires.walk c.requires.marked c.args.number c.get.ensures forces c.requires.choice c.in_ok-opened.ensures in
     omega (arith, few, c.literal_at-lit.ensures.room)
+
+pub fewer-analysis-requires-clause-some : goal.fewer-analysis-requires-clause-some
+fewer-analysis-requires-clause-some c =
+    let within : c.args.place < length c.args.trail.now.assignment.literals = omega (arith, c.requires.walk.within) in
+    let forces = reason_of c.args.place c.requires.ready within c.requires.choice.0 c.get.ensures in
+    some_more c.requires.ready.is_trail c.args.place c.requires.walk c.requires.marked c.args.number c.get.ensures forces c.requires.choice c.in_ok-opened.ensures
 
 pub remove-requires-clause-inside : goal.remove-requires-clause-inside
 remove-requires-clause-inside c =
@@ -63,31 +57,15 @@ remove-requires-clause-marked c =
     let variable = c.variable-variable.ensures.value ∙ ap (λ (l : Literal). l.variable) c.literal_at-lit.ensures.is in
     ap (bit_at c.mark_clause.new.marks) variable ∙ c.in_ok-opened.ensures.kept (set_at c.args.trail.now.assignment c.args.place).literal.variable c.requires.marked
 
-pub fewer-analysis-requires-clause-some : goal.fewer-analysis-requires-clause-some
-fewer-analysis-requires-clause-some c =
-    let a = c.args.trail.now.assignment in
-    let old = c.args.analysis.now in
-    let place = c.args.place in
-    let within : place < length a.literals = omega (arith, c.requires.walk.within) in
-    let clause = c.get.result.now in
-    let forces = reason_of c.args.trail.now c.args.pool.now.clauses place c.args.number clause c.requires.ready within c.requires.choice.0 c.get.ensures in
-    some_more a c.requires.ready.is_trail c.args.pool.now.clauses c.args.marks.now old.chain old.kept.items old.left place c.requires.walk c.requires.marked clause c.args.number c.get.ensures forces c.requires.choice
-    c.mark_clause.new.marks c.in_ok-opened.opened c.in_ok-opened.ensures
-
 pub returns : goal.returns
 returns c =
-    let a = c.args.trail.now.assignment in
-    let clauses = c.args.pool.now.clauses in
+    let there = (set_at c.args.trail.now.assignment c.args.place).literal in
     let old = c.args.analysis.now in
-    let place = c.args.place in
-    let within : place < length a.literals = omega (arith, c.requires.walk.within) in
-    let clause = c.get.result.now in
-    let forces = reason_of c.args.trail.now clauses place c.args.number clause c.requires.ready within c.requires.choice.0 c.get.ensures in
+    let within : c.args.place < length c.args.trail.now.assignment.literals = omega (arith, c.requires.walk.within) in
+    let forces = reason_of c.args.place c.requires.ready within c.requires.choice.0 c.get.ensures in
     let lit = c.literal_at-lit.ensures.is in
-    let step = resolve_step a c.requires.ready.is_trail clauses c.args.marks.now old.chain old.kept.items old.left place c.requires.walk c.requires.marked clause c.args.number c.get.ensures forces c.requires.choice
-    c.mark_clause.new.marks c.in_ok-opened.opened c.in_ok-opened.ensures c.fewer-analysis.result c.fewer-analysis.ensures in
-    let variable = c.variable-variable.ensures.value ∙ ap (λ (l : Literal). l.variable) lit in
-    let marks : set c.mark_clause.new.marks (set_at a place).literal.variable false ≡ c.remove.new.self = sym (c.remove.ensures ∙ ap (λ v. set c.mark_clause.new.marks v false) variable) in
-    let chain : with_step old.chain (opposite (set_at a place).literal) c.args.number ≡ c.push.new.self = sym (c.in_ok-push.ensures.ok ∙ ap (λ l. with_step old.chain l c.args.number) (c.opposite.ensures ∙ ap opposite lit)) in
-    subst (λ ms. IsWalk a clauses ms c.push.new.self old.kept.items c.fewer-analysis.result place) marks
-    (subst (λ x. IsWalk a clauses (set c.mark_clause.new.marks (set_at a place).literal.variable false) x old.kept.items c.fewer-analysis.result place) chain step)
+    let step = resolve_step c.requires.ready.is_trail c.args.place c.requires.walk c.requires.marked c.args.number c.get.ensures forces c.requires.choice c.in_ok-opened.ensures c.fewer-analysis.result c.fewer-analysis.ensures in
+    let marks : set c.mark_clause.new.marks there.variable false ≡ c.remove.new.self = sym (c.remove.ensures ∙ ap (λ v. set c.mark_clause.new.marks v false) (c.variable-variable.ensures.value ∙ ap (λ (l : Literal). l.variable) lit)) in
+    let chain : with_step old.chain (opposite there) c.args.number ≡ c.push.new.self = sym (c.in_ok-push.ensures.ok ∙ ap (λ l. with_step old.chain l c.args.number) (c.opposite.ensures ∙ ap opposite lit)) in
+    subst (λ ms. IsWalk c.args.trail.now.assignment c.args.pool.now.clauses ms c.push.new.self old.kept.items c.fewer-analysis.result c.args.place) marks
+    (subst (λ x. IsWalk c.args.trail.now.assignment c.args.pool.now.clauses (set c.mark_clause.new.marks there.variable false) x old.kept.items c.fewer-analysis.result c.args.place) chain step)

@@ -10,11 +10,11 @@ has-requires c = omega (arith, c.variable.ensures.value, c.literal_at-lit.ensure
 pub returns-then-not-has : goal.returns-then-not-has
 returns-then-not-has c =
     let variable = c.variable.ensures.value ∙ ap (λ (l : Literal). l.variable) c.literal_at-lit.ensures.is in
-    pass_step c.args.trail.now.assignment c.requires.ready.is_trail c.args.pool.now.clauses c.args.marks.now c.args.analysis.now.chain c.args.analysis.now.kept.items c.args.analysis.now.left c.args.place c.requires.walk
+    pass_step c.requires.ready.is_trail c.args.place c.requires.walk
     (ap (bit_at c.args.marks.now) (sym variable) ∙ (sym c.has.ensures ∙ c.if-not-has.true))
 
 pub reason_at-requires-clause-several : goal.reason_at-requires-clause-several
 reason_at-requires-clause-several c =
     let variable = c.variable.ensures.value ∙ ap (λ (l : Literal). l.variable) c.literal_at-lit.ensures.is in
-    another_present c.args.trail.now.assignment c.requires.ready.is_trail c.args.pool.now.clauses c.args.marks.now c.args.analysis.now.chain c.args.analysis.now.kept.items c.args.analysis.now.left c.args.place c.requires.walk
+    another_present c.requires.ready.is_trail c.args.place c.requires.walk
     (ap (bit_at c.args.marks.now) (sym variable) ∙ (sym c.has.ensures ∙ c.if-not-has.false))

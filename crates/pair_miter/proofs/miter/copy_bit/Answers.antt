@@ -10,11 +10,5 @@ overflow_sub-variable c =
 pub get-requires : goal.get-requires
 get-requires c =
     let p = c.args.numbering.now in
-    omega (
-      arith,
-      c.variable.ensures,
-      line_variable-from p.circuit p.f p.g c.args.side c.args.line,
-      line_variable-below p.circuit p.f p.g c.args.side c.args.line c.requires.line c.requires.relevant,
-      few_of_lines p.circuit p.f p.g,
-      c.requires.whole,
-    )
+    let below = line_variable-below p.circuit p.f p.g c.args.side c.args.line c.requires.line c.requires.relevant in
+    omega (arith, c.variable.ensures, line_variable-from p.circuit p.f p.g c.args.side c.args.line, below, few_of_lines p.circuit p.f p.g, c.requires.whole)

@@ -1,41 +1,68 @@
-use Rattle.std.proofs.Common.{◌∙◌, sym, ap, [], ◌∷◌, ◌++◌}
-use Rattle.std.specs.Prelude.{not}
+use Rattle.std.proofs.Common.{◌≡◌, ℕ, refl, sym, subst, [], ◌∷◌, ◌∙◌, ◌++◌, ◌+◌, drop}
+use Rattle.std.specs.Prelude.{Bool, not, List}
+use Rattle.clause_pool.specs.Clauses.{Clause, Clauses}
 use Rattle.clause_pool.specs.Literal.{Literal, opposite}
-use Rattle.pair_miter.specs.Rows.{variables, decided_rows, with_each, with_all}
-use Rattle.pair_miter.proofs.AddSteps.{writes_err, writes_left, first_few, left_few, first_fails}
+use Rattle.pair_miter.specs.Rows.{variables, decided_rows, signed_literal, with_each, with_all}
+use Rattle.pair_miter.proofs.AddSteps.{Remains, remains_all, remains_last_few, step, step_fails, step_few, writes_err, writes_last}
+use Rattle.pair_miter.proofs.OperandSteps.{variable_at, constant_at, variables_end}
 use Rattle.pair_miter.proofs.RowParts.{decided_parts}
 use Rattle.pair_miter.proofs.rows.write_decided.Goals as goal
+use Rattle.pair_miter.proofs.rows.write_decided.Goals.{in-Some+in_ok-write, in_default}
 
-pub write_each-requires-clause-few : goal.write_each-requires-clause-few
-write_each-requires-clause-few c =
-    let l = c.args.l in
-    let d = c.args.decides in
-    let xs = variables c.args.operands.now in
-    let parted = decided_parts d l c.args.operands.now (sym c.has_constant.ensures ∙ c.if-has_constant.false) in
-    first_few c.args.pool.now (decided_rows d l c.args.operands.now) (with_each l (not d) xs) (with_all (opposite l) d xs ∷ []) parted c.requires.few
+module _ (d : Bool) (l : Literal) (all : List ℕ) {old now : Clauses} {rows : List Clause} {xs : List ℕ} (remains : Remains old now rows (with_each l (not d) xs ++ with_all (opposite l) d all ∷ [])) where
+  other : {ys : List ℕ} → xs ≡ ys → Remains old now rows (with_each l (not d) ys ++ with_all (opposite l) d all ∷ [])
+  other same = subst (λ vs. Remains old now rows (with_each l (not d) vs ++ with_all (opposite l) d all ∷ [])) same remains
 
-pub returns-in_err-write_each-clause-written : goal.returns-in_err-write_each-clause-written
-returns-in_err-write_each-clause-written c =
-    let l = c.args.l in
-    let d = c.args.decides in
-    let xs = variables c.args.operands.now in
-    let parted = decided_parts d l c.args.operands.now (sym c.has_constant.ensures ∙ c.if-has_constant.false) in
-    writes_err c.from_residual.result c.from_residual.ensures.0
-    (first_fails c.args.pool.now c.write_each.new.pool (decided_rows d l c.args.operands.now) (with_each l (not d) xs) (with_all (opposite l) d xs ∷ []) parted c.in_err-write_each.ensures.written)
+  -- the row of the next variable comes first
+  next_row : {x : ℕ} {ys : List ℕ} → xs ≡ x ∷ ys → Remains old now rows ((l ∷ signed_literal (not d) x ∷ []) ∷ with_each l (not d) ys ++ with_all (opposite l) d all ∷ [])
+  next_row next = other next
+
+  -- only the last row is left
+  last_row : {k : Literal} → xs ≡ [] → k ≡ opposite l → Remains old now rows (with_all k d all ∷ [])
+  last_row none is = subst (λ (k : Literal). Remains old now rows (with_all k d all ∷ [])) (sym is) (other none)
+
+pub loop-operand-init : goal.loop-operand-init
+loop-operand-init c =
+    let rows = decided_rows c.args.decides c.args.l c.args.operands.now in
+    record { same = refl; remains = subst (Remains c.args.pool.now c.args.pool.now rows) (decided_parts c.args.decides c.args.l c.args.operands.now (sym c.has_constant.ensures ∙ c.if-has_constant.false)) (remains_all c.args.pool.now rows) }
+
+pub write-requires-in-Some-clause-few : goal.write-requires-in-Some-clause-few
+write-requires-in-Some-clause-few c =
+    let next = variable_at c.args.operands.now c.loop-operand.operand-index c.operand-item.result c.loop-operand-test.true c.operand-item.is c.in-Some.x (sym c.variable.ensures ∙ c.in-Some.is) in
+    step_few (next_row c.args.decides c.args.l (variables c.args.operands.now) c.loop-operand.invariant.remains next) (λ j. c.args.l ∷ c.literal-lit.ensures j ∷ []) c.requires.few
+
+pub returns-in_err-write-clause-written : goal.returns-in_err-write-clause-written
+returns-in_err-write-clause-written c =
+    let next = variable_at c.args.operands.now c.loop-operand.operand-index c.operand-item.result c.loop-operand-test.true c.operand-item.is c.in-Some.x (sym c.variable.ensures ∙ c.in-Some.is) in
+    let remains = next_row c.args.decides c.args.l (variables c.args.operands.now) c.loop-operand.invariant.remains next in
+    writes_err c.from_residual.result c.from_residual.ensures.0 (step_fails remains (λ j. c.args.l ∷ c.literal-lit.ensures j ∷ []) c.in_err-write.ensures.written)
+
+pub loop-operand-preserved : goal.loop-operand-preserved
+loop-operand-preserved c =
+    let operands = c.args.operands.now in
+    let i = c.loop-operand.operand-index in
+    let test = c.loop-operand-test.true in
+    let h = c.loop-operand.invariant in
+    let left = with_each c.args.l (not c.args.decides) (variables (drop (i + 1) operands)) ++ with_all (opposite c.args.l) c.args.decides (variables operands) ∷ [] in
+    let at = λ (pool : Clauses). Remains c.args.pool.now pool (decided_rows c.args.decides c.args.l operands) left in
+    elim c.match-variable.branch [
+      | in-Some+in_ok-write w ↦
+          let next = variable_at operands i c.operand-item.result test c.operand-item.is w.in-Some.x (sym c.variable.ensures ∙ w.in-Some.is) in
+          record {
+            same = w.tidier-is ∙ (w.in_ok-write.ensures.variables ∙ h.same);
+            remains = subst at (sym w.pool-is) (step (next_row c.args.decides c.args.l (variables operands) h.remains next) (λ j. c.args.l ∷ w.literal-lit.ensures j ∷ []) w.in_ok-write.ensures.written);
+          }
+      | in_default w ↦
+          let next = constant_at operands i c.operand-item.result test c.operand-item.is (sym c.variable.ensures ∙ w.in_default.is) in
+          record { same = w.tidier-is ∙ h.same; remains = subst at (sym w.pool-is) (other c.args.decides c.args.l (variables operands) h.remains next) }
+    ]
 
 pub write_all-requires-clause-few : goal.write_all-requires-clause-few
 write_all-requires-clause-few c =
-    let l = c.args.l in
-    let d = c.args.decides in
-    let xs = variables c.args.operands.now in
-    let parted = decided_parts d l c.args.operands.now (sym c.has_constant.ensures ∙ c.if-has_constant.false) ∙ ap (λ (k : Literal). with_each l (not d) xs ++ with_all k d xs ∷ []) (sym c.opposite.ensures) in
-    left_few c.args.pool.now c.write_each.new.pool (decided_rows d l c.args.operands.now) (with_each l (not d) xs) (with_all c.opposite.result d xs ∷ []) parted c.in_ok-write_each.ensures.written c.requires.few
+    let none = variables_end c.args.operands.now c.loop-operand.operand-index c.loop-operand-test.false in
+    remains_last_few (last_row c.args.decides c.args.l (variables c.args.operands.now) c.loop-operand.invariant.remains none c.opposite.ensures) c.requires.few
 
 pub returns-clause-written : goal.returns-clause-written
 returns-clause-written c =
-    let l = c.args.l in
-    let d = c.args.decides in
-    let xs = variables c.args.operands.now in
-    let parted = decided_parts d l c.args.operands.now (sym c.has_constant.ensures ∙ c.if-has_constant.false) ∙ ap (λ (k : Literal). with_each l (not d) xs ++ with_all k d xs ∷ []) (sym c.opposite.ensures) in
-    writes_left c.write_all.result c.args.pool.now c.write_each.new.pool c.write_all.new.pool (decided_rows d l c.args.operands.now) (with_each l (not d) xs) (with_all c.opposite.result d xs ∷ []) parted
-    c.in_ok-write_each.ensures.written c.write_all.ensures.written
+    let none = variables_end c.args.operands.now c.loop-operand.operand-index c.loop-operand-test.false in
+    writes_last c.write_all.result c.write_all.new.pool (last_row c.args.decides c.args.l (variables c.args.operands.now) c.loop-operand.invariant.remains none c.opposite.ensures) c.write_all.ensures.written

@@ -1,38 +1,46 @@
-use Rattle.std.proofs.Common.{◌≡◌, ◌∙◌, ◌+◌, ◌<◌, ◌^◌, sym, ap, subst}
-use Rattle.std.specs.Prelude.{List, not, length}
+use Rattle.std.proofs.Common.{◌≡◌, ◌∙◌, ◌+◌, ◌<◌, ◌^◌, ℕ, sym, ap, subst}
+use Rattle.std.specs.Prelude.{Bool, false, List, not, length}
+use Rattle.net_model.specs.declared.gate.Kind.{Kind}
+use Rattle.net_model.specs.declared.operation.Fold.TheVariants.{AllOf, AnyOf, OddOf}
+use Rattle.net_model.specs.declared.operation.Operation.{Operation}
 use Rattle.net_model.specs.declared.operation.Operation.TheVariants.{Folded, Chosen}
 use Rattle.net_model.specs.Gate.{operation_of, inverts}
-use Rattle.clause_pool.specs.Clauses.{Clause}
+use Rattle.clause_pool.specs.Literal.{Literal}
+use Rattle.clause_pool.specs.Clauses.{Clause, Clauses}
+use Rattle.pair_miter.specs.Operand.{Operand}
 use Rattle.pair_miter.specs.Adds.{Writes}
 use Rattle.pair_miter.specs.Miter.{tidy}
-use Rattle.pair_miter.specs.Rows.{output_literal}
+use Rattle.pair_miter.specs.Rows.{decided_rows, operation_rows, gate_rows}
 use Rattle.pair_miter.proofs.RowParts.{rows_of_gate}
 use Rattle.pair_miter.proofs.rows.write_gate.Goals as goal
 
-pub write_folded-requires-clause-few : goal.write_folded-requires-clause-few
-write_folded-requires-clause-few c =
-    let e : operation_of c.args.kind ≡ (Folded c.in-Folded.fold) = sym c.operation.ensures ∙ c.in-Folded.is in
-    let y : c.literal-y.result ≡ output_literal (inverts c.args.kind) c.args.output = c.literal-y.ensures ∙ ap (λ b. record { variable = c.args.output; positive = not b }) c.inverts.ensures in
-    let rows = rows_of_gate c.args.kind (Folded c.in-Folded.fold) c.literal-y.result c.args.output c.args.helper c.args.operands.now e y in
-    subst (λ (xs : List Clause). length c.args.pool.now.clauses + length (tidy xs) < 2 ^ 30) (sym rows) c.requires.few
+rows : (kind : Kind) (operation : Operation) (output helper : ℕ) (operands : List Operand) {asked : Operation} {inverted : Bool} {y : Literal} → asked ≡ operation_of kind → asked ≡ operation → inverted ≡ inverts kind
+    → y ≡ record { variable = output; positive = not inverted } → operation_rows operation y helper operands ≡ gate_rows kind output helper operands
+rows kind operation output helper operands {y = y} told is turned y_is = rows_of_gate kind operation y output helper operands (sym told ∙ is) (y_is ∙ ap (λ b. record { variable = output; positive = not b }) turned)
 
-pub returns-in-Folded-clause-written : goal.returns-in-Folded-clause-written
-returns-in-Folded-clause-written c =
-    let e : operation_of c.args.kind ≡ (Folded c.in-Folded.fold) = sym c.operation.ensures ∙ c.in-Folded.is in
-    let y : c.literal-y.result ≡ output_literal (inverts c.args.kind) c.args.output = c.literal-y.ensures ∙ ap (λ b. record { variable = c.args.output; positive = not b }) c.inverts.ensures in
-    let rows = rows_of_gate c.args.kind (Folded c.in-Folded.fold) c.literal-y.result c.args.output c.args.helper c.args.operands.now e y in
-    subst (λ (xs : List Clause). Writes c.write_folded.result c.args.pool.now c.write_folded.new.pool (tidy xs)) rows c.write_folded.ensures.written
+few : (pool : Clauses) {some all : List Clause} → some ≡ all → length pool.clauses + length (tidy all) < 2 ^ 30 → length pool.clauses + length (tidy some) < 2 ^ 30
+few pool same h = subst (λ (xs : List Clause). length pool.clauses + length (tidy xs) < 2 ^ 30) (sym same) h
+
+pub write_decided-requires-clause-few : goal.write_decided-requires-clause-few
+write_decided-requires-clause-few c = few c.args.pool.now (ap (λ (l : Literal). decided_rows false l c.args.operands.now) c.opposite.ensures ∙ rows c.args.kind (Folded AllOf) c.args.output c.args.helper c.args.operands.now c.operation.ensures (cc) c.inverts.ensures c.literal-y.ensures) c.requires.few
+
+pub write_decided-requires-in-Folded-AnyOf-clause-few : goal.write_decided-requires-in-Folded-AnyOf-clause-few
+write_decided-requires-in-Folded-AnyOf-clause-few c = few c.args.pool.now (rows c.args.kind (Folded AnyOf) c.args.output c.args.helper c.args.operands.now c.operation.ensures (cc) c.inverts.ensures c.literal-y.ensures) c.requires.few
+
+pub write_odd-requires-clause-few : goal.write_odd-requires-clause-few
+write_odd-requires-clause-few c = few c.args.pool.now (rows c.args.kind (Folded OddOf) c.args.output c.args.helper c.args.operands.now c.operation.ensures (cc) c.inverts.ensures c.literal-y.ensures) c.requires.few
 
 pub write_chosen-requires-clause-few : goal.write_chosen-requires-clause-few
-write_chosen-requires-clause-few c =
-    let e : operation_of c.args.kind ≡ Chosen = sym c.operation.ensures ∙ c.in-Chosen.is in
-    let y : c.literal-y.result ≡ output_literal (inverts c.args.kind) c.args.output = c.literal-y.ensures ∙ ap (λ b. record { variable = c.args.output; positive = not b }) c.inverts.ensures in
-    let rows = rows_of_gate c.args.kind Chosen c.literal-y.result c.args.output c.args.helper c.args.operands.now e y in
-    subst (λ (xs : List Clause). length c.args.pool.now.clauses + length (tidy xs) < 2 ^ 30) (sym rows) c.requires.few
+write_chosen-requires-clause-few c = few c.args.pool.now (rows c.args.kind Chosen c.args.output c.args.helper c.args.operands.now c.operation.ensures (cc) c.inverts.ensures c.literal-y.ensures) c.requires.few
+
+pub returns-in-Folded-AllOf-clause-written : goal.returns-in-Folded-AllOf-clause-written
+returns-in-Folded-AllOf-clause-written c = subst (λ (xs : List Clause). Writes c.write_decided.result c.args.pool.now c.write_decided.new.pool (tidy xs)) (ap (λ (l : Literal). decided_rows false l c.args.operands.now) c.opposite.ensures ∙ rows c.args.kind (Folded AllOf) c.args.output c.args.helper c.args.operands.now c.operation.ensures (cc) c.inverts.ensures c.literal-y.ensures) c.write_decided.ensures.written
+
+pub returns-in-Folded-AnyOf-clause-written : goal.returns-in-Folded-AnyOf-clause-written
+returns-in-Folded-AnyOf-clause-written c = subst (λ (xs : List Clause). Writes c.write_decided-in-Folded-AnyOf.result c.args.pool.now c.write_decided-in-Folded-AnyOf.new.pool (tidy xs)) (rows c.args.kind (Folded AnyOf) c.args.output c.args.helper c.args.operands.now c.operation.ensures (cc) c.inverts.ensures c.literal-y.ensures) c.write_decided-in-Folded-AnyOf.ensures.written
+
+pub returns-in-Folded-OddOf-clause-written : goal.returns-in-Folded-OddOf-clause-written
+returns-in-Folded-OddOf-clause-written c = subst (λ (xs : List Clause). Writes c.write_odd.result c.args.pool.now c.write_odd.new.pool (tidy xs)) (rows c.args.kind (Folded OddOf) c.args.output c.args.helper c.args.operands.now c.operation.ensures (cc) c.inverts.ensures c.literal-y.ensures) c.write_odd.ensures.written
 
 pub returns-in-Chosen-clause-written : goal.returns-in-Chosen-clause-written
-returns-in-Chosen-clause-written c =
-    let e : operation_of c.args.kind ≡ Chosen = sym c.operation.ensures ∙ c.in-Chosen.is in
-    let y : c.literal-y.result ≡ output_literal (inverts c.args.kind) c.args.output = c.literal-y.ensures ∙ ap (λ b. record { variable = c.args.output; positive = not b }) c.inverts.ensures in
-    let rows = rows_of_gate c.args.kind Chosen c.literal-y.result c.args.output c.args.helper c.args.operands.now e y in
-    subst (λ (xs : List Clause). Writes c.write_chosen.result c.args.pool.now c.write_chosen.new.pool (tidy xs)) rows c.write_chosen.ensures.written
+returns-in-Chosen-clause-written c = subst (λ (xs : List Clause). Writes c.write_chosen.result c.args.pool.now c.write_chosen.new.pool (tidy xs)) (rows c.args.kind Chosen c.args.output c.args.helper c.args.operands.now c.operation.ensures (cc) c.inverts.ensures c.literal-y.ensures) c.write_chosen.ensures.written

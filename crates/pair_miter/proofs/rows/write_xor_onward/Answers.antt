@@ -1,17 +1,19 @@
-use Rattle.std.proofs.Common.{◌≡◌, ℕ, refl, sym, ap, subst, [], ◌∷◌, ◌∙◌, ◌+◌, ◌<◌, ◌≤◌, ◌^◌, drop, length, arith}
+use Rattle.std.proofs.Common.{◌≡◌, ℕ, refl, sym, ap, subst, [], ◌∷◌, ◌∙◌, ◌+◌, ◌≤◌, drop, length, arith}
 use Rattle.std.specs.Prelude.{List}
 use Rattle.clause_pool.specs.Literal.{Literal, pos_literal}
-use Rattle.clause_pool.specs.Clauses.{Clauses}
-use Rattle.pair_miter.specs.Adds.{Adds, Keeps}
+use Rattle.clause_pool.specs.Clauses.{Clause, Clauses}
 use Rattle.pair_miter.specs.Marks.{AreHelpers}
 use Rattle.clause_pool.specs.Proper.{IsVariable}
-use Rattle.pair_miter.specs.Miter.{tidy}
 use Rattle.pair_miter.specs.Rows.{variables, xor_of_two, xor_onward}
-use Rattle.pair_miter.proofs.AddSteps.{Remains, writes_err, writes_last, remains_all, remains_less, remains_few, remains_keeps}
-use Rattle.pair_miter.proofs.RowParts.{onward_next}
+use Rattle.pair_miter.proofs.AddSteps.{Remains, writes_err, writes_last, remains_all, remains_less, remains_few, remains_fails, remains_last_few}
+use Rattle.pair_miter.proofs.RowParts.{onward_parts}
 use Rattle.pair_miter.proofs.OperandSteps.{variable_at, constant_at, operand_within, variable_within, variables_end}
 use Rattle.pair_miter.proofs.rows.write_xor_onward.Goals as goal
 use Rattle.pair_miter.proofs.rows.write_xor_onward.Goals.{in-Some+in_ok-write_xor_of_two, in_default}
+
+-- where no variable is left, the last rows are
+onward_last : (y : Literal) (part : ℕ) (before : Literal) (last : ℕ) {old now : Clauses} {all : List Clause} {xs : List ℕ} → xs ≡ [] → Remains old now all (xor_onward y part before (last ∷ xs)) → Remains old now all (xor_of_two y before (pos_literal last))
+onward_last y part before last {old} {now} {all} none remains = subst (λ vs. Remains old now all (xor_onward y part before (last ∷ vs))) none remains
 
 pub loop-operand-init : goal.loop-operand-init
 loop-operand-init c = record {
@@ -24,31 +26,22 @@ loop-operand-init c = record {
 
 pub write_xor_of_two-requires-clause-few : goal.write_xor_of_two-requires-clause-few
 write_xor_of_two-requires-clause-few c =
-    let y = c.args.y in
-    let part = c.loop-operand.part in
-    let before = c.loop-operand.before in
-    let last = c.loop-operand.last in
-    let x = c.in-Some.x in
-    let all = xor_onward y c.args.helper c.args.first (c.args.second ∷ variables c.args.operands.now) in
-    let i = c.loop-operand.operand-index in
-    let next = variable_at c.args.operands.now i c.operand-item.result c.loop-operand-test.true c.operand-item.is x (sym c.variable.ensures ∙ c.in-Some.is) in
-    let rest = variables (drop (i + 1) c.args.operands.now) in
-    let remains = onward_next c.args.pool.now c.loop-operand.pool all y before part last x (variables (drop i c.args.operands.now)) rest next c.loop-operand.invariant.remains in
-    subst (λ (l : Literal). length c.loop-operand.pool.clauses + length (tidy (xor_of_two l before (pos_literal last))) < 2 ^ 30) (sym c.literal-here.ensures)
-    (remains_few c.args.pool.now c.loop-operand.pool all (xor_of_two (pos_literal part) before (pos_literal last)) (xor_onward y (part + 1) (pos_literal part) (x ∷ rest)) (2 ^ 30) remains c.requires.few)
+    let next = variable_at c.args.operands.now c.loop-operand.operand-index c.operand-item.result c.loop-operand-test.true c.operand-item.is c.in-Some.x (sym c.variable.ensures ∙ c.in-Some.is) in
+    remains_few c.loop-operand.invariant.remains (onward_parts c.args.y c.loop-operand.before c.loop-operand.part c.loop-operand.last c.literal-here.ensures next) c.requires.few
+
+pub returns-in_err-write_xor_of_two-clause-written : goal.returns-in_err-write_xor_of_two-clause-written
+returns-in_err-write_xor_of_two-clause-written c =
+    let next = variable_at c.args.operands.now c.loop-operand.operand-index c.operand-item.result c.loop-operand-test.true c.operand-item.is c.in-Some.x (sym c.variable.ensures ∙ c.in-Some.is) in
+    let parts = onward_parts c.args.y c.loop-operand.before c.loop-operand.part c.loop-operand.last c.literal-here.ensures next in
+    writes_err c.from_residual.result c.from_residual.ensures.0 (remains_fails c.loop-operand.invariant.remains parts c.in_err-write_xor_of_two.ensures.written)
 
 pub loop-operand-preserved : goal.loop-operand-preserved
 loop-operand-preserved c =
     let i = c.loop-operand.operand-index in
     let old = c.args.pool.now in
-    let now = c.loop-operand.pool in
-    let new = c.match-variable.pool in
     let all = xor_onward c.args.y c.args.helper c.args.first (c.args.second ∷ variables c.args.operands.now) in
     let rest = variables (drop (i + 1) c.args.operands.now) in
     let part = c.loop-operand.part in
-    let before = c.loop-operand.before in
-    let last = c.loop-operand.last in
-    let rows = λ (xs : List ℕ). xor_onward c.args.y part before (last ∷ xs) in
     let test = c.loop-operand-test.true in
     let h = c.loop-operand.invariant in
     let at = λ (s : Clauses × ℕ × Literal × ℕ). Remains old s.0 all (xor_onward c.args.y s.1 s.2 (s.3 ∷ rest)) in
@@ -56,20 +49,16 @@ loop-operand-preserved c =
       | in-Some+in_ok-write_xor_of_two w ↦
           let x = w.in-Some.x in
           let next = variable_at c.args.operands.now i c.operand-item.result test c.operand-item.is x (sym c.variable.ensures ∙ w.in-Some.is) in
-          let here = pos_literal part in
-          let is_here = w.literal-here.ensures in
-          let parts = xor_of_two here before (pos_literal last) in
-          let adds = subst (λ (l : Literal). Adds now w.write_xor_of_two.new.pool (tidy (xor_of_two l before (pos_literal last)))) is_here w.in_ok-write_xor_of_two.ensures.written in
-          let less = remains_less old now w.write_xor_of_two.new.pool all parts (xor_onward c.args.y (part + 1) here (x ∷ rest)) (subst (λ xs. Remains old now all (rows xs)) next h.remains) adds in
+          let less = remains_less h.remains (onward_parts c.args.y c.loop-operand.before part c.loop-operand.last w.literal-here.ensures next) w.in_ok-write_xor_of_two.ensures.written in
           let enough : 3 + length rest ≡ 2 + length (variables (drop i c.args.operands.now)) = omega (arith, ap length next) in
           let helpers : AreHelpers c.args.tidier.now part (3 + length rest) = subst (AreHelpers c.args.tidier.now part) (sym enough) h.helpers in
           let used = helpers (omega arith) in
           record {
             same = w.tidier-is ∙ (w.in_ok-write_xor_of_two.ensures.variables ∙ h.same);
-            before = subst (λ (l : Literal). l.variable ≤ c.args.tidier.now) (sym (w.before-is ∙ is_here)) (omega (arith, used));
+            before = subst (λ (l : Literal). l.variable ≤ c.args.tidier.now) (sym (w.before-is ∙ w.literal-here.ensures)) (omega (arith, used));
             last = subst (IsVariable c.args.tidier.now) (sym w.last-is) (variable_within c.args.tidier.now x c.operand-item.result (operand_within c.args.operands.now i c.operand-item.result test c.operand-item.is c.args.tidier.now c.requires.operands) (sym c.variable.ensures ∙ w.in-Some.is));
             helpers = λ big. let is = w.part-is in (omega arith, omega (arith, used));
-            remains = subst at (λ j. (sym w.pool-is j, sym w.part-is j, sym (w.before-is ∙ is_here) j, sym w.last-is j)) less;
+            remains = subst at (λ j. (sym w.pool-is j, sym w.part-is j, sym w.before-is j, sym w.last-is j)) less;
           }
       | in_default w ↦
           let next = constant_at c.args.operands.now i c.operand-item.result test c.operand-item.is (sym c.variable.ensures ∙ w.in_default.is) in
@@ -78,40 +67,18 @@ loop-operand-preserved c =
             before = subst (λ (l : Literal). l.variable ≤ c.args.tidier.now) (sym w.before-is) h.before;
             last = subst (IsVariable c.args.tidier.now) (sym w.last-is) h.last;
             helpers = subst (λ xs. AreHelpers c.args.tidier.now c.match-variable.part (2 + length xs)) next (subst (λ n. AreHelpers c.args.tidier.now n (2 + length (variables (drop i c.args.operands.now)))) (sym w.part-is) h.helpers);
-            remains = subst at (λ j. (sym w.pool-is j, sym w.part-is j, sym w.before-is j, sym w.last-is j)) (subst (λ xs. Remains old now all (rows xs)) next h.remains);
+            remains =
+                subst at (λ j. (sym w.pool-is j, sym w.part-is j, sym w.before-is j, sym w.last-is j))
+                (subst (λ xs. Remains old c.loop-operand.pool all (xor_onward c.args.y part c.loop-operand.before (c.loop-operand.last ∷ xs))) next h.remains);
           }
     ]
 
 pub write_xor_of_two-requires-2-clause-few : goal.write_xor_of_two-requires-2-clause-few
 write_xor_of_two-requires-2-clause-few c =
-    let i = c.loop-operand.operand-index in
-    let all = xor_onward c.args.y c.args.helper c.args.first (c.args.second ∷ variables c.args.operands.now) in
-    let none = variables_end c.args.operands.now i c.loop-operand-test.false in
-    let last = xor_of_two c.args.y c.loop-operand.before (pos_literal c.loop-operand.last) in
-    let remains = subst (λ xs. Remains c.args.pool.now c.loop-operand.pool all (xor_onward c.args.y c.loop-operand.part c.loop-operand.before (c.loop-operand.last ∷ xs))) none c.loop-operand.invariant.remains in
-    remains_few c.args.pool.now c.loop-operand.pool all last [] (2 ^ 30) remains c.requires.few
+    let none = variables_end c.args.operands.now c.loop-operand.operand-index c.loop-operand-test.false in
+    remains_last_few (onward_last c.args.y c.loop-operand.part c.loop-operand.before c.loop-operand.last none c.loop-operand.invariant.remains) c.requires.few
 
 pub returns-clause-written : goal.returns-clause-written
 returns-clause-written c =
-    let i = c.loop-operand.operand-index in
-    let all = xor_onward c.args.y c.args.helper c.args.first (c.args.second ∷ variables c.args.operands.now) in
-    let none = variables_end c.args.operands.now i c.loop-operand-test.false in
-    let last = xor_of_two c.args.y c.loop-operand.before (pos_literal c.loop-operand.last) in
-    let remains = subst (λ xs. Remains c.args.pool.now c.loop-operand.pool all (xor_onward c.args.y c.loop-operand.part c.loop-operand.before (c.loop-operand.last ∷ xs))) none c.loop-operand.invariant.remains in
-    writes_last c.write_xor_of_two-2.result c.args.pool.now c.loop-operand.pool c.write_xor_of_two-2.new.pool all last remains c.write_xor_of_two-2.ensures.written
-
-pub returns-in_err-write_xor_of_two-clause-written : goal.returns-in_err-write_xor_of_two-clause-written
-returns-in_err-write_xor_of_two-clause-written c =
-    let y = c.args.y in
-    let part = c.loop-operand.part in
-    let before = c.loop-operand.before in
-    let last = c.loop-operand.last in
-    let x = c.in-Some.x in
-    let all = xor_onward y c.args.helper c.args.first (c.args.second ∷ variables c.args.operands.now) in
-    let i = c.loop-operand.operand-index in
-    let next = variable_at c.args.operands.now i c.operand-item.result c.loop-operand-test.true c.operand-item.is x (sym c.variable.ensures ∙ c.in-Some.is) in
-    let rest = variables (drop (i + 1) c.args.operands.now) in
-    let remains = onward_next c.args.pool.now c.loop-operand.pool all y before part last x (variables (drop i c.args.operands.now)) rest next c.loop-operand.invariant.remains in
-    let keeps = subst (λ (l : Literal). Keeps c.loop-operand.pool c.write_xor_of_two.new.pool (tidy (xor_of_two l before (pos_literal last)))) c.literal-here.ensures c.in_err-write_xor_of_two.ensures.written in
-    writes_err c.from_residual.result c.from_residual.ensures.0
-    (remains_keeps c.args.pool.now c.loop-operand.pool c.write_xor_of_two.new.pool all (xor_of_two (pos_literal part) before (pos_literal last)) (xor_onward y (part + 1) (pos_literal part) (x ∷ rest)) remains keeps)
+    let none = variables_end c.args.operands.now c.loop-operand.operand-index c.loop-operand-test.false in
+    writes_last c.write_xor_of_two-2.result c.write_xor_of_two-2.new.pool (onward_last c.args.y c.loop-operand.part c.loop-operand.before c.loop-operand.last none c.loop-operand.invariant.remains) c.write_xor_of_two-2.ensures.written

@@ -1,22 +1,20 @@
-use Rattle.std.proofs.Common.{◌≡◌, ◌∙◌, ◌<◌, ◌+◌, ◌++◌, ◌∷◌, ◌==◌, [], length, get_or, rules, refl, sym, ap, subst, arith}
-use Rattle.std.specs.Prelude.{List, Some, slice_get, All, Result, Err}
+use Rattle.std.proofs.Common.{◌≡◌, ◌∙◌, ◌<◌, ◌+◌, ◌++◌, ◌∷◌, [], length, rules, sym, ap, subst, arith}
+use Rattle.std.specs.Prelude.{All, Result, Err}
 use Rattle.std.proofs.lemmas.List.{length-append}
 use Rattle.std.proofs.lemmas.List.Elements.{All-append, All-cons, All-nil}
-use Rattle.std.proofs.lemmas.Option.{slice_get_read}
 use Rattle.clause_pool.specs.LiteralCode.{code_of}
 use Rattle.clause_pool.specs.Clauses.{BeginsWith, Clause, Clauses}
 use Rattle.clause_pool.proofs.Numbered.{begins_itself, begins_further}
 use Rattle.clause_pool.specs.Proper.{HasVariablesUpTo}
-use Rattle.pair_miter.specs.ChainView.{ChainView}
 use Rattle.refute_check.specs.declared.refusal.CheckFault.{CheckFault}
 use Rattle.refute_check.specs.declared.refusal.CheckFault.TheVariants.{Refused}
-use Rattle.refute_check.specs.LogRefusal.{AreRightBefore, HasRightLength, IsRuleFor, is_last}
+use Rattle.refute_check.specs.LogRefusal.{AreRightBefore, HasRightLength}
 use Rattle.pair_miter.proofs.Alike.{alike_first}
 use Rattle.pair_miter.specs.Resolution.{AreAlike}
 use Rattle.refute_check.specs.Propagation.{IsReadyFor}
 use Rattle.refute_check.proofs.IndexLemmas.{places_for}
 use Rattle.refute_check.proofs.Chains.{before_first, first_ends, right_log}
-use Rattle.refute_check.proofs.LogSteps.{end_within, refused_step, refused_end, right_step, alike_next}
+use Rattle.refute_check.proofs.LogSteps.{end_within, next_chain, rule_told, refused_step, refused_end, right_step, alike_next}
 use Rattle.refute_check.proofs.log.check_log.Goals as goal
 use Rattle.refute_check.proofs.log.check_log.Goals.{then-not-last+in_ok-add+in_ok-take_in, else-not-last}
 
@@ -45,64 +43,34 @@ wrong_end-requires-clause-end c = end_within c.variables-variables.result c.loop
 
 pub returns-in_err-end-clause-refused : goal.returns-in_err-end-clause-refused
 returns-in_err-end-clause-refused c refusal e =
-    let log = c.args.log.now in
-    let at = c.loop-at.at in
-    let same = c.as_slice-chains.ensures in
-    let inside : at < length log = omega (arith, c.loop-at-test.true, ap length same) in
-    let chain_is : slice_get log at ≡ Some c.index-chains-at.result = slice_get_read log (length log) at c.index-chains-at.result refl inside (c.index-chains-at.is ∙ ap (λ xs. get_or xs at c.index-chains-at.result) same) in
-    let long : HasRightLength c.args.kind c.args.conflicts log = subst (λ xs. HasRightLength c.args.kind c.args.conflicts xs) same (c.has_right_length.ensures.0 c.if-not-has_right_length.false) in
+    let n = next_chain c.args.conflicts c.as_slice-chains.ensures (c.has_right_length.ensures.0 c.if-not-has_right_length.false) c.loop-at-test.true c.index-chains-at.is c.loop-at.invariant.before c.loop-at.invariant.alike in
     let own = c.in_err-end.ensures.refused refusal (search rules) in
-    refused_step c.args.kind c.args.pool.now.clauses c.args.conflicts log at c.index-chains-at.result c.loop-at.pool.clauses long c.loop-at.invariant.before chain_is (c.loop-at.invariant.alike inside) refusal own.0 own.1
+    refused_step n refusal own.0 own.1
 
 pub returns-in-Some-clause-refused : goal.returns-in-Some-clause-refused
 returns-in-Some-clause-refused c refusal e =
-    let clauses = c.args.pool.now.clauses in
-    let log = c.args.log.now in
-    let at = c.loop-at.at in
-    let same = c.as_slice-chains.ensures in
-    let inside : at < length log = omega (arith, c.loop-at-test.true, ap length same) in
-    let chain = c.index-chains-at.result in
-    let chain_is : slice_get log at ≡ Some chain = slice_get_read log (length log) at chain refl inside (c.index-chains-at.is ∙ ap (λ xs. get_or xs at chain) same) in
-    let long : HasRightLength c.args.kind c.args.conflicts log = subst (λ xs. HasRightLength c.args.kind c.args.conflicts xs) same (c.has_right_length.ensures.0 c.if-not-has_right_length.false) in
-    let b = c.loop-at.invariant.before in
-    let pool = c.loop-at.pool.clauses in
-    let are = c.loop-at.invariant.alike inside in
-    let literals = c.in_ok-end.end.literals in
-    let ends = c.in_ok-end.ensures.ended in
-    let rule : IsRuleFor c.args.kind (is_last log at) pool chain literals c.wrong_end.result =
-    subst (λ (xs : List ChainView). IsRuleFor c.args.kind (at + 1 == length xs) pool chain literals c.wrong_end.result) same c.wrong_end.ensures.rule in
-    let some = subst (IsRuleFor c.args.kind (is_last log at) pool chain literals) c.in-Some.is rule in
-    let is : record { kind = c.in-Some.rule; step = at } ≡ refusal =
-    (let w : ◌≡◌ {A = Result (Unit {0}) CheckFault} (Err (Refused (record { kind = c.in-Some.rule; step = at }))) (Err (Refused refusal)) = sym (ap Err c.refused-in-Some.ensures) ∙ e in cc) in
-    refused_end c.args.kind clauses c.args.conflicts log at chain pool long b chain_is are literals ends refusal c.in-Some.rule some.0 some.1 (sym is)
+    let n = next_chain c.args.conflicts c.as_slice-chains.ensures (c.has_right_length.ensures.0 c.if-not-has_right_length.false) c.loop-at-test.true c.index-chains-at.is c.loop-at.invariant.before c.loop-at.invariant.alike in
+    let some = rule_told c.args.kind c.loop-at.at c.loop-at.pool.clauses c.index-chains-at.result c.in_ok-end.end.literals c.as_slice-chains.ensures c.in-Some.is c.wrong_end.ensures.rule in
+    let is : record { kind = c.in-Some.rule; step = c.loop-at.at } ≡ refusal =
+    (let w : ◌≡◌ {A = Result (Unit {0}) CheckFault} (Err (Refused (record { kind = c.in-Some.rule; step = c.loop-at.at }))) (Err (Refused refusal)) = sym (ap Err c.refused-in-Some.ensures) ∙ e in cc) in
+    refused_end n c.in_ok-end.end.literals c.in_ok-end.ensures.ended refusal c.in-Some.rule some.0 some.1 (sym is)
 
 pub loop-at-preserved : goal.loop-at-preserved
 loop-at-preserved c =
     let clauses = c.args.pool.now.clauses in
-    let log = c.args.log.now in
-    let at = c.loop-at.at in
-    let same = c.as_slice-chains.ensures in
-    let inside : at < length log = omega (arith, c.loop-at-test.true, ap length same) in
-    let chain = c.index-chains-at.result in
-    let chain_is : slice_get log at ≡ Some chain = slice_get_read log (length log) at chain refl inside (c.index-chains-at.is ∙ ap (λ xs. get_or xs at chain) same) in
-    let long : HasRightLength c.args.kind c.args.conflicts log = subst (λ xs. HasRightLength c.args.kind c.args.conflicts xs) same (c.has_right_length.ensures.0 c.if-not-has_right_length.false) in
-    let b = c.loop-at.invariant.before in
     let pool = c.loop-at.pool.clauses in
-    let are = c.loop-at.invariant.alike inside in
     let literals = c.in_ok-end.end.literals in
-    let ends = c.in_ok-end.ensures.ended in
-    let rule : IsRuleFor c.args.kind (is_last log at) pool chain literals c.wrong_end.result =
-    subst (λ (xs : List ChainView). IsRuleFor c.args.kind (at + 1 == length xs) pool chain literals c.wrong_end.result) same c.wrong_end.ensures.rule in
-    let right = subst (IsRuleFor c.args.kind (is_last log at) pool chain literals) c.in_default.is rule in
-    let next = right_step c.args.kind clauses c.args.conflicts log at chain pool long b chain_is are literals ends right in
+    let n = next_chain c.args.conflicts c.as_slice-chains.ensures (c.has_right_length.ensures.0 c.if-not-has_right_length.false) c.loop-at-test.true c.index-chains-at.is c.loop-at.invariant.before c.loop-at.invariant.alike in
+    let right = rule_told c.args.kind c.loop-at.at c.loop-at.pool.clauses c.index-chains-at.result c.in_ok-end.end.literals c.as_slice-chains.ensures c.in_default.is c.wrong_end.ensures.rule in
+    let next = right_step n literals c.in_ok-end.ensures.ended right in
     elim c.if-not-last.branch [
       | then-not-last+in_ok-add+in_ok-take_in w ↦
           let added : c.if-not-last.pool.clauses ≡ pool ++ literals ∷ [] = ap (λ (p : Clauses). p.clauses) w.pool-is ∙ (w.in_ok-add.ensures.ok ∙ ap (λ (l : Clause). pool ++ l ∷ []) w.as_slice.ensures.value) in
-          let bound = end_within c.variables-variables.result pool chain literals c.loop-at.invariant.within ends in
+          let bound = end_within c.variables-variables.result pool c.index-chains-at.result literals c.loop-at.invariant.within c.in_ok-end.ensures.ended in
           record {
             before = next;
             begins = subst (λ cs. BeginsWith cs clauses) (sym added) (begins_further pool clauses (literals ∷ []) c.loop-at.invariant.begins);
-            alike = λ _. subst (AreAlike (clauses ++ next.ends)) (sym added) (alike_next c.args.kind clauses c.args.conflicts log at chain pool long b chain_is are literals ends right);
+            alike = λ _. subst (AreAlike (clauses ++ next.ends)) (sym added) (alike_next n literals c.in_ok-end.ensures.ended right);
             within = subst (All (HasVariablesUpTo c.variables-variables.result)) (sym added)
                 (All-append (HasVariablesUpTo c.variables-variables.result) pool (literals ∷ []) c.loop-at.invariant.within
                 (All-cons (HasVariablesUpTo c.variables-variables.result) literals [] bound (All-nil (HasVariablesUpTo c.variables-variables.result))));
@@ -116,11 +84,11 @@ loop-at-preserved c =
           }
       | else-not-last w ↦
           let kept : c.if-not-last.pool.clauses ≡ pool = ap (λ (p : Clauses). p.clauses) w.pool-is in
-          let last : at + 1 ≡ length c.as_slice-chains.result.now = w.if-not-last.false in
+          let last : c.loop-at.at + 1 ≡ length c.as_slice-chains.result.now = w.if-not-last.false in
           record {
             before = next;
             begins = subst (λ cs. BeginsWith cs clauses) (sym kept) c.loop-at.invariant.begins;
-            alike = λ h. absurd (omega (arith, h, last, ap length same));
+            alike = λ h. absurd (omega (arith, h, last, ap length c.as_slice-chains.ensures));
             within = subst (All (HasVariablesUpTo c.variables-variables.result)) (sym kept) c.loop-at.invariant.within;
             few = omega (arith, ap length kept, c.loop-at.invariant.few);
             empty = c.in_ok-end.ensures.empty;

@@ -1,16 +1,13 @@
-use Rattle.std.proofs.Common.{◌∙◌, length, arith, ap, sym, subst}
-use Rattle.std.proofs.lemmas.List.{length-append}
+use Rattle.std.proofs.Common.{◌∙◌, arith, ap, sym, subst}
 use Rattle.pair_miter.specs.Adds.{Adds}
-use Rattle.pair_miter.specs.Miter.{copy_clauses, line_clauses, tidy}
-use Rattle.pair_miter.specs.declared.side.Side.TheVariants.{First, Second}
-use Rattle.pair_miter.proofs.AddSteps.{adds_both, writes_err, first_fails, left_fails}
-use Rattle.pair_miter.proofs.LineClauses.{clauses_of_line, clauses_of_split, clauses_of_shared, first_copy_few, length-tidy}
+use Rattle.pair_miter.specs.Miter.{tidy}
+use Rattle.pair_miter.proofs.AddSteps.{both_parts, first_fails, first_few, left_fails, left_few, writes_err}
+use Rattle.pair_miter.proofs.LineClauses.{clauses_of_line, clauses_of_split, clauses_of_shared}
 use Rattle.pair_miter.proofs.Numbers.{second_helper, helpers_of_relevant, helpers_of_shared}
-use Rattle.pair_miter.proofs.TidyParts.{tidy-append}
 use Rattle.pair_miter.proofs.writer.Writer.write_line.Goals as goal
 
 pub write_copy-requires-clause-few : goal.write_copy-requires-clause-few
-write_copy-requires-clause-few c = let p = c.args.numbering.now in omega (arith, c.requires.few, first_copy_few p.circuit p.f p.g c.args.line)
+write_copy-requires-clause-few c = let p = c.args.numbering.now in first_few c.args.pool.now (clauses_of_line p.circuit p.f p.g c.args.line).1 c.requires.few
 
 pub write_copy-requires-then-split-clause-helper : goal.write_copy-requires-then-split-clause-helper
 write_copy-requires-then-split-clause-helper c = let p = c.args.numbering.now in omega (arith, c.in_ok-write_copy.ensures.helper, c.requires.helper, second_helper p.circuit p.f p.g c.args.line)
@@ -18,19 +15,12 @@ write_copy-requires-then-split-clause-helper c = let p = c.args.numbering.now in
 pub write_copy-requires-then-split-clause-few : goal.write_copy-requires-then-split-clause-few
 write_copy-requires-then-split-clause-few c =
     let p = c.args.numbering.now in
-    let first = copy_clauses p.circuit p.f p.g First c.args.line in
-    let second = copy_clauses p.circuit p.f p.g Second c.args.line in
-    let parts = ap (λ xs. length (tidy xs)) (clauses_of_split p.circuit p.f p.g c.args.line (sym c.split.ensures.value ∙ c.if-split.true)) in
-    omega (arith, c.requires.few, parts, length-tidy first second, ap length c.in_ok-write_copy.ensures.written.written, length-append c.args.pool.now.clauses (tidy first))
+    left_few (clauses_of_split p.circuit p.f p.g c.args.line (sym c.split.ensures.value ∙ c.if-split.true)) c.in_ok-write_copy.ensures.written c.requires.few
 
 pub returns-in_ok-write_copy-2-clause-written : goal.returns-in_ok-write_copy-2-clause-written
 returns-in_ok-write_copy-2-clause-written c =
     let p = c.args.numbering.now in
-    let first = copy_clauses p.circuit p.f p.g First c.args.line in
-    let second = copy_clauses p.circuit p.f p.g Second c.args.line in
-    let parts = sym (tidy-append first second) ∙ ap tidy (sym (clauses_of_split p.circuit p.f p.g c.args.line (sym c.split.ensures.value ∙ c.if-split.true))) in
-    subst (Adds c.args.pool.now c.write_copy-then-split.new.pool) parts
-    (adds_both c.args.pool.now c.write_copy.new.pool c.write_copy-then-split.new.pool (tidy first) (tidy second) c.in_ok-write_copy.ensures.written c.in_ok-write_copy-2.ensures.written)
+    both_parts (clauses_of_split p.circuit p.f p.g c.args.line (sym c.split.ensures.value ∙ c.if-split.true)) c.in_ok-write_copy.ensures.written c.in_ok-write_copy-2.ensures.written
 
 pub returns-in_ok-write_copy-2-clause-helper : goal.returns-in_ok-write_copy-2-clause-helper
 returns-in_ok-write_copy-2-clause-helper c =
@@ -52,15 +42,10 @@ returns-else-split-clause-helper c =
 pub returns-in_err-write_copy-clause-written : goal.returns-in_err-write_copy-clause-written
 returns-in_err-write_copy-clause-written c =
     let p = c.args.numbering.now in
-    let parts = clauses_of_line p.circuit p.f p.g c.args.line in
-    writes_err c.from_residual.result c.from_residual.ensures.0
-    (first_fails c.args.pool.now c.write_copy.new.pool (line_clauses p.circuit p.f p.g c.args.line) (copy_clauses p.circuit p.f p.g First c.args.line) parts.0 parts.1 c.in_err-write_copy.ensures.written)
+    writes_err c.from_residual.result c.from_residual.ensures.0 (first_fails (clauses_of_line p.circuit p.f p.g c.args.line).1 c.in_err-write_copy.ensures.written)
 
 pub returns-in_err-write_copy-2-clause-written : goal.returns-in_err-write_copy-2-clause-written
 returns-in_err-write_copy-2-clause-written c =
     let p = c.args.numbering.now in
-    let first = copy_clauses p.circuit p.f p.g First c.args.line in
-    let second = copy_clauses p.circuit p.f p.g Second c.args.line in
     let parts = clauses_of_split p.circuit p.f p.g c.args.line (sym c.split.ensures.value ∙ c.if-split.true) in
-    writes_err c.from_residual-in_err-write_copy-2.result c.from_residual-in_err-write_copy-2.ensures.0
-    (left_fails c.args.pool.now c.write_copy.new.pool c.write_copy-then-split.new.pool (line_clauses p.circuit p.f p.g c.args.line) first second parts c.in_ok-write_copy.ensures.written c.in_err-write_copy-2.ensures.written)
+    writes_err c.from_residual-in_err-write_copy-2.result c.from_residual-in_err-write_copy-2.ensures.0 (left_fails parts c.in_ok-write_copy.ensures.written c.in_err-write_copy-2.ensures.written)
