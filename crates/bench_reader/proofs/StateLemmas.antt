@@ -81,11 +81,11 @@ module _ (text : Text) (word bracket : Lexeme) (is_name : word.kind ≡ Name) (i
 -- ---- the begin of a gate
 
 module _ (text : Text) (name equals : Lexeme) (is_name : name.kind ≡ Name) (is_equals : equals.kind ≡ Equals) where
-  abbrev pub GateTokens : List Token
-  GateTokens = token_in text name ∷ tokens_from text equals
-
   abbrev pub begun : List Token
   begun = (name_run (text_in text name), name.place.byte) ∷ (equals_mark, equals.place.byte) ∷ []
+
+  abbrev pub GateTokens : List Token
+  GateTokens = token_in text name ∷ tokens_from text equals
 
   begun_are : GateTokens ≡ begun ++ tokens_at text equals.end
   begun_are = rw (is_name, is_equals) refl

@@ -132,14 +132,14 @@ module _ (n : Text) (a b : ℕ) where
   unfolding phrase_of driven_phrase driver_of driver_pins pins_of
   equals_begins = record { more = (name_run (codes "AND"), 0) ∷ (open_bracket, 0) ∷ (name_run [], 0) ∷ (close_bracket, 0) ∷ []; phrase = _; is = refl }
 
-  pub equals_partial : phrase_of ((name_run n, a) ∷ (equals_mark, b) ∷ []) ≡ None
-  unfolding phrase_of
-  equals_partial = refl
-
   pub equals_wrong : (kind : LexemeKind) (run : Text) (byte : ℕ) → kind ≢ Name → ¬ CanBegin ((name_run n, a) ∷ (equals_mark, b) ∷ (piece_of kind run, byte) ∷ [])
   unfolding phrase_of
   equals_wrong Name run byte g c = g refl
   equals_wrong _ run byte g c = let e = c.is in cc
+
+  pub equals_partial : phrase_of ((name_run n, a) ∷ (equals_mark, b) ∷ []) ≡ None
+  unfolding phrase_of
+  equals_partial = refl
 
   pub equals_stop : (kind : LexemeKind) (run : Text) (byte : ℕ) → kind ≢ Name → stop_of ((name_run n, a) ∷ (equals_mark, b) ∷ []) (piece_of kind run, byte) ≡ (stop_kind kind, byte)
   equals_stop Name run byte g = absurd (g refl)
@@ -158,14 +158,14 @@ module _ (n : Text) (a b : ℕ) where
     unfolding phrase_of driven_phrase driver_pins pins_of
     gate_begins driver e = record { more = (open_bracket, 0) ∷ (name_run [], 0) ∷ (close_bracket, 0) ∷ []; phrase = gate_phrase (n, a) driver (word, w) (([], 0) ∷ []); is = rw e refl }
 
-    pub gate_partial : phrase_of ((name_run n, a) ∷ (equals_mark, b) ∷ (name_run word, w) ∷ []) ≡ None
-    unfolding phrase_of
-    gate_partial = refl
-
     pub bracket_wrong : (kind : LexemeKind) (run : Text) (byte : ℕ) → kind ≢ OpenBracket → ¬ CanBegin ((name_run n, a) ∷ (equals_mark, b) ∷ (name_run word, w) ∷ (piece_of kind run, byte) ∷ [])
     unfolding phrase_of
     bracket_wrong OpenBracket run byte g c = g refl
     bracket_wrong _ run byte g c = let e = c.is in cc
+
+    pub gate_partial : phrase_of ((name_run n, a) ∷ (equals_mark, b) ∷ (name_run word, w) ∷ []) ≡ None
+    unfolding phrase_of
+    gate_partial = refl
 
     pub bracket_stop : (kind : LexemeKind) (run : Text) (byte : ℕ) → stop_of ((name_run n, a) ∷ (equals_mark, b) ∷ (name_run word, w) ∷ []) (piece_of kind run, byte) ≡ (stop_kind kind, byte)
     bracket_stop BadByte run byte = refl

@@ -70,7 +70,8 @@ fn observed(bytes: &[u8], word: Lexeme, bracket: Lexeme) -> Result<(Shape, Place
     ensures ok { IfOk result (IsStatement bytes.now (token_in bytes.now word ∷ tokens_from bytes.now bracket)) }
     ensures refused { IfErr result (IsStop bytes.now (token_in bytes.now word ∷ tokens_from bytes.now bracket)) }
 {
-    let Some(port) = port_of(text_of(bytes, word)) else {
+    let text = text_of(bytes, word);
+    let Some(port) = port_of(text) else {
         return Err(NetFault::At(NetKind::UnknownGate, word.place));
     };
     let name = next_lexeme(bytes, behind(bracket));
@@ -95,8 +96,8 @@ fn gate(
 ) -> Result<(Shape, Place), NetFault>
     requires room { length bytes.now < 2 ^ 31 }
     requires name { IsLexeme bytes.now name }
-    requires is_name { name.kind ≡ LexemeKind.Name }
     requires equals { IsLexeme bytes.now equals }
+    requires is_name { name.kind ≡ LexemeKind.Name }
     requires is_equals { equals.kind ≡ LexemeKind.Equals }
     ensures ok { IfOk result (IsStatement bytes.now (token_in bytes.now name ∷ tokens_from bytes.now equals)) }
     ensures refused { IfErr result (IsStop bytes.now (token_in bytes.now name ∷ tokens_from bytes.now equals)) }

@@ -23,8 +23,8 @@ pub struct Words {
 }
 
 impl Model for Words {
-    ghost use Rattle.std.specs.Prelude.{List};
     ghost use Rattle.bench_reader.specs.declared.statement.Word.{Word};
+    ghost use Rattle.std.specs.Prelude.{List};
 
     ghost Value = { List Word };
 
@@ -35,17 +35,15 @@ impl Words {
     pub(crate) fn new(alloc: Global) -> Words
         ensures { result ≡ [] }
     {
-        Words {
-            words: SmallVec::new(alloc),
-        }
+        let words = SmallVec::new(alloc);
+        Words { words }
     }
 
     pub(crate) fn push(&mut self, word: Word) -> Result<(), AllocError>
         ensures ok { OnOk result (self.new ≡ self.old ++ word ∷ []) }
         ensures err { OnErr result (self.new ≡ self.old) }
     {
-        self.words.push(word)?;
-        Ok(())
+        Ok(self.words.push(word)?)
     }
 
     pub fn as_slice(&self) -> &[Word]

@@ -7,7 +7,7 @@ use Rattle.std.specs.Ordering.{is_eq}
 use Rattle.std.specs.Str.{bytes_eq}
 use Rattle.std.proofs.lemmas.Bool.{cases_lt, cases_eq, cases_Bool, eq-eqb, ne_eqb, false_from_ne_true}
 use Rattle.std.proofs.lemmas.Bool.Decides.{Decides-at, nat_tests}
-use Rattle.std.proofs.lemmas.List.{append-nil, ext_get_or, length-map, length-set, length_push, get_or-map, get_or-set_same, get_or-set_other, get_or_append_left, get_or_push, map_push, take_more, take_all, length-take, get_or-take}
+use Rattle.std.proofs.lemmas.List.{append-nil, ext_get_or, map-append, length-map, length-set, length_push, get_or-map, get_or-set_same, get_or-set_other, get_or_append_left, get_or_push, map_push, take_more, take_all, length-take, get_or-take}
 use Rattle.std.proofs.lemmas.List.Elements.{All-contains, All-filter, All-push, All-take, filter-append, filter_more, Contains-get_or}
 use Rattle.std.proofs.lemmas.List.Kept.{AllPairs-filter}
 use Rattle.std.proofs.lemmas.Map.Text.{is_eq-slice_cmp}
@@ -16,7 +16,7 @@ use Rattle.net_model.specs.ClassTable.{ClassTable, class_at, members, representa
 use Rattle.net_model.specs.Rows.{IsPacked}
 use Rattle.net_model.proofs.Elements.{true_false, Contains-filter, Contains-from_filter}
 use Rattle.net_model.proofs.RowLemmas.{packed_once, unpacked_once}
-use Rattle.class_refine.specs.Steps.{words_order, piece_of, put_in}
+use Rattle.class_refine.specs.Steps.{words_order, piece_of, put_in, ArePieces}
 use Rattle.class_refine.proofs.Ranges.{AreDistinct, Ascends, distinct_from_ascending, same_place, in_front_less, less_in_front, filter_none, map_where}
 use Rattle.class_refine.proofs.Pieces.{Begins, begins-true, begins_from, members-All, members_ascend, members-contains, piece_is, lead_is, same_piece}
 
@@ -233,3 +233,12 @@ module _ (t : ClassTable) (row : List (List Bool)) (class : ℕ) where
       let low = get_or (filter (begins_class t row) (members t class)) k d in
       let is = All-filter (begins_class t row) (λ n. (n < length t.class_of) × (class_at t n ≡ class)) (members t class) (members-All t class) k d l in
       ap (λ c. filter (λ n. eqb (piece_lowest t row n) low) (members t c)) (sym is.1)))
+
+-- ---- the pieces that leave some classes, and those of one more behind them
+
+pub pieces_more : {t : ClassTable} {row : List (List Bool)} {before here more : List ℕ} {groups cut_groups all_groups : List (List ℕ)} {parents cut_parents all_parents : List ℕ} → ArePieces t row before groups parents → ArePieces t row here cut_groups cut_parents
+    → all_groups ≡ groups ++ cut_groups → all_parents ≡ parents ++ cut_parents → more ≡ before ++ here → ArePieces t row more all_groups all_parents
+pieces_more {t} {row} {before} {here} so_far cut groups_are parents_are more = record {
+  groups_are = groups_are ∙ ((λ i. so_far.groups_are i ++ cut.groups_are i) ∙ (sym (map-append (piece_of t row) before here) ∙ ap (map (piece_of t row)) (sym more)));
+  parents_are = parents_are ∙ ((λ i. so_far.parents_are i ++ cut.parents_are i) ∙ (sym (map-append (class_at t) before here) ∙ ap (map (class_at t)) (sym more)));
+}

@@ -1,6 +1,6 @@
 //! Groups of numbers.
 
-ghost use Rattle.std.specs.Prelude.{◌≡◌, ◌++◌, [], ◌∷◌, filter, IfOk, OnOk};
+ghost use Rattle.std.specs.Prelude.{◌≡◌, ◌++◌, ℕ, List, [], ◌∷◌, filter, IfOk, OnOk};
 ghost use Rattle.std.specs.List.{range_with_len};
 ghost use Rattle.class_refine.specs.Steps.{is_in};
 
@@ -14,8 +14,6 @@ pub(crate) struct Group {
 }
 
 impl Model for Group {
-    ghost use Rattle.std.specs.Prelude.{ℕ, List};
-
     ghost Value = { List ℕ };
 
     ghost view = { λ group. group.numbers.items };

@@ -114,6 +114,15 @@ checker_line {c} {seen} {k} is r q next no_pattern no_evidence complete progress
 pub few_lines : {c : Circuit} {k : Checker} → HasCheck c k → k.progress.lines + 1 < 2 ^ 64
 few_lines has = omega (arith, many_lines has.is)
 
+-- the answer where the line of a record is refused and nothing waits
+module _ {c : Circuit} {k new : Checker} (none : k.waiting.items ≡ []) (r : Record) (spelled : HasSpelling r) (one : ¬ Contains (spelling r) 10) where
+  pub judged_misplaced : ((text : Text) (is : IsCheckOf c text k) → ¬ IsInPlace k.keeper.kept.table is.seen r) → Judges c k new (line_of r) (Err (stop.Refused (fault_behind why.Order k.progress.lines)))
+  judged_misplaced out = record { judged = λ text is short. misplaced_line is none r spelled one short (out text is) }
+
+  pub judged_wrong : (reason : ResultKind) → ((text : Text) (is : IsCheckOf c text k) → IsInPlace k.keeper.kept.table is.seen r × ContentRefused c k.keeper.kept.table is.seen r reason)
+      → Judges c k new (line_of r) (Err (stop.Refused (fault_behind reason k.progress.lines)))
+  judged_wrong reason broken = record { judged = λ text is short. let both = broken text is in wrong_line is none r spelled one short reason both.0 both.1 }
+
 -- ---- one after another
 
 -- what waits is judged first

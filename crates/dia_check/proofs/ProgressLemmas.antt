@@ -19,20 +19,9 @@ use Rattle.dia_check.proofs.Counting.{count_same, count_up, read_same, length_on
 
 -- at first nothing is stated
 pub progress_none : IsProgress [] no_progress
-progress_none = record {
-  lines = refl;
-  budgets = refl;
-  classes = refl;
-  members = refl;
-  equal = refl;
-  spent = refl;
-  few_equal = omega arith;
-  few_spent = omega arith;
-  early = λ few. refl;
-  limits = record { blocks = omega arith; cubes = omega arith; conflicts = omega arith };
-  unended = λ e. refl;
-  ended = λ e. cc;
-}
+progress_none =
+    let none : AreWithinLimits no_budgets = record { blocks = omega arith; cubes = omega arith; conflicts = omega arith } in
+    record { lines = refl; budgets = refl; classes = refl; members = refl; equal = refl; spent = refl; few_equal = omega arith; few_spent = omega arith; early = λ few. refl; limits = none; unended = λ e. refl; ended = λ e. cc }
 
 -- ---- behind the end
 
@@ -68,105 +57,83 @@ module _ {rs : List Record} {p : Progress} (is : IsProgress rs p) where
   pub ended_out : (t : ClassTable) (r : Record) → p.ended ≡ true → ¬ IsInPlace t rs r
   ended_out t r e place = none_behind t rs (is.ended e) r place
 
+  -- a count that the line leaves as it is
+  stays : (r : Record) (test : Record → Bool) {n : ℕ} → test r ≡ false → n ≡ count_by test rs → n ≡ count_by test (rs ++ r ∷ [])
+  stays r test none e = e ∙ sym (count_same rs r test none)
+
+  -- one line more that states no budgets, with the counts behind it
+  progress_more : (r : Record) (q : Progress) → budgets_of r ≡ None → q.lines ≡ p.lines + 1 → q.budgets ≡ p.budgets → q.classes ≡ class_lines (rs ++ r ∷ []) → q.members ≡ member_lines (rs ++ r ∷ []) → q.equal ≡ count_by is_equal (rs ++ r ∷ [])
+      → q.spent ≡ count_by is_open (rs ++ r ∷ []) → q.equal ≤ q.members → q.spent ≤ q.members → (q.ended ≡ false → end_lines (rs ++ r ∷ []) ≡ 0) → (q.ended ≡ true → IsEnded (rs ++ r ∷ [])) → IsProgress (rs ++ r ∷ []) q
+  progress_more r q no_budget lines budgets classes members equal spent few_equal few_spent unended ended = record {
+    lines = omega (arith, lines, is.lines, length_one rs r);
+    budgets = budgets ∙ is.budgets ∙ sym (ap (λ (bs : List Budgets). unwrap_or (slice_get bs 0) no_budgets) (read_same rs r budgets_of no_budget));
+    classes = classes;
+    members = members;
+    equal = equal;
+    spent = spent;
+    few_equal = few_equal;
+    few_spent = few_spent;
+    early = λ few. read_same rs r budgets_of no_budget ∙ is.early (omega (arith, few, length_one rs r));
+    limits = rw budgets is.limits;
+    unended = unended;
+    ended = ended;
+  }
+
   module _ (going : p.ended ≡ false) where
+    still : (r : Record) → is_end r ≡ false → end_lines (rs ++ r ∷ []) ≡ 0
+    still r no_end = count_same rs r is_end no_end ∙ is.unended going
+
+    never : (r : Record) → p.ended ≡ true → IsEnded (rs ++ r ∷ [])
+    never r e = cc
+
     -- one line more that counts for nothing else
     pub progress_line : (r : Record) → is_class r ≡ false → is_member r ≡ false → is_equal r ≡ false → is_open r ≡ false → is_end r ≡ false → budgets_of r ≡ None → IsProgress (rs ++ r ∷ []) (record p { lines = p.lines + 1 })
-    progress_line r no_class no_member no_equal no_open no_end no_budget = record {
-      lines = omega (arith, is.lines, length_one rs r);
-      budgets = is.budgets ∙ sym (ap (λ (bs : List Budgets). unwrap_or (slice_get bs 0) no_budgets) (read_same rs r budgets_of no_budget));
-      classes = is.classes ∙ sym (count_same rs r is_class no_class);
-      members = is.members ∙ sym (count_same rs r is_member no_member);
-      equal = is.equal ∙ sym (count_same rs r is_equal no_equal);
-      spent = is.spent ∙ sym (count_same rs r is_open no_open);
-      few_equal = is.few_equal;
-      few_spent = is.few_spent;
-      early = λ few. read_same rs r budgets_of no_budget ∙ is.early (omega (arith, few, length_one rs r));
-      limits = is.limits;
-      unended = λ e. count_same rs r is_end no_end ∙ is.unended going;
-      ended = λ e. cc;
-    }
+    progress_line r no_class no_member no_equal no_open no_end no_budget =
+        progress_more r (record p { lines = p.lines + 1 }) no_budget refl refl (stays r is_class no_class is.classes) (stays r is_member no_member is.members) (stays r is_equal no_equal is.equal) (stays r is_open no_open is.spent)
+        is.few_equal is.few_spent (λ e. still r no_end) (never r)
 
     pub progress_budget : (b : Budgets) → length rs ≡ 1 → AreWithinLimits b → IsProgress (rs ++ Budget b ∷ []) (record p { lines = p.lines + 1; budgets = b })
     progress_budget b one limits =
+        let r = Budget b in
         let none : filter_map budgets_of rs ≡ [] = is.early (omega (arith, one)) in
-        let read : filter_map budgets_of (rs ++ Budget b ∷ []) ≡ b ∷ [] = filter_map-append budgets_of rs (Budget b ∷ []) ∙ ap (λ (bs : List Budgets). bs ++ b ∷ []) none in
-        record {
-          lines = omega (arith, is.lines, length_one rs (Budget b));
-          budgets = sym (ap (λ (bs : List Budgets). unwrap_or (slice_get bs 0) no_budgets) read);
-          classes = is.classes ∙ sym (count_same rs (Budget b) is_class refl);
-          members = is.members ∙ sym (count_same rs (Budget b) is_member refl);
-          equal = is.equal ∙ sym (count_same rs (Budget b) is_equal refl);
-          spent = is.spent ∙ sym (count_same rs (Budget b) is_open refl);
-          few_equal = is.few_equal;
-          few_spent = is.few_spent;
-          early = λ few. absurd (omega (arith, few, one, length_one rs (Budget b)));
-          limits = limits;
-          unended = λ e. count_same rs (Budget b) is_end refl ∙ is.unended going;
-          ended = λ e. cc;
-        }
-
-    pub progress_class : (number : ℕ) (birth : Option (ℕ × ℕ)) → 1 ≤ length rs → IsProgress (rs ++ Class number birth ∷ []) (record p { lines = p.lines + 1; classes = p.classes + 1 })
-    progress_class number birth some =
-        let r = Class number birth in
+        let read : filter_map budgets_of (rs ++ r ∷ []) ≡ b ∷ [] = filter_map-append budgets_of rs (r ∷ []) ∙ ap (λ (bs : List Budgets). bs ++ b ∷ []) none in
         record {
           lines = omega (arith, is.lines, length_one rs r);
-          budgets = is.budgets ∙ sym (ap (λ (bs : List Budgets). unwrap_or (slice_get bs 0) no_budgets) (read_same rs r budgets_of refl));
-          classes = omega (arith, is.classes, count_up rs r is_class refl);
-          members = is.members ∙ sym (count_same rs r is_member refl);
-          equal = is.equal ∙ sym (count_same rs r is_equal refl);
-          spent = is.spent ∙ sym (count_same rs r is_open refl);
+          budgets = sym (ap (λ (bs : List Budgets). unwrap_or (slice_get bs 0) no_budgets) read);
+          classes = stays r is_class refl is.classes;
+          members = stays r is_member refl is.members;
+          equal = stays r is_equal refl is.equal;
+          spent = stays r is_open refl is.spent;
           few_equal = is.few_equal;
           few_spent = is.few_spent;
-          early = λ few. absurd (omega (arith, few, some, length_one rs r));
-          limits = is.limits;
-          unended = λ e. count_same rs r is_end refl ∙ is.unended going;
-          ended = λ e. cc;
+          early = λ few. absurd (omega (arith, few, one, length_one rs r));
+          limits = limits;
+          unended = λ e. still r refl;
+          ended = never r;
         }
 
-    member_counts : (r : Record) (q : Progress) → is_class r ≡ false → is_member r ≡ true → is_end r ≡ false → budgets_of r ≡ None → q.lines ≡ p.lines + 1 → q.budgets ≡ p.budgets → q.classes ≡ p.classes → q.members ≡ p.members + 1
-        → q.equal ≡ count_by is_equal (rs ++ r ∷ []) → q.spent ≡ count_by is_open (rs ++ r ∷ []) → q.equal ≤ q.members → q.spent ≤ q.members → q.ended ≡ p.ended → IsProgress (rs ++ r ∷ []) q
-    member_counts r q no_class one_member no_end no_budget lines budgets classes members equal spent few_equal few_spent same = record {
-      lines = omega (arith, lines, is.lines, length_one rs r);
-      budgets = budgets ∙ is.budgets ∙ sym (ap (λ (bs : List Budgets). unwrap_or (slice_get bs 0) no_budgets) (read_same rs r budgets_of no_budget));
-      classes = classes ∙ is.classes ∙ sym (count_same rs r is_class no_class);
-      members = omega (arith, members, is.members, count_up rs r is_member one_member);
-      equal = equal;
-      spent = spent;
-      few_equal = few_equal;
-      few_spent = few_spent;
-      early = λ few. read_same rs r budgets_of no_budget ∙ is.early (omega (arith, few, length_one rs r));
-      limits = rw budgets is.limits;
-      unended = λ e. count_same rs r is_end no_end ∙ is.unended going;
-      ended = λ e. cc;
-    }
+    pub progress_class : (number : ℕ) (birth : Option (ℕ × ℕ)) → IsProgress (rs ++ Class number birth ∷ []) (record p { lines = p.lines + 1; classes = p.classes + 1 })
+    progress_class number birth =
+        let r = Class number birth in
+        progress_more r (record p { lines = p.lines + 1; classes = p.classes + 1 }) refl refl refl (omega (arith, is.classes, count_up rs r is_class refl)) (stays r is_member refl is.members) (stays r is_equal refl is.equal)
+        (stays r is_open refl is.spent) is.few_equal is.few_spent (λ e. still r refl) (never r)
 
     pub progress_member : (number class : ℕ) (m : Mark) → IsProgress (rs ++ Member number class m ∷ []) (with_member p m)
     progress_member number class mark.Rep =
         let r = Member number class mark.Rep in
-        member_counts r (with_member p mark.Rep) refl refl refl refl refl refl refl refl
-        (is.equal ∙ sym (count_same rs r is_equal refl)) (is.spent ∙ sym (count_same rs r is_open refl)) (omega (arith, is.few_equal)) (omega (arith, is.few_spent)) refl
+        progress_more r (with_member p mark.Rep) refl refl refl (stays r is_class refl is.classes) (omega (arith, is.members, count_up rs r is_member refl)) (stays r is_equal refl is.equal)
+        (stays r is_open refl is.spent) (omega (arith, is.few_equal)) (omega (arith, is.few_spent)) (λ e. still r refl) (never r)
     progress_member number class mark.Equal =
         let r = Member number class mark.Equal in
-        member_counts r (with_member p mark.Equal) refl refl refl refl refl refl refl refl
-        (omega (arith, is.equal, count_up rs r is_equal refl)) (is.spent ∙ sym (count_same rs r is_open refl)) (omega (arith, is.few_equal)) (omega (arith, is.few_spent)) refl
+        progress_more r (with_member p mark.Equal) refl refl refl (stays r is_class refl is.classes) (omega (arith, is.members, count_up rs r is_member refl)) (omega (arith, is.equal, count_up rs r is_equal refl))
+        (stays r is_open refl is.spent) (omega (arith, is.few_equal)) (omega (arith, is.few_spent)) (λ e. still r refl) (never r)
     progress_member number class mark.Spent =
         let r = Member number class mark.Spent in
-        member_counts r (with_member p mark.Spent) refl refl refl refl refl refl refl refl
-        (is.equal ∙ sym (count_same rs r is_equal refl)) (omega (arith, is.spent, count_up rs r is_open refl)) (omega (arith, is.few_equal)) (omega (arith, is.few_spent)) refl
+        progress_more r (with_member p mark.Spent) refl refl refl (stays r is_class refl is.classes) (omega (arith, is.members, count_up rs r is_member refl)) (stays r is_equal refl is.equal)
+        (omega (arith, is.spent, count_up rs r is_open refl)) (omega (arith, is.few_equal)) (omega (arith, is.few_spent)) (λ e. still r refl) (never r)
 
-    pub progress_end : 0 < class_lines rs → 0 < member_lines rs → IsProgress (rs ++ End ∷ []) (record p { lines = p.lines + 1; ended = true })
-    progress_end classes members =
-        record {
-          lines = omega (arith, is.lines, length_one rs End);
-          budgets = is.budgets ∙ sym (ap (λ (bs : List Budgets). unwrap_or (slice_get bs 0) no_budgets) (read_same rs End budgets_of refl));
-          classes = is.classes ∙ sym (count_same rs End is_class refl);
-          members = is.members ∙ sym (count_same rs End is_member refl);
-          equal = is.equal ∙ sym (count_same rs End is_equal refl);
-          spent = is.spent ∙ sym (count_same rs End is_open refl);
-          few_equal = is.few_equal;
-          few_spent = is.few_spent;
-          early = λ few. read_same rs End budgets_of refl ∙ is.early (omega (arith, few, length_one rs End));
-          limits = is.limits;
-          unended = λ e. absurd (cc);
-          ended = λ e. record { before = rs; ended = refl; classes = omega (arith, classes, count_same rs End is_class refl); members = omega (arith, members, count_same rs End is_member refl) };
-        }
+  pub progress_end : 0 < class_lines rs → 0 < member_lines rs → IsProgress (rs ++ End ∷ []) (record p { lines = p.lines + 1; ended = true })
+  progress_end classes members =
+      progress_more End (record p { lines = p.lines + 1; ended = true }) refl refl refl (stays End is_class refl is.classes) (stays End is_member refl is.members) (stays End is_equal refl is.equal) (stays End is_open refl is.spent)
+      is.few_equal is.few_spent (λ e. absurd (cc))
+      (λ e. record { before = rs; ended = refl; classes = omega (arith, classes, count_same rs End is_class refl); members = omega (arith, members, count_same rs End is_member refl) })

@@ -152,7 +152,7 @@ module _ {c : Circuit} {text : Text} {k : Checker} (is : IsCheckOf c text k) (no
       let r = Class number birth in
       let place : (2 ≤ length is.seen) × (member_lines is.seen ≡ 0) = (omega (arith, two, is.is.progress.lines), omega (arith, no_member, is.is.progress.members)) in
       one_more r (record p { lines = p.lines + 1; classes = p.classes + 1 }) spelled short place content refl refl (λ some. content.complete)
-      (progress_class is.is.progress (open_in_place is.is.progress t r place) number birth (omega (arith, place.0)))
+      (progress_class is.is.progress (open_in_place is.is.progress t r place) number birth)
 
   pub class_few : (number : ℕ) (birth : Option (ℕ × ℕ)) → IsRightClass t is.seen number birth → p.classes + 1 < 2 ^ 32
   class_few number birth content = omega (arith, counts_few, content.next, is.is.progress.classes, slice_get_within t.births number birth content.birth_is)
@@ -179,7 +179,7 @@ module _ {c : Circuit} {text : Text} {k : Checker} (is : IsCheckOf c text k) (no
       let members : member_lines is.seen ≡ length t.class_of = omega (arith, whole, is.is.progress.members, numbers_are) in
       one_more End (record p { lines = p.lines + 1; ended = true }) tt short (classes, members, is.is.progress.unended going) tt refl refl
       (λ some. is.is.complete (omega (arith, some, count_same is.seen End is_class refl)))
-      (progress_end is.is.progress going (omega (arith, classes, some_class)) (omega (arith, members, is.is.keeper.whole.some)))
+      (progress_end is.is.progress (omega (arith, classes, some_class)) (omega (arith, members, is.is.keeper.whole.some)))
 
   -- ---- evidence
 

@@ -1,7 +1,6 @@
 pub mod Faults
 pub mod Accepted
 -- What is known on the way
-pub mod SubjectFields
 pub mod Progress
 pub mod Checker
 pub mod Reader

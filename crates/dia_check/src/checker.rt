@@ -1,6 +1,6 @@
 //! The checker of lines.
 
-ghost use Rattle.std.specs.Prelude.{◌≡◌, ◌≢◌, ◌≤◌, ◌<◌, ◌+◌, ◌^◌, ◌↔◌, ◌++◌, ◌∷◌, [], ℕ, List, None, Some, Contains, IfOk, OnOk, IsTrue, IsSome, length, slice_set};
+ghost use Rattle.std.specs.Prelude.{◌≡◌, ◌≢◌, ◌<◌, ◌+◌, ◌^◌, ◌↔◌, ◌++◌, ◌∷◌, [], ℕ, List, None, Some, Contains, IfOk, OnOk, IsTrue, IsSome, length, slice_set};
 ghost use Rattle.net_model.specs.Circuit.{Circuit};
 ghost use Rattle.member_marks.specs.Given.{given_mark, AreGiven};
 ghost use Rattle.result_file.specs.declared.record.Record.{Record};
@@ -14,11 +14,10 @@ ghost use Rattle.dia_check.specs.Reader.{IsAcceptedText};
 use crate::answer::Checked;
 use crate::evidence::check_evidence;
 use crate::progress::Progress;
-use crate::stop::Stop;
-use crate::subject::Subject;
+use crate::stop::{Judged, Stop};
 use clause_pool::Pool;
 use kept_vectors::Keeper;
-use member_marks::{Marks, mark_of};
+use member_marks::{Marks, Subject, mark_of};
 use net_model::{Vector, Vectors};
 use refute_check::CheckFault;
 use result_file::{
@@ -37,12 +36,12 @@ const CONFLICTS_LIMIT: u32 = 100_000;
 // What the lines so far have stated: the patterns with their classes, the marks, of which each below a number is given, and
 // the counts; the pool in which logs are checked; and patterns that wait, so that a block of them is judged at once.
 pub(crate) struct Checker<'a> {
-    pub(crate) keeper: Keeper<'a>,
-    pub(crate) marks: Marks,
-    pub(crate) from: u32,
-    pub(crate) progress: Progress,
-    pub(crate) pool: Pool,
-    pub(crate) waiting: Vec<Vector>,
+    pub keeper: Keeper<'a>,
+    pub marks: Marks,
+    pub from: u32,
+    pub progress: Progress,
+    pub pool: Pool,
+    pub waiting: Vec<Vector>,
 }
 
 impl Drop for Checker<'_> {
@@ -74,12 +73,7 @@ impl<'a> Checker<'a> {
     }
 
     // Judges a line.
-    pub(crate) fn judge_line(
-        &mut self,
-        alloc: Global,
-        subject: &Subject,
-        line: &[u8],
-    ) -> Result<(), Stop>
+    pub(crate) fn judge_line(&mut self, alloc: Global, subject: &Subject, line: &[u8]) -> Judged
         requires check { HasCheck subject.now self.old }
         requires one { ¬ Contains line.now 10 }
         ensures { Judges subject.now self.old self.new (line.now ++ 10 ∷ []) result }
@@ -92,7 +86,7 @@ impl<'a> Checker<'a> {
     }
 
     // Refuses a line that is no record.
-    fn refuse_line(&mut self, subject: &Subject, line: &[u8]) -> Result<(), Stop>
+    fn refuse_line(&mut self, subject: &Subject, line: &[u8]) -> Judged
         requires check { HasCheck subject.now self.old }
         requires one { ¬ Contains line.now 10 }
         requires wrong { IsNoSpelling line.now }
@@ -103,7 +97,7 @@ impl<'a> Checker<'a> {
     }
 
     // Judges the line of a record.
-    fn judge(&mut self, alloc: Global, subject: &Subject, entry: Record) -> Result<(), Stop>
+    fn judge(&mut self, alloc: Global, subject: &Subject, entry: Record) -> Judged
         requires check { HasCheck subject.now self.old }
         requires spelled { HasSpelling entry }
         requires one { ¬ Contains (spelling entry) 10 }
@@ -124,7 +118,7 @@ impl<'a> Checker<'a> {
     }
 
     // Judges the patterns that wait, where a record isn't a pattern that can wait behind them.
-    fn make_way(&mut self, subject: &Subject, entry: &Record) -> Result<(), Stop>
+    fn make_way(&mut self, subject: &Subject, entry: &Record) -> Judged
         requires check { HasCheck subject.now self.old }
         ensures judged { JudgesWaiting subject.now self.old self.new result }
         ensures room { OnOk result (length self.new.waiting.items < LANES) }
@@ -138,7 +132,7 @@ impl<'a> Checker<'a> {
     }
 
     // Judges the patterns that wait.
-    pub(crate) fn flush(&mut self, subject: &Subject) -> Result<(), Stop>
+    pub(crate) fn flush(&mut self, subject: &Subject) -> Judged
         requires check { HasCheck subject.now self.old }
         ensures judged { JudgesWaiting subject.now self.old self.new result }
         ensures none { OnOk result (self.new.waiting.items ≡ []) }
@@ -168,7 +162,7 @@ impl<'a> Checker<'a> {
     }
 
     // Lets a pattern wait.
-    fn judge_pattern(&mut self, subject: &Subject, v: Vector) -> Result<(), Stop>
+    fn judge_pattern(&mut self, subject: &Subject, v: Vector) -> Judged
         requires check { HasCheck subject.now self.old }
         requires room { length self.old.waiting.items < LANES }
         requires one { ¬ Contains (spelling (Pattern v)) 10 }
@@ -186,7 +180,7 @@ impl<'a> Checker<'a> {
     }
 
     // Refuses a pattern that hasn't a bit for each source.
-    fn refuse_pattern(&mut self, subject: &Subject, v: &Vector) -> Result<(), Stop>
+    fn refuse_pattern(&mut self, subject: &Subject, v: &Vector) -> Judged
         requires check { HasCheck subject.now self.old }
         requires one { ¬ Contains (spelling (Pattern v.now)) 10 }
         requires wrong { length v.now ≢ subject.now.sources }
@@ -205,7 +199,7 @@ impl<'a> Checker<'a> {
         sources: u32,
         positions: u32,
         numbers: u32,
-    ) -> Result<(), Stop>
+    ) -> Judged
         requires check { HasCheck subject.now self.old }
         requires none { self.old.waiting.items ≡ [] }
         requires spelled { HasSpelling (Head sources positions numbers) }
@@ -222,7 +216,7 @@ impl<'a> Checker<'a> {
         Ok(())
     }
 
-    fn judge_budget(&mut self, subject: &Subject, budgets: Budgets) -> Result<(), Stop>
+    fn judge_budget(&mut self, subject: &Subject, budgets: Budgets) -> Judged
         requires check { HasCheck subject.now self.old }
         requires none { self.old.waiting.items ≡ [] }
         requires spelled { HasSpelling (Budget budgets) }
@@ -240,12 +234,7 @@ impl<'a> Checker<'a> {
         Ok(())
     }
 
-    fn judge_evidence(
-        &mut self,
-        alloc: Global,
-        subject: &Subject,
-        evidence: Evidence,
-    ) -> Result<(), Stop>
+    fn judge_evidence(&mut self, alloc: Global, subject: &Subject, evidence: Evidence) -> Judged
         requires check { HasCheck subject.now self.old }
         requires none { self.old.waiting.items ≡ [] }
         requires spelled { HasSpelling (Same evidence) }
@@ -305,12 +294,7 @@ impl<'a> Checker<'a> {
         self.progress.lines += 1;
     }
 
-    fn judge_class(
-        &mut self,
-        subject: &Subject,
-        number: u32,
-        birth: Option<(u32, u32)>,
-    ) -> Result<(), Stop>
+    fn judge_class(&mut self, subject: &Subject, number: u32, birth: Option<(u32, u32)>) -> Judged
         requires check { HasCheck subject.now self.old }
         requires none { self.old.waiting.items ≡ [] }
         requires spelled { HasSpelling (Class number birth) }
@@ -346,13 +330,7 @@ impl<'a> Checker<'a> {
         self.marks.next_open(classes, self.from).is_none()
     }
 
-    fn judge_member(
-        &mut self,
-        subject: &Subject,
-        number: u32,
-        class: u32,
-        mark: Mark,
-    ) -> Result<(), Stop>
+    fn judge_member(&mut self, subject: &Subject, number: u32, class: u32, mark: Mark) -> Judged
         requires check { HasCheck subject.now self.old }
         requires none { self.old.waiting.items ≡ [] }
         requires spelled { HasSpelling (Member number class mark) }
@@ -385,7 +363,7 @@ impl<'a> Checker<'a> {
         self.marks.of(classes, number) == Some(mark)
     }
 
-    fn judge_end(&mut self, subject: &Subject) -> Result<(), Stop>
+    fn judge_end(&mut self, subject: &Subject) -> Judged
         requires check { HasCheck subject.now self.old }
         requires none { self.old.waiting.items ≡ [] }
         requires spelled { HasSpelling (End) }
@@ -404,7 +382,7 @@ impl<'a> Checker<'a> {
     }
 
     // Judges the end of the file: the end has to stand, and no bytes behind it.
-    pub(crate) fn end(&mut self, subject: &Subject, rest: &[u8]) -> Result<(), Stop>
+    pub(crate) fn end(&mut self, subject: &Subject, rest: &[u8]) -> Judged
         requires check { HasCheck subject.now self.old }
         requires one { ¬ Contains rest.now 10 }
         ensures { JudgesEnd subject.now self.old self.new rest.now result }
@@ -453,7 +431,7 @@ fn listed(alloc: Global, vectors: Vec<Vector>) -> Result<Vectors, AllocError>
     ensures { IfOk result (λ listed. listed ≡ vectors.items) }
 {
     let mut listed = Vectors::new(alloc);
-    for v in vectors {
+    for v in vectors.into_iter() {
         listed.push(v)?;
     }
     Ok(listed)

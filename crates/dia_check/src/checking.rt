@@ -13,10 +13,10 @@ ghost use Rattle.dia_check.specs.Rest.{HasRead};
 
 use crate::answer::{Checked, FileFault};
 use crate::reader::{LIMIT, Reader};
-use crate::subject::Subject;
 use diag_shelf::Shelf;
 use fault_collapse::collapse;
 use fault_list::list;
+use member_marks::Subject;
 use net_model::Circuit;
 use std::alloc::Global;
 

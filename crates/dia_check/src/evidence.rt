@@ -5,13 +5,13 @@ ghost use Rattle.net_model.specs.Fault.{IsFaultOf};
 ghost use Rattle.net_model.specs.FaultList.{fault_count, fault_numbered};
 ghost use Rattle.pair_miter.specs.Miter.{miter};
 ghost use Rattle.refute_check.specs.declared.refusal.Refusal.{Refusal};
-ghost use Rattle.refute_check.specs.LogRefusal.{IsRightLog, LogRefused};
+ghost use Rattle.refute_check.specs.LogRefusal.{IsRightLog};
 ghost use Rattle.refute_check.specs.TreeRefusal.{IsRightTree};
 ghost use Rattle.result_file.specs.Lines.{IsRightProof};
 ghost use Rattle.result_file.specs.Refusal.{PairRefused, ProofRefused};
 
-use crate::subject::Subject;
 use clause_pool::Pool;
+use member_marks::Subject;
 use net_model::{Circuit, Fault};
 use pair_miter::{Log, build, miter_is_small};
 use pair_sets::Tree;
@@ -106,33 +106,10 @@ fn check_pair(
     ensures emptied { OnOk result (pool.new.clauses ≡ []) }
 {
     check_tree(alloc, circuit, f, g, tree, kind, budgets.cubes)?;
-    check_pair_log(alloc, circuit, f, g, pool, kind, budgets.conflicts, log)
-}
-
-// Checks a log over the miter of two faults.
-fn check_pair_log(
-    alloc: Global,
-    circuit: &Circuit,
-    f: &Fault,
-    g: &Fault,
-    pool: &mut Pool,
-    kind: EvidenceKind,
-    conflicts: u32,
-    log: &Log,
-) -> Result<(), CheckFault>
-    requires first { IsFaultOf circuit.now f.now }
-    requires second { IsFaultOf circuit.now g.now }
-    requires kind { kind ≢ EvidenceKind.Covered }
-    requires empty { pool.old.clauses ≡ [] }
-    requires conflicts { conflicts ≤ 100000 }
-    ensures right { OnOk result (IsRightLog kind (miter circuit.now f.now g.now) conflicts log.now) }
-    ensures refused { (refusal : Refusal) → IsErrOf result (CheckFault.Refused refusal) → LogRefused kind (miter circuit.now f.now g.now) conflicts log.now refusal }
-    ensures emptied { OnOk result (pool.new.clauses ≡ []) }
-{
     miter_is_small();
     let empty = pool.mark();
     let miter = build(alloc, circuit, f, g, pool)?;
-    check_log(alloc, &miter, pool, log, kind, conflicts)?;
+    check_log(alloc, &miter, pool, log, kind, budgets.conflicts)?;
     pool.release(empty);
     Ok(())
 }

@@ -8,7 +8,6 @@ mod evidence;
 mod progress;
 mod reader;
 mod stop;
-mod subject;
 
 pub use answer::{Checked, FileFault};
 pub use checking::check;

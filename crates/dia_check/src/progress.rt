@@ -9,13 +9,13 @@ use result_file::{Budgets, Mark};
 // left open, and whether the end stands.
 #[derive(Clone, Copy)]
 pub(crate) struct Progress {
-    pub(crate) lines: u64,
-    pub(crate) budgets: Budgets,
-    pub(crate) classes: u32,
-    pub(crate) members: u32,
-    pub(crate) equal: u32,
-    pub(crate) spent: u32,
-    pub(crate) ended: bool,
+    pub lines: u64,
+    pub budgets: Budgets,
+    pub classes: u32,
+    pub members: u32,
+    pub equal: u32,
+    pub spent: u32,
+    pub ended: bool,
 }
 
 const NO_BUDGETS: Budgets = Budgets {

@@ -7,8 +7,8 @@ ghost use Rattle.dia_check.specs.Reader.{IsReading, IsAcceptedText, IsRefusedEnd
 
 use crate::answer::{Checked, FileFault};
 use crate::checker::Checker;
-use crate::stop::Stop;
-use crate::subject::Subject;
+use crate::stop::{Judged, Stop};
+use member_marks::Subject;
 use result_file::{Lines, ResultFault, ResultKind};
 use std::alloc::{AllocError, Global};
 
@@ -17,22 +17,12 @@ pub(crate) const LIMIT: u64 = 1 << 40;
 
 // The checker of the lines so far, the bytes behind them, how many bytes there may still be, and the first line that breaks
 // a rule, behind which nothing is looked at.
+#[derive(Drop)]
 pub(crate) struct Reader<'a> {
-    pub(crate) checker: Checker<'a>,
-    pub(crate) lines: Lines,
-    pub(crate) room: u64,
-    pub(crate) refused: Option<ResultFault>,
-}
-
-impl Drop for Reader<'_> {
-    fn drop(self) {
-        let Reader {
-            checker: _,
-            lines: _,
-            room: _,
-            refused: _,
-        } = self;
-    }
+    pub checker: Checker<'a>,
+    pub lines: Lines,
+    pub room: u64,
+    pub refused: Option<ResultFault>,
 }
 
 impl<'a> Reader<'a> {
@@ -72,7 +62,7 @@ impl<'a> Reader<'a> {
     }
 
     // Takes the lines of a piece, up to the limit of bytes.
-    fn take_piece(&mut self, alloc: Global, subject: &Subject, piece: &[u8]) -> Result<(), Stop>
+    fn take_piece(&mut self, alloc: Global, subject: &Subject, piece: &[u8]) -> Judged
         requires { HasOpen subject.now self.old }
         ensures { TakesPiece subject.now self.old self.new piece.now result }
     {
@@ -99,7 +89,7 @@ impl<'a> Reader<'a> {
     }
 
     // Judges each line that is whole.
-    fn take_lines(&mut self, alloc: Global, subject: &Subject) -> Result<(), Stop>
+    fn take_lines(&mut self, alloc: Global, subject: &Subject) -> Judged
         requires { HasHeld subject.now self.old }
         ensures { TakesLines subject.now self.old self.new result }
     {

@@ -20,3 +20,6 @@ impl From<AllocError> for Stop {
         Stop::NoMemory
     }
 }
+
+// What the judgement of lines answers.
+pub(crate) type Judged = Result<(), Stop>;

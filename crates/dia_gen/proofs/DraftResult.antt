@@ -1,23 +1,19 @@
 -- A draft in which each number is marked, with the lines of its classes and numbers and the end: the generator may write it, and it is true.
 use Rattle.std.proofs.Common.{◌≡◌, ℕ, ◌<◌, ◌^◌, Bool, false, cond, List, [], ◌∷◌, ◌++◌, map, length, get_or, Option, Some, None, refl, sym, ap, ◌∙◌, arith, IsTrue}
-use Rattle.std.specs.Prelude.{All, MatchOption, unwrap_or, IsSome}
+use Rattle.std.specs.Prelude.{All, unwrap_or, IsSome}
 use Rattle.std.specs.List.{slice_get, count_by, enumerate_from}
 use Rattle.std.proofs.lemmas.List.{append-nil, map-id}
 use Rattle.std.proofs.lemmas.List.Elements.{All-append, All-map, filter_map-append}
 use Rattle.std.proofs.lemmas.List.FromFn.{length-enumerate_from, length-map-range_with_len, get_or-map-range_with_len}
 use Rattle.std.proofs.lemmas.List.Sums.{sum_by-append}
 use Rattle.std.proofs.lemmas.Option.{slice_get-get_or, get_or_from_slice_get, slice_get_within}
-use Rattle.net_model.specs.Circuit.{Circuit, IsCircuit}
-use Rattle.net_model.specs.declared.fault.Fault.TheVariants.{Free}
-use Rattle.net_model.proofs.Listed.{listed as all_stand}
-use Rattle.net_model.specs.FaultList.{fault_count, fault_numbered}
+use Rattle.net_model.specs.Circuit.{Circuit}
+use Rattle.net_model.specs.FaultList.{fault_count}
 use Rattle.net_model.specs.ClassTable.{ClassTable, class_at, class_count, number_range}
 use Rattle.net_model.specs.PatternRows.{IsTableOf}
 use Rattle.class_refine.specs.Fields.{IsWhole}
 use Rattle.class_refine.specs.Laws.{NamedSeparatesFaults}
 use Rattle.class_refine.proofs.Refined.{few_classes}
-use Rattle.fault_collapse.specs.Laws.{SameRootEqual}
-use Rattle.pair_sets.specs.Laws.{CoveringEqual, LeavesClosed, SpendingBounded}
 use Rattle.result_file.specs.declared.record.Budgets.{Budgets}
 use Rattle.result_file.specs.declared.record.Evidence.{Evidence}
 use Rattle.result_file.specs.declared.record.Mark.{Mark}
@@ -31,6 +27,7 @@ use Rattle.result_file.specs.Summary.{is_equal, is_open, summary_of}
 use Rattle.result_file.specs.Meaning.{StatedResult, stated_records, class_records, member_records, is_body_record, IsTrueResult}
 use Rattle.result_file.proofs.RecordLists.{read_none, read_all, read_kept, count_kept, count_more}
 use Rattle.result_file.proofs.RightLines.{IsBody, HasSmallClasses, AreMembers, right_table}
+use Rattle.result_file.proofs.SoundLemmas.{first_by, later_by}
 use Rattle.result_file.proofs.Truth.{AreSound, IsSoundTable, lines_true}
 use Rattle.member_marks.specs.declared.marks.Given.{Given}
 use Rattle.kept_vectors.specs.Kept.{IsKept}
@@ -44,18 +41,10 @@ use Rattle.dia_gen.proofs.DraftLemmas.{lines_patterns, lines_evidence, lines_two
 
 -- ---- births
 
-first_by : (o : Option (ℕ × ℕ)) (count : ℕ) → MatchOption o (◌≡◌ {A = ℕ} 0 0) (λ birth. (birth.0 < 0) × (birth.1 < count)) → o ≡ None
-first_by None count known = refl
-first_by (Some birth) count known = absurd (omega (arith, known.0))
-
 first_birth : (t : ClassTable) → IsWhole t → slice_get t.births 0 ≡ Some None
 first_birth t whole =
     let some : 0 < length t.births = omega (arith, whole.patterns) in
     slice_get-get_or t.births 0 None some ∙ ap Some (first_by (get_or t.births 0 None) t.patterns (whole.births 0 some))
-
-later_by : (o : Option (ℕ × ℕ)) (k count : ℕ) → MatchOption o (k ≡ 0) (λ birth. (birth.0 < k) × (birth.1 < count)) → 0 < k → (birth : ℕ × ℕ) × (o ≡ Some birth) × (birth.0 < k) × (birth.1 < count)
-later_by None k count known some = absurd (omega (arith, known))
-later_by (Some birth) k count known some = (birth, refl, known.0, known.1)
 
 small_birth : (t : ClassTable) → IsWhole t → class_count t < 2 ^ 32 → (class : ℕ) (birth : Option (ℕ × ℕ)) → slice_get t.births class ≡ Some birth → HasBirthSpelling birth
 small_birth t whole small class None at = tt
@@ -63,16 +52,6 @@ small_birth t whole small class (Some birth) at =
     let below : class < class_count t = slice_get_within t.births class (Some birth) at in
     let known = rw (get_or_from_slice_get t.births class (Some birth) None at) at (whole.births class below) in
     (omega (arith, known.0), omega (arith, known.1, whole.patterns))
-
--- the laws of a circuit's faults that its results rest on
-pub sound_circuit : (c : Circuit) → IsCircuit c → SameRootEqual → CoveringEqual → LeavesClosed → SpendingBounded → AreSound c
-sound_circuit c is roots covering closed bounded = record {
-  circuit = is;
-  roots = λ m n low high same. roots c (fault_numbered c m) (fault_numbered c n) is (all_stand c m Free low) (all_stand c n Free high) same;
-  covered = λ f g limit tokens right. covering c f g limit tokens is right;
-  leaves = λ f g tokens tree at below leaf. let here = tree.each at below in (here.0, here.1, closed c f g tokens at here.0 is tree below leaf here.1);
-  bounded = λ f g limit tokens spending. bounded c f g limit tokens is spending;
-}
 
 some_mark : (o : Option Mark) → IsSome o → o ≡ Some (unwrap_or o Rep)
 some_mark None some = absurd (cc)

@@ -84,7 +84,7 @@ module _ {s : Setting} {d : Draft} {kept : List (List Bool)} {later : List Recor
     more_classes = added.more
 
     -- it stands behind the others
-    pub last_added : (vectors : List (List Bool)) → vectors ≡ keeper.kept.vectors → get_or vectors (length vectors - 1) [] ≡ v
+    last_added : (vectors : List (List Bool)) → vectors ≡ keeper.kept.vectors → get_or vectors (length vectors - 1) [] ≡ v
     last_added vectors is =
         let now : vectors ≡ d.keeper.kept.vectors ++ v ∷ [] = is ∙ added.vectors in
         let place : length vectors - 1 ≡ length d.keeper.kept.vectors = omega (arith, ap length now, length-append d.keeper.kept.vectors (v ∷ [])) in
@@ -96,7 +96,7 @@ module _ {s : Setting} {d : Draft} {kept : List (List Bool)} {later : List Recor
     pub marks_stay : DoMarksStay d.keeper.kept.table keeper.kept.table d.marks d.marks
     marks_stay = λ n below old some. mark_stays d.keeper.kept.table keeper.kept.table d.marks n (added.leads n below old) some
 
-    pub pattern_drafted : keeper.circuit ≡ d.keeper.circuit → IsDrafted s (record d { keeper = keeper }) kept (later ++ Pattern v ∷ [])
+    pattern_drafted : keeper.circuit ≡ d.keeper.circuit → IsDrafted s (record d { keeper = keeper }) kept (later ++ Pattern v ∷ [])
     pattern_drafted circuit =
         let t = d.keeper.kept.table in
         let evidence : evidence_in (later ++ Pattern v ∷ []) ≡ evidence_in later = filter_map-append evidence_of later (Pattern v ∷ []) ∙ append-nil (evidence_in later) in
@@ -112,6 +112,14 @@ module _ {s : Setting} {d : Draft} {kept : List (List Bool)} {later : List Recor
           sim = is.sim;
           pool = is.pool;
         }
+
+    -- its line is written, or the draft is broken off
+    pub pattern_written : keeper.circuit ≡ d.keeper.circuit → {start mid now : State} → HasWritten (text_of (lines_with s.circuit s.budgets kept later)) start mid → (vectors : List (List Bool)) → vectors ≡ keeper.kept.vectors
+        → (result : Result (Unit {0}) ShelfFault) → WritesText (text_of (Pattern (get_or vectors (length vectors - 1) []) ∷ [])) result mid now → OnOk result (IsDraft s (record d { keeper = keeper }) start now) × IfErr result (λ fault. BrokeOff s.circuit fault start now)
+    pattern_written circuit written vectors vectors_are result wrote =
+        let drafted = pattern_drafted circuit in
+        let line = rw (last_added vectors vectors_are) at wrote in
+        (line_drafted kept later (Pattern v) drafted written result line, line_stopped kept later (Pattern v) drafted written result line)
 
   -- evidence for the lowest open number with its representative
   module _ (proof : Proof) (number : ℕ) (lead_is : number ≡ lead) (right : IsProofFor s.circuit s.budgets number member proof) where

@@ -1,6 +1,5 @@
 pub mod Made
 pub mod Setting
-pub mod SettingFields
 pub mod Settled
 pub mod Draft
 pub mod Marked

@@ -11,8 +11,8 @@ use result_file::Mark;
 // How many members are marked equal, and how many are left open.
 #[derive(Clone, Copy)]
 pub(crate) struct Marked {
-    pub(crate) equal: u32,
-    pub(crate) spent: u32,
+    pub equal: u32,
+    pub spent: u32,
 }
 
 impl Marked {

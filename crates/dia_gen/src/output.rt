@@ -18,6 +18,7 @@ use diag_shelf::{Shelf, ShelfFault};
 use distinguish_search::Levels;
 use fault_collapse::{collapse, same_root_equal};
 use fault_list::list;
+use member_marks::Subject;
 use net_model::Circuit;
 use pair_sets::{covering_is_equal, full_tree_is_covered, leaves_are_closed};
 use result_file::{Budgets, Record, Summary};
@@ -49,7 +50,8 @@ pub fn generate<S: Shelf>(
     let Ok(levels) = Levels::new(alloc, circuit) else {
         return Err(ShelfFault::NoMemory);
     };
-    let setting = Setting::new(circuit, &listed, &forest, &levels, budgets);
+    let subject = Subject::new(circuit, &listed, &forest);
+    let setting = Setting::new(subject, &levels, budgets);
     write_result(alloc, &setting, shelf)
 }
 
@@ -67,7 +69,7 @@ fn write_result<S: Shelf>(
 {
     let mut draft = Draft::start(alloc, setting, shelf)?;
     draft.mark_all(alloc, setting, shelf)?;
-    write_end(alloc, setting, shelf, draft)
+    write_end(alloc, setting, shelf, &draft)
 }
 
 // Writes the lines of the classes and of the numbers, and the end.
@@ -75,11 +77,11 @@ fn write_end<S: Shelf>(
     alloc: Global,
     setting: &Setting,
     shelf: &mut S,
-    draft: Draft,
+    draft: &Draft,
 ) -> Result<Summary, ShelfFault>
     ghost start: { State }
-    requires draft { IsDraft setting.now draft start (S.state shelf.old) }
-    requires marked { AreAllMarked draft.keeper.kept.table draft.marks }
+    requires draft { IsDraft setting.now draft.now start (S.state shelf.old) }
+    requires marked { AreAllMarked draft.now.keeper.kept.table draft.now.marks }
     ensures ok { IfOk result (λ summary. (file : List ℕ) × IsMade setting.now.circuit setting.now.budgets summary file × HasWritten file start (S.state shelf.new)) }
     ensures complete { IfOk result (λ summary. 2 ^ setting.now.circuit.sources ≤ setting.now.budgets.cubes → summary.spent ≡ 0) }
     ensures err { IfErr result (λ fault. BrokeOff setting.now.circuit fault start (S.state shelf.new)) }

@@ -51,7 +51,7 @@ pub(crate) fn settle_pair(
     match search_cubes(alloc, setting, sim, &f, &g)? {
         Found::Apart(cube) => Ok(Settled::Apart(cube)),
         Found::Covered(tree) => Ok(Settled::By(Proof::Covered(tree))),
-        Found::Spent(tree) => learn(alloc, setting, pool, &f, &g, tree),
+        Found::Spent(tree) => learn(alloc, setting, &f, &g, tree, pool),
     }
 }
 
@@ -82,10 +82,10 @@ fn search_cubes(
 fn learn(
     alloc: Global,
     setting: &Setting,
-    pool: &mut Pool,
     f: &Fault,
     g: &Fault,
     tree: Tree,
+    pool: &mut Pool,
 ) -> Result<Settled, AllocError>
     requires first { IsFaultOf setting.now.circuit f.now }
     requires second { IsFaultOf setting.now.circuit g.now }

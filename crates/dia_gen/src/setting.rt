@@ -3,31 +3,26 @@
 ghost use Rattle.std.specs.Prelude.{◌≡◌, ◌<◌, ◌↔◌, ◌^◌, IsTrue, IfOk};
 ghost use Rattle.net_model.specs.Circuit.{IsCircuit};
 ghost use Rattle.net_model.specs.Fault.{IsFaultOf};
-ghost use Rattle.net_model.specs.FaultList.{faults, fault_count, fault_numbered};
 ghost use Rattle.net_model.specs.Collapse.{root};
-ghost use Rattle.fault_collapse.specs.Forest.{IsForestOf};
+ghost use Rattle.dia_gen.specs.Setting as spec;
+ghost use Rattle.net_model.specs.FaultList.{fault_count, fault_numbered};
 ghost use Rattle.kept_vectors.specs.Kept.{nothing_kept};
 ghost use Rattle.kept_vectors.specs.Keeper.{keeper_with};
 ghost use Rattle.result_file.specs.Lines.{AreWithinLimits};
-ghost use Rattle.dia_gen.specs.Setting as spec;
 ghost use Rattle.dia_gen.specs.Setting.{setting_with};
-ghost use Rattle.dia_gen.specs.SettingFields.{setting_of, IsReady};
 
 use distinguish_search::Levels;
-use fault_collapse::Forest;
-use fault_list::FaultList;
 use kept_vectors::Keeper;
+use member_marks::Subject;
 use net_model::{Circuit, Fault};
 use result_file::Budgets;
 use std::alloc::{AllocError, Global};
 use std::marker::Model;
 
-// A circuit, the list of its faults, the forest in which they are collapsed, the levels of its lines, and the budgets.
+// The circuit with its faults, the levels of its lines, and the budgets.
 #[derive(Drop)]
 pub(crate) struct Setting<'a> {
-    circuit: &'a Circuit,
-    listed: &'a FaultList,
-    forest: &'a Forest,
+    subject: Subject<'a>,
     levels: &'a Levels,
     budgets: Budgets,
 }
@@ -35,28 +30,18 @@ pub(crate) struct Setting<'a> {
 impl<'a> Model for Setting<'a> {
     ghost Value = { spec.Setting };
 
-    ghost view = { setting_of };
+    ghost view = { λ a. setting_with a.subject a.budgets };
 
-    ghost invariant = { IsReady };
+    ghost invariant = { λ a. AreWithinLimits a.budgets };
 }
 
 impl<'a> Setting<'a> {
-    pub(crate) fn new(
-        circuit: &'a Circuit,
-        listed: &'a FaultList,
-        forest: &'a Forest,
-        levels: &'a Levels,
-        budgets: Budgets,
-    ) -> Setting<'a>
-        requires listed { listed.now ≡ faults circuit.now }
-        requires forest { IsForestOf circuit.now forest.now }
-        requires limits { AreWithinLimits budgets }
-        ensures { result ≡ setting_with circuit.now budgets }
+    pub(crate) fn new(subject: Subject<'a>, levels: &'a Levels, budgets: Budgets) -> Setting<'a>
+        requires { AreWithinLimits budgets }
+        ensures { result ≡ setting_with subject.entry budgets }
     {
         Setting {
-            circuit,
-            listed,
-            forest,
+            subject,
             levels,
             budgets,
         }
@@ -66,7 +51,7 @@ impl<'a> Setting<'a> {
         ensures value { result.now ≡ self.now.circuit }
         ensures circuit { IsCircuit result.now }
     {
-        self.circuit
+        self.subject.circuit()
     }
 
     // The levels of the circuit's lines.
@@ -86,7 +71,7 @@ impl<'a> Setting<'a> {
         ensures value { result ≡ fault_count self.now.circuit }
         ensures few { result < 2 ^ 27 }
     {
-        self.listed.len()
+        self.subject.numbers()
     }
 
     // The fault with a number.
@@ -95,7 +80,7 @@ impl<'a> Setting<'a> {
         ensures value { result ≡ fault_numbered self.now.circuit number }
         ensures stands { IsFaultOf self.now.circuit result }
     {
-        self.listed.get(number)
+        self.subject.fault(number)
     }
 
     // Whether the faults with these numbers have the same root.
@@ -104,7 +89,7 @@ impl<'a> Setting<'a> {
         requires second { b < fault_count self.now.circuit }
         ensures { IsTrue result ↔ (root self.now.circuit (fault_numbered self.now.circuit a) ≡ root self.now.circuit (fault_numbered self.now.circuit b)) }
     {
-        self.forest.same_root(a, b)
+        self.subject.same_root(a, b)
     }
 
     // A keeper of vectors for the circuit.
@@ -112,6 +97,6 @@ impl<'a> Setting<'a> {
         ensures value { IfOk result (λ keeper. keeper ≡ keeper_with self.now.circuit (nothing_kept (fault_count self.now.circuit))) }
         ensures circuit { IsCircuit self.now.circuit }
     {
-        Keeper::new(alloc, self.circuit, self.listed, self.forest)
+        self.subject.keeper(alloc)
     }
 }

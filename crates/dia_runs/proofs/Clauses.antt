@@ -23,21 +23,18 @@ use Rattle.dia_runs.specs.Results.{IsResult}
 use Rattle.dia_runs.specs.Outcome.{Outcome, said, IsCut, IsPartOf, Leaves, KeepsFiles, after_made, written_after}
 use Rattle.dia_runs.specs.Plan.{Judges, refused_file, accepted_file, CallsFor, MayLeave, IsLeftBy, IsRefusedWith, AreAccepted}
 use Rattle.dia_runs.specs.Plans.{MakesResult, plan_of}
-use Rattle.dia_runs.specs.Ran.{IsAmong, statuses_of, Ran, IsDone, KeepsUnlessDone, LeavesResult, GeneratesResult, HoldsTrueResult, ChecksResult, Synthesizes, PrintsFaults, FilesAreJudgedOnce, DecidedByFiles, IsRefusedRequest, KeepsRefused, IsComplete}
+use Rattle.dia_runs.specs.Ran.{IsAmong, statuses_of, Ran, IsDone, KeepsUnlessDone, WasRead, LeavesResult, GeneratesResult, HoldsTrueResult, ChecksResult, Synthesizes, PrintsFaults, FilesAreJudgedOnce, DecidedByFiles, IsRefusedRequest, KeepsRefused, IsComplete}
 use Rattle.dia_runs.proofs.NetlistLemmas.{EvidenceLaws, sound_design, circuit_of}
 use Rattle.dia_runs.proofs.PlanLemmas.{both_end, ends_by}
 
 -- What was read and accepted before what was done with status 0.
 pub record WasDone (files : Files) (name : Text) {X : Type 0} (Accepted : Text → X → Type 0) (Then : X → Type 0) : Type 0 where
-  pub bytes : Text
-  pub held : get files name ≡ Some bytes
-  pub thing : X
-  pub accepted : Accepted bytes thing
-  pub then : Then thing
+  pub read : WasRead files name Accepted
+  pub then : Then read.thing
 
 pub accepted_by : {files : Files} {name : Text} {status : ℕ} {X : Type 0} {Refused : Text → Text → Type 0} {Accepted : Text → X → Type 0} {Then : X → Type 0} {o : Outcome} → 0 < status → Judges files name X Refused Accepted (λ console. o ≡ said status console) Then → o.status ≡ 0 → WasDone files name Accepted Then
 accepted_by {files} {name} {status} {X} {Refused} {Accepted} {Then} {o} above (refused_file bytes console held refused is) z = absurd (omega (arith, above, ap (λ (p : Outcome). p.status) is))
-accepted_by {files} {name} {status} {X} {Refused} {Accepted} {Then} {o} above (accepted_file bytes x held accepted then) z = record { bytes = bytes; held = held; thing = x; accepted = accepted; then = then }
+accepted_by {files} {name} {status} {X} {Refused} {Accepted} {Then} {o} above (accepted_file bytes x held accepted then) z = record { read = record { bytes = bytes; held = held; thing = x; accepted = accepted }; then = then }
 
 last_made : (before : List (Text × Text)) (result file : Text) (files : Files) → get (after_made (before ++ (result, file) ∷ []) files) result ≡ Some file
 last_made [] result file files = get_at_insert files result file
@@ -88,7 +85,7 @@ module _ {asked : Option Request} {status : ℕ} {old new : World} (done : IsDon
   made_of laws bench result budgets is z =
       let d = done_for (gen bench result budgets) is z in
       let w = accepted_by (omega arith) d.1 d.2 in
-      record { bytes = w.bytes; held = w.held; leaves = leaves_result laws w.accepted w.then d.3 }
+      record { bytes = w.read.bytes; held = w.read.held; leaves = leaves_result laws w.read.accepted w.then d.3 }
 
   pub synth_made : EvidenceLaws → Synthesizes asked status old new
   synth_made laws n bench result is z =
@@ -105,10 +102,7 @@ module _ {asked : Option Request} {status : ℕ} {old new : World} (done : IsDon
       let d = done_for (list_faults bench) is z in
       let w = accepted_by (omega arith) d.1 d.2 in
       record {
-        bytes = w.bytes;
-        held = w.held;
-        design = w.thing;
-        accepted = w.accepted;
+        netlist = w.read;
         text = w.then.0;
         lists = w.then.1;
         printed = d.3.console ∙ ap (λ (p : Outcome). old.console ++ p.console) w.then.2;
@@ -120,9 +114,9 @@ module _ {asked : Option Request} {status : ℕ} {old new : World} (done : IsDon
       let w = accepted_by (omega arith) d.1 d.2 in
       let v = accepted_by (omega arith) w.then d.2 in
       let says = v.then.1 in
-      let true_of = law w.thing.circuit says.records (circuit_of w.accepted) says.valid in
+      let true_of = law w.read.thing.circuit says.records (circuit_of w.read.accepted) says.valid in
       record {
-        read = true_result law w.held w.accepted v.held v.accepted says.spelled says.valid;
+        read = true_result law w.read.held w.read.accepted v.read.held v.read.accepted says.spelled says.valid;
         printed = d.3.console ∙ ap (λ (p : Outcome). old.console ++ p.console) v.then.2 ∙ ap (λ (t : Text). old.console ++ t) (says.text_is ∙ ap (λ rs. valid_text (summary_of rs)) true_of.1);
       }
 

@@ -34,7 +34,7 @@ module _ {asked : Option Request} {status : ℕ} {old new : World} (done : IsDon
       let v = accepted_by (omega arith) w.then d.2 in
       let made = v.then.2 in
       record {
-        read = true_result law w.held w.accepted v.held v.accepted made.spelled made.valid;
+        read = true_result law w.read.held w.read.accepted v.read.held v.read.accepted made.spelled made.valid;
         file = v.then.0;
         saved = file_made d.0 (ap (λ (p : Outcome). p.made) v.then.3) d.3;
         text = v.then.1;
@@ -47,10 +47,7 @@ module _ {asked : Option Request} {status : ℕ} {old new : World} (done : IsDon
       let d = done_for done (convert name new_name) is z in
       let w = accepted_by (omega arith) d.1 d.2 in
       record {
-        bytes = w.bytes;
-        held = w.held;
-        dictionary = w.thing;
-        read = w.accepted;
+        dictionary = w.read;
         saved = file_made d.0 (ap (λ (p : Outcome). p.made) w.then.3) d.3 ∙ ap Some w.then.2.file_is;
         printed = printed_text d.0 (ap (λ (p : Outcome). p.console) w.then.3 ∙ w.then.2.text_is) d.3;
       }
@@ -61,14 +58,8 @@ module _ {asked : Option Request} {status : ℕ} {old new : World} (done : IsDon
       let w = accepted_by (omega arith) d.1 d.2 in
       let v = accepted_by (omega arith) w.then d.2 in
       record {
-        bytes = w.bytes;
-        held = w.held;
-        dictionary = w.thing;
-        read = w.accepted;
-        lines = v.bytes;
-        there = v.held;
-        observed = v.thing;
-        tells = v.accepted;
+        dictionary = w.read;
+        observed = v.read;
         printed = printed_text d.0 (ap (λ (p : Outcome). p.console) v.then.2 ∙ v.then.1) d.3;
       }
 

@@ -34,7 +34,7 @@ use Rattle.result_file.specs.Laws.{RefusedFileIsWrong}
 use Rattle.fault_collapse.specs.Laws.{SameRootEqual}
 use Rattle.pair_sets.specs.Laws.{CoveringEqual, LeavesClosed, SpendingBounded}
 use Rattle.result_file.proofs.Truth.{AreSound}
-use Rattle.dia_gen.proofs.DraftResult.{sound_circuit}
+use Rattle.result_file.proofs.SoundLemmas.{sound_circuit}
 
 abbrev place_with : ℕ → ℕ → Place
 place_with byte line = record { byte = byte; line = line }

@@ -169,16 +169,11 @@ module _ {asked : Option Request} {status : ℕ} {old new : World} (done : IsDon
       let d = done_for done (simulate bench list) is z in
       let w = accepted_by (omega arith) d.1 d.2 in
       let v = accepted_by (omega arith) w.then d.2 in
+      let says = v.then in
       record {
-        bytes = w.bytes;
-        held = w.held;
-        design = w.thing;
-        accepted = w.accepted;
-        lines = v.bytes;
-        there = v.held;
-        vectors = v.thing;
-        listed = v.accepted;
-        text = v.then.0;
-        simulated = v.then.1;
-        printed = d.3.console ∙ ap (λ (p : Outcome). old.console ++ p.console) v.then.2;
+        netlist = w.read;
+        vectors = v.read;
+        text = says.0;
+        simulated = says.1;
+        printed = d.3.console ∙ ap (λ (p : Outcome). old.console ++ p.console) says.2;
       }

@@ -2,6 +2,7 @@
 use Rattle.std.proofs.Common.{◌≡◌, ◌≢◌, ◌∙◌, ℕ, zero, suc, ◌+◌, ◌*◌, ◌/◌, ◌%◌, ◌^◌, ◌<◌, ◌≤◌, true, List, [], ◌∷◌, ◌++◌, length, map, refl, sym, subst, ap, ap₂, arith, append_assoc, length-append, Some}
 use Rattle.std.specs.Prelude.{codes, decimal, flat_map, filter_map, slice_index_or, All, AllPairs, Contains, IsTrue, ◌==◌, if◌then◌else◌}
 use Rattle.std.specs.List.{range_with_len, list_all}
+use Rattle.std.proofs.lemmas.Bool.Decides.{nat_tests}
 use Rattle.std.proofs.lemmas.List.{append-nil, length-map}
 use Rattle.std.proofs.lemmas.List.FromFn.{get_or-map-range_with_len, length-range_with_len}
 use Rattle.std.proofs.lemmas.List.Folds.{list_all-append}
@@ -146,17 +147,7 @@ first_is = signal_is 0 0 (omega arith) ∙ first_carry
 
 digit_run : (d : ℕ) → d < 10 → is_name_byte (48 + d) ≡ true
 unfolding is_name_byte
-digit_run zero h = refl
-digit_run (suc zero) h = refl
-digit_run (suc (suc zero)) h = refl
-digit_run (suc (suc (suc zero))) h = refl
-digit_run (suc (suc (suc (suc zero)))) h = refl
-digit_run (suc (suc (suc (suc (suc zero))))) h = refl
-digit_run (suc (suc (suc (suc (suc (suc zero)))))) h = refl
-digit_run (suc (suc (suc (suc (suc (suc (suc zero))))))) h = refl
-digit_run (suc (suc (suc (suc (suc (suc (suc (suc zero)))))))) h = refl
-digit_run (suc (suc (suc (suc (suc (suc (suc (suc (suc zero))))))))) h = refl
-digit_run (suc (suc (suc (suc (suc (suc (suc (suc (suc (suc d)))))))))) h = absurd (omega arith)
+digit_run d h = grind (arith, nat_tests)
 
 decimal_run : (k : ℕ) → k < 2 ^ 64 → list_all is_name_byte (decimal k) ≡ true
 decimal_run =

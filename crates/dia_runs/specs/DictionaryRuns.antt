@@ -1,5 +1,5 @@
 -- What the runs of `dict`, `convert` and `diagnose` that answer 0 leave.
-use Rattle.std.specs.Prelude.{◌≡◌, ◌≤◌, ◌↔◌, ℕ, Bool, List, length, Option, Some}
+use Rattle.std.specs.Prelude.{◌≡◌, ◌≤◌, ◌↔◌, ℕ, length, Option, Some}
 use Rattle.std.specs.FinMap.{get}
 use Rattle.diag_shelf.specs.World.{Files, World}
 use Rattle.table_dicts.specs.declared.dict.Dict.{Dict}
@@ -9,12 +9,12 @@ use Rattle.dict_file.specs.Spelling.{spelling, most_bytes, IsFileOf}
 use Rattle.request_words.specs.declared.request.EntryKind.{EntryKind}
 use Rattle.request_words.specs.Request.{Text, Request, make_dict, convert, diagnose}
 use Rattle.dia_runs.specs.Texts.{groups_text, numbers_text}
-use Rattle.dia_runs.specs.Dictionaries.{IsMadeDictionary}
+use Rattle.dia_runs.specs.Dictionaries.{IsDictionaryFile, IsMadeDictionary}
 use Rattle.dia_runs.specs.Logs.{IsLogFor}
 use Rattle.dia_runs.specs.Outcome.{Outcome, ConsoleGained}
 use Rattle.dia_runs.specs.Plan.{CallsFor}
 use Rattle.dia_runs.specs.Plans.{plan_of}
-use Rattle.dia_runs.specs.Ran.{HoldsTrueResult}
+use Rattle.dia_runs.specs.Ran.{WasRead, HoldsTrueResult}
 
 -- The result is valid and true. Under the dictionary's name is the version 2 of the dictionary of this kind at the result's patterns, and
 -- the console gained its counts.
@@ -32,12 +32,9 @@ MakesDictionary request status old new = (kind : EntryKind) (bench result dict :
 
 -- Under the new name is the version 2 of the dictionary that was read, and the console gained its counts.
 pub record HasConverted (name new_name : Text) (old new : World) : Type 0 where
-  pub bytes : Text
-  pub held : get old.files name ≡ Some bytes
-  pub dictionary : Dict
-  pub read : IsFileOf dictionary bytes
-  pub saved : get new.files new_name ≡ Some (spelling Two dictionary)
-  pub printed : ConsoleGained (groups_text dictionary.numbers dictionary.patterns (length dictionary.entries)) old new
+  pub dictionary : WasRead old.files name IsDictionaryFile
+  pub saved : get new.files new_name ≡ Some (spelling Two dictionary.thing)
+  pub printed : ConsoleGained (groups_text dictionary.thing.numbers dictionary.thing.patterns (length dictionary.thing.entries)) old new
 
 -- A run of `convert` that answers 0 leaves that.
 abbrev pub ConvertsDictionary : Option Request → ℕ → World → World → Type 0
@@ -45,15 +42,9 @@ ConvertsDictionary request status old new = (name new_name : Text) → request �
 
 -- The console gained the numbers of which the dictionary has the entry of the log's answers, one to a line, and their count.
 pub record HasDiagnosis (dict log : Text) (old new : World) : Type 0 where
-  pub bytes : Text
-  pub held : get old.files dict ≡ Some bytes
-  pub dictionary : Dict
-  pub read : IsFileOf dictionary bytes
-  pub lines : Text
-  pub there : get old.files log ≡ Some lines
-  pub observed : List (List Bool)
-  pub tells : IsLogFor dictionary lines observed
-  pub printed : ConsoleGained (numbers_text (listed_numbers dictionary observed)) old new
+  pub dictionary : WasRead old.files dict IsDictionaryFile
+  pub observed : WasRead old.files log (IsLogFor dictionary.thing)
+  pub printed : ConsoleGained (numbers_text (listed_numbers dictionary.thing observed.thing)) old new
 
 -- A run of `diagnose` that answers 0 prints that.
 abbrev pub PrintsDiagnosis : Option Request → ℕ → World → World → Type 0

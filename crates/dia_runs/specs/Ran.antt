@@ -106,7 +106,18 @@ pub record Follows (plan : Plan) (statuses : List ℕ) (outputs : List Text) (st
 abbrev pub Ran : Option Request → ℕ → State → State → Type 0
 Ran request status old new = Follows (plan_of request) (statuses_of request) (outputs_of request) status old new
 
+-- What is promised of a run that is asked this, from a plan on: what it reads first was read.
+abbrev pub RanOn : Request → Plan → ℕ → State → State → Type 0
+RanOn request plan status old new = Follows plan (statuses_of (Some request)) (outputs_of (Some request)) status old new
+
 -- ---- what follows
+
+-- The file of this name was read, and accepted as this thing.
+pub record WasRead (files : Files) (name : Text) {X : Type 0} (Accepted : Text → X → Type 0) : Type 0 where
+  pub bytes : Text
+  pub held : get files name ≡ Some bytes
+  pub thing : X
+  pub accepted : Accepted bytes thing
 
 -- With a status from 2 to 7 no file was created or changed.
 abbrev pub KeepsUnlessDone : ℕ → World → World → Type 0
@@ -166,12 +177,9 @@ ChecksResult request status old new = (bench result : Text) → request ≡ Some
 
 -- The console gained all faults of the netlist's circuit with their roots.
 pub record HasFaults (bench : Text) (old new : World) : Type 0 where
-  pub bytes : Text
-  pub held : get old.files bench ≡ Some bytes
-  pub design : Design
-  pub accepted : IsDesign bytes design
+  pub netlist : WasRead old.files bench IsDesign
   pub text : Text
-  pub lists : IsFaultsText design text
+  pub lists : IsFaultsText netlist.thing text
   pub printed : ConsoleGained text old new
 
 -- A run of `faults` that answers 0 prints them.

@@ -1,26 +1,19 @@
 -- What a run of `sim` that answers 0 leaves.
-use Rattle.std.specs.Prelude.{◌≡◌, ℕ, Bool, List, Option, Some}
-use Rattle.std.specs.FinMap.{get}
+use Rattle.std.specs.Prelude.{◌≡◌, ℕ, Option, Some}
 use Rattle.diag_shelf.specs.World.{World}
-use Rattle.net_model.specs.declared.circuit.Design.{Design}
 use Rattle.sim_listing.specs.SimText.{IsSimText}
 use Rattle.request_words.specs.Request.{Text, Request, simulate}
 use Rattle.dia_runs.specs.Netlists.{IsDesign}
 use Rattle.dia_runs.specs.Logs.{IsListFor}
 use Rattle.dia_runs.specs.Outcome.{ConsoleGained}
+use Rattle.dia_runs.specs.Ran.{WasRead}
 
 -- The console gained what the netlist's circuit answers to the list's vectors, without a fault and with each that makes a difference.
 pub record HasSimulation (bench list : Text) (old new : World) : Type 0 where
-  pub bytes : Text
-  pub held : get old.files bench ≡ Some bytes
-  pub design : Design
-  pub accepted : IsDesign bytes design
-  pub lines : Text
-  pub there : get old.files list ≡ Some lines
-  pub vectors : List (List Bool)
-  pub listed : IsListFor design.circuit lines vectors
+  pub netlist : WasRead old.files bench IsDesign
+  pub vectors : WasRead old.files list (IsListFor netlist.thing.circuit)
   pub text : Text
-  pub simulated : IsSimText design.circuit vectors text
+  pub simulated : IsSimText netlist.thing.circuit vectors.thing text
   pub printed : ConsoleGained text old new
 
 -- A run of `sim` that answers 0 prints that.

@@ -1,14 +1,8 @@
 -- The lines of the console.
-use Rattle.net_model.specs.FaultList.{fault_numbered}
-use Rattle.std.specs.Prelude.{ℕ, ◌-◌, List, ◌∷◌, ◌++◌, codes, decimal, flat_map, length, Option, Some, None}
-use Rattle.std.specs.List.{range_with_len}
-use Rattle.net_model.specs.declared.circuit.Design.{Design}
-use Rattle.net_model.specs.declared.fault.Fault.{Fault}
+use Rattle.std.specs.Prelude.{ℕ, List, ◌∷◌, ◌++◌, codes, decimal, flat_map, length, Option, Some, None}
 use Rattle.bench_reader.specs.declared.fault.Place.{Place}
 use Rattle.bench_reader.specs.declared.fault.NetKind.{NetKind}
 use Rattle.bench_reader.specs.declared.fault.NetKind.TheVariants.{BadByte, Expected, UnknownGate, WrongPins, DrivenTwice, Undriven, TooLong}
-use Rattle.fault_list.specs.Names.{fault_name}
-use Rattle.fault_collapse.specs.Forest.{Forest, number_count, root_of, root_numbers}
 use Rattle.refute_check.specs.declared.refusal.RefusalKind.{RefusalKind}
 use Rattle.refute_check.specs.declared.refusal.RefusalKind.TheVariants as why
 use Rattle.refute_check.specs.declared.refusal.Refusal.{Refusal}
@@ -96,20 +90,9 @@ not_understood_text = codes "words: not understood\n"
 unfoldable pub line_start : ℕ → ℕ → Text
 line_start number root = decimal number ++ (codes " " ++ (decimal root ++ codes " "))
 
--- a number, that of its root and the fault's name
-unfoldable pub fault_fields : Design → Fault → ℕ → ℕ → Text
-fault_fields design fault number root = line_start number root ++ fault_name design.circuit design.names fault ++ codes "\n"
-
-abbrev pub fault_line : Design → Forest → ℕ → Text
-fault_line design forest n = fault_fields design (fault_numbered design.circuit n) n (root_of forest n)
-
 -- how many faults there are, and how many roots, number 0 left out
 unfoldable pub count_text : ℕ → ℕ → Text
 count_text numbers roots = codes "faults " ++ (decimal numbers ++ (codes " roots " ++ (decimal roots ++ codes "\n")))
-
--- all faults, by number
-unfoldable pub faults_text : Design → Forest → Text
-faults_text design forest = flat_map (fault_line design forest) (range_with_len 0 (number_count forest)) ++ count_text (number_count forest - 1) (length (root_numbers forest))
 
 -- ---- dictionaries
 

@@ -3,12 +3,12 @@
 ghost use Rattle.std.specs.Prelude.{◌≡◌, ◌⊎◌, map, string_bytes, IsTrue, None};
 ghost use Rattle.diag_shelf.specs.Calls.{Told};
 ghost use Rattle.request_words.specs.Request.{request_of};
+ghost use Rattle.dia_runs.specs.DictionaryRuns.{MakesDictionary, ConvertsDictionary, PrintsDiagnosis, DiagnosesAlike};
 ghost use Rattle.dia_runs.specs.Outputs.{outputs_of};
 ghost use Rattle.dia_runs.specs.Plan.{AreHeld};
 ghost use Rattle.dia_runs.specs.Plans.{plan_of};
-ghost use Rattle.dia_runs.specs.Simulations.{PrintsSimulation};
-ghost use Rattle.dia_runs.specs.DictionaryRuns.{MakesDictionary, ConvertsDictionary, PrintsDiagnosis, DiagnosesAlike};
 ghost use Rattle.dia_runs.specs.Ran.{IsAmong, statuses_of, Stays, HasCauses, IsDone, IsUnread, IsBrokenOff, OnlyOutputs, NoneFailed, Ran, KeepsUnlessDone, GeneratesResult, ChecksResult, Synthesizes, PrintsFaults, NoNumberIsRefused, FilesAreJudgedOnce, DecidedByFiles, KeepsRefused, IsComplete};
+ghost use Rattle.dia_runs.specs.Simulations.{PrintsSimulation};
 
 use crate::cells::no_number_is_refused;
 use crate::checks::check_result;

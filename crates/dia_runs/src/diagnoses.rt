@@ -1,11 +1,12 @@
 //! The command `diagnose`: the numbers that a dictionary and a log point to.
 
-ghost use Rattle.std.specs.Prelude.{◌≡◌, ◌++◌, IfOk, OnOk, Some, flat_map};
-ghost use Rattle.table_dicts.specs.Dictionary.{IsGroupedDict, IsShaped};
+ghost use Rattle.std.specs.Prelude.{◌≡◌, ◌++◌, ℕ, Bool, List, IfOk, OnOk, Some, flat_map};
 ghost use Rattle.table_dicts.specs.Rows.{AreRows};
+ghost use Rattle.dict_file.specs.Spelling.{HasSpelling};
 ghost use Rattle.request_words.specs.Request.{diagnose};
 ghost use Rattle.dia_runs.specs.Dictionaries.{IsDiagnosis};
-ghost use Rattle.dia_runs.specs.Ran.{Ran};
+ghost use Rattle.dia_runs.specs.Plans.{says, with_log};
+ghost use Rattle.dia_runs.specs.Ran.{Ran, RanOn};
 ghost use Rattle.dia_runs.specs.Texts.{number_line};
 
 use crate::dictionaries::read_dictionary;
@@ -22,25 +23,31 @@ use table_dicts::Dict;
 pub(crate) fn diagnose_log<S: Shelf>(alloc: Global, shelf: &mut S, dict: &str, log: &str) -> u8
     ensures { Ran (Some (diagnose dict.now log.now)) result (S.state shelf.old) (S.state shelf.new) }
 {
-    let dict = match read_dictionary(alloc, shelf, dict) {
-        Ok(dict) => dict,
-        Err(status) => return status,
-    };
-    let observed = match read_observed(alloc, shelf, &dict, log) {
+    match read_dictionary(alloc, shelf, dict) {
+        Ok(dict) => diagnose_by(alloc, shelf, &dict, log),
+        Err(status) => status,
+    }
+}
+
+// Reads and judges the log, and prints the numbers that the dictionary and the log point to.
+fn diagnose_by<S: Shelf>(alloc: Global, shelf: &mut S, dict: &Dict, log: &str) -> u8
+    requires { HasSpelling dict.now }
+    ensures { (name : List ℕ) → RanOn (diagnose name log.now) (with_log log.now dict.now (λ (observed : List (List Bool)). says (IsDiagnosis dict.now observed))) result (S.state shelf.old) (S.state shelf.new) }
+{
+    let observed = match read_observed(alloc, shelf, dict, log) {
         Ok(observed) => observed,
         Err(status) => return status,
     };
-    let Ok(text) = diagnosis(alloc, &dict, &observed) else {
-        return 9;
-    };
-    say(shelf, 0, &text)
+    match diagnosis(alloc, dict, &observed) {
+        Ok(text) => say(shelf, 0, &text),
+        Err(_) => 9,
+    }
 }
 
 // A line for each number whose entry is that of the observed answers, and how many they are.
 #[tactic(auto, unfolding(crate::specs::Texts::numbers_text))]
 fn diagnosis(alloc: Global, dict: &Dict, observed: &AnswerRows) -> Result<Vec<u8>, AllocError>
-    requires grouped { IsGroupedDict dict.now }
-    requires shaped { IsShaped dict.now }
+    requires dictionary { HasSpelling dict.now }
     requires observed { AreRows dict.now.patterns dict.now.positions observed.now }
     ensures { IfOk result (λ text. IsDiagnosis dict.now observed.now text.items) }
 {

@@ -1,14 +1,12 @@
 //! The command `faults`: the faults of a netlist's circuit, each with its root and its name.
 
-ghost use Rattle.std.specs.Prelude.{◌≡◌, ◌++◌, All, Some, IfOk, OnOk, flat_map, length};
-ghost use Rattle.std.specs.List.{range_with_len};
+ghost use Rattle.std.specs.Prelude.{◌≡◌, ◌++◌, All, Some, IfOk, OnOk, length};
 ghost use Rattle.net_model.specs.Circuit.{line_count};
-ghost use Rattle.net_model.specs.FaultList.{faults};
+ghost use Rattle.net_model.specs.Fault.{IsFaultOf};
+ghost use Rattle.net_model.specs.FaultList.{faults as faults_of};
 ghost use Rattle.fault_collapse.specs.Forest.{number_count};
 ghost use Rattle.request_words.specs.Request.{list_faults};
-ghost use Rattle.net_model.specs.Fault.{IsFaultOf};
-ghost use Rattle.dia_runs.specs.Texts.{fault_line, fault_fields};
-ghost use Rattle.dia_runs.specs.Faults.{IsFaultsText};
+ghost use Rattle.dia_runs.specs.Faults.{IsFaultsText, fault_lines, fault_fields};
 ghost use Rattle.dia_runs.specs.Ran.{Ran};
 
 use crate::ends::say;
@@ -56,10 +54,10 @@ fn push_faults(
     forest: &Forest,
 ) -> Result<(), AllocError>
     requires named { length design.now.names ≡ line_count design.now.circuit }
-    requires listed { listed.now ≡ faults design.now.circuit }
+    requires listed { listed.now ≡ faults_of design.now.circuit }
     requires stand { All (IsFaultOf design.now.circuit) listed.now }
     requires forest { number_count forest.now ≡ length listed.now }
-    ensures { OnOk result (text.new.items ≡ text.old.items ++ flat_map (fault_line design.now forest.now) (range_with_len 0 (number_count forest.now))) }
+    ensures { OnOk result (text.new.items ≡ text.old.items ++ fault_lines design.now forest.now) }
 {
     for number in 0..listed.len() {
         push_fault(
@@ -74,7 +72,7 @@ fn push_faults(
 }
 
 // The line of a fault with this number and the number of its root.
-#[tactic(auto, unfolding(crate::specs::Texts::fault_fields))]
+#[tactic(auto, unfolding(crate::specs::Faults::fault_fields))]
 fn push_fault(
     text: &mut Vec<u8>,
     design: &Design,

@@ -1,11 +1,11 @@
 //! The command `dict`: from the bytes of a netlist and a result to a dictionary.
 
-ghost use Rattle.std.specs.Prelude.{◌≡◌, ◌<◌, ◌^◌, All, IfOk, Some, length, string_bytes};
+ghost use Rattle.std.specs.Prelude.{◌≡◌, All, IfOk, Some, length, string_bytes};
 ghost use Rattle.net_model.specs.Circuit.{IsCircuit};
-ghost use Rattle.net_model.specs.FaultList.{faults as faults_of};
 ghost use Rattle.net_model.specs.PatternRows.{IsTableOf};
 ghost use Rattle.class_refine.specs.Fields.{IsWhole};
 ghost use Rattle.table_dicts.specs.Dictionary.{IsGroupedDict, IsShaped};
+ghost use Rattle.table_dicts.specs.Setting.{IsSetting};
 ghost use Rattle.dict_file.specs.declared.fault.DictVersion.TheVariants.{Two};
 ghost use Rattle.dict_file.specs.Spelling.{spelling};
 ghost use Rattle.request_words.specs.Request.{make_dict};
@@ -20,12 +20,12 @@ use class_refine::Classes;
 use dia_check::Checked;
 use diag_shelf::Shelf;
 use dict_file::{DictVersion, encode};
-use fault_list::{FaultList, list};
+use fault_list::list;
 use net_model::{Circuit, Vectors};
 use request_words::EntryKind;
 use samediff_dict::{keeps_as_many, no_row_is_better, same_diff_at};
 use std::alloc::{AllocError, Global};
-use table_dicts::{Dict, apart, full_at, pass_fail_at};
+use table_dicts::{Dict, Setting, apart, full_at, pass_fail_at};
 
 /// Reads and judges the netlist and then the result, and makes a dictionary of this kind under the dictionary's name.
 pub(crate) fn make_dictionary<S: Shelf>(
@@ -93,32 +93,29 @@ fn dictionary_of(
     let _patterns = classes.patterns();
     let _sources = circuit.sources();
     let faults = list(alloc, circuit)?;
+    let setting = Setting {
+        circuit,
+        faults: &faults,
+        patterns,
+        classes,
+    };
     match kind {
-        EntryKind::PassFail => pass_fail_at(alloc, circuit, &faults, patterns, classes),
-        EntryKind::Full => full_at(alloc, circuit, &faults, patterns, classes),
-        EntryKind::SameDiff => chosen_of(alloc, circuit, &faults, patterns, classes),
+        EntryKind::PassFail => pass_fail_at(alloc, &setting),
+        EntryKind::Full => full_at(alloc, &setting),
+        EntryKind::SameDiff => chosen_of(alloc, &setting),
     }
 }
 
 // The same/different dictionary with the baselines that are chosen.
-fn chosen_of(
-    alloc: Global,
-    circuit: &Circuit,
-    faults: &FaultList,
-    patterns: &Vectors,
-    classes: &Classes,
-) -> Result<Dict, AllocError>
-    requires faults { faults.now ≡ faults_of circuit.now }
-    requires widths { All (λ v. length v ≡ circuit.now.sources) patterns.now }
-    requires few { length patterns.now < 2 ^ 32 }
-    requires table { IsTableOf circuit.now patterns.now classes.now }
-    ensures dictionary { IfOk result (IsOfPatterns circuit.now EntryKind.SameDiff patterns.now classes.now) }
-    ensures most { IfOk result (KeepsMostApart circuit.now patterns.now classes.now) }
+fn chosen_of(alloc: Global, setting: &Setting) -> Result<Dict, AllocError>
+    requires { IsSetting setting.now }
+    ensures dictionary { IfOk result (IsOfPatterns setting.now.circuit.now EntryKind.SameDiff setting.now.patterns.now setting.now.classes.now) }
+    ensures most { IfOk result (KeepsMostApart setting.now.circuit.now setting.now.patterns.now setting.now.classes.now) }
 {
     keeps_as_many();
     no_row_is_better();
-    let _count = classes.count();
-    same_diff_at(alloc, circuit, faults, patterns, classes)
+    let _count = setting.classes.count();
+    same_diff_at(alloc, setting)
 }
 
 // A dictionary's file in version 2, and what is printed of it and the classes.

@@ -1,11 +1,12 @@
 //! The command `sim`: what a circuit answers to a list of vectors, without a fault and with each.
 
-ghost use Rattle.std.specs.Prelude.{◌≡◌, ◌+◌, ◌≤◌, ℕ, List, All, Some, length, min, slice_range};
+ghost use Rattle.std.specs.Prelude.{◌≡◌, ◌+◌, ◌≤◌, ℕ, Bool, List, All, Some, length, min, slice_range};
 ghost use Rattle.net_model.specs.FaultList.{faults as faults_of};
 ghost use Rattle.sim_listing.specs.SimText.{IsSimTextFrom, IsSimText};
 ghost use Rattle.request_words.specs.Request.{simulate};
 ghost use Rattle.dia_runs.specs.Outcome.{said, IsPartOf};
-ghost use Rattle.dia_runs.specs.Ran.{Ends, Ran};
+ghost use Rattle.dia_runs.specs.Plans.{says, with_vectors};
+ghost use Rattle.dia_runs.specs.Ran.{Ends, Ran, RanOn};
 
 use crate::ends::say;
 use crate::logs::read_list;
@@ -21,15 +22,20 @@ use word_sim::LANES;
 pub(crate) fn simulate<S: Shelf>(alloc: Global, shelf: &mut S, bench: &str, vectors: &str) -> u8
     ensures { Ran (Some (simulate bench.now vectors.now)) result (S.state shelf.old) (S.state shelf.new) }
 {
-    let design = match read_design(alloc, shelf, bench) {
-        Ok(design) => design,
-        Err(status) => return status,
-    };
-    let vectors = match read_list(alloc, shelf, &design.circuit, vectors) {
-        Ok(vectors) => vectors,
-        Err(status) => return status,
-    };
-    print_simulation(alloc, shelf, &design.circuit, vectors.as_slice())
+    match read_design(alloc, shelf, bench) {
+        Ok(design) => simulate_list(alloc, shelf, &design.circuit, vectors),
+        Err(status) => status,
+    }
+}
+
+// Reads and judges the list of vectors, and prints what the circuit answers to each.
+fn simulate_list<S: Shelf>(alloc: Global, shelf: &mut S, circuit: &Circuit, vectors: &str) -> u8
+    ensures { (bench : List ℕ) → RanOn (simulate bench vectors.now) (with_vectors vectors.now circuit.now (λ (list : List (List Bool)). says (IsSimText circuit.now list))) result (S.state shelf.old) (S.state shelf.new) }
+{
+    match read_list(alloc, shelf, circuit, vectors) {
+        Ok(vectors) => print_simulation(alloc, shelf, circuit, vectors.as_slice()),
+        Err(status) => status,
+    }
 }
 
 // Prints the text of the simulation, block after block.

@@ -116,15 +116,15 @@ fn rule_text(alloc: Global, kind: ResultKind) -> Result<String, AllocError>
 fn evidence_text(alloc: Global, refusal: Refusal) -> Result<String, AllocError>
     ensures { IfOk result (λ text. string_bytes text ≡ evidence_text refusal) }
 {
-    let rule = evidence_rule(refusal.kind);
+    let rule = evidence_rule(refusal);
     let step = refusal.step;
     format!(in alloc; "Evidence {rule} at step {step}, ")
 }
 
-fn evidence_rule(kind: RefusalKind) -> &'static str
-    ensures { result.now ≡ evidence_rule kind }
+fn evidence_rule(refusal: Refusal) -> &'static str
+    ensures { result.now ≡ evidence_rule refusal.kind }
 {
-    match kind {
+    match refusal.kind {
         RefusalKind::NoSuchClause => "NoSuchClause",
         RefusalKind::NoPivot => "NoPivot",
         RefusalKind::NotEmpty => "NotEmpty",
@@ -176,12 +176,12 @@ pub(crate) fn groups_text(
 pub(crate) fn log_text(alloc: Global, kind: LogKind, line: u64) -> Result<String, AllocError>
     ensures { IfOk result (λ text. string_bytes text ≡ log_text kind line) }
 {
-    let rule = log_rule(kind);
+    let rule = log_rule(&kind);
     format!(in alloc; "log: {rule} at line {line}\n")
 }
 
-fn log_rule(kind: LogKind) -> &'static str
-    ensures { result.now ≡ log_rule kind }
+fn log_rule(kind: &LogKind) -> &'static str
+    ensures { result.now ≡ log_rule kind.now }
 {
     match kind {
         LogKind::Syntax => "Syntax",

@@ -1,14 +1,12 @@
 -- Bits as digits.
 use Rattle.std.proofs.Common.{◌≡◌, ◌≢◌, ◌∙◌, ℕ, ◌<◌, ◌≤◌, Bool, true, false, eqb, zero, suc, ◌+◌, List, [], ◌∷◌, map, length, get_or, set, replicate, below_more, refl, sym, ap, ap₂, subst, inl, inr, arith, lit<}
 use Rattle.std.specs.Prelude.{All, codes}
-use Rattle.std.proofs.lemmas.Bool.{eqb-false, cases_eq}
+use Rattle.std.proofs.lemmas.Bool.{cases_eq}
 use Rattle.std.proofs.lemmas.List.{ext_get_or, length-map, length-replicate, get_or-map, length-set, get_or-set_same, get_or-set_other}
 use Rattle.std.proofs.lemmas.List.Elements.{All-nil, All-cons, All-map}
 use Rattle.net_model.specs.BitText.{bit_digit, bits_text}
 use Rattle.table_dicts.specs.Rows.{IsRowSet}
 use Rattle.diagnose.specs.Lines.{Text, IsDigit, SpellField, digit_bits}
-use Rattle.diagnose.proofs.Cuts.{tails}
-use Rattle.diagnose.proofs.NumberLemmas.{first_byte}
 
 digit_above : (bit : Bool) → 32 < bit_digit bit
 digit_above true = lit< tt
@@ -18,29 +16,6 @@ digit_above false = lit< tt
 pub bits_bytes : (bits : List Bool) → All (λ b. 32 < b) (bits_text bits)
 bits_bytes [] = All-cons (λ b. 32 < b) 45 [] (lit< tt) (All-nil (λ b. 32 < b))
 bits_bytes (bit ∷ bits) = All-map (λ b. 32 < b) bit_digit (bit ∷ bits) (λ k d below. digit_above (get_or (bit ∷ bits) k d))
-
-digit_once : (bit other : Bool) → bit_digit bit ≡ bit_digit other → bit ≡ other
-digit_once true true e = refl
-digit_once true false e = absurd (eqb-false 49 48 refl e)
-digit_once false true e = absurd (eqb-false 48 49 refl e)
-digit_once false false e = refl
-
-digits_once : (bits others : List Bool) → map bit_digit bits ≡ map bit_digit others → bits ≡ others
-digits_once [] [] e = refl
-digits_once [] (other ∷ others) e = absurd (cc)
-digits_once (bit ∷ bits) [] e = absurd (cc)
-digits_once (bit ∷ bits) (other ∷ others) e = ap₂ (λ (x : Bool) (xs : List Bool). x ∷ xs) (digit_once bit other (tails e).0) (digits_once bits others (tails e).1)
-
-no_dash : (bit : Bool) → bit_digit bit ≡ 45 → ⊥
-no_dash true = eqb-false 49 45 refl
-no_dash false = eqb-false 48 45 refl
-
--- bits with one text are the same
-pub bits_once : (bits others : List Bool) → bits_text bits ≡ bits_text others → bits ≡ others
-bits_once [] [] e = refl
-bits_once [] (other ∷ others) e = absurd (no_dash other (sym (ap first_byte e)))
-bits_once (bit ∷ bits) [] e = absurd (no_dash bit (ap first_byte e))
-bits_once (bit ∷ bits) (other ∷ others) e = digits_once (bit ∷ bits) (other ∷ others) e
 
 -- ---- digits that spell a field
 

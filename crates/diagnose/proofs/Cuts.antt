@@ -1,11 +1,9 @@
 -- Texts that are cut where a byte stands for the first time.
-use Rattle.std.proofs.Common.{◌≡◌, ℕ, suc, ◌<◌, List, [], ◌∷◌, ◌++◌, refl, sym, ap₂, arith}
+use Rattle.std.proofs.Common.{◌≡◌, ℕ, suc, ◌<◌, [], ◌∷◌, ◌++◌, refl, sym, ap₂, arith}
 use Rattle.std.specs.Prelude.{All, Contains}
 use Rattle.std.proofs.lemmas.List.Elements.{All-contains}
+use Rattle.result_file.proofs.Cuts.{tails}
 use Rattle.diagnose.specs.Lines.{Text}
-
-pub tails : {X : Type 0} {x y : X} {xs ys : List X} → x ∷ xs ≡ y ∷ ys → (x ≡ y) × (xs ≡ ys)
-tails e = (cc, cc)
 
 missing_later : (byte b : ℕ) (bs : Text) → ¬ Contains (b ∷ bs) byte → ¬ Contains bs byte
 missing_later byte b bs missing there = missing (suc there.0, omega (arith, there.1), there.2)

@@ -1,5 +1,4 @@
 pub mod Cuts
-pub mod NumberLemmas
 pub mod BitLemmas
 pub mod LineLemmas
 pub mod LogLemmas

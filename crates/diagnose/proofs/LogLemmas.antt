@@ -10,9 +10,11 @@ use Rattle.diagnose.specs.declared.fault.LogKind.{LogKind}
 use Rattle.diagnose.specs.declared.fault.LogKind.TheVariants.{Syntax, Order, Width, Missing}
 use Rattle.diagnose.specs.Lines.{Text, text_limit, lines_from, digit_bits, IsCutAt, at_line}
 use Rattle.diagnose.specs.LogText.{log_line, IsLog, BeginsWithLine, HasNoLine, LogRestRefused, missing, no_line, too_many, misplaced, wrong_width, LogRefused, IsRightLine}
-use Rattle.diagnose.proofs.Cuts.{tails, cut_once, missing_below, not_empty}
-use Rattle.diagnose.proofs.NumberLemmas.{number_bytes}
-use Rattle.diagnose.proofs.BitLemmas.{bits_bytes, bits_once}
+use Rattle.result_file.proofs.Cuts.{tails}
+use Rattle.result_file.proofs.NumberLemmas.{number_bytes}
+use Rattle.result_file.proofs.BitLemmas.{bits_once}
+use Rattle.diagnose.proofs.Cuts.{cut_once, missing_below, not_empty}
+use Rattle.diagnose.proofs.BitLemmas.{bits_bytes}
 use Rattle.diagnose.proofs.LineLemmas.{lines_more, TellsRow, KeepsRight, OneRule, refused_once, refused_wrong, rows_once}
 
 -- a text of bits has no LF and no blank, and a number has no blank

@@ -9,7 +9,7 @@ use Rattle.diagnose.specs.declared.fault.LogKind.TheVariants.{Syntax, Width}
 use Rattle.diagnose.specs.Lines.{Text, text_limit, lines_from, digit_bits, AreWide, IsCutAt, at_line}
 use Rattle.diagnose.specs.VectorText.{vector_line, IsVectorList, HasNoVector, VectorRestRefused, no_vector, wrong_width, VectorsRefused, IsRightVector}
 use Rattle.diagnose.proofs.Cuts.{cut_once, not_empty}
-use Rattle.diagnose.proofs.BitLemmas.{bits_once}
+use Rattle.result_file.proofs.BitLemmas.{bits_once}
 use Rattle.diagnose.proofs.LogLemmas.{bits_without_feed}
 use Rattle.diagnose.proofs.LineLemmas.{lines_more, TellsRow, KeepsRight, OneRule, refused_once, refused_wrong, rows_once}
 

@@ -4,10 +4,11 @@ use Rattle.std.specs.Int.{bit_at as digit_at}
 use Rattle.std.specs.Int.RustNames.{bit_or}
 use Rattle.std.proofs.lemmas.Bool.{cases_lt}
 use Rattle.std.proofs.lemmas.List.{get_or_past}
-use Rattle.std.proofs.lemmas.Nat.{shr_split, pow_pos}
-use Rattle.std.proofs.lemmas.Nat.Bits.{bit_at-lt, bit_at-zero, bit_at_or, bit_at_cat_low, bit_at_cat_high}
+use Rattle.std.proofs.lemmas.Nat.{pow_pos}
+use Rattle.std.proofs.lemmas.Nat.Bits.{bit_at-lt, bit_at-zero, bit_at_or}
 use Rattle.net_model.specs.Answer.{bit_at}
 use Rattle.net_model.specs.Rows.{bit_of, word_bit, IsPacked}
+use Rattle.net_model.proofs.SingleWords.{digit_left, digit_up_low, digit_up_high}
 
 no_digit : (a : ℕ) → a < 2 → eqb a 1 ≡ false → a ≡ 0
 no_digit zero h e = refl
@@ -18,22 +19,16 @@ module _ (word filled more : ℕ) where
   abbrev shifted : ℕ
   shifted = more * 2 ^ filled % 2 ^ 64
 
-  -- the bits of a shifted word are those of its bits behind zeros
-  shifted_is : (k : ℕ) → k < 64 → digit_at shifted k ≡ digit_at (more * 2 ^ filled + 0) k
-  shifted_is k h =
-      let same : more * 2 ^ filled ≡ more * 2 ^ filled + 0 = omega arith in
-      sym (bit_at_cat_low (more * 2 ^ filled / 2 ^ 64) 64 shifted k h) ∙ (ap (λ m. digit_at m k) (shr_split (more * 2 ^ filled) 64) ∙ ap (λ m. digit_at m k) same)
-
   pub own_bit : (k : ℕ) → filled < 64 → k < filled → bit_of (bit_or word shifted) k ≡ bit_of word k
   own_bit k room h =
-      let none : digit_at shifted k ≡ 0 = shifted_is k (omega (arith, room, h)) ∙ (bit_at_cat_low more filled 0 k h ∙ bit_at-zero k) in
+      let none : digit_at shifted k ≡ 0 = digit_left (more * 2 ^ filled) 64 k (omega (arith, room, h)) ∙ digit_up_low more filled k h in
       ap (λ n. eqb n 1) (bit_at_or word shifted k ∙ omega (arith, none))
 
   pub more_bit : (k : ℕ) → filled + k < 64 → bit_of word (filled + k) ≡ false → bit_of (bit_or word shifted) (filled + k) ≡ bit_of more k
   more_bit k h rest =
       let none : digit_at word (filled + k) ≡ 0 = no_digit (digit_at word (filled + k)) (bit_at-lt word (filled + k)) rest in
       let place : filled + k - filled ≡ k = omega arith in
-      let own : digit_at shifted (filled + k) ≡ digit_at more k = shifted_is (filled + k) h ∙ (bit_at_cat_high more filled 0 (filled + k) (pow_pos filled) (omega arith) ∙ ap (digit_at more) place) in
+      let own : digit_at shifted (filled + k) ≡ digit_at more k = digit_left (more * 2 ^ filled) 64 (filled + k) h ∙ (digit_up_high more filled (filled + k) (omega arith) (pow_pos filled) ∙ ap (digit_at more) place) in
       ap (λ n. eqb n 1) (bit_at_or word shifted (filled + k) ∙ omega (arith, none, own))
 
 -- a bit of a packed row, and none past its end

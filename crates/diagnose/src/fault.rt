@@ -21,13 +21,13 @@ pub enum LogKind {
     TooLong,
 }
 
-/// The rule that is broken and the number of the line, counted from 1, or want of memory.
+/// Want of memory, or the rule that is broken and the number of the line, counted from 1.
 #[derive(Debug, Drop, Error)]
 pub enum LogFault {
-    #[error("line {1} breaks a rule")]
-    At(LogKind, u64),
     #[error("out of memory")]
     NoMemory,
+    #[error("line {1} breaks a rule")]
+    At(LogKind, u64),
 }
 
 impl From<AllocError> for LogFault {

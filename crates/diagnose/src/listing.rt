@@ -7,8 +7,8 @@ ghost use Rattle.table_dicts.specs.Rows.{AreRows, IsWordOf};
 ghost use Rattle.table_dicts.specs.Dictionary.{IsGroupedDict, IsShaped, observed_entry, listed_numbers};
 ghost use Rattle.table_dicts.specs.Entries.{differences};
 
-use crate::words::{put_behind, with_bit, word_at};
-use net_model::AnswerRows;
+use crate::words::put_behind;
+use net_model::{AnswerRows, with_bit, word_at};
 use std::alloc::{AllocError, Global};
 use table_dicts::{Dict, DictKind};
 

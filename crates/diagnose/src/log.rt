@@ -9,8 +9,7 @@ ghost use Rattle.diagnose.specs.LogText.{log_line, BeginsWithLine, HasNoLine, Is
 use crate::fault::{LogFault, LogKind};
 use crate::lines::{check_size, cut, digits_of};
 use crate::number::number_of;
-use crate::words::with_bit;
-use net_model::AnswerRows;
+use net_model::{AnswerRows, with_bit};
 use std::alloc::Global;
 use table_dicts::Dict;
 

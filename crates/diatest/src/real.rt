@@ -1,5 +1,5 @@
 // A shelf of real files and standard output. It tells no contents.
-ghost use Rattle.std.specs.Prelude.{◌≤◌, ◌<◌, IfOk, IfSome};
+ghost use Rattle.std.specs.Prelude.{◌≡◌, ◌≤◌, ◌<◌, IfOk, IfSome};
 ghost use Rattle.diag_shelf.specs.Calls.{Rose};
 
 use diag_shelf::{Shelf, ShelfFault};
@@ -28,12 +28,14 @@ impl<'a, R: Files + Print> RealShelf<'a, R> {
     }
 }
 
-// Raises a count, which stands still at its last value.
-fn raise(count: &mut u64)
+// A call failed. Its count rises, and stands still at its last value.
+fn failed(count: &mut u64) -> ShelfFault
     ensures rose { Rose count.old count.new }
     ensures later { count.old ≤ count.new }
+    ensures fault { result ≡ ShelfFault.Failed }
 {
     *count = count.saturating_add(1);
+    ShelfFault::Failed
 }
 
 // A device that takes none of a piece has failed.
@@ -58,70 +60,45 @@ impl<'a, R: Files + Print> Shelf for RealShelf<'a, R> {
     ghost sure_tells = { λ s h. h };
 
     fn open_file(&mut self, name: &str) -> Result<(), ShelfFault> {
-        match fs::open(self.rt, name) {
-            Ok(file) => {
-                self.opened = Some(file);
-                Ok(())
-            }
-            Err(_) => {
-                raise(&mut self.read_faults);
-                Err(ShelfFault::Failed)
-            }
-        }
+        let Ok(file) = fs::open(self.rt, name) else {
+            return Err(failed(&mut self.read_faults));
+        };
+        self.opened = Some(file);
+        Ok(())
     }
 
     fn read(&mut self, piece: &mut [u8]) -> Result<usize, ShelfFault> {
         match &mut self.opened {
             Some(file) => match file.read(piece) {
                 Ok(count) => Ok(count),
-                Err(_) => {
-                    raise(&mut self.read_faults);
-                    Err(ShelfFault::Failed)
-                }
+                Err(_) => Err(failed(&mut self.read_faults)),
             },
-            None => {
-                raise(&mut self.read_faults);
-                Err(ShelfFault::Failed)
-            }
+            None => Err(failed(&mut self.read_faults)),
         }
     }
 
     fn create_file(&mut self, name: &str) -> Result<(), ShelfFault> {
-        match fs::create(self.rt, name) {
-            Ok(file) => {
-                self.written = Some(file);
-                Ok(())
-            }
-            Err(_) => {
-                raise(&mut self.write_faults);
-                Err(ShelfFault::Failed)
-            }
-        }
+        let Ok(file) = fs::create(self.rt, name) else {
+            return Err(failed(&mut self.write_faults));
+        };
+        self.written = Some(file);
+        Ok(())
     }
 
     fn write(&mut self, piece: &[u8]) -> Result<usize, ShelfFault> {
         match &mut self.written {
             Some(file) => match taken(file.write(piece), piece.len()) {
                 Some(count) => Ok(count),
-                None => {
-                    raise(&mut self.write_faults);
-                    Err(ShelfFault::Failed)
-                }
+                None => Err(failed(&mut self.write_faults)),
             },
-            None => {
-                raise(&mut self.write_faults);
-                Err(ShelfFault::Failed)
-            }
+            None => Err(failed(&mut self.write_faults)),
         }
     }
 
     fn print(&mut self, piece: &[u8]) -> Result<usize, ShelfFault> {
         match taken(io::writer(self.rt).write(piece), piece.len()) {
             Some(count) => Ok(count),
-            None => {
-                raise(&mut self.write_faults);
-                Err(ShelfFault::Failed)
-            }
+            None => Err(failed(&mut self.write_faults)),
         }
     }
 }

@@ -1,13 +1,13 @@
 -- Bits of bytes, the highest first, and bytes of bits.
 use Rattle.std.proofs.Common.{◌≡◌, ◌∙◌, ℕ, zero, suc, ◌+◌, ◌-◌, ◌*◌, ◌/◌, ◌%◌, ◌<◌, ◌≤◌, ◌^◌, Bool, true, false, cond, eqb, List, [], ◌∷◌, length, get_or, drop, refl, sym, ap, subst, arith, inl, inr, lit<}
-use Rattle.std.specs.Int as int
 use Rattle.std.proofs.Math.Nat.{pow-succ', one-le-pow}
 use Rattle.std.proofs.lemmas.Bool.{cases_lt}
 use Rattle.std.proofs.lemmas.List.{get_or-drop}
 use Rattle.std.proofs.lemmas.List.FromFn.{length-map-range_with_len, get_or-map-range_with_len}
-use Rattle.std.proofs.lemmas.Nat.Bits.{bit_at-lt, bit_at-zero, bit_at_cat_low, bit_at_cat_high, same_from_bits_below}
+use Rattle.std.proofs.lemmas.Nat.Bits.{bit_at-zero, bit_at_cat_low, bit_at_cat_high}
 use Rattle.net_model.specs.Answer.{bit_at}
 use Rattle.net_model.specs.Rows.{bit_of}
+use Rattle.net_model.proofs.SingleWords.{same_number}
 use Rattle.dict_file.specs.Packing.{byte_count, bits_value, byte_of, packed_row, file_bit}
 use Rattle.dict_file.proofs.Standing.{IsAt}
 
@@ -20,20 +20,6 @@ fits_in n = omega arith
 pub fits_tight : (n : ℕ) → 8 * byte_count n < n + 8
 unfolding byte_count
 fits_tight n = omega arith
-
--- ---- numbers with the same bits
-
-pub same_bit : (a b : ℕ) → a < 2 → b < 2 → eqb a 1 ≡ eqb b 1 → a ≡ b
-same_bit zero zero h k e = refl
-same_bit zero (suc zero) h k e = cc
-same_bit (suc zero) zero h k e = cc
-same_bit (suc zero) (suc zero) h k e = refl
-same_bit (suc (suc a)) b h k e = absurd (omega arith)
-same_bit a (suc (suc b)) h k e = absurd (omega arith)
-
-pub same_number : (w a b : ℕ) → a < 2 ^ w → b < 2 ^ w → ((i : ℕ) → i < w → bit_of a i ≡ bit_of b i) → a ≡ b
-same_number w a b ha hb same =
-    same_from_bits_below w a b ha hb (λ i h. same_bit (int.bit_at a i) (int.bit_at b i) (bit_at-lt a i) (bit_at-lt b i) (same i h))
 
 pub no_bit : (i : ℕ) → bit_of 0 i ≡ false
 no_bit i = ap (λ n. eqb n 1) (bit_at-zero i)

@@ -11,10 +11,12 @@ use Rattle.dict_file.specs.declared.fault.DictFault.TheVariants.{Short, Value}
 use Rattle.dict_file.specs.declared.row_bytes.RowsAt.{RowsAt}
 use Rattle.dict_file.specs.Packing.{byte_count, row_in, HasZeroPadding}
 use Rattle.dict_file.specs.Spelling.{limit, most_bytes}
-use Rattle.dict_file.specs.Parts.{each}
+use Rattle.std.specs.Prelude.{Result, IfOk, IfErr}
+use Rattle.dict_file.specs.declared.row_bytes.ReadRows.{ReadRows}
+use Rattle.dict_file.specs.Parts.{Part, each}
 use Rattle.dict_file.specs.Reading as reading
-use Rattle.dict_file.specs.Reading.{row_start, rows_end, row_of, row_part, new_row_part, IsNewRow, head_part, groups_part, baselines_at, entries_at}
-use Rattle.dict_file.specs.Places.{IsPlaced, AreWholeTo, AreRightTo, rows_of}
+use Rattle.dict_file.specs.Reading.{row_start, rows_end, row_of, row_part, new_row_part, IsNewRow, head_part, groups_part, baselines_at, entries_at, Tells}
+use Rattle.dict_file.specs.Places.{IsPlaced, AreWholeTo, AreRightTo, AreRead, rows_of}
 use Rattle.dict_file.proofs.FieldLemmas.{length-rows_of, get_or-rows_of}
 
 -- ---- whole rows
@@ -87,26 +89,6 @@ module _ (bytes : List ℕ) {rows : RowsAt} {whole : ℕ} (are : AreWholeTo (len
 
 pub no_padding : (bytes : List ℕ) (start width : ℕ) → 8 * byte_count width - width ≡ 0 → HasZeroPadding bytes start width
 no_padding bytes start width none at over h = absurd (omega (arith, none, over, h))
-
-last_end : (from count size : ℕ) → 0 < count → from + (count - 1) * size + size ≡ from + count * size
-last_end from count size some =
-    let e : (count - 1 + 1) * size ≡ count * size = ap (λ n. n * size) (let z : count - 1 + 1 ≡ count = omega (arith, some) in z) in
-    let m : (count - 1 + 1) * size ≡ (count - 1) * size + size = omega arith in
-    omega (arith, e, m)
-
-no_end : (from count size len : ℕ) → count ≤ 0 → from ≤ len → from + count * size ≤ len
-no_end from count size len none within =
-    let e : count * size ≡ 0 * size = ap (λ n. n * size) (let z : count ≡ 0 = omega (arith, none) in z) in
-    omega (arith, e, within)
-
--- rows that are right end within the bytes
-pub rows_inside : (bytes : List ℕ) (rows : RowsAt) → rows.from ≤ length bytes → (each rows.count (row_part bytes rows)).Right → rows_end rows ≤ length bytes
-rows_inside bytes rows from right = elim (cases_lt 0 rows.count) [
-  | inr none ↦ no_end rows.from rows.count (byte_count rows.width) (length bytes) none from
-  | inl some ↦
-      let end = last_end rows.from rows.count (byte_count rows.width) some in
-      omega (arith, end, (right (rows.count - 1) (omega (arith, some))).0)
-]
 
 -- ---- new rows
 
@@ -213,32 +195,32 @@ pub padded_row : (bytes : List ℕ) (rows : RowsAt) (k place : ℕ) → row_star
     → (row_part bytes rows k).Refused (Value place)
 padded_row bytes rows k place whole wrong at = inr (whole, ((λ zeros. wrong (whole, zeros)), ap Value at))
 
--- ---- rows at places that are equal
+-- ---- rows that were read
 
-pub moved_right : (bytes : List ℕ) (rows others : RowsAt) → rows ≡ others → (each rows.count (row_part bytes rows)).Right → (each others.count (row_part bytes others)).Right
-moved_right bytes rows others same right = subst (λ (r : RowsAt). (each r.count (row_part bytes r)).Right) same right
+-- all rows were found right, and were read
+pub all_read : {bytes : List ℕ} {part : RowsAt → ℕ → Part} {rows : RowsAt} {right : ℕ} (read : ReadRows) → AreRightTo bytes rows right → rows.count ≤ right → (each rows.count (part rows)).Right → read.rows ≡ rows_of bytes rows right → read.end ≡ row_start rows right
+    → AreRead bytes part rows read
+all_read {bytes} {part} {rows} {right} read are all found rows_are end_is =
+    let same : right ≡ rows.count = omega (arith, all, are.within) in
+    record {
+      right = found;
+      rows_are = rows_are ∙ ap (rows_of bytes rows) same;
+      end_is = end_is ∙ ap (row_start rows) same;
+      within = omega (arith, end_is, are.inside);
+    }
 
-pub moved_refused : (bytes : List ℕ) (rows others : RowsAt) (fault : DictFault) → rows ≡ others → (each rows.count (row_part bytes rows)).Refused fault → (each others.count (row_part bytes others)).Refused fault
-moved_refused bytes rows others fault same refused = subst (λ (r : RowsAt). (each r.count (row_part bytes r)).Refused fault) same refused
+pub length-read : {bytes : List ℕ} {part : RowsAt → ℕ → Part} {rows : RowsAt} {read : ReadRows} → AreRead bytes part rows read → length read.rows ≡ rows.count
+length-read {bytes} {part} {rows} {read} are = ap length are.rows_are ∙ length-rows_of bytes rows rows.count
 
-pub moved_new_right : (bytes : List ℕ) (rows others : RowsAt) → rows ≡ others → (each rows.count (new_row_part bytes rows)).Right → (each others.count (new_row_part bytes others)).Right
-moved_new_right bytes rows others same right = subst (λ (r : RowsAt). (each r.count (new_row_part bytes r)).Right) same right
+-- places that are equal
+pub entries_moved : (bytes : List ℕ) {rows : RowsAt} {from count at number : ℕ} → rows ≡ entries_at bytes from count → from ≡ at → count ≡ number → rows ≡ entries_at bytes at number
+entries_moved bytes {rows} {from} {count} {at} {number} same from_is count_is = same ∙ (ap (λ n. entries_at bytes n count) from_is ∙ ap (entries_at bytes at) count_is)
 
-pub moved_new_refused : (bytes : List ℕ) (rows others : RowsAt) (fault : DictFault) → rows ≡ others → (each rows.count (new_row_part bytes rows)).Refused fault → (each others.count (new_row_part bytes others)).Refused fault
-moved_new_refused bytes rows others fault same refused = subst (λ (r : RowsAt). (each r.count (new_row_part bytes r)).Refused fault) same refused
+pub read_moved : (bytes : List ℕ) {rows others : RowsAt} (part : RowsAt → ℕ → Part) (result : Result ReadRows DictFault) → rows ≡ others → IfOk result (AreRead bytes part rows) → IfOk result (AreRead bytes part others)
+read_moved bytes {rows} {others} part result same read = subst (λ (r : RowsAt). IfOk result (AreRead bytes part r)) same read
 
-pub moved_rows : (bytes : List ℕ) (rows others : RowsAt) → rows ≡ others → rows_of bytes rows rows.count ≡ rows_of bytes others others.count
-moved_rows bytes rows others same = ap (λ (r : RowsAt). rows_of bytes r r.count) same
-
--- rows that were read end within the bytes
-pub ends_inside : (bytes : List ℕ) (rows others : RowsAt) → rows ≡ others → others.from ≤ length bytes → (each rows.count (row_part bytes rows)).Right → rows_end rows ≤ length bytes
-ends_inside bytes rows others same from right = rows_inside bytes rows (subst (λ (r : RowsAt). r.from ≤ length bytes) (sym same) from) right
-
-pub entries_moved : (bytes : List ℕ) (rows : RowsAt) (from count at number : ℕ) → rows ≡ entries_at bytes from count → from ≡ at → count ≡ number → rows ≡ entries_at bytes at number
-entries_moved bytes rows from count at number same from_is count_is = same ∙ (ap (λ n. entries_at bytes n count) from_is ∙ ap (entries_at bytes at) count_is)
+pub refused_moved : {rows others : RowsAt} (part : RowsAt → ℕ → Part) (result : Result ReadRows DictFault) → rows ≡ others → IfErr result (Tells (each rows.count (part rows)).Refused) → IfErr result (Tells (each others.count (part others)).Refused)
+refused_moved {rows} {others} part result same refused = subst (λ (r : RowsAt). IfErr result (Tells (each r.count (part r)).Refused)) same refused
 
 pub group_numbers_inside : (bytes : List ℕ) → 0 < reading.numbers bytes → (groups_part bytes).Right → reading.groups_from bytes + 4 * reading.numbers bytes ≤ length bytes
 group_numbers_inside bytes some right = let last = (right.0 (reading.numbers bytes - 1) (omega (arith, some))).0 in omega (arith, last, some)
-
-pub new_are_right : (bytes : List ℕ) (rows : RowsAt) → (each rows.count (new_row_part bytes rows)).Right → (each rows.count (row_part bytes rows)).Right
-new_are_right bytes rows right = λ k h. (right k h).0

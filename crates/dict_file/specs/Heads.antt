@@ -1,9 +1,10 @@
 -- The fields that both versions have, as they are read.
-use Rattle.std.specs.Prelude.{◌≡◌, ℕ, List}
+use Rattle.std.specs.Prelude.{◌≡◌, ◌≤◌, ℕ, Bool, List, length}
+use Rattle.table_dicts.specs.declared.dict.Dict.{Dict}
 use Rattle.table_dicts.specs.declared.dict.DictKind.{DictKind}
 use Rattle.dict_file.specs.declared.fault.DictVersion.{DictVersion}
 use Rattle.dict_file.specs.declared.head.Head.{Head}
-use Rattle.dict_file.specs.Spelling.{kind_number, version_number}
+use Rattle.dict_file.specs.Spelling.{kind_number, version_number, most_bytes}
 use Rattle.dict_file.specs.Reading as reading
 use Rattle.dict_file.specs.Reading.{head_part}
 
@@ -22,3 +23,13 @@ pub record IsHead (bytes : List ℕ) (head : Head) : Type 0 where
   pub positions_are : head.positions ≡ reading.positions bytes
   pub patterns_are : head.patterns ≡ reading.patterns bytes
   pub numbers_are : head.numbers ≡ reading.numbers bytes
+
+-- The bytes aren't too many, and begin with this head of this version.
+pub record Begins (bytes : List ℕ) (version : DictVersion) (head : Head) : Type 0 where
+  pub is : IsHead bytes head
+  pub version_is : head.version ≡ version
+  pub short : length bytes ≤ most_bytes
+
+-- the dictionary with the fields of a head
+abbrev pub dict_with : Head → List (List Bool) → List ℕ → List (List Bool) → Dict
+dict_with head baselines groups entries = record { kind = head.kind; positions = head.positions; patterns = head.patterns; numbers = head.numbers; baselines = baselines; groups = groups; entries = entries }

@@ -5,9 +5,11 @@ use Rattle.table_dicts.specs.Grouped.{IsFirstRepeat}
 use Rattle.dict_file.specs.declared.fault.DictFault.{DictFault}
 use Rattle.dict_file.specs.declared.fault.DictFault.TheVariants.{Value}
 use Rattle.dict_file.specs.declared.row_bytes.RowsAt.{RowsAt}
+use Rattle.dict_file.specs.declared.row_bytes.ReadRows.{ReadRows}
+use Rattle.dict_file.specs.Parts.{Part, each}
 use Rattle.dict_file.specs.Packing.{byte_count}
 use Rattle.dict_file.specs.Spelling.{most_bytes}
-use Rattle.dict_file.specs.Reading.{row_start, row_of, row_part}
+use Rattle.dict_file.specs.Reading.{row_start, rows_end, row_of, row_part}
 
 -- The rows begin within bytes that aren't too many, and their sizes are small enough to count with.
 pub record IsPlaced (bytes : List ℕ) (rows : RowsAt) : Type 0 where
@@ -32,6 +34,13 @@ pub record AreWholeTo (len : ℕ) (rows : RowsAt) (whole : ℕ) : Type 0 where
   pub within : whole ≤ rows.count
   pub inside : row_start rows whole ≤ len
   pub next : whole < rows.count → len < row_start rows whole + byte_count rows.width
+
+-- The rows were read: the part of each is right, and this is where they end, within the bytes.
+pub record AreRead (bytes : List ℕ) (part : RowsAt → ℕ → Part) (rows : RowsAt) (read : ReadRows) : Type 0 where
+  pub right : (each rows.count (part rows)).Right
+  pub rows_are : read.rows ≡ rows_of bytes rows rows.count
+  pub end_is : read.end ≡ rows_end rows
+  pub within : read.end ≤ length bytes
 
 -- The fault tells the last byte of the first row that is equal to an earlier one.
 pub record TellsRepeat (read : List (List Bool)) (rows : RowsAt) (fault : DictFault) : Type 0 where

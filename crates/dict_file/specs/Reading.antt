@@ -86,6 +86,9 @@ module _ (bytes : List ℕ) where
   abbrev pub baselines_at : ℕ → RowsAt
   baselines_at from = record { from = from; count = baseline_count; width = positions }
 
+  abbrev pub baselines_part : ℕ → Part
+  baselines_part from = each baseline_count (row_part bytes (baselines_at from))
+
   abbrev pub entries_at : ℕ → ℕ → RowsAt
   entries_at from count = record { from = from; count = count; width = entry_width }
 
@@ -99,7 +102,7 @@ module _ (bytes : List ℕ) where
   entries_one = entries_at (rows_end (baselines_at 19)) numbers
 
   abbrev pub part_one : Part
-  part_one = each baseline_count (row_part bytes (baselines_at 19)) ⊳ each numbers (row_part bytes entries_one) ⊳ end_part (rows_end entries_one)
+  part_one = baselines_part 19 ⊳ each numbers (row_part bytes entries_one) ⊳ end_part (rows_end entries_one)
 
   -- ---- version 2
 
@@ -146,7 +149,7 @@ module _ (bytes : List ℕ) where
   entries_two = entries_at (groups_from + 4 * numbers) groups
 
   abbrev pub part_two : Part
-  part_two = group_count_part ⊳ each baseline_count (row_part bytes (baselines_at 23)) ⊳ groups_part ⊳ each groups (new_row_part bytes entries_two) ⊳ end_part (rows_end entries_two)
+  part_two = group_count_part ⊳ baselines_part 23 ⊳ groups_part ⊳ each groups (new_row_part bytes entries_two) ⊳ end_part (rows_end entries_two)
 
   -- ---- the file
 

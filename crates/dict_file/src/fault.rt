@@ -1,8 +1,5 @@
 //! Versions of the format, and why bytes are no dictionary.
 
-ghost use Rattle.std.specs.Prelude.{◌≡◌};
-ghost use Rattle.dict_file.specs.declared.fault.DictFault.TheVariants as dict_fault;
-
 use std::alloc::AllocError;
 use thiserror::Error;
 
@@ -16,6 +13,8 @@ pub enum DictVersion {
 /// The first field or row that is wrong, with the byte where, or want of memory.
 #[derive(Debug, Drop, PartialEq, Eq, Error)]
 pub enum DictFault {
+    #[error("out of memory")]
+    NoMemory,
     /// The file doesn't begin as a dictionary.
     #[error("no dictionary")]
     Magic,
@@ -37,11 +36,12 @@ pub enum DictFault {
     /// There are more bytes than this.
     #[error("more than {0} bytes")]
     TooLong(u64),
-    #[error("out of memory")]
-    NoMemory,
 }
 
 impl From<AllocError> for DictFault {
+    ghost use Rattle.std.specs.Prelude.{◌≡◌};
+    ghost use Rattle.dict_file.specs.declared.fault.DictFault.TheVariants as dict_fault;
+
     ghost from_gives = { λ _ e. e ≡ dict_fault.NoMemory };
 
     fn from(_: AllocError) -> Self {

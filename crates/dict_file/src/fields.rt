@@ -61,8 +61,7 @@ pub(crate) fn push_number(bytes: &mut Vec<u8>, number: u32) -> Result<(), AllocE
 {
     let mut four = [0u8; 4];
     BigEndian::write_u32(&mut four, number);
-    bytes.extend_from_slice(&four)?;
-    Ok(())
+    bytes.extend_from_slice(&four)
 }
 
 /// Appends the two bytes of a number.
@@ -71,6 +70,5 @@ pub(crate) fn push_short(bytes: &mut Vec<u8>, number: u16) -> Result<(), AllocEr
 {
     let mut two = [0u8; 2];
     BigEndian::write_u16(&mut two, number);
-    bytes.extend_from_slice(&two)?;
-    Ok(())
+    bytes.extend_from_slice(&two)
 }

@@ -3,12 +3,13 @@
 ghost use Rattle.std.specs.Prelude.{◌≡◌, ◌++◌, IfOk, IfErr, OnOk};
 ghost use Rattle.dict_file.specs.Spelling.{head_bytes, version_number, kind_number};
 ghost use Rattle.dict_file.specs.Reading.{head_part, magic_part, version_part, kind_part};
-ghost use Rattle.dict_file.specs.Heads.{IsHead, IsVersionAt, IsKindAt};
+ghost use Rattle.dict_file.specs.Heads.{IsHead, IsVersionAt, IsKindAt, dict_with};
 
 use crate::fault::{DictFault, DictVersion};
 use crate::fields::{push_number, push_short, reach, read_count, short_number};
+use net_model::AnswerRows;
 use std::alloc::AllocError;
-use table_dicts::{Dict, DictKind};
+use table_dicts::{Dict, DictKind, Grouped};
 
 /// The version, the kind and the sizes of a dictionary.
 #[derive(Clone, Copy)]
@@ -18,6 +19,23 @@ pub(crate) struct Head {
     pub(crate) positions: u32,
     pub(crate) patterns: u32,
     pub(crate) numbers: u32,
+}
+
+impl Head {
+    /// The dictionary that has these fields, baselines and groups.
+    pub(crate) fn with(self, baselines: AnswerRows, grouped: Grouped) -> Dict
+        ensures { result ≡ dict_with self baselines grouped.groups grouped.entries }
+    {
+        Dict {
+            kind: self.kind,
+            positions: self.positions,
+            patterns: self.patterns,
+            numbers: self.numbers,
+            baselines,
+            groups: grouped.groups,
+            entries: grouped.entries,
+        }
+    }
 }
 
 /// Reads the first 19 bytes.

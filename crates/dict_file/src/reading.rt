@@ -1,19 +1,21 @@
 //! Bytes read as a dictionary.
 
-ghost use Rattle.std.specs.Prelude.{◌≡◌, ◌<◌, ◌≤◌, ◌^◌, ℕ, List, length, IfOk, IfErr, OnOk};
+ghost use Rattle.std.specs.Prelude.{◌≡◌, ◌+◌, ◌*◌, ◌<◌, ◌≤◌, ◌^◌, ℕ, List, length, IfOk, IfErr, OnOk};
 ghost use Rattle.dict_file.specs.declared.fault.DictVersion.TheVariants as dict_version;
-ghost use Rattle.dict_file.specs.Heads.{IsHead};
+ghost use Rattle.dict_file.specs.Heads.{IsHead, Begins};
 ghost use Rattle.dict_file.specs.Spelling.{IsFileOf, most_bytes};
+ghost use Rattle.dict_file.specs.Parts.{each};
+ghost use Rattle.dict_file.specs.Places.{AreRead};
 ghost use Rattle.dict_file.specs.Reading as reading;
-ghost use Rattle.dict_file.specs.Reading.{IsRefusedBy, Tells, group_count_part, part_one, part_two, end_part};
+ghost use Rattle.dict_file.specs.Reading.{IsRefusedBy, Tells, row_part, new_row_part, rows_end, baselines_part, group_count_part, groups_from, entries_one, entries_two, part_one, part_two, end_part};
 
 use crate::fault::{DictFault, DictVersion};
 use crate::fields::{number, reach};
 use crate::group_numbers::{group, read_groups};
 use crate::head::{Head, read_head};
-use crate::row_bytes::{RowsAt, read_new_rows, read_rows};
+use crate::row_bytes::{ReadRows, RowsAt, read_new_rows, read_rows};
 use std::alloc::Global;
-use table_dicts::{Dict, DictKind};
+use table_dicts::{Dict, DictKind, Grouped};
 
 // the most bytes of a file
 const MOST_BYTES: u64 = 1 << 40;
@@ -37,53 +39,30 @@ pub fn decode(alloc: Global, bytes: &[u8]) -> Result<Dict, DictFault>
 }
 
 fn decode_one(alloc: Global, bytes: &[u8], head: Head) -> Result<Dict, DictFault>
-    requires head { IsHead bytes.now head }
-    requires version { head.version ≡ dict_version.One }
-    requires short { length bytes.now ≤ most_bytes }
+    requires { Begins bytes.now dict_version.One head }
     ensures read { IfOk result (λ dict. IsFileOf dict bytes.now) }
     ensures refused { IfErr result (Tells (part_one bytes.now).Refused) }
 {
-    let above = baselines_at(head, 19);
-    let baselines = read_rows(alloc, bytes, above)?;
-    let below = entries_at(head, above.end(), head.numbers);
-    let rows = read_rows(alloc, bytes, below)?;
-    check_end(bytes, below.end())?;
-    let grouped = group(alloc, &rows)?;
-    Ok(Dict {
-        kind: head.kind,
-        positions: head.positions,
-        patterns: head.patterns,
-        numbers: head.numbers,
-        baselines,
-        groups: grouped.groups,
-        entries: grouped.entries,
-    })
+    let above = baselines(alloc, bytes, head, 19)?;
+    let below = entries(alloc, bytes, head, above.end)?;
+    check_end(bytes, below.end)?;
+    let grouped = group(alloc, &below.rows)?;
+    Ok(head.with(above.rows, grouped))
 }
 
 fn decode_two(alloc: Global, bytes: &[u8], head: Head) -> Result<Dict, DictFault>
-    requires head { IsHead bytes.now head }
-    requires version { head.version ≡ dict_version.Two }
-    requires short { length bytes.now ≤ most_bytes }
+    requires { Begins bytes.now dict_version.Two head }
     ensures read { IfOk result (λ dict. IsFileOf dict bytes.now) }
     ensures refused { IfErr result (Tells (part_two bytes.now).Refused) }
 {
     let count = read_group_count(bytes, head)?;
-    let above = baselines_at(head, 23);
-    let baselines = read_rows(alloc, bytes, above)?;
-    let from = above.end();
-    let groups = read_groups(alloc, bytes, from, head.numbers, count)?;
-    let below = entries_at(head, from + 4 * head.numbers as usize, count);
-    let entries = read_new_rows(alloc, bytes, below)?;
-    check_end(bytes, below.end())?;
-    Ok(Dict {
-        kind: head.kind,
-        positions: head.positions,
-        patterns: head.patterns,
-        numbers: head.numbers,
-        baselines,
-        groups,
-        entries,
-    })
+    let above = baselines(alloc, bytes, head, 23)?;
+    let groups = read_groups(alloc, bytes, above.end, head.numbers, count)?;
+    let from = above.end + 4 * head.numbers as usize;
+    let below = new_entries(alloc, bytes, head, from, count)?;
+    check_end(bytes, below.end)?;
+    let entries = below.rows;
+    Ok(head.with(above.rows, Grouped { groups, entries }))
 }
 
 // How many groups version 2 says that there are.
@@ -99,6 +78,51 @@ fn read_group_count(bytes: &[u8], head: Head) -> Result<u32, DictFault>
         return Err(DictFault::Value(19));
     }
     Ok(groups)
+}
+
+// The baselines, from a byte on.
+fn baselines(alloc: Global, bytes: &[u8], head: Head, from: usize) -> Result<ReadRows, DictFault>
+    requires head { IsHead bytes.now head }
+    requires begins { from ≤ length bytes.now }
+    requires short { length bytes.now ≤ most_bytes }
+    ensures read { IfOk result (AreRead bytes.now (row_part bytes.now) (reading.baselines_at bytes.now from)) }
+    ensures refused { IfErr result (Tells (baselines_part bytes.now from).Refused) }
+{
+    let rows = baselines_at(head, from);
+    read_rows(alloc, bytes, rows)
+}
+
+// The entries of version 1, one for each number.
+fn entries(alloc: Global, bytes: &[u8], head: Head, from: usize) -> Result<ReadRows, DictFault>
+    requires head { IsHead bytes.now head }
+    requires from { from ≡ rows_end (reading.baselines_at bytes.now 19) }
+    requires begins { from ≤ length bytes.now }
+    requires short { length bytes.now ≤ most_bytes }
+    ensures read { IfOk result (AreRead bytes.now (row_part bytes.now) (entries_one bytes.now)) }
+    ensures refused { IfErr result (Tells (each (reading.numbers bytes.now) (row_part bytes.now (entries_one bytes.now))).Refused) }
+{
+    let rows = entries_at(head, from, head.numbers);
+    read_rows(alloc, bytes, rows)
+}
+
+// The entries of version 2, one for each group, so many.
+fn new_entries(
+    alloc: Global,
+    bytes: &[u8],
+    head: Head,
+    from: usize,
+    count: u32,
+) -> Result<ReadRows, DictFault>
+    requires head { IsHead bytes.now head }
+    requires from { from ≡ groups_from bytes.now + 4 * reading.numbers bytes.now }
+    requires count { count ≡ reading.groups bytes.now }
+    requires begins { from ≤ length bytes.now }
+    requires short { length bytes.now ≤ most_bytes }
+    ensures read { IfOk result (AreRead bytes.now (new_row_part bytes.now) (entries_two bytes.now)) }
+    ensures refused { IfErr result (Tells (each (reading.groups bytes.now) (new_row_part bytes.now (entries_two bytes.now))).Refused) }
+{
+    let rows = entries_at(head, from, count);
+    read_new_rows(alloc, bytes, rows)
 }
 
 // Where the baselines are.

@@ -7,8 +7,8 @@ ghost use Rattle.table_dicts.specs.Rows.{IsRowSet};
 ghost use Rattle.dict_file.specs.Packing.{byte_count, row_in, packed_row};
 ghost use Rattle.dict_file.specs.Spelling.{packed_rows};
 ghost use Rattle.dict_file.specs.Parts.{each};
-ghost use Rattle.dict_file.specs.Places.{IsPlaced, AreWholeTo, AreRightTo, TellsRepeat, rows_of};
-ghost use Rattle.dict_file.specs.Reading.{row_start, rows_end, row_part, new_row_part, Tells};
+ghost use Rattle.dict_file.specs.Reading.{row_start, row_part, new_row_part, Tells};
+ghost use Rattle.dict_file.specs.Places.{IsPlaced, AreWholeTo, AreRightTo, AreRead, TellsRepeat, rows_of};
 
 use crate::fault::DictFault;
 use crate::packing::{packed_byte, word_at};
@@ -22,6 +22,13 @@ pub(crate) struct RowsAt {
     pub(crate) from: usize,
     pub(crate) count: usize,
     pub(crate) width: usize,
+}
+
+/// Rows that were read, and the byte behind the last one.
+#[derive(Drop)]
+pub(crate) struct ReadRows {
+    pub(crate) rows: AnswerRows,
+    pub(crate) end: usize,
 }
 
 impl RowsAt {
@@ -39,14 +46,6 @@ impl RowsAt {
         ensures { result ≡ row_start self row }
     {
         self.from + row * self.size()
-    }
-
-    /// The byte behind the last row.
-    pub(crate) fn end(self) -> usize
-        requires { rows_end self < 2 ^ 64 }
-        ensures { result ≡ rows_end self }
-    {
-        self.start(self.count)
     }
 
     // The last byte of a row.
@@ -111,10 +110,9 @@ fn has_low_bit(byte: u8, count: usize) -> bool
 }
 
 /// Rows of a file that may repeat.
-pub(crate) fn read_rows(alloc: Global, bytes: &[u8], rows: RowsAt) -> Result<AnswerRows, DictFault>
+pub(crate) fn read_rows(alloc: Global, bytes: &[u8], rows: RowsAt) -> Result<ReadRows, DictFault>
     requires { IsPlaced bytes.now rows }
-    ensures rows { IfOk result (λ read. read ≡ rows_of bytes.now rows rows.count) }
-    ensures right { OnOk result (each rows.count (row_part bytes.now rows)).Right }
+    ensures read { IfOk result (AreRead bytes.now (row_part bytes.now) rows) }
     ensures refused { IfErr result (Tells (each rows.count (row_part bytes.now rows)).Refused) }
 {
     let right = rows.right(bytes);
@@ -122,7 +120,8 @@ pub(crate) fn read_rows(alloc: Global, bytes: &[u8], rows: RowsAt) -> Result<Ans
         return Err(rows.fault(bytes, right));
     }
     let read = load_rows(alloc, bytes, rows, right)?;
-    Ok(read)
+    let end = rows.start(right);
+    Ok(ReadRows { rows: read, end })
 }
 
 /// Rows of a file of which none is equal to another.
@@ -130,10 +129,9 @@ pub(crate) fn read_new_rows(
     alloc: Global,
     bytes: &[u8],
     rows: RowsAt,
-) -> Result<AnswerRows, DictFault>
+) -> Result<ReadRows, DictFault>
     requires { IsPlaced bytes.now rows }
-    ensures rows { IfOk result (λ read. read ≡ rows_of bytes.now rows rows.count) }
-    ensures right { OnOk result (each rows.count (new_row_part bytes.now rows)).Right }
+    ensures read { IfOk result (AreRead bytes.now (new_row_part bytes.now) rows) }
     ensures refused { IfErr result (Tells (each rows.count (new_row_part bytes.now rows)).Refused) }
 {
     let right = rows.right(bytes);
@@ -142,7 +140,8 @@ pub(crate) fn read_new_rows(
     if right < rows.count {
         return Err(rows.fault(bytes, right));
     }
-    Ok(read)
+    let end = rows.start(right);
+    Ok(ReadRows { rows: read, end })
 }
 
 // Refuses the first of the rows that were read that is equal to an earlier one.

@@ -63,11 +63,11 @@ fn run(
     g: &Fault,
     leaves: u32,
 ) -> Result<Found, AllocError>
+    requires leaves { 1 ≤ leaves }
     requires first { IsFaultOf sim.old.circuit f.now }
     requires second { IsFaultOf sim.old.circuit g.now }
-    requires leaves { 1 ≤ leaves }
-    ensures found { IfOk result (IsFound sim.old.circuit f.now g.now leaves) }
     ensures circuit { sim.new.circuit ≡ sim.old.circuit }
+    ensures found { IfOk result (IsFound sim.old.circuit f.now g.now leaves) }
 {
     let circuit = sim.circuit();
     sim.restart(f, g);

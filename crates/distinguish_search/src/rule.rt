@@ -7,12 +7,17 @@ use pair_sets::PairSet;
 /// How well a pin serves: what comes first decides, and what comes after it only among those that are alike.
 #[derive(Clone, Copy)]
 pub(crate) struct Weight {
-    pub(crate) first: bool,
-    pub(crate) second: bool,
-    pub(crate) third: u32,
+    first: bool,
+    second: bool,
+    third: u32,
 }
 
 impl Weight {
+    /// The least weight.
+    pub(crate) fn least() -> Weight {
+        weight_of(false, false, 0)
+    }
+
     /// Whether this weight is more than another.
     pub(crate) fn is_heavier(&self, other: Weight) -> bool {
         if self.first != other.first {

@@ -32,17 +32,17 @@ impl Stack {
         }
     }
 
+    pub(crate) fn pop(&mut self) -> Option<Frame>
+        ensures { MatchOption result (self.old ≡ []) (λ frame. self.old ≡ frame ∷ self.new) }
+    {
+        self.frames.pop()
+    }
+
     pub(crate) fn push(&mut self, frame: Frame) -> Result<(), AllocError>
         ensures { OnOk result (self.new ≡ frame ∷ self.old) }
     {
         self.frames.push(frame)?;
         Ok(())
-    }
-
-    pub(crate) fn pop(&mut self) -> Option<Frame>
-        ensures { MatchOption result (self.old ≡ []) (λ frame. self.old ≡ frame ∷ self.new) }
-    {
-        self.frames.pop()
     }
 
     /// The place of the reached position that asked for the last split; the first place where there is none.

@@ -2,8 +2,8 @@
 
 ghost use Rattle.std.specs.Prelude.{◌≡◌, ◌<◌, ◌≤◌, length};
 ghost use Rattle.net_model.specs.Circuit.{Feeds, pins_of};
-ghost use Rattle.distinguish_search.specs.Asked.{passing_bit, asked_bit};
 ghost use Rattle.distinguish_search.specs.Open.{IsOpen};
+ghost use Rattle.distinguish_search.specs.Asked.{passing_bit, asked_bit};
 
 use crate::rule::{Rule, Weight};
 use net_model::{Kind, Operation};
@@ -83,11 +83,7 @@ fn open_pin(sim: &PairSim, rule: Rule, kind: Kind, line: u32, bit: bool) -> u32
 {
     let pins = sim.circuit().gate(line).pins.as_slice();
     let mut found = None;
-    let mut most = Weight {
-        first: false,
-        second: false,
-        third: 0,
-    };
+    let mut most = Weight::least();
     for (pin, read) in pins.iter().enumerate() {
         let pairs = sim.pin_pairs(line, pin as u32, *read);
         if pairs.has_several() {

@@ -1,12 +1,12 @@
 //! From a reached position that is undecided back to a free source that can still decide it.
 
 ghost use Rattle.std.specs.Prelude.{◌≡◌, ◌≤◌, MatchOption, length};
+ghost use Rattle.distinguish_search.specs.Open.{IsOpenAt, AreDecided};
 ghost use Rattle.net_model.specs.Scope.{reached_positions};
-ghost use Rattle.pair_sets.specs.declared.state.PairState.TheVariants.{Undecided};
-ghost use Rattle.pair_sets.specs.declared.tree.Token.TheVariants.{Split};
 ghost use Rattle.pair_sets.specs.CubeState.{IsState};
 ghost use Rattle.pair_sets.specs.Tree.{IsRightAt};
-ghost use Rattle.distinguish_search.specs.Open.{IsOpenAt, AreDecided};
+ghost use Rattle.pair_sets.specs.declared.state.PairState.TheVariants.{Undecided};
+ghost use Rattle.pair_sets.specs.declared.tree.Token.TheVariants.{Split};
 
 use crate::rule::Rule;
 use crate::step::{Step, asked_bit, step_back};

@@ -132,14 +132,13 @@ module _ (c : Circuit) where
       either true = omega arith
       either false = omega arith
 
-  pub few_sites : IsCircuit c → length (flat_map (sites_of_line c) (all_lines c)) < 2 ^ 26
-  few_sites w =
+  pub sites_within : length (flat_map (sites_of_line c) (all_lines c)) ≤ line_count c + length c.positions + sum_by (λ gate. length gate.pins) c.gates
+  sites_within =
       let lines = all_lines c in
       let pins = λ (line : ℕ). total (λ gate. length (places_of line (pins_of c gate))) (gate_lines c) in
       let positions = λ (line : ℕ). length (places_of line c.positions) in
       omega (
         arith,
-        w.small,
         length-flat (sites_of_line c) lines,
         total-le (λ line. length (sites_of_line c line)) (λ line. 1 + (pins line + positions line)) (λ line. omega (arith, branch_count line, destination_count line)) lines,
         total-add (λ line. 1) (λ line. pins line + positions line) lines,
@@ -149,3 +148,6 @@ module _ (c : Circuit) where
         few_pins (pins_of c) (gate_lines c) 0 (line_count c),
         total_of_items (λ gate. length (pins_of c gate)) (λ (gate : Gate). length gate.pins) c.sources c.gates pins_of_item,
       )
+
+  pub few_sites : IsCircuit c → length (flat_map (sites_of_line c) (all_lines c)) < 2 ^ 26
+  few_sites w = omega (arith, w.small, sites_within)

@@ -1,21 +1,19 @@
 -- Lines that are settled: before the first event, after one, and once no gate waits.
 use Rattle.std.proofs.Common.{◌≡◌, ◌≢◌, ℕ, ◌<◌, List, [], length, get_or, set, refl, sym, ◌∙◌, ap, subst, arith, inl, inr}
-use Rattle.std.specs.Prelude.{Bool, true, false, Some, None, IsTrue, ◌↔◌, ◌==◌, ◌&&◌, Contains, unwrap_or}
-use Rattle.std.specs.Bool.{then_some}
-use Rattle.std.proofs.lemmas.Bool.{cases_eq, false_from_ne_true, ne_eqb}
+use Rattle.std.specs.Prelude.{Bool, true, false, Some, None, IsTrue, ◌↔◌, Contains, unwrap_or}
+use Rattle.std.proofs.lemmas.Bool.{cases_eq, false_from_ne_true}
 use Rattle.std.proofs.lemmas.List.{get_or-set_same, get_or-set_other, get_or_default, length-set, ext_get_or}
-use Rattle.std.proofs.lemmas.List.Elements.{Contains-get_or}
-use Rattle.net_model.specs.declared.fault.Site.TheVariants.{Stem, Pin, Position}
 use Rattle.net_model.specs.declared.fault.Fault.{Fault}
-use Rattle.net_model.specs.declared.fault.Fault.TheVariants.{Free, Stuck}
-use Rattle.net_model.specs.Circuit.{Circuit, IsCircuit, line_count, gate_at, pins_of, Feeds}
-use Rattle.net_model.specs.Fault.{stuck_stem, stuck_pin, IsFaultOf}
+use Rattle.net_model.specs.declared.fault.Fault.TheVariants.{Free}
+use Rattle.net_model.specs.Circuit.{Circuit, IsCircuit, line_count, gate_at, Feeds}
+use Rattle.net_model.specs.Fault.{stuck_stem, stuck_pin}
 use Rattle.net_model.specs.Answer.{bit_at, driven_bit, line_bit, Agrees}
 use Rattle.net_model.specs.Scope.{first_changed}
 use Rattle.net_model.proofs.Copies.{same_driven, pins_inside}
 use Rattle.net_model.proofs.Orders.{order_has, reader_is_gate}
 use Rattle.net_model.proofs.SetSoFar.{fits_from}
-use Rattle.net_model.proofs.Elements.{true_false}
+use Rattle.net_model.proofs.Elements.{true_false, none_in}
+use Rattle.net_model.proofs.FirstChanged.{stem_elsewhere, pin_elsewhere}
 use Rattle.word_sim.specs.declared.lanes.TheConstants.{LANES}
 use Rattle.word_sim.specs.GoodSim.{GoodSim}
 use Rattle.event_queue.specs.Pending.{is_pending}
@@ -25,7 +23,6 @@ use Rattle.net_model.specs.Gate.{inverted}
 use Rattle.fault_sim.specs.FaultyLanes.{faulty_bits, vector_at, IsFreeLane, IsSettledLine}
 use Rattle.fault_sim.specs.Events.{IsIdle, AreSettled, AreIdleSettled, AreIdleSettledBut}
 use Rattle.fault_sim.proofs.FaultyLemmas.{length-faulty, faulty_at}
-use Rattle.net_model.proofs.Elements.{none_in}
 
 -- ---- bits
 
@@ -57,18 +54,6 @@ untouched : (c : Circuit) (f : Fault) (v bits : List Bool) (line : ℕ) → stuc
 unfolding line_bit driven_bit
 untouched c f v bits line stem pins = λ i. unwrap_or (sym stem i) (same_driven c Free f v bits bits line (gate_at c line) (λ pin. sym (pins pin)) (λ read m. refl) i)
 
-stem_free : (f : Fault) (line : ℕ) → (first_changed f ≡ Some line → ⊥) → stuck_stem f line ≡ None
-stem_free Free line h = refl
-stem_free (Stuck (Stem at) bit) line h = ap (λ b. then_some b bit) (ne_eqb at line (λ e. h (ap Some e)))
-stem_free (Stuck (Pin gate at) bit) line h = refl
-stem_free (Stuck (Position at) bit) line h = refl
-
-pins_free : (f : Fault) (line pin : ℕ) → (first_changed f ≡ Some line → ⊥) → stuck_pin f line pin ≡ None
-pins_free Free line pin h = refl
-pins_free (Stuck (Stem at) bit) line pin h = refl
-pins_free (Stuck (Pin gate at) bit) line pin h = ap (λ b. then_some (b && at == pin) bit) (ne_eqb gate line (λ e. h (ap Some e)))
-pins_free (Stuck (Position at) bit) line pin h = refl
-
 -- ---- before the first event
 
 module _ (good : GoodSim) (f : Fault) where
@@ -84,7 +69,7 @@ module _ (good : GoodSim) (f : Fault) where
   settled_start rows width clear lane free at line inside apart =
       let same = same_bits rows lane free width clear at in
       ap (λ bits. bit_at bits line) same ∙ at.agrees.each line inside
-      ∙ untouched good.circuit f (vector_at good lane) free line (stem_free f line apart) (λ pin. pins_free f line pin apart)
+      ∙ untouched good.circuit f (vector_at good lane) free line (stem_elsewhere f line apart) (λ pin. pin_elsewhere f line pin apart)
       ∙ ap (λ bits. line_bit good.circuit f (vector_at good lane) bits line) (sym same)
 
   -- ---- one line is settled
@@ -147,12 +132,3 @@ settled_all good f rows width settled lane free at = record {
   whole = length-faulty free rows lane ∙ width;
   each = λ line h. settled lane free at line h;
 }
-
--- the first line that a fault of the circuit changes is a line
-pub first_inside : (c : Circuit) (f : Fault) (line : ℕ) → IsFaultOf c f → first_changed f ≡ Some line → line < line_count c
-first_inside c Free line is e = cc
-first_inside c (Stuck (Stem at) bit) line is e = let same : at ≡ line = cc in subst (λ n. n < line_count c) same is
-first_inside c (Stuck (Pin gate at) bit) line is e =
-    let same : gate ≡ line = cc in
-    subst (λ n. n < line_count c) same (reader_is_gate c (get_or (pins_of c gate) at 0) gate (Contains-get_or (pins_of c gate) at 0 is)).1
-first_inside c (Stuck (Position at) bit) line is e = cc

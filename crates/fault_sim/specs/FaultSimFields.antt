@@ -1,13 +1,9 @@
--- What the fields of a `FaultSim` show, and what is true of them.
+-- What is true of the fields of a `FaultSim`.
 use Rattle.std.specs.Prelude.{◌≡◌, ◌<◌, ◌≤◌, [], length, All, AllPairs, slice_index_or}
 use Rattle.net_model.specs.Circuit.{IsCircuit, line_count}
 use Rattle.event_queue.specs.Pending.{IsEmpty}
 use Rattle.fault_sim.specs.declared.sim.FaultSim.TheInside.{Inside}
 use Rattle.fault_sim.specs.Rows.{IsTrueSomewhere}
-use Rattle.fault_sim.specs.FaultSim.{FaultSim}
-
-abbrev pub fault_sim_of : Inside → FaultSim
-fault_sim_of a = record { circuit = a.circuit.now; differences = a.positions.rows }
 
 pub record IsReady (a : Inside) : Type 0 where
   pub circuit : IsCircuit a.circuit.now

@@ -3,7 +3,6 @@
 ghost use Rattle.std.specs.Prelude.{◌≡◌, ℕ, ◌+◌, ◌<◌, ◌≤◌, ◌⊎◌, true, false, [], length, All, AllPairs, slice_index, slice_index_or};
 ghost use Rattle.net_model.specs.Circuit.{line_count, Feeds};
 ghost use Rattle.net_model.specs.Fault.{IsFaultOf};
-ghost use Rattle.net_model.specs.Scope.{first_changed};
 ghost use Rattle.net_model.specs.Wiring.{IsWiring};
 ghost use Rattle.event_queue.specs.Pending.{is_pending, IsEmpty};
 ghost use Rattle.fault_sim.specs.FaultyLanes.{IsLive};
@@ -13,7 +12,7 @@ ghost use Rattle.fault_sim.specs.Events.{AreSettled, AreIdleSettled, AreIdleSett
 use crate::faulty::{line_change, position_change};
 use crate::rows::Rows;
 use event_queue::NumberQueue;
-use net_model::{Circuit, Fault, Site, Wiring};
+use net_model::{Circuit, Fault, Site, Wiring, first_changed};
 use word_sim::{GoodSim, Lanes};
 
 /// Gives all lines their bits under the fault, where none differs yet.
@@ -45,17 +44,6 @@ pub(crate) fn change_lines(
     let wiring = good.circuit().wiring();
     settle(wiring, good, live, fault, line, queue, rows);
     follow(wiring, good, live, fault, queue, rows);
-}
-
-// The first line that a fault can change, if it can change one.
-fn first_changed(fault: Fault) -> Option<u32>
-    ensures { result ≡ first_changed fault }
-{
-    match fault {
-        Fault::Stuck(Site::Stem(line), _) => Some(line),
-        Fault::Stuck(Site::Pin(gate, _), _) => Some(gate),
-        Fault::Stuck(Site::Position(_), _) | Fault::Free => None,
-    }
 }
 
 // Gives a line its bits under the fault. Where they change, its readers wait from now on.
@@ -97,9 +85,9 @@ fn follow(
     queue: &mut NumberQueue,
     rows: &mut Rows,
 )
+    requires listed { length rows.old.listed ≤ 1 }
     requires wiring { IsWiring good.now.circuit wiring.now }
     requires live { IsLive good.now live }
-    requires listed { length rows.old.listed ≤ 1 }
     requires room { length wiring.now.order < rows.old.room }
     requires underway { IsUnderway good.now wiring.now.order queue.old rows.old.rows }
     requires pending { (place : ℕ) → is_pending queue.old place ≡ true → place < length wiring.now.order }
@@ -184,7 +172,7 @@ pub(crate) fn show_positions(
     let shown = good.circuit().positions();
     let mut from = 0;
     while let Some(at) = marks.take_lowest(from) {
-        let row = position_change(good, live, lines, fault, at, shown[at as usize]);
+        let row = position_change(good, live, fault, lines, at, shown[at as usize]);
         if row.any() {
             positions.set(at, row);
         }

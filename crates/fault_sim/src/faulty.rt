@@ -120,14 +120,14 @@ pub(crate) fn line_change(
 pub(crate) fn position_change(
     good: &GoodSim,
     live: Lanes,
-    rows: &[Lanes],
     fault: Fault,
+    rows: &[Lanes],
     position: u32,
     line: u32,
 ) -> Lanes
-    requires live { IsLive good.now live }
     requires width { length rows.now ≡ line_count good.now.circuit }
     requires line { line < length rows.now }
+    requires live { IsLive good.now live }
     requires past { IsFalsePast good.now (slice_index_or rows.now line []) }
     ensures live { (lane : ℕ) (free : List Bool) → IsFreeLane good.now lane free → inverted (bit_at free line) (bit_at result lane) ≡ unwrap_or (stuck_position fault position) (bit_at (faulty_bits free rows.now lane) line) }
     ensures past { IsFalsePast good.now result }

@@ -15,11 +15,10 @@ pub(crate) struct Rows {
 }
 
 impl Model for Rows {
+    ghost use Rattle.fault_sim.specs.RowsFields.{rows_of, AreListed};
     ghost use Rattle.fault_sim.specs.Rows as spec;
 
     ghost Value = { spec.Rows };
-
-    ghost use Rattle.fault_sim.specs.RowsFields.{rows_of, AreListed};
 
     ghost view = { rows_of };
 

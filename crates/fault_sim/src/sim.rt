@@ -27,12 +27,11 @@ pub struct FaultSim<'a> {
 
 impl<'a> Model for FaultSim<'a> {
     ghost use Rattle.fault_sim.specs.FaultSim as spec;
+    ghost use Rattle.fault_sim.specs.FaultSimFields.{IsReady};
 
     ghost Value = { spec.FaultSim };
 
-    ghost use Rattle.fault_sim.specs.FaultSimFields.{fault_sim_of, IsReady};
-
-    ghost view = { fault_sim_of };
+    ghost view = { λ s. record { circuit = s.circuit.now; differences = s.positions.rows } };
 
     ghost invariant = { IsReady };
 }

@@ -1,11 +1,20 @@
--- The working state of a keeper, for its circuit.
-use Rattle.std.proofs.Common.{◌≡◌}
+-- The working state of a keeper, for its circuit, and after a block has run.
+use Rattle.std.proofs.Common.{◌≡◌, ◌∙◌, ◌<◌, ℕ, Bool, List, false, length, Some, refl, sym, ap}
 use Rattle.net_model.specs.Circuit.{Circuit, IsCircuit}
-use Rattle.net_model.specs.FaultList.{faults}
+use Rattle.net_model.specs.Answer.{bit_at}
+use Rattle.net_model.specs.FaultList.{faults, fault_count}
+use Rattle.net_model.specs.ClassTable.{ClassTable, class_at}
+use Rattle.class_refine.specs.Fields.{IsWhole}
 use Rattle.fault_collapse.specs.Forest.{IsForestOf}
+use Rattle.word_sim.specs.Block.{IsBlock}
+use Rattle.word_sim.specs.GoodSim.{GoodSim, good_sim_with, vectors_of}
+use Rattle.kept_vectors.specs.declared.notes.Note.{Note}
 use Rattle.kept_vectors.specs.declared.scan.Scan.{Scan}
-use Rattle.kept_vectors.specs.Notes.{AreOf, IsBlank}
+use Rattle.kept_vectors.specs.declared.spans.Span.{Span}
+use Rattle.kept_vectors.specs.Notes.{AreOf, HasRun, AreRight, AreNoted, AreAlikeAt, AreShown, AreTold, IsBlank}
 use Rattle.kept_vectors.specs.Scan.{IsScan}
+use Rattle.kept_vectors.specs.Spans.{ArePartsOf, lane_notes}
+use Rattle.kept_vectors.proofs.RootLemmas.{forest_roots}
 
 pub scan_of : (s : Scan) (c : Circuit) → s.good.circuit ≡ c → IsCircuit c → s.listed.now ≡ faults c → IsForestOf c s.forest.now → s.block.sources ≡ c.sources → AreOf c s.differences → IsBlank c s.row → IsScan s
 scan_of s c same is listed forest block differences blank = record {
@@ -16,3 +25,33 @@ scan_of s c same is listed forest block differences blank = record {
   differences = rw same differences;
   blank = rw same blank;
 }
+
+module _ {scan : Scan} {good : GoodSim} (is : IsScan scan) (ran : good ≡ good_sim_with scan.good.circuit (Some scan.block.vectors)) where
+  -- the circuit has run the scan's block
+  pub block_run : IsBlock scan.block → (roots : List ℕ) → roots ≡ scan.forest.now.roots → HasRun good scan.listed.now roots
+  block_run block roots same = rw ran (record {
+    circuit = is.circuit;
+    ran = refl;
+    few = block.few;
+    widths = λ k d h. block.widths k d h ∙ is.block;
+    faults_are = is.faults_are;
+    roots_are = rw same (forest_roots is.forest_of);
+  })
+
+  -- and what is then noted of a table's classes is told of it
+  pub told_by : {splitting : List Bool} {spans : List Span} {notes : List Note} {t : ClassTable} → IsWhole t → length t.class_of ≡ fault_count scan.good.circuit → AreRight good notes
+      → ((m n : ℕ) → m < length t.class_of → n < length t.class_of → class_at t m ≡ class_at t n → AreNoted good notes m n)
+      → ((m n lane : ℕ) → m < length t.class_of → n < length t.class_of → class_at t m ≡ class_at t n → lane < length (vectors_of good) → bit_at splitting lane ≡ false → AreAlikeAt good lane m n) → ArePartsOf notes spans
+      → ((m n lane : ℕ) → m < length t.class_of → n < length t.class_of → class_at t m ≡ class_at t n → lane < length (vectors_of good) → AreShown good (lane_notes spans notes lane) notes lane m n)
+      → AreTold good scan.block.vectors splitting spans notes t
+  told_by whole numbers right noted alike parts shown = record {
+    circuit = rw ran is.circuit;
+    ran = ap (λ (s : GoodSim). s.ran) ran;
+    whole = whole;
+    numbers = numbers ∙ sym (ap (λ (s : GoodSim). fault_count s.circuit) ran);
+    right = right;
+    noted = noted;
+    alike = alike;
+    parts = parts;
+    shown = shown;
+  }

@@ -44,14 +44,15 @@ impl<'a> Differences<'a> {
         requires numbers { numbers ≡ fault_count circuit.now }
         ensures { IfOk result (AreOf circuit.now) }
     {
+        // (what is dropped after an error is proved for each `?`, so the large ones come last)
         Ok(Differences {
-            lead: FaultSim::new(alloc, circuit)?,
-            member: FaultSim::new(alloc, circuit)?,
             notes: Vec::new(alloc),
             spans: Vec::new(alloc),
             places: vec![in alloc; 0; numbers]?,
             starts: vec![in alloc; 0; numbers + 1]?,
             tally: Tally::new(alloc)?,
+            lead: FaultSim::new(alloc, circuit)?,
+            member: FaultSim::new(alloc, circuit)?,
         })
     }
 
@@ -81,7 +82,12 @@ impl<'a> Differences<'a> {
         for class in 0..classes.count() {
             let start = self.notes.len();
             let apart = self.note_class(listed, good, roots, classes.members(class))?;
-            add_span(&mut self.spans, apart, start, self.notes.len())?;
+            let span = Span {
+                lanes: apart,
+                start,
+                end: self.notes.len(),
+            };
+            add_span(&mut self.spans, span)?;
             lanes = lanes.or(apart);
         }
         Ok(lanes)

@@ -4,11 +4,11 @@ ghost use Rattle.std.specs.Prelude.{◌≡◌, ◌≤◌, ◌<◌, ℕ, List, Bo
 ghost use Rattle.net_model.specs.FaultList.{faults as faults_of, fault_count};
 ghost use Rattle.net_model.specs.PatternRows.{SplitsClass};
 ghost use Rattle.fault_collapse.specs.Forest.{IsForestOf};
+ghost use Rattle.kept_vectors.specs.Cube.{IsOfCube};
+ghost use Rattle.kept_vectors.specs.Keeper.{keeper_with, IsKeeper};
+ghost use Rattle.kept_vectors.specs.Kept.{nothing_kept, Keeps, KeepsFirst, KeepsRun};
 ghost use Rattle.word_sim.specs.Block.{block_with};
 ghost use Rattle.word_sim.specs.Stream.{stream};
-ghost use Rattle.kept_vectors.specs.Cube.{IsOfCube};
-ghost use Rattle.kept_vectors.specs.Kept.{nothing_kept, Keeps, KeepsFirst, KeepsRun};
-ghost use Rattle.kept_vectors.specs.Keeper.{keeper_with, IsKeeper};
 
 use crate::cube::fix_sources;
 use crate::scan::{Kept, Scan};
@@ -42,15 +42,14 @@ impl Drop for Keeper<'_> {
 }
 
 impl<'a> Model for Keeper<'a> {
+    ghost use Rattle.kept_vectors.specs.KeeperFields.{keeper_of, IsReady};
     ghost use Rattle.kept_vectors.specs.Keeper as spec;
 
     ghost Value = { spec.Keeper };
 
-    ghost use Rattle.kept_vectors.specs.KeeperFields.{keeper_of, IsReady};
+    ghost invariant = { IsReady };
 
     ghost view = { keeper_of };
-
-    ghost invariant = { IsReady };
 }
 
 impl<'a> Keeper<'a> {
@@ -65,11 +64,11 @@ impl<'a> Keeper<'a> {
         requires forest { IsForestOf circuit.now forest.now }
         ensures { IfOk result (λ keeper. keeper ≡ keeper_with circuit.now (nothing_kept (fault_count circuit.now))) }
     {
-        let scan = Scan::new(alloc, circuit, faults, forest)?;
         let kept = Kept {
             vectors: Vec::new(alloc),
             classes: Classes::new(alloc, faults.len())?,
         };
+        let scan = Scan::new(alloc, circuit, faults, forest)?;
         let stream = Stream::new(circuit.sources());
         Ok(Keeper { scan, kept, stream })
     }

@@ -1,10 +1,10 @@
 //! Notes of where the answers of fault numbers differ from the fault-free ones.
 
 ghost use Rattle.std.specs.Prelude.{◌≡◌, ◌≤◌, ◌<◌, ◌++◌, ℕ, List, true, false, All, IsSome, OnOk, length, map, slice_index, slice_range};
+ghost use Rattle.kept_vectors.specs.Notes.{IsReportOf, AreNotesAt, renumbered};
 ghost use Rattle.net_model.specs.FaultList.{faults, fault_numbered};
 ghost use Rattle.word_sim.specs.GoodSim.{vectors_of};
 ghost use Rattle.fault_sim.specs.FaultSim.{AreDifferences};
-ghost use Rattle.kept_vectors.specs.Notes.{IsReportOf, AreNotesAt, renumbered};
 
 use fault_list::FaultList;
 use fault_sim::FaultSim;

@@ -115,8 +115,8 @@ impl<'a> Scan<'a> {
         listed: &'a FaultList,
         forest: &'a Forest,
     ) -> Result<Scan<'a>, AllocError>
-        requires faults { listed.now ≡ faults_of circuit.now }
         requires forest { IsForestOf circuit.now forest.now }
+        requires faults { listed.now ≡ faults_of circuit.now }
         ensures scan { IfOk result IsScan }
         ensures circuit { IfOk result (λ scan. scan.good.circuit ≡ circuit.now) }
     {
@@ -124,10 +124,10 @@ impl<'a> Scan<'a> {
         Ok(Scan {
             listed,
             forest,
+            row: AnswerRows::zeros(alloc, numbers, circuit.positions().len())?,
             block: Block::new(alloc, circuit.sources())?,
             good: GoodSim::new(alloc, circuit)?,
             differences: Differences::new(alloc, circuit, numbers)?,
-            row: AnswerRows::zeros(alloc, numbers, circuit.positions().len())?,
         })
     }
 

@@ -1,8 +1,8 @@
 //! What is noted of the classes that a lane can split.
 
-ghost use Rattle.std.specs.Prelude.{◌≡◌, ◌≤◌, ◌<◌, ◌++◌, [], ◌∷◌, if◌then◌else◌, nat_lt, filter, IfOk, OnOk};
+ghost use Rattle.kept_vectors.specs.Spans.{lane_notes, ArePartsOf};
 ghost use Rattle.net_model.specs.Answer.{bit_at};
-ghost use Rattle.kept_vectors.specs.Spans.{span_with, lane_notes, ArePartsOf};
+ghost use Rattle.std.specs.Prelude.{◌≡◌, ◌≤◌, ◌<◌, ◌++◌, [], ◌∷◌, if◌then◌else◌, nat_lt, filter, IfOk, OnOk};
 
 use crate::notes::Note;
 use std::alloc::{AllocError, Global};
@@ -17,16 +17,11 @@ pub(crate) struct Span {
 }
 
 // Adds a span, if it has notes.
-pub(crate) fn add_span(
-    spans: &mut Vec<Span>,
-    lanes: Lanes,
-    start: usize,
-    end: usize,
-) -> Result<(), AllocError>
-    ensures { OnOk result (spans.new.items ≡ spans.old.items ++ (if nat_lt start end then span_with lanes start end ∷ [] else [])) }
+pub(crate) fn add_span(spans: &mut Vec<Span>, span: Span) -> Result<(), AllocError>
+    ensures { OnOk result (spans.new.items ≡ spans.old.items ++ (if nat_lt span.start span.end then span ∷ [] else [])) }
 {
-    if start < end {
-        spans.push(Span { lanes, start, end })?;
+    if span.start < span.end {
+        spans.push(span)?;
     }
     Ok(())
 }

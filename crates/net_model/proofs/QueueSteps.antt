@@ -10,6 +10,27 @@ use Rattle.net_model.specs.Topological.{count_of, users_at, AreReaders, is_told,
 use Rattle.net_model.proofs.Orders.{reader_is_gate}
 use Rattle.net_model.proofs.OpenPins.{count_has, count_if, count_other, count_same, has_count, none_open, open_split, told_is}
 
+-- ---- one gate more is ready
+
+ready_more : (waits order : List ℕ) (line : ℕ) → ((k : ℕ) → Contains order k → get_or waits k 0 ≡ 0) → get_or waits line 0 ≡ 0 → ((k : ℕ) → Contains order k → k ≢ line)
+    → ((j k : ℕ) → j < k → k < length order → get_or order j 0 ≢ get_or order k 0) → AreReady waits (order ++ line ∷ [])
+ready_more waits order line closed none fresh distinct = record {
+  closed = λ k m.
+      elim (Contains-push_cases order line k m) [
+        | inl before ↦ closed k before
+        | inr here ↦ ap (λ l. get_or waits l 0) (sym here) ∙ none
+      ];
+  distinct = λ j k lt h same.
+      let len = length-append order (line ∷ []) in
+      let one = get_or_append_left order (line ∷ []) 0 j (omega (arith, len)) in
+      elim (cases_lt k (length order)) [
+        | inl below ↦ distinct j k lt below (sym one ∙ (same ∙ get_or_append_left order (line ∷ []) 0 k below))
+        | inr above ↦
+            let end = get_or_push order line 0 k (omega (arith, len)) in
+            fresh (get_or order j 0) (Contains-get_or order j 0 (omega (arith, len))) (sym one ∙ (same ∙ end))
+      ];
+}
+
 -- ---- one reader is told
 
 pub told_none : (waits order : List ℕ) → AreReady waits order → IsTold [] waits waits order order
@@ -107,22 +128,7 @@ module _ (readers old waits order longer : List ℕ) (reader : ℕ) (is : IsTold
           ]
           | inr here ↦ subst (Contains (longer ++ reader ∷ [])) here (Contains-push longer reader)
         ];
-    ready = record {
-      closed = λ line m.
-          elim (Contains-push_cases longer reader line m) [
-            | inl before ↦ at_other line (not_ready line before) ∙ is.ready.closed line before
-            | inr here ↦ ap (λ l. get_or less l 0) (sym here) ∙ (at_reader ∙ last)
-          ];
-      distinct = λ j k lt h same.
-          let len = length-append longer (reader ∷ []) in
-          let one = get_or_append_left longer (reader ∷ []) 0 j (omega (arith, len)) in
-          elim (cases_lt k (length longer)) [
-            | inl below ↦ is.ready.distinct j k lt below (sym one ∙ (same ∙ get_or_append_left longer (reader ∷ []) 0 k below))
-            | inr above ↦
-                let end = get_or_push longer reader 0 k (omega (arith, len)) in
-                not_ready (get_or longer j 0) (Contains-get_or longer j 0 (omega (arith, len))) (sym one ∙ (same ∙ end))
-          ];
-    };
+    ready = ready_more less longer reader (λ line m. at_other line (not_ready line m) ∙ is.ready.closed line m) (at_reader ∙ last) not_ready is.ready.distinct;
   }
 
   -- the step of the loop over readers, at the values that it leaves
@@ -133,6 +139,13 @@ module _ (readers old waits order longer : List ℕ) (reader : ℕ) (is : IsTold
   pub told_queued : (left : ℕ) (o l : List ℕ) → left ≡ get_or waits reader 0 - 1 → o ≡ set waits reader left → (left ≡ 0) × (l ≡ longer ++ reader ∷ []) → IsTold (readers ++ reader ∷ []) old o order l
   unfolding less
   told_queued left o l e f (none, same) = rw (same, f, e) (told_ready (sym e ∙ none))
+
+module _ (readers : List ℕ) {old waits order longer : List ℕ} (i : ℕ) (h : i < length readers) (enough : (line : ℕ) → count_of line readers ≤ get_or old line 0) (is : IsTold (take i readers) old waits order longer) where
+  pub reader_is_open : 0 < get_or waits (get_or readers i 0) 0
+  reader_is_open = is_open (take i readers) old waits order longer (get_or readers i 0) is (enough_so_far readers old i h enough)
+
+  pub reader_is_line : get_or readers i 0 < length waits
+  reader_is_line = reader_inside (take i readers) old waits order longer (get_or readers i 0) is (enough_so_far readers old i h enough)
 
 -- ---- the readers of one gate are told
 
@@ -299,23 +312,7 @@ module _ (c : Circuit) (n : ℕ) (waits order : List ℕ) (is : IsStart c n wait
           | inl same ↦ subst (Contains (order ++ n ∷ [])) same (Contains-push order n)
           | inr ne ↦ Contains-append_left order (n ∷ []) line (is.all line above (omega arith) (sym (below_same line (omega arith)) ∙ none))
         ];
-    ready = record {
-      closed = λ line m.
-          elim (Contains-push_cases order n line m) [
-            | inl before ↦ closed_before line before
-            | inr here ↦ ap (λ l. get_or more l 0) (sym here) ∙ (at_end ∙ none_is)
-          ];
-      distinct = λ j k lt h same.
-          let len = length-append order (n ∷ []) in
-          let one = get_or_append_left order (n ∷ []) 0 j (omega (arith, len)) in
-          elim (cases_lt k (length order)) [
-            | inl below ↦ is.ready.distinct j k lt below (sym one ∙ (same ∙ get_or_append_left order (n ∷ []) 0 k below))
-            | inr above ↦
-                let end = get_or_push order n 0 k (omega (arith, len)) in
-                let lower = is.gates (get_or order j 0) (Contains-get_or order j 0 (omega (arith, len))) in
-                absurd (omega (arith, lower, sym one ∙ (same ∙ end)))
-          ];
-    };
+    ready = ready_more more order n closed_before (at_end ∙ none_is) (λ line m e. absurd (omega (arith, (is.gates line m).1, e))) is.ready.distinct;
   }
 
   -- the step of the loop over gates, at the values that it leaves

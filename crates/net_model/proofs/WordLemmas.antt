@@ -1,49 +1,18 @@
 -- Words that are written into rows of bits.
-use Rattle.std.proofs.Common.{◌≡◌, ◌≢◌, ◌∙◌, ℕ, ◌-◌, ◌+◌, ◌*◌, ◌/◌, ◌%◌, ◌<◌, ◌≤◌, ◌^◌, Bool, true, false, eqb, List, [], length, get_or, set, map, refl, sym, ap, subst, arith, inl, inr}
-use Rattle.std.specs.Prelude.{min, nat_lt, ◌&&◌}
-use Rattle.std.specs.List.{range_with_len}
-use Rattle.std.specs.Int.{bit_at}
-use Rattle.std.specs.Int.Bits.{bit_and}
+use Rattle.std.proofs.Common.{◌≡◌, ◌≢◌, ◌∙◌, ℕ, ◌-◌, ◌+◌, ◌*◌, ◌/◌, ◌%◌, ◌<◌, ◌≤◌, ◌^◌, true, false, List, [], length, get_or, set, sym, ap, arith, inl, inr}
+use Rattle.std.specs.Prelude.{nat_lt, ◌&&◌}
 use Rattle.std.proofs.lemmas.Bool.{cases_lt, cases_eq}
 use Rattle.std.proofs.lemmas.Bool.Decides.{nat_tests}
 use Rattle.std.proofs.lemmas.List.{get_or-set_same, get_or-set_other, get_or_past, length-set}
-use Rattle.std.proofs.lemmas.List.FromFn.{length-map-range_with_len, fill_by_all}
-use Rattle.std.proofs.lemmas.Nat.{same_from_place, mod_below, one_shl}
-use Rattle.std.proofs.lemmas.Nat.Bits.{bit_at_and, bit_at_mask_above, bit_at_mask_inside, bit_at-lt}
-use Rattle.net_model.specs.Rows.{bit_of, word_bit, rows_of, row_at, row_bit, AreWords, HaveSameShape, IsWordSet}
+use Rattle.std.proofs.lemmas.List.FromFn.{fill_by_all}
+use Rattle.std.proofs.lemmas.Nat.{same_from_place, mod_below}
+use Rattle.net_model.specs.Rows.{bit_of, word_bit, rows_of, row_at, row_bit, AreWords, IsWordSet}
 use Rattle.net_model.proofs.RowLemmas.{IsPlace, length-rows_of, length-row, get_or-rows_of, get_or-row}
 
 -- the lowest bits of a word, so many
 pub record HasLowBits (count bits word : ℕ) : Type 0 where
   pub fits : word < 2 ^ 64
   pub low : (k : ℕ) → k < 64 → bit_of word k ≡ (nat_lt k count && bit_of bits k)
-
-smaller_of_one : (a b : ℕ) → a < 2 → b ≡ 1 → min a b ≡ a
-smaller_of_one a b h e = omega (arith, h, e)
-
-smaller_of_none : (a b : ℕ) → b ≡ 0 → min a b ≡ 0
-smaller_of_none a b e = omega (arith, e)
-
-one_bit : (a b : ℕ) → a < 2 → b ≡ 1 → eqb (min a b) 1 ≡ eqb a 1
-one_bit a b h e = ap (λ n. eqb n 1) (smaller_of_one a b h e)
-
-no_bit : (a b : ℕ) → b ≡ 0 → eqb (min a b) 1 ≡ false
-no_bit a b e = let P : ℕ → Type 0 = λ n. eqb n 1 ≡ false in subst P (sym (smaller_of_none a b e)) refl
-
--- a word under the mask of the lowest bits
-pub bit-masked : (word count k : ℕ) → bit_of (bit_and word (2 ^ count - 1)) k ≡ (nat_lt k count && bit_of word k)
-bit-masked word count k =
-    ap (λ b. eqb b 1) (bit_at_and word (2 ^ count - 1) k)
-    ∙ elim (cases_lt k count) [
-      | inl below ↦
-          let yes : nat_lt k count ≡ true = grind (arith, below, nat_tests) in
-          one_bit (bit_at word k) (bit_at (2 ^ count - 1) k) (bit_at-lt word k) (bit_at_mask_inside 0 count k (omega arith) below)
-          ∙ ap (λ b. b && bit_of word k) (sym yes)
-      | inr past ↦
-          let no : nat_lt k count ≡ false = grind (arith, past, nat_tests) in
-          no_bit (bit_at word k) (bit_at (2 ^ count - 1) k) (bit_at_mask_above 0 count k past)
-          ∙ ap (λ b. b && bit_of word k) (sym no)
-    ]
 
 module _ (stride width rows : ℕ) (words : List ℕ) (row word bits low : ℕ) (are : AreWords stride width rows words)
     (place : IsPlace stride width rows row (word * 64) words) (has : HasLowBits (width - word * 64) bits low) where

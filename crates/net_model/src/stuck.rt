@@ -33,7 +33,7 @@ pub fn stuck_position(fault: Fault, position: u32) -> Option<bool>
     ensures { result ≡ stuck_position fault position }
 {
     match fault {
-        Fault::Stuck(Site::Position(at), bit) if at == position => Some(bit),
+        Fault::Stuck(Site::Position(at), bit) => (at == position).then_some(bit),
         _ => None,
     }
 }

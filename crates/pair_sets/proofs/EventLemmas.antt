@@ -10,11 +10,10 @@ use Rattle.net_model.specs.Circuit.{Circuit, IsCircuit, line_count, Feeds}
 use Rattle.net_model.proofs.Orders.{order_has, order_only, order_count, reader_is_gate}
 use Rattle.net_model.proofs.SetSoFar.{fits_from}
 use Rattle.net_model.proofs.Elements.{true_false}
-use Rattle.pair_sets.specs.PairSet.{PairSet}
-use Rattle.pair_sets.specs.PairSet.{free_pairs, IsWithin}
+use Rattle.pair_sets.specs.PairSet.{PairSet, free_pairs, IsWithin}
 use Rattle.pair_sets.specs.CubeState.{set_at}
 use Rattle.event_queue.specs.Pending.{is_pending, IsLowest}
-use Rattle.event_queue.proofs.Marks.{lowest_left}
+use Rattle.event_queue.proofs.Marks.{lowest_left, pending_within}
 use Rattle.net_model.specs.Wiring.{Wiring, IsWiring}
 use Rattle.pair_sets.specs.Events.{IsIdle, gate_line_pairs, AreSettled, AreLoose, ReadersWait, WakesOnly, AreWoken, WakesReaders}
 use Rattle.pair_sets.proofs.PairLemmas.{within_same, within_more}
@@ -139,6 +138,11 @@ ordered_line c wiring wired order e place h =
     let is : get_or order place 0 ≡ get_or wiring.order place 0 = ap (λ o. get_or o place 0) e in
     let range = order_only c (fits_from c wired.circuit) wiring.order wired.order place h in
     (subst (λ l. c.sources ≤ l) (sym is) range.0, subst (λ l. l < line_count c) (sym is) range.1, is)
+
+-- that of a gate that waits
+pub waiting_line : (c : Circuit) (wiring : Wiring) → IsWiring c wiring → (order : List ℕ) → order ≡ wiring.order → (queue : List Bool) → length queue ≡ length wiring.order → (place : ℕ) → is_pending queue place ≡ true
+    → (c.sources ≤ get_or order place 0) × (get_or order place 0 < line_count c) × (get_or order place 0 ≡ get_or wiring.order place 0)
+waiting_line c wiring wired order e queue room place waits = ordered_line c wiring wired order e place (omega (arith, pending_within queue place waits, room))
 
 -- a gate's readers stand after it
 pub later_place : (c : Circuit) (wiring : Wiring) → IsWiring c wiring → (place reader : ℕ) → place < length wiring.order → reader < length wiring.order

@@ -14,7 +14,7 @@ use Rattle.net_model.specs.declared.operation.Fold.{Fold}
 use Rattle.net_model.specs.declared.operation.Fold.TheVariants.{AllOf, AnyOf, OddOf}
 use Rattle.net_model.specs.declared.operation.Operation.TheVariants.{Folded, Chosen}
 use Rattle.net_model.specs.Gate.{gate_value, operation_value, odd_ones, folded_bit, inverted, inverts, operation_of}
-use Rattle.pair_sets.specs.PairSet.{PairSet, Pair, forced_pairs, value_pairs, gate_pairs, operation_pairs, fixed_pairs, some_pair, has_pair, has_first, has_second, IsWithin}
+use Rattle.pair_sets.specs.PairSet.{PairSet, Pair, meets, second_turned, forced_pairs, value_pairs, gate_pairs, operation_pairs, fixed_pairs, some_pair, has_pair, has_first, has_second, IsWithin}
 use Rattle.pair_sets.specs.Trail.{pair_count}
 use Rattle.pair_sets.proofs.PairLemmas.{Has, same_set, value_pair, values_from, values_are}
 
@@ -140,16 +140,13 @@ and_set s t = record {
   both_one = s.both_one && t.both_one;
 }
 
-abbrev pub xor_set : PairSet → PairSet → PairSet
-xor_set s t = record {
-  both_zero = (((s.both_zero && t.both_zero) || (s.zero_one && t.zero_one)) || (s.one_zero && t.one_zero)) || (s.both_one && t.both_one);
-  zero_one = (((s.both_zero && t.zero_one) || (s.zero_one && t.both_zero)) || (s.one_zero && t.both_one)) || (s.both_one && t.one_zero);
-  one_zero = (((s.both_zero && t.one_zero) || (s.one_zero && t.both_zero)) || (s.zero_one && t.both_one)) || (s.both_one && t.zero_one);
-  both_one = (((s.both_zero && t.both_one) || (s.both_one && t.both_zero)) || (s.zero_one && t.one_zero)) || (s.one_zero && t.zero_one);
-}
-
 abbrev pub not_set : PairSet → PairSet
 not_set s = record { both_zero = s.both_one; zero_one = s.one_zero; one_zero = s.zero_one; both_one = s.both_zero }
+
+abbrev pub xor_set : PairSet → PairSet → PairSet
+xor_set s t =
+    let turned = second_turned t in
+    record { both_zero = meets s t; zero_one = meets s turned; one_zero = meets s (not_set turned); both_one = meets s (not_set t) }
 
 abbrev table_of : Fold → (PairSet → PairSet → PairSet) → PairSet → PairSet → Bool
 table_of fold op s t = same_sets (op s t) (operation_pairs (Folded fold) (s ∷ t ∷ []))

@@ -1,25 +1,22 @@
 -- The pairs of two faults from those of the circuit without faults: they differ on split lines alone, and are there once no gate waits.
 use Rattle.std.proofs.Common.{◌≡◌, ◌≢◌, ℕ, zero, suc, ◌<◌, List, [], length, get_or, set, refl, sym, ◌∙◌, ap, subst, arith, inl, inr}
-use Rattle.std.specs.Prelude.{Bool, true, false, Option, None, Some, ◌==◌, ◌||◌, ◌&&◌}
-use Rattle.std.specs.Bool.{then_some}
+use Rattle.std.specs.Prelude.{Bool, true, false, Option, None, Some, ◌==◌, ◌||◌}
 use Rattle.std.specs.Cmp.{both_ways}
 use Rattle.std.specs.Option.{option_map_or}
 use Rattle.std.specs.List.{list_any}
 use Rattle.std.proofs.lemmas.Bool.{cases_eq, cases_lt, eqb-true, eq-eqb, ne_eqb, or_cases, or_from, or_left, or_right, or_parts}
 use Rattle.std.proofs.lemmas.List.{get_or-set_same, get_or-set_other, get_or_past}
-use Rattle.std.proofs.lemmas.List.Elements.{Contains-get_or}
 use Rattle.net_model.specs.declared.gate.Gate.{Gate}
-use Rattle.net_model.specs.declared.fault.Site.TheVariants.{Stem, Pin, Position}
 use Rattle.net_model.specs.declared.fault.Fault.{Fault}
-use Rattle.net_model.specs.declared.fault.Fault.TheVariants.{Free, Stuck}
+use Rattle.net_model.specs.declared.fault.Fault.TheVariants.{Free}
 use Rattle.net_model.specs.Circuit.{Circuit, IsCircuit, line_count, gate_at, pins_of, Feeds}
-use Rattle.net_model.specs.Fault.{IsFaultOf, stuck_stem, stuck_pin}
+use Rattle.net_model.specs.Fault.{stuck_stem, stuck_pin}
 use Rattle.net_model.specs.Answer.{bit_at}
 use Rattle.net_model.specs.Scope.{first_changed, is_split, leads_within, leads_to, reaches_line}
 use Rattle.net_model.specs.Wiring.{Wiring, IsWiring}
 use Rattle.net_model.proofs.Copies.{pins_inside, same_readings}
 use Rattle.net_model.proofs.Elements.{passing, true_false}
-use Rattle.net_model.proofs.Orders.{reader_is_gate}
+use Rattle.net_model.proofs.FirstChanged.{stem_elsewhere, pin_elsewhere}
 use Rattle.net_model.proofs.ScopeLaws.{leads_here, split_is_closed}
 use Rattle.fault_list.specs.Scope.{AreMarks, is_first_changed, begins_at}
 use Rattle.event_queue.specs.Pending.{is_pending, IsEmpty, IsLowest}
@@ -33,18 +30,8 @@ use Rattle.pair_sets.proofs.SeenLemmas.{pin_set, same_line_pairs}
 
 -- ---- faults elsewhere
 
--- a fault sticks nothing at a line but the first that it changes
-stem_elsewhere : (f : Fault) (line : ℕ) → is_first_changed f line ≡ false → stuck_stem f line ≡ stuck_stem Free line
-stem_elsewhere Free line e = refl
-stem_elsewhere (Stuck (Stem at) bit) line e = ap (λ b. then_some b bit) e
-stem_elsewhere (Stuck (Pin gate at) bit) line e = refl
-stem_elsewhere (Stuck (Position at) bit) line e = refl
-
-pin_elsewhere : (f : Fault) (line pin : ℕ) → is_first_changed f line ≡ false → stuck_pin f line pin ≡ stuck_pin Free line pin
-pin_elsewhere Free line pin e = refl
-pin_elsewhere (Stuck (Stem at) bit) line pin e = refl
-pin_elsewhere (Stuck (Pin gate at) bit) line pin e = ap (λ b. then_some (b && at == pin) bit) e
-pin_elsewhere (Stuck (Position at) bit) line pin e = refl
+not_first : (f : Fault) (line : ℕ) → is_first_changed f line ≡ false → first_changed f ≡ Some line → ⊥
+not_first f line other e = true_false (is_first_changed f line) (ap (λ o. option_map_or (λ from. from == line) o false) e ∙ eq-eqb line line refl) other
 
 -- The two faults stick nothing at a line.
 record StickNothing (f g : Fault) (line : ℕ) : Type 0 where
@@ -127,15 +114,6 @@ split_onward c w f g read line m e = by (is_split c f g line) refl
     by true t = refl
     by false t = true_false (is_split c f g read) e ((split_is_closed c w.acyclic f g).onward read line m t)
 
--- the first line that a fault of the circuit changes is one of its lines
-pub first_inside : (c : Circuit) (f : Fault) (line : ℕ) → IsFaultOf c f → first_changed f ≡ Some line → line < line_count c
-first_inside c Free line is e = cc
-first_inside c (Stuck (Stem at) bit) line is e = let same : at ≡ line = cc in subst (λ n. n < line_count c) same is
-first_inside c (Stuck (Pin gate at) bit) line is e =
-    let same : gate ≡ line = cc in
-    subst (λ n. n < line_count c) same (reader_is_gate c (get_or (pins_of c gate) at 0) gate (Contains-get_or (pins_of c gate) at 0 is)).1
-first_inside c (Stuck (Position at) bit) line is e = cc
-
 -- ---- on the way
 
 module _ (c : Circuit) (w : IsCircuit c) (f g : Fault) (wiring : Wiring) (wired : IsWiring c wiring) (queue marks : List Bool) (sets : List PairSet) where
@@ -147,10 +125,10 @@ module _ (c : Circuit) (w : IsCircuit c) (f g : Fault) (wiring : Wiring) (wired 
         let first = or_parts (is_first_changed f l) (is_first_changed g l || false) other in
         let second = or_parts (is_first_changed g l) false first.1 in
         let nothing : StickNothing f g l = record {
-          first_stem = stem_elsewhere f l first.0;
-          second_stem = stem_elsewhere g l second.0;
-          first_pins = λ pin. pin_elsewhere f l pin first.0;
-          second_pins = λ pin. pin_elsewhere g l pin second.0;
+          first_stem = stem_elsewhere f l (not_first f l first.0);
+          second_stem = stem_elsewhere g l (not_first g l second.0);
+          first_pins = λ pin. pin_elsewhere f l pin (not_first f l first.0);
+          second_pins = λ pin. pin_elsewhere g l pin (not_first g l second.0);
         } in
         are.each l h ∙ sym (unstuck_line c f g sets l nothing);
     begun = λ l t other.

@@ -100,25 +100,21 @@ module _ (c : Circuit) (f g : Fault) (sets : List PairSet) where
 
 -- ---- equal and unequal pairs
 
+neither : (a b : Bool) → b ≡ true → not (a || b) ≡ true → ⊥
+neither true b t e = cc
+neither false b t e = false≢true (sym (ap not t) ∙ e)
+
 equal_pair : (s : PairSet) (a b : Bool) → only_equal s ≡ true → has_pair s a b ≡ true → a ≡ b
 equal_pair s true true e h = refl
 equal_pair s false false e h = refl
 equal_pair s false true e h = absurd (false≢true (sym (ap (λ x. not (x || s.one_zero)) h) ∙ e))
-equal_pair s true false e h = absurd (some_false (s.zero_one) (s.one_zero) h e)
-  where
-    some_false : (a b : Bool) → b ≡ true → not (a || b) ≡ true → ⊥
-    some_false true b t e = cc
-    some_false false b t e = false≢true (sym (ap not t) ∙ e)
+equal_pair s true false e h = absurd (neither (s.zero_one) (s.one_zero) h e)
 
 unequal_pair : (s : PairSet) (a b : Bool) → only_unequal s ≡ true → has_pair s a b ≡ true → a ≢ b
 unequal_pair s true false e h = λ d. false≢true (sym d)
 unequal_pair s false true e h = λ d. false≢true d
 unequal_pair s false false e h = absurd (false≢true (sym (ap (λ x. not (x || s.both_one)) h) ∙ e))
-unequal_pair s true true e h = absurd (some_false (s.both_zero) (s.both_one) h e)
-  where
-    some_false : (a b : Bool) → b ≡ true → not (a || b) ≡ true → ⊥
-    some_false true b t e = cc
-    some_false false b t e = false≢true (sym (ap not t) ∙ e)
+unequal_pair s true true e h = absurd (neither (s.both_zero) (s.both_one) h e)
 
 -- ---- laws
 

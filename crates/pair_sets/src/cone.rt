@@ -15,10 +15,9 @@ pub(crate) struct Cone {
 
 impl Model for Cone {
     ghost use Rattle.std.specs.Prelude.{List, Bool};
+    ghost use Rattle.pair_sets.specs.ConeFields.{AreListed};
 
     ghost Value = { List Bool };
-
-    ghost use Rattle.pair_sets.specs.ConeFields.{AreListed};
 
     ghost view = { λ a. a.marks.items };
 

@@ -2,11 +2,11 @@
 //! order of the circuit.
 
 ghost use Rattle.std.specs.Prelude.{◌≡◌, ℕ, ◌<◌, length, slice_set};
+ghost use Rattle.event_queue.specs.Pending.{IsEmpty};
 ghost use Rattle.net_model.specs.Circuit.{line_count};
 ghost use Rattle.net_model.specs.Wiring.{IsWiring};
-ghost use Rattle.event_queue.specs.Pending.{IsEmpty};
-ghost use Rattle.pair_sets.specs.PairSet.{IsWithin};
 ghost use Rattle.pair_sets.specs.CubeState.{set_at};
+ghost use Rattle.pair_sets.specs.PairSet.{IsWithin};
 ghost use Rattle.pair_sets.specs.Trail.{HasRoom, IsLonger};
 ghost use Rattle.pair_sets.specs.Events.{AreSettled, AreLoose, WakesReaders};
 

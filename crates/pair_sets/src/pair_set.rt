@@ -4,7 +4,7 @@ ghost use Rattle.std.specs.Prelude.{◌≡◌, ◌∷◌, [], Some, None};
 ghost use Rattle.net_model.specs.declared.gate.Kind.TheVariants.{Not};
 ghost use Rattle.net_model.specs.declared.operation.Operation.TheVariants.{Chosen, Folded};
 ghost use Rattle.net_model.specs.declared.operation.Fold.TheVariants.{AllOf, OddOf};
-ghost use Rattle.pair_sets.specs.PairSet.{forced_pairs, gate_pairs, operation_pairs, fixed_pairs, free_pairs, some_pair, has_first, has_second, has_pair, has_several, only_equal, only_unequal};
+ghost use Rattle.pair_sets.specs.PairSet.{forced_pairs, gate_pairs, operation_pairs, fixed_pairs, free_pairs, some_pair, has_first, has_second, has_pair, has_several, meets, only_equal, only_unequal, second_turned};
 
 use net_model::Fold;
 use std::marker::Model;
@@ -101,23 +101,36 @@ impl PairSet {
     fn xor(self, other: PairSet) -> PairSet
         ensures { result ≡ operation_pairs (Folded OddOf) (self ∷ other ∷ []) }
     {
+        let turned = other.second_turned();
         PairSet {
-            both_zero: (self.both_zero & other.both_zero)
-                | (self.zero_one & other.zero_one)
-                | (self.one_zero & other.one_zero)
-                | (self.both_one & other.both_one),
-            zero_one: (self.both_zero & other.zero_one)
-                | (self.zero_one & other.both_zero)
-                | (self.one_zero & other.both_one)
-                | (self.both_one & other.one_zero),
-            one_zero: (self.both_zero & other.one_zero)
-                | (self.one_zero & other.both_zero)
-                | (self.zero_one & other.both_one)
-                | (self.both_one & other.zero_one),
-            both_one: (self.both_zero & other.both_one)
-                | (self.both_one & other.both_zero)
-                | (self.zero_one & other.one_zero)
-                | (self.one_zero & other.zero_one),
+            both_zero: self.meets(other),
+            zero_one: self.meets(turned),
+            one_zero: self.meets(turned.not()),
+            both_one: self.meets(other.not()),
+        }
+    }
+
+    // Whether the two sets have a pair in common.
+    #[inline]
+    fn meets(self, other: PairSet) -> bool
+        ensures { result ≡ meets self other }
+    {
+        (self.both_zero & other.both_zero)
+            | (self.zero_one & other.zero_one)
+            | (self.one_zero & other.one_zero)
+            | (self.both_one & other.both_one)
+    }
+
+    // The set with the bit in each pair's second place inverted.
+    #[inline]
+    fn second_turned(self) -> PairSet
+        ensures { result ≡ second_turned self }
+    {
+        PairSet {
+            both_zero: self.zero_one,
+            zero_one: self.both_zero,
+            one_zero: self.both_one,
+            both_one: self.one_zero,
         }
     }
 
@@ -204,14 +217,22 @@ impl PairSet {
         }
     }
 
+    // The set with a value put in each pair's first place, where there is one to put.
+    #[inline]
+    fn first_forced(self, first: Option<bool>) -> PairSet
+        ensures { result ≡ forced_pairs first None self }
+    {
+        match first {
+            Some(bit) => self.with_first(bit),
+            None => self,
+        }
+    }
+
     // The set with a value put in each pair's first place and in its second, where there is one to put.
     pub(crate) fn forced(self, first: Option<bool>, second: Option<bool>) -> PairSet
         ensures { result ≡ forced_pairs first second self }
     {
-        let pairs = match first {
-            Some(bit) => self.with_first(bit),
-            None => self,
-        };
+        let pairs = self.first_forced(first);
         match second {
             Some(bit) => pairs.with_second(bit),
             None => pairs,

@@ -3,10 +3,9 @@
 ghost use Rattle.std.specs.Prelude.{◌≡◌, ◌<◌, ◌∷◌, [], All, None, IfOk, drop, length};
 ghost use Rattle.net_model.specs.declared.fault.Fault.TheVariants.{Free};
 ghost use Rattle.net_model.specs.Circuit.{IsCircuit, line_count};
-ghost use Rattle.net_model.specs.Fault.{IsFaultOf};
-ghost use Rattle.pair_sets.specs.Cube.{fixed_bit};
-ghost use Rattle.net_model.specs.Fault.{stuck_pin};
+ghost use Rattle.net_model.specs.Fault.{IsFaultOf, stuck_pin};
 ghost use Rattle.net_model.specs.Scope.{reached_positions};
+ghost use Rattle.pair_sets.specs.Cube.{fixed_bit};
 ghost use Rattle.pair_sets.specs.PairSet.{forced_pairs};
 ghost use Rattle.pair_sets.specs.CubeState.{set_at, position_pairs, IsState, IsPart};
 ghost use Rattle.pair_sets.specs.PairSim.{pair_sim, with_cube};
@@ -47,15 +46,14 @@ pub struct PairSim<'a> {
 }
 
 impl<'a> Model for PairSim<'a> {
-    ghost use Rattle.pair_sets.specs.PairSim as spec;
-
-    ghost Value = { spec.PairSim };
-
     ghost use Rattle.pair_sets.specs.PairSimFields.{pair_sim_of, IsReady};
+    ghost use Rattle.pair_sets.specs.PairSim as spec;
 
     ghost view = { pair_sim_of };
 
     ghost invariant = { IsReady };
+
+    ghost Value = { spec.PairSim };
 }
 
 impl<'a> PairSim<'a> {

@@ -2,22 +2,22 @@
 //! the faults reach are evaluated, gate by gate in an order of the circuit.
 
 ghost use Rattle.std.specs.Prelude.{◌≡◌, ℕ, ◌<◌, Bool, true, [], ◌==◌, ◌||◌, length};
-ghost use Rattle.net_model.specs.declared.fault.Fault.TheVariants.{Free};
 ghost use Rattle.net_model.specs.Circuit.{line_count};
 ghost use Rattle.net_model.specs.Fault.{IsFaultOf};
-ghost use Rattle.net_model.specs.Scope.{first_changed, is_split};
+ghost use Rattle.net_model.specs.Scope.{is_split};
 ghost use Rattle.net_model.specs.Wiring.{IsWiring};
+ghost use Rattle.net_model.specs.declared.fault.Fault.TheVariants.{Free};
 ghost use Rattle.fault_list.specs.Scope.{AreMarks, is_first_changed};
 ghost use Rattle.event_queue.specs.Pending.{IsEmpty};
 ghost use Rattle.pair_sets.specs.CubeState.{ArePairSets};
 ghost use Rattle.pair_sets.specs.Events.{AreWoken};
-ghost use Rattle.pair_sets.specs.Spread.{IsSpread};
+ghost use Rattle.pair_sets.specs.Spread.{HasWidth, IsSpread};
 
 use crate::cone::Cone;
 use crate::fault_pair::FaultPair;
 use crate::pair_set::PairSet;
 use event_queue::NumberQueue;
-use net_model::{Fault, Site, Wiring};
+use net_model::{Fault, Wiring, first_changed};
 
 /// Gives the lines their pairs under two faults, where they have those without faults, and marks the lines that the
 /// faults can change.
@@ -40,8 +40,8 @@ pub(crate) fn spread(
     ensures queue { length queue.new ≡ length queue.old }
     ensures none { IsEmpty queue.new }
 {
-    begin(pair, wiring, pair.f, queue, cone, sets);
-    begin(pair, wiring, pair.g, queue, cone, sets);
+    begin(pair, wiring, queue, cone, sets, pair.f);
+    begin(pair, wiring, queue, cone, sets, pair.g);
     let order = wiring.order();
     let mut from = 0;
     while let Some(place) = queue.take_lowest(from) {
@@ -54,37 +54,22 @@ pub(crate) fn spread(
 fn begin(
     pair: &FaultPair,
     wiring: &Wiring,
-    fault: Fault,
     queue: &mut NumberQueue,
     cone: &mut Cone,
     sets: &mut Vec<PairSet>,
+    fault: Fault,
 )
     requires wiring { IsWiring pair.now.circuit.now wiring.now }
     requires fault { IsFaultOf pair.now.circuit.now fault }
     requires split { (line : ℕ) → is_first_changed fault line ≡ true → is_split pair.now.circuit.now pair.now.f pair.now.g line ≡ true }
-    requires sets { length sets.old.items ≡ line_count pair.now.circuit.now }
-    requires cone { length cone.old ≡ line_count pair.now.circuit.now }
-    requires queue { length queue.old ≡ length wiring.now.order }
-    ensures sets { length sets.new.items ≡ length sets.old.items }
-    ensures cone { length cone.new ≡ length cone.old }
-    ensures queue { length queue.new ≡ length queue.old }
+    requires width { HasWidth pair.now.circuit.now wiring.now.order queue.old cone.old sets.old.items }
+    ensures width { HasWidth pair.now.circuit.now wiring.now.order queue.new cone.new sets.new.items }
     ensures spread { (but : ℕ → Bool) → IsSpread pair.now.circuit.now pair.now.f pair.now.g wiring.now.order (λ l. is_first_changed fault l || but l) queue.old cone.old sets.old.items → IsSpread pair.now.circuit.now pair.now.f pair.now.g wiring.now.order but queue.new cone.new sets.new.items }
 {
     let Some(line) = first_changed(fault) else {
         return;
     };
     enter(pair, wiring, line, queue, cone, sets);
-}
-
-// The first line that a fault changes, if it changes one.
-fn first_changed(fault: Fault) -> Option<u32>
-    ensures { result ≡ first_changed fault }
-{
-    match fault {
-        Fault::Stuck(Site::Stem(line), _) => Some(line),
-        Fault::Stuck(Site::Pin(gate, _), _) => Some(gate),
-        Fault::Stuck(Site::Position(_), _) | Fault::Free => None,
-    }
 }
 
 // Gives a line its pairs, and marks it. Its readers wait from now on.
@@ -99,12 +84,8 @@ fn enter(
     requires wiring { IsWiring pair.now.circuit.now wiring.now }
     requires line { line < line_count pair.now.circuit.now }
     requires split { is_split pair.now.circuit.now pair.now.f pair.now.g line ≡ true }
-    requires sets { length sets.old.items ≡ line_count pair.now.circuit.now }
-    requires cone { length cone.old ≡ line_count pair.now.circuit.now }
-    requires queue { length queue.old ≡ length wiring.now.order }
-    ensures sets { length sets.new.items ≡ length sets.old.items }
-    ensures cone { length cone.new ≡ length cone.old }
-    ensures queue { length queue.new ≡ length queue.old }
+    requires width { HasWidth pair.now.circuit.now wiring.now.order queue.old cone.old sets.old.items }
+    ensures width { HasWidth pair.now.circuit.now wiring.now.order queue.new cone.new sets.new.items }
     ensures woken { AreWoken pair.now.circuit.now wiring.now.order line queue.old queue.new }
     ensures spread { (but : ℕ → Bool) → IsSpread pair.now.circuit.now pair.now.f pair.now.g wiring.now.order (λ l. line == l || but l) queue.old cone.old sets.old.items → IsSpread pair.now.circuit.now pair.now.f pair.now.g wiring.now.order but queue.new cone.new sets.new.items }
 {

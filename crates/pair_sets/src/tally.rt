@@ -1,14 +1,14 @@
 //! What the reached positions show, kept up with the pairs of the lines.
 
 ghost use Rattle.std.specs.Prelude.{◌≡◌, ◌≢◌, ℕ, ◌<◌, ◌^◌, All, Contains, IfOk, find, length, slice_index};
+ghost use Rattle.fault_list.specs.Scope.{AreMarks};
+ghost use Rattle.pair_sets.specs.CubeState.{position_pairs};
+ghost use Rattle.pair_sets.specs.PairSet.{only_unequal};
+ghost use Rattle.pair_sets.specs.Tally.{HasPlaces, IsBlank, IsBlankBut, IsShownAt, IsShown, IsTally, KeepsAll, kept_pairs};
 ghost use Rattle.net_model.specs.Circuit.{line_count};
 ghost use Rattle.net_model.specs.Fault.{IsFaultOf};
 ghost use Rattle.net_model.specs.Scope.{is_split};
 ghost use Rattle.net_model.specs.Wiring.{IsWiring};
-ghost use Rattle.fault_list.specs.Scope.{AreMarks};
-ghost use Rattle.pair_sets.specs.PairSet.{only_unequal};
-ghost use Rattle.pair_sets.specs.CubeState.{position_pairs};
-ghost use Rattle.pair_sets.specs.Tally.{HasPlaces, IsBlank, IsBlankBut, IsShownAt, IsShown, IsTally, KeepsAll, kept_pairs};
 
 use crate::cone::Cone;
 use crate::fault_pair::FaultPair;
@@ -23,9 +23,9 @@ use std::alloc::{AllocError, Global};
 /// The reached positions, and for each position the pairs that it shows; equal ones where it isn't reached.
 #[derive(Drop)]
 pub(crate) struct Tally {
+    waiting: NumberQueue,
     pub(crate) reached: Vec<u32>,
     pub(crate) shown: Shown,
-    waiting: NumberQueue,
 }
 
 impl Tally {

@@ -97,25 +97,22 @@ verb_named name =
     else if bytes_eq name (codes "synth") then Some Synth
     else None
 
+-- the words that a command takes, and what they ask for
+abbrev pub table : Verb → App × (List Row → Option Request)
+table Gen = (gen_app, λ rows. Some (gen_by rows))
+table Check = (check_app, λ rows. Some (check_by rows))
+table Dict = (dict_app, dict_by)
+table Convert = (convert_app, λ rows. Some (convert_by rows))
+table Diagnose = (diagnose_app, λ rows. Some (diagnose_by rows))
+table Faults = (faults_app, λ rows. Some (faults_by rows))
+table Sim = (sim_app, λ rows. Some (sim_by rows))
+table Synth = (synth_app, λ rows. Some (synth_by rows))
+
 abbrev pub app_for : Verb → App
-app_for Gen = gen_app
-app_for Check = check_app
-app_for Dict = dict_app
-app_for Convert = convert_app
-app_for Diagnose = diagnose_app
-app_for Faults = faults_app
-app_for Sim = sim_app
-app_for Synth = synth_app
+app_for verb = (table verb).0
 
 abbrev pub request_by : Verb → List Row → Option Request
-request_by Gen rows = Some (gen_by rows)
-request_by Check rows = Some (check_by rows)
-request_by Dict rows = dict_by rows
-request_by Convert rows = Some (convert_by rows)
-request_by Diagnose rows = Some (diagnose_by rows)
-request_by Faults rows = Some (faults_by rows)
-request_by Sim rows = Some (sim_by rows)
-request_by Synth rows = Some (synth_by rows)
+request_by verb rows = (table verb).1 rows
 
 -- what the words behind a command's name ask for, where its definition takes them
 abbrev pub asked_by : Option Verb → List Text → Option Request

@@ -3,10 +3,8 @@
 #![tactic(auto)]
 
 mod arguments;
-mod dictionaries;
-mod netlists;
+mod commands;
 mod request;
-mod results;
 
 pub use arguments::WordsFault;
 pub use request::{EntryKind, Request, read_words};

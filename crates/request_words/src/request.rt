@@ -5,12 +5,10 @@ ghost use Rattle.clap.specs.Words.{app_of, found_of, rows_of};
 ghost use Rattle.request_words.specs.Request.{verb_named, app_for, request_by, asked_by, request_of};
 ghost use Rattle.request_words.specs.Asked.{asked, HasLimits};
 
-use crate::arguments::{WordsFault, parse};
-use crate::dictionaries::{
-    convert_command, convert_in, diagnose_command, diagnose_in, dict_command, dict_in,
+use crate::arguments::{WordsFault, name_in, parse, two_names};
+use crate::commands::{
+    dict_command, dict_in, faults_command, faults_in, gen_command, gen_in, synth_command, synth_in,
 };
-use crate::netlists::{faults_command, faults_in, sim_command, sim_in};
-use crate::results::{check_command, check_in, gen_command, gen_in, synth_command, synth_in};
 use clap::{ArgMatches, Command};
 use result_file::Budgets;
 use std::alloc::{AllocError, Global};
@@ -106,17 +104,18 @@ fn read_request(alloc: Global, verb: Verb, words: &[String]) -> Result<Request<'
 }
 
 // How `clap` reads the words behind a command's name.
+#[tactic(auto, unfolding(crate::specs::Request::check_app, crate::specs::Request::convert_app, crate::specs::Request::diagnose_app, crate::specs::Request::sim_app))]
 fn definition<'a>(alloc: Global, verb: Verb) -> Result<Command<'a>, AllocError>
     ensures { IfOk result (λ c. app_of c ≡ app_for verb) }
 {
     match verb {
         Verb::Gen => gen_command(alloc),
-        Verb::Check => check_command(alloc),
+        Verb::Check => two_names(alloc, "check", "bench", "result"),
         Verb::Dict => dict_command(alloc),
-        Verb::Convert => convert_command(alloc),
-        Verb::Diagnose => diagnose_command(alloc),
+        Verb::Convert => two_names(alloc, "convert", "old", "new"),
+        Verb::Diagnose => two_names(alloc, "diagnose", "dict", "log"),
         Verb::Faults => faults_command(alloc),
-        Verb::Sim => sim_command(alloc),
+        Verb::Sim => two_names(alloc, "sim", "bench", "vectors"),
         Verb::Synth => synth_command(alloc),
     }
 }
@@ -128,12 +127,18 @@ fn requested<'a>(verb: Verb, matches: &ArgMatches<'a>) -> Option<Request<'a>>
 {
     match verb {
         Verb::Gen => Some(gen_in(matches)),
-        Verb::Check => Some(check_in(matches)),
+        Verb::Check => Some(Request::Check(name_in(matches, "bench"), name_in(matches, "result"))),
         Verb::Dict => dict_in(matches),
-        Verb::Convert => Some(convert_in(matches)),
-        Verb::Diagnose => Some(diagnose_in(matches)),
+        Verb::Convert => Some(Request::Convert(name_in(matches, "old"), name_in(matches, "new"))),
+        Verb::Diagnose => Some(Request::Diagnose(
+            name_in(matches, "dict"),
+            name_in(matches, "log"),
+        )),
         Verb::Faults => Some(faults_in(matches)),
-        Verb::Sim => Some(sim_in(matches)),
+        Verb::Sim => Some(Request::Simulate(
+            name_in(matches, "bench"),
+            name_in(matches, "vectors"),
+        )),
         Verb::Synth => Some(synth_in(matches)),
     }
 }

@@ -1,10 +1,8 @@
 -- What a reader answers, from what the readers of its parts answer.
-use Rattle.std.proofs.Common.{◌≡◌, ◌≢◌, ◌∙◌, ℕ, ◌<◌, ◌≤◌, Bool, true, false, not, List, [], ◌∷◌, ◌++◌, map, length, get_or, Option, Some, None, Result, Ok, Err, refl, sym, ap, arith}
-use Rattle.std.specs.Prelude.{All, ◌==◌, flat_map, codes, decimal, MatchOption, IfOk, IsErrOf, IsSome, ⊤}
+use Rattle.std.proofs.Common.{◌≡◌, ◌∙◌, ℕ, ◌<◌, ◌≤◌, Bool, true, false, not, List, [], ◌∷◌, ◌++◌, map, length, get_or, Option, Some, None, Result, Ok, Err, refl, sym, ap, arith}
+use Rattle.std.specs.Prelude.{All, ◌==◌, flat_map, codes, decimal, IfOk, IsErrOf, IsSome, ⊤}
 use Rattle.std.specs.Option.{option_to_list}
 use Rattle.std.specs.List.{slice_split}
-use Rattle.std.specs.Result.{result_ok}
-use Rattle.std.specs.Str.Parse.{ParsesUnsigned}
 use Rattle.net_model.specs.BitText.{bit_digit, bits_text}
 use Rattle.clause_pool.specs.Literal.{Literal}
 use Rattle.pair_sets.specs.declared.tree.Token.{Token}
@@ -16,7 +14,9 @@ use Rattle.result_file.specs.declared.fault.RecordFault.TheVariants.{Syntax, NoM
 use Rattle.result_file.specs.Spelling.{Text, fields, spelling, literal_field, step_fields, clause_fields, chain_fields, evidence_fields, proof_fields, HasTreeSpelling, HasProofSpelling, IsNumber, IsVariable, IsLiteral, HasStepSpelling, HasLiteralSpelling, HasChainSpelling, IsFreshChain, HasSpelling, IsNoSpelling}
 use Rattle.result_file.specs.Reading.{Reads, IsChainOf}
 use Rattle.result_file.proofs.DigitLemmas.{text_of_digits, no_dash_digits}
-use Rattle.result_file.proofs.OnceLemmas.{tails, first_byte, first_digit, literal_once, number_once, parsed_number, unparsed_number}
+use Rattle.result_file.proofs.Cuts.{tails}
+use Rattle.result_file.proofs.NumberLemmas.{first_byte, first_digit, number_once}
+use Rattle.result_file.proofs.OnceLemmas.{literal_once}
 use Rattle.result_file.proofs.ReadLemmas.{spelled_by, fields_by}
 
 -- a fault that is handed on
@@ -48,12 +48,7 @@ three_texts now (x ∷ y ∷ []) d low high = absurd (omega (arith, low))
 three_texts now (x ∷ y ∷ z ∷ []) d low high = refl
 three_texts now (x ∷ y ∷ z ∷ w ∷ more) d low high = absurd (omega (arith, high))
 
--- ---- numbers and literals
-
-pub number_read : {E : Type 0} (text : Text) (r : Result ℕ E) → ParsesUnsigned 32 10 text r → (first_byte text ≡ 43 → ⊥) → (first_byte text ≡ 48 → length text ≡ 1)
-    → MatchOption (result_ok r) ((n : ℕ) → IsNumber n → decimal n ≢ text) (λ n. IsNumber n × (decimal n ≡ text))
-number_read {E} text (Ok n) parses plain alone = parsed_number {E = E} n text (Ok n) parses refl plain alone
-number_read {E} text (Err fault) parses plain alone = λ n small e. unparsed_number {E = E} n text (Err fault) fault parses refl small e
+-- ---- literals
 
 no_negative : (positive : Bool) (n : ℕ) (digits : Text) → IsVariable n → ((m : ℕ) → IsVariable m → decimal m ≡ digits → ⊥) → literal_field (record { variable = n; positive = positive }) ≡ 45 ∷ digits → ⊥
 no_negative true n digits small never e = omega (arith, first_digit n (omega (arith, small.1)), ap first_byte e)

@@ -3,6 +3,9 @@ use Rattle.std.proofs.Common.{◌≡◌, List, [], ◌∷◌, ◌++◌, refl, sy
 use Rattle.std.specs.Prelude.{All}
 use Rattle.std.proofs.lemmas.List.Elements.{All-head, All-tail}
 
+pub tails : {X : Type 0} {x y : X} {xs ys : List X} → x ∷ xs ≡ y ∷ ys → (x ≡ y) × (xs ≡ ys)
+tails e = (cc, cc)
+
 module _ {X : Type 0} (P Q : X → Type 0) where
   -- the list is empty, or begins with an element of the second kind
   abbrev pub Begins : List X → Type 0

@@ -5,10 +5,8 @@ use Rattle.std.specs.Option.{option_to_list}
 use Rattle.std.specs.List.{slice_split, join_with_byte, AllByRecursion}
 use Rattle.std.proofs.Math.Dec.{ltb, leb}
 use Rattle.std.proofs.lemmas.Bool.{and_parts, ltb-true, leb-true, ne_eqb}
-use Rattle.std.proofs.lemmas.Fmt.{decimal_is_IsNumeral}
-use Rattle.std.proofs.lemmas.Str.Parse.{digit_at}
 use Rattle.std.proofs.lemmas.List.Splits.{slice_split_none, slice_split_at}
-use Rattle.std.proofs.lemmas.List.Elements.{All-nil, All-cons, All-head, All-tail, All-append, All-map, All-weaker, All-from_get_or, All-contains}
+use Rattle.std.proofs.lemmas.List.Elements.{All-nil, All-cons, All-head, All-tail, All-append, All-map, All-weaker, All-contains}
 use Rattle.net_model.specs.BitText.{bit_digit, bits_text}
 use Rattle.clause_pool.specs.Literal.{Literal}
 use Rattle.pair_sets.specs.declared.tree.Token.{Token}
@@ -21,6 +19,7 @@ use Rattle.result_file.specs.declared.record.Proof.TheVariants as proof
 use Rattle.result_file.specs.declared.record.Record.{Record}
 use Rattle.result_file.specs.declared.record.Record.TheVariants.{Head, Budget, Pattern, Same, Class, Member, End}
 use Rattle.result_file.specs.Spelling.{Text, fields, spelling, token_field, literal_field, step_fields, clause_fields, chain_fields, log_fields, proof_fields, birth_fields, mark_field, IsNumber, IsLiteral, HasTokenSpelling, HasStepSpelling, HasLiteralSpelling, HasChainSpelling, IsPlainChain, IsFreshChain, HasProofSpelling, HasBirthSpelling, HasSpelling}
+use Rattle.result_file.proofs.NumberLemmas.{IsDecimalDigit, number_digits}
 
 -- A byte is a visible character of ASCII.
 abbrev pub IsVisible : ℕ → Type 0
@@ -44,9 +43,7 @@ visible (b ∷ bs) h =
 -- ---- the fields of records
 
 pub number_field : (n : ℕ) → IsNumber n → IsField (decimal n)
-number_field n small =
-    let numeral = (decimal_is_IsNumeral n (omega (arith, small))).0 in
-    All-from_get_or IsVisible (decimal n) 0 (λ i below. let digit = digit_at (decimal n) i numeral.1 below in (omega (arith, digit.0), omega (arith, digit.1)))
+number_field n small = All-weaker IsDecimalDigit IsVisible (λ b digit. (omega (arith, digit.0), omega (arith, digit.1))) (decimal n) (number_digits n small)
 
 literal_by : (positive : Bool) (n : ℕ) → IsNumber n → IsField (literal_field (record { variable = n; positive = positive }))
 literal_by true n small = number_field n small

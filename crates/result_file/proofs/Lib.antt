@@ -5,7 +5,9 @@ pub mod RightEvidence
 pub mod Truth
 mod TreeLines
 -- Spellings
-mod Cuts
+pub mod Cuts
+pub mod NumberLemmas
+pub mod BitLemmas
 mod FieldLemmas
 mod OnceLemmas
 mod ReadLemmas

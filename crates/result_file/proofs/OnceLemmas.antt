@@ -1,14 +1,10 @@
 -- What has one spelling is the same.
-use Rattle.std.proofs.Common.{◌≡◌, ◌∙◌, ℕ, ◌<◌, ◌≤◌, ◌^◌, Bool, true, false, List, [], ◌∷◌, ◌++◌, map, length, get_or, Option, Some, None, refl, sym, ap, ap₂, subst, inl, inr, arith}
-use Rattle.std.specs.Prelude.{All, ◌==◌, flat_map, codes, decimal, IsSome, Result, Ok, Err}
+use Rattle.std.proofs.Common.{◌≡◌, ◌∙◌, ℕ, Bool, true, false, List, [], ◌∷◌, ◌++◌, map, get_or, Option, Some, None, refl, sym, ap, ap₂, arith}
+use Rattle.std.specs.Prelude.{All, ◌==◌, flat_map, codes, decimal, IsSome}
 use Rattle.std.specs.Option.{option_to_list}
 use Rattle.std.specs.List.{slice_split}
-use Rattle.std.specs.Str.Parse.{IsNumeral, AllDigits, digits_value, without_leading_plus, ParsesUnsigned}
-use Rattle.std.proofs.lemmas.Bool.{cases_lt, eqb-false}
-use Rattle.std.proofs.lemmas.Fmt.{decimal_is_IsNumeral, decimal_injective, decimal_digit, first_decimal, parse-decimal, decimal-digits_value}
-use Rattle.std.proofs.lemmas.Str.Parse.{digit_at, IsNumeralModel, numerals_by_value, tells_digits, without_leading_plus_none}
+use Rattle.std.proofs.lemmas.Bool.{eqb-false}
 use Rattle.std.proofs.lemmas.List.Elements.{All-nil, All-cons, All-head, All-tail, All-map, All-weaker}
-use Rattle.net_model.specs.BitText.{bit_digit, bits_text}
 use Rattle.clause_pool.specs.Literal.{Literal}
 use Rattle.pair_sets.specs.declared.tree.Token.{Token}
 use Rattle.pair_sets.specs.declared.tree.Token.TheVariants.{Split, Closed, Rest}
@@ -21,30 +17,16 @@ use Rattle.result_file.specs.declared.record.Record.{Record}
 use Rattle.result_file.specs.declared.record.Record.TheVariants.{Head, Budget, Pattern, Same, Class, Member, End}
 use Rattle.result_file.specs.Spelling.{Text, fields, spelling, token_field, literal_field, step_fields, clause_fields, chain_fields, log_fields, evidence_fields, proof_fields, birth_fields, mark_field, IsNumber, IsLiteral, HasTokenSpelling, HasStepSpelling, HasLiteralSpelling, HasChainSpelling, HasTreeSpelling, HasProofSpelling, HasBirthSpelling, HasSpelling}
 use Rattle.result_file.specs.Reading.{IsChainOf}
-use Rattle.result_file.proofs.Cuts.{Begins, cut_once}
+use Rattle.result_file.proofs.BitLemmas.{bits_once}
+use Rattle.result_file.proofs.Cuts.{Begins, cut_once, tails}
 use Rattle.result_file.proofs.FieldLemmas.{parted_spelling}
+use Rattle.result_file.proofs.NumberLemmas.{first_byte, first_digit, number_once}
 
--- the first byte of a text, and of the first field
-abbrev pub first_byte : Text → ℕ
-first_byte text = get_or text 0 0
-
+-- the first byte of the first field
 abbrev pub lead_byte : List Text → ℕ
 lead_byte texts = first_byte (get_or texts 0 [])
 
-pub tails : {X : Type 0} {x y : X} {xs ys : List X} → x ∷ xs ≡ y ∷ ys → (x ≡ y) × (xs ≡ ys)
-tails e = (cc, cc)
-
--- ---- numbers and literals
-
-pub number_once : (m n : ℕ) → IsNumber m → IsNumber n → decimal m ≡ decimal n → m ≡ n
-number_once m n low high e = decimal_injective m n (omega (arith, low)) (omega (arith, high)) e
-
--- a number begins with a digit
-pub first_digit : (n : ℕ) → IsNumber n → (48 ≤ first_byte (decimal n)) × (first_byte (decimal n) ≤ 57)
-first_digit n small =
-    let numeral = (decimal_is_IsNumeral n (omega (arith, small))).0 in
-    let digit = digit_at (decimal n) 0 numeral.1 numeral.0 in
-    (digit.0, digit.1)
+-- ---- literals
 
 signed : (positive other : Bool) (m n : ℕ) → IsNumber m → IsNumber n → literal_field (record { variable = m; positive = positive }) ≡ literal_field (record { variable = n; positive = other }) → (m ≡ n) × (positive ≡ other)
 signed true true m n low high e = (number_once m n low high e, refl)
@@ -229,28 +211,6 @@ mark_once mark.Equal mark.Equal e = refl
 mark_once mark.Spent mark.Spent e = refl
 mark_once m other e = absurd (eqb-false (mark_byte m) (mark_byte other) refl (ap first_byte e))
 
-digit_once : (bit other : Bool) → bit_digit bit ≡ bit_digit other → bit ≡ other
-digit_once true true e = refl
-digit_once true false e = absurd (eqb-false 49 48 refl e)
-digit_once false true e = absurd (eqb-false 48 49 refl e)
-digit_once false false e = refl
-
-digits_once : (bits others : List Bool) → map bit_digit bits ≡ map bit_digit others → bits ≡ others
-digits_once [] [] e = refl
-digits_once [] (other ∷ others) e = absurd (cc)
-digits_once (bit ∷ bits) [] e = absurd (cc)
-digits_once (bit ∷ bits) (other ∷ others) e = ap₂ (λ (x : Bool) (xs : List Bool). x ∷ xs) (digit_once bit other (tails e).0) (digits_once bits others (tails e).1)
-
-no_dash : (bit : Bool) → bit_digit bit ≡ 45 → ⊥
-no_dash true = eqb-false 49 45 refl
-no_dash false = eqb-false 48 45 refl
-
-pub bits_once : (bits others : List Bool) → bits_text bits ≡ bits_text others → bits ≡ others
-bits_once [] [] e = refl
-bits_once [] (other ∷ others) e = absurd (no_dash other (sym (ap first_byte e)))
-bits_once (bit ∷ bits) [] e = absurd (no_dash bit (ap first_byte e))
-bits_once (bit ∷ bits) (other ∷ others) e = digits_once (bit ∷ bits) (other ∷ others) e
-
 -- the first byte of a record of each kind
 abbrev pub kind_byte : Record → ℕ
 kind_byte (Head sources positions numbers) = 100
@@ -296,41 +256,3 @@ fields_once r other first second e = absurd (eqb-false (kind_byte r) (kind_byte 
 -- records with one spelling are the same
 pub spelling_once : (r other : Record) → HasSpelling r → HasSpelling other → spelling r ≡ spelling other → r ≡ other
 spelling_once r other first second e = fields_once r other first second (sym (parted_spelling r first) ∙ ap (λ (text : Text). slice_split (λ b. b == 32) text) e ∙ parted_spelling other second)
-
--- ---- digits that spell a number
-
-digit_model : IsNumeralModel (AllDigits 10) (digits_value 10)
-digit_model = numerals_by_value (AllDigits 10) tells_digits
-
--- a text that begins with a plus, or with a zero that isn't alone, spells no number, nor does the empty text
-pub no_empty_number : (n : ℕ) (text : Text) → IsNumber n → decimal n ≡ text → length text ≡ 0 → ⊥
-no_empty_number n text small e none = omega (arith, none, ap length e, (decimal_is_IsNumeral n (omega (arith, small))).0.0)
-
-pub no_signed_number : (n : ℕ) (text : Text) → IsNumber n → decimal n ≡ text → first_byte text ≡ 43 → ⊥
-no_signed_number n text small e plus = omega (arith, plus, ap first_byte e, first_digit n small)
-
-one_zero : (n : ℕ) → n ≡ 0 → length (decimal n) ≡ 1
-one_zero n e = ap (λ (k : ℕ). length (decimal k)) e ∙ ap length (decimal_digit 0 (omega arith))
-
-pub no_padded_number : (n : ℕ) (text : Text) → IsNumber n → decimal n ≡ text → first_byte text ≡ 48 → 1 < length text → ⊥
-no_padded_number n text small e begins long = elim (cases_lt 0 n) [
-  | inl some ↦ omega (arith, begins, ap first_byte e, first_decimal n some (omega (arith, small)))
-  | inr none ↦ omega (arith, long, ap length e, one_zero n (omega arith))
-]
-
--- what is read from other digits is what they spell
-pub parsed_number : {E : Type 0} (n : ℕ) (text : Text) (r : Result ℕ E) → ParsesUnsigned 32 10 text r → r ≡ Ok n → (first_byte text ≡ 43 → ⊥) → (first_byte text ≡ 48 → length text ≡ 1) → IsNumber n × (decimal n ≡ text)
-parsed_number {E} n text r parses is plain alone =
-    let same : without_leading_plus text ≡ text = without_leading_plus_none text plain in
-    let result : Result ℕ E = Ok n in
-    let ok : ParsesUnsigned 32 10 text result = subst (ParsesUnsigned 32 10 text) is parses in
-    let numeral : IsNumeral 10 text = rw same at ok.0.0 in
-    let low : digits_value 10 text < 2 ^ 32 = rw same at ok.0.1 in
-    let value : n ≡ digits_value 10 text = rw same at ok.1 in
-    (omega (arith, low, value), ap decimal value ∙ decimal-digits_value digit_model text numeral.1 numeral.0 alone (omega (arith, low)))
-
-pub unparsed_number : {E : Type 0} (n : ℕ) (text : Text) (r : Result ℕ E) (fault : E) → ParsesUnsigned 32 10 text r → r ≡ Err fault → IsNumber n → decimal n ≡ text → ⊥
-unparsed_number {E} n text r fault parses is small e =
-    let read : r ≡ Ok n = parse-decimal 32 n text r small (omega (arith, small)) (sym e) parses in
-    let clash : ◌≡◌ {A = Result ℕ E} (Ok n) (Err fault) = sym read ∙ is in
-    cc

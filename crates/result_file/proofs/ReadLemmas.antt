@@ -14,7 +14,8 @@ use Rattle.result_file.specs.declared.record.Proof.TheVariants as proof
 use Rattle.result_file.specs.declared.record.Record.{Record}
 use Rattle.result_file.specs.Spelling.{Text, fields, spelling, token_field, evidence_fields, proof_fields, HasTreeSpelling, IsFreshChain, HasRefutationSpelling, HasProofSpelling, HasSpelling}
 use Rattle.result_file.proofs.FieldLemmas.{spelling_bytes, parted_spelling}
-use Rattle.result_file.proofs.OnceLemmas.{tails, lead_byte, proof_byte}
+use Rattle.result_file.proofs.Cuts.{tails}
+use Rattle.result_file.proofs.OnceLemmas.{lead_byte, proof_byte}
 
 -- ---- proofs, by their letter
 
@@ -31,8 +32,6 @@ pub refuses_spent : (texts : List Text) → ((tree : List Token) (log : List Cha
     → proof_fields p ≡ codes "O" ∷ texts → ⊥
 refuses_spent texts never (proof.Spent tree log) spelled e = never tree log spelled.0 spelled.1 (tails e).1
 refuses_spent texts never p spelled e = eqb-false (proof_byte p) 79 refl (ap lead_byte e)
-
--- ---- records, by their word
 
 -- ---- lines
 

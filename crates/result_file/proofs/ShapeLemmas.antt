@@ -249,16 +249,7 @@ module _ (c : Circuit) (circuit : IsCircuit c) (sources positions numbers : ℕ)
         let next = next_right (listed members) End rest right e in
         let same = one_table (listed members) next.right.t (listed_patterns members) next.right.table in
         let count : length members ≡ length t.class_of = sym (listed_members members) ∙ next.right.place.1 ∙ ap (λ (u : ClassTable). length u.class_of) same in
-        record {
-          body = body;
-          t = t;
-          members = members;
-          inside = inside;
-          widths = widths;
-          table = table;
-          are = record { count = count; classes = so_far.classes; marks = so_far.marks };
-          whole = ended members rest many e;
-        }
+        record { body = body; t = t; members = members; inside = inside; widths = widths; table = table; are = record { count = count; classes = so_far.classes; marks = so_far.marks }; whole = ended members rest many e }
 
     not_behind_members : (members : List (ℕ × Mark)) (u : ClassTable) (r : Record) → 0 < length members → (is_member r ≡ false) → (is_end r ≡ false) → IsInPlace u (listed members) r → ⊥
     not_behind_members members u (Head s p n) many other later place = omega (arith, ap length place, length-append (heads ++ class_records t.births) (member_records members), long (class_records t.births))

@@ -10,7 +10,8 @@ use Rattle.pair_miter.specs.ChainView.{ChainView}
 use Rattle.result_file.specs.Spelling.{Text, literal_field, token_field, step_fields, chain_fields, log_fields, evidence_fields, IsNumber, IsLiteral, HasStepSpelling, HasTreeSpelling}
 use Rattle.result_file.specs.Reading.{IsChainOf}
 use Rattle.result_file.proofs.Cuts.{Begins}
-use Rattle.result_file.proofs.OnceLemmas.{tails, tree_unmarked, IsUnmarked, IsMark, spelled_chain, chain_unmarked, begins_chain, cut_chain}
+use Rattle.result_file.proofs.Cuts.{tails}
+use Rattle.result_file.proofs.OnceLemmas.{tree_unmarked, IsUnmarked, IsMark, spelled_chain, chain_unmarked, begins_chain, cut_chain}
 
 -- ---- logs
 

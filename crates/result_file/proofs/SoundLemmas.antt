@@ -44,11 +44,13 @@ unfolding refined_table
 patterns_after t [] = omega arith
 patterns_after t (row ∷ rows) = omega (arith, patterns_after (refined_table t row) rows)
 
-first_by : (o : Option (ℕ × ℕ)) (count : ℕ) → MatchOption o (◌≡◌ {A = ℕ} 0 0) (λ birth. (birth.0 < 0) × (birth.1 < count)) → o ≡ None
+-- ---- births
+
+pub first_by : (o : Option (ℕ × ℕ)) (count : ℕ) → MatchOption o (◌≡◌ {A = ℕ} 0 0) (λ birth. (birth.0 < 0) × (birth.1 < count)) → o ≡ None
 first_by None count known = refl
 first_by (Some birth) count known = absurd (omega (arith, known.0))
 
-later_by : (o : Option (ℕ × ℕ)) (k count : ℕ) → MatchOption o (k ≡ 0) (λ birth. (birth.0 < k) × (birth.1 < count)) → 0 < k → (birth : ℕ × ℕ) × (o ≡ Some birth) × (birth.0 < k) × (birth.1 < count)
+pub later_by : (o : Option (ℕ × ℕ)) (k count : ℕ) → MatchOption o (k ≡ 0) (λ birth. (birth.0 < k) × (birth.1 < count)) → 0 < k → (birth : ℕ × ℕ) × (o ≡ Some birth) × (birth.0 < k) × (birth.1 < count)
 later_by None k count known some = absurd (omega (arith, known))
 later_by (Some birth) k count known some = (birth, refl, known.0, known.1)
 

@@ -10,12 +10,12 @@ use Rattle.net_model.specs.PatternRows.{IsAnswerRow, IsTableOf}
 use Rattle.net_model.proofs.Copies.{Agrees-unique}
 
 zip_once : {A B : Type 0} (R : A → B → Type 0) → ((a : A) (x y : B) → R a x → R a y → x ≡ y) → (ks : List A) (xs ys : List B) → AllZip R ks xs → AllZip R ks ys → xs ≡ ys
+zip_once {A} {B} R one (a ∷ ks) (x ∷ xs) (y ∷ ys) first second = ap₂ (λ (z : B) (zs : List B). z ∷ zs) (one a x y first.0 second.0) (zip_once R one ks xs ys first.1 second.1)
 zip_once R one [] [] [] first second = refl
 zip_once R one [] [] (y ∷ ys) first second = absurd second
 zip_once R one [] (x ∷ xs) ys first second = absurd first
 zip_once R one (a ∷ ks) [] ys first second = absurd first
 zip_once R one (a ∷ ks) (x ∷ xs) [] first second = absurd second
-zip_once {A} {B} R one (a ∷ ks) (x ∷ xs) (y ∷ ys) first second = ap₂ (λ (z : B) (zs : List B). z ∷ zs) (one a x y first.0 second.0) (zip_once R one ks xs ys first.1 second.1)
 
 module _ (c : Circuit) (is : IsCircuit c) where
   answer_once : (v : List Bool) (f : Fault) (first second : List Bool) → IsAnswer c f v first → IsAnswer c f v second → first ≡ second

@@ -33,11 +33,10 @@ pub(crate) fn read_proof(alloc: Global, fields: &[&str]) -> Result<Proof, Record
 fn read_collapse(fields: &[&str]) -> Result<Proof, RecordFault>
     ensures { Reads HasProofSpelling proof_fields (codes "C" ∷ map (λ f. f.now) fields.now) result }
 {
-    if fields.is_empty() {
-        Ok(Proof::Collapse)
-    } else {
-        Err(RecordFault::Syntax)
-    }
+    let [] = fields else {
+        return Err(RecordFault::Syntax);
+    };
+    Ok(Proof::Collapse)
 }
 
 // A covering tree.

@@ -7,6 +7,15 @@ use refute_check::Refusal;
 use std::alloc::AllocError;
 use thiserror::Error;
 
+/// Why a line wasn't read.
+#[derive(Debug, Drop, Error)]
+pub enum RecordFault {
+    #[error("the line is no record")]
+    Syntax,
+    #[error("out of memory")]
+    NoMemory,
+}
+
 /// Which rule a line breaks.
 #[derive(Clone, Copy, Debug, PartialEq, Eq)]
 pub enum ResultKind {
@@ -36,15 +45,6 @@ pub enum ResultKind {
 pub struct ResultFault {
     pub kind: ResultKind,
     pub line: u64,
-}
-
-/// Why a line wasn't read.
-#[derive(Debug, Drop, Error)]
-pub enum RecordFault {
-    #[error("the line is no record")]
-    Syntax,
-    #[error("out of memory")]
-    NoMemory,
 }
 
 impl From<AllocError> for RecordFault {

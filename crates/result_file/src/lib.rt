@@ -18,4 +18,5 @@ pub use laws::{
 pub use lines::Lines;
 pub use read::read_record;
 pub use record::{Budgets, Evidence, Mark, Proof, Record, Summary};
+pub use words::number_of;
 pub use write::{push_pattern, push_record, write_record};

@@ -63,6 +63,15 @@ fn read_head(rest: &[&str]) -> Result<Record, RecordFault>
     }
 }
 
+fn read_pattern(alloc: Global, rest: &[&str]) -> Result<Record, RecordFault>
+    ensures { Reads HasSpelling fields (codes "pattern" ∷ map (λ f. f.now) rest.now) result }
+{
+    let [bits] = rest else {
+        return Err(RecordFault::Syntax);
+    };
+    Ok(Record::Pattern(bits_of(alloc, bits)?))
+}
+
 fn read_budget(rest: &[&str]) -> Result<Record, RecordFault>
     ensures { Reads HasSpelling fields (codes "budget" ∷ map (λ f. f.now) rest.now) result }
 {
@@ -77,15 +86,6 @@ fn read_budget(rest: &[&str]) -> Result<Record, RecordFault>
         })),
         _ => Err(RecordFault::Syntax),
     }
-}
-
-fn read_pattern(alloc: Global, rest: &[&str]) -> Result<Record, RecordFault>
-    ensures { Reads HasSpelling fields (codes "pattern" ∷ map (λ f. f.now) rest.now) result }
-{
-    let [bits] = rest else {
-        return Err(RecordFault::Syntax);
-    };
-    Ok(Record::Pattern(bits_of(alloc, bits)?))
 }
 
 fn read_same(alloc: Global, rest: &[&str]) -> Result<Record, RecordFault>

@@ -16,7 +16,7 @@ use pair_sets::Token;
 use std::alloc::Global;
 
 /// The number that a field spells: digits without a leading zero.
-pub(crate) fn number_of(field: &str) -> Option<u32>
+pub fn number_of(field: &str) -> Option<u32>
     ensures { MatchOption result ((n : ℕ) → IsNumber n → decimal n ≢ field.now) (λ n. IsNumber n × (decimal n ≡ field.now)) }
 {
     let bytes = field.as_bytes();

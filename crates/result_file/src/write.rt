@@ -114,7 +114,7 @@ fn push_tree_line(
 ) -> Result<(), AllocError>
     ensures { OnOk result (string_bytes text.new ≡ string_bytes text.old ++ join_with_byte 32 (codes "same" ∷ decimal member ∷ decimal partner ∷ kind.now ∷ map token_field tree.now) ++ 10 ∷ []) }
 {
-    push_tree_fields(text, member, partner, kind, tree)?;
+    push_tree_fields(text, kind, member, partner, tree)?;
     text.push('\n')?;
     Ok(())
 }
@@ -130,7 +130,7 @@ fn push_log_line(
 ) -> Result<(), AllocError>
     ensures { OnOk result (string_bytes text.new ≡ string_bytes text.old ++ join_with_byte 32 (codes "same" ∷ decimal member ∷ decimal partner ∷ kind.now ∷ evidence_fields tree.now log.now) ++ 10 ∷ []) }
 {
-    push_tree_fields(text, member, partner, kind, tree)?;
+    push_tree_fields(text, kind, member, partner, tree)?;
     push_log(text, log)?;
     text.push('\n')?;
     Ok(())
@@ -139,9 +139,9 @@ fn push_log_line(
 // Appends the fields of evidence up to its tree.
 fn push_tree_fields(
     text: &mut String,
+    kind: &str,
     member: u32,
     partner: u32,
-    kind: &str,
     tree: &Tree,
 ) -> Result<(), AllocError>
     ensures { OnOk result (string_bytes text.new ≡ string_bytes text.old ++ join_with_byte 32 (codes "same" ∷ decimal member ∷ decimal partner ∷ kind.now ∷ map token_field tree.now)) }

@@ -1,5 +1,5 @@
 -- Partitions of some of the classes of another: after a cut, and by two partitions.
-use Rattle.std.proofs.Common.{◌≡◌, ◌≢◌, ◌∙◌, ℕ, ◌+◌, ◌<◌, Bool, true, not, eqb, ◌&&◌, List, length, get_or, replicate, refl, sym, ap, subst, arith, ◌*◌}
+use Rattle.std.proofs.Common.{◌≡◌, ◌≢◌, ◌∙◌, ℕ, ◌+◌, ◌<◌, Bool, true, not, eqb, ◌&&◌, List, Option, length, get_or, replicate, refl, sym, ap, subst, arith, ◌*◌}
 use Rattle.std.specs.Prelude.{AllPairs, Contains, filter}
 use Rattle.std.specs.Bool.{beq}
 use Rattle.std.specs.List.{range_with_len}
@@ -9,7 +9,7 @@ use Rattle.std.proofs.lemmas.List.{get_or_default, get_or-replicate, length-repl
 use Rattle.std.proofs.lemmas.List.FromFn.{get_or-range_with_len, length-range_with_len}
 use Rattle.class_refine.proofs.Ranges.{same_tests, range_ascends}
 use Rattle.samediff_dict.specs.declared.partition.Partition.{Partition}
-use Rattle.samediff_dict.specs.Groups.{AreWithin, AreGroups, InBoth, InBothAt, in_one, is_shared, gain_at, pairs_where, tells_apart}
+use Rattle.samediff_dict.specs.Groups.{AreWithin, AreGroups, InBoth, InBothAt, in_one, is_shared, gain_at, pairs_where, tells_apart, IsFoundAbove}
 use Rattle.samediff_dict.specs.Partition.{group_in, are_together, together_in_both, TogetherAt, TogetherInBoth, AreMatched, IsListed, IsPartition, pairs_between}
 use Rattle.samediff_dict.proofs.PairLemmas.{pairs_to, pairs_are, pairs_same}
 use Rattle.samediff_dict.proofs.TallyLemmas.{pairs_all}
@@ -227,3 +227,11 @@ gain_turned p q answers answer =
     ∙ (pairs_same n (tells_apart (together_in_both p q) answers answer) (tells_apart (together_in_both q p) answers answer)
     (λ low high l h. ap (λ b. b && not (beq (eqb (get_or answers low 0) answer) (eqb (get_or answers high 0) answer))) (and_comm (are_together p low high) (are_together q low high)))
     ∙ sym (pairs_are n (tells_apart (together_in_both q p) answers answer)))
+
+-- what is found by these gains is found by those of classes that are together in both partitions, in either order
+module _ (p q r : Partition) (answers : List ℕ) (candidates current : ℕ) (is : IsPartition (length answers) (TogetherInBoth p q) r) (found : Option ℕ) (has : IsFoundAbove (gain_at (are_together r) answers) candidates current found) where
+  pub found_met : IsFoundAbove (gain_at (together_in_both p q) answers) candidates current found
+  found_met = subst (λ (gain : ℕ → ℕ). IsFoundAbove gain candidates current found) (λ i answer. gain_met p q answers is answer i) has
+
+  pub found_turned : IsFoundAbove (gain_at (together_in_both q p) answers) candidates current found
+  found_turned = subst (λ (gain : ℕ → ℕ). IsFoundAbove gain candidates current found) (λ i answer. gain_turned p q answers answer i) found_met

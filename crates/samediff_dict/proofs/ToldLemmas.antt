@@ -1,5 +1,5 @@
 -- Pairs apart by groups: two classes have the same entry where each baseline is the answer of both or of neither.
-use Rattle.std.proofs.Common.{◌≡◌, ◌∙◌, ℕ, zero, suc, ◌+◌, ◌<◌, Bool, true, false, not, eqb, ◌&&◌, List, [], ◌∷◌, length, get_or, refl, sym, ap, arith, Decides}
+use Rattle.std.proofs.Common.{◌≡◌, ◌∙◌, ℕ, ◌+◌, ◌<◌, Bool, true, false, not, eqb, ◌&&◌, List, [], length, get_or, refl, sym, ap, arith, Decides}
 use Rattle.std.specs.Bool.{beq}
 use Rattle.std.proofs.lemmas.Bool.{eqb-true, eq-eqb, and_parts, and_from}
 use Rattle.std.proofs.lemmas.Bool.Decides.{same_from_decides}
@@ -8,9 +8,9 @@ use Rattle.net_model.specs.Answer.{bit_at}
 use Rattle.net_model.specs.ClassTable.{ClassTable, class_count, representative, same_bits}
 use Rattle.net_model.proofs.Copies.{same_bits_same_list}
 use Rattle.table_dicts.specs.AnswerTable.{answer_in}
-use Rattle.table_dicts.specs.Entries.{differences, answers_of, same_diff_entry}
+use Rattle.table_dicts.specs.Entries.{answers_of, same_diff_entry}
 use Rattle.table_dicts.specs.Apart.{has_apart}
-use Rattle.table_dicts.proofs.EntryLemmas.{same_bits-Decides}
+use Rattle.table_dicts.proofs.EntryLemmas.{same_bits-Decides, length-differences, difference_at}
 use Rattle.samediff_dict.specs.Chosen.{pairs_apart}
 use Rattle.samediff_dict.specs.Numbered.{answers_base, AlikeFrom}
 use Rattle.samediff_dict.specs.declared.partition.Partition.{Partition}
@@ -18,20 +18,6 @@ use Rattle.samediff_dict.specs.Groups.{gain_at, pairs_where, tells_apart}
 use Rattle.samediff_dict.specs.Partition.{group_in, are_together, together_in_both, IsPartition, pairs_between}
 use Rattle.samediff_dict.proofs.PairLemmas.{one_if, pairs_to, pairs_are, pairs_same, pairs_both}
 use Rattle.samediff_dict.proofs.ImproveLemmas.{pairs_apart_are}
-
-difference_at : (answers baselines : List (List Bool)) (k : ℕ) → length answers ≡ length baselines → k < length answers → bit_at (differences answers baselines) k ≡ not (same_bits (get_or answers k []) (get_or baselines k []))
-unfolding differences
-difference_at [] baselines k e h = absurd (omega (arith, h))
-difference_at (a ∷ answers) [] k e h = absurd (omega (arith, e))
-difference_at (a ∷ answers) (b ∷ bs) zero e h = refl
-difference_at (a ∷ answers) (b ∷ bs) (suc k) e h = difference_at answers bs k (omega (arith, e)) (omega (arith, h))
-
-length-differences : (answers baselines : List (List Bool)) → length answers ≡ length baselines → length (differences answers baselines) ≡ length answers
-unfolding differences
-length-differences [] [] e = refl
-length-differences [] (b ∷ bs) e = refl
-length-differences (a ∷ answers) [] e = absurd (omega (arith, e))
-length-differences (a ∷ answers) (b ∷ bs) e = ap suc (length-differences answers bs (omega (arith, e)))
 
 not_once : (a b : Bool) → not a ≡ not b → a ≡ b
 not_once true true e = refl

@@ -1,5 +1,5 @@
 -- Numbers in groups, by a list that has the group of each.
-use Rattle.std.specs.Prelude.{◌≡◌, ℕ, ◌<◌, ◌≤◌, ◌==◌, ◌&&◌, Bool, not, List, length, nat_lt, sum_by, count_by, slice_index}
+use Rattle.std.specs.Prelude.{◌≡◌, ℕ, ◌<◌, ◌≤◌, ◌==◌, ◌&&◌, Bool, not, List, length, nat_lt, sum_by, count_by, slice_index, Option, MatchOption}
 use Rattle.std.specs.Bool.{beq}
 use Rattle.std.specs.List.{range_with_len}
 
@@ -77,3 +77,7 @@ pub record IsFirstAbove (gain : ℕ → ℕ) (candidates current found : ℕ) : 
 
 abbrev pub NoneAbove : (ℕ → ℕ) → ℕ → ℕ → Type 0
 NoneAbove gain candidates current = (other : ℕ) → other < candidates → gain other ≤ gain current
+
+-- what is found is the first candidate with a higher gain than another, if there is one
+abbrev pub IsFoundAbove : (ℕ → ℕ) → ℕ → ℕ → Option ℕ → Type 0
+IsFoundAbove gain candidates current found = MatchOption found (NoneAbove gain candidates current) (IsFirstAbove gain candidates current)

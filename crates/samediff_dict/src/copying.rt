@@ -8,11 +8,11 @@ ghost use Rattle.samediff_dict.specs.Numbered.{AnswerAlike, AreNumbered};
 ghost use Rattle.samediff_dict.specs.Copied.{HaveClasses, AreLeads, AreWanted};
 
 use crate::choosing::choose_numbers;
-use crate::numbering::{Candidates, add_candidates, representatives};
+use crate::numbering::{Candidates, add_candidates};
 use class_refine::Classes;
 use net_model::AnswerRows;
 use std::alloc::{AllocError, Global};
-use table_dicts::AnswerTable;
+use table_dicts::{AnswerTable, representatives};
 
 /// The baselines that the three steps choose, a row for each pattern. Members of one class have the same answers.
 pub fn choose(

@@ -1,7 +1,7 @@
 //! How many pairs of classes each candidate tells apart.
 
-ghost use Rattle.std.specs.Prelude.{◌≡◌, ◌<◌, ◌^◌, length, IfOk, MatchOption, slice_index};
-ghost use Rattle.samediff_dict.specs.Groups.{AreWithin, AreGains, gain_at, in_one, IsFirstMost, IsFirstAbove, NoneAbove};
+ghost use Rattle.std.specs.Prelude.{◌≡◌, ◌<◌, ◌^◌, length, IfOk, slice_index};
+ghost use Rattle.samediff_dict.specs.Groups.{AreWithin, AreGains, gain_at, in_one, IsFirstMost, IsFoundAbove};
 ghost use Rattle.samediff_dict.specs.Partition.{IsListed, are_together};
 
 use crate::groups::Groups;
@@ -69,7 +69,7 @@ impl Partition {
         requires few { length answers.now < 2 ^ 32 }
         requires known { AreWithin answers.now candidates }
         requires current { current < candidates }
-        ensures { IfOk result (λ found. MatchOption found (NoneAbove (gain_at (are_together self.now) answers.now) candidates current) (IsFirstAbove (gain_at (are_together self.now) answers.now) candidates current)) }
+        ensures { IfOk result (IsFoundAbove (gain_at (are_together self.now) answers.now) candidates current) }
     {
         if self.classes.is_empty() {
             return Ok(None);
@@ -120,7 +120,7 @@ fn place_of_most(gains: &[u64]) -> usize
 // The first place of a greater number than that at a place.
 fn place_above(gains: &[u64], current: usize) -> Option<usize>
     requires { current < length gains.now }
-    ensures { MatchOption result (NoneAbove (slice_index gains.now) (length gains.now) current) (IsFirstAbove (slice_index gains.now) (length gains.now) current) }
+    ensures { IsFoundAbove (slice_index gains.now) (length gains.now) current result }
 {
     for place in 0..gains.len() {
         if gains[current] < gains[place] {

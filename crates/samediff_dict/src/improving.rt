@@ -45,6 +45,37 @@ impl Choice<'_> {
         }
     }
 
+    // The first replacement that keeps more pairs apart, if there is one. The groups are those of classes that are alike in the
+    // last baselines: in none, in the last one, and so on to all. Those by the first baselines are added as they are needed.
+    fn improvement(
+        &self,
+        alloc: Global,
+        chosen: &[u32],
+        ends: &[Partition],
+        starts: &mut Vec<Partition>,
+    ) -> Result<Option<Replacement>, AllocError>
+        ghost rows: { List (List (List Bool)) }
+        requires choice { IsChoice rows self.now }
+        requires chosen { IsChosen rows self.now chosen.now }
+        requires ends { AreEnds rows self.now chosen.now (length chosen.now + 1) ends.now }
+        requires starts { AreStarts rows self.now chosen.now starts.old.items }
+        ensures found { IfOk result (λ found. MatchOption found (improvement self.now.classes.now rows (baselines_at self.now.classes.now rows chosen.now) ≡ None) (IsFirstBetter rows self.now chosen.now)) }
+        ensures starts { OnOk result (AreStarts rows self.now chosen.now starts.new.items) }
+    {
+        for pattern in 0..chosen.len() {
+            let candidates = &self.patterns[pattern];
+            let numbers = candidates.numbers.as_slice();
+            let end = &ends[chosen.len() - 1 - pattern];
+            let (count, current) = (candidates.count, chosen[pattern]);
+            let found = starts[pattern].first_above_in(alloc, end, numbers, count, current)?;
+            if let Some(answer) = found {
+                return Ok(Some(Replacement { pattern, answer }));
+            }
+            self.add_start(alloc, chosen, pattern, starts)?;
+        }
+        Ok(None)
+    }
+
     // Adds the groups of classes that are alike in more of the last baselines, up to all.
     fn add_ends(
         &self,
@@ -91,36 +122,5 @@ impl Choice<'_> {
         let next = starts[pattern].cut(alloc, numbers, chosen[pattern])?;
         starts.push(next)?;
         Ok(())
-    }
-
-    // The first replacement that keeps more pairs apart, if there is one. The groups are those of classes that are alike in the
-    // last baselines: in none, in the last one, and so on to all. Those by the first baselines are added as they are needed.
-    fn improvement(
-        &self,
-        alloc: Global,
-        chosen: &[u32],
-        ends: &[Partition],
-        starts: &mut Vec<Partition>,
-    ) -> Result<Option<Replacement>, AllocError>
-        ghost rows: { List (List (List Bool)) }
-        requires choice { IsChoice rows self.now }
-        requires chosen { IsChosen rows self.now chosen.now }
-        requires ends { AreEnds rows self.now chosen.now (length chosen.now + 1) ends.now }
-        requires starts { AreStarts rows self.now chosen.now starts.old.items }
-        ensures found { IfOk result (λ found. MatchOption found (improvement self.now.classes.now rows (baselines_at self.now.classes.now rows chosen.now) ≡ None) (IsFirstBetter rows self.now chosen.now)) }
-        ensures starts { OnOk result (AreStarts rows self.now chosen.now starts.new.items) }
-    {
-        for pattern in 0..chosen.len() {
-            let candidates = &self.patterns[pattern];
-            let numbers = candidates.numbers.as_slice();
-            let end = &ends[chosen.len() - 1 - pattern];
-            let (count, current) = (candidates.count, chosen[pattern]);
-            let found = starts[pattern].first_above_in(alloc, end, numbers, count, current)?;
-            if let Some(answer) = found {
-                return Ok(Some(Replacement { pattern, answer }));
-            }
-            self.add_start(alloc, chosen, pattern, starts)?;
-        }
-        Ok(None)
     }
 }

@@ -1,13 +1,10 @@
 //! The candidates of patterns, and which of them each class answers.
 
-ghost use Rattle.std.specs.Prelude.{◌≡◌, ◌<◌, ◌^◌, length, map, All, IfOk, OnOk};
-ghost use Rattle.std.specs.List.{range_with_len};
-ghost use Rattle.net_model.specs.ClassTable.{class_count, representative};
+ghost use Rattle.samediff_dict.specs.Numbered.{AreAdded};
+ghost use Rattle.std.specs.Prelude.{◌≡◌, ◌<◌, ◌^◌, length, map, All, OnOk};
 ghost use Rattle.table_dicts.specs.AnswerTable.{answer_to};
 ghost use Rattle.table_dicts.specs.Rows.{AreRows};
-ghost use Rattle.samediff_dict.specs.Numbered.{AreAdded};
 
-use class_refine::Classes;
 use net_model::AnswerRows;
 use std::alloc::{AllocError, Global};
 use table_dicts::{AnswerTable, Groups, group_rows};
@@ -17,6 +14,19 @@ use table_dicts::{AnswerTable, Groups, group_rows};
 pub(crate) struct Candidates {
     pub(crate) numbers: Groups,
     pub(crate) count: u32,
+}
+
+// Writes what these numbers answer to a pattern, one behind another.
+fn copy_answers(table: &AnswerTable, leads: &[u32], pattern: u32, rows: &mut AnswerRows)
+    requires known { All (λ lead. lead < table.now.numbers) leads.now }
+    requires pattern { pattern < length table.now.rows }
+    requires shape { AreRows (length leads.now) table.now.positions rows.old }
+    ensures rows { rows.new ≡ map (answer_to table.now pattern) leads.now }
+    ensures shape { AreRows (length leads.now) table.now.positions rows.new }
+{
+    for (class, lead) in leads.iter().enumerate() {
+        table.copy_answer(pattern, *lead, rows, class);
+    }
 }
 
 /// Puts the candidates of a table's patterns behind others. For each class there is the number of the table that answers as
@@ -42,29 +52,4 @@ pub(crate) fn add_candidates(
         })?;
     }
     Ok(())
-}
-
-// Writes what these numbers answer to a pattern, one behind another.
-fn copy_answers(table: &AnswerTable, leads: &[u32], pattern: u32, rows: &mut AnswerRows)
-    requires known { All (λ lead. lead < table.now.numbers) leads.now }
-    requires pattern { pattern < length table.now.rows }
-    requires shape { AreRows (length leads.now) table.now.positions rows.old }
-    ensures rows { rows.new ≡ map (answer_to table.now pattern) leads.now }
-    ensures shape { AreRows (length leads.now) table.now.positions rows.new }
-{
-    for (class, lead) in leads.iter().enumerate() {
-        table.copy_answer(pattern, *lead, rows, class);
-    }
-}
-
-/// The lowest number of each class.
-pub(crate) fn representatives(alloc: Global, classes: &Classes) -> Result<Vec<u32>, AllocError>
-    ensures { IfOk result (λ leads. leads.items ≡ map (representative classes.now) (range_with_len 0 (class_count classes.now))) }
-{
-    let count = classes.count();
-    let mut leads = Vec::with_capacity(alloc, count as usize)?;
-    for class in 0..count {
-        leads.push(classes.representative(class))?;
-    }
-    Ok(leads)
 }

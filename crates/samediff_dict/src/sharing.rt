@@ -1,8 +1,8 @@
 //! The search for a candidate among the classes that two partitions leave together.
 
-ghost use Rattle.std.specs.Prelude.{◌≡◌, ◌<◌, ◌^◌, length, AllPairs, Contains, slice_index, IfOk, MatchOption};
-ghost use Rattle.samediff_dict.specs.Groups.{AreWithin, gain_at, IsFirstAbove, NoneAbove};
-ghost use Rattle.samediff_dict.specs.Partition.{AreMatched, IsListed, together_in_both};
+ghost use Rattle.std.specs.Prelude.{◌≡◌, ◌<◌, ◌^◌, ℕ, length, AllPairs, Contains, slice_index, IfOk, MatchOption};
+ghost use Rattle.samediff_dict.specs.Groups.{AreWithin, gain_at, IsFoundAbove};
+ghost use Rattle.samediff_dict.specs.Partition.{AreMatched, IsListed, IsPartition, TogetherInBoth, together_in_both};
 
 use crate::groups::Groups;
 use crate::partition::{Partition, picked};
@@ -31,29 +31,20 @@ impl Partition {
         requires few { length answers.now < 2 ^ 32 }
         requires known { AreWithin answers.now candidates }
         requires current { current < candidates }
-        ensures { IfOk result (λ found. MatchOption found (NoneAbove (gain_at (together_in_both self.now other.now) answers.now) candidates current) (IsFirstAbove (gain_at (together_in_both self.now other.now) answers.now) candidates current)) }
+        ensures { IfOk result (IsFoundAbove (gain_at (together_in_both self.now other.now) answers.now) candidates current) }
     {
         if other.classes.len() < self.classes.len() {
-            return other.first_above_both(alloc, self, answers, candidates, current);
+            let both = other.meet(alloc, self)?;
+            return both.first_above(alloc, answers, candidates, current);
         }
-        self.first_above_both(alloc, other, answers, candidates, current)
+        let both = self.meet(alloc, other)?;
+        both.first_above(alloc, answers, candidates, current)
     }
 
-    // The same, by a search for each of the classes here.
-    fn first_above_both(
-        &self,
-        alloc: Global,
-        other: &Partition,
-        answers: &[u32],
-        candidates: u32,
-        current: u32,
-    ) -> Result<Option<u32>, AllocError>
-        requires listed { IsListed (length answers.now) self.now }
-        requires other_listed { IsListed (length answers.now) other.now }
-        requires few { length answers.now < 2 ^ 32 }
-        requires known { AreWithin answers.now candidates }
-        requires current { current < candidates }
-        ensures { IfOk result (λ found. MatchOption found (NoneAbove (gain_at (together_in_both self.now other.now) answers.now) candidates current) (IsFirstAbove (gain_at (together_in_both self.now other.now) answers.now) candidates current)) }
+    // The classes that are together both here and in another partition, by a search for each of the classes here.
+    fn meet(&self, alloc: Global, other: &Partition) -> Result<Partition, AllocError>
+        requires { (classes : ℕ) × (classes < 2 ^ 32) × IsListed classes self.now × IsListed classes other.now }
+        ensures { IfOk result (λ both. (classes : ℕ) → IsListed classes self.now → IsListed classes other.now → IsPartition classes (TogetherInBoth self.now other.now) both) }
     {
         let classes = self.classes.as_slice();
         let places = matching(alloc, classes, other.classes.as_slice())?;
@@ -67,11 +58,10 @@ impl Partition {
             other.groups.group_of.as_slice(),
             places.there.as_slice(),
         )?;
-        let both = Partition {
+        Ok(Partition {
             classes: picked(alloc, classes, here)?,
             groups: ours.meet(alloc, theirs.as_slice())?,
-        };
-        both.first_above(alloc, answers, candidates, current)
+        })
     }
 }
 

@@ -1,14 +1,14 @@
 -- Where each gate reads what is known before it, each reads lower lines.
 use Rattle.std.proofs.Common.{◌≡◌, ◌∙◌, ℕ, zero, suc, ◌+◌, ◌-◌, ◌<◌, ◌≤◌, Bool, true, false, List, [], ◌∷◌, ◌++◌, length, get_or, refl, sym, subst, arith, append_assoc, length-append, Option, None, Some}
 use Rattle.std.specs.Prelude.{map, filter_map, All, Contains, slice_get, nat_lt, ◌==◌, if◌then◌else◌}
-use Rattle.std.specs.List.{list_any, position_or_len}
+use Rattle.std.specs.List.{list_any}
 use Rattle.std.specs.Option.{option_map_or}
 use Rattle.std.proofs.lemmas.Bool.{eq-eqb}
 use Rattle.std.proofs.lemmas.Bool.Decides.{nat_tests}
 use Rattle.std.proofs.lemmas.List.Elements.{All-nil, All-cons, All-head, All-tail, All-contains}
 use Rattle.std.proofs.lemmas.List.Folds.{list_any_at}
 use Rattle.net_model.specs.declared.gate.Gate.{Gate}
-use Rattle.net_model.specs.Circuit.{Circuit, Reaches, directly, onward, Feeds, pins_of}
+use Rattle.net_model.specs.Circuit.{Circuit, Reaches, directly, onward, Feeds}
 use Rattle.net_model.proofs.Elements.{none_in}
 use Rattle.bench_reader.specs.declared.statement.Word.{Word}
 use Rattle.bench_reader.specs.declared.statement.Statement.{Statement}

@@ -56,11 +56,9 @@ pub(crate) fn gate_word(statement: &Statement) -> Option<Word>
 pub(crate) fn source_names(alloc: Global, statements: &[Statement]) -> Result<Vec<u32>, AllocError>
     ensures { IfOk result (λ names. names.items ≡ source_names statements.now) }
 {
-    statements
-        .iter()
-        .filter_map(input)
-        .chain(statements.iter().filter_map(flop_output))
-        .collect(alloc)
+    let inputs = statements.iter().filter_map(input);
+    let outputs = statements.iter().filter_map(flop_output);
+    inputs.chain(outputs).collect(alloc)
 }
 
 // Adds the names that the gates drive, by gate.

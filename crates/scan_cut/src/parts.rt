@@ -12,8 +12,8 @@ use std::alloc::{AllocError, Global};
 /// What a design is built of.
 #[derive(Drop)]
 pub(crate) struct Parts {
-    pub(crate) sources: u32,
     pub(crate) gates: Vec<Gate>,
+    pub(crate) sources: u32,
     pub(crate) positions: Vec<u32>,
     pub(crate) names: Names,
 }

@@ -6,7 +6,7 @@ ghost use Rattle.net_model.specs.FaultList.{faults as faults_of};
 ghost use Rattle.table_dicts.specs.AnswerTable.{AreAnswers};
 ghost use Rattle.sim_listing.specs.SimText.{texts_from, IsSimTextFrom};
 
-use crate::lines::push_vector;
+use crate::lines::Row;
 use fault_list::FaultList;
 use net_model::{Circuit, Vector, Vectors};
 use std::alloc::{AllocError, Global};
@@ -60,7 +60,8 @@ fn table_text(alloc: Global, table: &AnswerTable, first: usize) -> Result<String
 {
     let mut text = String::new(alloc);
     for pattern in 0..table.patterns() {
-        push_vector(&mut text, table, pattern, first + pattern as usize)?;
+        let row = Row { table, pattern };
+        row.push_vector(&mut text, first + pattern as usize)?;
     }
     Ok(text)
 }

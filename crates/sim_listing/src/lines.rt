@@ -11,108 +11,95 @@ ghost use Rattle.sim_listing.specs.SimText.{vector_line, fault_line, differing_n
 use std::alloc::AllocError;
 use table_dicts::AnswerTable;
 
-/// Appends the lines of a pattern of the table as those of the vector with this number. Nothing is said of the text after
-/// an error.
-#[tactic(auto, unfolding(crate::specs::SimText::vector_text))]
-pub(crate) fn push_vector(
-    text: &mut String,
-    table: &AnswerTable,
-    pattern: u32,
-    number: usize,
-) -> Result<(), AllocError>
-    requires pattern { pattern < length table.now.rows }
-    requires numbers { 0 < table.now.numbers }
-    ensures { OnOk result (string_bytes text.new ≡ string_bytes text.old ++ vector_text (slice_index_or table.now.rows pattern []) number) }
-{
-    push_vector_line(text, table, pattern, number)?;
-    push_fault_lines(text, table, pattern)
+/// A pattern of a table of answers.
+#[derive(Clone, Copy)]
+pub(crate) struct Row<'a> {
+    pub(crate) table: &'a AnswerTable,
+    pub(crate) pattern: u32,
 }
 
-// Appends the line of the vector itself.
-#[tactic(auto, unfolding(crate::specs::SimText::vector_line))]
-fn push_vector_line(
-    text: &mut String,
-    table: &AnswerTable,
-    pattern: u32,
-    number: usize,
-) -> Result<(), AllocError>
-    requires pattern { pattern < length table.now.rows }
-    requires numbers { 0 < table.now.numbers }
-    ensures { OnOk result (string_bytes text.new ≡ string_bytes text.old ++ vector_line number (answer_to table.now pattern 0)) }
-{
-    write!(text, "pattern {number} answer ")?;
-    push_answer(text, table, pattern, 0)?;
-    text.push('\n')
-}
-
-// Appends a line for each fault whose answer differs from the fault-free one.
-fn push_fault_lines(text: &mut String, table: &AnswerTable, pattern: u32) -> Result<(), AllocError>
-    requires pattern { pattern < length table.now.rows }
-    requires numbers { 0 < table.now.numbers }
-    ensures { OnOk result (string_bytes text.new ≡ string_bytes text.old ++ flat_map (numbered_line (slice_index_or table.now.rows pattern [])) (differing_numbers (slice_index_or table.now.rows pattern []))) }
-{
-    for number in 1..table.numbers() {
-        let differs = !table.answers_alike(pattern, number, 0);
-        push_if_differs(text, table, pattern, number, differs)?;
+impl Row<'_> {
+    /// Appends the lines of the pattern as those of the vector with this number. Nothing is said of the text after an error.
+    #[tactic(auto, unfolding(crate::specs::SimText::vector_text))]
+    pub(crate) fn push_vector(&self, text: &mut String, number: usize) -> Result<(), AllocError>
+        requires pattern { self.now.pattern < length self.now.table.now.rows }
+        requires numbers { 0 < self.now.table.now.numbers }
+        ensures { OnOk result (string_bytes text.new ≡ string_bytes text.old ++ vector_text (slice_index_or self.now.table.now.rows self.now.pattern []) number) }
+    {
+        self.push_vector_line(text, number)?;
+        self.push_fault_lines(text)
     }
-    Ok(())
-}
 
-// Appends the line of a fault, where its answer differs.
-fn push_if_differs(
-    text: &mut String,
-    table: &AnswerTable,
-    pattern: u32,
-    number: u32,
-    differs: bool,
-) -> Result<(), AllocError>
-    requires pattern { pattern < length table.now.rows }
-    requires number { number < table.now.numbers }
-    ensures { OnOk result (string_bytes text.new ≡ (if differs then string_bytes text.old ++ fault_line number (answer_to table.now pattern number) else string_bytes text.old)) }
-{
-    if differs {
-        push_fault_line(text, table, pattern, number)?;
+    // Appends the line of the vector itself.
+    #[tactic(auto, unfolding(crate::specs::SimText::vector_line))]
+    fn push_vector_line(&self, text: &mut String, number: usize) -> Result<(), AllocError>
+        requires pattern { self.now.pattern < length self.now.table.now.rows }
+        requires numbers { 0 < self.now.table.now.numbers }
+        ensures { OnOk result (string_bytes text.new ≡ string_bytes text.old ++ vector_line number (answer_to self.now.table.now self.now.pattern 0)) }
+    {
+        write!(text, "pattern {number} answer ")?;
+        self.push_answer(text, 0)?;
+        text.push('\n')
     }
-    Ok(())
-}
 
-// Appends the line of a fault.
-#[tactic(auto, unfolding(crate::specs::SimText::fault_line))]
-fn push_fault_line(
-    text: &mut String,
-    table: &AnswerTable,
-    pattern: u32,
-    number: u32,
-) -> Result<(), AllocError>
-    requires pattern { pattern < length table.now.rows }
-    requires number { number < table.now.numbers }
-    ensures { OnOk result (string_bytes text.new ≡ string_bytes text.old ++ fault_line number (answer_to table.now pattern number)) }
-{
-    write!(text, "fault {number} ")?;
-    push_answer(text, table, pattern, number)?;
-    text.push('\n')
-}
+    // Appends a line for each fault whose answer differs from the fault-free one.
+    fn push_fault_lines(&self, text: &mut String) -> Result<(), AllocError>
+        requires pattern { self.now.pattern < length self.now.table.now.rows }
+        requires numbers { 0 < self.now.table.now.numbers }
+        ensures { OnOk result (string_bytes text.new ≡ string_bytes text.old ++ flat_map (numbered_line (slice_index_or self.now.table.now.rows self.now.pattern [])) (differing_numbers (slice_index_or self.now.table.now.rows self.now.pattern []))) }
+    {
+        for number in 1..self.table.numbers() {
+            let differs = !self.table.answers_alike(self.pattern, number, 0);
+            self.push_if_differs(text, number, differs)?;
+        }
+        Ok(())
+    }
 
-// Appends the digits of a number's answer, or a dash where there are no positions.
-fn push_answer(
-    text: &mut String,
-    table: &AnswerTable,
-    pattern: u32,
-    number: u32,
-) -> Result<(), AllocError>
-    requires pattern { pattern < length table.now.rows }
-    requires number { number < table.now.numbers }
-    ensures { OnOk result (string_bytes text.new ≡ string_bytes text.old ++ bits_text (answer_to table.now pattern number)) }
-{
-    let positions = table.positions();
-    if positions == 0 {
-        return text.push('-');
+    // Appends the line of a fault, where its answer differs.
+    fn push_if_differs(
+        &self,
+        text: &mut String,
+        number: u32,
+        differs: bool,
+    ) -> Result<(), AllocError>
+        requires pattern { self.now.pattern < length self.now.table.now.rows }
+        requires number { number < self.now.table.now.numbers }
+        ensures { OnOk result (string_bytes text.new ≡ (if differs then string_bytes text.old ++ fault_line number (answer_to self.now.table.now self.now.pattern number) else string_bytes text.old)) }
+    {
+        if differs {
+            self.push_fault_line(text, number)?;
+        }
+        Ok(())
     }
-    for word in 0..positions.div_ceil(64) {
-        let bits = table.answer_word(pattern, number, word);
-        push_digits(text, bits, (positions - word * 64).min(64))?;
+
+    // Appends the line of a fault.
+    #[tactic(auto, unfolding(crate::specs::SimText::fault_line))]
+    fn push_fault_line(&self, text: &mut String, number: u32) -> Result<(), AllocError>
+        requires pattern { self.now.pattern < length self.now.table.now.rows }
+        requires number { number < self.now.table.now.numbers }
+        ensures { OnOk result (string_bytes text.new ≡ string_bytes text.old ++ fault_line number (answer_to self.now.table.now self.now.pattern number)) }
+    {
+        write!(text, "fault {number} ")?;
+        self.push_answer(text, number)?;
+        text.push('\n')
     }
-    Ok(())
+
+    // Appends the digits of a number's answer, or a dash where there are no positions.
+    fn push_answer(&self, text: &mut String, number: u32) -> Result<(), AllocError>
+        requires pattern { self.now.pattern < length self.now.table.now.rows }
+        requires number { number < self.now.table.now.numbers }
+        ensures { OnOk result (string_bytes text.new ≡ string_bytes text.old ++ bits_text (answer_to self.now.table.now self.now.pattern number)) }
+    {
+        let positions = self.table.positions();
+        if positions == 0 {
+            return text.push('-');
+        }
+        for word in 0..positions.div_ceil(64) {
+            let bits = self.table.answer_word(self.pattern, number, word);
+            push_digits(text, bits, (positions - word * 64).min(64))?;
+        }
+        Ok(())
+    }
 }
 
 // Appends the digits of the lowest bits of a word, so many.

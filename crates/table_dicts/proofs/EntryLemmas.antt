@@ -21,14 +21,14 @@ use Rattle.table_dicts.specs.Dictionary.{IsDictionary, baseline_count, entry_wid
 pub same_bits-Decides : (a b : List Bool) → Decides (same_bits a b) (a ≡ b)
 same_bits-Decides a b = slice_eq-Decides booleans_Decides a b (same_bits a b) refl
 
-length-differences : (answers baselines : List (List Bool)) → length answers ≡ length baselines → length (differences answers baselines) ≡ length answers
+pub length-differences : (answers baselines : List (List Bool)) → length answers ≡ length baselines → length (differences answers baselines) ≡ length answers
 unfolding differences
 length-differences [] [] e = refl
 length-differences [] (b ∷ bs) e = refl
 length-differences (a ∷ answers) [] e = absurd (omega (arith, e))
 length-differences (a ∷ answers) (b ∷ bs) e = ap suc (length-differences answers bs (omega (arith, e)))
 
-difference_at : (answers baselines : List (List Bool)) (k : ℕ) → length answers ≡ length baselines → k < length answers → bit_at (differences answers baselines) k ≡ not (same_bits (get_or answers k []) (get_or baselines k []))
+pub difference_at : (answers baselines : List (List Bool)) (k : ℕ) → length answers ≡ length baselines → k < length answers → bit_at (differences answers baselines) k ≡ not (same_bits (get_or answers k []) (get_or baselines k []))
 unfolding differences
 difference_at [] baselines k e h = absurd (omega (arith, h))
 difference_at (a ∷ answers) [] k e h = absurd (omega (arith, e))

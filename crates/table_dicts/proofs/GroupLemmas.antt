@@ -220,9 +220,7 @@ module _ (rows : List (List Bool)) (i : ℕ) (h : i < length rows) (groups first
         → ((q : Bor (List ℕ)) → new q ≡ cond (is_none o && is_eq (words_order key q)) (Some next) (old q)) → Turn group new
     turn None next group e count at news =
         subst (λ g. Turn g new) (sym (at ∙ count)) (new_turn (rw e at (noted.at key)) (λ q. news q ∙ ap (λ n. cond (is_eq (words_order key q)) (Some n) (old q)) count))
-    turn (Some k) next group e count at news =
-        let is = rw e at (noted.at key) in
-        subst (λ g. Turn g new) (sym at) (known_turn k is.0 is.1 news)
+    turn (Some k) next group e count at news = subst (λ g. Turn g new) (sym at) (let is = rw e at (noted.at key) in known_turn k is.0 is.1 news)
 
 -- ---- all rows
 

@@ -29,7 +29,7 @@ module _ (c : Circuit) (is : IsCircuit c) where
   one_row v row other first second = zip_once (λ f answer. IsAnswer c f v answer) Free [] (λ f x y. one_answer c is f v x y) (faults c) row other first second
 
   -- the rows of answers to patterns are the same
-  one_rows : (patterns : List (List Bool)) (rows other : List (List (List Bool))) → AreAnswerRows c patterns rows → AreAnswerRows c patterns other → rows ≡ other
+  pub one_rows : (patterns : List (List Bool)) (rows other : List (List (List Bool))) → AreAnswerRows c patterns rows → AreAnswerRows c patterns other → rows ≡ other
   one_rows patterns rows other first second = zip_once (IsAnswerRow c) [] [] one_row patterns rows other first second
 
   -- there is a table of the answers to patterns

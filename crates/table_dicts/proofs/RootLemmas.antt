@@ -27,12 +27,6 @@ module _ (roots : List ℕ) (i : ℕ) (groups firsts : List ℕ) (are : AreGroup
   last_group : (group : ℕ) → get_or (groups ++ group ∷ []) i 0 ≡ group
   last_group group = get_or_push groups group 0 i are.one_each
 
-  first_was : (g : ℕ) → g < length firsts → get_or (firsts ++ i ∷ []) g 0 ≡ get_or firsts g 0
-  first_was g low = get_or_append_left firsts (i ∷ []) 0 g low
-
-  last_first : get_or (firsts ++ i ∷ []) (length firsts) 0 ≡ i
-  last_first = get_or_push firsts i 0 (length firsts) refl
-
   -- a number comes into a group whose first has its root
   joined : (group : ℕ) → group < length firsts → get_or roots (get_or firsts group 0) 0 ≡ get_or roots i 0 → AreGroupsByRoot roots (i + 1) (groups ++ group ∷ []) firsts
   joined group low same = record {
@@ -57,16 +51,16 @@ module _ (roots : List ℕ) (i : ℕ) (groups firsts : List ℕ) (are : AreGroup
         one_each = omega (arith, length_push groups count, are.one_each);
         few = omega (arith, length_push firsts i, are.few);
         inside = λ g h. elim (cases_lt g count) [
-          | inl low ↦ omega (arith, first_was g low, are.inside g low)
-          | inr over ↦ let e : g ≡ count = omega (arith, h, over, length_push firsts i) in rw (e, last_first) (omega arith)
+          | inl low ↦ omega (arith, get_or_append_left firsts (i ∷ []) 0 g low, are.inside g low)
+          | inr over ↦ let e : g ≡ count = omega (arith, h, over, length_push firsts i) in rw (e, get_or_push firsts i 0 count refl) (omega arith)
         ];
         known = λ n h. elim (cases_lt n i) [
           | inl less ↦ omega (arith, group_was count n less, are.known n less, length_push firsts i)
           | inr over ↦ let e : n ≡ i = omega (arith, h, over) in rw (e, last_group count) (omega (arith, length_push firsts i))
         ];
         same = λ n h. elim (cases_lt n i) [
-          | inl less ↦ rw (group_was count n less, first_was (get_or groups n 0) (are.known n less)) (are.same n less)
-          | inr over ↦ let e : n ≡ i = omega (arith, h, over) in rw (e, last_group count, last_first) refl
+          | inl less ↦ rw (group_was count n less, get_or_append_left firsts (i ∷ []) 0 (get_or groups n 0) (are.known n less)) (are.same n less)
+          | inr over ↦ let e : n ≡ i = omega (arith, h, over) in rw (e, last_group count, get_or_push firsts i 0 count refl) refl
         ];
       }
 

@@ -1,5 +1,5 @@
 -- What the fields of a table show.
-use Rattle.std.proofs.Common.{◌≡◌, ◌∙◌, ℕ, zero, suc, ◌+◌, ◌*◌, ◌/◌, ◌<◌, Bool, false, List, [], ◌∷◌, ◌++◌, length, get_or, map, take, drop, refl, sym, ap, subst, arith, add-one, inl, inr}
+use Rattle.std.proofs.Common.{◌≡◌, ◌∙◌, ℕ, zero, suc, ◌+◌, ◌*◌, ◌/◌, ◌<◌, ◌≤◌, Bool, false, List, [], ◌∷◌, ◌++◌, length, get_or, map, take, drop, refl, sym, ap, subst, arith, add-one, inl, inr}
 use Rattle.std.specs.Prelude.{flat_map, All}
 use Rattle.std.specs.List.{range_with_len}
 use Rattle.std.proofs.Math.Seq.{take-add}
@@ -13,7 +13,7 @@ use Rattle.net_model.specs.Answer.{bit_at}
 use Rattle.table_dicts.specs.declared.answer_table.AnswerTable.TheInside.{Inside}
 use Rattle.net_model.specs.Rows.{row_at, row_bit}
 use Rattle.table_dicts.specs.Rows.{IsBitSet}
-use Rattle.table_dicts.specs.AnswerTable.{answer_in, answer_to, answer_bit, IsTable, IsSetAt, ArePicked}
+use Rattle.table_dicts.specs.AnswerTable.{Answers, answer_in, answer_to, answer_bit, IsTable, IsSetAt, ArePicked}
 use Rattle.table_dicts.specs.AnswerTableFields.{answer_part, table_of, AreCells}
 use Rattle.table_dicts.specs.Entries.{full_entry}
 use Rattle.table_dicts.proofs.RowLemmas.{rows_later, width_at}
@@ -25,6 +25,17 @@ place_inside pattern patterns position positions hp hk = subst (λ n. pattern * 
 module _ (a : Inside) (are : AreCells a) where
   pub patterns_are : length (table_of a).rows ≡ a.patterns
   patterns_are = length-map-range_with_len (λ pattern. map (answer_part a.positions pattern) a.cells) 0 a.patterns
+
+  -- what is within the table's sizes is within those of its fields
+  pub in_fields : (t : Answers) → table_of a ≡ t → (end number : ℕ) → end ≤ length t.rows → number < t.numbers → (end ≤ a.patterns) × (number < a.numbers)
+  in_fields t is end number he hn = (omega (arith, he, ap (λ (u : Answers). length u.rows) is, patterns_are), omega (arith, hn, ap (λ (u : Answers). u.numbers) is))
+
+  -- and a position's bit within the row of its number
+  pub bit_inside : (t : Answers) → table_of a ≡ t → (pattern number position : ℕ) → pattern < length t.rows → number < t.numbers → position < t.positions → pattern * a.positions + position < length (row_at a.cells number)
+  bit_inside t is pattern number position hp hn hk =
+      let inside = in_fields t is (pattern + 1) number (omega (arith, hp)) hn in
+      let here : position < a.positions = omega (arith, hk, ap (λ (u : Answers). u.positions) is) in
+      omega (arith, place_inside pattern a.patterns position a.positions (omega (arith, inside.0)) here, width_at are number inside.1)
 
   pub row_is : (pattern : ℕ) → pattern < a.patterns → get_or (table_of a).rows pattern [] ≡ map (answer_part a.positions pattern) a.cells
   row_is pattern h = get_or-map-range_with_len (λ pattern. map (answer_part a.positions pattern) a.cells) 0 a.patterns pattern pattern [] h (omega arith)

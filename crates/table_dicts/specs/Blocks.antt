@@ -1,5 +1,5 @@
 -- A circuit that is run on patterns, a block of them at once.
-use Rattle.std.specs.Prelude.{◌≡◌, ◌≢◌, ℕ, ◌+◌, ◌<◌, ◌≤◌, ◌⊎◌, Bool, not, List, [], length, Some, slice_index, slice_index_or}
+use Rattle.std.specs.Prelude.{◌≡◌, ◌≢◌, ℕ, ◌+◌, ◌%◌, ◌<◌, ◌≤◌, ◌⊎◌, Bool, not, List, [], length, Some, slice_index, slice_index_or}
 use Rattle.net_model.specs.Circuit.{Circuit, IsCircuit}
 use Rattle.net_model.specs.Answer.{bit_at, IsAnswer}
 use Rattle.net_model.specs.FaultList.{faults, fault_numbered}
@@ -46,6 +46,12 @@ IsListedBit kept c patterns numbers pattern place = IsKeptBit kept c patterns pa
 abbrev pub kept_width : Kept → ℕ → ℕ
 kept_width Bits positions = positions
 kept_width Fails positions = 1
+
+-- What is kept of answers to the block fits into the table, from the first pattern on.
+pub record FitsAt (kept : Kept) (b : Bench) (t : Answers) (first : ℕ) : Type 0 where
+  pub width : t.positions ≡ kept_width kept (length b.good.circuit.positions)
+  pub aligned : first % 64 ≡ 0
+  pub within : first + length b.block.vectors ≤ length t.rows
 
 -- The new table has right bits of a number at the positions below a limit, from the first pattern on, so many, and other numbers and
 -- earlier patterns have theirs as before. Which bits are right is said by place in the block, number and position.

@@ -9,4 +9,5 @@ pub mod Dictionary
 pub mod Apart
 pub mod Blocks
 pub mod Laws
+pub mod Setting
 pub mod BlockWords

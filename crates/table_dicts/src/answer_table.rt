@@ -2,18 +2,17 @@
 
 ghost use Rattle.std.specs.Prelude.{◌≡◌, ◌+◌, ◌*◌, ◌<◌, ◌≤◌, ◌%◌, ◌^◌, ℕ, false, [], length, slice_index_or, map, All, IfOk};
 ghost use Rattle.std.specs.List.{range_with_len};
-ghost use Rattle.table_dicts.specs.AnswerTable.{HasSizes, IsTable, IsSetAt, ArePicked, answer_to, answer_bit};
 ghost use Rattle.net_model.specs.Answer.{bit_at};
 ghost use Rattle.net_model.specs.ClassTable.{same_bits};
 ghost use Rattle.net_model.specs.Rows.{row_at};
-ghost use Rattle.table_dicts.specs.Blocks.{IsNumberSet};
-ghost use Rattle.table_dicts.specs.Entries.{full_entry};
+ghost use Rattle.table_dicts.specs.AnswerTable.{HasSizes, IsTable, IsSetAt, ArePicked, answer_to, answer_bit};
 ghost use Rattle.table_dicts.specs.Rows.{AreRows, IsRowSet, IsWordOf};
+ghost use Rattle.table_dicts.specs.Entries.{full_entry};
+ghost use Rattle.table_dicts.specs.Blocks.{IsNumberSet};
 
 use crate::bits::{copy_words, rows_at, set_bit};
 use crate::block_words::write_words;
-use crate::words::{low_bits, word_at};
-use net_model::AnswerRows;
+use net_model::{AnswerRows, low_bits, word_at};
 use std::alloc::{AllocError, Global};
 use std::marker::Model;
 use word_sim::{LANES, Lanes};
@@ -29,14 +28,14 @@ pub struct AnswerTable {
 }
 
 impl Model for AnswerTable {
-    ghost use Rattle.table_dicts.specs.AnswerTable.{Answers};
     ghost use Rattle.table_dicts.specs.AnswerTableFields.{table_of, AreCells};
+    ghost use Rattle.table_dicts.specs.AnswerTable.{Answers};
 
     ghost Value = { Answers };
 
-    ghost view = { table_of };
-
     ghost invariant = { AreCells };
+
+    ghost view = { table_of };
 }
 
 impl AnswerTable {
@@ -143,7 +142,7 @@ impl AnswerTable {
         let first = word * 64;
         let at = place(pattern, positions, first);
         let bits = word_at(self.cells.row_words(number as usize), at);
-        low_bits(bits, positions - first)
+        low_bits(bits, (positions - first) as usize)
     }
 
     /// Whether two numbers answer alike to a pattern.

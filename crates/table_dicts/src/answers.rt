@@ -1,15 +1,12 @@
 //! The answers of all fault numbers to patterns.
 
 ghost use Rattle.std.specs.Prelude.{◌≡◌, ◌<◌, ◌^◌, ℕ, length, slice_index, All, IfOk};
-ghost use Rattle.net_model.specs.ClassTable.{class_count, representative};
-ghost use Rattle.net_model.specs.FaultList.{faults as faults_of, fault_count};
-ghost use Rattle.table_dicts.specs.AnswerTable.{Answers, AreAnswers, HasSizes, answer_to};
+ghost use Rattle.net_model.specs.FaultList.{fault_count};
+ghost use Rattle.table_dicts.specs.AnswerTable.{Answers, AreAnswerable, AreAnswers, HasSizes, answer_to};
 
 use crate::answer_table::AnswerTable;
-use crate::by_class::representatives;
 use crate::by_root::root_groups;
 use crate::simulating::{Kept, tabulate};
-use class_refine::Classes;
 use fault_collapse::collapse;
 use fault_list::FaultList;
 use net_model::{Circuit, Vector, Vectors};
@@ -23,9 +20,7 @@ pub fn answers_at(
     faults: &FaultList,
     patterns: &Vectors,
 ) -> Result<AnswerTable, AllocError>
-    requires faults { faults.now ≡ faults_of circuit.now }
-    requires widths { All (λ v. length v ≡ circuit.now.sources) patterns.now }
-    requires few { length patterns.now < 2 ^ 32 }
+    requires { AreAnswerable circuit.now faults.now patterns.now }
     ensures { IfOk result (AreAnswers circuit.now patterns.now) }
 {
     let forest = collapse(alloc, circuit, faults)?;
@@ -46,34 +41,13 @@ pub fn number_answers_at(
     patterns: &[Vector],
     numbers: &[u32],
 ) -> Result<AnswerTable, AllocError>
-    requires faults { faults.now ≡ faults_of circuit.now }
-    requires widths { All (λ v. length v ≡ circuit.now.sources) patterns.now }
-    requires few { length patterns.now < 2 ^ 32 }
     requires numbers { All (λ number. number < fault_count circuit.now) numbers.now }
     requires count { length numbers.now < 2 ^ 32 }
+    requires answerable { AreAnswerable circuit.now faults.now patterns.now }
     ensures sizes { IfOk result (λ table. HasSizes table (length patterns.now) (length numbers.now) (length circuit.now.positions)) }
     ensures answers { IfOk result (λ table. (t : Answers) → AreAnswers circuit.now patterns.now t → (pattern place : ℕ) → pattern < length patterns.now → place < length numbers.now → answer_to table pattern place ≡ answer_to t pattern (slice_index numbers.now place)) }
 {
     let table = tabulate(alloc, circuit, faults, patterns, Kept::Bits, numbers)?;
     let _ = table.numbers();
     Ok(table)
-}
-
-/// The answers of the lowest number of each class to patterns, class by class. `faults` is the list of the circuit's faults.
-pub fn class_answers_at(
-    alloc: Global,
-    circuit: &Circuit,
-    faults: &FaultList,
-    patterns: &[Vector],
-    classes: &Classes,
-) -> Result<AnswerTable, AllocError>
-    requires faults { faults.now ≡ faults_of circuit.now }
-    requires widths { All (λ v. length v ≡ circuit.now.sources) patterns.now }
-    requires few { length patterns.now < 2 ^ 32 }
-    requires numbers { length classes.now.class_of ≡ fault_count circuit.now }
-    ensures sizes { IfOk result (λ table. HasSizes table (length patterns.now) (class_count classes.now) (length circuit.now.positions)) }
-    ensures answers { IfOk result (λ table. (t : Answers) → AreAnswers circuit.now patterns.now t → (pattern class : ℕ) → pattern < length patterns.now → class < class_count classes.now → answer_to table pattern class ≡ answer_to t pattern (representative classes.now class)) }
-{
-    let lowest = representatives(alloc, classes)?;
-    number_answers_at(alloc, circuit, faults, patterns, lowest.as_slice())
 }

@@ -4,8 +4,7 @@ ghost use Rattle.std.specs.Prelude.{◌≡◌, ◌+◌, ◌*◌, ◌^◌, ◌<�
 ghost use Rattle.net_model.specs.Rows.{bit_of, row_at};
 ghost use Rattle.table_dicts.specs.BlockWords.{AreBitsSet, block_bit, number_of};
 
-use crate::words::with_bit;
-use net_model::AnswerRows;
+use net_model::{AnswerRows, with_bit};
 use word_sim::{LANES, Lanes};
 
 // A place in a block: a lane, and a position in it.
@@ -48,7 +47,7 @@ fn next_word(lanes: &[Lanes], place: &mut Place) -> u64
     ensures bits { (k : ℕ) → k < 64 → bit_of result k ≡ block_bit lanes.now (number_of (length lanes.now) place.old + k) }
 {
     let mut word = 0u64;
-    for at in 0..64u32 {
+    for at in 0..64usize {
         let bit = lanes[place.position].get(place.lane);
         word = with_bit(word, at, bit);
         step(place, lanes.len());

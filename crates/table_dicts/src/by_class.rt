@@ -19,6 +19,21 @@ use class_refine::Classes;
 use net_model::AnswerRows;
 use std::alloc::{AllocError, Global};
 
+/// The lowest number of each class, in the order of the classes.
+pub fn representatives(alloc: Global, classes: &Classes) -> Result<Vec<u32>, AllocError>
+    ensures lowest { IfOk result (λ lowest. lowest.items ≡ map (representative classes.now) (range_with_len 0 (class_count classes.now))) }
+    ensures within { IfOk result (λ lowest. All (λ number. number < length classes.now.class_of) lowest.items) }
+    ensures few { IfOk result (λ lowest. length lowest.items < 2 ^ 32) }
+    ensures whole { IsWhole classes.now }
+{
+    let count = classes.count();
+    let mut lowest = Vec::with_capacity(alloc, count as usize)?;
+    for class in 0..count {
+        lowest.push(classes.representative(class))?;
+    }
+    Ok(lowest)
+}
+
 /// The dictionary of a kind with baselines, from the entry of each class. `numbers` are all numbers of the classes, and the
 /// baselines are of so many positions.
 pub fn dict_of_classes(
@@ -52,21 +67,6 @@ pub fn dict_of_classes(
         groups,
         entries: grouped.entries,
     })
-}
-
-/// The lowest number of each class, in the order of the classes.
-pub(crate) fn representatives(alloc: Global, classes: &Classes) -> Result<Vec<u32>, AllocError>
-    ensures lowest { IfOk result (λ lowest. lowest.items ≡ map (representative classes.now) (range_with_len 0 (class_count classes.now))) }
-    ensures within { IfOk result (λ lowest. All (λ number. number < length classes.now.class_of) lowest.items) }
-    ensures few { IfOk result (λ lowest. length lowest.items < 2 ^ 32) }
-    ensures whole { IsWhole classes.now }
-{
-    let count = classes.count();
-    let mut lowest = Vec::with_capacity(alloc, count as usize)?;
-    for class in 0..count {
-        lowest.push(classes.representative(class))?;
-    }
-    Ok(lowest)
 }
 
 // The class of each of these numbers.

@@ -1,6 +1,6 @@
 //! Fault dictionaries.
 
-ghost use Rattle.std.specs.Prelude.{◌≡◌, [], ◌∷◌, ◌++◌, length, OnOk, OnErr};
+ghost use Rattle.std.specs.Prelude.{◌≡◌, ℕ, List, [], ◌∷◌, ◌++◌, length, OnOk, OnErr};
 ghost use Rattle.table_dicts.specs.Grouped.{IsGrouped};
 
 use net_model::AnswerRows;
@@ -19,14 +19,6 @@ pub enum DictKind {
 #[derive(Drop)]
 pub struct Groups {
     groups: Vec<u32>,
-}
-
-impl Model for Groups {
-    ghost use Rattle.std.specs.Prelude.{ℕ, List};
-
-    ghost Value = { List ℕ };
-
-    ghost view = { λ g. g.groups.items };
 }
 
 impl Groups {
@@ -51,6 +43,12 @@ impl Groups {
     {
         self.groups.as_slice()
     }
+}
+
+impl Model for Groups {
+    ghost Value = { List ℕ };
+
+    ghost view = { λ g. g.groups.items };
 }
 
 /// A fault dictionary: the entry of a fault number is the row of its group. A full dictionary has no baselines; one of

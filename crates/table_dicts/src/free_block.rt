@@ -1,11 +1,11 @@
 //! What is kept of a number's answers to a block of patterns, written where it differs from that of the fault-free ones.
 
-ghost use Rattle.std.specs.Prelude.{◌≡◌, ◌+◌, ◌%◌, ◌^◌, ◌<◌, ◌≤◌, ℕ, length, IfOk};
+ghost use Rattle.std.specs.Prelude.{◌≡◌, ◌+◌, ◌^◌, ◌<◌, ◌≤◌, ℕ, length, IfOk};
 ghost use Rattle.net_model.specs.Answer.{bit_at};
 ghost use Rattle.net_model.specs.FaultList.{fault_numbered};
 ghost use Rattle.fault_sim.specs.FaultSim.{AreDifferences};
 ghost use Rattle.table_dicts.specs.AnswerTable.{answer_bit};
-ghost use Rattle.table_dicts.specs.Blocks.{HasRun, HasLanes, IsKeptBit, kept_width, IsNumberSet, IsColumnSet};
+ghost use Rattle.table_dicts.specs.Blocks.{HasRun, HasLanes, FitsAt, IsKeptBit, kept_width, IsNumberSet, IsColumnSet};
 
 use crate::answer_table::AnswerTable;
 use crate::bench::Bench;
@@ -58,10 +58,8 @@ impl FreeBlock {
         requires run { HasRun bench.now }
         requires differ { AreDifferences bench.now.good.circuit (fault_numbered bench.now.good.circuit number) bench.now.block.vectors bench.now.sim.differences }
         requires place { place < table.old.numbers }
-        requires width { table.old.positions ≡ kept_width kept (length bench.now.good.circuit.positions) }
+        requires fits { FitsAt kept bench.now table.old first }
         requires free { length self.now.lanes.items ≡ table.old.positions }
-        requires aligned { first % 64 ≡ 0 }
-        requires within { first + length bench.now.block.vectors ≤ length table.old.rows }
         ensures { IsNumberSet (λ lane at. IsKeptBit kept bench.now.good.circuit bench.now.block.vectors lane number) (length bench.now.block.vectors) table.old table.new place first table.old.positions }
     {
         let _ = table.patterns();

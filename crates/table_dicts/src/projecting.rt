@@ -1,20 +1,19 @@
 //! Dictionaries of a table of answers.
 
-ghost use Rattle.std.specs.Prelude.{◌≡◌, ◌*◌, ◌<◌, ◌≢◌, [], length, map, not, IfOk};
-ghost use Rattle.std.specs.List.{range_with_len};
 ghost use Rattle.net_model.specs.ClassTable.{same_bits};
-ghost use Rattle.table_dicts.specs.AnswerTable.{answer_to};
 ghost use Rattle.net_model.specs.Rows.{row_at};
-ghost use Rattle.table_dicts.specs.Rows.{AreRows, IsRowSet, IsWordOf};
-ghost use Rattle.table_dicts.specs.Entries.{answers_of, same_diff_entry};
+ghost use Rattle.std.specs.List.{range_with_len};
+ghost use Rattle.std.specs.Prelude.{◌≡◌, ◌*◌, ◌<◌, ◌≢◌, [], length, map, not, IfOk};
+ghost use Rattle.table_dicts.specs.AnswerTable.{answer_to};
 ghost use Rattle.table_dicts.specs.Dictionary.{IsFull, IsPassFail, IsSameDiff, IsDictionary};
+ghost use Rattle.table_dicts.specs.Entries.{answers_of, same_diff_entry};
+ghost use Rattle.table_dicts.specs.Rows.{AreRows, IsRowSet, IsWordOf};
 
 use crate::answer_table::AnswerTable;
 use crate::bits::copy_rows;
 use crate::dict::{Dict, DictKind};
 use crate::grouping::group_rows;
-use crate::words::with_bit;
-use net_model::AnswerRows;
+use net_model::{AnswerRows, with_bit};
 use std::alloc::{AllocError, Global};
 
 /// The full-response dictionary: an entry has all bits of a number's answers, pattern by pattern.
@@ -150,7 +149,7 @@ fn entry_word(table: &AnswerTable, baselines: &AnswerRows, number: u32, word: u3
     let mut bits = 0;
     for at in 0..count {
         let bit = differs(table, baselines, first + at, number);
-        bits = with_bit(bits, at, bit);
+        bits = with_bit(bits, at as usize, bit);
     }
     bits
 }

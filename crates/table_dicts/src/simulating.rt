@@ -1,8 +1,9 @@
 //! What fault numbers answer to patterns, by simulation of a block of patterns at once.
 
-ghost use Rattle.std.specs.Prelude.{◌≡◌, ◌+◌, ◌%◌, ◌<◌, ◌≤◌, ◌^◌, ℕ, length, All, IfOk};
-ghost use Rattle.net_model.specs.FaultList.{faults as faults_of, fault_count};
-ghost use Rattle.table_dicts.specs.Blocks.{HasRun, IsKeptBit, IsListedBit, kept_width, IsNumberSet, AreNumbersSet, AreRightTo};
+ghost use Rattle.std.specs.Prelude.{◌≡◌, ◌<◌, ◌^◌, length, All, IfOk};
+ghost use Rattle.net_model.specs.FaultList.{fault_count};
+ghost use Rattle.table_dicts.specs.AnswerTable.{AreAnswerable};
+ghost use Rattle.table_dicts.specs.Blocks.{HasRun, FitsAt, IsKeptBit, IsListedBit, kept_width, IsNumberSet, AreNumbersSet, AreRightTo};
 
 use crate::answer_table::AnswerTable;
 use crate::bench::Bench;
@@ -27,9 +28,7 @@ pub(crate) fn tabulate(
     kept: Kept,
     numbers: &[u32],
 ) -> Result<AnswerTable, AllocError>
-    requires faults { faults.now ≡ faults_of circuit.now }
-    requires widths { All (λ v. length v ≡ circuit.now.sources) patterns.now }
-    requires few { length patterns.now < 2 ^ 32 }
+    requires answerable { AreAnswerable circuit.now faults.now patterns.now }
     requires numbers { All (λ number. number < fault_count circuit.now) numbers.now }
     requires count { length numbers.now < 2 ^ 32 }
     ensures { IfOk result (AreRightTo (IsListedBit kept circuit.now patterns.now numbers.now) (length patterns.now) (length numbers.now) (kept_width kept (length circuit.now.positions)) (length patterns.now)) }
@@ -70,10 +69,8 @@ fn write_block(
     requires numbers { All (λ number. number < fault_count bench.old.good.circuit) numbers.now }
     requires count { length numbers.now < 2 ^ 32 }
     requires rows { table.old.numbers ≡ length numbers.now }
-    requires width { table.old.positions ≡ kept_width kept (length bench.old.good.circuit.positions) }
+    requires fits { FitsAt kept bench.old table.old first }
     requires free { length free.now.lanes.items ≡ table.old.positions }
-    requires aligned { first % 64 ≡ 0 }
-    requires within { first + length bench.old.block.vectors ≤ length table.old.rows }
     ensures bench { bench.new ≡ record bench.old { sim = bench.new.sim } }
     ensures run { HasRun bench.new }
     ensures set { AreNumbersSet (IsListedBit kept bench.old.good.circuit bench.old.block.vectors numbers.now) (length bench.old.block.vectors) table.old table.new (length numbers.now) first }
@@ -96,10 +93,8 @@ fn write_number(
     requires run { HasRun bench.old }
     requires number { number < fault_count bench.old.good.circuit }
     requires place { place < table.old.numbers }
-    requires width { table.old.positions ≡ kept_width kept (length bench.old.good.circuit.positions) }
+    requires fits { FitsAt kept bench.old table.old first }
     requires free { length free.now.lanes.items ≡ table.old.positions }
-    requires aligned { first % 64 ≡ 0 }
-    requires within { first + length bench.old.block.vectors ≤ length table.old.rows }
     ensures bench { bench.new ≡ record bench.old { sim = bench.new.sim } }
     ensures run { HasRun bench.new }
     ensures set { IsNumberSet (λ lane at. IsKeptBit kept bench.old.good.circuit bench.old.block.vectors lane number) (length bench.old.block.vectors) table.old table.new place first table.old.positions }

@@ -4,8 +4,6 @@
 #[cfg(test)]
 mod circuits;
 #[cfg(test)]
-mod kept;
-#[cfg(test)]
 mod rows;
 #[cfg(test)]
 mod spelled;

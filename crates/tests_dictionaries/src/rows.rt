@@ -3,48 +3,63 @@
 use crate::spelled::{rows_of, rows_with, spelled};
 use net_model::AnswerRows;
 use std::alloc::Global;
-use std::process::Abort;
 use std::test::Fail;
 use table_dicts::{first_repeat, group_rows};
 
-fn check_rows(
-    rt: &impl Abort,
+// Whether rows have these groups, so many first rows, and this first row that comes again.
+fn are_grouped(
     alloc: Global,
     rows: &AnswerRows,
     groups: &[u32],
     firsts: usize,
     repeat: Option<u32>,
-) -> Result<(), Fail> {
+) -> Result<bool, Fail> {
     if rows.rows() > 1000 {
         return Err(Fail::new("there are too many rows"));
     }
     let grouped = group_rows(alloc, rows)?;
-    assert_eq!(rt; grouped.groups.as_slice(), groups);
-    assert_eq!(rt; grouped.entries.rows(), firsts);
-    assert_eq!(rt; first_repeat(alloc, rows)?, repeat);
-    Ok(())
+    Ok(
+        grouped.groups.as_slice() == groups
+            && grouped.entries.rows() == firsts
+            && first_repeat(alloc, rows)? == repeat,
+    )
+}
+
+// The width of rows, the rows, their groups, how many first rows there are, and the first row that comes again.
+type Grouping = (
+    usize,
+    &'static [&'static str],
+    &'static [u32],
+    usize,
+    Option<u32>,
+);
+
+const GROUPED: [Grouping; 7] = [
+    (2, &[], &[], 0, None),
+    (2, &["01"], &[0], 1, None),
+    (2, &["01", "10", "11"], &[0, 1, 2], 3, None),
+    (2, &["01", "01"], &[0, 0], 1, Some(1)),
+    (2, &["01", "10", "10", "01"], &[0, 1, 1, 0], 2, Some(2)),
+    (
+        2,
+        &["00", "11", "01", "11", "00", "10"],
+        &[0, 1, 2, 1, 0, 3],
+        4,
+        Some(3),
+    ),
+    (0, &["", "", ""], &[0, 0, 0], 1, Some(1)),
+];
+
+fn holds(alloc: Global, case: &Grouping) -> Result<bool, Fail> {
+    let (width, texts, groups, firsts, repeat) = *case;
+    let rows = rows_of(alloc, width, texts)?;
+    are_grouped(alloc, &rows, groups, firsts, repeat)
 }
 
 #[test]
 fn groups_of_rows(rt: HostRuntime) -> Result<(), Fail> {
-    let table: [(usize, &[&str], &[u32], usize, Option<u32>); 7] = [
-        (2, &[], &[], 0, None),
-        (2, &["01"], &[0], 1, None),
-        (2, &["01", "10", "11"], &[0, 1, 2], 3, None),
-        (2, &["01", "01"], &[0, 0], 1, Some(1)),
-        (2, &["01", "10", "10", "01"], &[0, 1, 1, 0], 2, Some(2)),
-        (
-            2,
-            &["00", "11", "01", "11", "00", "10"],
-            &[0, 1, 2, 1, 0, 3],
-            4,
-            Some(3),
-        ),
-        (0, &["", "", ""], &[0, 0, 0], 1, Some(1)),
-    ];
-    for (width, texts, groups, firsts, repeat) in table {
-        let rows = rows_of(rt.alloc(), width, texts)?;
-        check_rows(&rt, rt.alloc(), &rows, groups, firsts, repeat)?;
+    for (at, case) in GROUPED.iter().enumerate() {
+        assert!(rt; holds(rt.alloc(), case)?, "case {at}");
     }
     Ok(())
 }
@@ -54,7 +69,9 @@ fn groups_of_rows(rt: HostRuntime) -> Result<(), Fail> {
 fn groups_of_long_rows(rt: HostRuntime) -> Result<(), Fail> {
     let ones = [(0, 64), (1, 129), (2, 64), (3, 127), (4, 129)];
     let rows = rows_with(rt.alloc(), 6, 130, &ones)?;
-    check_rows(&rt, rt.alloc(), &rows, &[0, 1, 0, 2, 1, 3], 4, Some(2))
+    let groups = [0, 1, 0, 2, 1, 3];
+    assert!(rt; are_grouped(rt.alloc(), &rows, &groups, 4, Some(2))?);
+    Ok(())
 }
 
 #[test]

@@ -5,37 +5,34 @@ ghost use Rattle.table_dicts.specs.Rows.{AreRows};
 
 use net_model::AnswerRows;
 use std::alloc::{AllocError, Global};
-use std::process::Abort;
 use std::test::Fail;
-use table_dicts::{Dict, DictKind};
+use table_dicts::Dict;
 
-/// What a dictionary is to be: its kind, how many positions, patterns and numbers it has, its baselines, and the group and
-/// the entry of each number.
-#[derive(Clone, Copy)]
-pub(crate) struct Wanted {
-    pub(crate) kind: DictKind,
-    pub(crate) sizes: [u32; 3],
-    pub(crate) baselines: &'static str,
-    pub(crate) groups: &'static [u32],
-    pub(crate) entries: &'static str,
+// The kind of a dictionary, how many positions, patterns and numbers it has, its baselines, and the group and the entry of
+// each number.
+fn dict_text(alloc: Global, dict: &Dict) -> Result<String, Fail> {
+    let baselines = spelled(alloc, &dict.baselines)?;
+    let groups = numbers_text(alloc, dict.groups.as_slice())?;
+    let entries = entries_of(alloc, dict)?;
+    let head = format!(in alloc;
+        "{:?} {} {} {}",
+        dict.kind, dict.positions, dict.patterns, dict.numbers
+    )?;
+    Ok(format!(in alloc; "{head}: {baselines}: {groups}: {entries}")?)
 }
 
-/// Fails where the dictionary isn't this one.
-pub(crate) fn check_dict(
-    rt: &impl Abort,
-    alloc: Global,
-    dict: &Dict,
-    wanted: Wanted,
-) -> Result<(), Fail> {
-    let [positions, patterns, numbers] = wanted.sizes;
-    assert_eq!(rt; dict.kind, wanted.kind);
-    assert_eq!(rt; dict.positions, positions);
-    assert_eq!(rt; dict.patterns, patterns);
-    assert_eq!(rt; dict.numbers, numbers);
-    assert_eq!(rt; spelled(alloc, &dict.baselines)?.as_str(), wanted.baselines);
-    assert_eq!(rt; dict.groups.as_slice(), wanted.groups);
-    assert_eq!(rt; entries_of(alloc, dict)?.as_str(), wanted.entries);
-    Ok(())
+/// Whether a dictionary is this one.
+pub(crate) fn is_dict(alloc: Global, dict: &Dict, wanted: &str) -> Result<bool, Fail> {
+    Ok(dict_text(alloc, dict)?.as_str() == wanted)
+}
+
+// The numbers, each with a blank behind it.
+fn numbers_text(alloc: Global, numbers: &[u32]) -> Result<String, AllocError> {
+    let mut text = String::new(alloc);
+    for number in numbers {
+        write!(text, "{number} ")?;
+    }
+    Ok(text)
 }
 
 /// The rows, each with a blank behind it.
@@ -87,11 +84,16 @@ pub(crate) fn rows_with(
 pub(crate) fn rows_of(alloc: Global, width: usize, texts: &[&str]) -> Result<AnswerRows, Fail> {
     let mut rows = AnswerRows::zeros(alloc, texts.len(), width)?;
     for (row, text) in texts.iter().enumerate() {
-        for (at, digit) in text.as_bytes().iter().enumerate() {
-            set_bit(&mut rows, row, at, *digit == b'1')?;
-        }
+        enter_row(&mut rows, row, text.as_bytes())?;
     }
     Ok(rows)
+}
+
+fn enter_row(rows: &mut AnswerRows, row: usize, digits: &[u8]) -> Result<(), Fail> {
+    for (at, digit) in digits.iter().enumerate() {
+        set_bit(rows, row, at, *digit == b'1')?;
+    }
+    Ok(())
 }
 
 fn set_bit(rows: &mut AnswerRows, row: usize, at: usize, bit: bool) -> Result<(), Fail> {

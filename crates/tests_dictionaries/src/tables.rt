@@ -3,13 +3,11 @@
 ghost use Rattle.std.specs.Prelude.{◌≡◌, ◌<◌, length, IfOk};
 ghost use Rattle.table_dicts.specs.Dictionary.{IsGroupedDict};
 
-use crate::spelled::{Wanted, check_dict, fit, rows_of};
+use crate::spelled::{fit, is_dict, rows_of};
 use class_refine::Classes;
 use net_model::AnswerRows;
 use std::alloc::Global;
-use std::process::Abort;
 use std::test::Fail;
-use table_dicts::DictKind::{Full, PassFail, SameDiff};
 use table_dicts::{AnswerTable, Dict, apart, full, pass_fail, project};
 
 /// A table with bits that are 1, each given by its pattern, number and position.
@@ -65,91 +63,63 @@ const LONG: Made = Made {
     ones: &[(64, 1, 0), (69, 2, 0)],
 };
 
-fn blank(patterns: u32, numbers: u32, positions: u32) -> Made {
-    Made {
-        patterns,
-        numbers,
-        positions,
-        ones: &[],
-    }
+const NO_PATTERNS: Made = Made {
+    patterns: 0,
+    numbers: 3,
+    positions: 1,
+    ones: &[],
+};
+
+const NO_POSITIONS: Made = Made {
+    positions: 0,
+    patterns: 2,
+    numbers: 3,
+    ones: &[],
+};
+
+const ONE_NUMBER: Made = Made {
+    numbers: 1,
+    ones: &[],
+    patterns: 1,
+    positions: 2,
+};
+
+// A table, its full dictionary, and its pass/fail dictionary.
+const MADE: [(Made, &str, &str); 4] = [
+    (
+        FOUR,
+        "Full 2 2 4: : 0 1 2 3 : 0000 0101 0110 1001 ",
+        "PassFail 2 2 4: 00 00 : 0 1 1 1 : 00 11 11 11 ",
+    ),
+    (
+        NO_PATTERNS,
+        "Full 1 0 3: : 0 0 0 :    ",
+        "PassFail 1 0 3: : 0 0 0 :    ",
+    ),
+    (
+        NO_POSITIONS,
+        "Full 0 2 3: : 0 0 0 :    ",
+        "PassFail 0 2 3:   : 0 0 0 : 00 00 00 ",
+    ),
+    (
+        ONE_NUMBER,
+        "Full 2 1 1: : 0 : 00 ",
+        "PassFail 2 1 1: 00 : 0 : 0 ",
+    ),
+];
+
+fn are_made(alloc: Global, made: &Made, all: &str, fails: &str) -> Result<bool, Fail> {
+    let table = table_of(alloc, made)?;
+    Ok(
+        is_dict(alloc, &full(alloc, &table)?, all)?
+            && is_dict(alloc, &pass_fail(alloc, &table)?, fails)?,
+    )
 }
 
 #[test]
 fn full_and_pass_fail(rt: HostRuntime) -> Result<(), Fail> {
-    let cases = [
-        (
-            FOUR,
-            Wanted {
-                kind: Full,
-                sizes: [2, 2, 4],
-                baselines: "",
-                groups: &[0, 1, 2, 3],
-                entries: "0000 0101 0110 1001 ",
-            },
-            Wanted {
-                kind: PassFail,
-                sizes: [2, 2, 4],
-                baselines: "00 00 ",
-                groups: &[0, 1, 1, 1],
-                entries: "00 11 11 11 ",
-            },
-        ),
-        (
-            blank(0, 3, 1),
-            Wanted {
-                kind: Full,
-                sizes: [1, 0, 3],
-                baselines: "",
-                groups: &[0, 0, 0],
-                entries: "   ",
-            },
-            Wanted {
-                kind: PassFail,
-                sizes: [1, 0, 3],
-                baselines: "",
-                groups: &[0, 0, 0],
-                entries: "   ",
-            },
-        ),
-        (
-            blank(2, 3, 0),
-            Wanted {
-                kind: Full,
-                sizes: [0, 2, 3],
-                baselines: "",
-                groups: &[0, 0, 0],
-                entries: "   ",
-            },
-            Wanted {
-                kind: PassFail,
-                sizes: [0, 2, 3],
-                baselines: "  ",
-                groups: &[0, 0, 0],
-                entries: "00 00 00 ",
-            },
-        ),
-        (
-            blank(1, 1, 2),
-            Wanted {
-                kind: Full,
-                sizes: [2, 1, 1],
-                baselines: "",
-                groups: &[0],
-                entries: "00 ",
-            },
-            Wanted {
-                kind: PassFail,
-                sizes: [2, 1, 1],
-                baselines: "00 ",
-                groups: &[0],
-                entries: "0 ",
-            },
-        ),
-    ];
-    for (made, all, fails) in cases {
-        let table = table_of(rt.alloc(), &made)?;
-        check_dict(&rt, rt.alloc(), &full(rt.alloc(), &table)?, all)?;
-        check_dict(&rt, rt.alloc(), &pass_fail(rt.alloc(), &table)?, fails)?;
+    for (at, (made, all, fails)) in MADE.iter().enumerate() {
+        assert!(rt; are_made(rt.alloc(), made, *all, *fails)?, "case {at}");
     }
     Ok(())
 }
@@ -157,14 +127,10 @@ fn full_and_pass_fail(rt: HostRuntime) -> Result<(), Fail> {
 #[test]
 fn long_entries(rt: HostRuntime) -> Result<(), Fail> {
     let table = table_of(rt.alloc(), &LONG)?;
-    assert_eq!(rt;
-        full(rt.alloc(), &table)?.groups.as_slice(),
-        [0, 1, 2].as_slice()
-    );
-    assert_eq!(rt;
-        pass_fail(rt.alloc(), &table)?.groups.as_slice(),
-        [0, 1, 2].as_slice()
-    );
+    let (all, fails) = (full(rt.alloc(), &table)?, pass_fail(rt.alloc(), &table)?);
+    for dict in [&all, &fails] {
+        assert_eq!(rt; dict.groups.as_slice(), [0, 1, 2].as_slice());
+    }
     Ok(())
 }
 
@@ -203,40 +169,22 @@ fn projected(alloc: Global, table: &AnswerTable, baselines: &[&str]) -> Result<D
     Ok(dict)
 }
 
-// Four numbers at these baselines, and how many of the six pairs are apart.
-fn check_four(
-    rt: &impl Abort,
-    alloc: Global,
-    baselines: &[&str],
-    wanted: Wanted,
-    pairs: u64,
-) -> Result<(), Fail> {
+// Whether the four numbers have this dictionary at these baselines, and so many of the six pairs are apart.
+fn is_four(alloc: Global, baselines: &[&str], wanted: &str, pairs: u64) -> Result<bool, Fail> {
     let table = table_of(alloc, &FOUR)?;
     if table.numbers() != 4 {
         return Err(Fail::new("there aren't four numbers"));
     }
     let dict = projected(alloc, &table, baselines)?;
     let classes = four_classes(alloc)?;
-    assert_eq!(rt; apart(alloc, &dict, &classes)?, pairs);
-    check_dict(rt, alloc, &dict, wanted)
+    Ok(apart(alloc, &dict, &classes)? == pairs && is_dict(alloc, &dict, wanted)?)
 }
 
 #[test]
 fn same_different(rt: HostRuntime) -> Result<(), Fail> {
-    let chosen = Wanted {
-        kind: SameDiff,
-        sizes: [2, 2, 4],
-        baselines: "01 01 ",
-        groups: &[0, 1, 2, 3],
-        entries: "11 00 01 10 ",
-    };
-    let free = Wanted {
-        kind: SameDiff,
-        sizes: [2, 2, 4],
-        baselines: "00 00 ",
-        groups: &[0, 1, 1, 1],
-        entries: "00 11 11 11 ",
-    };
-    check_four(&rt, rt.alloc(), &["01", "01"], chosen, 6)?;
-    check_four(&rt, rt.alloc(), &["00", "00"], free, 3)
+    let chosen = "SameDiff 2 2 4: 01 01 : 0 1 2 3 : 11 00 01 10 ";
+    assert!(rt; is_four(rt.alloc(), &["01", "01"], chosen, 6)?);
+    let free = "SameDiff 2 2 4: 00 00 : 0 1 1 1 : 00 11 11 11 ";
+    assert!(rt; is_four(rt.alloc(), &["00", "00"], free, 3)?);
+    Ok(())
 }

@@ -19,10 +19,9 @@ pub struct Block {
 
 impl Model for Block {
     ghost use Rattle.word_sim.specs.Block as spec;
+    ghost use Rattle.word_sim.specs.BlockFields.{block_of, IsSound};
 
     ghost Value = { spec.Block };
-
-    ghost use Rattle.word_sim.specs.BlockFields.{block_of, IsSound};
 
     ghost view = { block_of };
 

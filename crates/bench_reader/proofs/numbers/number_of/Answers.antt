@@ -24,13 +24,11 @@ returns-in-Some-clause-number c =
 
 pub returns-clause-names : goal.returns-clause-names
 returns-clause-names c =
-    let names = texts_in c.args.names.now in
-    let name = c.args.name.now in
-    let new : is_one_of names name ≡ false = is_unknown (is_one_of names name) (position_or_len (bytes_eq name) names) (c.in_default.ensures.index ∙ number_is name c.args.names.now.keys) in
-    let key : c.in_ok-name.name.items ≡ name = search rules in
-    let same : with_name names name ≡ names ++ name ∷ [] = rw new refl in
-    let unknown : is_one_of names c.in_ok-name.name.items ≡ false = rw key new in
-    ap (map text_of) c.in_ok-insert.ensures.keys ∙ added c.args.names.now.keys c.in_ok-name.name unknown ∙ ap (λ t. names ++ t ∷ []) key ∙ sym same
+    let new : is_one_of (texts_in c.args.names.now) c.args.name.now ≡ false = is_unknown (is_one_of (texts_in c.args.names.now) c.args.name.now) (position_or_len (bytes_eq c.args.name.now) (texts_in c.args.names.now)) (c.in_default.ensures.index ∙ number_is c.args.name.now c.args.names.now.keys) in
+    let key : c.in_ok-name.name.items ≡ c.args.name.now = search rules in
+    let same : with_name (texts_in c.args.names.now) c.args.name.now ≡ texts_in c.args.names.now ++ c.args.name.now ∷ [] = rw new refl in
+    let unknown : is_one_of (texts_in c.args.names.now) c.in_ok-name.name.items ≡ false = rw key new in
+    ap (map text_of) c.in_ok-insert.ensures.keys ∙ added c.args.names.now.keys c.in_ok-name.name unknown ∙ ap (λ t. texts_in c.args.names.now ++ t ∷ []) key ∙ sym same
 
 pub returns-clause-number : goal.returns-clause-number
 returns-clause-number c =

@@ -41,12 +41,10 @@ pins-preserved c =
 
 pub pins-smaller : goal.pins-smaller
 pins-smaller c =
-    let text = c.args.bytes.now in
     let s = c.pins.invariant in
-    let mark = c.next_lexeme-mark.result in
-    let after : IsNext text c.pins.pin.end mark = rw c.behind.ensures.byte at c.next_lexeme-mark.ensures in
-    let beyond : IsNext text mark.end c.next_lexeme-pin.result = rw c.behind-in-pins.ensures.byte at c.next_lexeme-pin.ensures in
-    pins_fewer text c.args.head c.requires.head c.pins.pins.items s.byte s.read c.pins.pin s.next s.named mark after c.in-Comma.is c.next_lexeme-pin.result beyond c.in-Name.is
+    let after : IsNext c.args.bytes.now c.pins.pin.end c.next_lexeme-mark.result = rw c.behind.ensures.byte at c.next_lexeme-mark.ensures in
+    let beyond : IsNext c.args.bytes.now c.next_lexeme-mark.result.end c.next_lexeme-pin.result = rw c.behind-in-pins.ensures.byte at c.next_lexeme-pin.ensures in
+    pins_fewer c.args.bytes.now c.args.head c.requires.head c.pins.pins.items s.byte s.read c.pins.pin s.next s.named c.next_lexeme-mark.result after c.in-Comma.is c.next_lexeme-pin.result beyond c.in-Name.is
 
 pub returns-in_default-kind : goal.returns-in_default-kind
 returns-in_default-kind c =

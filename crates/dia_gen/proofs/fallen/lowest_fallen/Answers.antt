@@ -6,9 +6,9 @@ use Rattle.dia_gen.proofs.fallen.lowest_fallen.Goals as goal
 
 pub loop-class-preserved : goal.loop-class-preserved
 loop-class-preserved c =
-    let t = c.args.classes.now in
     let class = c.loop-class.class in
     let so_far = c.loop-class.invariant in
+    let t = c.args.classes.now in
     let now = c.up_to_second-lowest.ensures in
     record {
       within = omega (arith, so_far.within, now.within);

@@ -2,11 +2,11 @@ use Rattle.std.proofs.Common.{◌≡◌, ◌∙◌, [], ◌∷◌, ◌++◌, len
 use Rattle.std.proofs.lemmas.Result.{err_from_is_err_and}
 use Rattle.result_file.specs.Spelling.{Text, text_of}
 use Rattle.result_file.specs.declared.record.Record.TheVariants.{End}
+use Rattle.result_file.proofs.SoundLemmas.{sound_circuit}
 use Rattle.result_file.proofs.Truth.{AreSound}
 use Rattle.kept_vectors.proofs.KeepLemmas.{table_numbers}
 use Rattle.dia_gen.specs.Marked.{AreMarkedBelow}
 use Rattle.dia_gen.specs.Made.{IsMade}
-use Rattle.dia_gen.proofs.DraftResult.{sound_circuit}
 use Rattle.dia_gen.proofs.EndLemmas.{lines_then, lines, classes, members, classes_broken, members_broken, end_broken, summary_with, whole_made}
 use Rattle.dia_gen.proofs.Written.{made_closed}
 use Rattle.dia_gen.proofs.output.write_end.Given as given
@@ -52,12 +52,12 @@ sound : (g : given.Over) (c : After-count_marks-marked g) → AreSound c.args.se
 sound g c = sound_circuit c.args.setting.now.circuit c.requires.1.0.is.keeper.circuit c.same_root_equal.ensures c.covering_is_equal.ensures c.leaves_are_closed.ensures c.full_tree_is_covered.ensures
 
 made : (g : given.Over) (c : After-count_marks-marked g)
-    → IsMade c.args.setting.now.circuit c.args.setting.now.budgets (summary_with c.args.draft.keeper.kept.table c.count_marks-marked.result) (file g c)
+    → IsMade c.args.setting.now.circuit c.args.setting.now.budgets (summary_with c.args.draft.now.keeper.kept.table c.count_marks-marked.result) (file g c)
 made g c =
     let d = c.requires.1.0 in
-    let t = c.args.draft.keeper.kept.table in
+    let t = c.args.draft.now.keeper.kept.table in
     let numbers : c.numbers-numbers.result ≡ length t.class_of = c.numbers-numbers.ensures.value ∙ sym (table_numbers d.is.keeper.table) in
-    let counted : AreMarkedBelow t c.args.draft.marks (length t.class_of) c.count_marks-marked.result = rw (c.classes-classes.ensures.value, numbers) at c.count_marks-marked.ensures in
+    let counted : AreMarkedBelow t c.args.draft.now.marks (length t.class_of) c.count_marks-marked.result = rw (c.classes-classes.ensures.value, numbers) at c.count_marks-marked.ensures in
     whole_made d c.requires.1.1 (sound g c) c.count_marks-marked.result counted c.named_separates_faults.ensures
 
 pub returns-clause-ok : goal.returns-clause-ok
@@ -65,7 +65,7 @@ returns-clause-ok g c =
     let d = c.requires.1.0 in
     let all = c.requires.1.1 in
     let at = (goal.at.returns-clause-ok g c).After-count_marks-marked in
-    let numbers : c.numbers-numbers.result ≡ length c.args.draft.keeper.kept.table.class_of = c.numbers-numbers.ensures.value ∙ sym (table_numbers d.is.keeper.table) in
+    let numbers : c.numbers-numbers.result ≡ length c.args.draft.now.keeper.kept.table.class_of = c.numbers-numbers.ensures.value ∙ sym (table_numbers d.is.keeper.table) in
     let first = lines_then (lines d all) (classes d all) d.written (rw c.classes-classes.ensures.value at c.in_ok-write_classes.ensures) in
     let second = lines_then (lines d all ++ classes d all) (members d all) first (rw c.classes-classes.ensures.value at c.in_ok-write_members.ensures) in (
       file g at,

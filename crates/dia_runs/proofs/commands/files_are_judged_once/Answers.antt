@@ -4,11 +4,11 @@ use Rattle.dia_runs.proofs.commands.files_are_judged_once.Goals as goal
 pub returns : goal.returns
 returns c =
     let laws : HasLaws = record {
+      results = c.file_is_refused_once.ensures.wrong;
       text = c.never_accepted_and_refused.ensures;
+      walk = c.walk_reaches_itself.ensures;
       one = c.one_netlist.ensures;
       none = c.none_reaches_itself.ensures;
-      walk = c.walk_reaches_itself.ensures;
-      results = c.file_is_refused_once.ensures.wrong;
       dictionaries = c.dictionary_is_read_once.ensures.wrong;
       one_dictionary = c.dictionary_is_read_once.ensures.dictionary;
       logs = c.log_is_read_once.ensures.wrong;

@@ -7,7 +7,7 @@ use Rattle.net_model.proofs.Orders.{range_with_len_more}
 use Rattle.net_model.specs.declared.fault.Fault.{Fault}
 use Rattle.net_model.specs.declared.fault.Fault.TheVariants.{Free}
 use Rattle.net_model.specs.FaultList.{fault_numbered}
-use Rattle.dia_runs.specs.Texts.{fault_line}
+use Rattle.dia_runs.specs.Faults.{fault_line}
 use Rattle.dia_runs.proofs.listing.push_faults.Goals as goal
 
 pub loop-number-preserved : goal.loop-number-preserved

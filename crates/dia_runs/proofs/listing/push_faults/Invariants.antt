@@ -1,6 +1,6 @@
 use Rattle.std.proofs.Common.{◌≡◌, ◌++◌}
 use Rattle.std.specs.List.{flat_map, range_with_len}
-use Rattle.dia_runs.specs.Texts.{fault_line}
+use Rattle.dia_runs.specs.Faults.{fault_line}
 use Rattle.dia_runs.proofs.listing.push_faults.Given as goal
 
 abbrev pub invariant-loop-number : goal.invariant-loop-number

@@ -10,12 +10,12 @@ use Rattle.dia_runs.proofs.MostApart.{most_apart}
 use Rattle.dia_runs.proofs.makes_dicts.chosen_of.Goals as goal
 
 pub returns-clause-dictionary : goal.returns-clause-dictionary
-returns-clause-dictionary c = kind_made c.same_diff_at.result refl c.requires.table c.same_diff_at.ensures
+returns-clause-dictionary c = kind_made c.same_diff_at.result refl c.requires.classes c.same_diff_at.ensures
 
 pub returns-clause-most : goal.returns-clause-most
 returns-clause-most c =
-    let circuit = c.args.circuit.now in
-    let patterns = c.args.patterns.now in
-    let classes = c.args.classes.now in
+    let circuit = c.args.setting.now.circuit.now in
+    let patterns = c.args.setting.now.patterns.now in
+    let classes = c.args.setting.now.classes.now in
     IfOk-weaker c.same_diff_at.result (λ (d : Dict). (t : Answers) → AreAnswers circuit patterns t → IsSameDiff t (chosen_baselines classes t.rows) d) (KeepsMostApart circuit patterns classes)
-    (λ d made. most_apart c.requires.table c.count-count.ensures.whole c.keeps_as_many.ensures c.no_row_is_better.ensures made) c.same_diff_at.ensures
+    (λ d made. most_apart c.requires.classes c.count-count.ensures.whole c.keeps_as_many.ensures c.no_row_is_better.ensures made) c.same_diff_at.ensures

@@ -1,4 +1,4 @@
-use Rattle.std.proofs.Common.{arith, ◌∙◌, ◌+◌, length}
+use Rattle.std.proofs.Common.{arith, ◌+◌, length}
 use Rattle.std.specs.Prelude.{min, slice_range}
 use Rattle.dia_runs.proofs.Runs.{ends_silent}
 use Rattle.sim_listing.proofs.TextLemmas.{one_text}

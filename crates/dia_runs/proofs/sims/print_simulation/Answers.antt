@@ -1,5 +1,5 @@
-use Rattle.std.proofs.Common.{◌≡◌, ◌≢◌, ◌∙◌, ◌+◌, ◌≤◌, ℕ, List, Bool, length, refl, sym, ap, subst, arith}
-use Rattle.std.specs.Prelude.{min, slice_range}
+use Rattle.std.proofs.Common.{◌≡◌, ◌+◌, ℕ, length, subst, arith}
+use Rattle.std.specs.Prelude.{min}
 use Rattle.dia_runs.proofs.Runs.{ends_silent}
 use Rattle.dia_runs.proofs.SimLemmas.{ArePrinted, none_printed, more_printed, all_printed, broken_off}
 use Rattle.sim_listing.proofs.TextLemmas.{one_text}

@@ -10,10 +10,8 @@ pub returns : goal.returns
 returns c =
     let one = get_or c.args.rows.now c.args.row [] in
     let other = get_or c.args.others.now c.args.other [] in
-    let a = c.row_words.result.now in
-    let b = c.row_words-2.result.now in
-    let test = slice_eq-Decides Decides-eqb a b c.eq.result c.eq.ensures in
+    let test = slice_eq-Decides Decides-eqb c.row_words.result.now c.row_words-2.result.now c.eq.result c.eq.ensures in
     by_same one other c.eq.result (
-      λ t. let e : a ≡ b = test.0 t in unpacked_once one other b (subst (IsPacked one) e c.row_words.ensures.packed) c.row_words-2.ensures.packed c.requires.wide,
-      λ e. test.1 (packed_once other a b (subst (λ r. IsPacked r a) {x = one} {y = other} e c.row_words.ensures.packed) c.row_words-2.ensures.packed),
+      λ t. let e : c.row_words.result.now ≡ c.row_words-2.result.now = test.0 t in unpacked_once one other c.row_words-2.result.now (subst (IsPacked one) e c.row_words.ensures.packed) c.row_words-2.ensures.packed c.requires.wide,
+      λ e. test.1 (packed_once other c.row_words.result.now c.row_words-2.result.now (subst (λ r. IsPacked r c.row_words.result.now) {x = one} {y = other} e c.row_words.ensures.packed) c.row_words-2.ensures.packed),
     )

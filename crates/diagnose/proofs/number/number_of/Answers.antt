@@ -1,6 +1,6 @@
 use Rattle.std.proofs.Common.{subst}
 use Rattle.std.specs.Str.{IsUtf8}
-use Rattle.diagnose.proofs.NumberLemmas.{number_is_text}
+use Rattle.result_file.proofs.NumberLemmas.{number_is_text}
 use Rattle.diagnose.proofs.number.number_of.Goals as goal
 
 pub returns-in_default : goal.returns-in_default

@@ -4,6 +4,12 @@ use Rattle.dict_file.specs.Spelling.{version_number}
 use Rattle.dict_file.specs.Reading as reading
 use Rattle.dict_file.proofs.reading.decode.Goals as goal
 
+pub decode_one-requires : goal.decode_one-requires
+decode_one-requires c = record { is = c.in_ok-head.ensures.head; version_is = c.in-One.is; short = omega arith }
+
+pub decode_two-requires : goal.decode_two-requires
+decode_two-requires c = record { is = c.in_ok-head.ensures.head; version_is = c.in-Two.is; short = omega arith }
+
 pub returns-in_err-head-clause-refused : goal.returns-in_err-head-clause-refused
 returns-in_err-head-clause-refused c =
     let p = err_from_is_err_and c.from_residual.result c.from_residual.ensures.1 in

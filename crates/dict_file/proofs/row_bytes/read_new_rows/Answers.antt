@@ -4,7 +4,7 @@ use Rattle.table_dicts.specs.Grouped.{AreDifferent, IsFirstRepeat}
 use Rattle.dict_file.specs.Parts.{each}
 use Rattle.dict_file.specs.Reading.{new_row_part}
 use Rattle.dict_file.proofs.FieldLemmas.{length-rows_of}
-use Rattle.dict_file.proofs.PlaceLemmas.{start_below, new_rows_found, new_rows_refused, repeat_refused}
+use Rattle.dict_file.proofs.PlaceLemmas.{start_below, new_rows_found, new_rows_refused, repeat_refused, all_read}
 use Rattle.dict_file.proofs.row_bytes.read_new_rows.Goals as goal
 
 pub refuse_repeat-requires-clause-few : goal.refuse_repeat-requires-clause-few
@@ -31,7 +31,7 @@ returns-then-right-rows-clause-refused c =
     let different = subst AreDifferent c.in_ok-read.ensures c.in_ok-refuse_repeat.ensures.different in
     λ _. new_rows_refused c.fault.result c.right-right.ensures c.if-right-rows.true different c.fault.ensures
 
-pub returns-clause-right : goal.returns-clause-right
-returns-clause-right c =
+pub returns-clause-read : goal.returns-clause-read
+returns-clause-read c =
     let different = subst AreDifferent c.in_ok-read.ensures c.in_ok-refuse_repeat.ensures.different in
-    new_rows_found c.right-right.ensures c.if-right-rows.false different
+    all_read _ c.right-right.ensures c.if-right-rows.false (new_rows_found c.right-right.ensures c.if-right-rows.false different) c.in_ok-read.ensures c.start-end.ensures

@@ -7,7 +7,7 @@ use Rattle.distinguish_search.specs.Found.{IsFound}
 use Rattle.distinguish_search.specs.Frames.{cube_of, IsClimbed}
 use Rattle.distinguish_search.proofs.SearchSteps.{more_then, more_else, once_here, cube_found, leaf_here, tree_found, goes_on}
 use Rattle.distinguish_search.proofs.depth_first.run.Goals as goal
-use Rattle.distinguish_search.proofs.depth_first.run.Goals.{then-not-full, else-not-full}
+use Rattle.distinguish_search.proofs.depth_first.run.Goals.{After-climb, then-not-full, else-not-full}
 
 pub cube-requires : goal.cube-requires
 cube-requires c =
@@ -32,19 +32,21 @@ climb-requires-clause-tree c =
     leaf_here c.args.sim.now.circuit c.args.f.now c.args.g.now c.args.leaves loop.closed loop.sim loop.stack loop.invariant new c.descend.new.stack c.in_ok-descend.ensures.under_way full
     c.in_ok-tree.tree (subst (IsEnd loop.sim.circuit loop.sim.f loop.sim.g new.cube full) c.in-Leaf.is c.in_ok-descend.ensures.ends) c.in_ok-tree.ensures
 
+-- a leaf more is closed, if there was one left
+closed_now : (c : After-climb) → c.if-not-full.closed ≡ (if c.loop-stack.closed == c.args.leaves then c.loop-stack.closed else c.loop-stack.closed + 1)
+closed_now c = elim c.if-not-full.branch [
+  | then-not-full w ↦ more_then c.loop-stack.closed c.args.leaves c.if-not-full.closed w.if-not-full.true w.closed-is
+  | else-not-full w ↦ more_else c.loop-stack.closed c.args.leaves c.if-not-full.closed w.if-not-full.false w.closed-is
+]
+
 pub returns-in-Some-clause-found : goal.returns-in-Some-clause-found
 returns-in-Some-clause-found c =
     let loop = c.loop-stack in
     let new = c.descend.new.sim in
     let stack = c.descend.new.stack in
-    let more : c.if-not-full.closed ≡ (if loop.closed == c.args.leaves then loop.closed else loop.closed + 1) =
-    elim c.if-not-full.branch [
-      | then-not-full w ↦ more_then loop.closed c.args.leaves c.if-not-full.closed w.if-not-full.true w.closed-is
-      | else-not-full w ↦ more_else loop.closed c.args.leaves c.if-not-full.closed w.if-not-full.false w.closed-is
-    ] in
     subst (IsFound c.args.sim.now.circuit c.args.f.now c.args.g.now c.args.leaves) (sym c.finished.ensures)
     (tree_found c.args.sim.now.circuit c.args.f.now c.args.g.now c.args.leaves loop.closed loop.sim loop.stack loop.invariant new stack c.in_ok-descend.ensures.under_way c.in_ok-descend.ensures.splits
-    c.if-not-full.closed more c.in_ok-tree.tree c.in_ok-tree.ensures c.climb.new.sim c.climb.new.stack c.in-Some.tree
+    c.if-not-full.closed (closed_now (goal.at.returns-in-Some-clause-found c).After-climb) c.in_ok-tree.tree c.in_ok-tree.ensures c.climb.new.sim c.climb.new.stack c.in-Some.tree
     (subst (IsClimbed new.circuit new.f new.g c.in_ok-tree.tree stack c.climb.new.sim c.climb.new.stack) c.in-Some.is c.in_ok-tree-2.ensures.climbed))
 
 pub loop-stack-preserved : goal.loop-stack-preserved
@@ -52,11 +54,6 @@ loop-stack-preserved c =
     let loop = c.loop-stack in
     let new = c.descend.new.sim in
     let stack = c.descend.new.stack in
-    let more : c.if-not-full.closed ≡ (if loop.closed == c.args.leaves then loop.closed else loop.closed + 1) =
-    elim c.if-not-full.branch [
-      | then-not-full w ↦ more_then loop.closed c.args.leaves c.if-not-full.closed w.if-not-full.true w.closed-is
-      | else-not-full w ↦ more_else loop.closed c.args.leaves c.if-not-full.closed w.if-not-full.false w.closed-is
-    ] in
     goes_on c.args.sim.now.circuit c.args.f.now c.args.g.now c.args.leaves loop.closed loop.sim loop.stack loop.invariant new stack c.in_ok-descend.ensures.under_way c.in_ok-descend.ensures.splits
-    c.if-not-full.closed more c.in_ok-tree.tree c.in_ok-tree.ensures c.climb.new.sim c.climb.new.stack
+    c.if-not-full.closed (closed_now (goal.at.loop-stack-preserved c).After-climb) c.in_ok-tree.tree c.in_ok-tree.ensures c.climb.new.sim c.climb.new.stack
     (subst (IsClimbed new.circuit new.f new.g c.in_ok-tree.tree stack c.climb.new.sim c.climb.new.stack) c.in-None.is c.in_ok-tree-2.ensures.climbed)

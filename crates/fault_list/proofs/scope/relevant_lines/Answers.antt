@@ -16,12 +16,8 @@ loop-i-init c = relevant_none c.args.circuit.now c.order-order.ensures.circuit c
 
 pub index-requires : goal.index-requires
 index-requires c =
-    omega (
-      arith,
-      c.loop-i.invariant.whole,
-      c.loop-i.marks.ok.0,
-      (order_only c.args.circuit.now (fits_from c.args.circuit.now c.order-order.ensures.circuit) c.order-order.result.now c.order-order.ensures.order (c.loop-i.i - 1) (omega arith)).1,
-    )
+    let gate = order_only c.args.circuit.now (fits_from c.args.circuit.now c.order-order.ensures.circuit) c.order-order.result.now c.order-order.ensures.order (c.loop-i.i - 1) (omega arith) in
+    omega (arith, c.loop-i.invariant.whole, c.loop-i.marks.ok.0, gate.1)
 
 pub gate-requires-clause-from : goal.gate-requires-clause-from
 gate-requires-clause-from c = (order_only c.args.circuit.now (fits_from c.args.circuit.now c.order-order.ensures.circuit) c.order-order.result.now c.order-order.ensures.order (c.loop-i.i - 1) (omega arith)).0

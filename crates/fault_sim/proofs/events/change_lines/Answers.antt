@@ -5,7 +5,8 @@ use Rattle.net_model.specs.Wiring.{Wiring, IsWiring}
 use Rattle.net_model.proofs.Orders.{order_count}
 use Rattle.net_model.proofs.SetSoFar.{fits_from}
 use Rattle.net_model.proofs.Elements.{none_in}
-use Rattle.fault_sim.proofs.SettledLemmas.{settled_start, first_inside}
+use Rattle.net_model.proofs.FirstChanged.{first_inside}
+use Rattle.fault_sim.proofs.SettledLemmas.{settled_start}
 use Rattle.fault_sim.proofs.events.change_lines.Goals as goal
 
 pub returns-in_default-clause-settled : goal.returns-in_default-clause-settled

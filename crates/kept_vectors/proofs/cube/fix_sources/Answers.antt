@@ -1,8 +1,7 @@
-use Rattle.std.proofs.Common.{◌≡◌, ◌∙◌, ◌<◌, Bool, List, length, set, map, sym, ap, arith}
-use Rattle.std.specs.Prelude.{All}
+use Rattle.std.proofs.Common.{◌≡◌, ◌∙◌, ◌<◌, Bool, List, length, set, map, ap, arith}
 use Rattle.std.proofs.lemmas.List.{length-map}
 use Rattle.word_sim.specs.Block.{Block}
-use Rattle.kept_vectors.proofs.CubeLemmas.{IsOfCubeBelow, below_free, below_fixed}
+use Rattle.kept_vectors.proofs.CubeLemmas.{below_free, below_fixed}
 use Rattle.kept_vectors.proofs.cube.fix_sources.Goals as goal
 use Rattle.kept_vectors.proofs.cube.fix_sources.Goals.{in-Some, in_default}
 

@@ -18,12 +18,8 @@ loop-line-init c =
 
 pub index_mut-requires : goal.index_mut-requires
 index_mut-requires c =
-    omega (
-      arith,
-      c.loop-line.invariant.whole,
-      c.loop-line.sets.ok.0,
-      (order_only c.args.circuit.now (fits_from c.args.circuit.now c.order-line-items.ensures.circuit) c.order-line-items.result.now c.order-line-items.ensures.order c.loop-line.line-index c.loop-line-test.true).1,
-    )
+    let gate = order_only c.args.circuit.now (fits_from c.args.circuit.now c.order-line-items.ensures.circuit) c.order-line-items.result.now c.order-line-items.ensures.order c.loop-line.line-index c.loop-line-test.true in
+    omega (arith, c.loop-line.invariant.whole, c.loop-line.sets.ok.0, gate.1)
 
 pub line_pairs-pairs-requires-clause-gate : goal.line_pairs-pairs-requires-clause-gate
 line_pairs-pairs-requires-clause-gate c =

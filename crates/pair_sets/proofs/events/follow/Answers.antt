@@ -6,7 +6,7 @@ use Rattle.event_queue.proofs.Marks.{pending_within}
 use Rattle.pair_sets.specs.PairSet.{free_pairs, IsWithin}
 use Rattle.pair_sets.specs.CubeState.{set_at}
 use Rattle.pair_sets.specs.Events.{IsIdle, AreSettled, AreLoose, gate_line_pairs}
-use Rattle.pair_sets.proofs.EventLemmas.{loose_after, settled_after, ordered_line, none_before, few_places}
+use Rattle.pair_sets.proofs.EventLemmas.{loose_after, settled_after, ordered_line, none_before, waiting_line, few_places}
 use Rattle.pair_sets.proofs.TrailLemmas.{longer_more}
 use Rattle.pair_sets.proofs.events.follow.Goals as goal
 
@@ -15,18 +15,15 @@ bounds-order-place c = omega (arith, pending_within c.loop-place.queue c.in-Some
 
 pub line_pairs-pairs-requires-clause-gate : goal.line_pairs-pairs-requires-clause-gate
 line_pairs-pairs-requires-clause-gate c =
-    let inside = pending_within c.loop-place.queue c.in-Some.place c.in-Some.ensures.cases.was in
-    (ordered_line c.args.pair.now.circuit.now c.args.wiring.now c.requires.wiring c.order-order.result.now c.order-order.ensures c.in-Some.place (omega (arith, inside, c.loop-place.invariant.queue))).0
+    (waiting_line c.args.pair.now.circuit.now c.args.wiring.now c.requires.wiring c.order-order.result.now c.order-order.ensures c.loop-place.queue c.loop-place.invariant.queue c.in-Some.place c.in-Some.ensures.cases.was).0
 
 pub line_pairs-pairs-requires-clause-line : goal.line_pairs-pairs-requires-clause-line
 line_pairs-pairs-requires-clause-line c =
-    let inside = pending_within c.loop-place.queue c.in-Some.place c.in-Some.ensures.cases.was in
-    (ordered_line c.args.pair.now.circuit.now c.args.wiring.now c.requires.wiring c.order-order.result.now c.order-order.ensures c.in-Some.place (omega (arith, inside, c.loop-place.invariant.queue))).1
+    (waiting_line c.args.pair.now.circuit.now c.args.wiring.now c.requires.wiring c.order-order.result.now c.order-order.ensures c.loop-place.queue c.loop-place.invariant.queue c.in-Some.place c.in-Some.ensures.cases.was).1
 
 pub settle-requires-clause-line : goal.settle-requires-clause-line
 settle-requires-clause-line c =
-    let inside = pending_within c.loop-place.queue c.in-Some.place c.in-Some.ensures.cases.was in
-    (ordered_line c.args.pair.now.circuit.now c.args.wiring.now c.requires.wiring c.order-order.result.now c.order-order.ensures c.in-Some.place (omega (arith, inside, c.loop-place.invariant.queue))).1
+    (waiting_line c.args.pair.now.circuit.now c.args.wiring.now c.requires.wiring c.order-order.result.now c.order-order.ensures c.loop-place.queue c.loop-place.invariant.queue c.in-Some.place c.in-Some.ensures.cases.was).1
 
 pub settle-requires-clause-fewer : goal.settle-requires-clause-fewer
 settle-requires-clause-fewer c =
@@ -36,8 +33,7 @@ settle-requires-clause-fewer c =
     let sets = c.loop-place.trail.sets.items in
     let order = c.order-order.result.now in
     let line = get_or order c.in-Some.place 0 in
-    let inside = pending_within c.loop-place.queue c.in-Some.place c.in-Some.ensures.cases.was in
-    let at = ordered_line circuit c.args.wiring.now c.requires.wiring order c.order-order.ensures c.in-Some.place (omega (arith, inside, c.loop-place.invariant.queue)) in
+    let at = waiting_line circuit c.args.wiring.now c.requires.wiring order c.order-order.ensures c.loop-place.queue c.loop-place.invariant.queue c.in-Some.place c.in-Some.ensures.cases.was in
     let pairs : c.line_pairs-pairs.result ≡ gate_line_pairs circuit f g sets line = c.line_pairs-pairs.ensures [] ∙ ap (λ s. gate_line_pairs circuit f g s line) c.as_slice.ensures.value in
     subst (λ s. IsWithin s (set_at sets line)) (sym pairs) (c.loop-place.invariant.loose line at.0 at.1)
 
@@ -47,10 +43,10 @@ overflow_add-from c =
 
 pub loop-place-preserved : goal.loop-place-preserved
 loop-place-preserved c =
+    let wiring = c.args.wiring.now in
     let circuit = c.args.pair.now.circuit.now in
     let f = c.args.pair.now.f in
     let g = c.args.pair.now.g in
-    let wiring = c.args.wiring.now in
     let order = wiring.order in
     let place = c.in-Some.place in
     let line = get_or c.order-order.result.now place 0 in

@@ -3,8 +3,8 @@ use Rattle.std.specs.Prelude.{Option, None, Some, ◌==◌, ◌||◌}
 use Rattle.std.specs.Option.{option_map_or}
 use Rattle.std.proofs.lemmas.Bool.{eq-eqb}
 use Rattle.net_model.specs.Scope.{first_changed}
+use Rattle.net_model.proofs.FirstChanged.{first_inside}
 use Rattle.pair_sets.specs.Spread.{IsSpread}
-use Rattle.pair_sets.proofs.SpreadLemmas.{first_inside}
 use Rattle.pair_sets.proofs.spread.begin.Goals as goal
 
 pub returns-in_default-clause-spread : goal.returns-in_default-clause-spread

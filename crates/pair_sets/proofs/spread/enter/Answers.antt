@@ -6,7 +6,7 @@ use Rattle.pair_sets.proofs.SpreadLemmas.{spread_more}
 use Rattle.pair_sets.proofs.spread.enter.Goals as goal
 
 pub wake-requires : goal.wake-requires
-wake-requires c = λ k d h. omega (arith, readers_within c.args.pair.now.circuit.now c.args.wiring.now c.requires.wiring c.args.line c.readers.result.now c.readers.ensures k d h, c.requires.queue)
+wake-requires c = λ k d h. omega (arith, readers_within c.args.pair.now.circuit.now c.args.wiring.now c.requires.wiring c.args.line c.readers.result.now c.readers.ensures k d h, c.requires.width.queue)
 
 pub returns-clause-woken : goal.returns-clause-woken
 returns-clause-woken c =
@@ -22,6 +22,6 @@ returns-clause-spread c = λ but was.
     let marks = c.args.cone.now in
     let pairs : c.free_line_pairs-pairs.result ≡ line_pairs circuit f g [] sets line = c.free_line_pairs-pairs.ensures ∙ ap (λ xs. line_pairs circuit f g [] xs line) c.as_slice.ensures.value in
     let more = spread_more circuit c.requires.wiring.circuit f g c.args.wiring.now c.requires.wiring c.args.queue.now marks sets line but was c.wake.new.self
-    (omega (arith, c.requires.sets, c.requires.line)) (omega (arith, c.requires.cone, c.requires.line)) c.requires.split (returns-clause-woken c) in
+    (omega (arith, c.requires.width.sets, c.requires.line)) (omega (arith, c.requires.width.marks, c.requires.line)) c.requires.split (returns-clause-woken c) in
     subst (λ ms. IsSpread circuit f g c.args.wiring.now.order but c.wake.new.self ms (set sets line c.free_line_pairs-pairs.result)) (sym c.mark.ensures)
     (subst (λ s. IsSpread circuit f g c.args.wiring.now.order but c.wake.new.self (set marks line true) (set sets line s)) (sym pairs) more)

@@ -1,7 +1,6 @@
 use Rattle.std.proofs.Common.{◌≡◌, ◌∙◌, length, inl, inr, sym, ap, arith}
 use Rattle.std.proofs.lemmas.Bool.{eqb-true, eqb-false}
-use Rattle.result_file.proofs.OnceLemmas.{first_byte, no_empty_number, no_signed_number, no_padded_number}
-use Rattle.result_file.proofs.AnswerLemmas.{number_read}
+use Rattle.result_file.proofs.NumberLemmas.{first_byte, no_empty_number, no_signed_number, no_padded_number, number_read}
 use Rattle.result_file.proofs.words.number_of.Goals.{then-is_empty-via-then-is_empty, then-is_empty-via-else-is_empty+then-bytes-eq43}
 use Rattle.result_file.proofs.words.number_of.Goals as goal
 

@@ -1,5 +1,5 @@
 use Rattle.std.proofs.Common.{◌≡◌, ◌∙◌, sym, arith}
-use Rattle.result_file.proofs.OnceLemmas.{number_once}
+use Rattle.result_file.proofs.NumberLemmas.{number_once}
 use Rattle.result_file.proofs.words.variable_of.Goals.{then-variable-eq0-via-then-variable-eq0, then-variable-eq0-via-else-variable-eq0+then-variable}
 use Rattle.result_file.proofs.words.variable_of.Goals as goal
 

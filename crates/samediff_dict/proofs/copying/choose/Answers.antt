@@ -10,7 +10,7 @@ use Rattle.samediff_dict.proofs.copying.choose.Goals as goal
 use Rattle.samediff_dict.proofs.copying.choose.Goals.{After-as_slice}
 
 leads_are : (c : After-as_slice) → c.as_slice.result.now ≡ map (representative c.args.classes.now) (range_with_len 0 (class_count c.args.classes.now))
-leads_are c = c.as_slice.ensures.value ∙ c.in_ok-leads.ensures
+leads_are c = c.as_slice.ensures.value ∙ c.in_ok-leads.ensures.lowest
 
 pub add_candidates-requires-clause-known : goal.add_candidates-requires-clause-known
 add_candidates-requires-clause-known c =

@@ -26,17 +26,23 @@ chosen_has g c = subst (λ (xs : List ℕ). HasBaselines c.args.setting.now.clas
 bases_are : (g : given.Over) (c : After-count g) → c.in_ok-baselines.baselines ≡ baselines_at c.args.setting.now.classes.now g.t.rows c.as_slice-2.result.now
 bases_are g c = c.in_ok-baselines.ensures.rows ∙ ap (baselines_at c.args.setting.now.classes.now g.t.rows) (c.as_slice.ensures.value ∙ sym c.as_slice-2.ensures.value)
 
+pub baselines-requires : goal.baselines-requires
+baselines-requires g c =
+    let classes = c.args.setting.now.classes.now in
+    let has = subst (λ (xs : List ℕ). HasBaselines classes g.t.rows xs (chosen_baselines classes g.t.rows)) (sym c.as_slice.ensures.value) c.in_ok-chosen.ensures in
+    record { setting = c.requires.0; answers = c.requires.1.0; numbered = c.requires.1.1; one_each = has.one_each; chosen_are = has.chosen_are }
+
 pub class_entries-requires : goal.class_entries-requires
 class_entries-requires g c =
     let has = chosen_has g (goal.at.class_entries-requires g c).After-count in
     subst (λ n. HaveClasses n c.args.patterns.now c.as_slice-2.result.now) (sym c.count.ensures.value) (have_classes c.args.setting.now.classes.now g.t.rows c.args.patterns.now c.as_slice-2.result.now c.requires.1.1 has.one_each has.chosen_are)
 
 pub dict_of_classes-requires-clause-numbers : goal.dict_of_classes-requires-clause-numbers
-dict_of_classes-requires-clause-numbers g c = c.len-numbers.ensures.value ∙ (ap length c.requires.0.faults ∙ sym (table_numbers c.requires.0.classes))
+dict_of_classes-requires-clause-numbers g c = c.len-numbers.ensures.value ∙ (ap length c.requires.0.answerable.faults_are ∙ sym (table_numbers c.requires.0.classes))
 
 pub dict_of_classes-requires-clause-few : goal.dict_of_classes-requires-clause-few
 dict_of_classes-requires-clause-few g c =
-    omega (arith, c.in_ok-baselines.ensures.shape.count_is, patterns_are c.args.setting.now.circuit.now c.args.setting.now.patterns.now g.t c.requires.1.0, c.requires.0.few)
+    omega (arith, c.in_ok-baselines.ensures.shape.count_is, patterns_are c.args.setting.now.circuit.now c.args.setting.now.patterns.now g.t c.requires.1.0, c.requires.0.answerable.few)
 
 pub returns : goal.returns
 returns g c =
@@ -50,14 +56,14 @@ returns g c =
     let baselines = c.in_ok-baselines.baselines in
     let same = bases_are g at in
     let shape = subst (λ (bs : List (List Bool)). AreRows (length g.t.rows) g.t.positions bs) same c.in_ok-baselines.ensures.shape in
-    let alike = answer_alike circuit c.requires.0.circuit c.args.setting.now.patterns.now k c.requires.0.classes g.t c.requires.1.0 in
+    let alike = answer_alike circuit c.positions.ensures.circuit c.args.setting.now.patterns.now k c.requires.0.classes g.t c.requires.1.0 in
     let listed : c.in_ok-entries.entries ≡ map (class_entry patterns chosen) (range_with_len 0 (class_count k)) = c.in_ok-entries.ensures.entries ∙ ap (λ n. map (class_entry patterns chosen) (range_with_len 0 n)) c.count.ensures.value in
     let entries : AreEntriesOfClasses k c.in_ok-entries.entries (same_diff_entry g.t.rows baselines) =
     subst (λ (bs : List (List Bool)). AreEntriesOfClasses k c.in_ok-entries.entries (same_diff_entry g.t.rows bs)) (sym same)
     (subst (λ (es : List (List Bool)). AreEntriesOfClasses k es (same_diff_entry g.t.rows bases)) (sym listed) (entries_are k g.t patterns chosen c.requires.1.1 has.one_each has.chosen_are shape c.count.ensures.whole alike)) in
     let sizes : HasSizes g.t (length baselines) c.len-numbers.result (length c.positions.result.now) = record {
       patterns_are = sym c.in_ok-baselines.ensures.shape.count_is;
-      numbers_are = c.requires.1.0.numbers ∙ (ap length (sym c.requires.0.faults) ∙ sym c.len-numbers.ensures.value);
+      numbers_are = c.requires.1.0.numbers ∙ (ap length (sym c.requires.0.answerable.faults_are) ∙ sym c.len-numbers.ensures.value);
       positions_are = c.requires.1.0.positions ∙ ap length (sym c.positions.ensures.value);
     } in
     IfOk-weaker c.dict_of_classes.result

@@ -16,9 +16,8 @@ loop-place-preserved c =
     let numbers = c.args.numbers.now in
     let others = c.args.others.now in
     let place = c.loop-place.place in
-    let number = get_or numbers place 0 in
-    let none = ¬ Contains others number in
-    let some : ℕ → Type 0 = λ other. (other < length others) × (get_or others other 0 ≡ number) in
+    let none = ¬ Contains others (get_or numbers place 0) in
+    let some : ℕ → Type 0 = λ other. (other < length others) × (get_or others other 0 ≡ get_or numbers place 0) in
     elim c.match-place_in.branch [
       | in-Some+in_ok-push+in_ok-push-2 w ↦
           let found = MatchOption-at_some none some w.in-Some.other w.in-Some.is c.place_in.ensures in

@@ -5,18 +5,18 @@ use Rattle.scan_cut.proofs.FitLemmas.{names_fit}
 use Rattle.scan_cut.proofs.cutting.cut.Goals as goal
 
 pub build-requires : goal.build-requires
-build-requires c = let a = c.in_ok-sources.ensures in rw (a.sources, a.gates, a.positions) a.fits
+build-requires c = let a = c.in_ok-gates.ensures in rw (a.sources, a.gates, a.positions) a.fits
 
 pub returns-in-Ok-clause-ok : goal.returns-in-Ok-clause-ok
 unfolding cut_design
 returns-in-Ok-clause-ok c =
-    let a = c.in_ok-sources.ensures in
+    let a = c.in_ok-gates.ensures in
     let circuit : c.in-Ok.circuit ≡ cut_circuit c.args.statements.now = rw (a.sources, a.gates, a.positions) at c.in-Ok.ensures.ok in
     rw (circuit, a.names) refl
 
 pub loop_of-requires-clause-walk : goal.loop_of-requires-clause-walk
 loop_of-requires-clause-walk c =
-    let a = c.in_ok-sources.ensures in
+    let a = c.in_ok-gates.ensures in
     let walk : IsLoopWalk (cut_circuit c.args.statements.now) c.in-Err-Loop.walk =
     rw (a.sources, a.gates, a.positions) at (c.in-Err-Loop.ensures.looped c.in-Err-Loop.walk (ap (λ e. Err e) c.in-Err-Loop.field-0-is)) in
     let same : c.as_slice-walk.result.now ≡ c.in-Err-Loop.walk = c.as_slice-walk.ensures ∙ c.in-Err-Loop.walk-is in
@@ -25,6 +25,6 @@ loop_of-requires-clause-walk c =
 pub returns-in-Ok-clause-named : goal.returns-in-Ok-clause-named
 unfolding cut_design
 returns-in-Ok-clause-named c =
-    let a = c.in_ok-sources.ensures in
+    let a = c.in_ok-gates.ensures in
     let circuit : c.in-Ok.circuit ≡ cut_circuit c.args.statements.now = rw (a.sources, a.gates, a.positions) at c.in-Ok.ensures.ok in
     rw (circuit, a.names) (names_fit c.args.statements.now)

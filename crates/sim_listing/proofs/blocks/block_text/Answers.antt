@@ -1,22 +1,22 @@
 use Rattle.std.proofs.Common.{◌≡◌, ◌∙◌, ◌+◌, List, Bool, length, sym, ap, subst, arith, All}
 use Rattle.std.specs.Prelude.{slice_range, min}
+use Rattle.std.proofs.lemmas.Slice.Zip.{AllZip-long}
 use Rattle.net_model.specs.PatternRows.{IsAnswerRow, AreAnswerRows}
 use Rattle.table_dicts.proofs.BlockLemmas.{block_length}
-use Rattle.sim_listing.proofs.TextLemmas.{zip_length}
 use Rattle.sim_listing.proofs.RangeLemmas.{some_number, block_wide}
 use Rattle.sim_listing.proofs.blocks.block_text.Goals as goal
 use Rattle.word_sim.specs.declared.lanes.TheConstants.{LANES}
 
-pub answers_at-requires-clause-widths : goal.answers_at-requires-clause-widths
-answers_at-requires-clause-widths c =
+pub answers_at-requires : goal.answers_at-requires
+answers_at-requires c =
     let sources = c.args.circuit.now.sources in
-    subst (All (λ v. length v ≡ sources)) (sym c.in_ok-block.ensures) (block_wide sources c.args.vectors.now c.args.first (c.args.first + c.min.result) c.requires.widths)
-
-pub answers_at-requires-clause-few : goal.answers_at-requires-clause-few
-answers_at-requires-clause-few c =
     let end = c.args.first + c.min.result in
     let long = block_length c.args.vectors.now c.args.first end (omega arith) (omega (arith, c.min.ensures, c.requires.first)) in
-    omega (arith, ap length c.in_ok-block.ensures, long, c.min.ensures)
+    record {
+      faults_are = c.requires.faults;
+      widths = subst (All (λ v. length v ≡ sources)) (sym c.in_ok-block.ensures) (block_wide sources c.args.vectors.now c.args.first end c.requires.widths);
+      few = omega (arith, ap length c.in_ok-block.ensures, long, c.min.ensures);
+    }
 
 pub table_text-requires-clause-numbers : goal.table_text-requires-clause-numbers
 table_text-requires-clause-numbers c = omega (arith, c.in_ok-table.ensures.numbers, some_number c.args.circuit.now)
@@ -25,7 +25,7 @@ pub table_text-requires-clause-first : goal.table_text-requires-clause-first
 table_text-requires-clause-first c =
     let end = c.args.first + c.min.result in
     let long = block_length c.args.vectors.now c.args.first end (omega arith) (omega (arith, c.min.ensures, c.requires.first)) in
-    let rows = zip_length (IsAnswerRow c.args.circuit.now) c.in_ok-block.block c.in_ok-table.table.rows c.in_ok-table.ensures.rows in
+    let rows = AllZip-long (IsAnswerRow c.args.circuit.now) c.in_ok-block.block c.in_ok-table.table.rows c.in_ok-table.ensures.rows in
     omega (arith, ap length c.in_ok-block.ensures, long, rows, c.min.ensures, c.requires.first)
 
 pub returns : goal.returns

@@ -3,7 +3,7 @@ use Rattle.std.specs.Prelude.{All}
 use Rattle.std.proofs.lemmas.List.Elements.{All-from_get_or}
 use Rattle.net_model.specs.FaultList.{fault_count}
 use Rattle.table_dicts.specs.declared.simulating.Kept.TheVariants.{Bits}
-use Rattle.table_dicts.specs.AnswerTable.{ArePicked}
+use Rattle.table_dicts.specs.AnswerTable.{AreAnswerable, ArePicked}
 use Rattle.table_dicts.specs.Blocks.{IsListedBit, AreRightTo}
 use Rattle.table_dicts.specs.ByRoot.{AreGroupsByRoot}
 use Rattle.table_dicts.proofs.BlockLemmas.{right_all}
@@ -33,8 +33,8 @@ module _ (c : In_ok-sorted) where
   firsts_few : length c.in_ok-sorted.sorted.firsts.items < 2 ^ 27
   firsts_few = omega (arith, by_root.few, (settled c.in_ok-forest.ensures).few)
 
-pub tabulate-requires-clause-widths : goal.tabulate-requires-clause-widths
-tabulate-requires-clause-widths c = subst (All (λ v. length v ≡ c.args.circuit.now.sources)) (sym c.as_slice-patterns.ensures) c.requires.widths
+pub tabulate-requires-clause-answerable : goal.tabulate-requires-clause-answerable
+tabulate-requires-clause-answerable c = subst (AreAnswerable c.args.circuit.now c.args.faults.now) (sym c.as_slice-patterns.ensures) c.requires
 
 pub tabulate-requires-clause-numbers : goal.tabulate-requires-clause-numbers
 tabulate-requires-clause-numbers c = rw c.as_slice-lowest.ensures.value (firsts_inside (goal.at.tabulate-requires-clause-numbers c).In_ok-sorted)

@@ -7,7 +7,7 @@ use Rattle.net_model.specs.FaultList.{fault_count}
 use Rattle.kept_vectors.proofs.KeepLemmas.{some_number, table_numbers}
 use Rattle.table_dicts.specs.declared.dict.DictKind.TheVariants.{PassFail}
 use Rattle.table_dicts.specs.declared.simulating.Kept.TheVariants.{Bits, Fails}
-use Rattle.table_dicts.specs.AnswerTable.{Answers, AreAnswers, HasSizes}
+use Rattle.table_dicts.specs.AnswerTable.{Answers, AreAnswerable, AreAnswers, HasSizes}
 use Rattle.table_dicts.specs.Blocks.{IsListedBit, AreRightTo}
 use Rattle.table_dicts.specs.ByClass.{AreEntriesOfClasses}
 use Rattle.table_dicts.specs.Dictionary.{IsDictionary, IsPassFail}
@@ -18,11 +18,11 @@ use Rattle.table_dicts.proofs.ClassFailLemmas.{fails_of_classes}
 use Rattle.table_dicts.proofs.direct.pass_fail_at.Goals as goal
 use Rattle.table_dicts.proofs.direct.pass_fail_at.Goals.{In_ok-lowest}
 
-pub tabulate-requires-clause-widths : goal.tabulate-requires-clause-widths
-tabulate-requires-clause-widths c = subst (All (λ v. length v ≡ c.args.circuit.now.sources)) (sym c.as_slice-patterns.ensures) c.requires.widths
+pub tabulate-requires-clause-answerable : goal.tabulate-requires-clause-answerable
+tabulate-requires-clause-answerable c = subst (AreAnswerable c.args.setting.now.circuit.now c.args.setting.now.faults.now) (sym c.as_slice-patterns.ensures) c.requires.answerable
 
 pub tabulate-requires-clause-numbers : goal.tabulate-requires-clause-numbers
-tabulate-requires-clause-numbers c = λ k d h. let zero : k ≡ 0 = omega (arith, h) in rw zero (some_number c.args.circuit.now)
+tabulate-requires-clause-numbers c = λ k d h. let zero : k ≡ 0 = omega (arith, h) in rw zero (some_number c.args.setting.now.circuit.now)
 
 pub answers_of-requires : goal.answers_of-requires
 answers_of-requires c = omega (arith, c.in_ok-free.ensures.sizes.numbers_are)
@@ -31,26 +31,26 @@ module _ (c : In_ok-lowest) where
   abbrev lowest : List ℕ
   lowest = c.in_ok-lowest.lowest.items
 
-  inside : All (λ number. number < fault_count c.args.circuit.now) lowest
+  inside : All (λ number. number < fault_count c.args.setting.now.circuit.now) lowest
   inside = subst (λ n. All (λ number. number < n) lowest) (table_numbers c.requires.classes) c.in_ok-lowest.ensures.within
 
-  long : length lowest ≡ class_count c.args.classes.now
-  long = ap length c.in_ok-lowest.ensures.lowest ∙ length-map-range_with_len (representative c.args.classes.now) 0 (class_count c.args.classes.now)
+  long : length lowest ≡ class_count c.args.setting.now.classes.now
+  long = ap length c.in_ok-lowest.ensures.lowest ∙ length-map-range_with_len (representative c.args.setting.now.classes.now) 0 (class_count c.args.setting.now.classes.now)
 
-pub tabulate-requires-2-clause-widths : goal.tabulate-requires-2-clause-widths
-tabulate-requires-2-clause-widths c = subst (All (λ v. length v ≡ c.args.circuit.now.sources)) (sym c.as_slice-patterns.ensures) c.requires.widths
+pub tabulate-requires-2-clause-answerable : goal.tabulate-requires-2-clause-answerable
+tabulate-requires-2-clause-answerable c = subst (AreAnswerable c.args.setting.now.circuit.now c.args.setting.now.faults.now) (sym c.as_slice-patterns.ensures) c.requires.answerable
 
 pub tabulate-requires-2-clause-numbers : goal.tabulate-requires-2-clause-numbers
-tabulate-requires-2-clause-numbers c = rw c.as_slice.ensures.value (inside (goal.at.tabulate-requires-2-clause-numbers c).In_ok-lowest)
+tabulate-requires-2-clause-numbers c = rw c.as_slice-lowest.ensures.value (inside (goal.at.tabulate-requires-2-clause-numbers c).In_ok-lowest)
 
 pub tabulate-requires-2-clause-count : goal.tabulate-requires-2-clause-count
-tabulate-requires-2-clause-count c = omega (arith, ap length c.as_slice.ensures.value, c.in_ok-lowest.ensures.few)
+tabulate-requires-2-clause-count c = omega (arith, ap length c.as_slice-lowest.ensures.value, c.in_ok-lowest.ensures.few)
 
 pub dict_of_classes-requires-clause-numbers : goal.dict_of_classes-requires-clause-numbers
-dict_of_classes-requires-clause-numbers c = c.len-numbers.ensures.value ∙ (ap length c.requires.faults ∙ sym (table_numbers c.requires.classes))
+dict_of_classes-requires-clause-numbers c = c.len-numbers.ensures.value ∙ (ap length c.requires.answerable.faults_are ∙ sym (table_numbers c.requires.classes))
 
 pub dict_of_classes-requires-clause-few : goal.dict_of_classes-requires-clause-few
-dict_of_classes-requires-clause-few c = omega (arith, c.in_ok-baselines.ensures.shape.count_is, c.in_ok-free.ensures.sizes.patterns_are, ap length c.as_slice-patterns.ensures, c.requires.few)
+dict_of_classes-requires-clause-few c = omega (arith, c.in_ok-baselines.ensures.shape.count_is, c.in_ok-free.ensures.sizes.patterns_are, ap length c.as_slice-patterns.ensures, c.requires.answerable.few)
 
 pub dict_of_classes-requires-clause-baselines : goal.dict_of_classes-requires-clause-baselines
 dict_of_classes-requires-clause-baselines c =
@@ -64,7 +64,7 @@ dict_of_classes-requires-clause-entries c =
     let cells = c.cells.result.now in
     let shape = c.cells.ensures.shape in
     let sizes = c.in_ok-fails.ensures.sizes in
-    let count : c.in_ok-fails.fails.numbers ≡ class_count c.args.classes.now = sizes.numbers_are ∙ (ap length c.as_slice.ensures.value ∙ long at) in
+    let count : c.in_ok-fails.fails.numbers ≡ class_count c.args.setting.now.classes.now = sizes.numbers_are ∙ (ap length c.as_slice-lowest.ensures.value ∙ long at) in
     let width : length c.in_ok-fails.fails.rows * c.in_ok-fails.fails.positions ≡ length c.in_ok-baselines.baselines =
     ap (λ w. length c.in_ok-fails.fails.rows * w) sizes.positions_are ∙ omega (arith, sizes.patterns_are, c.in_ok-free.ensures.sizes.patterns_are, c.in_ok-baselines.ensures.shape.count_is) in
     subst (λ n. AreRows n (length c.in_ok-baselines.baselines) cells) count (subst (λ w. AreRows c.in_ok-fails.fails.numbers w cells) width shape)
@@ -72,9 +72,9 @@ dict_of_classes-requires-clause-entries c =
 pub returns : goal.returns
 returns c =
     let at = (goal.at.returns c).In_ok-lowest in
-    let circuit = c.args.circuit.now in
-    let patterns = c.args.patterns.now in
-    let classes = c.args.classes.now in
+    let circuit = c.args.setting.now.circuit.now in
+    let patterns = c.args.setting.now.patterns.now in
+    let classes = c.args.setting.now.classes.now in
     let baselines = c.in_ok-baselines.baselines in
     let numbers = c.len-numbers.result in
     let positions = c.positions.result in
@@ -84,8 +84,8 @@ returns c =
     let lowest = c.in_ok-lowest.lowest.items in
     let same = c.as_slice-patterns.ensures in
     let free_right = subst (λ (ps : List (List Bool)). AreRightTo (IsListedBit Bits circuit ps (0 ∷ [])) (length ps) 1 (length circuit.positions) (length ps) free) same c.in_ok-free.ensures in
-    let ran = subst (λ (ps : List (List Bool)). AreRightTo (IsListedBit Fails circuit ps c.as_slice.result.now) (length ps) (length c.as_slice.result.now) 1 (length ps) bits) same c.in_ok-fails.ensures in
-    let right = subst (λ (ns : List ℕ). AreRightTo (IsListedBit Fails circuit patterns ns) (length patterns) (length ns) 1 (length patterns) bits) c.as_slice.ensures.value ran in
+    let ran = subst (λ (ps : List (List Bool)). AreRightTo (IsListedBit Fails circuit ps c.as_slice-lowest.result.now) (length ps) (length c.as_slice-lowest.result.now) 1 (length ps) bits) same c.in_ok-fails.ensures in
+    let right = subst (λ (ns : List ℕ). AreRightTo (IsListedBit Fails circuit patterns ns) (length patterns) (length ns) 1 (length patterns) bits) c.as_slice-lowest.ensures.value ran in
     IfOk-weaker c.dict_of_classes.result
     (λ dict. (t : Answers) → HasSizes t (length baselines) numbers positions → AreEntriesOfClasses classes cells (same_diff_entry t.rows baselines) → IsDictionary dict PassFail t baselines (same_diff_entry t.rows baselines))
     (λ dict. (t : Answers) → AreAnswers circuit patterns t → IsPassFail t dict) (λ dict is t are.
@@ -93,7 +93,7 @@ returns c =
     let first = c.in_ok-baselines.ensures.rows ∙ baselines_are circuit patterns t are free c.positions.ensures.table free_right in
     let sizes : HasSizes t (length baselines) numbers positions = record {
       patterns_are = own ∙ sym (c.in_ok-baselines.ensures.shape.count_is ∙ free_right.sizes.patterns_are);
-      numbers_are = are.numbers ∙ sym (c.len-numbers.ensures.value ∙ ap length c.requires.faults);
+      numbers_are = are.numbers ∙ sym (c.len-numbers.ensures.value ∙ ap length c.requires.answerable.faults_are);
       positions_are = are.positions ∙ sym (c.positions.ensures.value ∙ free_right.sizes.positions_are);
     } in
     let entries = fails_of_classes circuit c.sources.ensures.circuit patterns t are classes c.requires.classes c.in_ok-lowest.ensures.whole lowest c.in_ok-lowest.ensures.lowest (inside at) bits c.cells.ensures.table right cells c.cells.ensures.entries in

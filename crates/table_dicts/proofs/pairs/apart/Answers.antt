@@ -1,9 +1,10 @@
-use Rattle.std.proofs.Common.{◌≡◌, ◌∙◌, ◌<◌, ◌+◌, ◌-◌, ℕ, List, length, get_or, set, replicate, sym, ap, subst, refl, arith}
-use Rattle.std.proofs.lemmas.List.{length-replicate, get_or-replicate, get_or_read, length-set}
+use Rattle.std.proofs.Common.{◌≡◌, ◌∙◌, ◌<◌, ◌+◌, ◌-◌, ℕ, List, length, get_or, set, replicate, sym, ap, refl, arith}
+use Rattle.std.proofs.lemmas.List.{length-replicate, get_or-replicate, length-set, with_items_is}
 use Rattle.net_model.specs.ClassTable.{class_count, representative}
 use Rattle.table_dicts.specs.Dictionary.{entry_of}
 use Rattle.table_dicts.proofs.ApartLemmas.{alike_to, apart_to, apart_all, apart_more, alike_within, group_known, counted, alike_after}
 use Rattle.table_dicts.proofs.pairs.apart.Goals as goal
+use Rattle.table_dicts.proofs.pairs.apart.Goals.{After-as_mut_slice}
 
 pub loop-class-init : goal.loop-class-init
 loop-class-init c =
@@ -16,81 +17,63 @@ loop-class-init c =
       bound = omega arith;
     }
 
-pub index-requires : goal.index-requires
-index-requires c =
-    let t = c.args.classes.now in
-    let d = c.args.dict.now in
-    let class = c.loop-class.class in
-    let h : class < class_count t = omega (arith, c.count-class-end.ensures.value) in
-    let known = group_known t c.count-class-end.ensures.whole d.numbers d.groups d.entries c.requires.grouped c.requires.numbers class h class h in
-    let group = get_or d.groups (representative t class) 0 in
-    let named : get_or c.as_slice-groups.result.now c.representative.result 0 ≡ group = λ i. get_or (c.as_slice-groups.ensures i) (c.representative.ensures.value i) 0 in
-    omega (arith, named, known, c.loop-class.invariant.places, c.loop-class.alike.ok.0)
+-- the class, its group, and how many of the classes before it are in that
+module _ (c : After-as_mut_slice) where
+  inside : c.loop-class.class < class_count c.args.classes.now
+  inside = omega (arith, c.count-class-end.ensures.value)
+
+  abbrev group : ℕ
+  group = get_or c.args.dict.now.groups (representative c.args.classes.now c.loop-class.class) 0
+
+  known : group < length c.args.dict.now.entries
+  known =
+      let d = c.args.dict.now in
+      group_known c.args.classes.now c.count-class-end.ensures.whole d.numbers d.groups d.entries c.requires.grouped c.requires.numbers c.loop-class.class inside c.loop-class.class inside
+
+  named : get_or c.as_slice-groups.result.now c.representative.result 0 ≡ group
+  named = λ i. get_or (c.as_slice-groups.ensures i) (c.representative.ensures.value i) 0
+
+  before : get_or c.as_mut_slice.result.now (get_or c.as_slice-groups.result.now c.representative.result 0) 0 ≡ alike_to c.args.classes.now c.args.dict.now.groups c.loop-class.class group
+  before = (λ i. get_or (c.as_mut_slice.ensures.value i) (named i) 0) ∙ c.loop-class.invariant.alike group known
+
+pub count_one-before-requires-clause-group : goal.count_one-before-requires-clause-group
+count_one-before-requires-clause-group c =
+    let at = (goal.at.count_one-before-requires-clause-group c).After-as_mut_slice in
+    omega (arith, named at, known at, c.loop-class.invariant.places, ap length c.as_mut_slice.ensures.value)
+
+pub count_one-before-requires-clause-few : goal.count_one-before-requires-clause-few
+count_one-before-requires-clause-few c =
+    let at = (goal.at.count_one-before-requires-clause-few c).After-as_mut_slice in
+    omega (arith, before at, alike_within c.args.classes.now c.args.dict.now.groups c.loop-class.class (group at), c.count-class-end.type_inv)
 
 pub overflow_sub-class : goal.overflow_sub-class
 overflow_sub-class c =
-    let t = c.args.classes.now in
-    let d = c.args.dict.now in
-    let class = c.loop-class.class in
-    let h : class < class_count t = omega (arith, c.count-class-end.ensures.value) in
-    let known = group_known t c.count-class-end.ensures.whole d.numbers d.groups d.entries c.requires.grouped c.requires.numbers class h class h in
-    let group = get_or d.groups (representative t class) 0 in
-    let named : get_or c.as_slice-groups.result.now c.representative.result 0 ≡ group = λ i. get_or (c.as_slice-groups.ensures i) (c.representative.ensures.value i) 0 in
-    let before : c.index.result.now ≡ alike_to t d.groups class group =
-    get_or_read c.loop-class.alike.items (get_or c.as_slice-groups.result.now c.representative.result 0) c.index.result.now (omega (arith, named, known, c.loop-class.invariant.places)) c.index.ensures 0
-    ∙ (ap (λ g. get_or c.loop-class.alike.items g 0) named ∙ c.loop-class.invariant.alike group known) in
-    omega (arith, before, alike_within t d.groups class group)
-
-pub index_mut-requires : goal.index_mut-requires
-index_mut-requires c =
-    let t = c.args.classes.now in
-    let d = c.args.dict.now in
-    let class = c.loop-class.class in
-    let h : class < class_count t = omega (arith, c.count-class-end.ensures.value) in
-    let known = group_known t c.count-class-end.ensures.whole d.numbers d.groups d.entries c.requires.grouped c.requires.numbers class h class h in
-    let group = get_or d.groups (representative t class) 0 in
-    let named : get_or c.as_slice-groups.result.now c.representative.result 0 ≡ group = λ i. get_or (c.as_slice-groups.ensures i) (c.representative.ensures.value i) 0 in
-    omega (arith, named, known, c.loop-class.invariant.places, c.loop-class.alike.ok.0)
-
-pub overflow_add-index_mut : goal.overflow_add-index_mut
-overflow_add-index_mut c =
-    let t = c.args.classes.now in
-    let d = c.args.dict.now in
-    let class = c.loop-class.class in
-    let h : class < class_count t = omega (arith, c.count-class-end.ensures.value) in
-    let known = group_known t c.count-class-end.ensures.whole d.numbers d.groups d.entries c.requires.grouped c.requires.numbers class h class h in
-    let group = get_or d.groups (representative t class) 0 in
-    let named : get_or c.as_slice-groups.result.now c.representative.result 0 ≡ group = λ i. get_or (c.as_slice-groups.ensures i) (c.representative.ensures.value i) 0 in
-    let before : c.index_mut.result.now ≡ alike_to t d.groups class group =
-    get_or_read c.loop-class.alike.items (get_or c.as_slice-groups.result.now c.representative.result 0) c.index_mut.result.now (omega (arith, named, known, c.loop-class.invariant.places)) c.index_mut.ensures.value 0
-    ∙ (ap (λ g. get_or c.loop-class.alike.items g 0) named ∙ c.loop-class.invariant.alike group known) in
-    omega (arith, before, alike_within t d.groups class group)
+    let at = (goal.at.overflow_sub-class c).After-as_mut_slice in
+    omega (arith, c.count_one-before.ensures.before, before at, alike_within c.args.classes.now c.args.dict.now.groups c.loop-class.class (group at))
 
 pub loop-class-preserved : goal.loop-class-preserved
 loop-class-preserved c =
+    let at = (goal.at.loop-class-preserved c).After-as_mut_slice in
     let t = c.args.classes.now in
     let d = c.args.dict.now in
     let class = c.loop-class.class in
     let whole = c.count-class-end.ensures.whole in
     let is = c.requires.grouped in
-    let h : class < class_count t = omega (arith, c.count-class-end.ensures.value) in
     let so_far = c.loop-class.invariant in
-    let group = get_or d.groups (representative t class) 0 in
-    let named : get_or c.as_slice-groups.result.now c.representative.result 0 ≡ group = λ i. get_or (c.as_slice-groups.ensures i) (c.representative.ensures.value i) 0 in
-    let known = group_known t whole d.numbers d.groups d.entries is c.requires.numbers class h class h in
-    let old : c.index.result.now ≡ alike_to t d.groups class group =
-    get_or_read c.loop-class.alike.items (get_or c.as_slice-groups.result.now c.representative.result 0) c.index.result.now (omega (arith, named, known, so_far.places)) c.index.ensures 0 ∙ (ap (λ g. get_or c.loop-class.alike.items g 0) named ∙ so_far.alike group known) in
-    let mut : c.index_mut.result.now ≡ get_or c.loop-class.alike.items group 0 =
-    get_or_read c.loop-class.alike.items (get_or c.as_slice-groups.result.now c.representative.result 0) c.index_mut.result.now (omega (arith, named, known, so_far.places)) c.index_mut.ensures.value 0 ∙ ap (λ g. get_or c.loop-class.alike.items g 0) named in
-    let added : c.from-count.result ≡ class - alike_to t d.groups class group = c.from-count.ensures ∙ ap (λ n. class - n) old in
-    let pairs = counted t whole d.numbers d.groups d.entries is c.requires.numbers class h in
-    let after = alike_after t whole d.numbers d.groups d.entries is c.requires.numbers class h c.loop-class.alike.items (c.index_mut.result.now + 1) so_far.places so_far.alike (ap (λ n. n + 1) mut) in
-    record {
-      places = length-set c.loop-class.alike.items (get_or c.as_slice-groups.result.now c.representative.result 0) (c.index_mut.result.now + 1) ∙ so_far.places;
-      alike = subst (λ g. (k : ℕ) → k < length d.entries → get_or (set c.loop-class.alike.items g (c.index_mut.result.now + 1)) k 0 ≡ alike_to t d.groups (class + 1) k) (sym named) after;
+    let alike = c.loop-class.alike.items in
+    let new = c.count_one-before.new.sizes in
+    let one_more : new ≡ set alike (group at) (get_or alike (group at) 0 + 1) =
+    c.count_one-before.ensures.counted ∙ (λ i. set (c.as_mut_slice.ensures.value i) (named at i) (get_or (c.as_mut_slice.ensures.value i) (named at i) 0 + 1)) in
+    let added : c.from-count.result ≡ class - alike_to t d.groups class (group at) = c.from-count.ensures ∙ ap (λ n. class - n) (c.count_one-before.ensures.before ∙ before at) in
+    let pairs = counted t whole d.numbers d.groups d.entries is c.requires.numbers class (inside at) in
+    let after = alike_after t whole d.numbers d.groups d.entries is c.requires.numbers class (inside at) alike (get_or alike (group at) 0 + 1) so_far.places so_far.alike refl in
+    let held = with_items_is c.loop-class.alike new (omega (arith, c.count_one-before.auto.sizes, c.as_mut_slice.ensures.len)) in
+    rw held (record {
+      places = ap length one_more ∙ (length-set alike (group at) (get_or alike (group at) 0 + 1) ∙ so_far.places);
+      alike = λ k h. ap (λ (xs : List ℕ). get_or xs k 0) one_more ∙ after k h;
       count = (λ i. so_far.count i + (added ∙ pairs) i) ∙ sym (apart_more t (entry_of d) class);
       bound = omega (arith, so_far.bound, added, c.count-class-end.type_inv);
-    }
+    })
 
 pub returns : goal.returns
 returns c =

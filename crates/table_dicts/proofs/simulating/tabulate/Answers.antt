@@ -24,7 +24,7 @@ loop-first-init c =
     }
 
 pub run-end-requires-clause-widths : goal.run-end-requires-clause-widths
-run-end-requires-clause-widths c = subst (λ (k : Circuit). All (λ v. length v ≡ k.sources) c.args.patterns.now) (sym c.loop-first.invariant.circuit) c.requires.widths
+run-end-requires-clause-widths c = subst (λ (k : Circuit). All (λ v. length v ≡ k.sources) c.args.patterns.now) (sym c.loop-first.invariant.circuit) c.requires.answerable.widths
 
 -- the bench that has run a block is that of the circuit, and has the patterns of the block
 module _ (c : After-new-in-loop-first) where
@@ -41,22 +41,21 @@ write_block-requires-clause-numbers c =
 pub write_block-requires-clause-rows : goal.write_block-requires-clause-rows
 write_block-requires-clause-rows c = c.loop-first.invariant.right.sizes.numbers_are
 
-pub write_block-requires-clause-width : goal.write_block-requires-clause-width
-write_block-requires-clause-width c =
-    c.loop-first.invariant.right.sizes.positions_are ∙ sym (ap (λ (k : Circuit). kept_width c.args.kept (length k.positions)) (circuit_is (goal.at.write_block-requires-clause-width c).After-new-in-loop-first))
-
 pub write_block-requires-clause-free : goal.write_block-requires-clause-free
 write_block-requires-clause-free c =
     omega (arith, c.in_ok-free.ensures.width, c.width_of-width.ensures, ap (λ (ps : List ℕ). kept_width c.args.kept (length ps)) c.positions.ensures.value, c.loop-first.invariant.right.sizes.positions_are)
 
-pub write_block-requires-clause-aligned : goal.write_block-requires-clause-aligned
-write_block-requires-clause-aligned c = c.loop-first.invariant.aligned c.loop-first-test.true
-
-pub write_block-requires-clause-within : goal.write_block-requires-clause-within
-write_block-requires-clause-within c =
+pub write_block-requires-clause-fits : goal.write_block-requires-clause-fits
+write_block-requires-clause-fits c =
+    let at = (goal.at.write_block-requires-clause-fits c).After-new-in-loop-first in
+    let sizes = c.loop-first.invariant.right.sizes in
     let order : c.loop-first.first ≤ c.run-end.result = omega (arith, c.run-end.ensures.end) in
     let within : c.run-end.result ≤ length c.args.patterns.now = omega (arith, c.run-end.ensures.end) in
-    omega (arith, ap length (vectors_are (goal.at.write_block-requires-clause-within c).After-new-in-loop-first), block_length c.args.patterns.now c.loop-first.first c.run-end.result order within, order, within, c.loop-first.invariant.right.sizes.patterns_are)
+    record {
+      width = sizes.positions_are ∙ sym (ap (λ (k : Circuit). kept_width c.args.kept (length k.positions)) (circuit_is at));
+      aligned = c.loop-first.invariant.aligned c.loop-first-test.true;
+      within = omega (arith, ap length (vectors_are at), block_length c.args.patterns.now c.loop-first.first c.run-end.result order within, order, within, sizes.patterns_are);
+    }
 
 pub loop-first-preserved : goal.loop-first-preserved
 loop-first-preserved c =

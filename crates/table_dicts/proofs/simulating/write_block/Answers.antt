@@ -2,7 +2,7 @@ use Rattle.std.proofs.Common.{◌≡◌, ◌∙◌, ◌<◌, length, get_or, ref
 use Rattle.std.proofs.lemmas.List.Elements.{All-get_or}
 use Rattle.net_model.specs.FaultList.{fault_count}
 use Rattle.table_dicts.specs.declared.bench.Bench.{Bench}
-use Rattle.table_dicts.specs.Blocks.{IsKeptBit, kept_width, IsListedBit, IsNumberSet, AreNumbersSet}
+use Rattle.table_dicts.specs.Blocks.{FitsAt, IsKeptBit, IsListedBit, IsNumberSet, AreNumbersSet}
 use Rattle.table_dicts.proofs.BlockLemmas.{number_as, numbers_none, numbers_more}
 use Rattle.table_dicts.proofs.simulating.write_block.Goals as goal
 
@@ -18,11 +18,11 @@ write_number-requires-clause-number c =
 pub write_number-requires-clause-place : goal.write_number-requires-clause-place
 write_number-requires-clause-place c = omega (arith, c.requires.rows, c.loop-place.invariant.set.sizes.numbers_are)
 
-pub write_number-requires-clause-width : goal.write_number-requires-clause-width
-write_number-requires-clause-width c = c.loop-place.invariant.set.sizes.positions_are ∙ (c.requires.width ∙ sym (ap (λ (b : Bench). kept_width c.args.kept (length b.good.circuit.positions)) c.loop-place.invariant.bench))
-
-pub write_number-requires-clause-within : goal.write_number-requires-clause-within
-write_number-requires-clause-within c = omega (arith, c.requires.within, ap (λ (b : Bench). length b.block.vectors) c.loop-place.invariant.bench, c.loop-place.invariant.set.sizes.patterns_are)
+pub write_number-requires-clause-fits : goal.write_number-requires-clause-fits
+write_number-requires-clause-fits c =
+    let sizes = c.loop-place.invariant.set.sizes in
+    subst (λ (b : Bench). FitsAt c.args.kept b c.loop-place.table c.args.first) (sym c.loop-place.invariant.bench)
+    (record { width = sizes.positions_are ∙ c.requires.fits.width; aligned = c.requires.fits.aligned; within = omega (arith, c.requires.fits.within, sizes.patterns_are) })
 
 pub loop-place-preserved : goal.loop-place-preserved
 loop-place-preserved c =
@@ -37,7 +37,7 @@ loop-place-preserved c =
     record {
       bench = c.write_number.ensures.bench ∙ ap (λ (b : Bench). let made : Bench = record b { sim = new.sim } in made) so_far.bench;
       run = c.write_number.ensures.run;
-      set = numbers_more c.loop-place.table.positions so_far.set one so_far.set.sizes.positions_are c.requires.within (omega (arith, c.requires.rows));
+      set = numbers_more c.loop-place.table.positions so_far.set one so_far.set.sizes.positions_are c.requires.fits.within (omega (arith, c.requires.rows));
     }
 
 pub returns-clause-set : goal.returns-clause-set

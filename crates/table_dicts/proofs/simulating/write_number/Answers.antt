@@ -1,13 +1,12 @@
-use Rattle.std.proofs.Common.{◌∙◌, length, sym, ap, subst, arith}
+use Rattle.std.proofs.Common.{length, sym, subst}
 use Rattle.table_dicts.specs.declared.bench.Bench.{Bench}
-use Rattle.table_dicts.specs.Blocks.{IsKeptBit, kept_width, IsNumberSet}
+use Rattle.table_dicts.specs.Blocks.{FitsAt, IsKeptBit, IsNumberSet}
 use Rattle.table_dicts.proofs.simulating.write_number.Goals as goal
 
-pub write-requires-clause-width : goal.write-requires-clause-width
-write-requires-clause-width c = c.requires.width ∙ sym (ap (λ (b : Bench). kept_width c.args.kept (length b.good.circuit.positions)) c.inject.ensures.kept)
-
-pub write-requires-clause-within : goal.write-requires-clause-within
-write-requires-clause-within c = omega (arith, c.requires.within, ap (λ (b : Bench). length b.block.vectors) c.inject.ensures.kept)
+pub write-requires-clause-fits : goal.write-requires-clause-fits
+write-requires-clause-fits c =
+    let fits = c.requires.fits in
+    subst (λ (b : Bench). FitsAt c.args.kept b c.args.table.now c.args.first) (sym c.inject.ensures.kept) (record { width = fits.width; aligned = fits.aligned; within = fits.within })
 
 pub returns-clause-set : goal.returns-clause-set
 returns-clause-set c =

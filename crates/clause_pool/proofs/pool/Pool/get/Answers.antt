@@ -22,8 +22,7 @@ pub part-requires-clause-start : goal.part-requires-clause-start
 part-requires-clause-start c =
     let i = c.self.inside in
     let at = c.args.number - 1 in
-    let used = shown_count i.ends.items i.literals.items c.args.self.now.clauses (ap (λ (pool : Clauses). pool.clauses) c.self.view_is) in
-    let below : at < length i.ends.items = omega (arith, used) in
+    let below : at < length i.ends.items = omega (arith, shown_count i.ends.items i.literals.items c.args.self.now.clauses (ap (λ (pool : Clauses). pool.clauses) c.self.view_is)) in
     let w = within_region i.ends.items (length i.literals.items) at c.self.invariant.cut below in
     let start = c.start_of.ensures ∙ ap (λ ends. start_place ends at) c.deref-2.ensures.value in
     omega (arith, w.ordered, start, get_or_read i.ends.items at c.index.result.now below c.index.ensures 0)
@@ -31,11 +30,9 @@ part-requires-clause-start c =
 pub part-requires-clause-end : goal.part-requires-clause-end
 part-requires-clause-end c =
     let i = c.self.inside in
-    let at = c.args.number - 1 in
-    let used = shown_count i.ends.items i.literals.items c.args.self.now.clauses (ap (λ (pool : Clauses). pool.clauses) c.self.view_is) in
-    let below : at < length i.ends.items = omega (arith, used) in
-    let w = within_region i.ends.items (length i.literals.items) at c.self.invariant.cut below in
-    omega (arith, w.ends, ap length c.deref.ensures.value, get_or_read i.ends.items at c.index.result.now below c.index.ensures 0)
+    let below : c.args.number - 1 < length i.ends.items = omega (arith, shown_count i.ends.items i.literals.items c.args.self.now.clauses (ap (λ (pool : Clauses). pool.clauses) c.self.view_is)) in
+    let w = within_region i.ends.items (length i.literals.items) (c.args.number - 1) c.self.invariant.cut below in
+    omega (arith, w.ends, ap length c.deref.ensures.value, get_or_read i.ends.items (c.args.number - 1) c.index.result.now below c.index.ensures 0)
 
 pub returns : goal.returns
 returns c =

@@ -11,9 +11,6 @@ returns-in_err-flush c =
     let p = err_from_is_err_and c.from_residual.result c.from_residual.ensures.1 in
     rw (p.1, p.2) (ends_stopped _ c.in_err-flush.ensures.judged)
 
-pub refused-requires : goal.refused-requires
-refused-requires c = few_lines (has_after c.requires.check c.in_ok-flush.ensures.judged)
-
 pub returns-then-not-is_empty : goal.returns-then-not-is_empty
 returns-then-not-is_empty c = rw c.refused.ensures (record {
   judged = λ text is short.
@@ -30,3 +27,6 @@ returns-then-not-self c = rw c.refused-then-not-self.ensures (record {
       end_order (c.in_ok-flush.ensures.judged.judged text is) c.in_ok-flush.ensures.none c.args.rest.now
       (empty_of c.args.rest.now (eqb-true (length c.args.rest.now) 0 (sym c.if-not-is_empty.ensures))) c.if-not-self.true;
 })
+
+pub refused-requires : goal.refused-requires
+refused-requires c = few_lines (has_after c.requires.check c.in_ok-flush.ensures.judged)

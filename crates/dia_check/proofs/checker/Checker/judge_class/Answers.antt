@@ -1,7 +1,7 @@
 use Rattle.std.proofs.Common.{refl, arith}
 use Rattle.result_file.specs.declared.fault.ResultKind.TheVariants as why
 use Rattle.result_file.specs.declared.record.Record.TheVariants.{Class}
-use Rattle.dia_check.proofs.CheckLemmas.{few_lines, misplaced_line, wrong_line}
+use Rattle.dia_check.proofs.CheckLemmas.{few_lines, judged_misplaced, judged_wrong}
 use Rattle.dia_check.proofs.TakenLemmas.{class_taken, class_few}
 use Rattle.dia_check.proofs.checker.Checker.judge_class.Goals.{then-self-lt2-via-then-self-lt2, then-self-lt2-via-else-self-lt2+then-self-ne0}
 use Rattle.dia_check.proofs.checker.Checker.judge_class.Goals as goal
@@ -10,33 +10,27 @@ pub refused-requires : goal.refused-requires
 refused-requires c = few_lines c.requires.check
 
 pub returns-then-self-lt2 : goal.returns-then-self-lt2
-returns-then-self-lt2 c = rw c.refused.ensures (record {
-  judged = λ text is short.
-      misplaced_line is c.requires.none (Class c.args.number c.args.birth) c.requires.spelled c.requires.one short
-      (λ place. elim c.then-self-lt2.branch [
-        | then-self-lt2-via-then-self-lt2 w ↦ let h = w.if-self-lt2.true in omega (arith, h, is.is.progress.lines, place.0)
-        | then-self-lt2-via-else-self-lt2+then-self-ne0 w ↦ let h = w.if-self-ne0.true in omega (arith, h, is.is.progress.members, place.1)
-      ]);
-})
+returns-then-self-lt2 c = rw c.refused.ensures (judged_misplaced {c = c.args.subject.now} {k = c.args.self.now} c.requires.none (Class c.args.number c.args.birth) c.requires.spelled c.requires.one (λ text is place. elim c.then-self-lt2.branch [
+  | then-self-lt2-via-then-self-lt2 w ↦ let h = w.if-self-lt2.true in omega (arith, h, is.is.progress.lines, place.0)
+  | then-self-lt2-via-else-self-lt2+then-self-ne0 w ↦ let h = w.if-self-ne0.true in omega (arith, h, is.is.progress.members, place.1)
+]))
 
 pub refused-requires-then-not-is_next_class : goal.refused-requires-then-not-is_next_class
 refused-requires-then-not-is_next_class c = few_lines c.requires.check
 
 pub returns-then-not-is_next_class : goal.returns-then-not-is_next_class
-returns-then-not-is_next_class c = rw c.refused-then-not-is_next_class.ensures (record {
-  judged = λ text is short.
-      wrong_line is c.requires.none (Class c.args.number c.args.birth) c.requires.spelled c.requires.one short why.Table
-      (let h = c.if-self-lt2.false in omega (arith, h, is.is.progress.lines), let h = c.if-self-ne0.false in omega (arith, h, is.is.progress.members))
-      ((λ right. let h = (c.if-not-is_next_class.ensures c.args.subject.now is.seen is.is).1 right in cc), refl);
-})
-
-pub add_class-requires-clause-lines : goal.add_class-requires-clause-lines
-add_class-requires-clause-lines c = few_lines c.requires.check
+returns-then-not-is_next_class c = rw c.refused-then-not-is_next_class.ensures (judged_wrong {c = c.args.subject.now} {k = c.args.self.now} c.requires.none (Class c.args.number c.args.birth) c.requires.spelled c.requires.one why.Table (λ text is. (
+  (let h = c.if-self-lt2.false in omega (arith, h, is.is.progress.lines), let h = c.if-self-ne0.false in omega (arith, h, is.is.progress.members)),
+  ((λ right. let h = (c.if-not-is_next_class.ensures c.args.subject.now is.seen is.is).1 right in cc), refl),
+)))
 
 pub add_class-requires-clause-classes : goal.add_class-requires-clause-classes
 add_class-requires-clause-classes c =
     let is = c.requires.check.is in
     class_few is c.requires.none c.args.number c.args.birth ((c.if-not-is_next_class.ensures c.args.subject.now is.seen is.is).0 refl)
+
+pub add_class-requires-clause-lines : goal.add_class-requires-clause-lines
+add_class-requires-clause-lines c = few_lines c.requires.check
 
 pub returns : goal.returns
 returns c = rw c.add_class.ensures (record {

@@ -6,13 +6,13 @@ use Rattle.result_file.proofs.FirstLine.{syntax_line}
 use Rattle.dia_check.proofs.CheckLemmas.{few_lines, has_after, judged_then, stopped, refused_line}
 use Rattle.dia_check.proofs.checker.Checker.refuse_line.Goals as goal
 
+pub refused-requires : goal.refused-requires
+refused-requires c = few_lines (has_after c.requires.check c.in_ok-flush.ensures.judged)
+
 pub returns-in_err-flush : goal.returns-in_err-flush
 returns-in_err-flush c =
     let p = err_from_is_err_and c.from_residual.result c.from_residual.ensures.1 in
     rw (p.1, p.2) (stopped _ c.in_err-flush.ensures.judged)
-
-pub refused-requires : goal.refused-requires
-refused-requires c = few_lines (has_after c.requires.check c.in_ok-flush.ensures.judged)
 
 pub returns : goal.returns
 returns c =

@@ -18,16 +18,10 @@ has_low_bit-requires c = omega (arith, c.size.ensures, fits_tight c.args.self.wi
 
 pub returns-then-has_low_bit : goal.returns-then-has_low_bit
 returns-then-has_low_bit c =
-    let bytes = c.args.bytes.now in
-    let rows = c.args.self in
-    let row = c.loop-row.row in
-    let told = padding_told bytes (row_start rows row) rows.width c.last.result _ c.has_low_bit.result c.last.ensures (omega (arith, c.size.ensures)) c.if-padding-eq0.false c.has_low_bit.ensures in
-    right_to bytes c.whole-whole.ensures row c.loop-row-test.true c.loop-row.invariant (λ zeros. true_false c.has_low_bit.result c.if-has_low_bit.true (told.1 zeros))
+    let told = padding_told c.args.bytes.now (row_start c.args.self c.loop-row.row) c.args.self.width c.last.result _ c.has_low_bit.result c.last.ensures (omega (arith, c.size.ensures)) c.if-padding-eq0.false c.has_low_bit.ensures in
+    right_to c.args.bytes.now c.whole-whole.ensures c.loop-row.row c.loop-row-test.true c.loop-row.invariant (λ zeros. true_false c.has_low_bit.result c.if-has_low_bit.true (told.1 zeros))
 
 pub loop-row-preserved : goal.loop-row-preserved
 loop-row-preserved c =
-    let bytes = c.args.bytes.now in
-    let rows = c.args.self in
-    let row = c.loop-row.row in
-    let told = padding_told bytes (row_start rows row) rows.width c.last.result _ c.has_low_bit.result c.last.ensures (omega (arith, c.size.ensures)) c.if-padding-eq0.false c.has_low_bit.ensures in
-    below_more (λ k. HasZeroPadding bytes (row_start rows k) rows.width) row c.loop-row.invariant (told.0 c.if-has_low_bit.false)
+    let told = padding_told c.args.bytes.now (row_start c.args.self c.loop-row.row) c.args.self.width c.last.result _ c.has_low_bit.result c.last.ensures (omega (arith, c.size.ensures)) c.if-padding-eq0.false c.has_low_bit.ensures in
+    below_more (λ k. HasZeroPadding c.args.bytes.now (row_start c.args.self k) c.args.self.width) c.loop-row.row c.loop-row.invariant (told.0 c.if-has_low_bit.false)

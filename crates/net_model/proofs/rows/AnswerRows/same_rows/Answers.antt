@@ -1,18 +1,11 @@
-use Rattle.std.proofs.Common.{◌≡◌, subst, length, get_or, []}
+use Rattle.std.proofs.Common.{[]}
 use Rattle.std.proofs.lemmas.Bool.Decides.{Decides-eqb}
 use Rattle.std.proofs.lemmas.Slice.Eq.{slice_eq-Decides}
-use Rattle.net_model.specs.Rows.{IsPacked}
-use Rattle.net_model.proofs.RowLemmas.{packed_once, unpacked_once}
+use Rattle.net_model.proofs.RowLemmas.{same_by_words}
 use Rattle.net_model.proofs.rows.AnswerRows.same_rows.Goals as goal
 
 pub returns : goal.returns
 returns c =
-    let one = get_or c.args.self.now c.args.a [] in
-    let other = get_or c.args.self.now c.args.b [] in
-    let a = c.row_words.result.now in
-    let b = c.row_words-2.result.now in
-    let test = slice_eq-Decides Decides-eqb a b c.eq.result c.eq.ensures in
-    let long : length one ≡ length other = c.row_words-2.ensures.one_width c.args.a [] c.requires.a in (
-      λ t. let e : a ≡ b = test.0 t in unpacked_once one other b (subst (IsPacked one) e c.row_words.ensures.packed) c.row_words-2.ensures.packed long,
-      λ e. test.1 (packed_once other a b (subst (λ r. IsPacked r a) {x = one} {y = other} e c.row_words.ensures.packed) c.row_words-2.ensures.packed),
-    )
+    let test = slice_eq-Decides Decides-eqb c.row_words.result.now c.row_words-2.result.now c.eq.result c.eq.ensures in
+    let same = same_by_words c.row_words.ensures.packed c.row_words-2.ensures.packed (c.row_words-2.ensures.one_width c.args.a [] c.requires.a) in
+    (λ t. same.0 (test.0 t), λ e. test.1 (same.1 e))

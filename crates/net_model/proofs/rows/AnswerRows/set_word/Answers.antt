@@ -1,33 +1,22 @@
-use Rattle.std.proofs.Common.{◌≡◌, ◌∙◌, ◌*◌, ◌+◌, ◌-◌, subst, sym, arith, length, get_or, []}
-use Rattle.net_model.specs.Rows.{IsWordSet, rows_of}
+use Rattle.std.proofs.Common.{◌*◌, ◌-◌, arith}
 use Rattle.net_model.proofs.RowLemmas.{place_in}
 use Rattle.net_model.proofs.WordLemmas.{HasLowBits, is_word_set, are_words-word}
 use Rattle.net_model.proofs.rows.AnswerRows.set_word.Goals as goal
 
 pub overflow_mul-place : goal.overflow_mul-place
-overflow_mul-place c =
-    let p = place_in _ _ _ c.self.inside.words.items _ _ _ c.self.invariant c.self.view_is c.requires.row c.requires.word in
-    omega (arith, p.within, c.self.inside.words.ok.0, c.self.inside.words.small)
+overflow_mul-place c = omega (arith, (place_in _ _ _ c.self.inside.words.items _ _ _ c.self.invariant c.self.view_is c.requires.row c.requires.word).within, c.self.inside.words.ok.0, c.self.inside.words.small)
 
 pub overflow_add-place : goal.overflow_add-place
-overflow_add-place c =
-    let p = place_in _ _ _ c.self.inside.words.items _ _ _ c.self.invariant c.self.view_is c.requires.row c.requires.word in
-    omega (arith, p.within, c.self.inside.words.ok.0, c.self.inside.words.small)
+overflow_add-place c = omega (arith, (place_in _ _ _ c.self.inside.words.items _ _ _ c.self.invariant c.self.view_is c.requires.row c.requires.word).within, c.self.inside.words.ok.0, c.self.inside.words.small)
 
 pub overflow_mul-word : goal.overflow_mul-word
-overflow_mul-word c =
-    let p = place_in _ _ _ c.self.inside.words.items _ _ _ c.self.invariant c.self.view_is c.requires.row c.requires.word in
-    omega (arith, p.at_in, c.self.ranges)
+overflow_mul-word c = omega (arith, (place_in _ _ _ c.self.inside.words.items _ _ _ c.self.invariant c.self.view_is c.requires.row c.requires.word).at_in, c.self.ranges)
 
 pub overflow_sub-self-inside : goal.overflow_sub-self-inside
-overflow_sub-self-inside c =
-    let p = place_in _ _ _ c.self.inside.words.items _ _ _ c.self.invariant c.self.view_is c.requires.row c.requires.word in
-    omega (arith, p.at_in)
+overflow_sub-self-inside c = omega (arith, (place_in _ _ _ c.self.inside.words.items _ _ _ c.self.invariant c.self.view_is c.requires.row c.requires.word).at_in)
 
 pub index_mut-requires : goal.index_mut-requires
-index_mut-requires c =
-    let p = place_in _ _ _ c.self.inside.words.items _ _ _ c.self.invariant c.self.view_is c.requires.row c.requires.word in
-    omega (arith, p.within, c.self.inside.words.ok.0)
+index_mut-requires c = omega (arith, (place_in _ _ _ c.self.inside.words.items _ _ _ c.self.invariant c.self.view_is c.requires.row c.requires.word).within, c.self.inside.words.ok.0)
 
 low_bits : (c : goal.After-self-1) → HasLowBits (c.self.inside.width - c.args.word * 64) c.args.bits c.low_bits.result
 low_bits c = record { fits = c.low_bits.type_inv; low = c.low_bits.ensures }

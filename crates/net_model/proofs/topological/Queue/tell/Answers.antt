@@ -1,32 +1,20 @@
 use Rattle.std.proofs.Common.{◌≡◌, ◌∙◌, ◌-◌, take, get_or, ap, arith}
 use Rattle.std.proofs.lemmas.List.{get_or_read, take_more}
-use Rattle.net_model.proofs.QueueSteps.{enough_so_far, is_open, reader_inside, told_closed, told_queued}
+use Rattle.net_model.proofs.QueueSteps.{enough_so_far, reader_inside, reader_is_line, reader_is_open, told_closed, told_queued}
 use Rattle.net_model.proofs.topological.Queue.tell.Goals as goal
 use Rattle.net_model.proofs.topological.Queue.tell.Goals.{then-waits-eq0+in_ok-push, else-waits-eq0}
 
 pub index-requires : goal.index-requires
-index-requires c =
-    let readers = c.args.readers.now in
-    let i = c.loop-reader.reader-index in
-    let enough = enough_so_far readers c.args.self.now.waits.items i c.loop-reader-test.true c.requires.enough in
-    omega (arith, c.loop-reader.self.waits.ok.0, reader_inside (take i readers) c.args.self.now.waits.items c.loop-reader.self.waits.items c.args.self.now.order.items c.loop-reader.self.order.items (get_or readers i 0) c.loop-reader.invariant enough)
+index-requires c = omega (arith, c.loop-reader.self.waits.ok.0, reader_is_line c.args.readers.now c.loop-reader.reader-index c.loop-reader-test.true c.requires.enough c.loop-reader.invariant)
 
 pub overflow_sub-waits : goal.overflow_sub-waits
 overflow_sub-waits c =
-    let readers = c.args.readers.now in
-    let i = c.loop-reader.reader-index in
-    let waits = c.loop-reader.self.waits.items in
-    let enough = enough_so_far readers c.args.self.now.waits.items i c.loop-reader-test.true c.requires.enough in
-    let inside = reader_inside (take i readers) c.args.self.now.waits.items waits c.args.self.now.order.items c.loop-reader.self.order.items (get_or readers i 0) c.loop-reader.invariant enough in
-    let some = is_open (take i readers) c.args.self.now.waits.items waits c.args.self.now.order.items c.loop-reader.self.order.items (get_or readers i 0) c.loop-reader.invariant enough in
-    omega (arith, some, get_or_read waits (get_or readers i 0) c.index.result.now inside c.index.ensures 0)
+    let inside = reader_is_line c.args.readers.now c.loop-reader.reader-index c.loop-reader-test.true c.requires.enough c.loop-reader.invariant in
+    let some = reader_is_open c.args.readers.now c.loop-reader.reader-index c.loop-reader-test.true c.requires.enough c.loop-reader.invariant in
+    omega (arith, some, get_or_read c.loop-reader.self.waits.items (get_or c.args.readers.now c.loop-reader.reader-index 0) c.index.result.now inside c.index.ensures 0)
 
 pub index_mut-requires : goal.index_mut-requires
-index_mut-requires c =
-    let readers = c.args.readers.now in
-    let i = c.loop-reader.reader-index in
-    let enough = enough_so_far readers c.args.self.now.waits.items i c.loop-reader-test.true c.requires.enough in
-    omega (arith, c.loop-reader.self.waits.ok.0, reader_inside (take i readers) c.args.self.now.waits.items c.loop-reader.self.waits.items c.args.self.now.order.items c.loop-reader.self.order.items (get_or readers i 0) c.loop-reader.invariant enough)
+index_mut-requires c = omega (arith, c.loop-reader.self.waits.ok.0, reader_is_line c.args.readers.now c.loop-reader.reader-index c.loop-reader-test.true c.requires.enough c.loop-reader.invariant)
 
 pub loop-reader-preserved : goal.loop-reader-preserved
 loop-reader-preserved c =

@@ -39,14 +39,14 @@ push_reserved-requires c =
 
 pub loop-at-preserved : goal.loop-at-preserved
 loop-at-preserved c =
+    let was = c.loop-at.invariant in
+    let from = c.loop-at.from in
+    let at = c.in-Some.at in
     let circuit = c.args.pair.now.circuit.now in
     let f = c.args.pair.now.f in
     let g = c.args.pair.now.g in
     let sets = c.args.sets.now in
     let test = is_reached circuit f g in
-    let at = c.in-Some.at in
-    let from = c.loop-at.from in
-    let was = c.loop-at.invariant in
     let waiting = c.loop-at.self.waiting in
     let taken = c.take_lowest.new.self in
     let shown = c.loop-at.self.shown in

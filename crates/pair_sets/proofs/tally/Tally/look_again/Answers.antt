@@ -9,16 +9,16 @@ use Rattle.pair_sets.proofs.tally.Tally.look_again.Goals as goal
 
 pub loop-at-preserved : goal.loop-at-preserved
 loop-at-preserved c =
+    let was = c.loop-at.invariant in
+    let i = c.loop-at.at-index in
+    let positions = c.args.positions.now in
+    let at = get_or positions i 0 in
+    let shown = c.loop-at.self.shown in
+    let pairs = c.kept_pairs-pairs.result in
     let circuit = c.args.pair.now.circuit.now in
     let f = c.args.pair.now.f in
     let g = c.args.pair.now.g in
     let sets = c.args.sets.now in
-    let positions = c.args.positions.now in
-    let i = c.loop-at.at-index in
-    let at = get_or positions i 0 in
-    let shown = c.loop-at.self.shown in
-    let pairs = c.kept_pairs-pairs.result in
-    let was = c.loop-at.invariant in
     let inside : at < length shown = omega (arith, c.requires.positions i 0 c.loop-at-test.true, c.requires.tally.places.whole, was.all.whole) in
     let here = put_here circuit f g sets shown at pairs inside c.kept_pairs-pairs.ensures in
     let kept = put_kept circuit f g sets shown at pairs inside c.kept_pairs-pairs.ensures in

@@ -6,7 +6,7 @@ use Rattle.table_dicts.specs.AnswerTable.{Answers, answer_bit}
 use Rattle.table_dicts.specs.AnswerTableFields.{table_of}
 use Rattle.table_dicts.specs.Blocks.{IsNumberSet}
 use Rattle.table_dicts.proofs.RowLemmas.{width_at, rows_later}
-use Rattle.table_dicts.proofs.TableLemmas.{patterns_are, bit_is}
+use Rattle.table_dicts.proofs.TableLemmas.{in_fields, patterns_are, bit_is}
 use Rattle.table_dicts.proofs.BlockLemmas.{number_as}
 use Rattle.table_dicts.proofs.BlockWordLemmas.{block_set}
 use Rattle.table_dicts.proofs.answer_table.AnswerTable.copy_block.Goals as goal
@@ -14,11 +14,8 @@ use Rattle.table_dicts.proofs.answer_table.AnswerTable.copy_block.Goals.{After-d
 
 -- the block is within the table, and its words hold it
 module _ (c : After-div_ceil-words) where
-  in_patterns : c.args.first + c.args.count ≤ c.self.inside.patterns
-  in_patterns = omega (arith, c.requires.within, ap (λ (t : Answers). length t.rows) c.self.view_is, patterns_are c.self.inside c.self.invariant)
-
-  in_numbers : c.args.number < c.self.inside.numbers
-  in_numbers = omega (arith, c.requires.number, ap (λ (t : Answers). t.numbers) c.self.view_is)
+  inside : (c.args.first + c.args.count ≤ c.self.inside.patterns) × (c.args.number < c.self.inside.numbers)
+  inside = in_fields c.self.inside c.self.invariant c.args.self.now c.self.view_is (c.args.first + c.args.count) c.args.number c.requires.within c.requires.number
 
   positions_are : c.args.block.now.positions ≡ c.self.inside.positions
   positions_are = c.requires.block.positions_are ∙ sym (ap (λ (t : Answers). t.positions) c.self.view_is)
@@ -53,7 +50,7 @@ pub copy_words-requires-clause-within : goal.copy_words-requires-clause-within
 copy_words-requires-clause-within c =
     let at = (goal.at.copy_words-requires-clause-within c).After-div_ceil-words in
     let a = c.self.inside in
-    omega (arith, c.words_before-begin.ensures.words, tight at, mul-le (c.args.first + c.args.count) a.positions a.patterns a.positions (in_patterns at) (omega arith), width_at c.self.invariant c.args.number (in_numbers at))
+    omega (arith, c.words_before-begin.ensures.words, tight at, mul-le (c.args.first + c.args.count) a.positions a.patterns a.positions (inside at).0 (omega arith), width_at c.self.invariant c.args.number (inside at).1)
 
 pub invariant_of-self : goal.invariant_of-self
 invariant_of-self c = rows_later c.copy_words.ensures.shape c.self.invariant
@@ -64,7 +61,7 @@ returns c =
     let here = (goal.at.returns c).After-block in
     let a = c.self.inside in
     let b = c.block.inside in
-    let set = block_set a c.self.invariant c.copy_words.new.to c.args.number c.args.first c.args.count (c.words_before-begin.result * 64) (c.div_ceil-words.result * 64) (row_bit b.cells 0) (in_numbers at) c.words_before-begin.ensures.words (enough at) (in_patterns at)
+    let set = block_set a c.self.invariant c.copy_words.new.to c.args.number c.args.first c.args.count (c.words_before-begin.result * 64) (c.div_ceil-words.result * 64) (row_bit b.cells 0) (inside at).1 c.words_before-begin.ensures.words (enough at) (inside at).0
     c.copy_words.ensures in
     let made = number_as (λ lane n k bit. bit ≡ answer_bit c.args.block.now lane 0 k) (λ lane k bit hl hk e.
     e ∙ (ap (λ p. row_bit b.cells 0 (lane * p + k)) (sym (block_positions here))

@@ -1,17 +1,12 @@
 use Rattle.std.proofs.Common.{◌∙◌, ◌<◌, sym, ap, length, arith}
 use Rattle.net_model.specs.Rows.{row_bit}
 use Rattle.table_dicts.specs.AnswerTable.{Answers, answer_bit}
-use Rattle.table_dicts.proofs.RowLemmas.{width_at}
-use Rattle.table_dicts.proofs.TableLemmas.{patterns_are, bit_is, place_inside}
+use Rattle.table_dicts.proofs.TableLemmas.{patterns_are, bit_is, bit_inside}
 use Rattle.table_dicts.proofs.answer_table.AnswerTable.get.Goals as goal
 
 pub get-requires-clause-at : goal.get-requires-clause-at
 get-requires-clause-at c =
-    let a = c.self.inside in
-    let hp : c.args.pattern < a.patterns = omega (arith, c.requires.pattern, ap (λ (t : Answers). length t.rows) c.self.view_is, patterns_are a c.self.invariant) in
-    let hn : c.args.number < a.numbers = omega (arith, c.requires.number, ap (λ (t : Answers). t.numbers) c.self.view_is) in
-    let hk : c.args.position < a.positions = omega (arith, c.requires.position, ap (λ (t : Answers). t.positions) c.self.view_is) in
-    omega (arith, place_inside c.args.pattern a.patterns c.args.position a.positions hp hk, c.place-at.ensures, width_at c.self.invariant c.args.number hn)
+    omega (arith, bit_inside c.self.inside c.self.invariant c.args.self.now c.self.view_is c.args.pattern c.args.number c.args.position c.requires.pattern c.requires.number c.requires.position, c.place-at.ensures)
 
 pub returns : goal.returns
 returns c =

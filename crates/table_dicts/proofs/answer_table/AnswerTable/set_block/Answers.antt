@@ -6,7 +6,7 @@ use Rattle.table_dicts.specs.AnswerTable.{Answers}
 use Rattle.table_dicts.specs.AnswerTableFields.{table_of}
 use Rattle.table_dicts.specs.Blocks.{IsNumberSet}
 use Rattle.table_dicts.proofs.RowLemmas.{width_at, rows_later}
-use Rattle.table_dicts.proofs.TableLemmas.{patterns_are}
+use Rattle.table_dicts.proofs.TableLemmas.{in_fields}
 use Rattle.table_dicts.specs.BlockWords.{block_bit}
 use Rattle.table_dicts.proofs.BlockLemmas.{number_as}
 use Rattle.table_dicts.proofs.BlockWordLemmas.{bit_at_place, block_set}
@@ -15,11 +15,8 @@ use Rattle.table_dicts.proofs.answer_table.AnswerTable.set_block.Goals.{After-di
 
 -- the block is within the table, and its words hold it
 module _ (c : After-div_ceil-words) where
-  in_patterns : c.args.first + c.args.count ≤ c.self.inside.patterns
-  in_patterns = omega (arith, c.requires.within, ap (λ (t : Answers). length t.rows) c.self.view_is, patterns_are c.self.inside c.self.invariant)
-
-  in_numbers : c.args.number < c.self.inside.numbers
-  in_numbers = omega (arith, c.requires.number, ap (λ (t : Answers). t.numbers) c.self.view_is)
+  inside : (c.args.first + c.args.count ≤ c.self.inside.patterns) × (c.args.number < c.self.inside.numbers)
+  inside = in_fields c.self.inside c.self.invariant c.args.self.now c.self.view_is (c.args.first + c.args.count) c.args.number c.requires.within c.requires.number
 
   positions_are : length c.args.lanes.now ≡ c.self.inside.positions
   positions_are = c.requires.positions ∙ sym (ap (λ (t : Answers). t.positions) c.self.view_is)
@@ -31,7 +28,7 @@ module _ (c : After-div_ceil-words) where
   tight = omega (arith, c.div_ceil-words.ensures, c.width_of.ensures)
 
 pub write_words-requires-clause-row : goal.write_words-requires-clause-row
-write_words-requires-clause-row c = omega (arith, in_numbers (goal.at.write_words-requires-clause-row c).After-div_ceil-words, c.self.invariant.count_is)
+write_words-requires-clause-row c = omega (arith, (inside (goal.at.write_words-requires-clause-row c).After-div_ceil-words).1, c.self.invariant.count_is)
 
 pub write_words-requires-clause-few : goal.write_words-requires-clause-few
 write_words-requires-clause-few c = omega (arith, c.words_before-begin.ensures.few, c.div_ceil-words.ensures, c.width_of.type_inv)
@@ -40,7 +37,7 @@ pub write_words-requires-clause-within : goal.write_words-requires-clause-within
 write_words-requires-clause-within c =
     let at = (goal.at.write_words-requires-clause-within c).After-div_ceil-words in
     let a = c.self.inside in
-    omega (arith, c.words_before-begin.ensures.words, tight at, mul-le (c.args.first + c.args.count) a.positions a.patterns a.positions (in_patterns at) (omega arith), width_at c.self.invariant c.args.number (in_numbers at))
+    omega (arith, c.words_before-begin.ensures.words, tight at, mul-le (c.args.first + c.args.count) a.positions a.patterns a.positions (inside at).0 (omega arith), width_at c.self.invariant c.args.number (inside at).1)
 
 pub write_words-requires-clause-room : goal.write_words-requires-clause-room
 write_words-requires-clause-room c =
@@ -56,7 +53,7 @@ returns c =
     let at = (goal.at.returns c).After-div_ceil-words in
     let a = c.self.inside in
     let lanes = c.args.lanes.now in
-    let set = block_set a c.self.invariant c.write_words.new.rows c.args.number c.args.first c.args.count (c.words_before-begin.result * 64) (c.div_ceil-words.result * 64) (block_bit lanes) (in_numbers at) c.words_before-begin.ensures.words (enough at) (in_patterns at)
+    let set = block_set a c.self.invariant c.write_words.new.rows c.args.number c.args.first c.args.count (c.words_before-begin.result * 64) (c.div_ceil-words.result * 64) (block_bit lanes) (inside at).1 c.words_before-begin.ensures.words (enough at) (inside at).0
     c.write_words.ensures in
     let made = number_as (λ lane n k bit. bit ≡ bit_at (get_or lanes k []) lane)
     (λ lane k bit hl hk e. e ∙ sym (bit_at_place lanes lane k (lane * a.positions + k) (omega (arith, hk, positions_are at)) (ap (λ n. lane * n + k) (positions_are at)))) set in

@@ -12,7 +12,7 @@ module _ (c : After-live-count) where
   right = λ lane. IsKeptBit c.args.kept c.args.bench.now.good.circuit c.args.bench.now.block.vectors lane c.args.number
 
   inside : c.args.first + c.live-count.result ≤ length c.args.table.now.rows
-  inside = omega (arith, c.requires.within, c.live-count.ensures.value)
+  inside = omega (arith, c.requires.fits.within, c.live-count.ensures.value)
 
   few : c.live-count.result ≤ LANES
   few = omega (arith, c.requires.run.few, c.live-count.ensures.value)

@@ -1,7 +1,0 @@
-use Rattle.std.proofs.lemmas.Result.{err_from_is_err_and}
-use Rattle.dia_check.proofs.evidence.check_pair_log.Goals as goal
-
-pub returns-in_err-check_log-clause-refused : goal.returns-in_err-check_log-clause-refused
-returns-in_err-check_log-clause-refused c =
-    let p = err_from_is_err_and c.from_residual-in_err-check_log.result c.from_residual-in_err-check_log.ensures.1 in
-    rw (p.1, p.2) (λ refusal is. rw c.in_ok-miter.ensures.clauses at (c.in_err-check_log.ensures.refused refusal is))

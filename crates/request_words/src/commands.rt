@@ -1,0 +1,121 @@
+//! The words of the commands that take more or less than two names: `gen`, `dict`, `faults` and `synth`.
+
+ghost use Rattle.std.specs.Prelude.{◌≡◌, IfOk, IfSome, option_map};
+ghost use Rattle.clap.specs.Words.{app_of, found_of, rows_of};
+ghost use Rattle.request_words.specs.Request.{gen_app, gen_by, dict_app, dict_by, faults_app, faults_by, synth_app, synth_by};
+ghost use Rattle.request_words.specs.Asked.{asked, HasLimits};
+
+use crate::arguments::{
+    bare_command, kind_named, name_arg, name_in, number_arg, number_in, option_arg, two_names,
+};
+use crate::request::Request;
+use clap::{ArgMatches, Command};
+use result_file::Budgets;
+use std::alloc::{AllocError, Global};
+
+// The most blocks of the stream.
+const BLOCKS_LIMIT: u32 = 65_536;
+
+// The most cubes for a pair of faults.
+const CUBES_LIMIT: u32 = 1_048_576;
+
+// The most conflicts for a pair of faults.
+const CONFLICTS_LIMIT: u32 = 100_000;
+
+// The largest number of a netlist.
+const SYNTH_LIMIT: u32 = 2000;
+
+/// Two names and three options.
+pub(crate) fn gen_command<'a>(alloc: Global) -> Result<Command<'a>, AllocError>
+    ensures { IfOk result (λ c. app_of c ≡ gen_app) }
+{
+    let blocks = option_arg(alloc, "blocks", "4", BLOCKS_LIMIT);
+    let cubes = option_arg(alloc, "cubes", "64", CUBES_LIMIT);
+    let conflicts = option_arg(alloc, "conflicts", "2000", CONFLICTS_LIMIT);
+    let named = two_names(alloc, "gen", "bench", "result")?;
+    let whole = named.arg(blocks)?.arg(cubes)?.arg(conflicts)?;
+    Ok(whole)
+}
+
+/// The request of its matches.
+pub(crate) fn gen_in<'a>(matches: &ArgMatches<'a>) -> Request<'a>
+    ensures asked { asked result ≡ gen_by (rows_of (found_of matches.now)) }
+    ensures limits { HasLimits result }
+{
+    let budgets = Budgets {
+        blocks: number_in(matches, "blocks", 0, BLOCKS_LIMIT),
+        cubes: number_in(matches, "cubes", 0, CUBES_LIMIT),
+        conflicts: number_in(matches, "conflicts", 0, CONFLICTS_LIMIT),
+    };
+    Request::Gen(
+        name_in(matches, "bench"),
+        name_in(matches, "result"),
+        budgets,
+    )
+}
+
+/// Four names, of which the first is a kind.
+pub(crate) fn dict_command<'a>(alloc: Global) -> Result<Command<'a>, AllocError>
+    ensures { IfOk result (λ c. app_of c ≡ dict_app) }
+{
+    let results = name_arg(alloc, "result");
+    let output = name_arg(alloc, "dict");
+    let named = two_names(alloc, "dict", "kind", "bench")?;
+    let whole = named.arg(results)?.arg(output)?;
+    Ok(whole)
+}
+
+/// The request of its matches, if they name a kind.
+pub(crate) fn dict_in<'a>(matches: &ArgMatches<'a>) -> Option<Request<'a>>
+    ensures asked { option_map asked result ≡ dict_by (rows_of (found_of matches.now)) }
+    ensures limits { IfSome result HasLimits }
+{
+    let kind = kind_named(name_in(matches, "kind"))?;
+    Some(Request::MakeDict(
+        kind,
+        name_in(matches, "bench"),
+        name_in(matches, "result"),
+        name_in(matches, "dict"),
+    ))
+}
+
+/// A name.
+pub(crate) fn faults_command<'a>(alloc: Global) -> Result<Command<'a>, AllocError>
+    ensures { IfOk result (λ c. app_of c ≡ faults_app) }
+{
+    let bench = name_arg(alloc, "bench");
+    let whole = bare_command(alloc, "faults").arg(bench)?;
+    Ok(whole)
+}
+
+/// The request of its matches.
+pub(crate) fn faults_in<'a>(matches: &ArgMatches<'a>) -> Request<'a>
+    ensures asked { asked result ≡ faults_by (rows_of (found_of matches.now)) }
+    ensures limits { HasLimits result }
+{
+    Request::ListFaults(name_in(matches, "bench"))
+}
+
+/// A number and two names.
+pub(crate) fn synth_command<'a>(alloc: Global) -> Result<Command<'a>, AllocError>
+    ensures { IfOk result (λ c. app_of c ≡ synth_app) }
+{
+    let number = number_arg(alloc, "n", SYNTH_LIMIT);
+    let bench = name_arg(alloc, "bench");
+    let output = name_arg(alloc, "result");
+    let named = bare_command(alloc, "synth").arg(number)?.arg(bench)?;
+    let whole = named.arg(output)?;
+    Ok(whole)
+}
+
+/// The request of its matches.
+pub(crate) fn synth_in<'a>(matches: &ArgMatches<'a>) -> Request<'a>
+    ensures asked { asked result ≡ synth_by (rows_of (found_of matches.now)) }
+    ensures limits { HasLimits result }
+{
+    Request::Synth(
+        number_in(matches, "n", 1, SYNTH_LIMIT),
+        name_in(matches, "bench"),
+        name_in(matches, "result"),
+    )
+}

@@ -1,7 +1,0 @@
-use Rattle.std.proofs.Common.{◌≡◌, map}
-use Rattle.std.specs.List.{range_with_len}
-use Rattle.net_model.specs.ClassTable.{representative}
-use Rattle.samediff_dict.proofs.numbering.representatives.Given as goal
-
-abbrev pub invariant-loop-class : goal.invariant-loop-class
-invariant-loop-class l = l.leads.items ≡ map (representative l.classes) (range_with_len 0 l.class)

@@ -1,0 +1,17 @@
+use Rattle.std.proofs.Common.{length, ◌-◌, ◌≤◌}
+use Rattle.net_model.specs.Rows.{row_at}
+use Rattle.table_dicts.specs.Rows.{AreRowsBegun}
+use Rattle.samediff_dict.specs.Numbered.{baselines_at}
+use Rattle.samediff_dict.proofs.setting.baselines.Given as goal
+
+abbrev pub ghost-chosen_answers : goal.ghost-chosen_answers
+ghost-chosen_answers g a = g.t
+
+abbrev pub invariant-loop-first : goal.invariant-loop-first
+invariant-loop-first g l = record {
+  within : l.first ≤ length l.chosen;
+  begun : AreRowsBegun (length l.chosen) g.t.positions l.first (row_at (baselines_at l.setting.classes.now g.t.rows l.chosen)) l.rows;
+}
+
+abbrev pub decreases-loop-first : goal.decreases-loop-first
+decreases-loop-first g l = length l.chosen - l.first
