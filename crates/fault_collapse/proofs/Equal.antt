@@ -18,6 +18,7 @@ use Rattle.net_model.specs.FaultList.{destinations}
 use Rattle.net_model.specs.Answer.{bit_at, seen_bits, shown_bits, driven_bit, line_bit, Agrees, IsAnswer, AreEqual}
 use Rattle.net_model.specs.Collapse.{carried_value}
 use Rattle.net_model.proofs.Copies.{same_driven, pins_inside, Agrees-unique}
+use Rattle.net_model.proofs.OneAnswer.{one_answer}
 use Rattle.net_model.proofs.Evaluation.{Agrees-exists}
 use Rattle.net_model.proofs.Seen.{length-seen_bits}
 use Rattle.fault_collapse.proofs.Members.{Contains-slice_get}
@@ -30,7 +31,7 @@ use Rattle.fault_collapse.proofs.Steps.{IsCarried, Enters, by_pin, by_stem, IsSt
 
 module _ (c : Circuit) (w : IsCircuit c) where
   pub equal_itself : (f : Fault) → AreEqual c f f
-  equal_itself f v first second wide a b = a.shows ∙ (ap (shown_bits c f) (Agrees-unique c w f v a.bits b.bits a.agrees b.agrees) ∙ sym b.shows)
+  equal_itself f v first second wide a b = one_answer c w f v first second a b
 
   pub equal_sym : (f g : Fault) → AreEqual c f g → AreEqual c g f
   equal_sym f g same v first second wide a b = sym (same v second first wide b a)

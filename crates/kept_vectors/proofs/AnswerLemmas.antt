@@ -1,19 +1,17 @@
 -- Answers to a vector: each fault has one, and where it differs from the fault-free one says which it is.
 use Rattle.std.proofs.Common.{◌≡◌, ◌≢◌, ◌↔◌, ℕ, ◌<◌, Bool, true, false, List, [], ◌∷◌, length, get_or, refl, sym, ap, ◌∙◌, arith, IsTrue}
 use Rattle.std.specs.List.{AllZip}
-use Rattle.std.proofs.lemmas.List.{length-map, same_lists}
+use Rattle.std.proofs.lemmas.List.{length-map}
 use Rattle.std.proofs.lemmas.Bool.{false≢true}
 use Rattle.std.proofs.lemmas.List.FromFn.{length-enumerate_from}
-use Rattle.std.proofs.lemmas.Slice.Zip.{AllZip-long}
 use Rattle.net_model.specs.declared.fault.Fault.{Fault}
 use Rattle.net_model.specs.declared.fault.Fault.TheVariants.{Free}
 use Rattle.net_model.specs.Circuit.{Circuit, IsCircuit}
 use Rattle.net_model.specs.Fault.{readings}
 use Rattle.net_model.specs.Answer.{bit_at, shown_bits, IsAnswer}
 use Rattle.net_model.specs.FaultList.{faults, fault_count, fault_numbered}
-use Rattle.net_model.specs.ClassTable.{ClassTable, class_table}
-use Rattle.net_model.specs.PatternRows.{IsAnswerRow, IsTableOf}
-use Rattle.net_model.proofs.Copies.{Agrees-unique, same_bits_same_list}
+use Rattle.net_model.specs.PatternRows.{IsAnswerRow}
+use Rattle.net_model.proofs.Copies.{same_bits_same_list}
 use Rattle.net_model.proofs.Evaluation.{Agrees-exists}
 use Rattle.class_refine.proofs.Ranges.{zip_at}
 use Rattle.fault_sim.specs.FaultSim.{IsDifference}
@@ -28,9 +26,6 @@ answer_exists c is f v =
     let one = Agrees-exists c f v is in
     (shown_bits c f one.0, record { bits = one.0; agrees = one.1; shows = refl })
 
-pub one_answer : (c : Circuit) → IsCircuit c → (f : Fault) (v first second : List Bool) → IsAnswer c f v first → IsAnswer c f v second → first ≡ second
-one_answer c is f v first second a b = a.shows ∙ (ap (shown_bits c f) (Agrees-unique c is f v a.bits b.bits a.agrees b.agrees) ∙ sym b.shows)
-
 answers_exist : (c : Circuit) → IsCircuit c → (v : List Bool) (fs : List Fault) → (row : List (List Bool)) × AllZip (λ f answer. IsAnswer c f v answer) fs row
 answers_exist c is v [] = ([], tt)
 answers_exist c is v (f ∷ fs) =
@@ -44,18 +39,6 @@ row_exists c is v = answers_exist c is v (faults c)
 -- the answer of a number in a row
 pub answer_in_row : (c : Circuit) (v : List Bool) (row : List (List Bool)) → IsAnswerRow c v row → (number : ℕ) → number < fault_count c → IsAnswer c (fault_numbered c number) v (get_or row number [])
 answer_in_row c v row all number h = zip_at (λ f answer. IsAnswer c f v answer) (faults c) row number Free [] all h
-
-zip_once : {A B : Type 0} (R : A → B → Type 0) (none : A) → ((a : A) (x y : B) → R a x → R a y → x ≡ y) → (ks : List A) (xs ys : List B) → AllZip R ks xs → AllZip R ks ys → xs ≡ ys
-zip_once R none one ks xs ys first second =
-    let long = AllZip-long R ks xs first in
-    same_lists xs ys (omega (arith, long, AllZip-long R ks ys second)) (λ k d below.
-    one (get_or ks k none) (get_or xs k d) (get_or ys k d) (zip_at R ks xs k none d first (omega (arith, below, long))) (zip_at R ks ys k none d second (omega (arith, below, long))))
-
--- the patterns of a circuit have one table
-pub one_table : (c : Circuit) → IsCircuit c → {patterns : List (List Bool)} {t other : ClassTable} → IsTableOf c patterns t → IsTableOf c patterns other → t ≡ other
-one_table c is {patterns} first second =
-    let one_row = λ (v : List Bool) (row other : List (List Bool)). zip_once (λ f answer. IsAnswer c f v answer) Free (λ f. one_answer c is f v) (faults c) row other in
-    first.table ∙ ap (λ (rows : List (List (List Bool))). class_table (fault_count c) rows) (zip_once (IsAnswerRow c) [] one_row patterns first.rows second.rows first.answers second.answers) ∙ sym second.table
 
 both_other : (a b free : Bool) → a ≢ free → b ≢ free → a ≡ b
 both_other true true free ha hb = refl

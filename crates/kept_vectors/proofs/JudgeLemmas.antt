@@ -18,7 +18,7 @@ use Rattle.kept_vectors.specs.Kept.{KeptSoFar, Keeps, KeepsFirst, KeepsRun, IsFi
 use Rattle.kept_vectors.specs.Keeper.{keeper_with, IsKeeper}
 use Rattle.kept_vectors.specs.Notes.{AreTold}
 use Rattle.kept_vectors.specs.Scan.{IsOffered, HasJudged}
-use Rattle.kept_vectors.proofs.AnswerLemmas.{one_table}
+use Rattle.net_model.proofs.OneAnswer.{one_table}
 use Rattle.kept_vectors.proofs.KeepLemmas.{ran_vectors, keeps_none, keeps_lane, keeper_after}
 
 -- what is told of a table is told of one in which more numbers are apart

@@ -22,7 +22,8 @@ use Rattle.fault_sim.specs.Rows.{IsTrueSomewhere}
 use Rattle.fault_sim.specs.FaultSim.{FaultSim, row_at, AreDifferences, IsDifference}
 use Rattle.kept_vectors.specs.declared.notes.Note.{Note}
 use Rattle.kept_vectors.specs.Notes.{has_lane, is_noted, renumbered, AreNotesAt, IsDifferenceOf, IsReportOf, AreRight, IsWholeOf, IsUnnoted, AreNoted, AreAlikeAt, AreRootsOf}
-use Rattle.kept_vectors.proofs.AnswerLemmas.{answer_exists, one_answer, alike_by_differences}
+use Rattle.net_model.proofs.OneAnswer.{one_answer}
+use Rattle.kept_vectors.proofs.AnswerLemmas.{answer_exists, alike_by_differences}
 
 -- ---- the notes of one number
 

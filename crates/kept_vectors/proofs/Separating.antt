@@ -11,7 +11,8 @@ use Rattle.class_refine.proofs.Refined.{sound_from, numbers-refined, class-refin
 use Rattle.class_refine.specs.Fields.{IsWhole}
 use Rattle.kept_vectors.specs.Kept.{KeptSoFar, with_vector, Keeps, IsFiner}
 use Rattle.kept_vectors.specs.Keeper.{keeper_with, IsKeeper}
-use Rattle.kept_vectors.proofs.AnswerLemmas.{one_answer, row_exists, answer_in_row}
+use Rattle.net_model.proofs.OneAnswer.{one_answer}
+use Rattle.kept_vectors.proofs.AnswerLemmas.{row_exists, answer_in_row}
 use Rattle.kept_vectors.proofs.KeepLemmas.{table_numbers, leads_rise, keeper_after}
 use Rattle.kept_vectors.proofs.SameCuts.{whole_kept}
 

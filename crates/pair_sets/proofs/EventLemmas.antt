@@ -1,14 +1,14 @@
 -- Lines that are settled: after one event, and once no gate waits.
-use Rattle.std.proofs.Common.{◌≡◌, ◌≢◌, ℕ, ◌+◌, ◌^◌, ◌<◌, ◌≤◌, List, [], length, get_or, set, refl, sym, ◌∙◌, ap, subst, arith, inl, inr}
+use Rattle.std.proofs.Common.{◌≡◌, ◌≢◌, ℕ, ◌+◌, ◌<◌, ◌≤◌, List, [], length, get_or, set, refl, sym, ◌∙◌, ap, subst, arith, inl, inr}
 use Rattle.std.specs.Prelude.{◌⊎◌, Bool, true, false, All, Contains}
 use Rattle.std.proofs.lemmas.List.Elements.{Contains-get_or}
 use Rattle.std.proofs.lemmas.Bool.{cases_eq, false_from_ne_true}
 use Rattle.std.proofs.lemmas.List.{get_or-set_same, get_or-set_other, get_or_default}
-use Rattle.std.proofs.lemmas.Option.{slice_get-get_or}
 use Rattle.net_model.specs.declared.fault.Fault.{Fault}
 use Rattle.net_model.specs.Circuit.{Circuit, IsCircuit, line_count, Feeds}
-use Rattle.net_model.proofs.Orders.{order_has, order_only, order_count, reader_is_gate}
+use Rattle.net_model.proofs.Orders.{order_has, order_only, reader_is_gate}
 use Rattle.net_model.proofs.SetSoFar.{fits_from}
+use Rattle.net_model.proofs.Places.{later_place}
 use Rattle.net_model.proofs.Elements.{true_false}
 use Rattle.pair_sets.specs.PairSet.{PairSet, free_pairs, IsWithin}
 use Rattle.pair_sets.specs.CubeState.{set_at}
@@ -144,14 +144,6 @@ pub waiting_line : (c : Circuit) (wiring : Wiring) → IsWiring c wiring → (or
     → (c.sources ≤ get_or order place 0) × (get_or order place 0 < line_count c) × (get_or order place 0 ≡ get_or wiring.order place 0)
 waiting_line c wiring wired order e queue room place waits = ordered_line c wiring wired order e place (omega (arith, pending_within queue place waits, room))
 
--- a gate's readers stand after it
-pub later_place : (c : Circuit) (wiring : Wiring) → IsWiring c wiring → (place reader : ℕ) → place < length wiring.order → reader < length wiring.order
-    → Feeds c (get_or wiring.order place 0) (get_or wiring.order reader 0) → place < reader
-later_place c wiring wired place reader h k feeds =
-    let order = wiring.order in
-    wired.order.sorted reader place (get_or order place 0) (get_or order reader 0) (slice_get-get_or order reader 0 k) feeds
-    (order_only c (fits_from c wired.circuit) order wired.order place h).0 (slice_get-get_or order place 0 h)
-
 -- once a gate is taken and the readers of its line are let wait, no place waits up to its own
 pub none_before : (c : Circuit) (wiring : Wiring) → IsWiring c wiring → (place line : ℕ) (queue taken more : List Bool) → place < length wiring.order → line ≡ get_or wiring.order place 0
     → IsLowest queue taken place → WakesOnly c wiring.order line taken more → (p : ℕ) → p < place + 1 → is_pending more p ≡ false
@@ -163,13 +155,3 @@ none_before c wiring wired place line queue taken more within at lowest wakes p 
       | inr (inside, feeds) ↦ later_place c wiring wired place p within inside (subst (λ l. Feeds c l (get_or wiring.order p 0)) at feeds)
     ] in
     omega arith)
-
--- there are as many places as gates
-pub places_are_gates : (c : Circuit) (wiring : Wiring) → IsWiring c wiring → length wiring.order ≡ length c.gates
-places_are_gates c wiring wired = order_count c (fits_from c wired.circuit) wiring.order wired.order
-
-pub few_places : (c : Circuit) (wiring : Wiring) → IsWiring c wiring → length wiring.order < 2 ^ 26
-few_places c wiring wired =
-    let gates = places_are_gates c wiring wired in
-    let small = wired.circuit.small in
-    omega arith

@@ -18,7 +18,6 @@ mod AnswerLemmas
 pub mod HeldLemmas
 mod PieceLemmas
 pub mod FirstLine
-pub mod TableLemmas
 pub mod RefusalLemmas
 mod FileLemmas
 -- Valid is true

@@ -30,7 +30,7 @@ use Rattle.result_file.specs.Refusal.RestRefused.{no_line, no_record, misplaced,
 use Rattle.result_file.proofs.FieldLemmas.{no_line_feed}
 use Rattle.result_file.proofs.HeldLemmas.{line_once}
 use Rattle.result_file.proofs.OnceLemmas.{spelling_once}
-use Rattle.result_file.proofs.TableLemmas.{table_once}
+use Rattle.net_model.proofs.OneAnswer.{one_table}
 
 module _ (c : Circuit) (f g : Fault) (budgets : Budgets) where
   pair_wrong : (kind : EvidenceKind) → kind ≢ Covered → (tree : List Token) (log : List ChainView) (refusal : Refusal) → PairRefused c f g kind budgets tree log refusal
@@ -106,10 +106,10 @@ module _ (c : Circuit) (is : IsCircuit c) (before : List Record) (rest : Text) w
   rest_wrong reason r more (no_record some never is_syntax) line spelled right = never r more spelled line
   rest_wrong reason r more (misplaced r' more' t line' spelled' table out is_order) line spelled right =
       let same = (record_once r' r more' more spelled' spelled (sym line' ∙ line)).0 in
-      out (rw (same, table_once c is table right.table) right.place)
+      out (rw (same, one_table c is table right.table) right.place)
   rest_wrong reason r more (wrong r' more' t line' spelled' table place refused) line spelled right =
       let same = (record_once r' r more' more spelled' spelled (sym line' ∙ line)).0 in
-      content_wrong c t before r' reason refused (rw (same, table_once c is table right.table) right.content)
+      content_wrong c t before r' reason refused (rw (same, one_table c is table right.table) right.content)
 
   -- the rule that it breaks is one
   pub rest_once : (reason other : ResultKind) → RestRefused c before rest reason → RestRefused c before rest other → reason ≡ other
@@ -126,12 +126,12 @@ module _ (c : Circuit) (is : IsCircuit c) (before : List Record) (rest : Text) w
   rest_once reason other (misplaced r more t line spelled table out why_first) (misplaced r' more' t' line' spelled' table' out' why_second) = why_first ∙ sym why_second
   rest_once reason other (misplaced r more t line spelled table out why_first) (wrong r' more' t' line' spelled' table' place refused) =
       let same = (record_once r r' more more' spelled spelled' (sym line ∙ line')).0 in
-      absurd (out (rw (same, table_once c is table table') place))
+      absurd (out (rw (same, one_table c is table table') place))
   rest_once reason other (wrong r more t line spelled table place refused) (no_line nothing unended why_second) = absurd (empty_line (spelling r) more (sym nothing ∙ line))
   rest_once reason other (wrong r more t line spelled table place refused) (no_record some never why_second) = absurd (never r more spelled line)
   rest_once reason other (wrong r more t line spelled table place refused) (misplaced r' more' t' line' spelled' table' out why_second) =
       let same = (record_once r r' more more' spelled spelled' (sym line ∙ line')).0 in
-      absurd (out (rw (sym same, sym (table_once c is table table')) place))
+      absurd (out (rw (sym same, sym (one_table c is table table')) place))
   rest_once reason other (wrong r more t line spelled table place refused) (wrong r' more' t' line' spelled' table' place' refused') =
       let same = (record_once r r' more more' spelled spelled' (sym line ∙ line')).0 in
-      content_once c t before r reason other refused (rw (same, table_once c is table table') refused')
+      content_once c t before r reason other refused (rw (same, one_table c is table table') refused')

@@ -24,7 +24,7 @@ use Rattle.result_file.specs.Meaning.{class_records, member_records, is_body_rec
 use Rattle.result_file.proofs.FileLemmas.{next_right}
 use Rattle.result_file.proofs.RecordLists.{count_kept, count_more, read_kept}
 use Rattle.result_file.proofs.RightLines.{IsNextLine, AreMembers}
-use Rattle.result_file.proofs.TableLemmas.{table_once}
+use Rattle.net_model.proofs.OneAnswer.{one_table}
 
 -- ---- lists that grow at their end
 
@@ -142,8 +142,8 @@ module _ (c : Circuit) (circuit : IsCircuit c) (sources positions numbers : ℕ)
     abbrev listed : List (ℕ × Mark) → List Record
     listed members = heads ++ class_records t.births ++ member_records members
 
-    one_table : (before : List Record) (u : ClassTable) → patterns_in before ≡ patterns_in body → IsTableOf c (patterns_in before) u → u ≡ t
-    one_table before u same of = table_once c circuit (rw same at of) table
+    same_table : (before : List Record) (u : ClassTable) → patterns_in before ≡ patterns_in body → IsTableOf c (patterns_in before) u → u ≡ t
+    same_table before u same of = one_table c circuit (rw same at of) table
 
     classed_lines : (k : ℕ) → k ≤ class_count t → class_lines (classed k) ≡ k
     classed_lines k low =
@@ -234,7 +234,7 @@ module _ (c : Circuit) (circuit : IsCircuit c) (sources positions numbers : ℕ)
     member_right : (members : List (ℕ × Mark)) (number class : ℕ) (m : Mark) → AreMembersSoFar t (evidence_in body) members → IsNextLine c (listed members) (Member number class m)
         → (number ≡ length members) × AreMembersSoFar t (evidence_in body) (members ++ (class, m) ∷ [])
     member_right members number class m so_far next =
-        let same = one_table (listed members) next.right.t (listed_patterns members) next.right.table in
+        let same = same_table (listed members) next.right.t (listed_patterns members) next.right.table in
         let number_is : number ≡ length members = next.right.content.next ∙ listed_members members in
         let class_is : class ≡ class_at t number = rw same at next.right.content.class_is in
         let mark_is : number_mark t (evidence_in body) number ≡ Some m = rw (same, listed_evidence members) at next.right.content.mark_is in
@@ -247,7 +247,7 @@ module _ (c : Circuit) (circuit : IsCircuit c) (sources positions numbers : ℕ)
     end_here : (members : List (ℕ × Mark)) (rest : List Record) → 0 < length members → AreMembersSoFar t (evidence_in body) members → all ≡ listed members ++ End ∷ rest → HasShape c sources positions numbers b all
     end_here members rest many so_far e =
         let next = next_right (listed members) End rest right e in
-        let same = one_table (listed members) next.right.t (listed_patterns members) next.right.table in
+        let same = same_table (listed members) next.right.t (listed_patterns members) next.right.table in
         let count : length members ≡ length t.class_of = sym (listed_members members) ∙ next.right.place.1 ∙ ap (λ (u : ClassTable). length u.class_of) same in
         record { body = body; t = t; members = members; inside = inside; widths = widths; table = table; are = record { count = count; classes = so_far.classes; marks = so_far.marks }; whole = ended members rest many e }
 
@@ -290,7 +290,7 @@ module _ (c : Circuit) (circuit : IsCircuit c) (sources positions numbers : ℕ)
 
     class_right : (k number : ℕ) (birth : Option (ℕ × ℕ)) → k ≤ class_count t → IsNextLine c (classed k) (Class number birth) → (number ≡ k) × (slice_get t.births k ≡ Some birth)
     class_right k number birth low next =
-        let same = one_table (classed k) next.right.t (classed_patterns (take k t.births)) next.right.table in
+        let same = same_table (classed k) next.right.t (classed_patterns (take k t.births)) next.right.table in
         let number_is : number ≡ k = next.right.content.next ∙ classed_lines k low in
         (number_is, rw (same, number_is) at next.right.content.birth_is)
 
@@ -300,7 +300,7 @@ module _ (c : Circuit) (circuit : IsCircuit c) (sources positions numbers : ℕ)
     first_member : (k number class : ℕ) (m : Mark) (rest : List Record) → 0 < k → k ≤ class_count t → all ≡ classed k ++ Member number class m ∷ rest → HasShape c sources positions numbers b all
     first_member k number class m rest many low e =
         let next = next_right (classed k) (Member number class m) rest right e in
-        let same = one_table (classed k) next.right.t (classed_patterns (take k t.births)) next.right.table in
+        let same = same_table (classed k) next.right.t (classed_patterns (take k t.births)) next.right.table in
         let full : k ≡ class_count t = sym (classed_lines k low) ∙ next.right.place.0 ∙ ap (λ (u : ClassTable). length u.births) same in
         let whole : take k t.births ≡ t.births = ap (λ (n : ℕ). take n t.births) full ∙ take_all (class_count t) t.births (omega arith) in
         let lines : classed k ≡ listed [] = ap (λ (births : List (Option (ℕ × ℕ))). heads ++ class_records births) whole ∙ sym (append-nil (heads ++ class_records t.births)) in
@@ -328,7 +328,7 @@ module _ (c : Circuit) (circuit : IsCircuit c) (sources positions numbers : ℕ)
     walk_classes k (Member number class m ∷ rest) many low e = first_member k number class m rest many low e
     walk_classes k (r ∷ rest) many low e =
         let next = next_right (classed k) r rest right e in
-        let same = one_table (classed k) next.right.t (classed_patterns (take k t.births)) next.right.table in
+        let same = same_table (classed k) next.right.t (classed_patterns (take k t.births)) next.right.table in
         absurd (not_behind_classes k next.right.t r many low same refl refl next.right.place)
 
     first_class : (number : ℕ) (birth : Option (ℕ × ℕ)) (rest : List Record) → all ≡ heads ++ Class number birth ∷ rest → HasShape c sources positions numbers b all

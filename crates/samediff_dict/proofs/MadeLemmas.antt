@@ -13,7 +13,7 @@ use Rattle.net_model.specs.ClassTable.{ClassTable, class_count, class_at, class_
 use Rattle.net_model.proofs.Copies.{same_bits_same_list}
 use Rattle.class_refine.specs.Fields.{IsWhole}
 use Rattle.class_refine.proofs.Refined.{representative-member}
-use Rattle.kept_vectors.proofs.AnswerLemmas.{one_table}
+use Rattle.net_model.proofs.OneAnswer.{one_table}
 use Rattle.kept_vectors.proofs.KeepLemmas.{table_numbers}
 use Rattle.table_dicts.specs.AnswerTable.{Answers, AreAnswerable, AreAnswers, answer_in, answer_to}
 use Rattle.table_dicts.specs.ByClass.{AreEntriesOfClasses}

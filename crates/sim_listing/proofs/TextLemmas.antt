@@ -5,7 +5,8 @@ use Rattle.std.specs.List.{AllZip}
 use Rattle.std.proofs.lemmas.Slice.Zip.{AllZip-long}
 use Rattle.net_model.specs.Circuit.{Circuit, IsCircuit}
 use Rattle.net_model.specs.PatternRows.{IsAnswerRow}
-use Rattle.table_dicts.proofs.OneTable.{one_rows, answers_exist}
+use Rattle.net_model.proofs.OneAnswer.{one_rows}
+use Rattle.table_dicts.proofs.OneTable.{answers_exist}
 use Rattle.sim_listing.specs.SimText.{Text, vector_text, texts_from, IsSimTextFrom}
 use Rattle.sim_listing.specs.Laws.{HasOneText}
 

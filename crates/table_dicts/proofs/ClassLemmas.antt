@@ -14,7 +14,7 @@ use Rattle.net_model.specs.PatternRows.{IsTableOf}
 use Rattle.net_model.specs.ClassTable.{ClassTable, class_at, first_table, refined_table, class_table}
 use Rattle.class_refine.proofs.Pieces.{IsSound}
 use Rattle.class_refine.proofs.Refined.{numbers-refined, class-refined, after_same, same_after, sound-refined, sound-first}
-use Rattle.kept_vectors.proofs.AnswerLemmas.{one_table}
+use Rattle.net_model.proofs.OneAnswer.{one_table}
 use Rattle.kept_vectors.proofs.KeepLemmas.{table_numbers}
 use Rattle.net_model.specs.Rows.{row_at}
 use Rattle.table_dicts.specs.Rows.{AreRows}

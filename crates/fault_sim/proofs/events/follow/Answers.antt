@@ -1,27 +1,11 @@
-use Rattle.std.proofs.Common.{◌≡◌, ◌<◌, ◌≤◌, ◌^◌, ◌∙◌, ℕ, length, get_or, true, arith, inl, inr}
-use Rattle.std.proofs.lemmas.Option.{slice_get-get_or}
+use Rattle.std.proofs.Common.{◌≡◌, ◌<◌, ◌≤◌, ◌∙◌, ℕ, length, true, arith, inl, inr}
 use Rattle.std.proofs.lemmas.Bool.{false_from_ne_true}
-use Rattle.net_model.specs.Circuit.{Circuit, Feeds}
-use Rattle.net_model.specs.Wiring.{Wiring, IsWiring}
-use Rattle.net_model.proofs.Orders.{order_only, order_count}
+use Rattle.net_model.proofs.Orders.{order_only}
+use Rattle.net_model.proofs.Places.{later_place, few_places}
 use Rattle.net_model.proofs.SetSoFar.{fits_from}
 use Rattle.event_queue.specs.Pending.{is_pending, IsLowest}
 use Rattle.event_queue.proofs.Marks.{lowest_left, not_before}
 use Rattle.fault_sim.proofs.events.follow.Goals as goal
-
--- a gate's readers stand after it
-later_place : (circuit : Circuit) (w : Wiring) → IsWiring circuit w → (place reader : ℕ) → place < length w.order → reader < length w.order
-    → Feeds circuit (get_or w.order place 0) (get_or w.order reader 0) → place < reader
-later_place circuit w wired place reader h k feeds =
-    let order = w.order in
-    wired.order.sorted reader place (get_or order place 0) (get_or order reader 0) (slice_get-get_or order reader 0 k) feeds
-    (order_only circuit (fits_from circuit wired.circuit) order wired.order place h).0 (slice_get-get_or order place 0 h)
-
-few_places : (circuit : Circuit) (w : Wiring) → IsWiring circuit w → length w.order < 2 ^ 26
-few_places circuit w wired =
-    let gates : length w.order ≡ length circuit.gates = order_count circuit (fits_from circuit wired.circuit) w.order wired.order in
-    let small = wired.circuit.small in
-    omega arith
 
 pub settle-requires-clause-line : goal.settle-requires-clause-line
 settle-requires-clause-line c =

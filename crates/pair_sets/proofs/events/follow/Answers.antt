@@ -6,7 +6,8 @@ use Rattle.event_queue.proofs.Marks.{pending_within}
 use Rattle.pair_sets.specs.PairSet.{free_pairs, IsWithin}
 use Rattle.pair_sets.specs.CubeState.{set_at}
 use Rattle.pair_sets.specs.Events.{IsIdle, AreSettled, AreLoose, gate_line_pairs}
-use Rattle.pair_sets.proofs.EventLemmas.{loose_after, settled_after, ordered_line, none_before, waiting_line, few_places}
+use Rattle.pair_sets.proofs.EventLemmas.{loose_after, settled_after, ordered_line, none_before, waiting_line}
+use Rattle.net_model.proofs.Places.{few_places}
 use Rattle.pair_sets.proofs.TrailLemmas.{longer_more}
 use Rattle.pair_sets.proofs.events.follow.Goals as goal
 

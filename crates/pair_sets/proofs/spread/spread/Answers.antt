@@ -3,7 +3,8 @@ use Rattle.std.specs.Prelude.{false, ◌||◌}
 use Rattle.fault_list.specs.Scope.{is_first_changed}
 use Rattle.event_queue.specs.Pending.{IsLowest}
 use Rattle.event_queue.proofs.Marks.{pending_within}
-use Rattle.pair_sets.proofs.EventLemmas.{ordered_line, none_before, waiting_line, few_places}
+use Rattle.pair_sets.proofs.EventLemmas.{ordered_line, none_before, waiting_line}
+use Rattle.net_model.proofs.Places.{few_places}
 use Rattle.pair_sets.proofs.SpreadLemmas.{none_marked, split_first, split_second, spread_none, spread_taken, spread_marks, spread_sets}
 use Rattle.pair_sets.proofs.spread.spread.Goals as goal
 

@@ -17,7 +17,8 @@ use Rattle.pair_sets.specs.Events.{AreSettled, AreLoose, gate_line_pairs}
 use Rattle.pair_sets.specs.PairSim.{PairSim}
 use Rattle.pair_sets.specs.PairSimFields.{cube_of, pair_sim_of, IsLevelRight, AreLevels, IsReady}
 use Rattle.pair_sets.specs.Tally.{IsShown}
-use Rattle.pair_sets.proofs.EventLemmas.{settled_after, loose_after, places_are_gates}
+use Rattle.pair_sets.proofs.EventLemmas.{settled_after, loose_after}
+use Rattle.net_model.proofs.Places.{places_are_gates}
 use Rattle.pair_sets.proofs.TallyLemmas.{all_from, shown_after}
 use Rattle.pair_sets.proofs.TrailLemmas.{longer_more}
 use Rattle.pair_sets.proofs.LevelLemmas.{right_of, fewer_fixed, pairs_fixed, gates_right, gates_loose, levels_more, levels_few}

@@ -9,7 +9,7 @@ use Rattle.pair_sets.specs.PairSim.{PairSim, pair_sim}
 use Rattle.pair_sets.specs.PairSimFields.{cube_of, pair_sim_of, IsReady}
 use Rattle.pair_sets.specs.Tally.{IsBlank, IsShown, IsTally}
 use Rattle.pair_sets.proofs.BlankLemmas.{free_blank, lowest_level, no_levels, unfixed}
-use Rattle.pair_sets.proofs.EventLemmas.{places_are_gates}
+use Rattle.net_model.proofs.Places.{places_are_gates}
 use Rattle.pair_sets.proofs.LevelLemmas.{right_of}
 use Rattle.pair_sets.proofs.sim.PairSim.enter.Goals as goal
 
