@@ -1,7 +1,8 @@
 -- A search over the miter of a pair, from step to step.
-use Rattle.std.proofs.Common.{◌≡◌, ◌∙◌, ℕ, ◌+◌, ◌<◌, ◌≤◌, ◌^◌, List, length, ap, sym, subst, arith}
+use Rattle.std.proofs.Common.{◌≡◌, ◌∙◌, ℕ, ◌+◌, ◌<◌, ◌≤◌, ◌^◌, List, length, ap, sym, subst, arith, Vec, Global}
 use Rattle.clause_pool.specs.Clauses.{Clause, BeginsWith}
 use Rattle.clause_pool.proofs.Numbered.{begins_through}
+use Rattle.pair_miter.specs.ChainView.{ChainView}
 use Rattle.pair_miter.specs.MiterView.{Miter}
 use Rattle.pair_miter.specs.Variables.{variable_count}
 use Rattle.solver_trail.specs.Trail.{TrailState}
@@ -34,6 +35,10 @@ module _ (m : Miter) (conflicts : ℕ) (old : Search) (pool : List Clause) (h : 
     few = subst (λ cs. length cs ≤ conflicts) (sym chains) h.few;
     begins = h.begins;
   }
+
+  -- the same after a restart
+  pub restarted : (new : Search) → IsPrepared new pool → new.trail.assignment.variables ≡ old.trail.assignment.variables → new.chains ≡ old.chains → IsSearch m conflicts new pool
+  restarted new prepared same chains = search_on new prepared same (ap (λ (v : Vec ChainView Global). v.items) chains)
 
   -- the pool has room for another clause
   pub room_left : length old.chains.items < conflicts → length (clauses_of m) + conflicts < 2 ^ 32 → length pool + 1 < 2 ^ 32

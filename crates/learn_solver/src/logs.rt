@@ -5,24 +5,29 @@ ghost use Rattle.learn_solver.specs.Logs.{without_literal};
 
 use pair_miter::{Chain, Log};
 use std::alloc::{AllocError, Global};
+use std::mem;
 
-/// The log of these chains.
-pub(crate) fn log_of(alloc: Global, chains: Vec<Chain>) -> Result<Log, AllocError>
-    ensures { IfOk result (λ log. log ≡ chains.items) }
+/// The log of these chains, which are moved to it.
+pub(crate) fn log_of(alloc: Global, chains: &mut Vec<Chain>) -> Result<Log, AllocError>
+    ensures { IfOk result (λ log. log ≡ chains.old.items) }
 {
     let mut log = Log::new(alloc);
-    for chain in chains {
+    for chain in mem::replace(chains, Vec::new(alloc)) {
         log.push(chain)?;
     }
     Ok(log)
 }
 
-/// The log of these chains and one more, which don't name a literal any longer.
-pub(crate) fn bare_log(alloc: Global, chains: Vec<Chain>, last: Chain) -> Result<Log, AllocError>
-    ensures { IfOk result (λ log. log ≡ map without_literal chains.items ++ last ∷ []) }
+/// The log of these chains, moved to it without the literals that they name, and of one more.
+pub(crate) fn bare_log(
+    alloc: Global,
+    chains: &mut Vec<Chain>,
+    last: Chain,
+) -> Result<Log, AllocError>
+    ensures { IfOk result (λ log. log ≡ map without_literal chains.old.items ++ last ∷ []) }
 {
     let mut log = Log::new(alloc);
-    for chain in chains {
+    for chain in mem::replace(chains, Vec::new(alloc)) {
         let mut bare = chain;
         bare.set_at(None);
         log.push(bare)?;

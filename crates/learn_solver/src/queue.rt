@@ -32,23 +32,28 @@ impl Queue {
         ensures { IfOk result (λ queue. queue ≡ variables) }
     {
         let size = variables as usize + 1;
-        let mut older = vec![in alloc; 0; size]?;
-        let mut newer = vec![in alloc; 0; size]?;
-        let mut stamps = vec![in alloc; 0; size]?;
-        for variable in 0..variables {
-            let at = variable as usize;
-            newer[at] = variable + 1;
-            older[at + 1] = variable;
-            stamps[at + 1] = variable as u64 + 1;
-        }
-        older[0] = variables;
-        Ok(Queue {
+        let mut queue = Queue {
             variables,
-            older,
-            newer,
-            stamps,
+            older: vec![in alloc; 0; size]?,
+            newer: vec![in alloc; 0; size]?,
+            stamps: vec![in alloc; 0; size]?,
             clock: variables as u64,
-        })
+        };
+        queue.line_up();
+        Ok(queue)
+    }
+
+    // Puts all variables in the order of their numbers.
+    fn line_up(&mut self)
+        ensures { self.new ≡ self.old }
+    {
+        for variable in 0..self.variables {
+            let at = variable as usize;
+            self.newer[at] = variable + 1;
+            self.older[at + 1] = variable;
+            self.stamps[at + 1] = variable as u64 + 1;
+        }
+        self.older[0] = self.variables;
     }
 
     /// How many variables there are.

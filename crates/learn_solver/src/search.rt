@@ -1,8 +1,9 @@
 //! A search under way.
 
-ghost use Rattle.std.specs.Prelude.{[], ◌≡◌, ◌+◌, ◌<◌, ◌^◌, All, IfOk, length};
+ghost use Rattle.std.specs.Prelude.{[], ◌≡◌, ◌∷◌, ◌+◌, ◌++◌, ◌<◌, ◌^◌, All, IfOk, OnOk, length};
 ghost use Rattle.clause_pool.specs.Clauses.{BeginsWith};
-ghost use Rattle.clause_pool.specs.Proper.{IsProper};
+ghost use Rattle.clause_pool.specs.Proper.{HasNoVariableTwice, IsProper};
+ghost use Rattle.learn_solver.specs.Learned.{IsAsserting};
 ghost use Rattle.learn_solver.specs.Ready.{IsReady, IsConflict};
 ghost use Rattle.learn_solver.specs.Search.{IsPrepared, Learns};
 
@@ -10,7 +11,7 @@ use crate::analysis::{Learned, analyze};
 use crate::decider::Decider;
 use crate::learning::learn;
 use crate::marks::Marks;
-use clause_pool::Pool;
+use clause_pool::{Lit, Pool};
 use pair_miter::Chain;
 use solver_trail::Trail;
 use std::alloc::{AllocError, Global};
@@ -32,9 +33,9 @@ pub(crate) fn begin(alloc: Global, pool: &Pool, variables: u32) -> Result<Search
     ensures variables { IfOk result (λ search. search.trail.assignment.variables ≡ variables) }
     ensures none { IfOk result (λ search. search.chains.items ≡ []) }
 {
-    let trail = attach_all(alloc, pool, variables)?;
-    let decider = Decider::new(alloc, variables)?;
     let marks = Marks::new(alloc, variables)?;
+    let decider = Decider::new(alloc, variables)?;
+    let trail = attach_all(alloc, pool, variables)?;
     Ok(Search {
         trail,
         decider,
@@ -80,11 +81,32 @@ pub(crate) fn learn_from(
     }
     chain.set_at(Some(clause[0]));
     search.chains.push(chain)?;
+    take_in(alloc, search, pool, clause.as_slice(), back)?;
+    Ok(None)
+}
+
+// Learns this clause, and decides the variables that its analysis met before all others.
+fn take_in(
+    alloc: Global,
+    search: &mut Search,
+    pool: &mut Pool,
+    clause: &[Lit],
+    back: u32,
+) -> Result<(), AllocError>
+    requires prepared { IsPrepared search.old pool.old.clauses }
+    requires asserting { IsAsserting search.old.trail.assignment back clause.now }
+    requires once { HasNoVariableTwice clause.now }
+    requires few { length pool.old.clauses + 1 < 2 ^ 32 }
+    ensures prepared { OnOk result (IsPrepared search.new pool.new.clauses) }
+    ensures added { OnOk result (pool.new.clauses ≡ pool.old.clauses ++ clause.now ∷ []) }
+    ensures variables { search.new.trail.assignment.variables ≡ search.old.trail.assignment.variables }
+    ensures chains { search.new.chains.items ≡ search.old.chains.items }
+    ensures begins { BeginsWith pool.new.clauses pool.old.clauses }
+{
     search.decider.renew(alloc, search.marks.met())?;
     search.marks.clear_met();
     search.decider.leave(&search.trail, back);
-    learn(&mut search.trail, pool, clause.as_slice(), back)?;
-    Ok(None)
+    learn(&mut search.trail, pool, clause, back)
 }
 
 /// Goes back to level 0.

@@ -40,8 +40,24 @@ pub fn solve(
     ensures begins { BeginsWith pool.new.clauses pool.old.clauses }
 {
     let mut search = begin(alloc, pool, miter.variables())?;
-    match sweep(alloc, miter, &mut search, pool, conflicts)? {
-        Some(last) => Ok(Solved::Refuted(bare_log(alloc, search.chains, last)?)),
+    run(alloc, miter, &mut search, pool, conflicts)
+}
+
+// A search from its beginning to its end.
+fn run(
+    alloc: Global,
+    miter: &Miter,
+    search: &mut Search,
+    pool: &mut Pool,
+    conflicts: u32,
+) -> Result<Solved, AllocError>
+    requires search { IsSearch miter.now conflicts search.old pool.old.clauses }
+    requires few { length (clauses_of miter.now) + conflicts < 2 ^ 32 }
+    ensures solved { IfOk result (IsSolved miter.now.circuit miter.now.f miter.now.g conflicts pool.new.clauses) }
+    ensures begins { BeginsWith pool.new.clauses (clauses_of miter.now) }
+{
+    match sweep(alloc, miter, search, pool, conflicts)? {
+        Some(last) => Ok(Solved::Refuted(bare_log(alloc, &mut search.chains, last)?)),
         None => search_on(alloc, miter, search, pool, conflicts),
     }
 }
@@ -50,31 +66,30 @@ pub fn solve(
 fn search_on(
     alloc: Global,
     miter: &Miter,
-    search: Search,
+    search: &mut Search,
     pool: &mut Pool,
     conflicts: u32,
 ) -> Result<Solved, AllocError>
-    requires search { IsSearch miter.now conflicts search pool.old.clauses }
+    requires search { IsSearch miter.now conflicts search.old pool.old.clauses }
     requires few { length (clauses_of miter.now) + conflicts < 2 ^ 32 }
     ensures solved { IfOk result (IsSolved miter.now.circuit miter.now.f miter.now.g conflicts pool.new.clauses) }
     ensures begins { BeginsWith pool.new.clauses (clauses_of miter.now) }
 {
-    let mut search = search;
     let mut restarts = Restarts::new();
     'conflicts: while search.chains.len() < conflicts as usize {
-        match take_step(alloc, miter, &mut search, pool, conflicts, &Aim::Model)? {
+        match take_step(alloc, miter, search, pool, conflicts, &Aim::Model)? {
             Step::Learned => {
                 if restarts.is_due() {
-                    restart(&mut search, pool);
+                    restart(search, pool);
                 }
             }
             Step::Open => return Ok(Solved::Vector(vector(alloc, miter, &search.trail)?)),
             Step::Refuted(last) => {
-                return Ok(Solved::Refuted(bare_log(alloc, search.chains, last)?));
+                return Ok(Solved::Refuted(bare_log(alloc, &mut search.chains, last)?));
             }
         }
     }
-    Ok(Solved::Spent(log_of(alloc, search.chains)?))
+    Ok(Solved::Spent(log_of(alloc, &mut search.chains)?))
 }
 
 // The vector of a trail by which all variables are set, and with which unit propagation has nothing to do at any clause.

@@ -1,7 +1,7 @@
 //! A sweep from the faults outward: whether the two copies of a line can differ, line by line. Where they can't, the clauses
 //! that are learned say so, and what stands on them later is short.
 
-ghost use Rattle.std.specs.Prelude.{◌≡◌, ◌+◌, ◌<◌, ◌^◌, IfOk, length};
+ghost use Rattle.std.specs.Prelude.{◌≡◌, ◌+◌, ◌<◌, ◌^◌, All, IfOk, length};
 ghost use Rattle.clause_pool.specs.Clauses.{BeginsWith};
 ghost use Rattle.pair_miter.specs.SplitLines.{AreVariables};
 ghost use Rattle.pair_miter.specs.Variables.{variable_count};
@@ -31,9 +31,27 @@ pub(crate) fn sweep(
     ensures ends { IfOk result (EndsSweep miter.now conflicts search.new pool.new.clauses) }
     ensures begins { BeginsWith pool.new.clauses (clauses_of miter.now) }
 {
-    let variables = miter.variables();
     let lines = miter.split_lines()?;
-    for copies in &lines {
+    try_all(alloc, miter, search, pool, conflicts, lines.as_slice())
+}
+
+// Tries each of these lines.
+fn try_all(
+    alloc: Global,
+    miter: &Miter,
+    search: &mut Search,
+    pool: &mut Pool,
+    conflicts: u32,
+    lines: &[Copies],
+) -> Result<Option<Chain>, AllocError>
+    requires search { IsSearch miter.now conflicts search.old pool.old.clauses }
+    requires few { length (clauses_of miter.now) + conflicts < 2 ^ 32 }
+    requires lines { All (AreVariables (variable_count miter.now.circuit miter.now.f miter.now.g)) lines.now }
+    ensures ends { IfOk result (EndsSweep miter.now conflicts search.new pool.new.clauses) }
+    ensures begins { BeginsWith pool.new.clauses (clauses_of miter.now) }
+{
+    let variables = miter.variables();
+    for copies in lines {
         let one = apart(variables, *copies, true);
         if let Some(last) = reach(alloc, miter, search, pool, conflicts, one)? {
             return Ok(Some(last));

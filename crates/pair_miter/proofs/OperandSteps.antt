@@ -1,14 +1,15 @@
 -- Operands: their variables, and the variables from an operand on.
-use Rattle.std.proofs.Common.{◌≡◌, ℕ, ◌+◌, ◌*◌, ◌<◌, ◌≤◌, ap, ◌∙◌, sym, subst, arith, length, get_or, drop}
+use Rattle.std.proofs.Common.{◌≡◌, ℕ, ◌+◌, ◌*◌, ◌<◌, ◌≤◌, ◌++◌, refl, ap, ◌∙◌, sym, subst, arith, length, get_or, drop}
 use Rattle.std.specs.Prelude.{Bool, Option, None, Some, IfSome, List, [], ◌∷◌, All, map}
 use Rattle.std.specs.List.{cons_option}
-use Rattle.std.proofs.lemmas.List.{drop_more, drop_all}
+use Rattle.std.specs.Option.{option_map_or}
+use Rattle.std.proofs.lemmas.List.{append_assoc, drop_more, drop_all}
 use Rattle.std.proofs.lemmas.List.Elements.{All-cons, All-head, All-tail, All-nil, All-map}
 use Rattle.clause_pool.specs.Literal.{Literal}
 use Rattle.clause_pool.specs.Proper.{IsVariable}
 use Rattle.pair_miter.specs.Operand.{Operand, constant, variable, variable_of}
 use Rattle.pair_miter.specs.Marks.{IsOperand, HavePlaces}
-use Rattle.pair_miter.specs.Rows.{variables, signed_literal, with_all}
+use Rattle.pair_miter.specs.Rows.{variables, operand_literals, signed_literal, with_all}
 
 -- operands are within where their variables are
 pub variables_within : (n : ℕ) (operands : List Operand) → All (IsOperand n) operands → All (IsVariable n) (variables operands)
@@ -37,7 +38,19 @@ row_places n marks first positive operands places f h =
     All-cons (λ l. 2 * l.variable + 1 < length marks) first (map (signed_literal positive) (variables operands)) (omega arith)
     (All-map (λ l. 2 * l.variable + 1 < length marks) (signed_literal positive) (variables operands) (λ k d below. let within = variables_within n operands h k d below in omega arith))
 
+-- an operand of fewer variables is one of more
+option_weaker : (n m : ℕ) (o : Option ℕ) → n ≤ m → IfSome o (IsVariable n) → IfSome o (IsVariable m)
+option_weaker n m None le h = h
+option_weaker n m (Some x) le h = (h.0, omega (arith, h.1, le))
+
+pub operand_weaker : (n m : ℕ) (operand : Operand) → n ≤ m → IsOperand n operand → IsOperand m operand
+operand_weaker n m operand le h = option_weaker n m (variable_of operand) le h
+
 -- ---- the variables from an operand on
+
+literal_and : (positive : Bool) (o : Option ℕ) (xs : List ℕ) → option_map_or (λ x. signed_literal positive x ∷ []) o [] ++ map (signed_literal positive) xs ≡ map (signed_literal positive) (cons_option o xs)
+literal_and positive None xs = refl
+literal_and positive (Some x) xs = refl
 
 module _ (operands : List Operand) (i : ℕ) (operand : Operand) (h : i < length operands) (is : operand ≡ get_or operands i operand) where
   one_more : variables (drop i operands) ≡ cons_option (variable_of operand) (variables (drop (i + 1) operands))
@@ -48,6 +61,14 @@ module _ (operands : List Operand) (i : ℕ) (operand : Operand) (h : i < length
 
   pub constant_at : variable_of operand ≡ None → variables (drop i operands) ≡ variables (drop (i + 1) operands)
   constant_at e = one_more ∙ ap (λ (o : Option ℕ). cons_option o (variables (drop (i + 1) operands))) e
+
+  -- a row goes on with the operand's literal
+  pub row_more : (positive : Bool) (row more whole : List Literal) → more ≡ row ++ operand_literals positive operand → row ++ map (signed_literal positive) (variables (drop i operands)) ≡ whole
+      → more ++ map (signed_literal positive) (variables (drop (i + 1) operands)) ≡ whole
+  row_more positive row more whole e so_far =
+      let rest : List Literal = map (signed_literal positive) (variables (drop (i + 1) operands)) in
+      let joined = literal_and positive (variable_of operand) (variables (drop (i + 1) operands)) ∙ sym (ap (map (signed_literal positive)) one_more) in
+      ap (λ ls. ls ++ rest) e ∙ (append_assoc row (operand_literals positive operand) rest ∙ (ap (λ ls. row ++ ls) joined ∙ so_far))
 
   pub operand_within : (n : ℕ) → All (IsOperand n) operands → IsOperand n operand
   operand_within n all = subst (IsOperand n) (sym is) (all i operand h)

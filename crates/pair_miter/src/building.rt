@@ -1,6 +1,7 @@
 //! The miter of a pair of faults, built into a pool of clauses.
 
 ghost use Rattle.std.specs.Prelude.{◌≡◌, ◌+◌, ◌<◌, ◌^◌, [], length, IfOk, OnOk, OnErr};
+ghost use Rattle.net_model.specs.Circuit.{IsCircuit};
 ghost use Rattle.net_model.specs.Fault.{IsFaultOf};
 ghost use Rattle.net_model.specs.Scope.{reached_positions};
 ghost use Rattle.pair_miter.specs.declared.side.Side.TheVariants.{First};
@@ -57,17 +58,28 @@ fn write_miter<'a>(
     ensures written { Writes result pool.old pool.new (miter circuit.now f g) }
 {
     let numbering = Numbering::new(alloc, circuit, f, g)?;
-    let first_difference = numbering.end() + count_helpers(&numbering);
-    let variables = first_difference - 1 + count_reached(&numbering);
-    let mut writer = Writer::new(alloc, variables, numbering.end())?;
-    write_lines(&mut writer, pool, &numbering)?;
-    write_differences(alloc, &mut writer, pool, &numbering, first_difference)?;
+    let variables = write_parts(alloc, pool, &numbering)?;
     Ok(Miter {
         alloc,
         numbering,
         variables,
         clauses: pool.len(),
     })
+}
+
+// Writes the clauses of the lines and of the differences. Answers how many variables there are.
+fn write_parts(alloc: Global, pool: &mut Pool, numbering: &Numbering) -> Result<u32, AllocError>
+    requires { pool.old.clauses ≡ [] }
+    ensures variables { IfOk result (λ variables. variables ≡ variable_count numbering.now.circuit numbering.now.f numbering.now.g) }
+    ensures written { Writes result pool.old pool.new (miter numbering.now.circuit numbering.now.f numbering.now.g) }
+    ensures circuit { IsCircuit numbering.now.circuit }
+{
+    let first_difference = numbering.end() + count_helpers(numbering);
+    let variables = first_difference - 1 + count_reached(numbering);
+    let mut writer = Writer::new(alloc, variables, numbering.end())?;
+    write_lines(&mut writer, pool, numbering)?;
+    write_differences(alloc, &mut writer, pool, numbering, first_difference)?;
+    Ok(variables)
 }
 
 // How many positions are reached.

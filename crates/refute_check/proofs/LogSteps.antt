@@ -1,6 +1,6 @@
 -- One chain of a log after another, over a pool whose clauses count as those of the miter and the ends so far.
-use Rattle.std.proofs.Common.{◌≡◌, ◌∙◌, ℕ, ◌+◌, ◌<◌, ◌==◌, ◌++◌, List, [], ◌∷◌, length, get_or, refl, sym, ap, subst, arith}
-use Rattle.std.specs.Prelude.{Option, Some, slice_get, All}
+use Rattle.std.proofs.Common.{◌≡◌, ◌≢◌, ◌∙◌, ℕ, ◌+◌, ◌<◌, ◌≤◌, ◌++◌, List, [], ◌∷◌, length, get_or, refl, sym, ap, subst, arith}
+use Rattle.std.specs.Prelude.{Bool, Option, Some, slice_get, All}
 use Rattle.std.proofs.lemmas.List.{append_assoc}
 use Rattle.std.proofs.lemmas.Option.{slice_get_read}
 use Rattle.clause_pool.specs.Clauses.{Clause}
@@ -8,6 +8,7 @@ use Rattle.clause_pool.specs.Proper.{HasVariablesUpTo}
 use Rattle.pair_miter.specs.ChainView.{ChainView}
 use Rattle.pair_miter.specs.Resolution.{chain_end, SameLiterals, AreAlike}
 use Rattle.refute_check.specs.declared.refusal.EvidenceKind.{EvidenceKind}
+use Rattle.refute_check.specs.declared.refusal.EvidenceKind.TheVariants.{Covered, Refuted, Spent}
 use Rattle.refute_check.specs.declared.refusal.RefusalKind.{RefusalKind}
 use Rattle.refute_check.specs.declared.refusal.Refusal.{Refusal}
 use Rattle.refute_check.specs.LogRefusal.{AreRightBefore, ChainStops, EndsAs, HasRightLength, IsRightEnd, IsRuleFor, LogRefused, at_step, at_end, end_refusal, is_last}
@@ -20,34 +21,31 @@ use Rattle.refute_check.proofs.Chains.{before_next, next_ends}
 pub end_within : (variable : ℕ) (pool : List Clause) (chain : ChainView) (literals : Clause) → All (HasVariablesUpTo variable) pool → EndsAs pool chain literals → HasVariablesUpTo variable literals
 end_within variable pool chain literals all (end, is, same) = within_alike variable literals end same (chain_within variable pool all chain end is)
 
--- A chain stands at a place of a log of the right length. The chains before it are right, and a pool has the clauses and their ends.
-pub record IsNext (kind : EvidenceKind) (clauses : List Clause) (limit : ℕ) (log : List ChainView) (at : ℕ) (chain : ChainView) (pool : List Clause) : Type 0 where
-  pub long : HasRightLength kind limit log
+-- a log of the right length has at most one chain more than the limit
+pub few_chains : (kind : EvidenceKind) (limit : ℕ) (log : List ChainView) → kind ≢ Covered → HasRightLength kind limit log → length log ≤ limit + 1
+few_chains Covered limit log other h = absurd (other refl)
+few_chains Refuted limit log other h = h.1
+few_chains Spent limit log other h = omega (arith, h)
+
+-- A chain stands at a place of a log. The chains before it are right, and a pool has the clauses and their ends.
+pub record IsNext (kind : EvidenceKind) (clauses : List Clause) (log : List ChainView) (at : ℕ) (chain : ChainView) (pool : List Clause) : Type 0 where
   pub before : AreRightBefore kind clauses log at
   pub chain_is : slice_get log at ≡ Some chain
   pub are : AreAlike (clauses ++ before.ends) pool
 
-pub next_chain : (limit : ℕ) {kind : EvidenceKind} {clauses : List Clause} {given log : List ChainView} {at : ℕ} {chain : ChainView} {pool : List Clause} → given ≡ log → HasRightLength kind limit given → at < length given → chain ≡ get_or given at chain
-    → (before : AreRightBefore kind clauses log at) → (at < length log → AreAlike (clauses ++ before.ends) pool) → IsNext kind clauses limit log at chain pool
-next_chain limit {kind = kind} {log = log} {at = at} {chain = chain} same long inside is before are =
-    let within : at < length log = omega (arith, inside, ap length same) in
-    record {
-      long = subst (HasRightLength kind limit) same long;
-      before = before;
-      chain_is = slice_get_read log (length log) at chain refl within (is ∙ ap (λ xs. get_or xs at chain) same);
-      are = are within;
-    }
+pub next_chain : {kind : EvidenceKind} {clauses : List Clause} {log : List ChainView} {at : ℕ} {chain : ChainView} {pool : List Clause} → at < length log → chain ≡ get_or log at chain → (before : AreRightBefore kind clauses log at)
+    → (at < length log → AreAlike (clauses ++ before.ends) pool) → IsNext kind clauses log at chain pool
+next_chain {log = log} {at = at} {chain = chain} inside is before are =
+    record { before = before; chain_is = slice_get_read log (length log) at chain refl inside is; are = are inside }
 
--- what is answered of an end, of the log itself
-pub rule_told : (kind : EvidenceKind) (at : ℕ) (pool : List Clause) (chain : ChainView) (literals : Clause) {given log : List ChainView} {rule found : Option RefusalKind} → given ≡ log → rule ≡ found
-    → IsRuleFor kind (at + 1 == length given) pool chain literals rule → IsRuleFor kind (is_last log at) pool chain literals found
-rule_told kind at pool chain literals {log = log} {rule = rule} same is told =
-    subst (IsRuleFor kind (is_last log at) pool chain literals) is (subst (λ (xs : List ChainView). IsRuleFor kind (at + 1 == length xs) pool chain literals rule) same told)
+-- what is told of an end, by what is answered
+pub rule_told : (kind : EvidenceKind) (last : Bool) (pool : List Clause) (chain : ChainView) (literals : Clause) {rule found : Option RefusalKind} → rule ≡ found → IsRuleFor kind last pool chain literals rule → IsRuleFor kind last pool chain literals found
+rule_told kind last pool chain literals is told = subst (IsRuleFor kind last pool chain literals) is told
 
-module _ {kind : EvidenceKind} {clauses : List Clause} {limit : ℕ} {log : List ChainView} {at : ℕ} {chain : ChainView} {pool : List Clause} (n : IsNext kind clauses limit log at chain pool) where
-  pub refused_step : (refusal : Refusal) → refusal.step ≡ at → ChainStops pool chain refusal.kind → LogRefused kind clauses limit log refusal
-  refused_step refusal here stops =
-      at_step at refusal.kind n.long (record { before = n.before; chain = chain; chain_is = n.chain_is; stops = stops_alike (clauses ++ n.before.ends) pool n.are chain refusal.kind stops })
+module _ {kind : EvidenceKind} {clauses : List Clause} {log : List ChainView} {at : ℕ} {chain : ChainView} {pool : List Clause} (n : IsNext kind clauses log at chain pool) where
+  pub refused_step : (limit : ℕ) (refusal : Refusal) → HasRightLength kind limit log → refusal.step ≡ at → ChainStops pool chain refusal.kind → LogRefused kind clauses limit log refusal
+  refused_step limit refusal long here stops =
+      at_step at refusal.kind long (record { before = n.before; chain = chain; chain_is = n.chain_is; stops = stops_alike (clauses ++ n.before.ends) pool n.are chain refusal.kind stops })
       (λ i. record { kind = refusal.kind; step = here i })
 
   module _ (literals : Clause) (ends : EndsAs pool chain literals) where
@@ -57,11 +55,11 @@ module _ {kind : EvidenceKind} {clauses : List Clause} {limit : ℕ} {log : List
         let own = alike_some (chain_end (clauses ++ n.before.ends) chain) (chain_end pool chain) ends.0 (chain_alike (clauses ++ n.before.ends) pool n.are chain) ends.1 in
         (own.0, own.1, same_trans own.0 ends.0 literals own.2 (same_sym literals ends.0 ends.2))
 
-    pub refused_end : (refusal : Refusal) (rule : RefusalKind) → (IsRightEnd kind (is_last log at) pool chain literals → ⊥) → rule ≡ end_refusal kind (is_last log at) literals → refusal ≡ record { kind = rule; step = at }
+    pub refused_end : (limit : ℕ) (refusal : Refusal) → HasRightLength kind limit log → (rule : RefusalKind) → (IsRightEnd kind (is_last log at) pool chain literals → ⊥) → rule ≡ end_refusal kind (is_last log at) literals → refusal ≡ record { kind = rule; step = at }
         → LogRefused kind clauses limit log refusal
-    refused_end refusal rule wrong rule_is is =
+    refused_end limit refusal long rule wrong rule_is is =
         let own = own_end in
-        at_end at own.0 n.long (record {
+        at_end at own.0 long (record {
           before = n.before;
           chain = chain;
           chain_is = n.chain_is;

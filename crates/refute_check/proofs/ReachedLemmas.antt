@@ -154,6 +154,9 @@ by_has clause l never false e = e
 pub not_contained : (clause : Clause) (at : Literal) (found : Bool) → IsAnyAnswer (λ l t. eqb (code_of l) (code_of at) ≡ t) clause found → found ≡ false → has_literal clause at ≡ false
 not_contained clause at found is f = by_has clause at (not_in clause at found is f) (has_literal clause at) refl
 
+pub cannot_pivot : (clause other : Clause) (pivot : Literal) → has_literal clause pivot ≡ false → can_resolve pivot clause other ≡ false
+cannot_pivot clause other pivot e = ap (λ (b : Bool). b && has_literal other (opposite pivot)) e
+
 pub cannot_other : (clause other : Clause) (pivot : Literal) → has_literal other (opposite pivot) ≡ false → can_resolve pivot clause other ≡ false
 cannot_other clause other pivot e = and_false (has_literal clause pivot) (has_literal other (opposite pivot)) e
 

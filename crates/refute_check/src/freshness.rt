@@ -42,9 +42,9 @@ pub fn fresh(
 /// Unit propagation over the clauses of a pool. Nothing is held between its calls.
 #[derive(Drop)]
 pub(crate) struct Propagator {
+    pub(crate) looked: Looked,
     pub(crate) held: Assignment,
     pub(crate) index: Index,
-    pub(crate) looked: Looked,
 }
 
 impl Propagator {
@@ -54,18 +54,18 @@ impl Propagator {
         ensures { IfOk result (IsReady variables pool.now.clauses) }
     {
         Ok(Propagator {
+            looked: Looked::none(alloc, pool.len())?,
             held: Assignment::new(alloc, variables)?,
             index: Index::of(alloc, pool, variables)?,
-            looked: Looked::none(alloc, pool.len())?,
         })
     }
 
     /// A propagator for no clauses.
     pub(crate) fn idle(alloc: Global) -> Result<Propagator, AllocError> {
         Ok(Propagator {
+            looked: Looked::none(alloc, 0)?,
             held: Assignment::new(alloc, 0)?,
             index: Index::none(alloc, 0)?,
-            looked: Looked::none(alloc, 0)?,
         })
     }
 

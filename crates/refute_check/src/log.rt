@@ -46,15 +46,45 @@ pub fn check_log(
     let variables = miter.variables();
     let mut reached = Reached::new(alloc);
     let mut propagator = propagator_for(alloc, pool, variables, kind)?;
+    check_chains(
+        alloc,
+        &mut reached,
+        &mut propagator,
+        pool,
+        variables,
+        chains,
+        kind,
+    )
+}
+
+// Checks the chains of a log of the right length, as `check_log` does.
+fn check_chains(
+    alloc: Global,
+    reached: &mut Reached,
+    propagator: &mut Propagator,
+    pool: &mut Pool,
+    variables: u32,
+    chains: &[Chain],
+    kind: EvidenceKind,
+) -> Result<(), CheckFault>
+    requires empty { IsReached reached.old [] }
+    requires ready { IsReadyFor kind variables pool.old.clauses propagator.old }
+    requires kind { kind ≢ EvidenceKind.Covered }
+    requires clauses { All (HasVariablesUpTo variables) pool.old.clauses }
+    requires few { length pool.old.clauses + length chains.now ≤ 2 ^ 32 }
+    ensures right { OnOk result ((conflicts : ℕ) → HasRightLength kind conflicts chains.now → IsRightLog kind pool.old.clauses conflicts chains.now) }
+    ensures refused { (conflicts : ℕ) (refusal : Refusal) → HasRightLength kind conflicts chains.now → IsErrOf result (CheckFault.Refused refusal) → LogRefused kind pool.old.clauses conflicts chains.now refusal }
+    ensures begins { BeginsWith pool.new.clauses pool.old.clauses }
+{
     for (at, chain) in chains.iter().enumerate() {
-        let end = end_of(alloc, &mut reached, pool, chain, at)?;
+        let end = end_of(alloc, reached, pool, chain, at)?;
         let last = at + 1 == chains.len();
-        if let Some(rule) = wrong_end(&mut propagator, pool, variables, chain, &end, kind, last) {
+        if let Some(rule) = wrong_end(propagator, pool, variables, chain, &end, kind, last) {
             return Err(refused(rule, at));
         }
         if !last {
             add(pool, end.as_slice())?;
-            take_in(&mut propagator, kind, end.as_slice(), pool.len())?;
+            take_in(propagator, kind, end.as_slice(), pool.len())?;
         }
     }
     Ok(())

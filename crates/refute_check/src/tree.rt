@@ -1,11 +1,12 @@
 //! The check of a tree of cubes.
 
-ghost use Rattle.std.specs.Prelude.{◌≡◌, ◌==◌, ◌↔◌, IsTrue, IsErrOf, OnOk, false};
+ghost use Rattle.std.specs.Prelude.{◌≡◌, ◌==◌, ◌↔◌, ◌∷◌, [], IsTrue, IsErrOf, IfOk, OnOk, false};
 ghost use Rattle.std.specs.List.{list_any};
 ghost use Rattle.net_model.specs.Fault.{IsFaultOf};
 ghost use Rattle.pair_sets.specs.declared.state.PairState.TheVariants.{Undecided};
 ghost use Rattle.pair_sets.specs.declared.tree.Token.TheVariants.{Split};
 ghost use Rattle.pair_sets.specs.CubeState.{IsState};
+ghost use Rattle.pair_sets.specs.PairSim.{pair_sim};
 ghost use Rattle.pair_sets.specs.Tree.{IsRightAt, after_token, closed_count};
 ghost use Rattle.refute_check.specs.declared.refusal.Refusal.{Refusal};
 ghost use Rattle.refute_check.specs.TreeRefusal.{IsRightTree, TreeRefused};
@@ -34,41 +35,66 @@ pub fn check_tree(
     ensures right { OnOk result (IsRightTree circuit.now f.now g.now kind cubes tree.now) }
     ensures refused { (refusal : Refusal) → IsErrOf result (CheckFault.Refused refusal) → TreeRefused circuit.now f.now g.now kind cubes tree.now refusal }
 {
-    let mut walk = Walk {
-        sim: PairSim::new(alloc, circuit, f, g)?,
-        scope: Scope::of(alloc, circuit, f, g)?,
-        path: Vec::new(alloc),
-        sources: circuit.sources(),
-        whole: false,
-    };
-    let tokens = tree.as_slice();
-    for (step, token) in tokens.iter().enumerate() {
-        if let Some(kind) = walk.wrong(*token) {
-            return Err(refused(kind, step));
-        }
-        walk.go_on(*token)?;
-    }
-    if !walk.whole {
-        return Err(refused(RefusalKind::BadTree, tokens.len()));
-    }
-    if !has_right_counts(tokens, kind, cubes) {
-        return Err(refused(RefusalKind::WrongCount, tokens.len()));
-    }
-    Ok(())
+    let mut walk = Walk::at_root(alloc, circuit, f, g)?;
+    walk.check(tree.as_slice(), kind, cubes)
 }
 
 // A cube on the way through a tree: the splits above it with their bits, the last one last. Once the tree is whole there is
 // none.
 #[derive(Drop)]
 struct Walk<'a> {
-    sim: PairSim<'a>,
     scope: Scope,
+    sim: PairSim<'a>,
     path: Vec<(u32, bool)>,
     sources: u32,
     whole: bool,
 }
 
 impl<'a> Walk<'a> {
+    // The walk at the root of a tree about two faults.
+    fn at_root(
+        alloc: Global,
+        circuit: &'a Circuit,
+        f: &Fault,
+        g: &Fault,
+    ) -> Result<Walk<'a>, AllocError>
+        requires first { IsFaultOf circuit.now f.now }
+        requires second { IsFaultOf circuit.now g.now }
+        ensures walk { IfOk result IsWalk }
+        ensures sim { IfOk result (λ walk. walk.sim ≡ pair_sim circuit.now f.now g.now []) }
+        ensures root { IfOk result (λ walk. waiting_in walk ≡ [] ∷ []) }
+    {
+        Ok(Walk {
+            scope: Scope::of(alloc, circuit, f, g)?,
+            sim: PairSim::new(alloc, circuit, f, g)?,
+            path: Vec::new(alloc),
+            sources: circuit.sources(),
+            whole: false,
+        })
+    }
+
+    // Goes through the whole tree from its root, and checks it as `check_tree` does.
+    fn check(&mut self, tokens: &[Token], kind: EvidenceKind, cubes: u32) -> Result<(), CheckFault>
+        requires walk { IsWalk self.old }
+        requires root { waiting_in self.old ≡ [] ∷ [] }
+        ensures right { OnOk result (IsRightTree self.old.sim.circuit self.old.sim.f self.old.sim.g kind cubes tokens.now) }
+        ensures refused { (refusal : Refusal) → IsErrOf result (CheckFault.Refused refusal) → TreeRefused self.old.sim.circuit self.old.sim.f self.old.sim.g kind cubes tokens.now refusal }
+    {
+        for (step, token) in tokens.iter().enumerate() {
+            if let Some(rule) = self.wrong(*token) {
+                return Err(refused(rule, step));
+            }
+            self.go_on(*token)?;
+        }
+        if !self.whole {
+            return Err(refused(RefusalKind::BadTree, tokens.len()));
+        }
+        if !has_right_counts(tokens, kind, cubes) {
+            return Err(refused(RefusalKind::WrongCount, tokens.len()));
+        }
+        Ok(())
+    }
+
     // The rule that a token breaks at the cube, if it breaks one.
     fn wrong(&self, token: Token) -> Option<RefusalKind>
         requires { IsWalk self.now }

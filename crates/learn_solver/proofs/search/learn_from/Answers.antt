@@ -1,12 +1,10 @@
-use Rattle.std.proofs.Common.{◌≡◌, ◌∙◌, ◌<◌, ◌≤◌, ◌++◌, ◌∷◌, [], length, get_or, ap, sym, subst, arith, eqb-true}
+use Rattle.std.proofs.Common.{◌≡◌, ◌∙◌, ◌<◌, ◌++◌, ◌∷◌, [], length, get_or, ap, sym, subst, arith, eqb-true}
 use Rattle.std.specs.Prelude.{vec_len}
 use Rattle.std.proofs.lemmas.Bool.{eqb-false}
 use Rattle.std.proofs.lemmas.List.{length_push, nil_from_length}
-use Rattle.std.proofs.lemmas.List.Elements.{All-weaker}
 use Rattle.pair_miter.specs.Fresh.{IsFresh}
 use Rattle.learn_solver.specs.Learned.{IsAsserting}
 use Rattle.learn_solver.specs.Learning.{IsLearning}
-use Rattle.learn_solver.specs.Walk.{AreClear}
 use Rattle.learn_solver.proofs.LearnSteps.{learned_fresh}
 use Rattle.learn_solver.proofs.Solving.{named_at, learned_above, refutes, learning_more}
 use Rattle.learn_solver.proofs.search.learn_from.Goals as goal
@@ -18,15 +16,15 @@ returns-then-is_empty-clause-learned c = λ first conflicts learning few.
     refutes first c.args.pool.now.clauses c.args.search.now.chains.items learning c.args.search.now.trail.assignment learned.chain learned.clause.items learned.back
     c.in_ok-learned.ensures.learned (nil_from_length learned.clause.items none) conflicts few
 
-pub renew-requires : goal.renew-requires
-renew-requires c =
-    let old = c.args.search.now in
-    let n = c.requires.prepared.decider in
-    let places = c.in_ok-learned.ensures.clear.places in
-    All-weaker (λ x. x < length c.analyze.new.marks) (λ x. x ≤ old.decider) (λ x h. omega (arith, h, places, n)) c.met.result.now c.met.ensures
+pub take_in-requires-clause-prepared : goal.take_in-requires-clause-prepared
+take_in-requires-clause-prepared c = record {
+  ready = c.requires.prepared.ready;
+  decider = c.requires.prepared.decider;
+  clear = c.in_ok-learned.ensures.clear;
+}
 
-pub learn-requires-clause-asserting : goal.learn-requires-clause-asserting
-learn-requires-clause-asserting c =
+pub take_in-requires-clause-asserting : goal.take_in-requires-clause-asserting
+take_in-requires-clause-asserting c =
     let learned = c.in_ok-learned.learned in
     let a = c.args.search.now.trail.assignment in
     let is = c.in_ok-learned.ensures.learned in
@@ -49,18 +47,15 @@ returns-clause-learned c =
     let asserts = is.asserting above in
     let same : asserts.asserting ≡ x = sym (ap (λ ls. get_or ls 0 x) asserts.is) ∙ sym c.index.ensures in
     let fresh = subst (IsFresh pool clause) same (learned_fresh a ready.is_trail clause learned.back asserts pool ready.quiet) in
-    let added : c.learn.new.pool.clauses ≡ pool ++ clause ∷ [] = c.in_ok-learn.ensures.added ∙ ap (λ ls. pool ++ ls ∷ []) c.as_slice.ensures.value in
+    let e = c.in_ok-take_in.ensures in
+    let added : c.take_in.new.pool.clauses ≡ pool ++ clause ∷ [] = e.added ∙ ap (λ ls. pool ++ ls ∷ []) c.as_slice.ensures.value in
     let pushed : c.push.new.self.items ≡ old.chains.items ++ named_at learned.chain x ∷ [] = c.in_ok-push.ensures.items ∙ ap (λ chain. old.chains.items ++ chain ∷ []) c.set_at.ensures in
-    let n = c.in_ok-learn.ensures.variables in
+    let chains : c.take_in.new.search.chains.items ≡ old.chains.items ++ named_at learned.chain x ∷ [] = e.chains ∙ pushed in
     record {
-      prepared = record {
-        ready = c.in_ok-learn.ensures.ready;
-        decider = c.leave.ensures ∙ (c.renew.ensures ∙ (c.requires.prepared.decider ∙ sym n));
-        clear = subst (AreClear c.learn.new.trail.assignment.variables) (sym c.clear_met.ensures) (subst (λ v. AreClear v c.analyze.new.marks) (sym n) c.in_ok-learned.ensures.clear);
-      };
-      variables = n;
-      count = ap length pushed ∙ length_push old.chains.items (named_at learned.chain x);
+      prepared = e.prepared;
+      variables = e.variables;
+      count = ap length chains ∙ length_push old.chains.items (named_at learned.chain x);
       learning = λ first learning.
-          subst (λ cs. IsLearning first cs c.push.new.self.items) (sym added)
-          (subst (IsLearning first (pool ++ clause ∷ [])) (sym pushed) (learning_more first pool old.chains.items learning a learned.chain clause learned.back is x fresh));
+          subst (λ cs. IsLearning first cs c.take_in.new.search.chains.items) (sym added)
+          (subst (IsLearning first (pool ++ clause ∷ [])) (sym chains) (learning_more first pool old.chains.items learning a learned.chain clause learned.back is x fresh));
     }

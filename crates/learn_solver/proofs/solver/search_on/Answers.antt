@@ -4,6 +4,7 @@ use Rattle.learn_solver.specs.declared.aim.Aim.TheVariants.{Model}
 use Rattle.learn_solver.specs.Search.{EndsStep, clauses_of}
 use Rattle.learn_solver.specs.Solved.{HasSpentLog}
 use Rattle.learn_solver.proofs.Attaching.{quiet_first}
+use Rattle.learn_solver.proofs.Searching.{restarted}
 use Rattle.learn_solver.proofs.Solving.{spends}
 use Rattle.learn_solver.proofs.solver.search_on.Goals as goal
 
@@ -26,3 +27,14 @@ returns-clause-solved c =
     let all : length search.chains.items ≡ c.args.conflicts = omega (arith, c.conflicts-test.false, c.len.ensures, c.conflicts.invariant.few, search.chains.ok.0) in
     subst (HasSpentLog first c.args.conflicts c.conflicts.pool.clauses) (sym c.in_ok-log_of.ensures)
     (spends first c.conflicts.pool.clauses search.chains.items c.args.conflicts c.conflicts.invariant.learning all)
+
+pub conflicts-preserved : goal.conflicts-preserved
+conflicts-preserved c =
+    let end = subst (EndsStep c.args.miter.now c.args.conflicts Model c.conflicts.search c.take_step.new.search c.take_step.new.pool.clauses) c.in-Learned.is c.in_ok-take_step.ensures.ends in
+    end.0
+
+pub conflicts-preserved-then-is_due : goal.conflicts-preserved-then-is_due
+conflicts-preserved-then-is_due c =
+    let end = subst (EndsStep c.args.miter.now c.args.conflicts Model c.conflicts.search c.take_step.new.search c.take_step.new.pool.clauses) c.in-Learned.is c.in_ok-take_step.ensures.ends in
+    let e = c.restart.ensures in
+    restarted c.args.miter.now c.args.conflicts c.take_step.new.search c.take_step.new.pool.clauses end.0 c.restart.new.search e.prepared e.variables e.chains

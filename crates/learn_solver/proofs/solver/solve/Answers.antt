@@ -11,8 +11,8 @@ use Rattle.learn_solver.proofs.solver.solve.Goals as goal
 pub begin-requires-clause-proper : goal.begin-requires-clause-proper
 begin-requires-clause-proper c = subst (All (IsProper c.variables.result)) (sym c.requires.clauses) c.variables.ensures.proper
 
-pub sweep-requires-clause-search : goal.sweep-requires-clause-search
-sweep-requires-clause-search c =
+pub run-requires-clause-search : goal.run-requires-clause-search
+run-requires-clause-search c =
     let first = clauses_of c.args.miter.now in
     let e = c.in_ok-search.ensures in
     record {

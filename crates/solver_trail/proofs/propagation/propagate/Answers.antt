@@ -1,12 +1,46 @@
-use Rattle.std.proofs.Common.{refl, subst}
+use Rattle.std.proofs.Common.{length, refl, sym, ap, subst, arith, length-append}
 use Rattle.solver_trail.specs.Assignment.{held}
+use Rattle.solver_trail.specs.Trail.{AreAttached}
 use Rattle.solver_trail.specs.Watches.{AreKept}
-use Rattle.solver_trail.specs.Propagation.{AreSatisfied}
+use Rattle.solver_trail.specs.Propagation.{AreSatisfied, HasWatches, numbers_of}
 use Rattle.solver_trail.proofs.Forced.{held_more, propagates_two}
 use Rattle.solver_trail.proofs.Kept.{kept_more}
 use Rattle.solver_trail.proofs.Quiet.{all_quiet}
 use Rattle.solver_trail.proofs.propagation.propagate.Goals as goal
-use Rattle.solver_trail.proofs.propagation.propagate.Goals.{After-follow}
+use Rattle.solver_trail.proofs.propagation.propagate.Goals.{After-follow, After-set_units}
+
+-- the watches are of the pool's clauses when the units are set, too
+watches : (c : After-set_units) → HasWatches c.args.attached.now c.args.pool.now.clauses c.set_units.new.set c.args.watches.now
+watches c =
+    let w = c.requires.watches in
+    let e = c.set_units.ensures in
+    record {
+      in_pool = subst (λ n. AreAttached n (numbers_of c.args.attached.now) c.args.pool.now.clauses) (sym e.set.variables) w.in_pool;
+      reasons = e.reasons;
+      watching = w.watching;
+      size = w.size;
+      codes = omega (arith, w.codes, e.set.variables);
+    }
+
+pub set_units-requires-clause-attached : goal.set_units-requires-clause-attached
+set_units-requires-clause-attached c = c.requires.watches.in_pool
+
+pub follow-requires-clause-watches : goal.follow-requires-clause-watches
+follow-requires-clause-watches c = watches (goal.at.follow-requires-clause-watches c).After-set_units
+
+pub follow-requires-clause-place : goal.follow-requires-clause-place
+follow-requires-clause-place c =
+    let e = c.set_units.ensures in
+    omega (arith, c.requires.place, ap length e.set.added, length-append c.args.set.now.literals e.set.more)
+
+pub returns-in-Some-clause-watches : goal.returns-in-Some-clause-watches
+returns-in-Some-clause-watches c = watches (goal.at.returns-in-Some-clause-watches c).After-set_units
+
+pub returns-in-Some-clause-found : goal.returns-in-Some-clause-found
+returns-in-Some-clause-found c = c.in-Some.ensures.conflict
+
+pub returns-in-Some-follow-clause-found : goal.returns-in-Some-follow-clause-found
+returns-in-Some-follow-clause-found c = c.in-Some-follow.ensures.conflict
 
 pub returns-in-Some-clause-kept : goal.returns-in-Some-clause-kept
 returns-in-Some-clause-kept c = kept_more c.set_units.ensures.set c.args.place.now c.args.place.now c.args.watches.now.literals.items c.requires.place c.requires.kept

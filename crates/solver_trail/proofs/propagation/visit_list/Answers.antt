@@ -5,8 +5,8 @@ use Rattle.clause_pool.specs.Literal.{Literal, opposite}
 use Rattle.clause_pool.specs.LiteralCode.{code_of}
 use Rattle.clause_pool.proofs.Literals.{code_within, opposite_opposite}
 use Rattle.solver_trail.specs.declared.set_literals.SetLiteral.{SetLiteral}
-use Rattle.solver_trail.specs.Watches.{AreKept}
-use Rattle.solver_trail.proofs.Held.{no_literal, literal_at, held_at}
+use Rattle.solver_trail.specs.Watches.{AreKept, AreWatching}
+use Rattle.solver_trail.proofs.Held.{no_literal, literal_at, held_at, length-literals_of}
 use Rattle.solver_trail.proofs.Walk.{walk_start, walk_kept}
 use Rattle.solver_trail.proofs.propagation.visit_list.Goals as goal
 use Rattle.solver_trail.proofs.propagation.visit_list.Goals.{After-opposite-lit}
@@ -55,3 +55,18 @@ returns-clause-kept c = λ visited le kept.
     λ x. ap (λ (s : SetLiteral). s.literal) (ap (λ ls. get_or ls c.args.place x) e.set.added ∙ get_or_append_left set.literals e.set.more x c.args.place c.requires.place) ∙ at_place d x in
     subst (AreKept new.literals visited (if is_none c.visit_ahead-found.result then c.args.place + 1 else c.args.place)) (sym c.put_back.ensures.literals)
     (walk_kept e.walk c.visit_ahead-found.result e.done c.args.place visited there le (e.kept visited c.args.place (omega (arith, c.requires.place)) taken))
+
+pub bounds-literals-place : goal.bounds-literals-place
+bounds-literals-place c = omega (arith, c.requires.place, ap length c.literals.ensures.literals, length-literals_of c.args.set.now.literals)
+
+pub returns-clause-watches : goal.returns-clause-watches
+returns-clause-watches c =
+    let w = c.visit_ahead-found.ensures.walk.watches in
+    let e = c.put_back.ensures in
+    record {
+      in_pool = w.in_pool;
+      reasons = w.reasons;
+      watching = subst (AreWatching c.args.attached.now.long.items c.args.pool.now.clauses) (sym e.literals) w.watching;
+      size = ap length e.literals ∙ w.size;
+      codes = e.firsts ∙ w.codes;
+    }

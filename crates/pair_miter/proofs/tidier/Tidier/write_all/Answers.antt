@@ -1,7 +1,9 @@
-use Rattle.std.proofs.Common.{◌≤◌, ◌∙◌, sym, subst}
+use Rattle.std.proofs.Common.{◌-◌, ◌+◌, ◌<◌, ◌≤◌, ◌^◌, ◌∙◌, [], ◌∷◌, length, get_or, sym, subst, arith}
 use Rattle.std.specs.Prelude.{All}
 use Rattle.pair_miter.specs.Marks.{IsOperand, HavePlaces}
-use Rattle.pair_miter.proofs.OperandSteps.{row_places}
+use Rattle.pair_miter.specs.Adds.{Writes}
+use Rattle.pair_miter.specs.Miter.{tidy}
+use Rattle.pair_miter.proofs.OperandSteps.{operand_weaker, row_places}
 use Rattle.pair_miter.proofs.tidier.Tidier.write_all.Goals as goal
 
 pub write_once-requires-clause-places : goal.write_once-requires-clause-places
@@ -11,3 +13,16 @@ write_once-requires-clause-places c =
     (row_places i.variables i.marks.items c.args.first c.args.positive c.args.operands.now c.self.invariant.places
     (subst (λ n. c.args.first.variable ≤ n) (sym c.self.view_is) c.requires.first)
     (subst (λ n. All (IsOperand n) c.args.operands.now) (sym c.self.view_is) c.requires.operands))
+
+pub fill-requires : goal.fill-requires
+fill-requires c = λ k d less.
+    let few = subst (λ n. n < 2 ^ 31) c.self.view_is c.self.invariant.few in
+    operand_weaker c.args.self.now (2 ^ 31 - 1) (get_or c.args.operands.now k d) (omega (arith, few)) (c.requires.operands k d less)
+
+pub write_once-requires-clause-few : goal.write_once-requires-clause-few
+write_once-requires-clause-few c =
+    subst (λ row. length c.args.pool.now.clauses + length (tidy (row ∷ [])) < 2 ^ 30) (sym (c.as_slice.ensures.value ∙ c.in_ok-fill.ensures)) c.requires.few
+
+pub returns-clause-written : goal.returns-clause-written
+returns-clause-written c =
+    subst (λ row. Writes c.write_once.result c.args.pool.now c.write_once.new.pool (tidy (row ∷ []))) (c.as_slice.ensures.value ∙ c.in_ok-fill.ensures) c.write_once.ensures.written

@@ -1,4 +1,4 @@
-use Rattle.std.proofs.Common.{◌≡◌, ◌∙◌, sym, ap, subst}
+use Rattle.std.proofs.Common.{◌≡◌, ◌-◌, ◌<◌, ◌^◌, ◌∙◌, sym, ap, subst, arith}
 use Rattle.std.specs.Prelude.{Bool, true, ◌||◌, [], ◌∷◌, ◌++◌, if◌then◌else◌}
 use Rattle.std.proofs.Math.Bool.{or-true}
 use Rattle.clause_pool.specs.Literal.{Literal}
@@ -7,6 +7,7 @@ use Rattle.pair_miter.specs.Adds.{Adds}
 use Rattle.pair_miter.specs.Miter.{tidy}
 use Rattle.pair_miter.specs.Rows.{case_clause, operand_literals}
 use Rattle.pair_miter.proofs.AddSteps.{adds_none}
+use Rattle.pair_miter.proofs.OperandSteps.{operand_weaker}
 use Rattle.pair_miter.proofs.TidyParts.{tidy_none}
 use Rattle.pair_miter.proofs.tidier.Tidier.write_case.Goals as goal
 use Rattle.pair_miter.proofs.tidier.Tidier.write_case.Goals.{then-is_constant-via-then-is_constant, then-is_constant-via-else-is_constant+then-is_constant-2}
@@ -25,3 +26,13 @@ returns-then-is_constant-clause-written c =
           ap (λ b. is_constant c.args.unless c.args.chooser.now || b) (sym w.is_constant-else-is_constant.ensures ∙ w.if-is_constant-2.true) ∙ or-true (is_constant c.args.unless c.args.chooser.now)
     ] in
     subst (Adds pool pool) (sym tidy_none ∙ ap tidy (sym (none_left c.args.l c.args.unless c.args.chooser.now c.args.positive c.args.chosen.now true_one))) (adds_none pool)
+
+pub fill_case-requires-clause-chooser : goal.fill_case-requires-clause-chooser
+fill_case-requires-clause-chooser c =
+    let few = subst (λ n. n < 2 ^ 31) c.self.view_is c.self.invariant.few in
+    operand_weaker c.args.self.now (2 ^ 31 - 1) c.args.chooser.now (omega (arith, few)) c.requires.chooser
+
+pub fill_case-requires-clause-chosen : goal.fill_case-requires-clause-chosen
+fill_case-requires-clause-chosen c =
+    let few = subst (λ n. n < 2 ^ 31) c.self.view_is c.self.invariant.few in
+    operand_weaker c.args.self.now (2 ^ 31 - 1) c.args.chosen.now (omega (arith, few)) c.requires.chosen

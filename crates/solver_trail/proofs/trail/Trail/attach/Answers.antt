@@ -1,9 +1,12 @@
-use Rattle.std.proofs.Common.{◌≡◌, ◌≤◌, ◌∙◌, [], ◌∷◌, ◌++◌, length, sym, ap, subst, arith}
+use Rattle.std.proofs.Common.{◌≡◌, ℕ, ◌≤◌, ◌∙◌, [], ◌∷◌, ◌++◌, length, sym, ap, subst, arith}
 use Rattle.std.specs.Prelude.{Some}
+use Rattle.std.proofs.lemmas.List.Elements.{All-contains}
+use Rattle.clause_pool.specs.Literal.{Literal}
 use Rattle.clause_pool.specs.Clauses.{Clause, numbered_clause}
-use Rattle.clause_pool.specs.Proper.{IsProper}
+use Rattle.clause_pool.specs.Proper.{IsProper, IsVariable}
+use Rattle.clause_pool.proofs.Literals.{code_within}
 use Rattle.solver_trail.specs.Trail.{TrailState, Attaches, Fits, attached_numbers}
-use Rattle.solver_trail.specs.Watches.{AreKept}
+use Rattle.solver_trail.specs.Watches.{AreKept, AreWatched}
 use Rattle.solver_trail.proofs.Fits.{attaches_long, attaches_short, fits_long, fits_short, kept_two}
 use Rattle.solver_trail.proofs.Kept.{kept_weaker}
 use Rattle.solver_trail.proofs.trail.Trail.attach.Goals as goal
@@ -19,7 +22,42 @@ proper : (c : After-two_to_watch) → IsProper c.self.inside.set.variables c.get
 proper c =
     subst (λ (t : TrailState). (clause : Clause) → numbered_clause c.args.pool.now.clauses c.args.number ≡ Some clause → IsProper t.assignment.variables clause) (sym c.self.view_is) c.requires.proper c.get-clause.result.now c.get-clause.ensures
 
+pub two_to_watch-requires : goal.two_to_watch-requires
+two_to_watch-requires c =
+    subst (λ (t : TrailState). (clause : Clause) → numbered_clause c.args.pool.now.clauses c.args.number ≡ Some clause → IsProper t.assignment.variables clause) (sym c.self.view_is) c.requires.proper c.get-clause.result.now c.get-clause.ensures
+
 -- ---- a clause that watches two of its literals
+
+watched_within : (n : ℕ) (clause : Clause) (l m : Literal) → IsProper n clause → AreWatched clause l m → (l.variable ≤ n) × (m.variable ≤ n)
+watched_within n clause l m p w =
+    let is_within = λ (l : Literal). IsVariable n l.variable in
+    ((All-contains is_within clause l p.inside w.first).1, (All-contains is_within clause m p.inside w.second).1)
+
+pub watch-requires-clause-first : goal.watch-requires-clause-first
+watch-requires-clause-first c =
+    let d = (goal.at.watch-requires-clause-first c).After-two_to_watch in
+    let two = c.in-Some.pair in
+    let b = watched_within c.self.inside.set.variables c.get-clause.result.now two.first two.second (proper d) c.in-Some.ensures in
+    omega (arith, code_within two.first c.self.inside.set.variables b.0, c.self.invariant.codes)
+
+pub watch-requires-clause-second : goal.watch-requires-clause-second
+watch-requires-clause-second c =
+    let d = (goal.at.watch-requires-clause-second c).After-two_to_watch in
+    let two = c.in-Some.pair in
+    let b = watched_within c.self.inside.set.variables c.get-clause.result.now two.first two.second (proper d) c.in-Some.ensures in
+    omega (arith, code_within two.second c.self.inside.set.variables b.1, c.self.invariant.codes)
+
+pub false_from-first-requires : goal.false_from-first-requires
+false_from-first-requires c =
+    let d = (goal.at.false_from-first-requires c).After-two_to_watch in
+    let two = c.in-Some.pair in
+    (watched_within c.self.inside.set.variables c.get-clause.result.now two.first two.second (proper d) c.in-Some.ensures).0
+
+pub false_from-second-requires : goal.false_from-second-requires
+false_from-second-requires c =
+    let d = (goal.at.false_from-second-requires c).After-two_to_watch in
+    let two = c.in-Some.pair in
+    (watched_within c.self.inside.set.variables c.get-clause.result.now two.first two.second (proper d) c.in-Some.ensures).1
 
 pub invariant_of-self-in-Some : goal.invariant_of-self-in-Some
 invariant_of-self-in-Some c =

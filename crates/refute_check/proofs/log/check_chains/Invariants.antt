@@ -6,13 +6,13 @@ use Rattle.clause_pool.specs.Proper.{HasVariablesUpTo}
 use Rattle.pair_miter.specs.Resolution.{AreAlike}
 use Rattle.refute_check.specs.Propagation.{IsReadyFor}
 use Rattle.refute_check.specs.Reached.{IsReached}
-use Rattle.refute_check.proofs.log.check_log.Given as goal
+use Rattle.refute_check.proofs.log.check_chains.Given as goal
 
 abbrev pub invariant-loop-at : goal.invariant-loop-at
 invariant-loop-at l = record {
-  before : AreRightBefore l.kind l.initial.pool.clauses l.log l.at;
+  before : AreRightBefore l.kind l.initial.pool.clauses l.chains l.at;
   begins : BeginsWith l.pool.clauses l.initial.pool.clauses;
-  alike : l.at < length l.log → AreAlike (l.initial.pool.clauses ++ before.ends) l.pool.clauses;
+  alike : l.at < length l.chains → AreAlike (l.initial.pool.clauses ++ before.ends) l.pool.clauses;
   within : All (HasVariablesUpTo l.variables) l.pool.clauses;
   few : length l.pool.clauses ≤ length l.initial.pool.clauses + l.at;
   empty : IsReached l.reached [];

@@ -1,0 +1,109 @@
+use Rattle.std.proofs.Common.{◌≡◌, ◌∙◌, ◌<◌, ◌+◌, ◌++◌, ◌∷◌, [], length, rules, sym, ap, subst, arith}
+use Rattle.std.specs.Prelude.{All, Result, Err}
+use Rattle.std.proofs.lemmas.List.{length-append}
+use Rattle.std.proofs.lemmas.List.Elements.{All-append, All-cons, All-nil}
+use Rattle.clause_pool.specs.LiteralCode.{code_of}
+use Rattle.clause_pool.specs.Clauses.{BeginsWith, Clause, Clauses}
+use Rattle.clause_pool.proofs.Numbered.{begins_itself, begins_further}
+use Rattle.clause_pool.specs.Proper.{HasVariablesUpTo}
+use Rattle.refute_check.specs.declared.refusal.CheckFault.{CheckFault}
+use Rattle.refute_check.specs.declared.refusal.CheckFault.TheVariants.{Refused}
+use Rattle.refute_check.specs.LogRefusal.{AreRightBefore, is_last}
+use Rattle.pair_miter.proofs.Alike.{alike_first}
+use Rattle.pair_miter.specs.Resolution.{AreAlike}
+use Rattle.refute_check.specs.Propagation.{IsReadyFor}
+use Rattle.refute_check.proofs.IndexLemmas.{places_for}
+use Rattle.refute_check.proofs.Chains.{before_first, first_ends, right_log}
+use Rattle.refute_check.proofs.LogSteps.{end_within, next_chain, rule_told, refused_step, refused_end, right_step, alike_next}
+use Rattle.refute_check.proofs.log.check_chains.Goals as goal
+use Rattle.refute_check.proofs.log.check_chains.Goals.{then-not-last+in_ok-add+in_ok-take_in, else-not-last}
+
+pub loop-at-init : goal.loop-at-init
+loop-at-init c = record {
+  before = before_first c.args.kind c.args.pool.now.clauses c.args.chains.now;
+  begins = begins_itself c.args.pool.now.clauses;
+  alike = λ _. subst (λ ends. AreAlike (c.args.pool.now.clauses ++ ends) c.args.pool.now.clauses) (sym (first_ends c.args.kind c.args.pool.now.clauses c.args.chains.now)) (alike_first c.args.pool.now.clauses);
+  within = c.requires.clauses;
+  few = omega arith;
+  empty = c.requires.empty;
+  ready = c.requires.ready;
+}
+
+pub take_in-requires : goal.take_in-requires
+take_in-requires c = λ spent.
+    let bound = end_within c.args.variables c.loop-at.pool.clauses c.index-chains-at.result c.in_ok-end.end.literals c.loop-at.invariant.within c.in_ok-end.ensures.ended in
+    let lists = c.wrong_end.new.propagator.index.lists in
+    subst (All (λ l. code_of l < length lists)) (sym c.as_slice-then-not-last.ensures.value) (places_for c.args.variables lists c.in_ok-end.end.literals (c.wrong_end.ensures.ready spent).index.places bound)
+
+pub wrong_end-requires-clause-end : goal.wrong_end-requires-clause-end
+wrong_end-requires-clause-end c = end_within c.args.variables c.loop-at.pool.clauses c.index-chains-at.result c.in_ok-end.end.literals c.loop-at.invariant.within c.in_ok-end.ensures.ended
+
+pub returns-in_err-end-clause-refused : goal.returns-in_err-end-clause-refused
+returns-in_err-end-clause-refused c conflicts refusal long e =
+    let n = next_chain c.loop-at-test.true c.index-chains-at.is c.loop-at.invariant.before c.loop-at.invariant.alike in
+    let own = c.in_err-end.ensures.refused refusal (search rules) in
+    refused_step n conflicts refusal long own.0 own.1
+
+pub returns-in-Some-clause-refused : goal.returns-in-Some-clause-refused
+returns-in-Some-clause-refused c conflicts refusal long e =
+    let n = next_chain c.loop-at-test.true c.index-chains-at.is c.loop-at.invariant.before c.loop-at.invariant.alike in
+    let some = rule_told c.args.kind (is_last c.args.chains.now c.loop-at.at) c.loop-at.pool.clauses c.index-chains-at.result c.in_ok-end.end.literals c.in-Some.is c.wrong_end.ensures.rule in
+    let is : record { kind = c.in-Some.rule; step = c.loop-at.at } ≡ refusal =
+    (let w : ◌≡◌ {A = Result (Unit {0}) CheckFault} (Err (Refused (record { kind = c.in-Some.rule; step = c.loop-at.at }))) (Err (Refused refusal)) = sym (ap Err c.refused.ensures) ∙ e in cc) in
+    refused_end n c.in_ok-end.end.literals c.in_ok-end.ensures.ended conflicts refusal long c.in-Some.rule some.0 some.1 (sym is)
+
+pub returns-in_err-add-clause-begins : goal.returns-in_err-add-clause-begins
+returns-in_err-add-clause-begins c = subst (λ cs. BeginsWith cs c.args.pool.now.clauses) (sym c.in_err-add.ensures.err) c.loop-at.invariant.begins
+
+pub returns-in_err-take_in-clause-begins : goal.returns-in_err-take_in-clause-begins
+returns-in_err-take_in-clause-begins c =
+    subst (λ cs. BeginsWith cs c.args.pool.now.clauses) (sym c.in_ok-add.ensures.ok) (begins_further c.loop-at.pool.clauses c.args.pool.now.clauses (c.as_slice.result.now ∷ []) c.loop-at.invariant.begins)
+
+pub loop-at-preserved : goal.loop-at-preserved
+loop-at-preserved c =
+    let clauses = c.args.pool.now.clauses in
+    let pool = c.loop-at.pool.clauses in
+    let literals = c.in_ok-end.end.literals in
+    let n = next_chain c.loop-at-test.true c.index-chains-at.is c.loop-at.invariant.before c.loop-at.invariant.alike in
+    let right = rule_told c.args.kind (is_last c.args.chains.now c.loop-at.at) pool c.index-chains-at.result literals c.in_default.is c.wrong_end.ensures.rule in
+    let next = right_step n literals c.in_ok-end.ensures.ended right in
+    elim c.if-not-last.branch [
+      | then-not-last+in_ok-add+in_ok-take_in w ↦
+          let added : c.if-not-last.pool.clauses ≡ pool ++ literals ∷ [] = ap (λ (p : Clauses). p.clauses) w.pool-is ∙ (w.in_ok-add.ensures.ok ∙ ap (λ (l : Clause). pool ++ l ∷ []) w.as_slice.ensures.value) in
+          let bound = end_within c.args.variables pool c.index-chains-at.result literals c.loop-at.invariant.within c.in_ok-end.ensures.ended in
+          record {
+            before = next;
+            begins = subst (λ cs. BeginsWith cs clauses) (sym added) (begins_further pool clauses (literals ∷ []) c.loop-at.invariant.begins);
+            alike = λ _. subst (AreAlike (clauses ++ next.ends)) (sym added) (alike_next n literals c.in_ok-end.ensures.ended right);
+            within = subst (All (HasVariablesUpTo c.args.variables)) (sym added)
+                (All-append (HasVariablesUpTo c.args.variables) pool (literals ∷ []) c.loop-at.invariant.within
+                (All-cons (HasVariablesUpTo c.args.variables) literals [] bound (All-nil (HasVariablesUpTo c.args.variables))));
+            few = omega (arith, ap length added, length-append pool (literals ∷ []), c.loop-at.invariant.few);
+            empty = c.in_ok-end.ensures.empty;
+            ready =
+                let next : length pool + 1 ≡ w.len.result = omega (arith, w.len.ensures, ap length w.in_ok-add.ensures.ok, length-append pool (w.as_slice.result.now ∷ [])) in
+                let told = w.in_ok-take_in.ensures c.args.variables pool next c.wrong_end.ensures.ready in
+                subst (IsReadyFor c.args.kind c.args.variables c.if-not-last.pool.clauses) (sym w.propagator-is)
+                (subst (λ cs. IsReadyFor c.args.kind c.args.variables cs w.take_in.new.propagator) (ap (λ (l : Clause). pool ++ l ∷ []) w.as_slice-then-not-last.ensures.value ∙ sym added) told);
+          }
+      | else-not-last w ↦
+          let kept : c.if-not-last.pool.clauses ≡ pool = ap (λ (p : Clauses). p.clauses) w.pool-is in
+          let last : c.loop-at.at + 1 ≡ length c.args.chains.now = w.if-not-last.false in
+          record {
+            before = next;
+            begins = subst (λ cs. BeginsWith cs clauses) (sym kept) c.loop-at.invariant.begins;
+            alike = λ h. absurd (omega (arith, h, last));
+            within = subst (All (HasVariablesUpTo c.args.variables)) (sym kept) c.loop-at.invariant.within;
+            few = omega (arith, ap length kept, c.loop-at.invariant.few);
+            empty = c.in_ok-end.ensures.empty;
+            ready =
+                subst (IsReadyFor c.args.kind c.args.variables c.if-not-last.pool.clauses) (sym w.propagator-is)
+                (subst (λ cs. IsReadyFor c.args.kind c.args.variables cs c.wrong_end.new.propagator) (sym kept) c.wrong_end.ensures.ready);
+          }
+    ]
+
+pub returns-clause-right : goal.returns-clause-right
+returns-clause-right c = λ conflicts long.
+    let chains = c.args.chains.now in
+    let all : c.loop-at.at ≡ length chains = omega (arith, c.loop-at-test.false, c.loop-at.auto.at-end) in
+    right_log c.args.kind c.args.pool.now.clauses conflicts chains long (subst (AreRightBefore c.args.kind c.args.pool.now.clauses chains) all c.loop-at.invariant.before)
