@@ -110,7 +110,7 @@ impl<'a> Checker<'a> {
             }
             Record::Budget(budgets) => self.judge_budget(subject, budgets),
             Record::Pattern(v) => self.judge_pattern(subject, v),
-            Record::Same(evidence) => self.judge_evidence(alloc, subject, evidence),
+            Record::Same(evidence) => self.judge_evidence(alloc, subject, &evidence),
             Record::Class(number, birth) => self.judge_class(subject, number, birth),
             Record::Member(number, class, mark) => self.judge_member(subject, number, class, mark),
             Record::End => self.judge_end(subject),
@@ -234,26 +234,26 @@ impl<'a> Checker<'a> {
         Ok(())
     }
 
-    fn judge_evidence(&mut self, alloc: Global, subject: &Subject, evidence: Evidence) -> Judged
+    fn judge_evidence(&mut self, alloc: Global, subject: &Subject, evidence: &Evidence) -> Judged
         requires check { HasCheck subject.now self.old }
         requires none { self.old.waiting.items ≡ [] }
-        requires spelled { HasSpelling (Same evidence) }
-        requires one { ¬ Contains (spelling (Same evidence)) 10 }
-        ensures { Judges subject.now self.old self.new (line_of (Same evidence)) result }
+        requires spelled { HasSpelling (Same evidence.now) }
+        requires one { ¬ Contains (spelling (Same evidence.now)) 10 }
+        ensures { Judges subject.now self.old self.new (line_of (Same evidence.now)) result }
     {
         if !self.progress.is_body() {
             return Err(self.refused(ResultKind::Order));
         }
-        if !self.names_next(&evidence) {
+        if !self.names_next(evidence) {
             return Err(self.refused(ResultKind::Member));
         }
-        if !subject.has_right_roots(&evidence) {
+        if !subject.has_right_roots(evidence) {
             return Err(self.refused(ResultKind::Roots));
         }
         let budgets = self.progress.budgets;
-        match check_evidence(alloc, subject, &mut self.pool, budgets, &evidence) {
+        match check_evidence(alloc, subject, &mut self.pool, budgets, evidence) {
             Ok(()) => {
-                self.give(&evidence);
+                self.give(evidence);
                 Ok(())
             }
             Err(CheckFault::Refused(refusal)) => Err(self.refused(ResultKind::Evidence(refusal))),

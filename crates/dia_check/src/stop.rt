@@ -7,7 +7,7 @@ use result_file::ResultFault;
 use std::alloc::AllocError;
 
 // A line breaks a rule, or there is no memory.
-#[derive(Drop)]
+#[derive(Clone, Copy)]
 pub(crate) enum Stop {
     Refused(ResultFault),
     NoMemory,

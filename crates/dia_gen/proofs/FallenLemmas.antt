@@ -20,6 +20,10 @@ mark_with given n lead = if lead == n then Some Rep else option_and_then (λ g. 
 pub mark_stays : (t u : ClassTable) (given : List (Option Given)) (n : ℕ) → representative u (class_at u n) ≡ representative t (class_at t n) → IsSome (given_mark t given n) → IsSome (given_mark u given n)
 mark_stays t u given n same some = subst (λ (lead : ℕ). IsSome (mark_with given n lead)) (sym same) some
 
+-- a representative is marked
+pub lead_marked : (t : ClassTable) (given : List (Option Given)) (n : ℕ) → representative t (class_at t n) ≡ n → IsSome (given_mark t given n)
+lead_marked t given n is = subst (λ (lead : ℕ). IsSome (mark_with given n lead)) (sym is) (grind arith)
+
 module _ (t : ClassTable) (whole : IsWhole t) (n : ℕ) (below : n < length t.class_of) where
   abbrev group : List ℕ
   group = members t (class_at t n)

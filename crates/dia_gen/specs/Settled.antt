@@ -12,6 +12,9 @@ use Rattle.pair_sets.specs.Tree.{IsSpending}
 use Rattle.distinguish_search.specs.declared.found.Found.{Found}
 use Rattle.distinguish_search.specs.declared.found.Found.TheVariants as found
 use Rattle.distinguish_search.specs.Found.{IsFound}
+use Rattle.clause_pool.specs.Clauses.{Clause}
+use Rattle.learn_solver.specs.declared.solved.Solved.{Solved}
+use Rattle.learn_solver.specs.Solved.{IsSolved}
 use Rattle.kept_vectors.specs.Cube.{IsOfCube}
 use Rattle.result_file.specs.declared.record.Budgets.{Budgets}
 use Rattle.result_file.specs.declared.record.Proof.{Proof}
@@ -35,6 +38,11 @@ module _ (c : Circuit) (f g : Fault) (budgets : Budgets) where
   pub record IsOpenFor (tree : List Token) : Type 0 where
     pub spending : IsSpending c f g budgets.cubes tree
     pub none : budgets.cubes ≡ 0 → tree ≡ Rest ∷ []
+
+  -- The solver answers this for the two within the budget of conflicts, with the clauses that a pool then has.
+  pub record IsSolvedFor (solved : Solved) : Type 0 where
+    pub clauses : List Clause
+    pub is : IsSolved c f g budgets.conflicts clauses solved
 
   -- The vector separates the two, and there is a budget to find it.
   pub record IsApartBy (v : List Bool) : Type 0 where

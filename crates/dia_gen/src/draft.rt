@@ -25,12 +25,23 @@ use std::alloc::{AllocError, Global};
 
 // What is kept, the marks that are given, the simulation that each search restarts, and the pool in which each pair is
 // solved.
-#[derive(Drop)]
 pub(crate) struct Draft<'a> {
     pub(crate) keeper: Keeper<'a>,
     pub(crate) marks: Marks,
     pub(crate) sim: PairSim<'a>,
     pub(crate) pool: Pool,
+}
+
+// Written out, it is one step in the proof of each function that lets a draft go.
+impl Drop for Draft<'_> {
+    fn drop(self) {
+        let Draft {
+            keeper: _,
+            marks: _,
+            sim: _,
+            pool: _,
+        } = self;
+    }
 }
 
 impl<'a> Draft<'a> {
@@ -58,8 +69,8 @@ impl<'a> Draft<'a> {
         let mut keeper = setting.keeper(alloc)?;
         keeper.keep_stream(setting.budgets().blocks)?;
         let marks = Marks::none(alloc, setting.numbers())?;
-        let sim = PairSim::new(alloc, setting.circuit(), &Fault::Free, &Fault::Free)?;
         let pool = Pool::with_room(alloc, 0, 0)?;
+        let sim = PairSim::new(alloc, setting.circuit(), &Fault::Free, &Fault::Free)?;
         Ok(Draft {
             keeper,
             marks,
@@ -201,7 +212,7 @@ impl<'a> Draft<'a> {
             partner: lead,
             proof,
         };
-        write_line(alloc, shelf, &Record::Same(evidence))?;
+        write_line(alloc, shelf, Record::Same(evidence))?;
         self.marks.give(member, lead, mark);
         Ok(())
     }

@@ -95,7 +95,7 @@ fn write_end<S: Shelf>(
     let classes = draft.keeper.classes();
     write_classes(alloc, shelf, classes)?;
     write_members(alloc, shelf, classes, &draft.marks, numbers)?;
-    write_line(alloc, shelf, &Record::End)?;
+    write_line(alloc, shelf, Record::End)?;
     let marked = count_marks(classes, &draft.marks, numbers);
     Ok(Summary {
         numbers,

@@ -1,10 +1,10 @@
 //! What becomes of a number and its representative.
 
-ghost use Rattle.std.specs.Prelude.{◌≡◌, ◌<◌, ◌∷◌, [], IfOk, OnOk, length};
+ghost use Rattle.std.specs.Prelude.{◌≡◌, ◌≢◌, ◌<◌, ◌∷◌, [], IfOk, OnOk, length};
 ghost use Rattle.net_model.specs.Circuit.{IsCircuit};
 ghost use Rattle.net_model.specs.Fault.{IsFaultOf};
 ghost use Rattle.net_model.specs.FaultList.{fault_count, fault_numbered};
-ghost use Rattle.dia_gen.specs.Settled.{HasRelevant, IsSettledFor, IsSearched, IsOpenFor, IsSettledBy};
+ghost use Rattle.dia_gen.specs.Settled.{HasRelevant, IsSettledFor, IsSearched, IsOpenFor, IsSolvedFor, IsSettledBy};
 
 use crate::setting::Setting;
 use clause_pool::Pool;
@@ -99,15 +99,34 @@ fn learn(
     if conflicts == 0 {
         return Ok(Settled::By(Proof::Spent(tree, Log::new(alloc))));
     }
-    let empty = pool.mark();
-    let miter = build(alloc, circuit, f, g, pool)?;
-    let solved = solve(alloc, &miter, pool, conflicts)?;
-    pool.release(empty);
+    let solved = solve_pair(alloc, setting, f, g, pool)?;
     match solved {
         Solved::Vector(v) => Ok(Settled::Apart(cube_of(alloc, circuit, f, g, &v)?)),
         Solved::Refuted(log) => Ok(Settled::By(Proof::Refuted(tree, log))),
         Solved::Spent(log) => Ok(Settled::By(Proof::Spent(tree, log))),
     }
+}
+
+// What the solver answers for a pair within the budget of conflicts.
+fn solve_pair(
+    alloc: Global,
+    setting: &Setting,
+    f: &Fault,
+    g: &Fault,
+    pool: &mut Pool,
+) -> Result<Solved, AllocError>
+    requires first { IsFaultOf setting.now.circuit f.now }
+    requires second { IsFaultOf setting.now.circuit g.now }
+    requires some { setting.now.budgets.conflicts ≢ 0 }
+    requires empty { pool.old.clauses ≡ [] }
+    ensures solved { IfOk result (IsSolvedFor setting.now.circuit f.now g.now setting.now.budgets) }
+    ensures emptied { OnOk result (pool.new.clauses ≡ []) }
+{
+    let empty = pool.mark();
+    let miter = build(alloc, setting.circuit(), f, g, pool)?;
+    let solved = solve(alloc, &miter, pool, setting.budgets().conflicts)?;
+    pool.release(empty);
+    Ok(solved)
 }
 
 // The cube of the bits that a vector has at the relevant sources of two faults. The others are free.

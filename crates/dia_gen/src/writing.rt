@@ -18,15 +18,15 @@ use net_model::Vector;
 use result_file::{Record, push_pattern, write_record};
 use std::alloc::Global;
 
-// Writes the line of a record.
+// Writes the line of a record, and lets the record go, so that none of those who make one has to.
 pub(crate) fn write_line<S: Shelf>(
     alloc: Global,
     shelf: &mut S,
-    line: &Record,
+    line: Record,
 ) -> Result<(), ShelfFault>
-    ensures { WritesText (text_of (line.now ∷ [])) result (S.state shelf.old) (S.state shelf.new) }
+    ensures { WritesText (text_of (line ∷ [])) result (S.state shelf.old) (S.state shelf.new) }
 {
-    match write_record(alloc, line) {
+    match write_record(alloc, &line) {
         Ok(text) => write_all(shelf, &text),
         Err(_) => Err(ShelfFault::NoMemory),
     }
@@ -70,8 +70,8 @@ pub(crate) fn write_head<S: Shelf>(
     let circuit = setting.circuit();
     let positions = circuit.positions().len() as u32;
     let head = Record::Head(circuit.sources(), positions, setting.numbers());
-    write_line(alloc, shelf, &head)?;
-    write_line(alloc, shelf, &Record::Budget(setting.budgets()))
+    write_line(alloc, shelf, head)?;
+    write_line(alloc, shelf, Record::Budget(setting.budgets()))
 }
 
 // Writes a line for each pattern.
@@ -98,7 +98,7 @@ pub(crate) fn write_classes<S: Shelf>(
 {
     for class in 0..classes.count() {
         let line = Record::Class(class, classes.born(class));
-        write_line(alloc, shelf, &line)?;
+        write_line(alloc, shelf, line)?;
     }
     Ok(())
 }
@@ -119,7 +119,7 @@ pub(crate) fn write_members<S: Shelf>(
     for number in 0..numbers {
         let mark = marks.of(classes, number).unwrap();
         let line = Record::Member(number, classes.class_of(number), mark);
-        write_line(alloc, shelf, &line)?;
+        write_line(alloc, shelf, line)?;
     }
     Ok(())
 }

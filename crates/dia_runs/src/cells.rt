@@ -65,17 +65,26 @@ fn push_gates(text: &mut Vec<u8>, output: u64, cell: u32) -> Result<(), AllocErr
     requires { cell < 2000 }
     ensures { OnOk result (text.new.items ≡ text.old.items ++ gates_text output cell) }
 {
-    let alloc = *text.allocator();
-    let p = gate_line(alloc, "p", cell, gate_word(output, 0), "x", "y", cell)?;
-    let q = gate_line(alloc, "q", cell, gate_word(output, 1), "x", "c", cell)?;
-    let s = gate_line(alloc, "s", cell, gate_word(output, 2), "p", "q", cell)?;
+    push_gate(text, "p", cell, gate_word(output, 0), "x", "y", cell)?;
+    push_gate(text, "q", cell, gate_word(output, 1), "x", "c", cell)?;
+    push_gate(text, "s", cell, gate_word(output, 2), "p", "q", cell)?;
     // It drives the carry into the next cell.
-    let c = gate_line(alloc, "c", cell + 1, gate_word(output, 3), "p", "c", cell)?;
-    text.extend_from_slice(p.as_bytes())?;
-    text.extend_from_slice(q.as_bytes())?;
-    text.extend_from_slice(s.as_bytes())?;
-    text.extend_from_slice(c.as_bytes())?;
-    Ok(())
+    push_gate(text, "c", cell + 1, gate_word(output, 3), "p", "c", cell)
+}
+
+fn push_gate(
+    text: &mut Vec<u8>,
+    driven: &str,
+    number: u32,
+    word: &str,
+    first: &str,
+    second: &str,
+    cell: u32,
+) -> Result<(), AllocError>
+    ensures { OnOk result (text.new.items ≡ text.old.items ++ gate_line (signal driven.now number) word.now (signal first.now cell) (signal second.now cell)) }
+{
+    let line = gate_line(*text.allocator(), driven, number, word, first, second, cell)?;
+    text.extend_from_slice(line.as_bytes())
 }
 
 fn ports(alloc: Global, cell: u32) -> Result<String, AllocError>

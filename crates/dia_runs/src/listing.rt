@@ -1,13 +1,16 @@
 //! The command `faults`: the faults of a netlist's circuit, each with its root and its name.
 
-ghost use Rattle.std.specs.Prelude.{◌≡◌, ◌++◌, All, Some, IfOk, OnOk, length};
+ghost use Rattle.std.specs.Prelude.{◌≡◌, ◌++◌, ℕ, List, All, Some, IfOk, OnOk, length};
 ghost use Rattle.net_model.specs.Circuit.{line_count};
 ghost use Rattle.net_model.specs.Fault.{IsFaultOf};
 ghost use Rattle.net_model.specs.FaultList.{faults as faults_of};
+ghost use Rattle.fault_list.specs.Names.{fault_name};
 ghost use Rattle.fault_collapse.specs.Forest.{number_count};
 ghost use Rattle.request_words.specs.Request.{list_faults};
+ghost use Rattle.dia_runs.specs.Texts.{line_start};
 ghost use Rattle.dia_runs.specs.Faults.{IsFaultsText, fault_lines, fault_fields};
-ghost use Rattle.dia_runs.specs.Ran.{Ran};
+ghost use Rattle.dia_runs.specs.Plans.{says};
+ghost use Rattle.dia_runs.specs.Ran.{Ran, RanOn};
 
 use crate::ends::say;
 use crate::netlists::read_design;
@@ -22,14 +25,21 @@ use std::alloc::{AllocError, Global};
 pub(crate) fn list_faults<S: Shelf>(alloc: Global, shelf: &mut S, bench: &str) -> u8
     ensures { Ran (Some (list_faults bench.now)) result (S.state shelf.old) (S.state shelf.new) }
 {
-    let design = match read_design(alloc, shelf, bench) {
-        Ok(design) => design,
-        Err(status) => return status,
-    };
-    let Ok(text) = faults_text(alloc, &design) else {
-        return 9;
-    };
-    say(shelf, 0, &text)
+    match read_design(alloc, shelf, bench) {
+        Ok(design) => print_faults(alloc, shelf, &design),
+        Err(status) => status,
+    }
+}
+
+// Prints the faults of a circuit.
+fn print_faults<S: Shelf>(alloc: Global, shelf: &mut S, design: &Design) -> u8
+    requires { length design.now.names ≡ line_count design.now.circuit }
+    ensures { (bench : List ℕ) → RanOn (list_faults bench) (says (IsFaultsText design.now)) result (S.state shelf.old) (S.state shelf.new) }
+{
+    match faults_text(alloc, design) {
+        Ok(text) => say(shelf, 0, &text),
+        Err(_) => 9,
+    }
 }
 
 // A line for each fault, and how many faults and roots there are.
@@ -84,11 +94,26 @@ fn push_fault(
     requires fault { IsFaultOf design.now.circuit fault.now }
     ensures { OnOk result (text.new.items ≡ text.old.items ++ fault_fields design.now fault.now number root) }
 {
-    let alloc = *text.allocator();
-    let start = line_start(alloc, number, root)?;
-    let name = name_text(alloc, design, fault)?;
-    text.extend_from_slice(start.as_bytes())?;
-    text.extend_from_slice(&name)?;
+    push_start(text, number, root)?;
+    push_name(text, design, fault)?;
     text.push(b'\n')?;
     Ok(())
+}
+
+// The number and that of the root.
+fn push_start(text: &mut Vec<u8>, number: u32, root: u32) -> Result<(), AllocError>
+    ensures { OnOk result (text.new.items ≡ text.old.items ++ line_start number root) }
+{
+    let start = line_start(*text.allocator(), number, root)?;
+    text.extend_from_slice(start.as_bytes())
+}
+
+// The name of a fault.
+fn push_name(text: &mut Vec<u8>, design: &Design, fault: &Fault) -> Result<(), AllocError>
+    requires named { length design.now.names ≡ line_count design.now.circuit }
+    requires fault { IsFaultOf design.now.circuit fault.now }
+    ensures { OnOk result (text.new.items ≡ text.old.items ++ fault_name design.now.circuit design.now.names fault.now) }
+{
+    let name = name_text(*text.allocator(), design, fault)?;
+    text.extend_from_slice(&name)
 }

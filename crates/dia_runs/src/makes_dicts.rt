@@ -1,6 +1,6 @@
 //! The command `dict`: from the bytes of a netlist and a result to a dictionary.
 
-ghost use Rattle.std.specs.Prelude.{◌≡◌, All, IfOk, Some, length, string_bytes};
+ghost use Rattle.std.specs.Prelude.{◌≡◌, ℕ, List, All, IfOk, Some, length, string_bytes};
 ghost use Rattle.net_model.specs.Circuit.{IsCircuit};
 ghost use Rattle.net_model.specs.PatternRows.{IsTableOf};
 ghost use Rattle.class_refine.specs.Fields.{IsWhole};
@@ -9,8 +9,9 @@ ghost use Rattle.table_dicts.specs.Setting.{IsSetting};
 ghost use Rattle.dict_file.specs.declared.fault.DictVersion.TheVariants.{Two};
 ghost use Rattle.dict_file.specs.Spelling.{spelling};
 ghost use Rattle.request_words.specs.Request.{make_dict};
-ghost use Rattle.dia_runs.specs.Dictionaries.{IsOfPatterns, KeepsMostApart, IsMadeOf, dictionary_counts};
-ghost use Rattle.dia_runs.specs.Ran.{Ran};
+ghost use Rattle.dia_runs.specs.Dictionaries.{IsOfPatterns, KeepsMostApart, IsMadeOf, IsMadeDictionary, dictionary_counts};
+ghost use Rattle.dia_runs.specs.Plans.{makes_file, with_result};
+ghost use Rattle.dia_runs.specs.Ran.{Ran, RanOn};
 
 use crate::ends::save;
 use crate::netlists::read_design;
@@ -38,15 +39,28 @@ pub(crate) fn make_dictionary<S: Shelf>(
 ) -> u8
     ensures { Ran (Some (make_dict kind bench.now results.now output.now)) result (S.state shelf.old) (S.state shelf.new) }
 {
-    let design = match read_design(alloc, shelf, bench) {
-        Ok(design) => design,
-        Err(status) => return status,
-    };
-    let checked = match read_result(alloc, shelf, &design.circuit, results) {
+    match read_design(alloc, shelf, bench) {
+        Ok(design) => make_for(alloc, shelf, kind, &design.circuit, results, output),
+        Err(status) => status,
+    }
+}
+
+// Reads and judges the result for a circuit, and makes a dictionary of this kind under the dictionary's name.
+fn make_for<S: Shelf>(
+    alloc: Global,
+    shelf: &mut S,
+    kind: EntryKind,
+    circuit: &Circuit,
+    results: &str,
+    output: &str,
+) -> u8
+    ensures { (bench : List ℕ) → RanOn (make_dict kind bench results.now output.now) (with_result results.now circuit.now (λ (file : List ℕ). makes_file output.now (IsMadeDictionary circuit.now kind file))) result (S.state shelf.old) (S.state shelf.new) }
+{
+    let checked = match read_result(alloc, shelf, circuit, results) {
         Ok(checked) => checked,
         Err(status) => return status,
     };
-    let Ok(made) = made_of(alloc, kind, &design.circuit, &checked) else {
+    let Ok(made) = made_of(alloc, kind, circuit, &checked) else {
         return 9;
     };
     save(shelf, output, &made.file, made.text.as_bytes())

@@ -5,7 +5,8 @@ use Rattle.clap.specs.Words.{App, Rule, Row, app_of, rule_of, with_rule, fault_o
 use Rattle.clap.specs.Built.{AddsArg}
 use Rattle.clap.specs.declared.builder.command.Command.{Command}
 use Rattle.clap.specs.declared.builder.arg.Arg.{Arg}
-use Rattle.std.specs.Result.{IsErrAnd}
+use Rattle.std.specs.Result.{IfOk, IsErrAnd}
+use Rattle.std.proofs.lemmas.Result.{IfOk-weaker}
 use Rattle.clap.specs.Walk.{is_empty}
 use Rattle.request_words.specs.Request.{Text, Request, asked_by, app_for, request_by, gen_app, check_app, dict_app, convert_app, diagnose_app, faults_app, sim_app, synth_app}
 use Rattle.request_words.specs.declared.request.Verb.{Verb}
@@ -27,6 +28,12 @@ is_simple Synth = refl
 -- a command with an argument more
 pub added : {old new : Command} {arg : Arg} {app : App} {rule : Rule} → AddsArg old arg new → app_of old ≡ app → rule_of arg ≡ rule → arg.global ≡ false → app_of new ≡ with_rule app rule
 added adds app_is rule_is local = adds.shape local ∙ ap₂ with_rule app_is rule_is
+
+-- and one whose last argument is added by the call that gives it
+pub added_last : {E : Type 0} (old : Command) (arg : Arg) {app : App} {rule : Rule} (r : Result Command E) → IfOk r (λ new. AddsArg old arg new)
+    → app_of old ≡ app → rule_of arg ≡ rule → arg.global ≡ false → IfOk r (λ new. app_of new ≡ with_rule app rule)
+added_last old arg {app} {rule} r adds app_is rule_is local =
+    IfOk-weaker r (λ new. AddsArg old arg new) (λ new. app_of new ≡ with_rule app rule) (λ new one. added one app_is rule_is local) adds
 
 -- ---- words that are taken, and words that aren't
 

@@ -47,10 +47,9 @@ pub(crate) fn two_names<'a>(
 ) -> Result<Command<'a>, AllocError>
     ensures { IfOk result (λ c. app_of c ≡ two_names_app name.entry.now first.entry.now second.entry.now) }
 {
-    let front = name_arg(alloc, first);
-    let back = name_arg(alloc, second);
-    let whole = bare_command(alloc, name).arg(front)?.arg(back)?;
-    Ok(whole)
+    bare_command(alloc, name)
+        .arg(name_arg(alloc, first))?
+        .arg(name_arg(alloc, second))
 }
 
 /// A name that has to stand.

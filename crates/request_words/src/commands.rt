@@ -29,12 +29,10 @@ const SYNTH_LIMIT: u32 = 2000;
 pub(crate) fn gen_command<'a>(alloc: Global) -> Result<Command<'a>, AllocError>
     ensures { IfOk result (λ c. app_of c ≡ gen_app) }
 {
-    let blocks = option_arg(alloc, "blocks", "4", BLOCKS_LIMIT);
-    let cubes = option_arg(alloc, "cubes", "64", CUBES_LIMIT);
-    let conflicts = option_arg(alloc, "conflicts", "2000", CONFLICTS_LIMIT);
-    let named = two_names(alloc, "gen", "bench", "result")?;
-    let whole = named.arg(blocks)?.arg(cubes)?.arg(conflicts)?;
-    Ok(whole)
+    two_names(alloc, "gen", "bench", "result")?
+        .arg(option_arg(alloc, "blocks", "4", BLOCKS_LIMIT))?
+        .arg(option_arg(alloc, "cubes", "64", CUBES_LIMIT))?
+        .arg(option_arg(alloc, "conflicts", "2000", CONFLICTS_LIMIT))
 }
 
 /// The request of its matches.
@@ -58,11 +56,9 @@ pub(crate) fn gen_in<'a>(matches: &ArgMatches<'a>) -> Request<'a>
 pub(crate) fn dict_command<'a>(alloc: Global) -> Result<Command<'a>, AllocError>
     ensures { IfOk result (λ c. app_of c ≡ dict_app) }
 {
-    let results = name_arg(alloc, "result");
-    let output = name_arg(alloc, "dict");
-    let named = two_names(alloc, "dict", "kind", "bench")?;
-    let whole = named.arg(results)?.arg(output)?;
-    Ok(whole)
+    two_names(alloc, "dict", "kind", "bench")?
+        .arg(name_arg(alloc, "result"))?
+        .arg(name_arg(alloc, "dict"))
 }
 
 /// The request of its matches, if they name a kind.
@@ -83,9 +79,7 @@ pub(crate) fn dict_in<'a>(matches: &ArgMatches<'a>) -> Option<Request<'a>>
 pub(crate) fn faults_command<'a>(alloc: Global) -> Result<Command<'a>, AllocError>
     ensures { IfOk result (λ c. app_of c ≡ faults_app) }
 {
-    let bench = name_arg(alloc, "bench");
-    let whole = bare_command(alloc, "faults").arg(bench)?;
-    Ok(whole)
+    bare_command(alloc, "faults").arg(name_arg(alloc, "bench"))
 }
 
 /// The request of its matches.
@@ -100,12 +94,10 @@ pub(crate) fn faults_in<'a>(matches: &ArgMatches<'a>) -> Request<'a>
 pub(crate) fn synth_command<'a>(alloc: Global) -> Result<Command<'a>, AllocError>
     ensures { IfOk result (λ c. app_of c ≡ synth_app) }
 {
-    let number = number_arg(alloc, "n", SYNTH_LIMIT);
-    let bench = name_arg(alloc, "bench");
-    let output = name_arg(alloc, "result");
-    let named = bare_command(alloc, "synth").arg(number)?.arg(bench)?;
-    let whole = named.arg(output)?;
-    Ok(whole)
+    bare_command(alloc, "synth")
+        .arg(number_arg(alloc, "n", SYNTH_LIMIT))?
+        .arg(name_arg(alloc, "bench"))?
+        .arg(name_arg(alloc, "result"))
 }
 
 /// The request of its matches.

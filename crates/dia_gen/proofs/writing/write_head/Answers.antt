@@ -1,10 +1,20 @@
-use Rattle.std.proofs.Common.{◌∷◌, [], length, sym, subst, List, ℕ}
+use Rattle.std.proofs.Common.{◌∷◌, [], length, refl, sym, subst, List, ℕ}
+use Rattle.std.proofs.lemmas.Result.{err_from_is_err_and}
 use Rattle.net_model.specs.FaultList.{fault_count}
 use Rattle.result_file.specs.declared.record.Record.TheVariants.{Head, Budget}
 use Rattle.dia_gen.specs.Writing.{WritesText}
 use Rattle.dia_gen.proofs.LineLemmas.{text-append}
-use Rattle.dia_gen.proofs.WritingLemmas.{written_ok, written_last}
+use Rattle.dia_gen.proofs.WritingLemmas.{none_written, written_ok, written_last, line_broken}
 use Rattle.dia_gen.proofs.writing.write_head.Goals as goal
+
+pub returns-in_err-write_line : goal.returns-in_err-write_line
+returns-in_err-write_line g c =
+    let circuit = c.args.setting.now.circuit in
+    let head = Head circuit.sources (length circuit.positions) (fault_count circuit) in
+    let positions = rw c.circuit-circuit.ensures.value at c.positions.ensures.value in
+    let sources = rw c.circuit-circuit.ensures.value at c.sources.ensures.value in
+    let p = err_from_is_err_and c.from_residual.result c.from_residual.ensures.1 in
+    rw (p.1, p.2) (line_broken (head ∷ Budget c.args.setting.now.budgets ∷ []) 0 head refl (none_written (g.S.Shelf.state c.args.shelf.now)) (rw (sources, positions, c.numbers.ensures.value) at c.in_err-write_line.ensures))
 
 pub returns : goal.returns
 returns g c =

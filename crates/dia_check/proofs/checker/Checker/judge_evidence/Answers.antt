@@ -11,40 +11,40 @@ pub refused-requires : goal.refused-requires
 refused-requires c = few_lines c.requires.check
 
 pub returns-then-not-is_body : goal.returns-then-not-is_body
-returns-then-not-is_body c = rw c.refused.ensures (judged_misplaced {c = c.args.subject.now} {k = c.args.self.now} c.requires.none (Same c.args.evidence) c.requires.spelled c.requires.one (λ text is. no_body_place is c.requires.none (λ place. let h = c.if-not-is_body.ensures.1 place in cc)))
+returns-then-not-is_body c = rw c.refused.ensures (judged_misplaced {c = c.args.subject.now} {k = c.args.self.now} c.requires.none (Same c.args.evidence.now) c.requires.spelled c.requires.one (λ text is. no_body_place is c.requires.none (λ place. let h = c.if-not-is_body.ensures.1 place in cc)))
 
 pub refused-requires-then-not-names_next : goal.refused-requires-then-not-names_next
 refused-requires-then-not-names_next c = few_lines c.requires.check
 
 pub returns-then-not-names_next : goal.returns-then-not-names_next
-returns-then-not-names_next c = rw c.refused-then-not-names_next.ensures (judged_wrong {c = c.args.subject.now} {k = c.args.self.now} c.requires.none (Same c.args.evidence) c.requires.spelled c.requires.one why.Member (λ text is.
+returns-then-not-names_next c = rw c.refused-then-not-names_next.ensures (judged_wrong {c = c.args.subject.now} {k = c.args.self.now} c.requires.none (Same c.args.evidence.now) c.requires.spelled c.requires.one why.Member (λ text is.
     (body_place is c.requires.none (c.if-not-is_body.ensures.0 refl), by_name (c.if-not-names_next.ensures.wrong (λ h. cc) is.seen is.is.marks) refl)))
 
 pub has_right_roots-requires-clause-member : goal.has_right_roots-requires-clause-member
-has_right_roots-requires-clause-member c = member_inside c.requires.check.is c.requires.none c.args.evidence (c.if-not-names_next.ensures.right refl)
+has_right_roots-requires-clause-member c = member_inside c.requires.check.is c.requires.none c.args.evidence.now (c.if-not-names_next.ensures.right refl)
 
 pub has_right_roots-requires-clause-partner : goal.has_right_roots-requires-clause-partner
-has_right_roots-requires-clause-partner c = partner_inside c.requires.check.is c.requires.none c.args.evidence (c.if-not-names_next.ensures.right refl)
+has_right_roots-requires-clause-partner c = partner_inside c.requires.check.is c.requires.none c.args.evidence.now (c.if-not-names_next.ensures.right refl)
 
 pub refused-requires-then-not-has_right_roots : goal.refused-requires-then-not-has_right_roots
 refused-requires-then-not-has_right_roots c = few_lines c.requires.check
 
 pub returns-then-not-has_right_roots : goal.returns-then-not-has_right_roots
-returns-then-not-has_right_roots c = rw c.refused-then-not-has_right_roots.ensures (judged_wrong {c = c.args.subject.now} {k = c.args.self.now} c.requires.none (Same c.args.evidence) c.requires.spelled c.requires.one why.Roots (λ text is. (
+returns-then-not-has_right_roots c = rw c.refused-then-not-has_right_roots.ensures (judged_wrong {c = c.args.subject.now} {k = c.args.self.now} c.requires.none (Same c.args.evidence.now) c.requires.spelled c.requires.one why.Roots (λ text is. (
   body_place is c.requires.none (c.if-not-is_body.ensures.0 refl),
   by_roots (names_next is.is.marks (c.if-not-names_next.ensures.right refl)) (λ right. let h = c.if-not-has_right_roots.ensures.1 right in cc) refl,
 )))
 
 pub check_evidence-requires-clause-member : goal.check_evidence-requires-clause-member
-check_evidence-requires-clause-member c = member_inside c.requires.check.is c.requires.none c.args.evidence (c.if-not-names_next.ensures.right refl)
+check_evidence-requires-clause-member c = member_inside c.requires.check.is c.requires.none c.args.evidence.now (c.if-not-names_next.ensures.right refl)
 
 pub check_evidence-requires-clause-partner : goal.check_evidence-requires-clause-partner
-check_evidence-requires-clause-partner c = partner_inside c.requires.check.is c.requires.none c.args.evidence (c.if-not-names_next.ensures.right refl)
+check_evidence-requires-clause-partner c = partner_inside c.requires.check.is c.requires.none c.args.evidence.now (c.if-not-names_next.ensures.right refl)
 
 pub give-requires-clause-small : goal.give-requires-clause-small
 give-requires-clause-small c =
     let is = c.requires.check.is in
-    omega (arith, member_inside is c.requires.none c.args.evidence (c.if-not-names_next.ensures.right refl), is.is.few)
+    omega (arith, member_inside is c.requires.none c.args.evidence.now (c.if-not-names_next.ensures.right refl), is.is.few)
 
 pub give-requires-clause-lines : goal.give-requires-clause-lines
 give-requires-clause-lines c = few_lines c.requires.check
@@ -52,7 +52,7 @@ give-requires-clause-lines c = few_lines c.requires.check
 pub returns-in-Ok : goal.returns-in-Ok
 returns-in-Ok c = record {
   judged = λ text is short.
-      evidence_taken is c.requires.none c.args.evidence (c.if-not-names_next.ensures.right refl) c.requires.spelled short (c.if-not-is_body.ensures.0 refl) (c.if-not-has_right_roots.ensures.0 refl) c.in-Ok.ensures.right
+      evidence_taken is c.requires.none c.args.evidence.now (c.if-not-names_next.ensures.right refl) c.requires.spelled short (c.if-not-is_body.ensures.0 refl) (c.if-not-has_right_roots.ensures.0 refl) c.in-Ok.ensures.right
       c.give.new.self c.give.ensures.keeper c.give.ensures.marks c.give.ensures.from c.give.ensures.progress (rw c.give.ensures.pool c.in-Ok.ensures.emptied) (rw c.give.ensures.waiting c.requires.none);
 }
 
@@ -60,7 +60,7 @@ pub refused-requires-in-Err-Refused : goal.refused-requires-in-Err-Refused
 refused-requires-in-Err-Refused c = few_lines c.requires.check
 
 pub returns-in-Err-Refused : goal.returns-in-Err-Refused
-returns-in-Err-Refused c = rw c.refused-in-Err-Refused.ensures (judged_wrong {c = c.args.subject.now} {k = c.args.self.now} c.requires.none (Same c.args.evidence) c.requires.spelled c.requires.one (why.Evidence c.in-Err-Refused.refusal) (λ text is.
+returns-in-Err-Refused c = rw c.refused-in-Err-Refused.ensures (judged_wrong {c = c.args.subject.now} {k = c.args.self.now} c.requires.none (Same c.args.evidence.now) c.requires.spelled c.requires.one (why.Evidence c.in-Err-Refused.refusal) (λ text is.
     let place = body_place is c.requires.none (c.if-not-is_body.ensures.0 refl) in
     let refused = rw is.is.progress.budgets at (c.check_evidence.ensures.refused c.in-Err-Refused.refusal (c.in-Err-Refused.is ∙ ap (λ (e : CheckFault). Err e) c.in-Err-Refused.field-0-is)) in
     (place, by_proof c.in-Err-Refused.refusal (names_next is.is.marks (c.if-not-names_next.ensures.right refl)) (c.if-not-has_right_roots.ensures.0 refl) refused refl)))
