@@ -2,6 +2,7 @@ pub mod AnswerLemmas
 mod NoteLemmas
 mod SpanLemmas
 mod RowLemmas
+mod WrittenLemmas
 mod ShownLemmas
 mod SameCuts
 mod CubeLemmas

@@ -1,5 +1,5 @@
 -- The working state of a keeper, for its circuit, and after a block has run.
-use Rattle.std.proofs.Common.{◌≡◌, ◌∙◌, ◌<◌, ℕ, Bool, List, false, length, Some, refl, sym, ap}
+use Rattle.std.proofs.Common.{◌≡◌, ◌∙◌, ◌<◌, ℕ, Bool, List, false, length, Some, refl, sym, ap, subst}
 use Rattle.net_model.specs.Circuit.{Circuit, IsCircuit}
 use Rattle.net_model.specs.Answer.{bit_at}
 use Rattle.net_model.specs.FaultList.{faults, fault_count}
@@ -8,6 +8,7 @@ use Rattle.class_refine.specs.Fields.{IsWhole}
 use Rattle.fault_collapse.specs.Forest.{IsForestOf}
 use Rattle.word_sim.specs.Block.{IsBlock}
 use Rattle.word_sim.specs.GoodSim.{GoodSim, good_sim_with, vectors_of}
+use Rattle.kept_vectors.specs.declared.differences.Differences.{Differences}
 use Rattle.kept_vectors.specs.declared.notes.Note.{Note}
 use Rattle.kept_vectors.specs.declared.scan.Scan.{Scan}
 use Rattle.kept_vectors.specs.declared.spans.Span.{Span}
@@ -27,6 +28,13 @@ scan_of s c same is listed forest block differences blank = record {
 }
 
 module _ {scan : Scan} {good : GoodSim} (is : IsScan scan) (ran : good ≡ good_sim_with scan.good.circuit (Some scan.block.vectors)) where
+  -- it stays a scan with what is noted and cleared since
+  pub scan_after : (differences : Differences) (row : List (List Bool)) → AreOf good.circuit differences → IsBlank good.circuit row
+      → IsScan (record { listed = scan.listed; forest = scan.forest; block = scan.block; good = good; differences = differences; row = row })
+  scan_after differences row of blank =
+      let same : good.circuit ≡ scan.good.circuit = ap (λ (g : GoodSim). g.circuit) ran in
+      scan_of _ scan.good.circuit same is.circuit is.faults_are is.forest_of is.block (subst (λ k. AreOf k differences) same of) (subst (λ k. IsBlank k row) same blank)
+
   -- the circuit has run the scan's block
   pub block_run : IsBlock scan.block → (roots : List ℕ) → roots ≡ scan.forest.now.roots → HasRun good scan.listed.now roots
   block_run block roots same = rw ran (record {

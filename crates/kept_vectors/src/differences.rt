@@ -23,7 +23,6 @@ use word_sim::{GoodSim, LANES, Lanes};
 // to the vectors of a block, with the spans of the classes of which something was. In a class only one number of each
 // root is simulated: `places` has by root the place of the number that was, and `starts` by place where its notes start.
 // `tally` has by lane how many of them answer otherwise than their representatives.
-#[derive(Drop)]
 pub(crate) struct Differences<'a> {
     pub(crate) lead: FaultSim<'a>,
     pub(crate) member: FaultSim<'a>,
@@ -32,6 +31,21 @@ pub(crate) struct Differences<'a> {
     pub(crate) places: Vec<usize>,
     pub(crate) starts: Vec<usize>,
     pub(crate) tally: Tally,
+}
+
+// Written out, as a keeper's.
+impl Drop for Differences<'_> {
+    fn drop(self) {
+        let Differences {
+            lead: _,
+            member: _,
+            notes: _,
+            spans: _,
+            places: _,
+            starts: _,
+            tally: _,
+        } = self;
+    }
 }
 
 impl<'a> Differences<'a> {
@@ -44,15 +58,15 @@ impl<'a> Differences<'a> {
         requires numbers { numbers ≡ fault_count circuit.now }
         ensures { IfOk result (AreOf circuit.now) }
     {
-        // (what is dropped after an error is proved for each `?`, so the large ones come last)
+        // (what is dropped after an error is proved for each `?`, so the large ones come late, and behind them what can't fail)
         Ok(Differences {
-            notes: Vec::new(alloc),
-            spans: Vec::new(alloc),
             places: vec![in alloc; 0; numbers]?,
             starts: vec![in alloc; 0; numbers + 1]?,
             tally: Tally::new(alloc)?,
             lead: FaultSim::new(alloc, circuit)?,
             member: FaultSim::new(alloc, circuit)?,
+            notes: Vec::new(alloc),
+            spans: Vec::new(alloc),
         })
     }
 

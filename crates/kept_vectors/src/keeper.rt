@@ -64,13 +64,15 @@ impl<'a> Keeper<'a> {
         requires forest { IsForestOf circuit.now forest.now }
         ensures { IfOk result (λ keeper. keeper ≡ keeper_with circuit.now (nothing_kept (fault_count circuit.now))) }
     {
-        let kept = Kept {
-            vectors: Vec::new(alloc),
-            classes: Classes::new(alloc, faults.len())?,
-        };
+        let classes = Classes::new(alloc, faults.len())?;
         let scan = Scan::new(alloc, circuit, faults, forest)?;
+        let vectors = Vec::new(alloc);
         let stream = Stream::new(circuit.sources());
-        Ok(Keeper { scan, kept, stream })
+        Ok(Keeper {
+            scan,
+            kept: Kept { vectors, classes },
+            stream,
+        })
     }
 
     /// Keeps of the vectors of the first blocks of the stream those that split a class. After an error the first of them

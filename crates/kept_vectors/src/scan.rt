@@ -98,7 +98,6 @@ fn put_in_order(listed: &mut Vec<u32>)
 // What tells which vectors split a class: the circuit's faults and the forest in which they collapse, a block of
 // vectors, the simulators of the block and of faults on it with what the faults showed, and a row of answers, which is
 // clear between two vectors.
-#[derive(Drop)]
 pub(crate) struct Scan<'a> {
     pub(crate) listed: &'a FaultList,
     pub(crate) forest: &'a Forest,
@@ -106,6 +105,20 @@ pub(crate) struct Scan<'a> {
     pub(crate) good: GoodSim<'a>,
     pub(crate) differences: Differences<'a>,
     pub(crate) row: AnswerRows,
+}
+
+// Written out, as a keeper's.
+impl Drop for Scan<'_> {
+    fn drop(self) {
+        let Scan {
+            listed: _,
+            forest: _,
+            block: _,
+            good: _,
+            differences: _,
+            row: _,
+        } = self;
+    }
 }
 
 impl<'a> Scan<'a> {

@@ -1,5 +1,5 @@
 -- Numbers in groups, by a list that has the group of each.
-use Rattle.std.specs.Prelude.{◌≡◌, ℕ, ◌<◌, ◌≤◌, ◌==◌, ◌&&◌, Bool, not, List, length, nat_lt, sum_by, count_by, slice_index, Option, MatchOption}
+use Rattle.std.specs.Prelude.{◌≡◌, ℕ, ◌<◌, ◌≤◌, ◌==◌, ◌&&◌, Bool, not, List, length, nat_lt, sum_by, count_by, filter, slice_index, Option, MatchOption}
 use Rattle.std.specs.Bool.{beq}
 use Rattle.std.specs.List.{range_with_len}
 
@@ -35,6 +35,10 @@ size_to group_of places group = count_by (λ place. slice_index group_of place =
 -- whether a place isn't alone in its group
 abbrev pub is_shared : List ℕ → ℕ → Bool
 is_shared group_of place = nat_lt 1 (size_to group_of (length group_of) (slice_index group_of place))
+
+-- the places that aren't alone in their groups
+abbrev pub shared_places : List ℕ → List ℕ
+shared_places group_of = filter (is_shared group_of) (range_with_len 0 (length group_of))
 
 -- how many pairs of the first numbers, the lower first, pass a test
 abbrev pub pairs_where : ℕ → (ℕ → ℕ → Bool) → ℕ

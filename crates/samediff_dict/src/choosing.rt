@@ -26,8 +26,9 @@ pub(crate) fn choose_numbers(
         count: classes.count(),
         patterns,
     };
-    let better = choice.better(alloc)?;
-    choice.improved(alloc, better)
+    let mut chosen = choice.better(alloc)?;
+    choice.improve(alloc, chosen.as_mut_slice())?;
+    Ok(chosen)
 }
 
 /// What the baselines are chosen from: for each pattern the number of candidates, and which of them each class answers.

@@ -17,27 +17,50 @@ pub(crate) struct Replacement {
 }
 
 impl Choice<'_> {
-    /// The baselines after replacements, as long as one keeps more pairs apart. The groups by the patterns before a replaced one
-    /// stay as they are, and those by the patterns behind it.
-    pub(crate) fn improved(
-        &self,
-        alloc: Global,
-        mut chosen: Vec<u32>,
-    ) -> Result<Vec<u32>, AllocError>
+    /// Replaces baselines as long as one replacement keeps more pairs apart.
+    pub(crate) fn improve(&self, alloc: Global, chosen: &mut [u32]) -> Result<(), AllocError>
         ghost rows: { List (List (List Bool)) }
         requires choice { IsChoice rows self.now }
-        requires better { HasBaselines self.now.classes.now rows chosen.items (better_baselines self.now.classes.now rows) }
-        ensures { IfOk result (λ improved. HasBaselines self.now.classes.now rows improved.items (chosen_baselines self.now.classes.now rows)) }
+        requires better { HasBaselines self.now.classes.now rows chosen.old (better_baselines self.now.classes.now rows) }
+        ensures { OnOk result (HasBaselines self.now.classes.now rows chosen.new (chosen_baselines self.now.classes.now rows)) }
     {
-        let mut ends = Vec::with_capacity(alloc, chosen.len() + 1)?;
-        ends.push(Partition::whole(alloc, self.count)?)?;
-        let mut starts = Vec::with_capacity(alloc, chosen.len() + 1)?;
-        starts.push(Partition::whole(alloc, self.count)?)?;
+        let mut ends = self.begun(alloc, chosen)?;
+        let mut starts = self.begun(alloc, chosen)?;
+        self.replace_all(alloc, chosen, &mut ends, &mut starts)
+    }
+
+    // The groups by none of the baselines, with room for those by more of them.
+    fn begun(&self, alloc: Global, chosen: &[u32]) -> Result<Vec<Partition>, AllocError>
+        ghost rows: { List (List (List Bool)) }
+        requires { IsChoice rows self.now }
+        ensures ends { IfOk result (λ begun. AreSomeEnds rows self.now chosen.now begun.items) }
+        ensures starts { IfOk result (λ begun. AreStarts rows self.now chosen.now begun.items) }
+    {
+        let mut begun = Vec::with_capacity(alloc, chosen.len() + 1)?;
+        begun.push(Partition::whole(alloc, self.count)?)?;
+        Ok(begun)
+    }
+
+    // Replaces baselines as long as one replacement keeps more pairs apart. The groups by the patterns before a replaced one stay
+    // as they are, and those by the patterns behind it.
+    fn replace_all(
+        &self,
+        alloc: Global,
+        chosen: &mut [u32],
+        ends: &mut Vec<Partition>,
+        starts: &mut Vec<Partition>,
+    ) -> Result<(), AllocError>
+        ghost rows: { List (List (List Bool)) }
+        requires choice { IsChoice rows self.now }
+        requires better { HasBaselines self.now.classes.now rows chosen.old (better_baselines self.now.classes.now rows) }
+        requires ends { AreSomeEnds rows self.now chosen.old ends.old.items }
+        requires starts { AreStarts rows self.now chosen.old starts.old.items }
+        ensures { OnOk result (HasBaselines self.now.classes.now rows chosen.new (chosen_baselines self.now.classes.now rows)) }
+    {
         'replacing: loop {
-            self.add_ends(alloc, chosen.as_slice(), &mut ends)?;
-            let found = self.improvement(alloc, chosen.as_slice(), ends.as_slice(), &mut starts)?;
-            let Some(better) = found else {
-                return Ok(chosen);
+            self.add_ends(alloc, chosen, ends)?;
+            let Some(better) = self.improvement(alloc, chosen, ends.as_slice(), starts)? else {
+                return Ok(());
             };
             ends.truncate(chosen.len() - better.pattern);
             starts.truncate(better.pattern + 1);

@@ -16,12 +16,24 @@ use std::alloc::{AllocError, Global};
 use word_sim::{Block, GoodSim, LANES, Lanes};
 
 /// The faults of a circuit, a block of patterns, and the simulators of the circuit without a fault and with one.
-#[derive(Drop)]
 pub(crate) struct Bench<'a> {
     pub(crate) faults: &'a FaultList,
     pub(crate) block: Block,
     pub(crate) good: GoodSim<'a>,
     pub(crate) sim: FaultSim<'a>,
+}
+
+// Written out, it is one step in the proof of a function that lets a bench go, where a derived one is a step for each
+// vector in it.
+impl Drop for Bench<'_> {
+    fn drop(self) {
+        let Bench {
+            faults: _,
+            block: _,
+            good: _,
+            sim: _,
+        } = self;
+    }
 }
 
 impl<'a> Bench<'a> {

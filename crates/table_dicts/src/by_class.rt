@@ -53,8 +53,7 @@ pub fn dict_of_classes(
     ensures { IfOk result (λ dict. (t : Answers) → HasSizes t (length baselines) numbers positions → AreEntriesOfClasses classes.now entries.now (same_diff_entry t.rows baselines) → IsDictionary dict kind t baselines (same_diff_entry t.rows baselines)) }
 {
     let sorted = class_groups(alloc, classes, numbers)?;
-    let begun = classes_of(alloc, classes, sorted.firsts.as_slice())?;
-    let cells = rows_at(alloc, entries, begun.as_slice())?;
+    let cells = entries_of(alloc, classes, entries, sorted.firsts.as_slice())?;
     let grouped = group_rows(alloc, &cells)?;
     let outer = grouped.groups.as_slice();
     let groups = regroup(alloc, sorted.groups.as_slice(), outer)?;
@@ -67,6 +66,21 @@ pub fn dict_of_classes(
         groups,
         entries: grouped.entries,
     })
+}
+
+// The entry of the class of each of these numbers.
+fn entries_of(
+    alloc: Global,
+    classes: &Classes,
+    entries: &AnswerRows,
+    numbers: &[u32],
+) -> Result<AnswerRows, AllocError>
+    requires numbers { All (λ number. number < length classes.now.class_of) numbers.now }
+    requires entries { length entries.now ≡ class_count classes.now }
+    ensures { IfOk result (λ rows. rows ≡ map (row_at entries.now) (map (class_at classes.now) numbers.now)) }
+{
+    let own = classes_of(alloc, classes, numbers)?;
+    rows_at(alloc, entries, own.as_slice())
 }
 
 // The class of each of these numbers.

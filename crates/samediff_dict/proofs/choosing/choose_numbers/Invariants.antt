@@ -3,5 +3,5 @@ use Rattle.samediff_dict.proofs.choosing.choose_numbers.Given as goal
 abbrev pub ghost-better : goal.ghost-better
 ghost-better g a = g.rows
 
-abbrev pub ghost-improved : goal.ghost-improved
-ghost-improved g a = g.rows
+abbrev pub ghost-improve : goal.ghost-improve
+ghost-improve g a = g.rows

@@ -1,9 +1,18 @@
 use Rattle.std.proofs.Common.{[], map, arith}
 use Rattle.std.specs.List.{range_with_len}
 use Rattle.std.proofs.lemmas.List.FromFn.{get_or-map-range_with_len, length-map-range_with_len}
-use Rattle.table_dicts.proofs.RowLemmas.{rows_all}
+use Rattle.table_dicts.proofs.RowLemmas.{rows_all, rows_more, width_at}
 use Rattle.samediff_dict.specs.Copied.{class_entry}
 use Rattle.samediff_dict.proofs.differing.class_entries.Goals as goal
+
+pub write_entry-requires-clause-numbers : goal.write_entry-requires-clause-numbers
+write_entry-requires-clause-numbers c = record { count = c.requires.count; each = λ pattern d h. omega (arith, (c.requires.each pattern d h).one_each) }
+
+pub write_entry-requires-clause-width : goal.write_entry-requires-clause-width
+write_entry-requires-clause-width c = width_at c.loop-class.invariant.are c.loop-class.class (omega arith)
+
+pub loop-class-preserved : goal.loop-class-preserved
+loop-class-preserved c = rows_more c.loop-class.invariant c.write_entry.ensures
 
 pub returns-clause-entries : goal.returns-clause-entries
 returns-clause-entries c =

@@ -13,13 +13,10 @@ use Rattle.table_dicts.proofs.ClassEntryLemmas.{firsts_inside, firsts_few, group
 use Rattle.table_dicts.proofs.by_class.dict_of_classes.Goals as goal
 use Rattle.table_dicts.proofs.by_class.dict_of_classes.Goals.{In_ok-cells}
 
-pub classes_of-requires : goal.classes_of-requires
-classes_of-requires c =
+pub entries_of-requires-clause-numbers : goal.entries_of-requires-clause-numbers
+entries_of-requires-clause-numbers c =
     let t = c.args.classes.now in
     rw c.as_slice.ensures.value (firsts_inside t c.args.numbers c.requires.numbers c.in_ok-sorted.sorted.groups c.in_ok-sorted.sorted.firsts.items c.in_ok-sorted.ensures)
-
-pub rows_at-requires : goal.rows_at-requires
-rows_at-requires c = rw (c.as_slice-2.ensures.value, c.requires.entries.count_is) c.in_ok-begun.ensures.within
 
 -- the cells of the groups
 module _ (c : In_ok-cells) where
@@ -27,7 +24,7 @@ module _ (c : In_ok-cells) where
   firsts = c.in_ok-sorted.sorted.firsts.items
 
   cells_are : c.in_ok-cells.cells ≡ map (row_at c.args.entries.now) (map (class_at c.args.classes.now) firsts)
-  cells_are = c.in_ok-cells.ensures ∙ ap (map (row_at c.args.entries.now)) (c.as_slice-2.ensures.value ∙ (c.in_ok-begun.ensures.classes ∙ ap (map (class_at c.args.classes.now)) c.as_slice.ensures.value))
+  cells_are = c.in_ok-cells.ensures ∙ ap (λ (xs : List ℕ). map (row_at c.args.entries.now) (map (class_at c.args.classes.now) xs)) c.as_slice.ensures.value
 
   long : length c.in_ok-cells.cells ≡ length firsts
   long = cells_long c.args.classes.now c.args.numbers c.requires.numbers c.in_ok-sorted.sorted.groups firsts c.in_ok-sorted.ensures c.args.entries.now c.in_ok-cells.cells cells_are
@@ -46,7 +43,7 @@ regroup-requires c =
     let at = (goal.at.regroup-requires c).In_ok-cells in
     let firsts = c.in_ok-sorted.sorted.firsts.items in
     let outer : length c.as_slice-outer.result.now ≡ length firsts = ap length c.as_slice-outer.ensures ∙ (c.in_ok-grouped.ensures.grouped.one_each ∙ long at) in
-    rw (c.as_slice-3.ensures, outer) (All-from_get_or (λ group. group < length firsts) c.in_ok-sorted.sorted.groups 0 (known at))
+    rw (c.as_slice-2.ensures, outer) (All-from_get_or (λ group. group < length firsts) c.in_ok-sorted.sorted.groups 0 (known at))
 
 pub returns : goal.returns
 returns c = λ t sizes of.
@@ -65,7 +62,7 @@ returns c = λ t sizes of.
     let made = groups_of_numbers classes c.args.numbers c.requires.numbers inner firsts c.in_ok-sorted.ensures c.args.entries.now c.in_ok-cells.cells (cells_are at) {rows = rows} (rows_are.count_is ∙ sizes.numbers_are) (λ n h.
     of.own n h ∙ sym (get_or-map-range_with_len entry 0 t.numbers n n [] (omega (arith, h, numbers)) (omega arith))) c.in_ok-grouped.ensures in
     let over : List ℕ → List ℕ → Type 0 = λ ns os. AreGroupsOf rows (map (λ group. get_or os group 0) ns) entries in
-    let placed = subst (λ (ns : List ℕ). over ns c.as_slice-outer.result.now) (sym c.as_slice-3.ensures) (subst (λ (os : List ℕ). over inner os) (sym c.as_slice-outer.ensures) made) in
+    let placed = subst (λ (ns : List ℕ). over ns c.as_slice-outer.result.now) (sym c.as_slice-2.ensures) (subst (λ (os : List ℕ). over inner os) (sym c.as_slice-outer.ensures) made) in
     let groups = subst (λ (gs : List ℕ). AreGroupsOf rows gs entries) (sym c.in_ok-groups.ensures) placed in
     let d : Dict = record { kind = kind; positions = c.args.positions; patterns = c.rows.result; numbers = c.args.numbers; baselines = baselines; groups = c.in_ok-groups.groups; entries = entries } in
     dictionary_of d t baselines entry rows refl groups (subst (λ w. AreRows t.numbers w rows) (kind_width kind c.requires.kind (length t.rows) t.positions) rows_are) (sym sizes.positions_are) (c.rows.ensures ∙ sym sizes.patterns_are)

@@ -1,5 +1,7 @@
-use Rattle.std.proofs.Common.{◌≡◌, ◌<◌, ℕ, List, length, get_or, ap, subst, arith}
-use Rattle.std.proofs.lemmas.List.{with_items_is}
+use Rattle.std.proofs.Common.{◌≡◌, ◌<◌, ℕ, List, length, get_or, sym, ap, subst, arith}
+use Rattle.std.proofs.lemmas.List.{get_or_default, with_items_is}
+use Rattle.std.specs.Prelude.{All}
+use Rattle.table_dicts.specs.ByRoot.{AreGroupsByRoot}
 use Rattle.table_dicts.proofs.RootLemmas.{root_more}
 use Rattle.table_dicts.proofs.by_root.root_groups.Goals as goal
 
@@ -19,3 +21,14 @@ loop-number-preserved c =
       groups = root_more roots i c.loop-number.sorted.groups firsts c.loop-number.invariant.groups group (omega (arith, c.group_with-group.ensures.within, ap length same)) known;
       places = omega (arith, c.group_with-group.auto.noted, ap length c.as_mut_slice.ensures.value, c.loop-number.invariant.places);
     })
+
+pub group_with-group-requires-clause-firsts : goal.group_with-group-requires-clause-firsts
+group_with-group-requires-clause-firsts c =
+    let firsts = c.loop-number.sorted.firsts.items in
+    subst (λ (fs : List ℕ). All (λ first. first < length c.args.roots.now) fs) (sym c.as_slice-firsts.ensures.value)
+    (λ k d h. omega (arith, get_or_default firsts k d 0 h, c.loop-number.invariant.groups.inside k h, c.loop-number-test.true))
+
+pub returns : goal.returns
+returns c =
+    let all : c.loop-number.number ≡ length c.args.roots.now = omega arith in
+    subst (λ n. AreGroupsByRoot c.args.roots.now n c.loop-number.sorted.groups c.loop-number.sorted.firsts.items) all c.loop-number.invariant.groups

@@ -130,3 +130,8 @@ returns-clause-alike c m n lane hm hn live none =
     alike_by_third good c.requires.run.circuit first m n lane
     (subst (λ k. AreAlikeAt good lane first k) (at_place group m hm) (so_far.alike hm.0 lane (omega (arith, hm.1, c.loop-at-test.false)) live none))
     (subst (λ k. AreAlikeAt good lane first k) (at_place group n hn) (so_far.alike hn.0 lane (omega (arith, hn.1, c.loop-at-test.false)) live none))
+
+pub returns-in_err-simulate-clause-of : goal.returns-in_err-simulate-clause-of
+returns-in_err-simulate-clause-of c =
+    let of = c.requires.of in
+    record { lead = c.in_err-simulate.ensures.circuit; member = of.member; places = of.places; starts = length-set c.args.self.now.starts.items 0 c.len.result ∙ of.starts }

@@ -2,6 +2,7 @@ use Rattle.std.proofs.Common.{◌≡◌, ◌+◌, ◌<◌, map, set, length, get
 use Rattle.std.specs.Prelude.{slice_range}
 use Rattle.std.proofs.lemmas.Bool.{cases_lt, or_parts}
 use Rattle.std.proofs.lemmas.Grind.{get_or_default_zero}
+use Rattle.std.proofs.lemmas.List.{length-set}
 use Rattle.net_model.specs.Answer.{bit_at}
 use Rattle.word_sim.specs.declared.lanes.TheConstants.{LANES}
 use Rattle.kept_vectors.specs.Notes.{renumbered, IsReportOf, AreAlikeAt, AreSpans}
@@ -85,3 +86,27 @@ returns-clause-alike c k lane h live none =
           (alike_by_sims good c.requires.run.circuit c.args.self.now.lead c.simulate.new.sim (get_or group 0 0) (get_or group c.args.at 0) lane c.requires.lead c.in_ok-simulate.ensures.differ live
           (λ position inside. c.apart-told.ensures lane position few (subst (λ k. position < length k.positions) (sym c.requires.of.lead) inside) parts.1))
     ]
+
+-- ---- the simulators and the room stay those of the circuit
+
+pub returns-in_err-copy_notes-clause-of : goal.returns-in_err-copy_notes-clause-of
+returns-in_err-copy_notes-clause-of c = let of = c.requires.of in record { lead = of.lead; member = of.member; places = of.places; starts = of.starts }
+
+pub returns-then-roots-group-clause-of : goal.returns-then-roots-group-clause-of
+returns-then-roots-group-clause-of c =
+    let of = c.requires.of in
+    record { lead = of.lead; member = of.member; places = of.places; starts = length-set c.args.self.now.starts.items (c.args.at + 1) c.len.result ∙ of.starts }
+
+pub returns-in_err-simulate-clause-of : goal.returns-in_err-simulate-clause-of
+returns-in_err-simulate-clause-of c = let of = c.requires.of in record { lead = of.lead; member = c.in_err-simulate.ensures.circuit; places = of.places; starts = of.starts }
+
+pub returns-clause-of : goal.returns-clause-of
+returns-clause-of c =
+    let of = c.requires.of in
+    let root = get_or c.args.roots.now (get_or c.args.group.now c.args.at 0) 0 in
+    record {
+      lead = of.lead;
+      member = c.in_ok-simulate.ensures.circuit;
+      places = length-set c.args.self.now.places.items root c.args.at ∙ of.places;
+      starts = length-set c.args.self.now.starts.items (c.args.at + 1) c.len-2.result ∙ of.starts;
+    }

@@ -1,11 +1,13 @@
-use Rattle.std.proofs.Common.{◌+◌, [], length, get_or, sym, subst, arith}
+use Rattle.std.proofs.Common.{◌∙◌, ◌+◌, [], length, get_or, sym, ap, subst, arith}
+use Rattle.net_model.specs.ClassTable.{class_count}
 use Rattle.std.proofs.lemmas.Option.{MatchOption-at_none, MatchOption-at_some}
 use Rattle.samediff_dict.specs.declared.numbering.Candidates.{Candidates}
 use Rattle.samediff_dict.specs.declared.partition.Partition.{Partition}
 use Rattle.samediff_dict.specs.Groups.{IsFirstAbove, NoneAbove, gain_at}
-use Rattle.samediff_dict.specs.Partition.{together_in_both}
+use Rattle.samediff_dict.specs.Partition.{IsListed, together_in_both}
 use Rattle.samediff_dict.specs.Choice.{IsPartitionFrom}
 use Rattle.samediff_dict.specs.Numbered.{AreCandidates}
+use Rattle.samediff_dict.proofs.ChoiceLemmas.{numbers_within}
 use Rattle.samediff_dict.proofs.EndLemmas.{end_at, search_done, search_more, search_found}
 use Rattle.samediff_dict.proofs.choosing.Choice.improvement.Given as given
 use Rattle.samediff_dict.proofs.choosing.Choice.improvement.Goals as goal
@@ -64,3 +66,24 @@ returns-in-Some-clause-found g c =
 
 pub returns-clause-found : goal.returns-clause-found
 returns-clause-found g c = search_done g.rows c.args.self.now c.args.chosen.now c.loop-pattern.pattern c.requires.1.0 c.loop-pattern.invariant.none (omega arith)
+
+-- ---- what the search for a candidate asks
+
+pub first_above_in-requires-clause-listed : goal.first_above_in-requires-clause-listed
+first_above_in-requires-clause-listed g c =
+    let pattern = c.loop-pattern.pattern in
+    let p = c.index.result.now in
+    let are = c.requires.0.numbered.each pattern c.index-self-pattern.result (omega (arith, c.requires.1.0.one_each)) in
+    subst (λ n. IsListed n p) (sym (ap length c.as_slice-numbers.ensures ∙ are.one_each))
+    (subst (λ q. IsListed (class_count c.args.self.now.classes.now) q) (sym c.index.ensures) (c.loop-pattern.invariant.starts.each pattern p c.loop-pattern.invariant.there).listed)
+
+pub first_above_in-requires-clause-other_listed : goal.first_above_in-requires-clause-other_listed
+first_above_in-requires-clause-other_listed g c =
+    let pattern = c.loop-pattern.pattern in
+    let p = c.index-ends-chosen.result in
+    let are = c.requires.0.numbered.each pattern c.index-self-pattern.result (omega (arith, c.requires.1.0.one_each)) in
+    subst (λ n. IsListed n p) (sym (ap length c.as_slice-numbers.ensures ∙ are.one_each))
+    (subst (λ q. IsListed (class_count c.args.self.now.classes.now) q) (sym c.index-ends-chosen.is) (end_at g.rows c.args.self.now c.args.chosen.now c.args.ends.now pattern p c.requires.1.1.0 (omega arith)).listed)
+
+pub first_above_in-requires-clause-known : goal.first_above_in-requires-clause-known
+first_above_in-requires-clause-known g c = numbers_within (c.requires.0.numbered.each c.loop-pattern.pattern c.index-self-pattern.result (omega (arith, c.requires.1.0.one_each))) c.as_slice-numbers.ensures

@@ -1,0 +1,16 @@
+use Rattle.std.proofs.Common.{◌≡◌, ◌∙◌, refl, sym, ap}
+use Rattle.net_model.specs.Circuit.{Circuit}
+use Rattle.word_sim.specs.Block.{Block}
+use Rattle.word_sim.specs.GoodSim.{GoodSim}
+use Rattle.table_dicts.proofs.bench.Bench.new.Goals as goal
+
+pub returns-clause-bench : goal.returns-clause-bench
+returns-clause-bench c =
+    let same : c.in_ok-new-2.field-0.circuit ≡ c.args.circuit.now = ap (λ (good : GoodSim). good.circuit) c.in_ok-new-2.ensures in
+    record {
+      circuit = rw same c.sources.ensures.circuit;
+      faults_are = rw same c.requires;
+      block = ap (λ (block : Block). block.sources) c.in_ok-new.ensures ∙ (c.sources.ensures.value ∙ ap (λ (circuit : Circuit). circuit.sources) (sym same));
+      good = refl;
+      sim = c.in_ok-new-3.ensures.circuit ∙ sym same;
+    }
