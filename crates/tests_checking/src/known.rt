@@ -1,6 +1,6 @@
 //! The result of a known circuit.
 
-use crate::outcome::outcome;
+use crate::outcome::is_answered;
 use net_model::Kind;
 use result_file::Summary;
 use sample_circuits::{Parts, circuit};
@@ -21,7 +21,7 @@ const C17: Parts<'static> = Parts {
 };
 
 // A result for it, as the generator writes it.
-const RESULT: [&str; 16] = [
+const RESULT: &[&str] = &[
     "diatest 1 5 2 35\nbudget 4 64 2000\npattern 00000\npattern 10000\npattern 01000\npattern 00100\npattern 10100\n",
     "pattern 01100\npattern 01010\npattern 00110\npattern 01110\npattern 00001\npattern 00111\n",
     "same 7 1 C\nsame 11 9 C\nsame 16 1 C\nsame 18 9 C\nsame 19 3 C\nsame 21 13 C\n",
@@ -51,8 +51,6 @@ fn the_result_of_c17(rt: HostRuntime) -> Result<(), Fail> {
         equal: 12,
         spent: 0,
     };
-    for chunk in [1usize, 4096] {
-        assert!(rt; outcome(rt.alloc(), &known, &RESULT, chunk)? == Ok(summary));
-    }
+    assert!(rt; is_answered(rt.alloc(), &known, RESULT, Ok(summary))?);
     Ok(())
 }

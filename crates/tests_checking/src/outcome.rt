@@ -5,40 +5,59 @@ ghost use Rattle.std.specs.Prelude.{◌<◌};
 use dia_check::{FileFault, check};
 use diag_shelf::{MemoryShelf, Shelf};
 use net_model::Circuit;
-use refute_check::{Refusal, RefusalKind};
-use result_file::{ResultFault, ResultKind, Summary};
-use std::alloc::Global;
+use result_file::Summary;
+use std::alloc::{AllocError, Global};
 use std::test::Fail;
 
-/// The counts of a valid text, or why it isn't accepted. The text comes in these parts, and is read in pieces of so many bytes.
-pub(crate) fn outcome(
+/// The counts of a valid text, or why it isn't accepted.
+pub(crate) type Outcome = Result<Summary, FileFault>;
+
+// What the check says of a text that is put in a shelf.
+fn checked(
     alloc: Global,
     circuit: &Circuit,
-    parts: &[&str],
-    chunk: usize,
-) -> Result<Result<Summary, FileFault>, Fail>
+    shelf: &mut MemoryShelf,
+    text: &str,
+) -> Result<Outcome, Fail> {
+    shelf.put_file("r", text.as_bytes())?;
+    shelf.open_file("r")?;
+    match check(alloc, circuit, shelf) {
+        Ok(checked) => Ok(Ok(checked.summary)),
+        Err(fault) => Ok(Err(fault)),
+    }
+}
+
+// What it says of a text that is read in pieces of so many bytes.
+fn outcome(alloc: Global, circuit: &Circuit, text: &str, chunk: usize) -> Result<Outcome, Fail>
     requires { 0 < chunk }
 {
-    let mut text = String::new(alloc);
+    let mut shelf = MemoryShelf::new(alloc, chunk, Vec::new(alloc));
+    checked(alloc, circuit, &mut shelf, text)
+}
+
+// Whether it says this, however many bytes are read at once.
+fn is_outcome(alloc: Global, circuit: &Circuit, text: &str, wanted: Outcome) -> Result<bool, Fail> {
+    Ok(
+        outcome(alloc, circuit, text, 1)? == wanted
+            && outcome(alloc, circuit, text, 4096)? == wanted,
+    )
+}
+
+fn push_parts(text: &mut String, parts: &[&str]) -> Result<(), AllocError> {
     for part in parts {
         text.push_str(part)?;
     }
-    let mut shelf = MemoryShelf::new(alloc, chunk, Vec::new(alloc));
-    shelf.put_file("r", text.as_bytes())?;
-    shelf.open_file("r")?;
-    let answer = match check(alloc, circuit, &mut shelf) {
-        Ok(checked) => Ok(checked.summary),
-        Err(fault) => Err(fault),
-    };
-    Ok(answer)
+    Ok(())
 }
 
-/// The refusal of a line.
-pub(crate) fn at(kind: ResultKind, line: u64) -> Result<Summary, FileFault> {
-    Err(FileFault::Result(ResultFault { kind, line }))
-}
-
-/// The refusal of a line for its tree or its log.
-pub(crate) fn evidence(kind: RefusalKind, step: u64, line: u64) -> Result<Summary, FileFault> {
-    at(ResultKind::Evidence(Refusal { kind, step }), line)
+/// Whether the check says this of a text, which comes in these parts.
+pub(crate) fn is_answered(
+    alloc: Global,
+    circuit: &Circuit,
+    parts: &[&str],
+    wanted: Outcome,
+) -> Result<bool, Fail> {
+    let mut text = String::new(alloc);
+    push_parts(&mut text, parts)?;
+    is_outcome(alloc, circuit, text.as_str(), wanted)
 }

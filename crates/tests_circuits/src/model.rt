@@ -1,24 +1,33 @@
 //! Gates, small circuits, their order and wiring, and rows of answers.
 
-use net_model::{AnswerRows, BuildFault, Fault, Kind, Pins, gate_value, plain_answer};
-use sample_circuits::{
-    Parts, PartsFault, bits, circuit, pin, position, stands, stem, takes, text_of,
+ghost use Rattle.std.specs.Prelude.{◌≡◌, false, length, replicate};
+ghost use Rattle.net_model.specs.Fault.{IsFaultOf};
+
+use net_model::Fault::{self, Free, Stuck};
+use net_model::Site::{Pin, Position, Stem};
+use net_model::{
+    AnswerRows, Bits, BuildFault, Circuit, Kind, Vector, Wiring, gate_value, plain_answer,
 };
-use std::alloc::Global;
+use sample_circuits::{Parts, PartsFault, bits, circuit, stands, takes, text_of};
+use std::alloc::{AllocError, Global};
 use std::test::Fail;
 
-// What a gate gives at each of these bits of its pins, and - where it doesn't take so many.
-fn values(alloc: Global, kind: Kind, pins: &[&str]) -> Result<String, Fail> {
+// What a gate gives at these bits of its pins, and - where it doesn't take so many.
+fn value(kind: Kind, seen: &Bits) -> &'static str {
+    if !takes(kind, seen.len()) {
+        "-"
+    } else if gate_value(kind, seen) {
+        "1"
+    } else {
+        "0"
+    }
+}
+
+// What it gives at each of these bits.
+fn values(alloc: Global, kind: Kind, pins: &[&str]) -> Result<String, AllocError> {
     let mut text = String::new(alloc);
     for seen in pins {
-        let seen = bits(alloc, seen)?;
-        if !takes(kind, seen.len()) {
-            text.push_str("-")?;
-        } else if gate_value(kind, &seen) {
-            text.push_str("1")?;
-        } else {
-            text.push_str("0")?;
-        }
+        text.push_str(value(kind, &bits(alloc, seen)?))?;
     }
     Ok(text)
 }
@@ -28,40 +37,80 @@ const TWO: &[&str] = &["00", "01", "10", "11"];
 const THREE: &[&str] = &["000", "001", "010", "011", "100", "101", "110", "111"];
 
 // A multiplexer gives its second pin where its first is 0, and else its third.
+const GATES: &[(Kind, &[&str], &str)] = &[
+    (Kind::And, TWO, "0001"),
+    (Kind::Nand, TWO, "1110"),
+    (Kind::Or, TWO, "0111"),
+    (Kind::Nor, TWO, "1000"),
+    (Kind::Xor, TWO, "0110"),
+    (Kind::Xnor, TWO, "1001"),
+    (Kind::Not, &["0"], "1"),
+    (Kind::Buff, &["1"], "1"),
+    (Kind::Const0, &[""], "0"),
+    (Kind::Const1, &[""], "1"),
+    (Kind::Xor, &["111"], "1"),
+    (Kind::Xnor, &["111"], "0"),
+    (Kind::Mux, &["01"], "-"),
+    (Kind::Mux, THREE, "00110101"),
+];
+
+// The first kind of gate that gives something else.
+fn first_other(alloc: Global) -> Result<Option<Kind>, AllocError> {
+    for (kind, pins, expected) in GATES {
+        if values(alloc, *kind, pins)?.as_str() != *expected {
+            return Ok(Some(*kind));
+        }
+    }
+    Ok(None)
+}
+
 #[test]
 fn gates_on_bits(rt: HostRuntime) -> Result<(), Fail> {
-    let table: [(Kind, &[&str], &str); 14] = [
-        (Kind::And, TWO, "0001"),
-        (Kind::Nand, TWO, "1110"),
-        (Kind::Or, TWO, "0111"),
-        (Kind::Nor, TWO, "1000"),
-        (Kind::Xor, TWO, "0110"),
-        (Kind::Xnor, TWO, "1001"),
-        (Kind::Not, &["0"], "1"),
-        (Kind::Buff, &["1"], "1"),
-        (Kind::Const0, &[""], "0"),
-        (Kind::Const1, &[""], "1"),
-        (Kind::Xor, &["111"], "1"),
-        (Kind::Xnor, &["111"], "0"),
-        (Kind::Mux, &["01"], "-"),
-        (Kind::Mux, THREE, "00110101"),
-    ];
-    for (kind, pins, expected) in table {
-        let found = values(rt.alloc(), kind, pins)?;
-        assert_eq!(rt; found.as_str(), expected, "{kind:?}");
-    }
+    assert_eq!(rt; first_other(rt.alloc())?, None);
     Ok(())
 }
 
-// What a circuit shows at a vector, under a fault that stands in it.
-fn answer(alloc: Global, parts: Parts, fault: Fault, vector: &str) -> Result<String, Fail> {
-    let circuit = circuit(alloc, parts)?;
+// Whether a circuit shows the answer at a vector under a fault, which both fit it.
+fn shows(
+    alloc: Global,
+    circuit: &Circuit,
+    fault: &Fault,
+    v: &Vector,
+    answer: &str,
+) -> Result<bool, Fail>
+    requires fault { IsFaultOf circuit.now fault.now }
+    requires width { length v.now ≡ circuit.now.sources }
+{
+    let found = plain_answer(alloc, circuit, fault, v)?;
+    let text = text_of(alloc, &found)?;
+    Ok(text.as_str() == answer)
+}
+
+// The same where they may not fit it.
+fn answers(
+    alloc: Global,
+    circuit: &Circuit,
+    fault: &Fault,
+    vector: &str,
+    answer: &str,
+) -> Result<bool, Fail> {
     let v = bits(alloc, vector)?;
-    if !stands(&circuit, fault) || v.len() != circuit.sources() as usize {
-        return Err(Fail::new("the fault or the vector doesn't fit"));
+    if !stands(circuit, *fault) || v.len() != circuit.sources() as usize {
+        return Ok(false);
     }
-    let answer = plain_answer(alloc, &circuit, &fault, &v)?;
-    Ok(text_of(alloc, &answer)?)
+    shows(alloc, circuit, fault, &v, answer)
+}
+
+// The same for the circuit of some parts.
+fn parts_answer(
+    alloc: Global,
+    parts: Parts,
+    fault: &Fault,
+    vector: &str,
+    answer: &str,
+) -> Result<bool, Fail> {
+    let circuit = circuit(alloc, parts)?;
+    answers(alloc, &circuit, fault, vector, answer)
 }
 
 const NAND: Parts<'static> = Parts {
@@ -81,90 +130,120 @@ const CHOOSER: Parts<'static> = Parts {
     positions: &[3, 2, 3],
 };
 
+// Parts of a circuit, a fault, a vector, and what is shown at it.
+const SHOWN: &[(Parts, Fault, &str, &str)] = &[
+    (NAND, Free, "11", "0"),
+    (NAND, Stuck(Stem(0), false), "11", "1"),
+    (NAND, Stuck(Stem(2), true), "11", "1"),
+    (NAND, Stuck(Position(0), true), "11", "1"),
+    (NAND, Free, "01", "1"),
+    (NAND, Stuck(Stem(0), true), "01", "0"),
+    (CHOOSER, Free, "00", "000"),
+    (CHOOSER, Free, "01", "101"),
+    (CHOOSER, Free, "10", "101"),
+    (CHOOSER, Stuck(Stem(4), false), "10", "000"),
+    (CHOOSER, Stuck(Stem(2), true), "00", "010"),
+    (CHOOSER, Stuck(Pin(3, 0), true), "00", "101"),
+    (CHOOSER, Stuck(Pin(3, 1), true), "00", "101"),
+    (CHOOSER, Stuck(Pin(3, 2), false), "11", "000"),
+];
+
 #[test]
 fn answers_under_faults(rt: HostRuntime) -> Result<(), Fail> {
-    let table = [
-        (NAND, Fault::Free, "11", "0"),
-        (NAND, stem(0, false), "11", "1"),
-        (NAND, stem(2, true), "11", "1"),
-        (NAND, position(0, true), "11", "1"),
-        (NAND, Fault::Free, "01", "1"),
-        (NAND, stem(0, true), "01", "0"),
-        (CHOOSER, Fault::Free, "00", "000"),
-        (CHOOSER, Fault::Free, "01", "101"),
-        (CHOOSER, Fault::Free, "10", "101"),
-        (CHOOSER, stem(4, false), "10", "000"),
-        (CHOOSER, stem(2, true), "00", "010"),
-        (CHOOSER, pin(3, 0, true), "00", "101"),
-        (CHOOSER, pin(3, 1, true), "00", "101"),
-        (CHOOSER, pin(3, 2, false), "11", "000"),
-    ];
-    for (parts, fault, vector, expected) in table {
-        let found = answer(rt.alloc(), parts, fault, vector)?;
-        assert_eq!(rt; found.as_str(), expected, "{fault:?}");
+    for (parts, fault, vector, answer) in SHOWN {
+        assert!(rt;
+            parts_answer(rt.alloc(), *parts, fault, vector, answer)?,
+            "{fault:?} {vector}"
+        );
     }
     Ok(())
+}
+
+// The gates that read each line of the chooser, and the positions that show it.
+const USERS: &[(&[u32], &[u32])] = &[
+    (&[2], &[]),
+    (&[2], &[]),
+    (&[], &[1]),
+    (&[], &[0, 2]),
+    (&[2], &[]),
+];
+
+// Whether the lines have these.
+fn has_users(wiring: &Wiring) -> bool
+    requires readers { length wiring.now.readers ≡ 5 }
+    requires showing { length wiring.now.showing ≡ 5 }
+{
+    for (line, (readers, showing)) in USERS.iter().enumerate() {
+        let line = line as u32;
+        if wiring.readers(line) != *readers || wiring.showing(line) != *showing {
+            return false;
+        }
+    }
+    true
 }
 
 // Constants are gates that are ready from the start.
+fn is_chooser(chooser: &Circuit) -> bool {
+    let wiring = chooser.wiring();
+    chooser.sources() == 2
+        && chooser.lines() == 5
+        && chooser.order() == [2, 4, 3].as_slice()
+        && wiring.order() == [2, 4, 3].as_slice()
+        && has_users(wiring)
+}
+
 #[test]
 fn order_and_wiring(rt: HostRuntime) -> Result<(), Fail> {
     let chooser = circuit(rt.alloc(), CHOOSER)?;
-    assert_eq!(rt; chooser.sources(), 2);
-    assert_eq!(rt; chooser.lines(), 5);
-    assert_eq!(rt; chooser.order(), [2, 4, 3].as_slice());
-    let wiring = chooser.wiring();
-    assert_eq!(rt; wiring.order(), [2, 4, 3].as_slice());
-    let users: [(&[u32], &[u32]); 5] = [
-        (&[2], &[]),
-        (&[2], &[]),
-        (&[], &[1]),
-        (&[], &[0, 2]),
-        (&[2], &[]),
-    ];
-    for (line, (readers, showing)) in users.iter().enumerate() {
-        let line = line as u32;
-        assert_eq!(rt; wiring.readers(line), *readers, "line {line}");
-        assert_eq!(rt; wiring.showing(line), *showing, "line {line}");
-    }
+    assert!(rt; is_chooser(&chooser));
     Ok(())
 }
 
-// The walk along a loop of gates over one source, if they form one.
-fn walk_of(alloc: Global, gates: &[(Kind, &[u32])]) -> Result<Option<Pins>, Fail> {
+// Whether gates form a loop with this walk along it, or with none a circuit.
+fn has_walk(built: &Result<Circuit, PartsFault>, expected: Option<&[u32]>) -> bool {
+    match built {
+        Ok(_circuit) => expected == None,
+        Err(PartsFault::Unbuilt(BuildFault::Loop(walk))) => expected == Some(walk.as_slice()),
+        Err(_) => false,
+    }
+}
+
+fn walks(alloc: Global, gates: &[(Kind, &[u32])], walk: Option<&[u32]>) -> bool {
     let parts = Parts {
         sources: 1,
         gates,
         positions: &[],
     };
-    match circuit(alloc, parts) {
-        Ok(_circuit) => Ok(None),
-        Err(PartsFault::Unbuilt(BuildFault::Loop(walk))) => Ok(Some(walk)),
-        Err(PartsFault::Unbuilt(BuildFault::NoMemory)) => Err(Fail::new("out of memory")),
-        Err(PartsFault::Unfit) => Err(Fail::new("the gates don't fit together")),
-    }
+    let built = circuit(alloc, parts);
+    has_walk(&built, walk)
 }
+
+// Gates over one source, and the walk along their loop.
+const WALKS: &[(&[(Kind, &[u32])], Option<&[u32]>)] = &[
+    (&[(Kind::Not, &[2]), (Kind::Mux, &[0, 0, 1])], Some(&[1, 2])),
+    (&[(Kind::And, &[0, 2]), (Kind::Or, &[0, 2])], Some(&[2])),
+    (&[(Kind::Not, &[2]), (Kind::Not, &[0])], None),
+];
 
 #[test]
 fn walks_of_loops(rt: HostRuntime) -> Result<(), Fail> {
-    let table: [([(Kind, &[u32]); 2], Option<&[u32]>); 3] = [
-        ([(Kind::Not, &[2]), (Kind::Mux, &[0, 0, 1])], Some(&[1, 2])),
-        ([(Kind::And, &[0, 2]), (Kind::Or, &[0, 2])], Some(&[2])),
-        ([(Kind::Not, &[2]), (Kind::Not, &[0])], None),
-    ];
-    for (gates, expected) in table {
-        let walk = walk_of(rt.alloc(), &gates)?;
-        assert_eq!(rt; walk.as_ref().map(|pins| pins.as_slice()), expected);
+    for (number, (gates, walk)) in WALKS.iter().enumerate() {
+        assert!(rt; walks(rt.alloc(), gates, *walk), "gates {number}");
     }
     Ok(())
+}
+
+// Whether a bit is set alone, in two rows of three.
+fn keeps(rows: &mut AnswerRows) -> bool
+    requires { rows.old ≡ replicate 2 (replicate 3 false) }
+{
+    rows.set(1, 2, true);
+    rows.get(1, 2) && !rows.get(0, 2) && rows.width() == 3
 }
 
 #[test]
 fn rows_keep_what_is_set(rt: HostRuntime) -> Result<(), Fail> {
     let mut rows = AnswerRows::zeros(rt.alloc(), 2, 3)?;
-    rows.set(1, 2, true);
-    assert!(rt; rows.get(1, 2));
-    assert!(rt; !rows.get(0, 2));
-    assert_eq!(rt; rows.width(), 3);
+    assert!(rt; keeps(&mut rows));
     Ok(())
 }

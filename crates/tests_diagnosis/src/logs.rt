@@ -1,17 +1,16 @@
 //! Which fault numbers of an AND of two sources a log lists.
 
-ghost use Rattle.std.specs.Prelude.{◌≡◌, ◌<◌, IfOk};
+ghost use Rattle.std.specs.Prelude.{◌≡◌, ◌<◌, IfOk, OnOk};
 ghost use Rattle.table_dicts.specs.Dictionary.{IsGroupedDict, IsShaped};
 
 use diagnose::{matches, read_log};
-use std::alloc::Global;
-use std::process::Abort;
+use std::alloc::{AllocError, Global};
 use std::test::Fail;
 use table_dicts::{AnswerTable, Dict, DictKind, full, pass_fail};
 
 // The patterns and numbers at which the AND answers 1. The patterns are 00, 10, 01 and 11, and the numbers the fault-free
 // circuit, each source at 0 and at 1, and the gate at 0 and at 1.
-const ONES: [(u32, u32); 9] = [
+const ONES: &[(u32, u32)] = &[
     (3, 0),
     (2, 2),
     (3, 2),
@@ -27,16 +26,34 @@ fn table(alloc: Global) -> Result<AnswerTable, Fail>
     ensures { IfOk result (λ table. 0 < table.numbers) }
 {
     let mut table = AnswerTable::zeros(alloc, 4, 7, 1)?;
+    set_ones(&mut table)?;
+    Ok(table)
+}
+
+fn set_ones(table: &mut AnswerTable) -> Result<(), Fail>
+    ensures { OnOk result (0 < table.new.numbers) }
+{
     for (pattern, number) in ONES {
-        if pattern >= table.patterns() || number >= table.numbers() || table.positions() == 0 {
+        if *pattern >= table.patterns() || *number >= table.numbers() || table.positions() == 0 {
             return Err(Fail::new("there is no such bit"));
         }
-        table.set(pattern, number, 0, true);
+        table.set(*pattern, *number, 0, true);
     }
     if table.numbers() == 0 {
         return Err(Fail::new("there is no number"));
     }
-    Ok(table)
+    Ok(())
+}
+
+fn dict_at(alloc: Global, kind: DictKind, table: &AnswerTable) -> Result<Dict, AllocError>
+    requires { 0 < table.now.numbers }
+    ensures grouped { IfOk result IsGroupedDict }
+    ensures shaped { IfOk result IsShaped }
+{
+    match kind {
+        DictKind::Full => full(alloc, table),
+        DictKind::PassFail | DictKind::SameDiff => pass_fail(alloc, table),
+    }
 }
 
 fn dict_of(alloc: Global, kind: DictKind) -> Result<Dict, Fail>
@@ -44,43 +61,45 @@ fn dict_of(alloc: Global, kind: DictKind) -> Result<Dict, Fail>
     ensures shaped { IfOk result IsShaped }
 {
     let table = table(alloc)?;
-    let dict = match kind {
-        DictKind::Full => full(alloc, &table)?,
-        DictKind::PassFail | DictKind::SameDiff => pass_fail(alloc, &table)?,
-    };
-    Ok(dict)
+    Ok(dict_at(alloc, kind, &table)?)
 }
 
-fn check_listed(
-    rt: &impl Abort,
-    alloc: Global,
-    kind: DictKind,
-    log: &str,
-    listed: &[u32],
-) -> Result<(), Fail> {
-    let dict = dict_of(alloc, kind)?;
-    let observed = read_log(alloc, &dict, log.as_bytes())?;
-    assert_eq!(rt;
-        matches(alloc, &dict, &observed)?.as_slice(),
-        listed,
-        "{kind:?} and {log}"
-    );
-    Ok(())
+// Whether a log lists these numbers.
+fn lists(alloc: Global, dict: &Dict, log: &str, listed: &[u32]) -> Result<bool, Fail>
+    requires grouped { IsGroupedDict dict.now }
+    requires shaped { IsShaped dict.now }
+{
+    let observed = read_log(alloc, dict, log.as_bytes())?;
+    let found = matches(alloc, dict, &observed)?;
+    Ok(found.as_slice() == listed)
 }
+
+// Whether it does with the dictionary of a kind.
+fn are_listed(alloc: Global, kind: DictKind, log: &str, listed: &[u32]) -> Result<bool, Fail> {
+    let dict = dict_of(alloc, kind)?;
+    lists(alloc, &dict, log, listed)
+}
+
+const LOGS: &[(&str, &[u32])] = &[
+    ("0 0\n1 0\n2 0\n3 0\n", &[1, 3, 5]),
+    ("0 1\n1 1\n2 1\n3 1\n", &[6]),
+    ("0 1\n1 0\n2 0\n3 0\n", &[]),
+    ("0 0\n1 0\n2 0\n3 1\n", &[0]),
+    ("0 0\n1 0\n2 1\n3 1\n", &[2]),
+    ("0 0\n1 1\n2 0\n3 1\n", &[4]),
+];
 
 #[test]
 fn listed_numbers(rt: HostRuntime) -> Result<(), Fail> {
-    let logs: [(&str, &[u32]); 6] = [
-        ("0 0\n1 0\n2 0\n3 0\n", &[1, 3, 5]),
-        ("0 1\n1 1\n2 1\n3 1\n", &[6]),
-        ("0 1\n1 0\n2 0\n3 0\n", &[]),
-        ("0 0\n1 0\n2 0\n3 1\n", &[0]),
-        ("0 0\n1 0\n2 1\n3 1\n", &[2]),
-        ("0 0\n1 1\n2 0\n3 1\n", &[4]),
-    ];
-    for (log, listed) in logs {
-        check_listed(&rt, rt.alloc(), DictKind::PassFail, log, listed)?;
-        check_listed(&rt, rt.alloc(), DictKind::Full, log, listed)?;
+    for (log, listed) in LOGS {
+        assert!(rt;
+            are_listed(rt.alloc(), DictKind::PassFail, log, listed)?,
+            "{log}"
+        );
+        assert!(rt;
+            are_listed(rt.alloc(), DictKind::Full, log, listed)?,
+            "{log}"
+        );
     }
     Ok(())
 }

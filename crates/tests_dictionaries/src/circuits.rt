@@ -1,8 +1,10 @@
 //! Dictionaries of small circuits.
 
-ghost use Rattle.std.specs.Prelude.{◌≡◌, ◌<◌, ◌^◌, length, All, IfOk};
+ghost use Rattle.std.specs.Prelude.{◌≡◌, ◌<◌, ◌^◌, length, All, IfOk, OnOk};
 ghost use Rattle.net_model.specs.FaultList.{faults as faults_of, fault_count};
 ghost use Rattle.net_model.specs.PatternRows.{IsTableOf};
+ghost use Rattle.table_dicts.specs.Dictionary.{IsGroupedDict};
+ghost use Rattle.table_dicts.specs.Rows.{AreRows};
 ghost use Rattle.table_dicts.specs.Setting.{IsSetting};
 
 use crate::spelled::is_dict;
@@ -15,7 +17,7 @@ use sample_circuits::{AND_OF_TWO, Parts, SHOWN_TWICE, bits, circuit};
 use std::alloc::{AllocError, Global};
 use std::test::Fail;
 use table_dicts::{
-    AnswerTable, Setting, answers_at, apart, full, full_at, pass_fail, pass_fail_at, project,
+    AnswerTable, Dict, Setting, answers_at, apart, full, full_at, pass_fail, pass_fail_at, project,
 };
 
 // Vectors of which each splits a class of those before it, and the classes of all of them.
@@ -23,6 +25,26 @@ use table_dicts::{
 struct Kept {
     patterns: Vectors,
     classes: Classes,
+}
+
+// Shows these vectors to a keeper of the circuit.
+fn keep_all(
+    alloc: Global,
+    circuit: &Circuit,
+    keeper: &mut Keeper,
+    texts: &[&str],
+) -> Result<(), Fail>
+    requires { keeper.old.circuit ≡ circuit.now }
+    ensures { OnOk result (keeper.new.circuit ≡ circuit.now) }
+{
+    for text in texts {
+        let v = bits(alloc, text)?;
+        if v.len() != circuit.sources() as usize {
+            return Err(Fail::new("a vector has another width"));
+        }
+        keeper.keep(&v)?;
+    }
+    Ok(())
 }
 
 // What is kept of these vectors.
@@ -40,13 +62,7 @@ fn kept_of(
 {
     let forest = collapse(alloc, circuit, faults)?;
     let mut keeper = Keeper::new(alloc, circuit, faults, &forest)?;
-    for text in texts {
-        let v = bits(alloc, text)?;
-        if v.len() != circuit.sources() as usize {
-            return Err(Fail::new("a vector has another width"));
-        }
-        keeper.keep(&v)?;
-    }
+    keep_all(alloc, circuit, &mut keeper, texts)?;
     let (vectors, classes) = keeper.into_kept();
     if vectors.len() > 1000 {
         return Err(Fail::new("there are too many vectors"));
@@ -69,16 +85,39 @@ fn listed(alloc: Global, vectors: Vec<Vector>) -> Result<Vectors, AllocError>
 // A dictionary, and how many pairs of classes it keeps apart.
 type Wanted = (&'static str, u64);
 
+// Whether a dictionary is this one, and keeps so many pairs apart.
+fn is_told(alloc: Global, dict: &Dict, kept: &Kept, wanted: Wanted) -> Result<bool, Fail>
+    requires grouped { IsGroupedDict dict.now }
+    requires numbers { length kept.now.classes.class_of ≡ dict.now.numbers }
+{
+    Ok(apart(alloc, dict, &kept.classes)? == wanted.1 && is_dict(alloc, dict, wanted.0)?)
+}
+
 fn is_full(alloc: Global, table: &AnswerTable, kept: &Kept, wanted: Wanted) -> Result<bool, Fail>
     requires some { 0 < table.now.numbers }
     requires numbers { length kept.now.classes.class_of ≡ table.now.numbers }
 {
     let dict = full(alloc, table)?;
-    let pairs = apart(alloc, &dict, &kept.classes)?;
-    Ok(pairs == wanted.1 && is_dict(alloc, &dict, wanted.0)?)
+    is_told(alloc, &dict, kept, wanted)
 }
 
-// The same/different dictionary at the fault-free answers tells as much.
+// Whether the same/different dictionary at the fault-free answers, the baselines of the pass/fail one, tells as much.
+fn tells_as_much(
+    alloc: Global,
+    table: &AnswerTable,
+    kept: &Kept,
+    dict: &Dict,
+    pairs: u64,
+) -> Result<bool, Fail>
+    requires some { 0 < table.now.numbers }
+    requires numbers { length kept.now.classes.class_of ≡ table.now.numbers }
+    requires baselines { AreRows (length table.now.rows) table.now.positions dict.now.baselines }
+{
+    let other = project(alloc, table, &dict.baselines)?;
+    let same = other.groups.as_slice() == dict.groups.as_slice();
+    Ok(apart(alloc, &other, &kept.classes)? == pairs && same)
+}
+
 fn is_pass_fail(
     alloc: Global,
     table: &AnswerTable,
@@ -89,11 +128,7 @@ fn is_pass_fail(
     requires numbers { length kept.now.classes.class_of ≡ table.now.numbers }
 {
     let dict = pass_fail(alloc, table)?;
-    let other = project(alloc, table, &dict.baselines)?;
-    let pairs = apart(alloc, &dict, &kept.classes)?;
-    let others = apart(alloc, &other, &kept.classes)?;
-    let same = other.groups.as_slice() == dict.groups.as_slice();
-    Ok(same && pairs == wanted.1 && others == pairs && is_dict(alloc, &dict, wanted.0)?)
+    Ok(tells_as_much(alloc, table, kept, &dict, wanted.1)? && is_told(alloc, &dict, kept, wanted)?)
 }
 
 // A circuit with patterns that each split a class, its full dictionary, and its pass/fail dictionary.
@@ -105,7 +140,7 @@ const NOTHING: Parts<'static> = Parts {
     positions: &[],
 };
 
-const CASES: [Case; 3] = [
+const CASES: &[Case] = &[
     (
         AND_OF_TWO,
         &["00", "10", "01", "11"],
@@ -163,28 +198,54 @@ fn are_told(
     Ok(is_full(alloc, table, kept, all)? && is_pass_fail(alloc, table, kept, fails)?)
 }
 
+fn is_full_at(alloc: Global, setting: &Setting, wanted: &str) -> Result<bool, Fail>
+    requires { IsSetting setting.now }
+{
+    let dict = full_at(alloc, setting)?;
+    is_dict(alloc, &dict, wanted)
+}
+
+fn is_pass_fail_at(alloc: Global, setting: &Setting, wanted: &str) -> Result<bool, Fail>
+    requires { IsSetting setting.now }
+{
+    let dict = pass_fail_at(alloc, setting)?;
+    is_dict(alloc, &dict, wanted)
+}
+
 // Whether both are made without a table, and of one.
 fn are_made(alloc: Global, kept: &Kept, setting: &Setting, case: &Case) -> Result<bool, Fail>
     requires setting { IsSetting setting.now }
     requires numbers { length kept.now.classes.class_of ≡ fault_count setting.now.circuit.now }
 {
-    let all = full_at(alloc, setting)?;
-    let fails = pass_fail_at(alloc, setting)?;
-    let direct = is_dict(alloc, &all, case.2.0)? && is_dict(alloc, &fails, case.3.0)?;
-    Ok(direct && are_tabled(alloc, kept, setting, case)?)
+    Ok(
+        is_full_at(alloc, setting, case.2.0)?
+            && is_pass_fail_at(alloc, setting, case.3.0)?
+            && are_tabled(alloc, kept, setting, case)?,
+    )
 }
 
-fn holds(alloc: Global, case: &Case) -> Result<bool, Fail> {
-    let circuit = circuit(alloc, case.0)?;
-    let faults = list(alloc, &circuit)?;
-    let kept = kept_of(alloc, &circuit, &faults, case.1)?;
+// Whether all is so for these faults of a circuit.
+fn is_kept(alloc: Global, circuit: &Circuit, faults: &FaultList, case: &Case) -> Result<bool, Fail>
+    requires { faults.now ≡ faults_of circuit.now }
+{
+    let kept = kept_of(alloc, circuit, faults, case.1)?;
     let setting = Setting {
-        circuit: &circuit,
-        faults: &faults,
+        circuit,
+        faults,
         patterns: &kept.patterns,
         classes: &kept.classes,
     };
     are_made(alloc, &kept, &setting, case)
+}
+
+fn is_listed(alloc: Global, circuit: &Circuit, case: &Case) -> Result<bool, Fail> {
+    let faults = list(alloc, circuit)?;
+    is_kept(alloc, circuit, &faults, case)
+}
+
+fn holds(alloc: Global, case: &Case) -> Result<bool, Fail> {
+    let circuit = circuit(alloc, case.0)?;
+    is_listed(alloc, &circuit, case)
 }
 
 #[test]

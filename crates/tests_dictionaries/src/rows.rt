@@ -1,10 +1,25 @@
 //! Equal rows in groups, and the first that comes again.
 
-use crate::spelled::{rows_of, rows_with, spelled};
+ghost use Rattle.std.specs.Prelude.{◌<◌, ◌^◌, length};
+
+use crate::spelled::{push_rows, rows_of, rows_with};
 use net_model::AnswerRows;
-use std::alloc::Global;
+use std::alloc::{AllocError, Global};
 use std::test::Fail;
 use table_dicts::{first_repeat, group_rows};
+
+// Whether rows have these groups, and so many first rows.
+fn have_groups(
+    alloc: Global,
+    rows: &AnswerRows,
+    groups: &[u32],
+    firsts: usize,
+) -> Result<bool, AllocError>
+    requires { length rows.now < 2 ^ 32 }
+{
+    let grouped = group_rows(alloc, rows)?;
+    Ok(grouped.groups.as_slice() == groups && grouped.entries.rows() == firsts)
+}
 
 // Whether rows have these groups, so many first rows, and this first row that comes again.
 fn are_grouped(
@@ -17,12 +32,7 @@ fn are_grouped(
     if rows.rows() > 1000 {
         return Err(Fail::new("there are too many rows"));
     }
-    let grouped = group_rows(alloc, rows)?;
-    Ok(
-        grouped.groups.as_slice() == groups
-            && grouped.entries.rows() == firsts
-            && first_repeat(alloc, rows)? == repeat,
-    )
+    Ok(have_groups(alloc, rows, groups, firsts)? && first_repeat(alloc, rows)? == repeat)
 }
 
 // The width of rows, the rows, their groups, how many first rows there are, and the first row that comes again.
@@ -34,7 +44,7 @@ type Grouping = (
     Option<u32>,
 );
 
-const GROUPED: [Grouping; 7] = [
+const GROUPED: &[Grouping] = &[
     (2, &[], &[], 0, None),
     (2, &["01"], &[0], 1, None),
     (2, &["01", "10", "11"], &[0, 1, 2], 3, None),
@@ -74,14 +84,27 @@ fn groups_of_long_rows(rt: HostRuntime) -> Result<(), Fail> {
     Ok(())
 }
 
-#[test]
-fn entries_are_first_rows(rt: HostRuntime) -> Result<(), Fail> {
-    let alloc = rt.alloc();
-    let rows = rows_of(alloc, 3, &["011", "100", "011", "001"])?;
+// The entries of rows, each with a blank behind it.
+fn entries_text(alloc: Global, rows: &AnswerRows) -> Result<String, Fail> {
     if rows.rows() > 1000 {
         return Err(Fail::new("there are too many rows"));
     }
-    let grouped = group_rows(alloc, &rows)?;
-    assert_eq!(rt; spelled(alloc, &grouped.entries)?.as_str(), "011 100 001 ");
+    let mut text = String::new(alloc);
+    push_grouped(alloc, rows, &mut text)?;
+    Ok(text)
+}
+
+fn push_grouped(alloc: Global, rows: &AnswerRows, text: &mut String) -> Result<(), AllocError>
+    requires { length rows.now < 2 ^ 32 }
+{
+    let grouped = group_rows(alloc, rows)?;
+    push_rows(text, &grouped.entries)
+}
+
+#[test]
+fn entries_are_first_rows(rt: HostRuntime) -> Result<(), Fail> {
+    let rows = rows_of(rt.alloc(), 3, &["011", "100", "011", "001"])?;
+    let text = entries_text(rt.alloc(), &rows)?;
+    assert!(rt; text.as_str() == "011 100 001 ");
     Ok(())
 }

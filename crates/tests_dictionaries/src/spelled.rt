@@ -8,53 +8,54 @@ use std::alloc::{AllocError, Global};
 use std::test::Fail;
 use table_dicts::Dict;
 
-// The kind of a dictionary, how many positions, patterns and numbers it has, its baselines, and the group and the entry of
+// Adds the kind of a dictionary, how many positions, patterns and numbers it has, its baselines, and the group and the entry of
 // each number.
-fn dict_text(alloc: Global, dict: &Dict) -> Result<String, Fail> {
-    let baselines = spelled(alloc, &dict.baselines)?;
-    let groups = numbers_text(alloc, dict.groups.as_slice())?;
-    let entries = entries_of(alloc, dict)?;
-    let head = format!(in alloc;
-        "{:?} {} {} {}",
+fn push_dict(text: &mut String, dict: &Dict) -> Result<(), Fail> {
+    write!(
+        text,
+        "{:?} {} {} {}: ",
         dict.kind, dict.positions, dict.patterns, dict.numbers
     )?;
-    Ok(format!(in alloc; "{head}: {baselines}: {groups}: {entries}")?)
+    push_rows(text, &dict.baselines)?;
+    text.push_str(": ")?;
+    push_numbers(text, dict.groups.as_slice())?;
+    text.push_str(": ")?;
+    push_entries(text, dict)
 }
 
 /// Whether a dictionary is this one.
 pub(crate) fn is_dict(alloc: Global, dict: &Dict, wanted: &str) -> Result<bool, Fail> {
-    Ok(dict_text(alloc, dict)?.as_str() == wanted)
+    let mut text = String::new(alloc);
+    push_dict(&mut text, dict)?;
+    Ok(text.as_str() == wanted)
 }
 
-// The numbers, each with a blank behind it.
-fn numbers_text(alloc: Global, numbers: &[u32]) -> Result<String, AllocError> {
-    let mut text = String::new(alloc);
+// Adds the numbers, each with a blank behind it.
+fn push_numbers(text: &mut String, numbers: &[u32]) -> Result<(), AllocError> {
     for number in numbers {
         write!(text, "{number} ")?;
     }
-    Ok(text)
+    Ok(())
 }
 
-/// The rows, each with a blank behind it.
-pub(crate) fn spelled(alloc: Global, rows: &AnswerRows) -> Result<String, AllocError> {
-    let mut text = String::new(alloc);
+/// Adds the rows, each with a blank behind it.
+pub(crate) fn push_rows(text: &mut String, rows: &AnswerRows) -> Result<(), AllocError> {
     for row in 0..rows.rows() {
-        push_row(&mut text, rows, row)?;
+        push_row(text, rows, row)?;
     }
-    Ok(text)
+    Ok(())
 }
 
-// The entry of each number, with a blank behind it.
-fn entries_of(alloc: Global, dict: &Dict) -> Result<String, Fail> {
-    let mut text = String::new(alloc);
+// Adds the entry of each number, with a blank behind it.
+fn push_entries(text: &mut String, dict: &Dict) -> Result<(), Fail> {
     for group in dict.groups.as_slice() {
         let row = *group as usize;
         if row >= dict.entries.rows() {
             return Err(Fail::new("a group has no entry"));
         }
-        push_row(&mut text, &dict.entries, row)?;
+        push_row(text, &dict.entries, row)?;
     }
-    Ok(text)
+    Ok(())
 }
 
 fn push_row(text: &mut String, rows: &AnswerRows, row: usize) -> Result<(), AllocError>
@@ -74,19 +75,29 @@ pub(crate) fn rows_with(
     ones: &[(usize, usize)],
 ) -> Result<AnswerRows, Fail> {
     let mut rows = AnswerRows::zeros(alloc, count, width)?;
-    for (row, at) in ones {
-        set_bit(&mut rows, *row, *at, true)?;
-    }
+    set_bits(&mut rows, ones)?;
     Ok(rows)
+}
+
+fn set_bits(rows: &mut AnswerRows, ones: &[(usize, usize)]) -> Result<(), Fail> {
+    for (row, at) in ones {
+        set_bit(rows, *row, *at, true)?;
+    }
+    Ok(())
 }
 
 /// Rows of the digits of these texts.
 pub(crate) fn rows_of(alloc: Global, width: usize, texts: &[&str]) -> Result<AnswerRows, Fail> {
     let mut rows = AnswerRows::zeros(alloc, texts.len(), width)?;
-    for (row, text) in texts.iter().enumerate() {
-        enter_row(&mut rows, row, text.as_bytes())?;
-    }
+    enter_rows(&mut rows, texts)?;
     Ok(rows)
+}
+
+fn enter_rows(rows: &mut AnswerRows, texts: &[&str]) -> Result<(), Fail> {
+    for (row, text) in texts.iter().enumerate() {
+        enter_row(rows, row, text.as_bytes())?;
+    }
+    Ok(())
 }
 
 fn enter_row(rows: &mut AnswerRows, row: usize, digits: &[u8]) -> Result<(), Fail> {

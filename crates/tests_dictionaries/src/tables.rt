@@ -1,6 +1,6 @@
 //! Dictionaries of tables that were made by hand.
 
-ghost use Rattle.std.specs.Prelude.{◌≡◌, ◌<◌, length, IfOk};
+ghost use Rattle.std.specs.Prelude.{◌≡◌, ◌<◌, length, IfOk, OnOk};
 ghost use Rattle.table_dicts.specs.Dictionary.{IsGroupedDict};
 
 use crate::spelled::{fit, is_dict, rows_of};
@@ -23,13 +23,21 @@ fn table_of(alloc: Global, made: &Made) -> Result<AnswerTable, Fail>
     ensures { IfOk result (λ table. 0 < table.numbers) }
 {
     let mut table = AnswerTable::zeros(alloc, made.patterns, made.numbers, made.positions)?;
-    for (pattern, number, position) in made.ones {
-        set_bit(&mut table, *pattern, *number, *position)?;
+    set_bits(&mut table, made.ones)?;
+    Ok(table)
+}
+
+// Sets these bits of a table of some number.
+fn set_bits(table: &mut AnswerTable, ones: &[(u32, u32, u32)]) -> Result<(), Fail>
+    ensures { OnOk result (0 < table.new.numbers) }
+{
+    for (pattern, number, position) in ones {
+        set_bit(table, *pattern, *number, *position)?;
     }
     if table.numbers() == 0 {
         return Err(Fail::new("there is no number"));
     }
-    Ok(table)
+    Ok(())
 }
 
 fn set_bit(table: &mut AnswerTable, pattern: u32, number: u32, position: u32) -> Result<(), Fail> {
@@ -85,7 +93,7 @@ const ONE_NUMBER: Made = Made {
 };
 
 // A table, its full dictionary, and its pass/fail dictionary.
-const MADE: [(Made, &str, &str); 4] = [
+const MADE: &[(Made, &str, &str)] = &[
     (
         FOUR,
         "Full 2 2 4: : 0 1 2 3 : 0000 0101 0110 1001 ",
@@ -108,29 +116,56 @@ const MADE: [(Made, &str, &str); 4] = [
     ),
 ];
 
+fn is_full(alloc: Global, table: &AnswerTable, wanted: &str) -> Result<bool, Fail>
+    requires { 0 < table.now.numbers }
+{
+    let dict = full(alloc, table)?;
+    is_dict(alloc, &dict, wanted)
+}
+
+fn is_pass_fail(alloc: Global, table: &AnswerTable, wanted: &str) -> Result<bool, Fail>
+    requires { 0 < table.now.numbers }
+{
+    let dict = pass_fail(alloc, table)?;
+    is_dict(alloc, &dict, wanted)
+}
+
+fn are_of(alloc: Global, table: &AnswerTable, all: &str, fails: &str) -> Result<bool, Fail>
+    requires { 0 < table.now.numbers }
+{
+    Ok(is_full(alloc, table, all)? && is_pass_fail(alloc, table, fails)?)
+}
+
 fn are_made(alloc: Global, made: &Made, all: &str, fails: &str) -> Result<bool, Fail> {
     let table = table_of(alloc, made)?;
-    Ok(
-        is_dict(alloc, &full(alloc, &table)?, all)?
-            && is_dict(alloc, &pass_fail(alloc, &table)?, fails)?,
-    )
+    are_of(alloc, &table, all, fails)
 }
 
 #[test]
 fn full_and_pass_fail(rt: HostRuntime) -> Result<(), Fail> {
     for (at, (made, all, fails)) in MADE.iter().enumerate() {
-        assert!(rt; are_made(rt.alloc(), made, *all, *fails)?, "case {at}");
+        assert!(rt; are_made(rt.alloc(), made, all, fails)?, "case {at}");
     }
     Ok(())
+}
+
+fn tells_three(dict: &Dict) -> bool {
+    dict.groups.as_slice() == [0, 1, 2].as_slice()
+}
+
+// Whether both dictionaries keep three numbers apart.
+fn tell_three(alloc: Global, table: &AnswerTable) -> Result<bool, Fail>
+    requires { 0 < table.now.numbers }
+{
+    let all = full(alloc, table)?;
+    let fails = pass_fail(alloc, table)?;
+    Ok(tells_three(&all) && tells_three(&fails))
 }
 
 #[test]
 fn long_entries(rt: HostRuntime) -> Result<(), Fail> {
     let table = table_of(rt.alloc(), &LONG)?;
-    let (all, fails) = (full(rt.alloc(), &table)?, pass_fail(rt.alloc(), &table)?);
-    for dict in [&all, &fails] {
-        assert_eq!(rt; dict.groups.as_slice(), [0, 1, 2].as_slice());
-    }
+    assert!(rt; tell_three(rt.alloc(), &table)?);
     Ok(())
 }
 
@@ -139,12 +174,27 @@ fn four_classes(alloc: Global) -> Result<Classes, Fail>
     ensures { IfOk result (λ classes. length classes.class_of ≡ 4) }
 {
     let mut classes = Classes::new(alloc, 4)?;
-    refine(&mut classes, &rows_of(alloc, 2, &["00", "01", "01", "10"])?)?;
-    refine(&mut classes, &rows_of(alloc, 2, &["00", "01", "10", "01"])?)?;
+    refine_twice(alloc, &mut classes)?;
     Ok(classes)
 }
 
-fn refine(classes: &mut Classes, answers: &AnswerRows) -> Result<(), Fail>
+fn refine_twice(alloc: Global, classes: &mut Classes) -> Result<(), Fail>
+    requires { length classes.old.class_of ≡ 4 }
+    ensures { length classes.new.class_of ≡ 4 }
+{
+    refine(alloc, classes, &["00", "01", "01", "10"])?;
+    refine(alloc, classes, &["00", "01", "10", "01"])
+}
+
+fn refine(alloc: Global, classes: &mut Classes, answers: &[&str]) -> Result<(), Fail>
+    requires { length classes.old.class_of ≡ 4 }
+    ensures { length classes.new.class_of ≡ 4 }
+{
+    let answers = rows_of(alloc, 2, answers)?;
+    refine_by(classes, &answers)
+}
+
+fn refine_by(classes: &mut Classes, answers: &AnswerRows) -> Result<(), Fail>
     requires { length classes.old.class_of ≡ 4 }
     ensures { length classes.new.class_of ≡ 4 }
 {
@@ -155,29 +205,51 @@ fn refine(classes: &mut Classes, answers: &AnswerRows) -> Result<(), Fail>
     Ok(())
 }
 
-fn projected(alloc: Global, table: &AnswerTable, baselines: &[&str]) -> Result<Dict, Fail>
+fn projected(alloc: Global, table: &AnswerTable, rows: &AnswerRows) -> Result<Dict, Fail>
     requires { 0 < table.now.numbers }
-    ensures grouped { IfOk result IsGroupedDict }
-    ensures numbers { IfOk result (λ dict. dict.numbers ≡ table.now.numbers) }
+    ensures { IfOk result IsGroupedDict }
 {
-    let (patterns, positions) = (table.patterns(), table.positions());
-    let rows = rows_of(alloc, positions as usize, baselines)?;
-    if !fit(&rows, patterns, positions) {
+    if !fit(rows, table.patterns(), table.positions()) {
         return Err(Fail::new("the baselines don't fit"));
     }
-    let dict = project(alloc, table, &rows)?;
-    Ok(dict)
+    Ok(project(alloc, table, rows)?)
 }
 
-// Whether the four numbers have this dictionary at these baselines, and so many of the six pairs are apart.
-fn is_four(alloc: Global, baselines: &[&str], wanted: &str, pairs: u64) -> Result<bool, Fail> {
+// The dictionary of the four numbers at these baselines.
+fn four_projected(alloc: Global, rows: &AnswerRows) -> Result<Dict, Fail>
+    ensures { IfOk result IsGroupedDict }
+{
     let table = table_of(alloc, &FOUR)?;
-    if table.numbers() != 4 {
+    projected(alloc, &table, rows)
+}
+
+// Whether so many of the six pairs of the four numbers are apart.
+fn parts(alloc: Global, dict: &Dict, pairs: u64) -> Result<bool, Fail>
+    requires { IsGroupedDict dict.now }
+{
+    let classes = four_classes(alloc)?;
+    if dict.numbers != 4 {
         return Err(Fail::new("there aren't four numbers"));
     }
-    let dict = projected(alloc, &table, baselines)?;
-    let classes = four_classes(alloc)?;
-    Ok(apart(alloc, &dict, &classes)? == pairs && is_dict(alloc, &dict, wanted)?)
+    Ok(apart(alloc, dict, &classes)? == pairs)
+}
+
+// Whether a dictionary of the four numbers is this one, and so many pairs are apart.
+fn is_told(alloc: Global, dict: &Dict, wanted: &str, pairs: u64) -> Result<bool, Fail>
+    requires { IsGroupedDict dict.now }
+{
+    Ok(parts(alloc, dict, pairs)? && is_dict(alloc, dict, wanted)?)
+}
+
+fn is_four_at(alloc: Global, rows: &AnswerRows, wanted: &str, pairs: u64) -> Result<bool, Fail> {
+    let dict = four_projected(alloc, rows)?;
+    is_told(alloc, &dict, wanted, pairs)
+}
+
+// Whether the four numbers have this dictionary at these baselines, and so many pairs are apart.
+fn is_four(alloc: Global, baselines: &[&str], wanted: &str, pairs: u64) -> Result<bool, Fail> {
+    let rows = rows_of(alloc, 2, baselines)?;
+    is_four_at(alloc, &rows, wanted, pairs)
 }
 
 #[test]

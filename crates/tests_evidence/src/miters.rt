@@ -97,52 +97,72 @@ fn push_clause(text: &mut String, clause: &[Lit]) -> Result<(), AllocError> {
     text.push_str("0 ")
 }
 
-fn pool_text(alloc: Global, pool: &Pool) -> Result<String, AllocError> {
-    let mut text = String::new(alloc);
+fn push_clauses(text: &mut String, pool: &Pool) -> Result<(), AllocError> {
     for number in 1..=pool.len() {
-        push_clause(&mut text, pool.get(number))?;
+        push_clause(text, pool.get(number))?;
     }
+    Ok(())
+}
+
+// Two counts, and the clauses of a pool.
+fn counted_text(alloc: Global, variables: u32, count: u32, pool: &Pool) -> Result<String, Fail> {
+    let mut text = format!(in alloc; "{variables} {count}: ")?;
+    push_clauses(&mut text, pool)?;
     Ok(text)
 }
 
-// How many variables and clauses a miter has, and the clauses, which are built into an empty pool.
-fn miter_text(alloc: Global, case: &Case, pool: &mut Pool) -> Result<String, Fail>
+// How many variables and clauses the miter of a circuit has, and the clauses, which are built into an empty pool.
+fn miter_text(
+    alloc: Global,
+    circuit: &Circuit,
+    case: &Case,
+    pool: &mut Pool,
+) -> Result<String, Fail>
+    requires { pool.old.clauses ≡ [] }
+{
+    if !stands(circuit, case.f) || !stands(circuit, case.g) {
+        return Err(Fail::new("a fault doesn't stand"));
+    }
+    let miter = build(alloc, circuit, &case.f, &case.g, pool)?;
+    counted_text(alloc, miter.variables(), miter.clause_count(), pool)
+}
+
+// The same for the circuit of the case.
+fn case_text(alloc: Global, case: &Case, pool: &mut Pool) -> Result<String, Fail>
     requires { pool.old.clauses ≡ [] }
 {
     let circuit = circuit(alloc, case.parts)?;
-    if !stands(&circuit, case.f) || !stands(&circuit, case.g) {
-        return Err(Fail::new("a fault doesn't stand"));
-    }
-    let miter = build(alloc, &circuit, &case.f, &case.g, pool)?;
-    let (variables, count) = (miter.variables(), miter.clause_count());
-    let clauses = pool_text(alloc, pool)?;
-    Ok(format!(in alloc; "{variables} {count}: {clauses}")?)
+    miter_text(alloc, &circuit, case, pool)
 }
 
-fn wanted_text(alloc: Global, case: &Case) -> Result<String, AllocError> {
-    format!(in alloc; "{}{}{}", case.counts, case.copies, case.difference)
+// Whether the miter of a case is built so into an empty pool.
+fn is_built(alloc: Global, case: &Case, pool: &mut Pool) -> Result<bool, Fail>
+    requires { pool.old.clauses ≡ [] }
+{
+    let wanted = format!(in alloc; "{}{}{}", case.counts, case.copies, case.difference)?;
+    let text = case_text(alloc, case, pool)?;
+    Ok(text.as_str() == wanted.as_str())
 }
 
 // A pool of just the room stays as it is.
 #[test]
 fn a_miter_in_its_room(rt: HostRuntime) -> Result<(), Fail> {
     let mut pool = Pool::with_room(rt.alloc(), 11, 25)?;
-    let text = miter_text(rt.alloc(), &OPPOSITES, &mut pool)?;
-    assert_eq!(rt;
-        text.as_str(),
-        wanted_text(rt.alloc(), &OPPOSITES)?.as_str()
-    );
-    assert_eq!(rt; (pool.spare_clauses(), pool.spare_literals()), (0, 0));
+    assert!(rt; is_built(rt.alloc(), &OPPOSITES, &mut pool)?);
+    assert!(rt; pool.spare_clauses() == 0 && pool.spare_literals() == 0);
     Ok(())
 }
 
-// A pool without room grows.
+// Whether it is built so into a pool without room, which grows.
+fn grows(alloc: Global, case: &Case) -> Result<bool, Fail> {
+    let mut pool = Pool::with_room(alloc, 0, 0)?;
+    is_built(alloc, case, &mut pool)
+}
+
 #[test]
 fn clauses_of_miters(rt: HostRuntime) -> Result<(), Fail> {
-    for case in &OTHERS {
-        let mut pool = Pool::with_room(rt.alloc(), 0, 0)?;
-        let text = miter_text(rt.alloc(), case, &mut pool)?;
-        assert_eq!(rt; text.as_str(), wanted_text(rt.alloc(), case)?.as_str());
+    for (number, case) in OTHERS.iter().enumerate() {
+        assert!(rt; grows(rt.alloc(), case)?, "miter {number}");
     }
     Ok(())
 }
@@ -196,8 +216,7 @@ fn vector_of_model(alloc: Global) -> Result<Vector, AllocError> {
 #[test]
 fn vector_of_a_model(rt: HostRuntime) -> Result<(), Fail> {
     let v = vector_of_model(rt.alloc())?;
-    assert_eq!(rt; v.len(), 1);
-    assert!(rt; v.get(0));
+    assert!(rt; v.len() == 1 && v.get(0));
     Ok(())
 }
 
@@ -209,15 +228,17 @@ fn chain_of_two_steps(alloc: Global) -> Result<Chain, AllocError> {
     Ok(chain)
 }
 
+// Whether a chain is that of two steps.
+fn has_two_steps(chain: &Chain) -> bool {
+    let steps = [(Lit::new(5, false), 11), (Lit::new(4, false), 6)];
+    chain.steps() == steps.as_slice() && chain.start() == 8 && chain.at() == Some(Lit::new(2, true))
+}
+
 #[test]
 fn a_log_of_one_chain(rt: HostRuntime) -> Result<(), Fail> {
     let mut log = Log::new(rt.alloc());
     log.push(chain_of_two_steps(rt.alloc())?)?;
-    assert_eq!(rt; log.as_slice().len(), 1);
-    let chain = &log.as_slice()[0];
-    let steps = [(Lit::new(5, false), 11), (Lit::new(4, false), 6)];
-    assert_eq!(rt; chain.steps(), steps.as_slice());
-    assert_eq!(rt; chain.start(), 8);
-    assert_eq!(rt; chain.at(), Some(Lit::new(2, true)));
+    let chains = log.as_slice();
+    assert!(rt; chains.len() == 1 && has_two_steps(&chains[0]));
     Ok(())
 }

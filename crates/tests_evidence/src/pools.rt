@@ -3,28 +3,33 @@
 use clause_pool::{Full, Lit, Pool};
 use std::test::Fail;
 
+// Whether a pool takes two clauses of three literals, one after another, and has no room for more.
+fn takes_two(pool: &mut Pool) -> bool {
+    let pair = [Lit::new(1, true), Lit::new(2, false)];
+    let last = [Lit::new(3, true)];
+    pool.push(&pair) == Ok(1)
+        && pool.push(&pair) == Err(Full)
+        && pool.push(&last) == Ok(2)
+        && pool.push(&[]) == Err(Full)
+        && pool.len() == 2
+        && pool.get(1) == pair.as_slice()
+        && pool.get(2) == last.as_slice()
+}
+
+// How many clauses there are, and for how many more clauses and literals there is room.
+fn room(pool: &Pool) -> (u32, usize, usize) {
+    (pool.len(), pool.spare_clauses(), pool.spare_literals())
+}
+
 #[test]
 fn room_for_two_clauses_and_three_literals(rt: HostRuntime) -> Result<(), Fail> {
     let mut pool = Pool::with_room(rt.alloc(), 2, 3)?;
     let empty = pool.mark();
-    let pair = [Lit::new(1, true), Lit::new(2, false)];
-    assert_eq!(rt; pool.push(&pair), Ok(1));
-    assert_eq!(rt; pool.push(&pair), Err(Full));
-    assert_eq!(rt; pool.push(&[Lit::new(3, true)]), Ok(2));
-    assert_eq!(rt; pool.push(&[]), Err(Full));
-    assert_eq!(rt; pool.len(), 2);
-    assert_eq!(rt; pool.get(1), pair.as_slice());
-    assert_eq!(rt; pool.get(2), [Lit::new(3, true)].as_slice());
+    assert!(rt; takes_two(&mut pool));
     pool.release(empty);
-    assert_eq!(rt;
-        (pool.len(), pool.spare_clauses(), pool.spare_literals()),
-        (0, 2, 3)
-    );
+    assert!(rt; room(&pool) == (0, 2, 3));
     pool.grow(3, 1)?;
-    assert_eq!(rt;
-        (pool.len(), pool.spare_clauses(), pool.spare_literals()),
-        (0, 3, 3)
-    );
+    assert!(rt; room(&pool) == (0, 3, 3));
     Ok(())
 }
 

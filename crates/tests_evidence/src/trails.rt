@@ -74,26 +74,30 @@ fn propagates(trail: &mut Trail, pool: &Pool) -> bool
     trail.set_literals() == units.as_slice()
 }
 
-// The clauses 1, -1 2, -2 -3 4 and -3 -4.
-fn four_propagate(alloc: Global) -> Result<bool, Fail> {
-    let mut pool = Pool::with_room(alloc, 4, 8)?;
-    let mut trail = Trail::new(alloc, 4)?;
+// Whether the clauses 1, -1 2, -2 -3 4 and -3 -4 propagate so.
+fn four_propagate(trail: &mut Trail, pool: &mut Pool) -> Result<bool, Fail>
+    requires fits { Fits trail.old pool.old.clauses }
+    requires variables { trail.old.assignment.variables ≡ 4 }
+{
     let (one, two) = (Lit::new(1, true), Lit::new(2, true));
     let (three, four) = (Lit::new(3, true), Lit::new(4, true));
-    add(&mut trail, &mut pool, &[one])?;
-    add(&mut trail, &mut pool, &[one.opposite(), two])?;
-    add(
-        &mut trail,
-        &mut pool,
-        &[two.opposite(), three.opposite(), four],
-    )?;
-    add(&mut trail, &mut pool, &[three.opposite(), four.opposite()])?;
-    Ok(propagates(&mut trail, &pool))
+    add(trail, pool, &[one])?;
+    add(trail, pool, &[one.opposite(), two])?;
+    add(trail, pool, &[two.opposite(), three.opposite(), four])?;
+    add(trail, pool, &[three.opposite(), four.opposite()])?;
+    Ok(propagates(trail, pool))
+}
+
+// Whether they do in a new pool.
+fn propagate_alone(alloc: Global) -> Result<bool, Fail> {
+    let mut pool = Pool::with_room(alloc, 4, 8)?;
+    let mut trail = Trail::new(alloc, 4)?;
+    four_propagate(&mut trail, &mut pool)
 }
 
 #[test]
 fn units_and_reasons(rt: HostRuntime) -> Result<(), Fail> {
-    assert!(rt; four_propagate(rt.alloc())?);
+    assert!(rt; propagate_alone(rt.alloc())?);
     Ok(())
 }
 
@@ -113,19 +117,34 @@ fn push_every_second(pool: &mut Pool, from: u32) -> Result<(), Fail>
     Ok(())
 }
 
+// Whether the first literal sets all others, each second one by the clauses that stand first.
+fn chain_sets(trail: &mut Trail, pool: &Pool) -> Result<bool, Fail>
+    requires fits { Fits trail.old pool.now.clauses }
+    requires proper { All (IsProper VARIABLES) pool.now.clauses }
+    requires variables { trail.old.assignment.variables ≡ VARIABLES }
+{
+    attach_all(trail, pool)?;
+    let met = decide(trail, pool, Lit::new(1, true));
+    Ok(
+        met == Some(Propagated::Quiet)
+            && trail.value(VARIABLES) == Some(true)
+            && trail.reason(VARIABLES) == Some(250_000),
+    )
+}
+
+// Whether it does in a new trail.
+fn sets_all(alloc: Global, pool: &Pool) -> Result<bool, Fail>
+    requires { All (IsProper VARIABLES) pool.now.clauses }
+{
+    let mut trail = Trail::new(alloc, VARIABLES)?;
+    chain_sets(&mut trail, pool)
+}
+
 #[test]
 fn a_chain_in_two_turns(rt: HostRuntime) -> Result<(), Fail> {
     let mut pool = Pool::with_room(rt.alloc(), 499_999, 999_998)?;
     push_every_second(&mut pool, 1)?;
     push_every_second(&mut pool, 2)?;
-    assert_eq!(rt; pool.len(), 499_999);
-    let mut trail = Trail::new(rt.alloc(), VARIABLES)?;
-    attach_all(&mut trail, &pool)?;
-    assert_eq!(rt;
-        decide(&mut trail, &pool, Lit::new(1, true)),
-        Some(Propagated::Quiet)
-    );
-    assert_eq!(rt; trail.value(VARIABLES), Some(true));
-    assert_eq!(rt; trail.reason(VARIABLES), Some(250_000));
+    assert!(rt; pool.len() == 499_999 && sets_all(rt.alloc(), &pool)?);
     Ok(())
 }

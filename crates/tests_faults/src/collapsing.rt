@@ -1,8 +1,12 @@
 //! Successors and roots of small circuits' faults.
 
-use fault_collapse::collapse;
-use fault_list::list;
-use net_model::Kind;
+ghost use Rattle.std.specs.Prelude.{◌≡◌, length};
+ghost use Rattle.net_model.specs.FaultList.{faults as faults_of};
+ghost use Rattle.fault_collapse.specs.Forest.{number_count};
+
+use fault_collapse::{Forest, collapse};
+use fault_list::{FaultList, list};
+use net_model::{Circuit, Kind};
 use sample_circuits::{AND_OF_TWO, NOT_AND_OR, Parts, WITH_CONSTANT, circuit};
 use std::alloc::Global;
 use std::test::Fail;
@@ -21,18 +25,15 @@ const MULTIPLEXER: Parts<'static> = Parts {
     positions: &[4],
 };
 
-// The successors and the roots of the circuit's faults, by number, and how many numbers but 0 are roots.
-fn collapsed(alloc: Global, parts: Parts) -> Result<(Vec<Option<u32>>, Vec<u32>, u32), Fail> {
-    let circuit = circuit(alloc, parts)?;
-    let faults = list(alloc, &circuit)?;
-    let forest = collapse(alloc, &circuit, &faults)?;
-    let mut successors = Vec::new(alloc);
-    let mut roots = Vec::new(alloc);
-    for number in 0..faults.len() {
-        successors.push(forest.successor(number))?;
-        roots.push(forest.root(number))?;
-    }
-    Ok((successors, roots, forest.root_count()))
+// A circuit, the successors and the roots of its faults by number, how many numbers but 0 are roots, and whether the faults of
+// some pairs have one root.
+#[derive(Clone, Copy)]
+struct Case {
+    parts: Parts<'static>,
+    successors: &'static [Option<u32>],
+    roots: &'static [u32],
+    count: u32,
+    pairs: &'static [(u32, u32, bool)],
 }
 
 const NONE: Option<u32> = None;
@@ -41,73 +42,123 @@ const LOW: Option<u32> = Some(7);
 
 const HIGH: Option<u32> = Some(8);
 
+const AND: Option<u32> = Some(5);
+
+const LAST: Option<u32> = Some(10);
+
 // Two ANDs, the second of a constant; a line with two readers; gates of one pin; no fault goes through a multiplexer.
-#[test]
-fn successors_and_roots(rt: HostRuntime) -> Result<(), Fail> {
-    let (and, last) = (Some(5), Some(10));
-    let table: [(Parts, &[Option<u32>], &[u32], u32); 5] = [
-        (
-            AND_OF_TWO,
-            &[NONE, and, NONE, and, NONE, NONE, NONE],
-            &[0, 5, 2, 5, 4, 5, 6],
-            4,
-        ),
-        (
-            WITH_CONSTANT,
-            &[NONE, and, NONE, and, NONE, NONE, NONE],
-            &[0, 5, 2, 5, 4, 5, 6],
-            4,
-        ),
-        (
-            NOT_AND_OR,
-            &[
-                NONE, NONE, NONE, HIGH, LOW, NONE, last, NONE, last, NONE, NONE,
-            ],
-            &[0, 1, 2, 10, 7, 5, 10, 7, 10, 9, 10],
-            6,
-        ),
-        (
-            SINGLE_PINS,
-            &[
-                NONE,
-                Some(3),
-                Some(4),
-                Some(6),
-                Some(5),
-                LOW,
-                HIGH,
-                NONE,
-                NONE,
-            ],
-            &[0, 8, 7, 8, 7, 7, 8, 7, 8],
-            2,
-        ),
-        (
-            MULTIPLEXER,
-            &[
-                NONE, HIGH, LOW, NONE, NONE, NONE, NONE, NONE, NONE, NONE, NONE,
-            ],
-            &[0, 8, 7, 3, 4, 5, 6, 7, 8, 9, 10],
-            8,
-        ),
-    ];
-    for (parts, successors, roots, count) in table {
-        let found = collapsed(rt.alloc(), parts)?;
-        assert_eq!(rt; found.0.as_slice(), successors);
-        assert_eq!(rt; found.1.as_slice(), roots);
-        assert_eq!(rt; found.2, count);
+const CASES: &[Case] = &[
+    Case {
+        parts: AND_OF_TWO,
+        successors: &[NONE, AND, NONE, AND, NONE, NONE, NONE],
+        roots: &[0, 5, 2, 5, 4, 5, 6],
+        count: 4,
+        pairs: &[(1, 3, true), (1, 2, false), (0, 5, false)],
+    },
+    Case {
+        parts: WITH_CONSTANT,
+        successors: &[NONE, AND, NONE, AND, NONE, NONE, NONE],
+        roots: &[0, 5, 2, 5, 4, 5, 6],
+        count: 4,
+        pairs: &[],
+    },
+    Case {
+        parts: NOT_AND_OR,
+        successors: &[
+            NONE, NONE, NONE, HIGH, LOW, NONE, LAST, NONE, LAST, NONE, NONE,
+        ],
+        roots: &[0, 1, 2, 10, 7, 5, 10, 7, 10, 9, 10],
+        count: 6,
+        pairs: &[],
+    },
+    Case {
+        parts: SINGLE_PINS,
+        successors: &[
+            NONE,
+            Some(3),
+            Some(4),
+            Some(6),
+            Some(5),
+            LOW,
+            HIGH,
+            NONE,
+            NONE,
+        ],
+        roots: &[0, 8, 7, 8, 7, 7, 8, 7, 8],
+        count: 2,
+        pairs: &[],
+    },
+    Case {
+        parts: MULTIPLEXER,
+        successors: &[
+            NONE, HIGH, LOW, NONE, NONE, NONE, NONE, NONE, NONE, NONE, NONE,
+        ],
+        roots: &[0, 8, 7, 3, 4, 5, 6, 7, 8, 9, 10],
+        count: 8,
+        pairs: &[],
+    },
+];
+
+// Whether a forest of so many faults has the successors and the roots.
+fn has_roots(forest: &Forest, faults: u32, case: &Case) -> bool
+    requires { number_count forest.now ≡ faults }
+{
+    let count = faults as usize;
+    if case.successors.len() != count || case.roots.len() != count {
+        return false;
     }
-    Ok(())
+    for number in 0..faults {
+        let at = number as usize;
+        if forest.successor(number) != case.successors[at]
+            || forest.root(number) != case.roots[at]
+        {
+            return false;
+        }
+    }
+    forest.root_count() == case.count
+}
+
+// Whether it has one root for the faults of a pair, or not.
+fn has_pairs(forest: &Forest, faults: u32, case: &Case) -> bool
+    requires { number_count forest.now ≡ faults }
+{
+    for (a, b, same) in case.pairs {
+        if *a >= faults || *b >= faults || forest.same_root(*a, *b) != *same {
+            return false;
+        }
+    }
+    true
+}
+
+// Whether these faults of a circuit have them.
+fn are_collapsed(
+    alloc: Global,
+    circuit: &Circuit,
+    faults: &FaultList,
+    case: &Case,
+) -> Result<bool, Fail>
+    requires { faults.now ≡ faults_of circuit.now }
+{
+    let forest = collapse(alloc, circuit, faults)?;
+    let count = faults.len();
+    Ok(has_roots(&forest, count, case) && has_pairs(&forest, count, case))
+}
+
+// Whether all faults of a circuit have them.
+fn is_collapsed(alloc: Global, circuit: &Circuit, case: &Case) -> Result<bool, Fail> {
+    let faults = list(alloc, circuit)?;
+    are_collapsed(alloc, circuit, &faults, case)
+}
+
+fn collapses_so(alloc: Global, case: &Case) -> Result<bool, Fail> {
+    let circuit = circuit(alloc, case.parts)?;
+    is_collapsed(alloc, &circuit, case)
 }
 
 #[test]
-fn same_roots(rt: HostRuntime) -> Result<(), Fail> {
-    let circuit = circuit(rt.alloc(), AND_OF_TWO)?;
-    let faults = list(rt.alloc(), &circuit)?;
-    let forest = collapse(rt.alloc(), &circuit, &faults)?;
-    assert_eq!(rt; faults.len(), 7);
-    assert!(rt; forest.same_root(1, 3));
-    assert!(rt; !forest.same_root(1, 2));
-    assert!(rt; !forest.same_root(0, 5));
+fn successors_and_roots(rt: HostRuntime) -> Result<(), Fail> {
+    for (number, case) in CASES.iter().enumerate() {
+        assert!(rt; collapses_so(rt.alloc(), case)?, "circuit {number}");
+    }
     Ok(())
 }

@@ -1,13 +1,15 @@
 //! The numbers and names of small circuits' faults, and the scope of a pair.
 
-ghost use Rattle.std.specs.Prelude.{◌≡◌, ◌<◌, ◌^◌, IfOk, length};
+ghost use Rattle.std.specs.Prelude.{◌≡◌, ◌<◌, ◌^◌, All, IfOk, length};
 ghost use Rattle.net_model.specs.Circuit.{line_count};
+ghost use Rattle.net_model.specs.Fault.{IsFaultOf};
 
-use fault_list::{Scope, list, name_text};
-use net_model::{Circuit, Design, Fault, Names};
-use sample_circuits::{AND_OF_TWO, NOT_AND_OR, Parts, SHOWN_TWICE, circuit, pin, position, stem};
+use fault_list::{FaultList, Scope, list, name_text};
+use net_model::Fault::{self, Free, Stuck};
+use net_model::Site::{self, Pin, Position, Stem};
+use net_model::{Circuit, Design, Names};
+use sample_circuits::{AND_OF_TWO, NOT_AND_OR, Parts, SHOWN_TWICE, circuit};
 use std::alloc::{AllocError, Global};
-use std::process::Abort;
 use std::test::Fail;
 
 // The circuit with these letters as the names of its lines.
@@ -35,94 +37,187 @@ fn design_of(alloc: Global, parts: Parts, letters: &[u8]) -> Result<Design, Fail
     Ok(design)
 }
 
-// The names of all faults by number, each with a semicolon after it.
-fn fault_names(rt: &impl Abort, alloc: Global, design: &Design) -> Result<Vec<u8>, AllocError>
+// Adds a fault's name, with a semicolon after it.
+fn push_name(
+    alloc: Global,
+    design: &Design,
+    fault: &Fault,
+    text: &mut Vec<u8>,
+) -> Result<(), AllocError>
+    requires fault { IsFaultOf design.now.circuit fault.now }
+    requires names { length design.now.names ≡ line_count design.now.circuit }
+{
+    let name = name_text(alloc, design, fault)?;
+    text.extend_from_slice(name.as_slice())?;
+    text.push(b';')?;
+    Ok(())
+}
+
+// Adds the names of all faults by number, if each has its number.
+fn push_names(
+    alloc: Global,
+    design: &Design,
+    faults: &FaultList,
+    text: &mut Vec<u8>,
+) -> Result<(), Fail>
+    requires faults { All (IsFaultOf design.now.circuit) faults.now }
+    requires names { length design.now.names ≡ line_count design.now.circuit }
+{
+    for number in 0..faults.len() {
+        let fault = faults.get(number);
+        if faults.number_of(&fault) != Some(number) {
+            return Err(Fail::new("a fault doesn't have its number"));
+        }
+        push_name(alloc, design, &fault, text)?;
+    }
+    Ok(())
+}
+
+// The names of all faults of a design by number, each with a semicolon after it.
+fn names_of(alloc: Global, design: &Design) -> Result<Vec<u8>, Fail>
     requires { length design.now.names ≡ line_count design.now.circuit }
 {
     let faults = list(alloc, &design.circuit)?;
     let mut text = Vec::new(alloc);
-    for number in 0..faults.len() {
-        let fault = faults.get(number);
-        assert_eq!(rt; faults.number_of(&fault), Some(number));
-        let name = name_text(alloc, design, &fault)?;
-        text.extend_from_slice(name.as_slice())?;
-        text.push(b';')?;
-    }
+    push_names(alloc, design, &faults, &mut text)?;
     Ok(text)
 }
 
-// Stems alone, pins too, and positions too.
+// Whether they are these.
+fn are_names(alloc: Global, design: &Design, names: &[u8]) -> Result<bool, Fail>
+    requires { length design.now.names ≡ line_count design.now.circuit }
+{
+    let found = names_of(alloc, design)?;
+    Ok(found.as_slice() == names)
+}
+
+// Whether those of the design of some parts are these.
+fn has_names(alloc: Global, parts: Parts, letters: &[u8], names: &[u8]) -> Result<bool, Fail> {
+    let design = design_of(alloc, parts, letters)?;
+    are_names(alloc, &design, names)
+}
+
+// Parts, a letter for each line, and the names of all faults by number, each with a semicolon after it: stems alone, pins too,
+// and positions too.
+const NAMED: &[(Parts, &[u8], &[u8])] = &[
+    (
+        AND_OF_TWO,
+        b"abz",
+        b"free;S a 0;S a 1;S b 0;S b 1;S z 0;S z 1;",
+    ),
+    (
+        NOT_AND_OR,
+        b"abz",
+        b"free;S a 0;S a 1;G a b 0 0;G a b 0 1;G a z 0 0;G a z 0 1;S b 0;S b 1;S z 0;S z 1;",
+    ),
+    (
+        SHOWN_TWICE,
+        b"a",
+        b"free;S a 0;S a 1;O a 0 0;O a 0 1;O a 1 0;O a 1 1;",
+    ),
+];
+
 #[test]
 fn names_of_faults(rt: HostRuntime) -> Result<(), Fail> {
-    let table: [(Parts, &[u8], &[u8]); 3] = [
-        (
-            AND_OF_TWO,
-            b"abz",
-            b"free;S a 0;S a 1;S b 0;S b 1;S z 0;S z 1;",
-        ),
-        (
-            NOT_AND_OR,
-            b"abz",
-            b"free;S a 0;S a 1;G a b 0 0;G a b 0 1;G a z 0 0;G a z 0 1;S b 0;S b 1;S z 0;S z 1;",
-        ),
-        (
-            SHOWN_TWICE,
-            b"a",
-            b"free;S a 0;S a 1;O a 0 0;O a 0 1;O a 1 0;O a 1 1;",
-        ),
-    ];
-    for (parts, letters, expected) in table {
-        let design = design_of(rt.alloc(), parts, letters)?;
-        let names = fault_names(&rt, rt.alloc(), &design)?;
-        assert_eq!(rt; names.as_slice(), expected);
+    for (number, (parts, letters, names)) in NAMED.iter().enumerate() {
+        assert!(rt;
+            has_names(rt.alloc(), *parts, letters, names)?,
+            "circuit {number}"
+        );
     }
     Ok(())
 }
 
 // Sites that have no number: sole destinations, and what the circuit hasn't.
+const UNNUMBERED: &[Site] = &[
+    Pin(2, 1),
+    Position(0),
+    Pin(2, 2),
+    Pin(3, 0),
+    Position(1),
+    Stem(3),
+];
+
+// The first of them that has a number.
+fn first_numbered(faults: &FaultList) -> Option<Site> {
+    for site in UNNUMBERED {
+        if faults.number_of(&Stuck(*site, false)) != None {
+            return Some(*site);
+        }
+    }
+    None
+}
+
+// The same for a circuit.
+fn numbered_site(alloc: Global, circuit: &Circuit) -> Result<Option<Site>, Fail> {
+    let faults = list(alloc, circuit)?;
+    Ok(first_numbered(&faults))
+}
+
 #[test]
 fn sites_without_numbers(rt: HostRuntime) -> Result<(), Fail> {
-    let faults = list(rt.alloc(), &circuit(rt.alloc(), NOT_AND_OR)?)?;
-    for fault in [
-        pin(2, 1, false),
-        position(0, false),
-        pin(2, 2, false),
-        pin(3, 0, false),
-        position(1, false),
-        stem(3, false),
-    ] {
-        assert_eq!(rt; faults.number_of(&fault), None, "{fault:?}");
+    let circuit = circuit(rt.alloc(), NOT_AND_OR)?;
+    assert!(rt; numbered_site(rt.alloc(), &circuit)? == None);
+    Ok(())
+}
+
+// Which lines are split, whether the position is reached, and which lines are relevant, of three lines and a position.
+fn marks(scope: &Scope) -> [bool; 7]
+    requires split { length scope.now.split ≡ 3 }
+    requires reached { length scope.now.reached ≡ 1 }
+    requires relevant { length scope.now.relevant ≡ 3 }
+{
+    [
+        scope.split(0),
+        scope.split(1),
+        scope.split(2),
+        scope.reached(0),
+        scope.relevant(0),
+        scope.relevant(1),
+        scope.relevant(2),
+    ]
+}
+
+// Whether two faults of a circuit have these marks.
+fn have_marks(
+    alloc: Global,
+    circuit: &Circuit,
+    f: &Fault,
+    g: &Fault,
+    wanted: &[bool; 7],
+) -> Result<bool, Fail>
+    requires lines { line_count circuit.now ≡ 3 }
+    requires positions { length circuit.now.positions ≡ 1 }
+{
+    let scope = Scope::of(alloc, circuit, f, g)?;
+    Ok(marks(&scope) == *wanted)
+}
+
+// Whether two faults of the AND have them.
+fn are_marked(alloc: Global, f: &Fault, g: &Fault, wanted: &[bool; 7]) -> Result<bool, Fail> {
+    let circuit = circuit(alloc, AND_OF_TWO)?;
+    have_marks(alloc, &circuit, f, g, wanted)
+}
+
+// Pairs of faults of the AND, and their marks: input a is stuck, the position that shows the AND is stuck, or nothing.
+const SCOPES: &[(Fault, Fault, [bool; 7])] = &[
+    (
+        Stuck(Stem(0), true),
+        Free,
+        [true, false, true, true, true, true, true],
+    ),
+    (
+        Free,
+        Stuck(Position(0), false),
+        [false, false, false, true, true, true, true],
+    ),
+    (Free, Free, [false; 7]),
+];
+
+#[test]
+fn scopes_of_pairs(rt: HostRuntime) -> Result<(), Fail> {
+    for (f, g, wanted) in SCOPES {
+        assert!(rt; are_marked(rt.alloc(), f, g, wanted)?, "{f:?} {g:?}");
     }
-    Ok(())
-}
-
-// Input a of the AND is stuck.
-#[test]
-fn scope_of_a_stem(rt: HostRuntime) -> Result<(), Fail> {
-    let circuit = circuit(rt.alloc(), AND_OF_TWO)?;
-    let scope = Scope::of(rt.alloc(), &circuit, &stem(0, true), &Fault::Free)?;
-    assert!(rt; scope.split(0) && !scope.split(1) && scope.split(2));
-    assert!(rt; scope.reached(0));
-    assert!(rt; scope.relevant(0) && scope.relevant(1) && scope.relevant(2));
-    Ok(())
-}
-
-// The position that shows the AND is stuck.
-#[test]
-fn scope_of_a_position(rt: HostRuntime) -> Result<(), Fail> {
-    let circuit = circuit(rt.alloc(), AND_OF_TWO)?;
-    let scope = Scope::of(rt.alloc(), &circuit, &Fault::Free, &position(0, false))?;
-    assert!(rt; !scope.split(0) && !scope.split(1) && !scope.split(2));
-    assert!(rt; scope.reached(0));
-    assert!(rt; scope.relevant(0));
-    Ok(())
-}
-
-#[test]
-fn scope_of_no_fault(rt: HostRuntime) -> Result<(), Fail> {
-    let circuit = circuit(rt.alloc(), AND_OF_TWO)?;
-    let scope = Scope::of(rt.alloc(), &circuit, &Fault::Free, &Fault::Free)?;
-    assert!(rt; !scope.reached(0));
-    assert!(rt; !scope.relevant(2));
     Ok(())
 }

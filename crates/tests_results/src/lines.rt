@@ -4,56 +4,122 @@ use net_model::Bits;
 use pair_miter::Log;
 use pair_sets::{Token, Tree};
 use result_file::{Budgets, Evidence, Mark, Proof, Record, write_record};
+use std::alloc::{AllocError, Global};
 use std::test::Fail;
 
-#[test]
-fn records_are_lines(rt: HostRuntime) -> Result<(), Fail> {
-    let mut bits = Bits::zeros(rt.alloc(), 3)?;
-    bits.set(1, true);
+/// Whether a record is written as a line.
+pub(crate) fn is_written(alloc: Global, record: &Record, line: &str) -> Result<bool, Fail> {
+    let written = write_record(alloc, record)?;
+    Ok(written.as_slice() == line.as_bytes())
+}
+
+/// Whether a member with its partner and a proof are written as a line.
+pub(crate) fn is_same(
+    alloc: Global,
+    (member, partner): (u32, u32),
+    proof: Proof,
+    line: &str,
+) -> Result<bool, Fail> {
+    let record = Record::Same(Evidence {
+        member,
+        partner,
+        proof,
+    });
+    is_written(alloc, &record, line)
+}
+
+/// A tree of these tokens.
+pub(crate) fn tree_of(alloc: Global, tokens: &[Token]) -> Result<Tree, AllocError> {
+    let mut tree = Tree::new(alloc);
+    push_all(&mut tree, tokens)?;
+    Ok(tree)
+}
+
+fn push_all(tree: &mut Tree, tokens: &[Token]) -> Result<(), AllocError> {
+    for token in tokens {
+        tree.push(*token)?;
+    }
+    Ok(())
+}
+
+fn is_line(alloc: Global, record: Record, line: &str) -> Result<bool, Fail> {
+    is_written(alloc, &record, line)
+}
+
+fn is_budget(alloc: Global, line: &str) -> Result<bool, Fail> {
     let budgets = Budgets {
         blocks: 4,
         cubes: 64,
         conflicts: 2000,
     };
-    let mut left = Tree::new(rt.alloc());
-    left.push(Token::Rest)?;
-    let evidence = Evidence {
-        member: 3,
-        partner: 1,
-        proof: Proof::Spent(left, Log::new(rt.alloc())),
-    };
-    let mut whole = Tree::new(rt.alloc());
-    for token in [Token::Split(10), Token::Closed, Token::Closed] {
-        whole.push(token)?;
+    is_line(alloc, Record::Budget(budgets), line)
+}
+
+#[test]
+fn ends_are_lines(rt: HostRuntime) -> Result<(), Fail> {
+    let alloc = rt.alloc();
+    assert!(rt; is_line(alloc, Record::Head(2, 1, 7), "diatest 1 2 1 7\n")?);
+    assert!(rt; is_budget(alloc, "budget 4 64 2000\n")?);
+    assert!(rt; is_line(alloc, Record::End, "end\n")?);
+    Ok(())
+}
+
+#[test]
+fn classes_are_lines(rt: HostRuntime) -> Result<(), Fail> {
+    let alloc = rt.alloc();
+    assert!(rt; is_line(alloc, Record::Class(0, None), "class 0 - -\n")?);
+    assert!(rt; is_line(alloc, Record::Class(3, Some((0, 2))), "class 3 0 2\n")?);
+    assert!(rt; is_line(alloc, Record::Member(0, 0, Mark::Rep), "member 0 0 rep\n")?);
+    assert!(rt;
+        is_line(
+            alloc,
+            Record::Member(3, 4, Mark::Equal),
+            "member 3 4 equal\n"
+        )?
+    );
+    assert!(rt;
+        is_line(
+            alloc,
+            Record::Member(5, 4, Mark::Spent),
+            "member 5 4 open\n"
+        )?
+    );
+    Ok(())
+}
+
+// Whether bits are written as a line, after bit 1 is set, where there is one.
+fn is_pattern(alloc: Global, width: usize, line: &str) -> Result<bool, Fail> {
+    let mut bits = Bits::zeros(alloc, width)?;
+    if width > 1 {
+        bits.set(1, true);
     }
-    let covered = Evidence {
-        member: 8,
-        partner: 0,
-        proof: Proof::Covered(whole),
-    };
-    let collapsed = Evidence {
-        member: 7,
-        partner: 4,
-        proof: Proof::Collapse,
-    };
-    let cases = [
-        (Record::Head(2, 1, 7), "diatest 1 2 1 7\n"),
-        (Record::Budget(budgets), "budget 4 64 2000\n"),
-        (Record::Pattern(bits), "pattern 010\n"),
-        (Record::Pattern(Bits::zeros(rt.alloc(), 0)?), "pattern -\n"),
-        (Record::Same(evidence), "same 3 1 O ?\n"),
-        (Record::Same(covered), "same 8 0 T 10 . .\n"),
-        (Record::Same(collapsed), "same 7 4 C\n"),
-        (Record::Class(0, None), "class 0 - -\n"),
-        (Record::Class(3, Some((0, 2))), "class 3 0 2\n"),
-        (Record::Member(0, 0, Mark::Rep), "member 0 0 rep\n"),
-        (Record::Member(3, 4, Mark::Equal), "member 3 4 equal\n"),
-        (Record::Member(5, 4, Mark::Spent), "member 5 4 open\n"),
-        (Record::End, "end\n"),
-    ];
-    for (record, line) in &cases {
-        let written = write_record(rt.alloc(), record)?;
-        assert_eq!(rt; written.as_slice(), line.as_bytes());
-    }
+    let record = Record::Pattern(bits);
+    is_written(alloc, &record, line)
+}
+
+#[test]
+fn patterns_are_lines(rt: HostRuntime) -> Result<(), Fail> {
+    assert!(rt; is_pattern(rt.alloc(), 3, "pattern 010\n")?);
+    assert!(rt; is_pattern(rt.alloc(), 0, "pattern -\n")?);
+    Ok(())
+}
+
+// Whether spent proofs are written so.
+fn is_spent(alloc: Global, line: &str) -> Result<bool, Fail> {
+    let tree = tree_of(alloc, &[Token::Rest])?;
+    is_same(alloc, (3, 1), Proof::Spent(tree, Log::new(alloc)), line)
+}
+
+// Whether covered ones are.
+fn is_covered(alloc: Global, line: &str) -> Result<bool, Fail> {
+    let tree = tree_of(alloc, &[Token::Split(10), Token::Closed, Token::Closed])?;
+    is_same(alloc, (8, 0), Proof::Covered(tree), line)
+}
+
+#[test]
+fn proofs_are_lines(rt: HostRuntime) -> Result<(), Fail> {
+    assert!(rt; is_spent(rt.alloc(), "same 3 1 O ?\n")?);
+    assert!(rt; is_covered(rt.alloc(), "same 8 0 T 10 . .\n")?);
+    assert!(rt; is_same(rt.alloc(), (7, 4), Proof::Collapse, "same 7 4 C\n")?);
     Ok(())
 }

@@ -1,56 +1,69 @@
 //! Logs, as written.
 
+use crate::lines::{is_same, tree_of};
 use clause_pool::Lit;
 use pair_miter::{Chain, Log};
-use pair_sets::{Token, Tree};
-use result_file::{Evidence, Proof, Record, write_record};
+use pair_sets::Token;
+use result_file::Proof;
 use std::alloc::{AllocError, Global};
-use std::process::Abort;
 use std::test::Fail;
 
-// A tree that is one open leaf.
-fn left_open(alloc: Global) -> Result<Tree, AllocError> {
-    let mut tree = Tree::new(alloc);
-    tree.push(Token::Rest)?;
-    Ok(tree)
+// Adds a chain that starts at a clause.
+fn push_chain(
+    alloc: Global,
+    log: &mut Log,
+    start: u32,
+    at: Option<Lit>,
+    steps: &[(Lit, u32)],
+) -> Result<(), AllocError> {
+    let mut chain = Chain::new(alloc, start, at);
+    push_steps(&mut chain, steps)?;
+    log.push(chain)
 }
 
-// Fails where number 10 is written otherwise, with 0 and this proof.
-fn check_written(rt: &impl Abort, alloc: Global, proof: Proof, line: &str) -> Result<(), Fail> {
-    let record = Record::Same(Evidence {
-        member: 10,
-        partner: 0,
-        proof,
-    });
-    let written = write_record(alloc, &record)?;
-    assert_eq!(rt; written.as_slice(), line.as_bytes());
+fn push_steps(chain: &mut Chain, steps: &[(Lit, u32)]) -> Result<(), AllocError> {
+    for (lit, clause) in steps {
+        chain.push(*lit, *clause)?;
+    }
     Ok(())
+}
+
+fn push_refutation(alloc: Global, log: &mut Log) -> Result<(), AllocError> {
+    let steps = [(Lit::new(5, false), 11), (Lit::new(4, false), 6)];
+    push_chain(alloc, log, 8, None, &steps)?;
+    push_chain(alloc, log, 12, None, &[])
+}
+
+// Whether it is written so behind an open tree.
+fn is_refuted(alloc: Global, line: &str) -> Result<bool, Fail> {
+    let mut log = Log::new(alloc);
+    push_refutation(alloc, &mut log)?;
+    let tree = tree_of(alloc, &[Token::Rest])?;
+    is_same(alloc, (10, 0), Proof::Refuted(tree, log), line)
 }
 
 #[test]
 fn a_refutation_is_a_line(rt: HostRuntime) -> Result<(), Fail> {
-    let mut chain = Chain::new(rt.alloc(), 8, None);
-    chain.push(Lit::new(5, false), 11)?;
-    chain.push(Lit::new(4, false), 6)?;
-    let mut log = Log::new(rt.alloc());
-    log.push(chain)?;
-    log.push(Chain::new(rt.alloc(), 12, None))?;
-    let proof = Proof::Refuted(left_open(rt.alloc())?, log);
-    check_written(
-        &rt,
-        rt.alloc(),
-        proof,
-        "same 10 0 R ? ; 8 -5 11 -4 6 ; 12\n",
-    )
+    assert!(rt; is_refuted(rt.alloc(), "same 10 0 R ? ; 8 -5 11 -4 6 ; 12\n")?);
+    Ok(())
+}
+
+fn push_spent(alloc: Global, log: &mut Log) -> Result<(), AllocError> {
+    let steps = [(Lit::new(5, false), 11)];
+    push_chain(alloc, log, 8, Some(Lit::new(3, false)), &steps)?;
+    push_chain(alloc, log, 1, Some(Lit::new(2, true)), &[])
+}
+
+// Whether they are written so behind an open tree.
+fn is_spent(alloc: Global, line: &str) -> Result<bool, Fail> {
+    let mut log = Log::new(alloc);
+    push_spent(alloc, &mut log)?;
+    let tree = tree_of(alloc, &[Token::Rest])?;
+    is_same(alloc, (10, 0), Proof::Spent(tree, log), line)
 }
 
 #[test]
 fn a_spent_log_names_its_literals(rt: HostRuntime) -> Result<(), Fail> {
-    let mut chain = Chain::new(rt.alloc(), 8, Some(Lit::new(3, false)));
-    chain.push(Lit::new(5, false), 11)?;
-    let mut log = Log::new(rt.alloc());
-    log.push(chain)?;
-    log.push(Chain::new(rt.alloc(), 1, Some(Lit::new(2, true))))?;
-    let proof = Proof::Spent(left_open(rt.alloc())?, log);
-    check_written(&rt, rt.alloc(), proof, "same 10 0 O ? ; -3 8 -5 11 ; 2 1\n")
+    assert!(rt; is_spent(rt.alloc(), "same 10 0 O ? ; -3 8 -5 11 ; 2 1\n")?);
+    Ok(())
 }

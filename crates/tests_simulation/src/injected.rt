@@ -3,8 +3,10 @@
 ghost use Rattle.std.specs.Prelude.{◌≡◌, ◌<◌, IfOk, IsSome, length};
 
 use fault_sim::FaultSim;
-use net_model::{Bits, Fault, Kind};
-use sample_circuits::{Parts, circuit, pin, position, stands, stem};
+use net_model::Fault::{self, Free, Stuck};
+use net_model::Site::{Pin, Position, Stem};
+use net_model::{Bits, Circuit, Kind};
+use sample_circuits::{Parts, circuit, stands, stem};
 use std::alloc::{AllocError, Global};
 use std::test::Fail;
 use word_sim::{Block, GoodSim, LANES, Stream};
@@ -59,32 +61,73 @@ fn counted_vectors(alloc: Global) -> Result<Block, AllocError>
     Ok(block)
 }
 
+// A fault, and in which of the first eight lanes it shows at each position.
+type Case = (Fault, [&'static [u8; 8]; 3]);
+
+// The first fault under which the first eight lanes differ otherwise at the positions.
+fn first_wrong(alloc: Global, good: &GoodSim, cases: &[Case]) -> Result<Option<Fault>, Fail>
+    requires { IsSome good.now.ran }
+{
+    for (fault, expected) in cases {
+        if !differs_so(alloc, good, *fault, expected)? {
+            return Ok(Some(*fault));
+        }
+    }
+    Ok(None)
+}
+
+// The first such fault of a circuit at the vectors of a block.
+fn first_wrong_at(
+    alloc: Global,
+    circuit: &Circuit,
+    block: &Block,
+    cases: &[Case],
+) -> Result<Option<Fault>, Fail>
+    requires { block.now.sources ≡ circuit.now.sources }
+{
+    let mut good = GoodSim::new(alloc, circuit)?;
+    good.run(block);
+    first_wrong(alloc, &good, cases)
+}
+
+// The same for the circuit of these parts.
+fn first_wrong_in(
+    alloc: Global,
+    parts: Parts,
+    block: &Block,
+    cases: &[Case],
+) -> Result<Option<Fault>, Fail>
+    requires { block.now.sources ≡ parts.sources }
+{
+    let circuit = circuit(alloc, parts)?;
+    first_wrong_at(alloc, &circuit, block, cases)
+}
+
 // Whether the first eight lanes differ so at the positions, after another fault was injected.
 fn differs_so(
     alloc: Global,
     good: &GoodSim,
     fault: Fault,
-    expected: &[&[u8; 8]],
+    expected: &[&[u8; 8]; 3],
 ) -> Result<bool, AllocError>
     requires { IsSome good.now.ran }
 {
     let circuit = good.circuit();
     let before = stem(0, true);
-    if circuit.positions().len() != expected.len()
-        || !stands(circuit, fault)
-        || !stands(circuit, before)
-    {
+    if circuit.positions().len() != 3 || !stands(circuit, fault) || !stands(circuit, before) {
         return Ok(false);
     }
     let mut sim = FaultSim::new(alloc, circuit)?;
     sim.inject(good, &before);
     sim.inject(good, &fault);
-    for (position, row) in expected.iter().enumerate() {
-        if !shows_so(&sim, position as u32, row) {
-            return Ok(false);
-        }
-    }
-    Ok(true)
+    Ok(shows_all(&sim, expected))
+}
+
+// Whether the first eight lanes differ so at the positions.
+fn shows_all(sim: &FaultSim, expected: &[&[u8; 8]; 3]) -> bool
+    requires { length sim.now.circuit.positions ≡ 3 }
+{
+    shows_so(sim, 0, expected[0]) && shows_so(sim, 1, expected[1]) && shows_so(sim, 2, expected[2])
 }
 
 // Whether the first eight lanes differ so at a position, and it is listed where one does.
@@ -118,27 +161,25 @@ const LAST: &[u8; 8] = b"00010000";
 const BUT_LAST: &[u8; 8] = b"11100000";
 
 // No fault, stems, branches and positions. The differences are those of the AND, the OR and the XOR.
+const PARITY_CASES: &[Case] = &[
+    (Free, [NONE, NONE, NONE]),
+    (Stuck(Stem(3), false), [LAST, NONE, LAST]),
+    (Stuck(Stem(3), true), [BUT_LAST, NONE, BUT_LAST]),
+    (Stuck(Stem(0), false), [LAST, SECOND, b"01010000"]),
+    (Stuck(Pin(3, 0), false), [LAST, NONE, LAST]),
+    (Stuck(Pin(4, 0), false), [NONE, SECOND, SECOND]),
+    (Stuck(Pin(2, 1), true), [NONE, NONE, FIRST]),
+    (Stuck(Position(1), true), [NONE, FIRST, NONE]),
+    (Stuck(Position(2), false), [NONE, NONE, b"01100000"]),
+];
+
 #[test]
 fn parity_under_faults(rt: HostRuntime) -> Result<(), Fail> {
-    let circuit = circuit(rt.alloc(), PARITY)?;
-    let mut good = GoodSim::new(rt.alloc(), &circuit)?;
-    good.run(&four_vectors(rt.alloc())?);
-    for (fault, expected) in [
-        (Fault::Free, [NONE, NONE, NONE]),
-        (stem(3, false), [LAST, NONE, LAST]),
-        (stem(3, true), [BUT_LAST, NONE, BUT_LAST]),
-        (stem(0, false), [LAST, SECOND, b"01010000"]),
-        (pin(3, 0, false), [LAST, NONE, LAST]),
-        (pin(4, 0, false), [NONE, SECOND, SECOND]),
-        (pin(2, 1, true), [NONE, NONE, FIRST]),
-        (position(1, true), [NONE, FIRST, NONE]),
-        (position(2, false), [NONE, NONE, b"01100000"]),
-    ] {
-        assert!(rt;
-            differs_so(rt.alloc(), &good, fault, expected.as_slice())?,
-            "{fault:?}"
-        );
-    }
+    let block = four_vectors(rt.alloc())?;
+    assert_eq!(rt;
+        first_wrong_in(rt.alloc(), PARITY, &block, PARITY_CASES)?,
+        None
+    );
     Ok(())
 }
 
@@ -152,45 +193,70 @@ const PIN_OF_B: &[u8; 8] = b"00000101";
 
 // Selects, chosen pins and constants. The differences are those of the select, the chosen bit and the XOR; a stuck select pin
 // leaves the select itself as it is.
+const CHOICE_CASES: &[Case] = &[
+    (Stuck(Pin(4, 0), true), [NONE, CHOSEN_HIGH, CHOSEN_HIGH]),
+    (Stuck(Pin(4, 0), false), [NONE, CHOSEN_LOW, CHOSEN_LOW]),
+    (
+        Stuck(Stem(0), true),
+        [b"10101010", CHOSEN_HIGH, CHOSEN_HIGH],
+    ),
+    (Stuck(Pin(4, 1), true), [NONE, PIN_OF_A, PIN_OF_A]),
+    (Stuck(Pin(4, 2), false), [NONE, PIN_OF_B, PIN_OF_B]),
+    (Stuck(Stem(3), false), [NONE, NONE, ALL]),
+    (Stuck(Stem(3), true), [NONE, NONE, NONE]),
+    (Stuck(Pin(5, 0), false), [NONE, NONE, ALL]),
+];
+
 #[test]
 fn choice_under_faults(rt: HostRuntime) -> Result<(), Fail> {
-    let circuit = circuit(rt.alloc(), CHOICE)?;
-    let mut good = GoodSim::new(rt.alloc(), &circuit)?;
-    good.run(&counted_vectors(rt.alloc())?);
-    for (fault, expected) in [
-        (pin(4, 0, true), [NONE, CHOSEN_HIGH, CHOSEN_HIGH]),
-        (pin(4, 0, false), [NONE, CHOSEN_LOW, CHOSEN_LOW]),
-        (stem(0, true), [b"10101010", CHOSEN_HIGH, CHOSEN_HIGH]),
-        (pin(4, 1, true), [NONE, PIN_OF_A, PIN_OF_A]),
-        (pin(4, 2, false), [NONE, PIN_OF_B, PIN_OF_B]),
-        (stem(3, false), [NONE, NONE, ALL]),
-        (stem(3, true), [NONE, NONE, NONE]),
-        (pin(5, 0, false), [NONE, NONE, ALL]),
-    ] {
-        assert!(rt;
-            differs_so(rt.alloc(), &good, fault, expected.as_slice())?,
-            "{fault:?}"
-        );
-    }
+    let block = counted_vectors(rt.alloc())?;
+    assert_eq!(rt;
+        first_wrong_in(rt.alloc(), CHOICE, &block, CHOICE_CASES)?,
+        None
+    );
     Ok(())
+}
+
+// Whether all lanes of the first word differ at position 2, and none of the others there or anywhere.
+fn differs_in_first_word(sim: &FaultSim) -> bool
+    requires { 2 < length sim.now.circuit.positions }
+{
+    for at in 1..LANES / 64 {
+        if sim.differs(2).word(at) != 0 || sim.any_difference().word(at) != 0 {
+            return false;
+        }
+    }
+    sim.differs(2).word(0) == u64::MAX
+}
+
+// Whether it is so for a constant 1 that is stuck at 0.
+fn constant_differs_so(alloc: Global, good: &GoodSim) -> Result<bool, AllocError>
+    requires { IsSome good.now.ran }
+{
+    let circuit = good.circuit();
+    let fault = stem(3, false);
+    if !stands(circuit, fault) || circuit.positions().len() != 3 {
+        return Ok(false);
+    }
+    let mut sim = FaultSim::new(alloc, circuit)?;
+    sim.inject(good, &fault);
+    Ok(differs_in_first_word(&sim))
+}
+
+// Whether it is so at the vectors of a block.
+fn constant_differs(alloc: Global, circuit: &Circuit, block: &Block) -> Result<bool, AllocError>
+    requires { block.now.sources ≡ circuit.now.sources }
+{
+    let mut good = GoodSim::new(alloc, circuit)?;
+    good.run(block);
+    constant_differs_so(alloc, &good)
 }
 
 // The word of a position in which each lane differs that has a vector, and those in which no lane has one.
 #[test]
 fn lanes_without_a_vector_do_not_differ(rt: HostRuntime) -> Result<(), Fail> {
+    let block = counted_vectors(rt.alloc())?;
     let circuit = circuit(rt.alloc(), CHOICE)?;
-    let mut good = GoodSim::new(rt.alloc(), &circuit)?;
-    good.run(&counted_vectors(rt.alloc())?);
-    let fault = stem(3, false);
-    if !stands(&circuit, fault) || circuit.positions().len() != 3 {
-        return Err(Fail::new("the fault does not stand on the circuit"));
-    }
-    let mut sim = FaultSim::new(rt.alloc(), &circuit)?;
-    sim.inject(&good, &fault);
-    assert_eq!(rt; sim.differs(2).word(0), u64::MAX);
-    for at in 1..LANES / 64 {
-        assert_eq!(rt; sim.differs(2).word(at), 0);
-        assert_eq!(rt; sim.any_difference().word(at), 0);
-    }
+    assert!(rt; constant_differs(rt.alloc(), &circuit, &block)?);
     Ok(())
 }

@@ -1,8 +1,10 @@
 //! The stream's words and vectors, blocks, and gates of each kind in lanes.
 
-ghost use Rattle.std.specs.Prelude.{◌≡◌, ◌≤◌, []};
+ghost use Rattle.std.specs.Prelude.{◌≡◌, ◌<◌, ◌≤◌, [], Some, IfOk, length};
+ghost use Rattle.net_model.specs.Circuit.{line_count};
+ghost use Rattle.word_sim.specs.GoodSim.{good_sim_with, vectors_of};
 
-use net_model::{Bits, Kind};
+use net_model::{Bits, Circuit, Kind};
 use rand_core::SeedableRng;
 use rand_core::utils::NextWord;
 use rand_xoshiro::SplitMix64;
@@ -16,12 +18,25 @@ fn has(block: &Block, lane: u32, bits: &[bool]) -> Result<bool, AllocError> {
     if lane >= block.live() {
         return Ok(false);
     }
-    let v = block.vector(lane)?;
+    Ok(is_vector(&block.vector(lane)?, bits))
+}
+
+fn is_vector(v: &Bits, bits: &[bool]) -> bool {
     if v.len() != bits.len() {
-        return Ok(false);
+        return false;
     }
     for (k, bit) in bits.iter().enumerate() {
         if v.get(k) != *bit {
+            return false;
+        }
+    }
+    true
+}
+
+// Whether these lanes have these vectors.
+fn has_all(block: &Block, vectors: &[(u32, &[bool])]) -> Result<bool, AllocError> {
+    for (lane, bits) in vectors {
+        if !has(block, *lane, bits)? {
             return Ok(false);
         }
     }
@@ -35,30 +50,46 @@ fn first_word(rt: HostRuntime) -> Result<(), Fail> {
     Ok(())
 }
 
+// Whether the first block of the stream, which is put in an empty one, has these vectors.
+fn begins_with(block: &mut Block, vectors: &[(u32, &[bool])]) -> Result<bool, AllocError>
+    requires { block.old.vectors ≡ [] }
+{
+    let mut stream = Stream::new(block.sources());
+    if stream.fill(1, block) != 1 || block.live() != 64 {
+        return Ok(false);
+    }
+    has_all(block, vectors)
+}
+
+const OF_TWO: &[(u32, &[bool])] = &[
+    (0, &[false, false]),
+    (1, &[true, false]),
+    (2, &[false, true]),
+    (3, &[true, true]),
+    (63, &[true, true]),
+];
+
 #[test]
 fn vectors_of_two_sources(rt: HostRuntime) -> Result<(), Fail> {
     let mut block = Block::new(rt.alloc(), 2)?;
-    assert_eq!(rt; Stream::new(2).fill(1, &mut block), 1);
-    assert_eq!(rt; block.live(), 64);
-    for (lane, first, second) in [
-        (0, false, false),
-        (1, true, false),
-        (2, false, true),
-        (3, true, true),
-        (63, true, true),
-    ] {
-        assert!(rt; has(&block, lane, &[first, second])?, "lane {lane}");
-    }
+    assert!(rt; begins_with(&mut block, OF_TWO)?);
     Ok(())
 }
+
+const OF_SEVEN: &[(u32, &[bool])] = &[
+    (0, &[false, false, false, false, false, false, true]),
+    (4, &[false, false, true, false, false, false, false]),
+];
 
 #[test]
 fn vectors_of_seven_sources(rt: HostRuntime) -> Result<(), Fail> {
     let mut block = Block::new(rt.alloc(), 7)?;
-    assert_eq!(rt; Stream::new(7).fill(1, &mut block), 1);
-    assert!(rt; has(&block, 0, &[false, false, false, false, false, false, true])?);
-    assert!(rt; has(&block, 4, &[false, false, true, false, false, false, false])?);
+    assert!(rt; begins_with(&mut block, OF_SEVEN)?);
     Ok(())
+}
+
+fn has_bit(v: &Bits, source: usize, bit: bool) -> bool {
+    source < v.len() && v.get(source) == bit
 }
 
 // Whether a source has the binary digits of a word in the 64 lanes from the first one on.
@@ -67,8 +98,7 @@ fn has_word(block: &Block, first: u32, source: usize, word: u64) -> Result<bool,
         return Ok(false);
     }
     for at in 0..64 {
-        let v = block.vector(first + at)?;
-        if source >= v.len() || v.get(source) != ((word >> at) & 1 == 1) {
+        if !has_bit(&block.vector(first + at)?, source, (word >> at) & 1 == 1) {
             return Ok(false);
         }
     }
@@ -94,101 +124,207 @@ fn begun(left: u32, block: &mut Block) -> Stream
     stream
 }
 
-// Five blocks of the stream: four in the first fill, and one in the second, which leaves the lanes of three words without a
-// vector.
-#[test]
-fn five_blocks_in_two_fills(rt: HostRuntime) -> Result<(), Fail> {
-    let mut block = Block::new(rt.alloc(), 2)?;
-    let mut rng = SplitMix64::seed_from_u64(0);
-    let mut stream = begun(5, &mut block);
-    assert_eq!(rt; block.live(), 256);
-    assert!(rt; has_word(&block, 0, 0, 0xaaaa_aaaa_aaaa_aaaa)?);
-    assert!(rt; has_word(&block, 0, 1, 0xcccc_cccc_cccc_cccc)?);
-    for first in [64, 128, 192] {
-        assert!(rt; has_next_words(&block, first, &mut rng)?, "lane {first}");
-    }
-    block.clear();
-    assert_eq!(rt; stream.fill(1, &mut block), 1);
-    assert_eq!(rt; block.live(), 64);
-    assert!(rt; has_next_words(&block, 0, &mut rng)?);
-    Ok(())
-}
-
-// Of a block of 64 vectors the lanes of the other words aren't live.
-#[test]
-fn lanes_without_a_vector(rt: HostRuntime) -> Result<(), Fail> {
-    let circuit = circuit(rt.alloc(), NOT_FIRST)?;
-    let mut block = Block::new(rt.alloc(), 2)?;
-    let mut stream = begun(4, &mut block);
-    block.clear();
-    stream.fill(1, &mut block);
-    let mut sim = GoodSim::new(rt.alloc(), &circuit)?;
-    sim.run(&block);
-    assert_eq!(rt; sim.live().word(0), u64::MAX);
-    for at in 1..LANES / 64 {
-        assert_eq!(rt; sim.live().word(at), 0);
-    }
-    Ok(())
-}
-
-#[test]
-fn pushed_vectors(rt: HostRuntime) -> Result<(), Fail> {
-    let mut block = Block::new(rt.alloc(), 2)?;
-    let mut v = Bits::zeros(rt.alloc(), 2)?;
-    v.set(1, true);
-    block.push(&v);
-    v.set(0, true);
-    block.push(&v);
-    assert_eq!(rt; block.live(), 2);
-    assert!(rt; has(&block, 0, &[false, true])?);
-    assert!(rt; has(&block, 1, &[true, true])?);
-    block.clear();
-    assert_eq!(rt; block.live(), 0);
-    Ok(())
-}
-
-// Whether a gate over some of three sources has these values at 000, 100, 010, 110, 001, 101, 011 and 111.
-fn shows(alloc: Global, kind: Kind, pins: &[u32], expected: &[u8; 8]) -> Result<bool, Fail> {
-    let parts = Parts {
-        sources: 3,
-        gates: &[(kind, pins)],
-        positions: &[],
-    };
-    let circuit = circuit(alloc, parts)?;
-    let mut block = Block::new(alloc, 3)?;
-    Stream::new(3).fill(1, &mut block);
-    let mut sim = GoodSim::new(alloc, &circuit)?;
-    sim.run(&block);
-    if block.live() != 64 {
+// Whether a block has the first four blocks of the stream of two sources.
+fn has_four(block: &Block, rng: &mut SplitMix64) -> Result<bool, AllocError> {
+    if block.live() != 256
+        || !has_word(block, 0, 0, 0xaaaa_aaaa_aaaa_aaaa)?
+        || !has_word(block, 0, 1, 0xcccc_cccc_cccc_cccc)?
+    {
         return Ok(false);
     }
-    for (lane, digit) in expected.iter().enumerate() {
-        if sim.bit(3, lane as u32) != (*digit == b'1') {
+    for turn in 1..4 {
+        if !has_next_words(block, 64 * turn, rng)? {
             return Ok(false);
         }
     }
     Ok(true)
 }
 
+// Whether an empty block gets five blocks of the stream in two fills: four in the first, and one in the second, which leaves
+// the lanes of three words without a vector.
+fn has_five(block: &mut Block) -> Result<bool, AllocError>
+    requires empty { block.old.vectors ≡ [] }
+    requires sources { block.old.sources ≡ 2 }
+{
+    let mut rng = SplitMix64::seed_from_u64(0);
+    let mut stream = begun(5, block);
+    if !has_four(block, &mut rng)? {
+        return Ok(false);
+    }
+    block.clear();
+    if stream.fill(1, block) != 1 || block.live() != 64 {
+        return Ok(false);
+    }
+    has_next_words(block, 0, &mut rng)
+}
+
+#[test]
+fn five_blocks_in_two_fills(rt: HostRuntime) -> Result<(), Fail> {
+    let mut block = Block::new(rt.alloc(), 2)?;
+    assert!(rt; has_five(&mut block)?);
+    Ok(())
+}
+
+// Whether only the lanes of the first word are live.
+fn first_word_lives(sim: &GoodSim) -> bool {
+    for at in 1..LANES / 64 {
+        if sim.live().word(at) != 0 {
+            return false;
+        }
+    }
+    sim.live().word(0) == u64::MAX
+}
+
+// The simulation of a circuit at the vectors of a block.
+fn simulated<'a>(
+    alloc: Global,
+    circuit: &'a Circuit,
+    block: &Block,
+) -> Result<GoodSim<'a>, AllocError>
+    requires { block.now.sources ≡ circuit.now.sources }
+    ensures { IfOk result (λ sim. sim ≡ good_sim_with circuit.now (Some block.now.vectors)) }
+{
+    let mut sim = GoodSim::new(alloc, circuit)?;
+    sim.run(block);
+    Ok(sim)
+}
+
+// A block that had 256 vectors, and then has 64.
+fn refilled(alloc: Global) -> Result<Block, AllocError>
+    ensures { IfOk result (λ block. block.sources ≡ 2) }
+{
+    let mut block = Block::new(alloc, 2)?;
+    let mut stream = begun(4, &mut block);
+    block.clear();
+    stream.fill(1, &mut block);
+    Ok(block)
+}
+
+// Of a block of 64 vectors the lanes of the other words aren't live.
+fn leaves_lanes(alloc: Global, circuit: &Circuit, block: &Block) -> Result<bool, Fail>
+    requires { block.now.sources ≡ circuit.now.sources }
+{
+    let sim = simulated(alloc, circuit, block)?;
+    Ok(first_word_lives(&sim))
+}
+
+#[test]
+fn lanes_without_a_vector(rt: HostRuntime) -> Result<(), Fail> {
+    let block = refilled(rt.alloc())?;
+    let circuit = circuit(rt.alloc(), NOT_FIRST)?;
+    assert!(rt; leaves_lanes(rt.alloc(), &circuit, &block)?);
+    Ok(())
+}
+
+// The vectors 01 and 11.
+fn two_pushed(alloc: Global) -> Result<Block, AllocError> {
+    let mut v = Bits::zeros(alloc, 2)?;
+    let mut block = Block::new(alloc, 2)?;
+    v.set(1, true);
+    block.push(&v);
+    v.set(0, true);
+    block.push(&v);
+    Ok(block)
+}
+
+// Whether a block has these two vectors, and none after it is cleared.
+fn has_pushed(block: &mut Block) -> Result<bool, AllocError> {
+    if block.live() != 2 || !has_all(block, &[(0, &[false, true]), (1, &[true, true])])? {
+        return Ok(false);
+    }
+    block.clear();
+    Ok(block.live() == 0)
+}
+
+#[test]
+fn pushed_vectors(rt: HostRuntime) -> Result<(), Fail> {
+    let mut block = two_pushed(rt.alloc())?;
+    assert!(rt; has_pushed(&mut block)?);
+    Ok(())
+}
+
+// Whether line 3 has these values in the first eight lanes.
+fn shows(sim: &GoodSim, expected: &[u8; 8]) -> bool
+    requires line { 3 < line_count sim.now.circuit }
+    requires lanes { 8 ≤ length (vectors_of sim.now) }
+{
+    for (lane, digit) in expected.iter().enumerate() {
+        if sim.bit(3, lane as u32) != (*digit == b'1') {
+            return false;
+        }
+    }
+    true
+}
+
+// Whether line 3 of a circuit has these values at the first eight vectors of a block.
+fn line_shows(
+    alloc: Global,
+    circuit: &Circuit,
+    block: &Block,
+    expected: &[u8; 8],
+) -> Result<bool, Fail>
+    requires sources { block.now.sources ≡ circuit.now.sources }
+    requires lanes { 8 ≤ length block.now.vectors }
+{
+    let sim = simulated(alloc, circuit, block)?;
+    Ok(circuit.lines() > 3 && shows(&sim, expected))
+}
+
+// Whether a gate over some of three sources has these values there.
+fn gate_shows(
+    alloc: Global,
+    block: &Block,
+    gate: (Kind, &[u32]),
+    expected: &[u8; 8],
+) -> Result<bool, Fail>
+    requires sources { block.now.sources ≡ 3 }
+    requires lanes { 8 ≤ length block.now.vectors }
+{
+    let parts = Parts {
+        sources: 3,
+        gates: &[gate],
+        positions: &[],
+    };
+    let circuit = circuit(alloc, parts)?;
+    line_shows(alloc, &circuit, block, expected)
+}
+
+// Gates over some of three sources, and their values at 000, 100, 010, 110, 001, 101, 011 and 111.
+const GATES: &[(Kind, &[u32], &[u8; 8])] = &[
+    (Kind::And, &[0, 1], b"00010001"),
+    (Kind::Nand, &[0, 1], b"11101110"),
+    (Kind::Or, &[0, 1], b"01110111"),
+    (Kind::Nor, &[0, 1], b"10001000"),
+    (Kind::Xor, &[0, 1, 2], b"01101001"),
+    (Kind::Xnor, &[0, 1, 2], b"10010110"),
+    (Kind::Buff, &[0], b"01010101"),
+    (Kind::Not, &[0], b"10101010"),
+    (Kind::Mux, &[0, 1, 2], b"00100111"),
+    (Kind::Mux, &[0, 0, 0], b"01010101"),
+    (Kind::Const0, &[], b"00000000"),
+    (Kind::Const1, &[], b"11111111"),
+];
+
+// The first kind of gate that has other values at the vectors of a block.
+fn first_other(alloc: Global, block: &Block) -> Result<Option<Kind>, Fail>
+    requires { block.now.sources ≡ 3 }
+{
+    if block.live() != 64 {
+        return Err(Fail::new("there are not 64 vectors"));
+    }
+    for (kind, pins, expected) in GATES {
+        if !gate_shows(alloc, block, (*kind, pins), expected)? {
+            return Ok(Some(*kind));
+        }
+    }
+    Ok(None)
+}
+
 #[test]
 fn gates_of_each_kind(rt: HostRuntime) -> Result<(), Fail> {
-    let table: [(Kind, &[u32], &[u8; 8]); 12] = [
-        (Kind::And, &[0, 1], b"00010001"),
-        (Kind::Nand, &[0, 1], b"11101110"),
-        (Kind::Or, &[0, 1], b"01110111"),
-        (Kind::Nor, &[0, 1], b"10001000"),
-        (Kind::Xor, &[0, 1, 2], b"01101001"),
-        (Kind::Xnor, &[0, 1, 2], b"10010110"),
-        (Kind::Buff, &[0], b"01010101"),
-        (Kind::Not, &[0], b"10101010"),
-        (Kind::Mux, &[0, 1, 2], b"00100111"),
-        (Kind::Mux, &[0, 0, 0], b"01010101"),
-        (Kind::Const0, &[], b"00000000"),
-        (Kind::Const1, &[], b"11111111"),
-    ];
-    for (kind, pins, expected) in table {
-        assert!(rt; shows(rt.alloc(), kind, pins, expected)?, "{kind:?}");
-    }
+    let mut block = Block::new(rt.alloc(), 3)?;
+    Stream::new(3).fill(1, &mut block);
+    assert_eq!(rt; first_other(rt.alloc(), &block)?, None);
     Ok(())
 }
 
@@ -199,22 +335,46 @@ const NOT_FIRST: Parts<'static> = Parts {
     positions: &[],
 };
 
-#[test]
-fn gates_in_their_order(rt: HostRuntime) -> Result<(), Fail> {
-    let circuit = circuit(rt.alloc(), NOT_FIRST)?;
-    let mut v = Bits::zeros(rt.alloc(), 2)?;
-    let mut block = Block::new(rt.alloc(), 2)?;
+// The vectors 00 and 11.
+fn both_or_none(alloc: Global) -> Result<Block, AllocError>
+    ensures sources { IfOk result (λ block. block.sources ≡ 2) }
+    ensures vectors { IfOk result (λ block. length block.vectors ≡ 2) }
+{
+    let mut v = Bits::zeros(alloc, 2)?;
+    let mut block = Block::new(alloc, 2)?;
     block.push(&v);
     v.set(0, true);
     v.set(1, true);
     block.push(&v);
-    let mut sim = GoodSim::new(rt.alloc(), &circuit)?;
-    sim.run(&block);
-    assert!(rt; !sim.bit(2, 0));
-    assert!(rt; sim.bit(2, 1));
-    assert!(rt; sim.lanes(3).get(0));
-    assert!(rt; !sim.lanes(3).get(1));
-    assert!(rt; sim.live().get(1));
-    assert!(rt; !sim.live().get(2));
+    Ok(block)
+}
+
+// Whether the NOT and the NAND have their values in the lanes of two vectors, and no other lane is live.
+fn are_in_order(sim: &GoodSim) -> bool
+    requires lines { 3 < line_count sim.now.circuit }
+    requires lanes { 2 ≤ length (vectors_of sim.now) }
+{
+    if sim.bit(2, 0) || !sim.bit(2, 1) {
+        return false;
+    }
+    let (nand, live) = (sim.lanes(3), sim.live());
+    nand.get(0) && !nand.get(1) && live.get(1) && !live.get(2)
+}
+
+// Whether they have at these vectors.
+fn goes_in_order(alloc: Global, circuit: &Circuit, block: &Block) -> Result<bool, Fail>
+    requires sources { block.now.sources ≡ circuit.now.sources }
+    requires lines { 3 < line_count circuit.now }
+    requires lanes { 2 ≤ length block.now.vectors }
+{
+    let sim = simulated(alloc, circuit, block)?;
+    Ok(are_in_order(&sim))
+}
+
+#[test]
+fn gates_in_their_order(rt: HostRuntime) -> Result<(), Fail> {
+    let block = both_or_none(rt.alloc())?;
+    let circuit = circuit(rt.alloc(), NOT_FIRST)?;
+    assert!(rt; goes_in_order(rt.alloc(), &circuit, &block)?);
     Ok(())
 }
