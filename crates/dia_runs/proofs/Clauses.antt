@@ -16,15 +16,16 @@ use Rattle.result_file.specs.Laws.{ValidIsTrue}
 use Rattle.result_file.specs.Valid.{IsValid}
 use Rattle.dia_gen.proofs.Written.{made_closed}
 use Rattle.request_words.specs.Request.{Text, Request, gen, check, make_dict, convert, diagnose, list_faults, simulate, synth}
-use Rattle.dia_runs.specs.Synth.{synth_text}
-use Rattle.dia_runs.specs.Texts.{valid_text}
-use Rattle.dia_runs.specs.Netlists.{IsDesign}
-use Rattle.dia_runs.specs.Results.{IsResult}
-use Rattle.dia_runs.specs.Outcome.{Outcome, said, IsCut, IsPartOf, Leaves, KeepsFiles, after_made, written_after}
-use Rattle.dia_runs.specs.Plan.{Judges, refused_file, accepted_file, CallsFor, MayLeave, IsLeftBy, IsRefusedWith, AreAccepted}
-use Rattle.dia_runs.specs.Plans.{MakesResult, plan_of}
-use Rattle.dia_runs.specs.Ran.{IsAmong, statuses_of, Ran, IsDone, KeepsUnlessDone, WasRead, LeavesResult, GeneratesResult, HoldsTrueResult, ChecksResult, Synthesizes, PrintsFaults, FilesAreJudgedOnce, DecidedByFiles, IsRefusedRequest, KeepsRefused, IsComplete}
-use Rattle.dia_runs.proofs.NetlistLemmas.{EvidenceLaws, sound_design, circuit_of}
+use Rattle.synth_netlist.specs.Synth.{synth_text}
+use Rattle.dia_commands.specs.Texts.{valid_text}
+use Rattle.dia_commands.specs.Netlists.{IsDesign}
+use Rattle.dia_commands.specs.Results.{IsResult}
+use Rattle.dia_commands.specs.Outcome.{Outcome, said, IsCut, IsPartOf, Leaves, KeepsFiles, after_made, written_after}
+use Rattle.dia_commands.specs.Plan.{Judges, refused_file, accepted_file, CallsFor, MayLeave, IsLeftBy, IsRefusedWith, AreAccepted}
+use Rattle.dia_commands.specs.Plans.{MakesResult, plan_of}
+use Rattle.dia_commands.specs.Ran.{IsAmong, statuses_of, Ran, IsDone}
+use Rattle.dia_runs.specs.Promises.{KeepsUnlessDone, WasRead, LeavesResult, GeneratesResult, HoldsTrueResult, ChecksResult, Synthesizes, PrintsFaults, FilesAreJudgedOnce, DecidedByFiles, IsRefusedRequest, KeepsRefused, IsComplete}
+use Rattle.dia_runs.proofs.Judged.{EvidenceLaws, sound_design, circuit_of}
 use Rattle.dia_runs.proofs.PlanLemmas.{both_end, ends_by}
 
 -- What was read and accepted before what was done with status 0.

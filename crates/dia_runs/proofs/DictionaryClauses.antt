@@ -10,11 +10,11 @@ use Rattle.dict_file.specs.declared.fault.DictVersion.TheVariants.{Two}
 use Rattle.dict_file.specs.Spelling.{spelling, IsFileOf}
 use Rattle.dict_file.specs.Reading.{IsRefusedBy}
 use Rattle.request_words.specs.Request.{Text, Request, make_dict, convert, diagnose}
-use Rattle.dia_runs.specs.Dictionaries.{IsDiagnosis}
-use Rattle.dia_runs.specs.Outcome.{Outcome, Leaves, after_made, ConsoleGained}
-use Rattle.dia_runs.specs.Plan.{Plan, refused_file, accepted_file, CallsFor}
-use Rattle.dia_runs.specs.Plans.{with_dictionary, with_log, says, plan_of}
-use Rattle.dia_runs.specs.Ran.{IsDone}
+use Rattle.dia_commands.specs.Dictionaries.{IsDiagnosis}
+use Rattle.dia_commands.specs.Outcome.{Outcome, Leaves, after_made, ConsoleGained}
+use Rattle.dia_commands.specs.Plan.{Plan, refused_file, accepted_file, CallsFor}
+use Rattle.dia_commands.specs.Plans.{with_dictionary, with_log, says, plan_of}
+use Rattle.dia_commands.specs.Ran.{IsDone}
 use Rattle.dia_runs.specs.DictionaryRuns.{MakesDictionary, ConvertsDictionary, PrintsDiagnosis, DiagnosesAlike}
 use Rattle.dia_runs.proofs.PlanLemmas.{some_same}
 use Rattle.dia_runs.proofs.Clauses.{accepted_by, true_result, done_for}

@@ -2,8 +2,8 @@
 use Rattle.std.proofs.Common.{◌≡◌, ℕ, ◌<◌, List, Some, sym, subst, ◌∙◌}
 use Rattle.diag_shelf.specs.World.{Files}
 use Rattle.request_words.specs.Request.{Text}
-use Rattle.dia_runs.specs.Outcome.{Outcome}
-use Rattle.dia_runs.specs.Plan.{Plan, finish, judged, refused_file, accepted_file, IsClear, EndsIn}
+use Rattle.dia_commands.specs.Outcome.{Outcome}
+use Rattle.dia_commands.specs.Plan.{Plan, finish, judged, refused_file, accepted_file, IsClear, EndsIn}
 
 pub some_same : {X : Type 0} {x y : X} → Some x ≡ Some y → x ≡ y
 some_same e = cc

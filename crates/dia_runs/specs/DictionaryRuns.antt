@@ -8,13 +8,13 @@ use Rattle.dict_file.specs.declared.fault.DictVersion.TheVariants.{Two}
 use Rattle.dict_file.specs.Spelling.{spelling, most_bytes, IsFileOf}
 use Rattle.request_words.specs.declared.request.EntryKind.{EntryKind}
 use Rattle.request_words.specs.Request.{Text, Request, make_dict, convert, diagnose}
-use Rattle.dia_runs.specs.Texts.{groups_text, numbers_text}
-use Rattle.dia_runs.specs.Dictionaries.{IsDictionaryFile, IsMadeDictionary}
-use Rattle.dia_runs.specs.Logs.{IsLogFor}
-use Rattle.dia_runs.specs.Outcome.{Outcome, ConsoleGained}
-use Rattle.dia_runs.specs.Plan.{CallsFor}
-use Rattle.dia_runs.specs.Plans.{plan_of}
-use Rattle.dia_runs.specs.Ran.{WasRead, HoldsTrueResult}
+use Rattle.dia_commands.specs.Texts.{groups_text, numbers_text}
+use Rattle.dia_commands.specs.Dictionaries.{IsDictionaryFile, IsMadeDictionary}
+use Rattle.dia_commands.specs.Logs.{IsLogFor}
+use Rattle.dia_commands.specs.Outcome.{Outcome, ConsoleGained}
+use Rattle.dia_commands.specs.Plan.{CallsFor}
+use Rattle.dia_commands.specs.Plans.{plan_of}
+use Rattle.dia_runs.specs.Promises.{WasRead, HoldsTrueResult}
 
 -- The result is valid and true. Under the dictionary's name is the version 2 of the dictionary of this kind at the result's patterns, and
 -- the console gained its counts.

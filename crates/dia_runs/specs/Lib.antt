@@ -1,15 +1,3 @@
-pub mod Synth
-pub mod Outputs
-pub mod Texts
-pub mod Faults
-pub mod Netlists
-pub mod Results
-pub mod Dictionaries
-pub mod Logs
-pub mod Simulations
-pub mod Outcome
-pub mod Plan
-pub mod Plans
-pub mod Ran
+pub mod Promises
 pub mod DictionaryRuns
-pub mod Steps
+pub mod Simulations

@@ -3,10 +3,10 @@ use Rattle.std.specs.Prelude.{◌≡◌, ℕ, Option, Some}
 use Rattle.diag_shelf.specs.World.{World}
 use Rattle.sim_listing.specs.SimText.{IsSimText}
 use Rattle.request_words.specs.Request.{Text, Request, simulate}
-use Rattle.dia_runs.specs.Netlists.{IsDesign}
-use Rattle.dia_runs.specs.Logs.{IsListFor}
-use Rattle.dia_runs.specs.Outcome.{ConsoleGained}
-use Rattle.dia_runs.specs.Ran.{WasRead}
+use Rattle.dia_commands.specs.Netlists.{IsDesign}
+use Rattle.dia_commands.specs.Logs.{IsListFor}
+use Rattle.dia_commands.specs.Outcome.{ConsoleGained}
+use Rattle.dia_runs.specs.Promises.{WasRead}
 
 -- The console gained what the netlist's circuit answers to the list's vectors, without a fault and with each that makes a difference.
 pub record HasSimulation (bench list : Text) (old new : World) : Type 0 where

@@ -4,23 +4,18 @@ ghost use Rattle.std.specs.Prelude.{◌≡◌, ◌⊎◌, map, string_bytes, IsT
 ghost use Rattle.diag_shelf.specs.Calls.{Told};
 ghost use Rattle.request_words.specs.Request.{request_of};
 ghost use Rattle.dia_runs.specs.DictionaryRuns.{MakesDictionary, ConvertsDictionary, PrintsDiagnosis, DiagnosesAlike};
-ghost use Rattle.dia_runs.specs.Outputs.{outputs_of};
-ghost use Rattle.dia_runs.specs.Plan.{AreHeld};
-ghost use Rattle.dia_runs.specs.Plans.{plan_of};
-ghost use Rattle.dia_runs.specs.Ran.{IsAmong, statuses_of, Stays, HasCauses, IsDone, IsUnread, IsBrokenOff, OnlyOutputs, NoneFailed, Ran, KeepsUnlessDone, GeneratesResult, ChecksResult, Synthesizes, PrintsFaults, NoNumberIsRefused, FilesAreJudgedOnce, DecidedByFiles, KeepsRefused, IsComplete};
+ghost use Rattle.dia_commands.specs.Outputs.{outputs_of};
+ghost use Rattle.dia_commands.specs.Plan.{AreHeld};
+ghost use Rattle.dia_commands.specs.Plans.{plan_of};
+ghost use Rattle.dia_commands.specs.Ran.{IsAmong, statuses_of, Stays, HasCauses, IsDone, IsUnread, IsBrokenOff, OnlyOutputs, NoneFailed, Ran};
+ghost use Rattle.dia_runs.specs.Promises.{KeepsUnlessDone, GeneratesResult, ChecksResult, Synthesizes, PrintsFaults, NoNumberIsRefused, FilesAreJudgedOnce, DecidedByFiles, KeepsRefused, IsComplete};
 ghost use Rattle.dia_runs.specs.Simulations.{PrintsSimulation};
 
-use crate::cells::no_number_is_refused;
-use crate::checks::check_result;
-use crate::converts::convert_file;
-use crate::diagnoses::diagnose_log;
-use crate::ends::say;
-use crate::generates::generate_file;
-use crate::listing::list_faults;
-use crate::makes_dicts::make_dictionary;
-use crate::sims::simulate;
-use crate::synths::synthesize;
 use bench_reader::{never_accepted_and_refused, one_netlist};
+use dia_commands::{
+    check_result, convert_file, diagnose_log, generate_file, list_faults, make_dictionary,
+    refuse_words, simulate, synthesize,
+};
 use diag_shelf::Shelf;
 use diagnose::{list_is_read_once, log_is_read_once};
 use dict_file::dictionary_is_read_once;
@@ -30,6 +25,7 @@ use pair_sets::{covering_is_equal, full_tree_is_covered, leaves_are_closed};
 use request_words::{Request, WordsFault, read_words};
 use result_file::{file_is_refused_once, valid_is_true};
 use std::alloc::Global;
+use synth_netlist::no_number_is_refused;
 
 /// Does what the words ask for, and answers a status: 0 where the work is done, 2 where the words aren't understood,
 /// 3, 4, 5 or 6 where the netlist, the result, the dictionary, or the log or list of vectors that is read is refused, 7 or 8 where a read or a write failed, 9 for want of
@@ -111,14 +107,7 @@ fn dispatch<S: Shelf>(alloc: Global, words: &[String], shelf: &mut S) -> u8
         Ok(Request::ListFaults(bench)) => list_faults(alloc, shelf, bench),
         Ok(Request::Simulate(bench, vectors)) => simulate(alloc, shelf, bench, vectors),
         Ok(Request::Synth(n, bench, output)) => synthesize(alloc, shelf, n, bench, output),
-        Err(WordsFault::NotUnderstood) => refuse(shelf),
+        Err(WordsFault::NotUnderstood) => refuse_words(shelf),
         Err(WordsFault::NoMemory) => 9,
     }
-}
-
-#[tactic(auto, unfolding(crate::specs::Texts::not_understood_text))]
-fn refuse<S: Shelf>(shelf: &mut S) -> u8
-    ensures { Ran None result (S.state shelf.old) (S.state shelf.new) }
-{
-    say(shelf, 2, b"words: not understood\n")
 }

@@ -1,13 +1,13 @@
 //! Runs of `check`.
 
 use crate::tests::runs::Text::{Absent, Is};
-use crate::tests::runs::{joined, left_by, plain};
+use crate::tests::runs::{Case, all_leave, joined, left_by};
 use crate::tests::texts::TRUTH;
 use std::alloc::{AllocError, Global};
 use std::test::Fail;
 
 // A result in pieces. The third has room for one more pattern.
-const PIECES: [&[u8]; 10] = [
+static PIECES: [&[u8]; 10] = [
     b"diatest 1 1 1 11\nbudget 4 64 2000\n",
     b"pattern 0\npattern 1\n",
     b"",
@@ -34,7 +34,7 @@ type Checking = (usize, &'static [u8], u8, &'static [u8]);
 
 // The result as it was made; with a tree of one closed leaf, and with a tree that has an open leaf; without a line of
 // evidence, and with evidence of another kind; with a pattern twice; with another mark, and without the end.
-const CHECKED: [Checking; 8] = [
+static CHECKED: [Checking; 8] = [
     (
         2,
         b"",
@@ -75,14 +75,19 @@ fn is_checked(
 }
 
 // Bytes come one by one, and all at once.
+fn is_judged(alloc: Global, case: &Checking) -> Result<bool, AllocError> {
+    let (at, piece, status, console) = *case;
+    let result = result_with(alloc, at, piece)?;
+    Ok(
+        is_checked(alloc, 1, TRUTH, &result, status, console)?
+            && is_checked(alloc, 4096, TRUTH, &result, status, console)?,
+    )
+}
+
 #[test]
 fn results_that_are_checked(rt: HostRuntime) -> Result<(), Fail> {
-    for (at, piece, status, console) in &CHECKED {
-        let result = result_with(rt.alloc(), *at, *piece)?;
-        for chunk in [1usize, 4096] {
-            let checked = is_checked(rt.alloc(), chunk, TRUTH, &result, *status, *console)?;
-            assert!(rt; checked, "piece {at}");
-        }
+    for (at, case) in CHECKED.iter().enumerate() {
+        assert!(rt; is_judged(rt.alloc(), case)?, "case {at}");
     }
     Ok(())
 }
@@ -92,39 +97,56 @@ const START: &[u8] = b"diatest 1 1 0 3\nbudget 4 0 2000\n";
 const END: &[u8] =
     b"same 2 0 R ? ; 1\nclass 0 - -\nmember 0 0 rep\nmember 1 0 equal\nmember 2 0 equal\nend\n";
 
+// The line of evidence, the status, and what is printed.
+type Refuting = (&'static [u8], u8, &'static [u8]);
+
 // A refutation of one empty clause, and one that names a clause that isn't there.
+static REFUTED: [Refuting; 2] = [
+    (
+        b"same 1 0 R ? ; 1\n",
+        0,
+        b"valid numbers 3 patterns 0 classes 1 equal 2 open 0\n",
+    ),
+    (
+        b"same 1 0 R ? ; 2\n",
+        4,
+        b"result: Evidence NoSuchClause at step 0, line 3\n",
+    ),
+];
+
+fn is_refuted(alloc: Global, case: &Refuting) -> Result<bool, AllocError> {
+    let (line, status, console) = *case;
+    let result = joined(alloc, &[START, line, END])?;
+    is_checked(alloc, 7, b"INPUT(a)\n", &result, status, console)
+}
+
 #[test]
 fn refutations_that_are_checked(rt: HostRuntime) -> Result<(), Fail> {
-    let cases: [(&[u8], u8, &[u8]); 2] = [
-        (
-            b"same 1 0 R ? ; 1\n",
-            0,
-            b"valid numbers 3 patterns 0 classes 1 equal 2 open 0\n",
-        ),
-        (
-            b"same 1 0 R ? ; 2\n",
-            4,
-            b"result: Evidence NoSuchClause at step 0, line 3\n",
-        ),
-    ];
-    for (line, status, console) in &cases {
-        let result = joined(rt.alloc(), &[START, *line, END])?;
-        let checked = is_checked(rt.alloc(), 7, b"INPUT(a)\n", &result, *status, *console)?;
-        assert!(rt; checked);
+    for (at, case) in REFUTED.iter().enumerate() {
+        assert!(rt; is_refuted(rt.alloc(), case)?, "case {at}");
     }
     Ok(())
 }
 
 // A refused netlist, and an absent result.
+static NOT_READ: [Case; 2] = [
+    (
+        &[("n", b"z=NOT(Z)\n")],
+        &["check", "n", "r"],
+        3,
+        Is(b"netlist: Undriven at byte 6, line 1\n"),
+        ("r", Absent),
+    ),
+    (
+        &[("n", b"")],
+        &["check", "n", "r"],
+        7,
+        Is(b""),
+        ("r", Absent),
+    ),
+];
+
 #[test]
 fn results_that_are_not_read(rt: HostRuntime) -> Result<(), Fail> {
-    let cases: [(&[u8], u8, &[u8]); 2] = [
-        (b"z=NOT(Z)\n", 3, b"netlist: Undriven at byte 6, line 1\n"),
-        (b"", 7, b""),
-    ];
-    for (netlist, status, console) in &cases {
-        let left = plain(rt.alloc(), &[("n", *netlist)], &["check", "n", "r"])?;
-        assert!(rt; left.ended(*status, Is(*console)) && left.holds("r", Absent));
-    }
-    Ok(())
+    all_leave(&rt, rt.alloc(), 7, &NOT_READ)
 }

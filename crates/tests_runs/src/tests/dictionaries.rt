@@ -1,7 +1,7 @@
 //! Runs of `dict`, `convert` and `diagnose`.
 
 use crate::tests::runs::Text::{self, Absent, Any, Is};
-use crate::tests::runs::{leaves, plain};
+use crate::tests::runs::{Case, File, all_leave, plain};
 use crate::tests::texts::{
     AND, AND_RESULT, AND_TWICE, AND_TWICE_CHOSEN, AND_TWICE_RESULT, FULL_ONE, FULL_TWO, LOG, ONE,
     SAME_DIFF, TWICE, TWICE_RESULT, TWO,
@@ -9,143 +9,132 @@ use crate::tests::texts::{
 use std::alloc::{AllocError, Global};
 use std::test::Fail;
 
-// A netlist, a result, a kind, what is printed, and the dictionary.
-type Making = (
-    &'static [u8],
-    &'static [u8],
-    &'static str,
-    &'static [u8],
-    Text<'static>,
-);
+const OF_AND: &[File] = &[("n", AND), ("r", AND_RESULT)];
 
-const MADE: [Making; 8] = [
+const OF_TWICE: &[File] = &[("n", TWICE), ("r", TWICE_RESULT)];
+
+const OF_AND_TWICE: &[File] = &[("n", AND_TWICE), ("r", AND_TWICE_RESULT)];
+
+const TEN_PAIRS: Text = Is(b"numbers 7 patterns 4 classes 5 apart 10\n");
+
+const FIFTEEN: Text = Is(b"numbers 7 patterns 2 classes 7 apart 15\n");
+
+const TWENTY_ONE: Text = Is(b"numbers 7 patterns 2 classes 7 apart 21\n");
+
+const THIRTY: Text = Is(b"numbers 11 patterns 4 classes 9 apart 30\n");
+
+const THIRTY_TWO: Text = Is(b"numbers 11 patterns 4 classes 9 apart 32\n");
+
+const PASS_FAIL: &[&str] = &["dict", "passfail", "n", "r", "d"];
+
+const FULL: &[&str] = &["dict", "full", "n", "r", "d"];
+
+const SAME_DIFFERENT: &[&str] = &["dict", "samediff", "n", "r", "d"];
+
+static MADE: [Case; 8] = [
+    (OF_AND, PASS_FAIL, 0, TEN_PAIRS, ("d", Is(TWO))),
+    (OF_AND, FULL, 0, TEN_PAIRS, ("d", Is(FULL_TWO))),
+    (OF_AND, SAME_DIFFERENT, 0, TEN_PAIRS, ("d", Is(SAME_DIFF))),
+    (OF_TWICE, PASS_FAIL, 0, FIFTEEN, ("d", Any)),
+    (OF_TWICE, FULL, 0, TWENTY_ONE, ("d", Any)),
+    (OF_TWICE, SAME_DIFFERENT, 0, FIFTEEN, ("d", Any)),
+    (OF_AND_TWICE, PASS_FAIL, 0, THIRTY, ("d", Any)),
     (
-        AND,
-        AND_RESULT,
-        "passfail",
-        b"numbers 7 patterns 4 classes 5 apart 10\n",
-        Is(TWO),
-    ),
-    (
-        AND,
-        AND_RESULT,
-        "full",
-        b"numbers 7 patterns 4 classes 5 apart 10\n",
-        Is(FULL_TWO),
-    ),
-    (
-        AND,
-        AND_RESULT,
-        "samediff",
-        b"numbers 7 patterns 4 classes 5 apart 10\n",
-        Is(SAME_DIFF),
-    ),
-    (
-        TWICE,
-        TWICE_RESULT,
-        "passfail",
-        b"numbers 7 patterns 2 classes 7 apart 15\n",
-        Any,
-    ),
-    (
-        TWICE,
-        TWICE_RESULT,
-        "full",
-        b"numbers 7 patterns 2 classes 7 apart 21\n",
-        Any,
-    ),
-    (
-        TWICE,
-        TWICE_RESULT,
-        "samediff",
-        b"numbers 7 patterns 2 classes 7 apart 15\n",
-        Any,
-    ),
-    (
-        AND_TWICE,
-        AND_TWICE_RESULT,
-        "passfail",
-        b"numbers 11 patterns 4 classes 9 apart 30\n",
-        Any,
-    ),
-    (
-        AND_TWICE,
-        AND_TWICE_RESULT,
-        "samediff",
-        b"numbers 11 patterns 4 classes 9 apart 32\n",
-        Is(AND_TWICE_CHOSEN),
+        OF_AND_TWICE,
+        SAME_DIFFERENT,
+        0,
+        THIRTY_TWO,
+        ("d", Is(AND_TWICE_CHOSEN)),
     ),
 ];
 
 #[test]
 fn dictionaries_that_are_made(rt: HostRuntime) -> Result<(), Fail> {
-    for (at, (netlist, result, kind, console, dict)) in MADE.iter().enumerate() {
-        let files = [("n", *netlist), ("r", *result)];
-        let words = ["dict", *kind, "n", "r", "d"];
-        let made = leaves(rt.alloc(), &files, &words, 0, Is(*console), "d", *dict)?;
-        assert!(rt; made, "case {at}");
-    }
-    Ok(())
+    all_leave(&rt, rt.alloc(), 7, &MADE)
 }
 
-// The files, the status, and what is printed.
-type NotMaking = (&'static [(&'static str, &'static [u8])], u8, &'static [u8]);
+const UNDRIVEN: Text = Is(b"netlist: Undriven at byte 6, line 1\n");
 
-const NOT_MADE: [NotMaking; 4] = [
+const SYNTAX: Text = Is(b"result: Syntax at line 1\n");
+
+static NOT_MADE: [Case; 4] = [
     (
         &[("n", b"z=NOT(Z)\n"), ("r", b"")],
+        FULL,
         3,
-        b"netlist: Undriven at byte 6, line 1\n",
+        UNDRIVEN,
+        ("d", Absent),
     ),
-    (
-        &[("n", AND), ("r", b"x\n")],
-        4,
-        b"result: Syntax at line 1\n",
-    ),
-    (&[("n", AND)], 7, b""),
-    (&[("r", AND_RESULT)], 7, b""),
+    (&[("n", AND), ("r", b"x\n")], FULL, 4, SYNTAX, ("d", Absent)),
+    (&[("n", AND)], FULL, 7, Is(b""), ("d", Absent)),
+    (&[("r", AND_RESULT)], FULL, 7, Is(b""), ("d", Absent)),
 ];
 
 // A refused netlist, a refused result, and absent files: no dictionary is made.
 #[test]
 fn dictionaries_that_are_not_made(rt: HostRuntime) -> Result<(), Fail> {
-    for (at, (files, status, console)) in NOT_MADE.iter().enumerate() {
-        let words = ["dict", "full", "n", "r", "d"];
-        let left = leaves(
-            rt.alloc(),
-            *files,
-            &words,
-            *status,
-            Is(*console),
-            "d",
-            Absent,
-        )?;
-        assert!(rt; left, "case {at}");
-    }
-    Ok(())
+    all_leave(&rt, rt.alloc(), 7, &NOT_MADE)
 }
 
-const CONVERTED: [(&[u8], &[u8]); 5] = [
-    (ONE, TWO),
-    (TWO, TWO),
-    (FULL_ONE, FULL_TWO),
-    (FULL_TWO, FULL_TWO),
-    (SAME_DIFF, SAME_DIFF),
+const COUNTS: Text = Is(b"numbers 7 patterns 4 groups 5\n");
+
+const TO_ANOTHER: &[&str] = &["convert", "o", "d"];
+
+const TO_ITSELF: &[&str] = &["convert", "o", "o"];
+
+static CONVERTED: [Case; 10] = [
+    (&[("o", ONE)], TO_ANOTHER, 0, COUNTS, ("d", Is(TWO))),
+    (&[("o", ONE)], TO_ITSELF, 0, COUNTS, ("o", Is(TWO))),
+    (&[("o", TWO)], TO_ANOTHER, 0, COUNTS, ("d", Is(TWO))),
+    (&[("o", TWO)], TO_ITSELF, 0, COUNTS, ("o", Is(TWO))),
+    (
+        &[("o", FULL_ONE)],
+        TO_ANOTHER,
+        0,
+        COUNTS,
+        ("d", Is(FULL_TWO)),
+    ),
+    (
+        &[("o", FULL_ONE)],
+        TO_ITSELF,
+        0,
+        COUNTS,
+        ("o", Is(FULL_TWO)),
+    ),
+    (
+        &[("o", FULL_TWO)],
+        TO_ANOTHER,
+        0,
+        COUNTS,
+        ("d", Is(FULL_TWO)),
+    ),
+    (
+        &[("o", FULL_TWO)],
+        TO_ITSELF,
+        0,
+        COUNTS,
+        ("o", Is(FULL_TWO)),
+    ),
+    (
+        &[("o", SAME_DIFF)],
+        TO_ANOTHER,
+        0,
+        COUNTS,
+        ("d", Is(SAME_DIFF)),
+    ),
+    (
+        &[("o", SAME_DIFF)],
+        TO_ITSELF,
+        0,
+        COUNTS,
+        ("o", Is(SAME_DIFF)),
+    ),
 ];
 
 // Both versions become version 2, under another name and under their own.
 #[test]
 fn dictionaries_that_are_converted(rt: HostRuntime) -> Result<(), Fail> {
-    let console = Is(b"numbers 7 patterns 4 groups 5\n");
-    for (at, (old, new)) in CONVERTED.iter().enumerate() {
-        let files = [("o", *old)];
-        for name in ["d", "o"] {
-            let words = ["convert", "o", name];
-            let converted = leaves(rt.alloc(), &files, &words, 0, console, name, Is(*new))?;
-            assert!(rt; converted, "case {at}");
-        }
-    }
-    Ok(())
+    all_leave(&rt, rt.alloc(), 7, &CONVERTED)
 }
 
 // The first bytes of a dictionary, so many, with one of them changed, and other bytes behind them.
@@ -175,7 +164,7 @@ type Changing = (
     &'static str,
 );
 
-const CHANGED: [Changing; 11] = [
+static CHANGED: [Changing; 11] = [
     (ONE, 10, None, b"", "Short at byte 10"),
     (ONE, 30, None, b"x", "Trailing at byte 30"),
     (ONE, 30, Some((29, 0xe1)), b"", "Value at byte 29"),
@@ -189,15 +178,15 @@ const CHANGED: [Changing; 11] = [
     (TWO, 60, None, b"x", "Trailing at byte 60"),
 ];
 
+fn refuses(alloc: Global, command: &str, dict: &[u8], console: &[u8]) -> Result<bool, AllocError> {
+    let left = plain(alloc, &[("o", dict)], &[command, "o", "d"])?;
+    Ok(left.ended(5, Is(console)) && left.holds("d", Absent))
+}
+
 fn is_refused(alloc: Global, dict: &[u8], said: &str) -> Result<bool, AllocError> {
     let console = format!(in alloc; "dictionary: {said}\n")?;
-    for command in ["convert", "diagnose"] {
-        let left = plain(alloc, &[("o", dict)], &[command, "o", "d"])?;
-        if !left.ended(5, Is(console.as_bytes())) || !left.holds("d", Absent) {
-            return Ok(false);
-        }
-    }
-    Ok(true)
+    let console = console.as_bytes();
+    Ok(refuses(alloc, "convert", dict, console)? && refuses(alloc, "diagnose", dict, console)?)
 }
 
 // A dictionary that is cut, changed at a byte, or followed by more is refused by `convert` and `diagnose`, whatever the log.
@@ -214,7 +203,7 @@ fn dictionaries_that_are_refused(rt: HostRuntime) -> Result<(), Fail> {
 type Diagnosing = (&'static [u8], u8, &'static [u8]);
 
 // Logs that are diagnosed, and logs that are refused.
-const DIAGNOSED: [Diagnosing; 10] = [
+static DIAGNOSED: [Diagnosing; 10] = [
     (LOG, 0, b"1\n3\n5\nlisted 3\n"),
     (b"0 1\n1 1\n2 1\n3 1\n", 0, b"6\nlisted 1\n"),
     (b"0 1\n1 0\n2 0\n3 0\n", 0, b"listed 0\n"),
@@ -227,48 +216,83 @@ const DIAGNOSED: [Diagnosing; 10] = [
     (b"", 6, b"log: Missing at line 1\n"),
 ];
 
-// By each dictionary of the AND.
+// Whether a log is so diagnosed by each dictionary of the AND.
+fn is_diagnosed(alloc: Global, log: &[u8], status: u8, console: &[u8]) -> Result<bool, AllocError> {
+    for dict in [ONE, TWO, FULL_ONE, FULL_TWO, SAME_DIFF] {
+        let left = plain(alloc, &[("d", dict), ("l", log)], &["diagnose", "d", "l"])?;
+        if !left.ended(status, Is(console)) {
+            return Ok(false);
+        }
+    }
+    Ok(true)
+}
+
 #[test]
 fn logs_that_are_diagnosed(rt: HostRuntime) -> Result<(), Fail> {
     for (at, (log, status, console)) in DIAGNOSED.iter().enumerate() {
-        for dict in [ONE, TWO, FULL_ONE, FULL_TWO, SAME_DIFF] {
-            let files = [("d", dict), ("l", *log)];
-            let left = plain(rt.alloc(), &files, &["diagnose", "d", "l"])?;
-            assert!(rt; left.ended(*status, Is(*console)), "case {at}");
-        }
+        assert!(rt;
+            is_diagnosed(rt.alloc(), *log, *status, *console)?,
+            "case {at}"
+        );
     }
     Ok(())
 }
 
 // A dictionary is no log.
+static NO_LOG: [Case; 1] = [(
+    &[("d", ONE)],
+    &["diagnose", "d", "d"],
+    6,
+    Is(b"log: Syntax at line 1\n"),
+    ("d", Any),
+)];
+
 #[test]
 fn one_name_for_a_dictionary_and_a_log(rt: HostRuntime) -> Result<(), Fail> {
-    let left = plain(rt.alloc(), &[("d", ONE)], &["diagnose", "d", "d"])?;
-    assert!(rt; left.ended(6, Is(b"log: Syntax at line 1\n")));
-    Ok(())
+    all_leave(&rt, rt.alloc(), 7, &NO_LOG)
 }
 
 // A dictionary may replace the result or the netlist that it is made of.
+const OVER_THE_NETLIST: &[&str] = &["dict", "passfail", "n", "r", "n"];
+
+const OVER_THE_RESULT: &[&str] = &["dict", "passfail", "n", "r", "r"];
+
+static REPLACED: [Case; 2] = [
+    (OF_AND, OVER_THE_NETLIST, 0, Any, ("n", Is(TWO))),
+    (OF_AND, OVER_THE_RESULT, 0, Any, ("r", Is(TWO))),
+];
+
 #[test]
 fn one_name_for_an_input_and_the_output(rt: HostRuntime) -> Result<(), Fail> {
-    let files = [("n", AND), ("r", AND_RESULT)];
-    for output in ["n", "r"] {
-        let words = ["dict", "passfail", "n", "r", output];
-        assert!(rt; leaves(rt.alloc(), &files, &words, 0, Any, output, Is(TWO))?);
-    }
-    Ok(())
+    all_leave(&rt, rt.alloc(), 7, &REPLACED)
 }
 
 // A dictionary without a log: a read fails, and nothing is printed.
+static NOT_READ: [Case; 3] = [
+    (
+        &[("d", TWO)],
+        &["diagnose", "d", "l"],
+        7,
+        Is(b""),
+        ("e", Absent),
+    ),
+    (
+        &[("d", TWO)],
+        &["diagnose", "l", "d"],
+        7,
+        Is(b""),
+        ("e", Absent),
+    ),
+    (
+        &[("d", TWO)],
+        &["convert", "l", "e"],
+        7,
+        Is(b""),
+        ("e", Absent),
+    ),
+];
+
 #[test]
 fn absent_dictionaries_and_logs(rt: HostRuntime) -> Result<(), Fail> {
-    for words in [
-        ["diagnose", "d", "l"],
-        ["diagnose", "l", "d"],
-        ["convert", "l", "e"],
-    ] {
-        let left = plain(rt.alloc(), &[("d", TWO)], &words)?;
-        assert!(rt; left.ended(7, Is(b"")) && left.holds("e", Absent));
-    }
-    Ok(())
+    all_leave(&rt, rt.alloc(), 7, &NOT_READ)
 }

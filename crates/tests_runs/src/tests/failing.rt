@@ -1,7 +1,7 @@
 //! Runs over a shelf of which one call fails.
 
 use crate::tests::runs::Text::{self, Absent, Any, Is, Part};
-use crate::tests::runs::{left_by, plain};
+use crate::tests::runs::{Case, all_leave, left_by};
 use crate::tests::texts::{AND, AND_RESULT, LOG, ONE, TWO};
 use std::alloc::Global;
 use std::process::Abort;
@@ -29,7 +29,7 @@ fn each_fails(
 }
 
 // Over the empty netlist call 0 opens it, call 1 reads it, call 2 creates the result, call 3 writes its first three bytes.
-const OF_GEN: [Failing; 5] = [
+static OF_GEN: [Failing; 5] = [
     (0, 7, Absent),
     (1, 7, Absent),
     (2, 8, Absent),
@@ -43,16 +43,16 @@ fn each_failing_call_of_gen_shows(rt: HostRuntime) -> Result<(), Fail> {
     each_fails(&rt, rt.alloc(), 3, &[("n", b"")], &words, "r", &OF_GEN)
 }
 
+static NO_NETLIST: [Case; 1] = [(&[], &["gen", "absent", "r"], 7, Any, ("r", Absent))];
+
 #[test]
 fn an_absent_netlist_shows(rt: HostRuntime) -> Result<(), Fail> {
-    let left = plain(rt.alloc(), &[], &["gen", "absent", "r"])?;
-    assert!(rt; left.ended(7, Any) && left.holds("r", Absent));
-    Ok(())
+    all_leave(&rt, rt.alloc(), 7, &NO_NETLIST)
 }
 
 // The old dictionary is opened by call 0 and read by calls 1 and 2; call 3 creates the new one, which calls 4 and 5 write, and
 // call 6 prints.
-const OF_CONVERT: [Failing; 7] = [
+static OF_CONVERT: [Failing; 7] = [
     (0, 7, Absent),
     (1, 7, Absent),
     (2, 7, Absent),
@@ -70,7 +70,7 @@ fn each_failing_call_of_convert_shows(rt: HostRuntime) -> Result<(), Fail> {
 
 // The netlist is opened and read by calls 0 to 2, the result by calls 3 to 5; call 6 creates the dictionary, call 7 writes it,
 // and call 8 prints.
-const OF_DICT: [Failing; 6] = [
+static OF_DICT: [Failing; 6] = [
     (2, 7, Absent),
     (3, 7, Absent),
     (5, 7, Absent),
@@ -87,7 +87,7 @@ fn each_failing_call_of_dict_shows(rt: HostRuntime) -> Result<(), Fail> {
 }
 
 // The dictionary is opened and read by calls 0 to 2, the log by calls 3 to 5, and call 6 prints.
-const OF_DIAGNOSE: [Failing; 5] = [
+static OF_DIAGNOSE: [Failing; 5] = [
     (1, 7, Absent),
     (3, 7, Absent),
     (4, 7, Absent),

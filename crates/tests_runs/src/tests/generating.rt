@@ -1,80 +1,83 @@
 //! Runs of `gen`.
 
-use crate::tests::runs::Text::{self, Any, Begins, Ends, Is};
-use crate::tests::runs::{has, is_accepted, leaves, left_by, plain};
+use crate::tests::runs::Text::{Any, Begins, Ends, Is};
+use crate::tests::runs::{Case, Left, all_leave, has, is_accepted, left_by, plain};
 use crate::tests::texts::{AND, AND_RESULT, C17, PARITY, S27, TRUTH};
-use dia_runs::synth_text;
-use std::alloc::Global;
-use std::process::Abort;
+use std::alloc::{AllocError, Global};
 use std::test::Fail;
-
-// A netlist, the words, the result, and what is printed.
-type Generating = (
-    &'static [u8],
-    &'static [&'static str],
-    Text<'static>,
-    Text<'static>,
-);
-
-fn all_generate(rt: &impl Abort, alloc: Global, cases: &[Generating]) -> Result<(), Fail> {
-    for (at, (netlist, words, result, console)) in cases.iter().enumerate() {
-        let files = [("n", *netlist)];
-        let generated = leaves(alloc, &files, *words, 0, *console, "r", *result)?;
-        assert!(rt; generated, "case {at}");
-    }
-    Ok(())
-}
+use synth_netlist::synth_text;
 
 // A wire; no line at all; an AND; an OR of a signal and its complement, without a search too; a flip-flop that toggles; the
 // wire without a block of the stream, where no vector is kept, and all faults stay in one class; an input that no position
 // shows, where the miter of each pair has the empty clause alone.
-const SMALL: [Generating; 8] = [
+static SMALL: [Case; 8] = [
     (
-        b"INPUT(a)\nz=BUFF(a)\nOUTPUT(z)\n",
+        &[("n", b"INPUT(a)\nz=BUFF(a)\nOUTPUT(z)\n")],
         &["gen", "n", "r"],
-        Is(
-            b"diatest 1 1 1 5\nbudget 4 64 2000\npattern 0\npattern 1\nsame 3 1 C\nsame 4 2 C\nclass 0 - -\nclass 1 0 0\nclass 2 0 1\nmember 0 0 rep\nmember 1 2 rep\nmember 2 1 rep\nmember 3 2 equal\nmember 4 1 equal\nend\n",
-        ),
+        0,
         Is(b"numbers 5 patterns 2 classes 3 equal 2 open 0\n"),
+        (
+            "r",
+            Is(
+                b"diatest 1 1 1 5\nbudget 4 64 2000\npattern 0\npattern 1\nsame 3 1 C\nsame 4 2 C\nclass 0 - -\nclass 1 0 0\nclass 2 0 1\nmember 0 0 rep\nmember 1 2 rep\nmember 2 1 rep\nmember 3 2 equal\nmember 4 1 equal\nend\n",
+            ),
+        ),
     ),
     (
-        b"",
+        &[("n", b"")],
         &["gen", "n", "r"],
-        Is(b"diatest 1 0 0 1\nbudget 4 64 2000\nclass 0 - -\nmember 0 0 rep\nend\n"),
+        0,
         Is(b"numbers 1 patterns 0 classes 1 equal 0 open 0\n"),
+        (
+            "r",
+            Is(b"diatest 1 0 0 1\nbudget 4 64 2000\nclass 0 - -\nmember 0 0 rep\nend\n"),
+        ),
     ),
     (
-        AND,
+        &[("n", AND)],
         &["gen", "n", "r"],
-        Is(AND_RESULT),
+        0,
         Is(b"numbers 7 patterns 4 classes 5 equal 2 open 0\n"),
+        ("r", Is(AND_RESULT)),
     ),
     (
-        TRUTH,
+        &[("n", TRUTH)],
         &["gen", "n", "r"],
-        Is(
-            b"diatest 1 1 1 11\nbudget 4 64 2000\npattern 0\npattern 1\nsame 1 0 T 0 . .\nsame 2 0 T 0 . .\nsame 3 0 T 0 . .\nsame 6 0 T 0 . .\nsame 7 4 C\nsame 8 0 T 0 . .\nsame 10 0 T 0 . .\nclass 0 - -\nclass 1 0 0\nclass 2 0 1\nclass 3 1 1\nmember 0 0 rep\nmember 1 0 equal\nmember 2 0 equal\nmember 3 0 equal\nmember 4 1 rep\nmember 5 2 rep\nmember 6 0 equal\nmember 7 1 equal\nmember 8 0 equal\nmember 9 3 rep\nmember 10 0 equal\nend\n",
-        ),
+        0,
         Is(b"numbers 11 patterns 2 classes 4 equal 7 open 0\n"),
+        (
+            "r",
+            Is(
+                b"diatest 1 1 1 11\nbudget 4 64 2000\npattern 0\npattern 1\nsame 1 0 T 0 . .\nsame 2 0 T 0 . .\nsame 3 0 T 0 . .\nsame 6 0 T 0 . .\nsame 7 4 C\nsame 8 0 T 0 . .\nsame 10 0 T 0 . .\nclass 0 - -\nclass 1 0 0\nclass 2 0 1\nclass 3 1 1\nmember 0 0 rep\nmember 1 0 equal\nmember 2 0 equal\nmember 3 0 equal\nmember 4 1 rep\nmember 5 2 rep\nmember 6 0 equal\nmember 7 1 equal\nmember 8 0 equal\nmember 9 3 rep\nmember 10 0 equal\nend\n",
+            ),
+        ),
     ),
     (
-        TRUTH,
+        &[("n", TRUTH)],
         &["gen", "n", "r", "--cubes", "0", "--conflicts", "0"],
-        Is(
-            b"diatest 1 1 1 11\nbudget 4 0 0\npattern 0\npattern 1\nsame 1 0 O ?\nsame 2 0 O ?\nsame 3 0 O ?\nsame 6 0 O ?\nsame 7 4 C\nsame 8 0 O ?\nsame 10 0 O ?\nclass 0 - -\nclass 1 0 0\nclass 2 0 1\nclass 3 1 1\nmember 0 0 rep\nmember 1 0 open\nmember 2 0 open\nmember 3 0 open\nmember 4 1 rep\nmember 5 2 rep\nmember 6 0 open\nmember 7 1 equal\nmember 8 0 open\nmember 9 3 rep\nmember 10 0 open\nend\n",
-        ),
+        0,
         Is(b"numbers 11 patterns 2 classes 4 equal 1 open 6\n"),
-    ),
-    (
-        b"q=DFF(d)\nd=NOT(q)\n",
-        &["gen", "n", "r"],
-        Is(
-            b"diatest 1 1 1 5\nbudget 4 64 2000\npattern 0\npattern 1\nsame 3 2 C\nsame 4 1 C\nclass 0 - -\nclass 1 0 0\nclass 2 0 1\nmember 0 0 rep\nmember 1 2 rep\nmember 2 1 rep\nmember 3 1 equal\nmember 4 2 equal\nend\n",
+        (
+            "r",
+            Is(
+                b"diatest 1 1 1 11\nbudget 4 0 0\npattern 0\npattern 1\nsame 1 0 O ?\nsame 2 0 O ?\nsame 3 0 O ?\nsame 6 0 O ?\nsame 7 4 C\nsame 8 0 O ?\nsame 10 0 O ?\nclass 0 - -\nclass 1 0 0\nclass 2 0 1\nclass 3 1 1\nmember 0 0 rep\nmember 1 0 open\nmember 2 0 open\nmember 3 0 open\nmember 4 1 rep\nmember 5 2 rep\nmember 6 0 open\nmember 7 1 equal\nmember 8 0 open\nmember 9 3 rep\nmember 10 0 open\nend\n",
+            ),
         ),
-        Is(b"numbers 5 patterns 2 classes 3 equal 2 open 0\n"),
     ),
     (
-        b"INPUT(a)\nOUTPUT(z)\nz=BUFF(a)\n",
+        &[("n", b"q=DFF(d)\nd=NOT(q)\n")],
+        &["gen", "n", "r"],
+        0,
+        Is(b"numbers 5 patterns 2 classes 3 equal 2 open 0\n"),
+        (
+            "r",
+            Is(
+                b"diatest 1 1 1 5\nbudget 4 64 2000\npattern 0\npattern 1\nsame 3 2 C\nsame 4 1 C\nclass 0 - -\nclass 1 0 0\nclass 2 0 1\nmember 0 0 rep\nmember 1 2 rep\nmember 2 1 rep\nmember 3 1 equal\nmember 4 2 equal\nend\n",
+            ),
+        ),
+    ),
+    (
+        &[("n", b"INPUT(a)\nOUTPUT(z)\nz=BUFF(a)\n")],
         &[
             "gen",
             "n",
@@ -86,24 +89,32 @@ const SMALL: [Generating; 8] = [
             "--conflicts",
             "0",
         ],
-        Is(
-            b"diatest 1 1 1 5\nbudget 0 0 0\nsame 1 0 O ?\nsame 2 0 O ?\nsame 3 0 O ?\nsame 4 0 O ?\nclass 0 - -\nmember 0 0 rep\nmember 1 0 open\nmember 2 0 open\nmember 3 0 open\nmember 4 0 open\nend\n",
-        ),
+        0,
         Is(b"numbers 5 patterns 0 classes 1 equal 0 open 4\n"),
+        (
+            "r",
+            Is(
+                b"diatest 1 1 1 5\nbudget 0 0 0\nsame 1 0 O ?\nsame 2 0 O ?\nsame 3 0 O ?\nsame 4 0 O ?\nclass 0 - -\nmember 0 0 rep\nmember 1 0 open\nmember 2 0 open\nmember 3 0 open\nmember 4 0 open\nend\n",
+            ),
+        ),
     ),
     (
-        b"INPUT(a)\n",
+        &[("n", b"INPUT(a)\n")],
         &["gen", "n", "r", "--cubes", "0"],
-        Is(
-            b"diatest 1 1 0 3\nbudget 4 0 2000\nsame 1 0 R ? ; 1\nsame 2 0 R ? ; 1\nclass 0 - -\nmember 0 0 rep\nmember 1 0 equal\nmember 2 0 equal\nend\n",
-        ),
+        0,
         Is(b"numbers 3 patterns 0 classes 1 equal 2 open 0\n"),
+        (
+            "r",
+            Is(
+                b"diatest 1 1 0 3\nbudget 4 0 2000\nsame 1 0 R ? ; 1\nsame 2 0 R ? ; 1\nclass 0 - -\nmember 0 0 rep\nmember 1 0 equal\nmember 2 0 equal\nend\n",
+            ),
+        ),
     ),
 ];
 
 #[test]
 fn results_of_small_circuits(rt: HostRuntime) -> Result<(), Fail> {
-    all_generate(&rt, rt.alloc(), &SMALL)
+    all_leave(&rt, rt.alloc(), 7, &SMALL)
 }
 
 const FIVE_BLOCKS: &[&str] = &[
@@ -120,63 +131,78 @@ const FIVE_BLOCKS: &[&str] = &[
 
 // Five blocks of the stream are two fills of the lanes, of which the second has one block: the kept vectors are those of a plain
 // evaluation of each fault at each vector, worked out outside.
-const KEPT: [Generating; 2] = [
+static KEPT: [Case; 2] = [
     (
-        C17,
+        &[("n", C17)],
         FIVE_BLOCKS,
-        Begins(
-            b"diatest 1 5 2 35\nbudget 5 0 0\npattern 00000\npattern 10000\npattern 01000\npattern 00100\npattern 10100\npattern 01100\npattern 01010\npattern 00110\npattern 01110\npattern 00001\npattern 00111\nsame ",
-        ),
+        0,
         Any,
+        (
+            "r",
+            Begins(
+                b"diatest 1 5 2 35\nbudget 5 0 0\npattern 00000\npattern 10000\npattern 01000\npattern 00100\npattern 10100\npattern 01100\npattern 01010\npattern 00110\npattern 01110\npattern 00001\npattern 00111\nsame ",
+            ),
+        ),
     ),
     (
-        S27,
+        &[("n", S27)],
         FIVE_BLOCKS,
-        Begins(
-            b"diatest 1 7 4 53\nbudget 5 0 0\npattern 0000001\npattern 1000001\npattern 0100001\npattern 0010000\npattern 1010001\npattern 0001001\npattern 1001000\npattern 0000101\npattern 0101100\npattern 0000011\npattern 1000010\npattern 0101010\npattern 0000110\npattern 0010010\nsame ",
-        ),
+        0,
         Any,
+        (
+            "r",
+            Begins(
+                b"diatest 1 7 4 53\nbudget 5 0 0\npattern 0000001\npattern 1000001\npattern 0100001\npattern 0010000\npattern 1010001\npattern 0001001\npattern 1001000\npattern 0000101\npattern 0101100\npattern 0000011\npattern 1000010\npattern 0101010\npattern 0000110\npattern 0010010\nsame ",
+            ),
+        ),
     ),
 ];
 
 #[test]
 fn kept_vectors_of_five_blocks(rt: HostRuntime) -> Result<(), Fail> {
-    all_generate(&rt, rt.alloc(), &KEPT)
+    all_leave(&rt, rt.alloc(), 7, &KEPT)
 }
 
 // Wires, c17, s27 and the parity circuit: the file's first lines, and the console's end.
-const KNOWN: [Generating; 4] = [
+static KNOWN: [Case; 4] = [
     (
-        b"INPUT(a)\nOUTPUT(a)\nOUTPUT(a)\n",
+        &[("n", b"INPUT(a)\nOUTPUT(a)\nOUTPUT(a)\n")],
         &["gen", "n", "r"],
-        Any,
+        0,
         Ends(b"numbers 7 patterns 2 classes 7 equal 0 open 0\n"),
+        ("r", Any),
     ),
     (
-        C17,
+        &[("n", C17)],
         &["gen", "n", "r"],
-        Any,
+        0,
         Ends(b"numbers 35 patterns 11 classes 23 equal 12 open 0\n"),
+        ("r", Any),
     ),
     (
-        S27,
+        &[("n", S27)],
         &["gen", "n", "r", "--cubes", "128"],
-        Begins(b"diatest 1 7 4 53\nbudget 4 128 2000\npattern 0000001\n"),
+        0,
         Ends(b" open 0\n"),
+        (
+            "r",
+            Begins(b"diatest 1 7 4 53\nbudget 4 128 2000\npattern 0000001\n"),
+        ),
     ),
     (
-        PARITY,
+        &[("n", PARITY)],
         &["gen", "n", "r", "--cubes", "512", "--conflicts", "0"],
-        Begins(b"diatest 1 9 1 67\nbudget 4 512 0\n"),
+        0,
         Ends(b" open 0\n"),
+        ("r", Begins(b"diatest 1 9 1 67\nbudget 4 512 0\n")),
     ),
 ];
 
 // Whether the run leaves what is wanted, and `check` accepts it.
-fn is_known(alloc: Global, case: &Generating) -> Result<bool, Fail> {
-    let (netlist, words, result, console) = *case;
-    let left = plain(alloc, &[("n", netlist)], words)?;
-    Ok(left.ended(0, console) && left.holds("r", result) && is_accepted(alloc, &left)?)
+fn is_known(alloc: Global, case: &Case) -> Result<bool, Fail> {
+    let (files, words, status, console, (name, file)) = *case;
+    let left = plain(alloc, files, words)?;
+    Ok(left.ended(status, console) && left.holds(name, file) && is_accepted(alloc, &left)?)
 }
 
 #[test]
@@ -212,36 +238,47 @@ fn is_left_open(file: &[u8]) -> bool {
     count(line, b'.') == 4 && line.contains(&b'?') && (groups == 1 || (!open && groups == 2))
 }
 
+// Whether the run leaves number 66 so, behind these first lines, and `check` accepts it.
+fn is_left(alloc: Global, left: &Left) -> Result<bool, Fail> {
+    let file = left.copy_of(alloc, "r")?;
+    let begins = left.holds("r", Begins(b"diatest 1 9 1 67\nbudget 4 4 1\n"));
+    Ok(left.ended(0, Any) && begins && is_left_open(&file) && is_accepted(alloc, left)?)
+}
+
 // Four closed cubes don't show that the output of the parity circuit is always 1: one learned clause is all that may be
 // found then, or a refutation.
 #[test]
 fn a_pair_that_the_search_leaves_open(rt: HostRuntime) -> Result<(), Fail> {
     let words = ["gen", "n", "r", "--cubes", "4", "--conflicts", "1"];
     let left = plain(rt.alloc(), &[("n", PARITY)], &words)?;
-    assert!(rt; left.ended(0, Any) && is_accepted(rt.alloc(), &left)?);
-    assert!(rt; left.holds("r", Begins(b"diatest 1 9 1 67\nbudget 4 4 1\n")));
-    assert!(rt; is_left_open(&left.copy_of(rt.alloc(), "r")?));
+    assert!(rt; is_left(rt.alloc(), &left)?);
     Ok(())
+}
+
+const MANY_BLOCKS: &[&str] = &[
+    "gen",
+    "n",
+    "r",
+    "--blocks",
+    "256",
+    "--cubes",
+    "0",
+    "--conflicts",
+    "0",
+];
+
+fn is_simulated(alloc: Global, netlist: &[u8]) -> Result<bool, AllocError> {
+    let left = left_by(alloc, 4096, &[], &[("n", netlist)], MANY_BLOCKS)?;
+    Ok(
+        left.ended(0, Begins(b"numbers 7203 "))
+            && left.holds("r", Begins(b"diatest 1 601 301 7203\nbudget 256 0 0\n")),
+    )
 }
 
 // A netlist of 1,200 gates at 16,384 vectors: a simulation of one vector and one fault at a time wouldn't end in the time of a test.
 #[test]
 fn results_of_a_large_netlist(rt: HostRuntime) -> Result<(), Fail> {
     let netlist = synth_text(rt.alloc(), 300)?;
-    let files = [("n", netlist.as_slice())];
-    let words = [
-        "gen",
-        "n",
-        "r",
-        "--blocks",
-        "256",
-        "--cubes",
-        "0",
-        "--conflicts",
-        "0",
-    ];
-    let left = left_by(rt.alloc(), 4096, &[], &files, &words)?;
-    assert!(rt; left.ended(0, Begins(b"numbers 7203 ")));
-    assert!(rt; left.holds("r", Begins(b"diatest 1 601 301 7203\nbudget 256 0 0\n")));
+    assert!(rt; is_simulated(rt.alloc(), &netlist)?);
     Ok(())
 }

@@ -6,7 +6,7 @@ use crate::tests::texts::{AND, C17, S27};
 use std::test::Fail;
 
 // A netlist, and what is printed.
-const LISTED: [(&[u8], Text<'static>); 6] = [
+static LISTED: [(&[u8], Text<'static>); 6] = [
     (
         AND,
         Is(

@@ -31,7 +31,7 @@ fn the_longest_netlist(rt: HostRuntime) -> Result<(), Fail> {
 }
 
 // A netlist, and why it is refused.
-const REFUSED: [(&[u8], &[u8]); 21] = [
+static REFUSED: [(&[u8], &[u8]); 21] = [
     (
         b"INPUT(a)\nOUTPUT(z)\nz=AND(a,b)\n",
         b"Undriven at byte 27, line 3",

@@ -3,6 +3,7 @@
 use dia_runs::run;
 use diag_shelf::MemoryShelf;
 use std::alloc::{AllocError, Global};
+use std::process::Abort;
 use std::test::Fail;
 
 /// What a file holds, or what is printed: no file; whatever there is; just this; so many bytes from the front of this; or this
@@ -36,10 +37,19 @@ fn is_like(text: &[u8], wanted: Text) -> bool {
 }
 
 /// What a run leaves: its status, and the shelf.
-#[derive(Drop)]
 pub(crate) struct Left {
     status: u8,
     shelf: MemoryShelf,
+}
+
+// Written out, it is one step in the proof of each test that lets a shelf go.
+impl Drop for Left {
+    fn drop(self) {
+        let Left {
+            status: _,
+            shelf: _,
+        } = self;
+    }
 }
 
 impl Left {
@@ -78,6 +88,13 @@ fn strings(alloc: Global, all: &[&str]) -> Result<Vec<String>, AllocError> {
     Ok(words)
 }
 
+fn put_all(shelf: &mut MemoryShelf, files: &[(&str, &[u8])]) -> Result<(), AllocError> {
+    for (name, bytes) in files {
+        shelf.put_file(*name, *bytes)?;
+    }
+    Ok(())
+}
+
 /// What a run leaves over a shelf that moves so many bytes at a time (one, for none), fails these calls, and holds these files.
 pub(crate) fn left_by(
     alloc: Global,
@@ -86,11 +103,9 @@ pub(crate) fn left_by(
     files: &[(&str, &[u8])],
     words: &[&str],
 ) -> Result<Left, AllocError> {
-    let mut shelf = MemoryShelf::new(alloc, chunk.max(1), failing.to_vec(alloc)?);
-    for (name, bytes) in files {
-        shelf.put_file(*name, *bytes)?;
-    }
     let words = strings(alloc, words)?;
+    let mut shelf = MemoryShelf::new(alloc, chunk.max(1), failing.to_vec(alloc)?);
+    put_all(&mut shelf, files)?;
     let status = run(alloc, &words, &mut shelf);
     Ok(Left { status, shelf })
 }
@@ -104,18 +119,36 @@ pub(crate) fn plain(
     left_by(alloc, 7, &[], files, words)
 }
 
-/// Whether such a run ends with this status, prints this, and leaves this file under a name.
-pub(crate) fn leaves(
-    alloc: Global,
-    files: &[(&str, &[u8])],
-    words: &[&str],
-    status: u8,
-    console: Text,
-    name: &str,
-    file: Text,
-) -> Result<bool, AllocError> {
-    let left = plain(alloc, files, words)?;
+/// A name, and what stands under it.
+pub(crate) type File = (&'static str, &'static [u8]);
+
+/// Files that a run is given, its words, the status, what is printed, and a name with what the file under it is like.
+pub(crate) type Case = (
+    &'static [File],
+    &'static [&'static str],
+    u8,
+    Text<'static>,
+    (&'static str, Text<'static>),
+);
+
+// Whether a run over a shelf that moves so many bytes at a time leaves what is wanted.
+fn leaves(alloc: Global, chunk: usize, case: &Case) -> Result<bool, AllocError> {
+    let (files, words, status, console, (name, file)) = *case;
+    let left = left_by(alloc, chunk, &[], files, words)?;
     Ok(left.ended(status, console) && left.holds(name, file))
+}
+
+/// Each run over a shelf that moves so many bytes at a time leaves what is wanted.
+pub(crate) fn all_leave(
+    rt: &impl Abort,
+    alloc: Global,
+    chunk: usize,
+    cases: &[Case],
+) -> Result<(), Fail> {
+    for (at, case) in cases.iter().enumerate() {
+        assert!(rt; leaves(alloc, chunk, case)?, "case {at}");
+    }
+    Ok(())
 }
 
 /// Whether `check` accepts the netlist `n` and the result `r` that a run left, with the counts that it printed.

@@ -4,6 +4,7 @@ use crate::tests::runs::Text::Is;
 use crate::tests::runs::{left_by, plain};
 use crate::tests::texts::{AND, TWICE};
 use std::alloc::{AllocError, Global};
+use std::process::Abort;
 use std::test::Fail;
 use word_sim::LANES;
 
@@ -11,7 +12,7 @@ use word_sim::LANES;
 type Simulating = (&'static [u8], &'static [u8], u8, &'static [u8]);
 
 // An AND at one vector; one too narrow; no vector; a line without LF; and a wire that is shown twice, at two vectors.
-const SIMULATED: [Simulating; 5] = [
+static SIMULATED: [Simulating; 5] = [
     (
         AND,
         b"11\n",
@@ -66,25 +67,37 @@ fn breaks_off(
     Ok(left.ended(status, Is(&console)))
 }
 
-// The netlist is opened by call 0 and read by calls 1 and 2, and the list by calls 3 to 5; call 6 prints the lines of a
-// block of vectors, all in one piece, and call 7 those of the last one.
-#[test]
-fn each_failing_print_leaves_the_blocks_before_it(rt: HostRuntime) -> Result<(), Fail> {
-    let mut list = Vec::new(rt.alloc());
-    for _ in 0..LANES + 1 {
+// A list of as many vectors 0.
+fn zeros(alloc: Global, count: u32) -> Result<Vec<u8>, AllocError> {
+    let mut list = Vec::new(alloc);
+    for _ in 0..count {
         list.extend_from_slice(b"0\n")?;
     }
-    for (call, status, count) in [
-        (2, 7, 0),
-        (5, 7, 0),
-        (6, 8, 0),
-        (7, 8, LANES),
-        (8, 0, LANES + 1),
-    ] {
+    Ok(list)
+}
+
+static BROKEN_OFF: [(u64, u8, u32); 5] = [
+    (2, 7, 0),
+    (5, 7, 0),
+    (6, 8, 0),
+    (7, 8, LANES),
+    (8, 0, LANES + 1),
+];
+
+fn all_break_off(rt: &impl Abort, alloc: Global, list: &[u8]) -> Result<(), Fail> {
+    for (call, status, count) in BROKEN_OFF {
         assert!(rt;
-            breaks_off(rt.alloc(), &list, call, status, count)?,
+            breaks_off(alloc, list, call, status, count)?,
             "call {call}"
         );
     }
     Ok(())
+}
+
+// The netlist is opened by call 0 and read by calls 1 and 2, and the list by calls 3 to 5; call 6 prints the lines of a
+// block of vectors, all in one piece, and call 7 those of the last one.
+#[test]
+fn each_failing_print_leaves_the_blocks_before_it(rt: HostRuntime) -> Result<(), Fail> {
+    let list = zeros(rt.alloc(), LANES + 1)?;
+    all_break_off(&rt, rt.alloc(), &list)
 }

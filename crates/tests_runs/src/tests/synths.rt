@@ -1,10 +1,10 @@
 //! Runs of `synth`.
 
 use crate::tests::runs::Text::{Absent, Any, Begins, Is};
-use crate::tests::runs::{is_accepted, plain};
-use dia_runs::synth_text;
-use std::alloc::Global;
+use crate::tests::runs::{Left, is_accepted, plain};
+use std::alloc::{AllocError, Global};
 use std::test::Fail;
+use synth_netlist::synth_text;
 
 // The netlist of 2, by the first two outputs of SplitMix64 from the seed 2.
 #[test]
@@ -16,19 +16,33 @@ fn a_netlist_of_two_cells(rt: HostRuntime) -> Result<(), Fail> {
 }
 
 // Whether a run of one name for both leaves the result in the place of the netlist, with the same console.
-fn replaces(alloc: Global, output: &[u8], console: &[u8]) -> Result<bool, Fail> {
-    let left = plain(alloc, &[], &["synth", "8", "r", "r"])?;
-    Ok(left.ended(0, Is(console)) && left.holds("r", Is(output)) && left.holds("n", Absent))
+fn replaces(alloc: Global, left: &Left) -> Result<bool, Fail> {
+    let output = left.copy_of(alloc, "r")?;
+    let again = plain(alloc, &[], &["synth", "8", "r", "r"])?;
+    Ok(
+        again.ended(0, Is(left.console()))
+            && again.holds("r", Is(&output))
+            && again.holds("n", Absent),
+    )
+}
+
+// Whether a run of two names leaves the netlist, and such a result.
+fn is_synthesized(alloc: Global, left: &Left) -> Result<bool, AllocError> {
+    let netlist = synth_text(alloc, 8)?;
+    Ok(
+        left.ended(0, Any)
+            && left.holds("n", Is(&netlist))
+            && left.holds("r", Begins(b"diatest 1 17 9 195\nbudget 4 16 100\n")),
+    )
+}
+
+fn is_right(alloc: Global, left: &Left) -> Result<bool, Fail> {
+    Ok(is_synthesized(alloc, left)? && is_accepted(alloc, left)? && replaces(alloc, left)?)
 }
 
 #[test]
 fn results_of_a_netlist_by_number(rt: HostRuntime) -> Result<(), Fail> {
     let left = plain(rt.alloc(), &[], &["synth", "8", "n", "r"])?;
-    let netlist = synth_text(rt.alloc(), 8)?;
-    assert!(rt; left.ended(0, Any) && left.holds("n", Is(&netlist)));
-    assert!(rt; left.holds("r", Begins(b"diatest 1 17 9 195\nbudget 4 16 100\n")));
-    assert!(rt; is_accepted(rt.alloc(), &left)?);
-    let result = left.copy_of(rt.alloc(), "r")?;
-    assert!(rt; replaces(rt.alloc(), &result, left.console())?);
+    assert!(rt; is_right(rt.alloc(), &left)?);
     Ok(())
 }

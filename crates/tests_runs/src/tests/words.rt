@@ -5,7 +5,7 @@ use crate::tests::runs::plain;
 use std::alloc::{AllocError, Global};
 use std::test::Fail;
 
-const WRONG: [&[&str]; 30] = [
+static WRONG: [&[&str]; 30] = [
     &[],
     &["generate", "n", "r"],
     &["gen", "n"],
@@ -57,7 +57,7 @@ fn words_that_are_not_understood(rt: HostRuntime) -> Result<(), Fail> {
 }
 
 // Options stand before, between and behind the names, and numbers may have zeros or a sign before them.
-const TAKEN: [(&[&str], &[u8]); 9] = [
+static TAKEN: [(&[&str], &[u8]); 9] = [
     (&["gen", "--cubes", "8", "n", "r"], b"budget 4 8 2000\n"),
     (&["gen", "n", "r", "--cubes", "8"], b"budget 4 8 2000\n"),
     (

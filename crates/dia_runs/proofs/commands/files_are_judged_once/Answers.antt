@@ -1,4 +1,4 @@
-use Rattle.dia_runs.proofs.NetlistLemmas.{HasLaws, clear}
+use Rattle.dia_runs.proofs.Judged.{HasLaws, clear}
 use Rattle.dia_runs.proofs.commands.files_are_judged_once.Goals as goal
 
 pub returns : goal.returns

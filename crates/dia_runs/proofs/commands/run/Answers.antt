@@ -1,6 +1,7 @@
-use Rattle.dia_runs.proofs.NetlistLemmas.{EvidenceLaws}
+use Rattle.dia_runs.proofs.Judged.{EvidenceLaws}
+use Rattle.dia_commands.proofs.NetlistLemmas.{never_with_text}
 use Rattle.dia_runs.proofs.Clauses.{words_of, not_understood_of, keeps_unless_done, made_of, checked_of, synth_made, faults_of, decided_by_files, keeps_refused, is_complete}
-use Rattle.dia_runs.proofs.SimLemmas.{simulated_of}
+use Rattle.dia_runs.proofs.SimulationClauses.{simulated_of}
 use Rattle.dia_runs.proofs.DictionaryClauses.{dictionary_made, converted_of, diagnosed_of, diagnoses_alike}
 use Rattle.dia_runs.proofs.commands.run.Goals as goal
 
@@ -52,3 +53,6 @@ returns-clause-diagnosed g c = λ told. diagnosed_of (c.dispatch.ensures.done to
 
 pub returns-clause-alike : goal.returns-clause-alike
 returns-clause-alike g c = diagnoses_alike c.dictionary_is_read_once.ensures.wrong c.dictionary_is_read_once.ensures.dictionary
+
+pub returns-clause-numbers : goal.returns-clause-numbers
+returns-clause-numbers g c = λ n console small refused. never_with_text (c.no_number_is_refused.ensures n small) refused

@@ -1,0 +1,10 @@
+pub mod Runs
+pub mod Followed
+pub mod ReadLemmas
+pub mod NetlistLemmas
+pub mod Refusals
+pub mod Generated
+pub mod SimLemmas
+pub mod MadeLemmas
+pub mod FullApart
+pub mod MostApart

@@ -1,0 +1,80 @@
+-- What a valid result gives for a dictionary at its patterns.
+use Rattle.std.proofs.Common.{◌≡◌, ◌∙◌, ◌+◌, ◌<◌, Bool, List, [], ◌∷◌, ◌++◌, Result, length, length-append, take, refl, sym, subst, arith}
+use Rattle.std.specs.Prelude.{All, IfOk}
+use Rattle.std.proofs.lemmas.List.{append_assoc, append-nil, get_or-append-add}
+use Rattle.std.proofs.Math.Seq.{take-append-add}
+use Rattle.std.proofs.lemmas.List.Elements.{All-nil, All-cons}
+use Rattle.std.proofs.lemmas.Result.{IfOk-weaker}
+use Rattle.net_model.specs.Circuit.{Circuit}
+use Rattle.net_model.specs.FaultList.{fault_count}
+use Rattle.net_model.specs.ClassTable.{ClassTable}
+use Rattle.net_model.specs.PatternRows.{IsTableOf}
+use Rattle.result_file.specs.declared.record.Record.{Record}
+use Rattle.result_file.specs.declared.record.Record.TheVariants.{Pattern, End}
+use Rattle.result_file.specs.Marks.{patterns_in}
+use Rattle.result_file.specs.Valid.{IsValid, AreRightLines, record_at}
+use Rattle.result_file.specs.Lines.{IsRightLine}
+use Rattle.kept_vectors.proofs.KeepLemmas.{table_numbers}
+use Rattle.table_dicts.specs.declared.dict.Dict.{Dict}
+use Rattle.table_dicts.specs.AnswerTable.{Answers, AreAnswers}
+use Rattle.table_dicts.specs.Dictionary.{IsGroupedDict, IsShaped}
+use Rattle.request_words.specs.declared.request.EntryKind.{EntryKind}
+use Rattle.request_words.specs.declared.request.EntryKind.TheVariants.{PassFail, Full, SameDiff}
+use Rattle.dia_commands.specs.Dictionaries.{IsOfPatterns, IsOfAnswers}
+
+-- ---- the patterns of a valid result are as wide as the circuit
+
+module _ {c : Circuit} {all : List Record} (right : AreRightLines c all) where
+  -- a record behind others is right behind them
+  right_behind : (before : List Record) (r : Record) (rest : List Record) → all ≡ before ++ r ∷ rest → IsRightLine c before r
+  right_behind before r rest e =
+      let lines : AreRightLines c (before ++ r ∷ rest) = subst (AreRightLines c) e right in
+      let at = length before + 0 in
+      let below : at < length (before ++ r ∷ rest) = omega (arith, length-append before (r ∷ rest)) in
+      let front : take at (before ++ r ∷ rest) ≡ before = take-append-add before (r ∷ rest) 0 ∙ append-nil before in
+      let here : record_at (before ++ r ∷ rest) at ≡ r = get_or-append-add before (r ∷ rest) 0 End in
+      rw (front, here) at (lines.right at below)
+
+  widths_from : (before rest : List Record) → all ≡ before ++ rest → All (λ v. length v ≡ c.sources) (patterns_in rest)
+  widths_from before [] e = All-nil (λ v. length v ≡ c.sources)
+  widths_from before (Pattern bits ∷ rest) e =
+      let line = right_behind before (Pattern bits) rest e in
+      All-cons (λ v. length v ≡ c.sources) bits (patterns_in rest) line.content.width (widths_from (before ++ Pattern bits ∷ []) rest (e ∙ sym (append_assoc before (Pattern bits ∷ []) rest)))
+  widths_from before (r ∷ rest) e = widths_from (before ++ r ∷ []) rest (e ∙ sym (append_assoc before (r ∷ []) rest))
+
+pub valid_widths : {c : Circuit} {records : List Record} → IsValid c records → All (λ v. length v ≡ c.sources) (patterns_in records)
+valid_widths {c} {records} valid = widths_from valid.lines [] records refl
+
+-- ---- the dictionary of a kind
+
+-- the answers whose classes a table has
+abbrev pub answers_of_table : {c : Circuit} {patterns : List (List Bool)} {t : ClassTable} → IsTableOf c patterns t → Answers
+answers_of_table {c} {patterns} {t} is = record { numbers = fault_count c; positions = length c.positions; rows = is.rows }
+
+pub are_answers : {c : Circuit} {patterns : List (List Bool)} {t : ClassTable} (is : IsTableOf c patterns t) → AreAnswers c patterns (answers_of_table is)
+are_answers {c} {patterns} {t} is = record { numbers = refl; positions = refl; rows = is.answers }
+
+of_patterns : {c : Circuit} {patterns : List (List Bool)} {t : ClassTable} (kind : EntryKind) {d : Dict} → IsTableOf c patterns t → ((answers : Answers) → AreAnswers c patterns answers → IsOfAnswers kind t answers d) → IsOfPatterns c kind patterns t d
+of_patterns {c} {patterns} {t} kind {d} is made = record { answers = answers_of_table is; are = are_answers is; is = made (answers_of_table is) (are_answers is) }
+
+-- a dictionary that has what any answers of a kind make is one of that kind, where it was asked for
+pub kind_made : {c : Circuit} {patterns : List (List Bool)} {t : ClassTable} {asked kind : EntryKind} {E : Type 0} (made : Result Dict E) → asked ≡ kind → IsTableOf c patterns t → IfOk made (λ (d : Dict). (answers : Answers) → AreAnswers c patterns answers → IsOfAnswers kind t answers d) → IfOk made (IsOfPatterns c asked patterns t)
+kind_made {c} {patterns} {t} {asked} {kind} {E} made is table of_answers =
+    subst (λ (k : EntryKind). IfOk made (IsOfPatterns c k patterns t)) (sym is)
+    (IfOk-weaker made (λ (d : Dict). (answers : Answers) → AreAnswers c patterns answers → IsOfAnswers kind t answers d) (IsOfPatterns c kind patterns t) (λ d all. of_patterns kind table all) of_answers)
+
+grouped_by : (kind : EntryKind) (t : ClassTable) (answers : Answers) (d : Dict) → IsOfAnswers kind t answers d → IsGroupedDict d × IsShaped d × (d.numbers ≡ answers.numbers)
+grouped_by PassFail t answers d is = (is.grouped, is.shaped, is.numbers_are)
+grouped_by Full t answers d is = (is.grouped, is.shaped, is.numbers_are)
+grouped_by SameDiff t answers d is = (is.grouped, is.shaped, is.numbers_are)
+
+module _ {c : Circuit} {kind : EntryKind} {patterns : List (List Bool)} {t : ClassTable} {d : Dict} (is : IsOfPatterns c kind patterns t d) where
+  pub grouped_of : IsGroupedDict d
+  grouped_of = (grouped_by kind t is.answers d is.is).0
+
+  pub shaped_of : IsShaped d
+  shaped_of = (grouped_by kind t is.answers d is.is).1
+
+  -- the numbers of its classes are those of the dictionary
+  pub numbers_of : IsTableOf c patterns t → length t.class_of ≡ d.numbers
+  numbers_of table = table_numbers table ∙ (sym is.are.numbers ∙ sym (grouped_by kind t is.answers d is.is).2)

@@ -1,0 +1,74 @@
+-- What was read of a file is all of it, or one byte more than the limit; and what is judged of that is judged of the file.
+use Rattle.std.proofs.Common.{◌≡◌, ℕ, ◌+◌, ◌≤◌, ◌<◌, Bool, List, length, length-take, ap, subst, ◌∙◌, inl, inr, arith}
+use Rattle.std.specs.Prelude.{◌==◌}
+use Rattle.std.specs.List.{count_by}
+use Rattle.std.proofs.lemmas.Bool.{cases_lt}
+use Rattle.std.proofs.lemmas.List.{take_all, take-take}
+use Rattle.diag_shelf.specs.Calls.{read_of}
+use Rattle.net_model.specs.Circuit.{Circuit}
+use Rattle.table_dicts.specs.declared.dict.Dict.{Dict}
+use Rattle.dict_file.specs.declared.fault.DictFault.{DictFault}
+use Rattle.dict_file.specs.Spelling.{IsFileOf}
+use Rattle.dict_file.specs.Reading.{IsRefusedBy}
+use Rattle.diagnose.specs.declared.fault.LogKind.{LogKind}
+use Rattle.diagnose.specs.Lines.{LineForm, RestRule, TextRefused, too_long, at_line, line_of}
+use Rattle.request_words.specs.Request.{Text}
+use Rattle.dia_commands.specs.Dictionaries.{IsDictionaryFile, IsRefusedDictionary}
+use Rattle.dia_commands.specs.Logs.{IsRefusedBySome, IsLogFor, IsListFor}
+
+pub read_whole : (limit : ℕ) (all : List ℕ) → length all ≤ limit → read_of limit all ≡ all
+read_whole limit all h = take_all (limit + 1) all (omega arith)
+
+pub long_read : (limit : ℕ) (all bytes : Text) → bytes ≡ read_of limit all → limit < length all → length bytes ≤ limit → ⊥
+long_read limit all bytes e long short = omega (arith, short, ap length e, length-take (limit + 1) all)
+
+-- what is said of bytes that are no more than the limit is said of the file
+said_of_file : {limit : ℕ} {all bytes : Text} (Said : Text → Type 0) → (Said bytes → length bytes ≤ limit) → bytes ≡ read_of limit all → Said bytes → Said all
+said_of_file {limit} {all} {bytes} Said few e is = elim (cases_lt limit (length all)) [
+  | inl long ↦ absurd (long_read limit all bytes e long (few is))
+  | inr short ↦ subst Said (e ∙ read_whole limit all short) is
+]
+
+-- ---- dictionaries
+
+pub dictionary_read : {all bytes : Text} {d : Dict} → bytes ≡ read_of 1099511627776 all → IsDictionaryFile bytes d → IsDictionaryFile all d
+dictionary_read {all} {bytes} {d} e is = said_of_file (IsFileOf d) (λ (file : IsFileOf d bytes). file.1.short) e is
+
+refused_long : {all bytes : Text} {fault : DictFault} → bytes ≡ read_of 1099511627776 all → 1099511627776 < length all → IsRefusedBy bytes fault → IsRefusedBy all fault
+refused_long {all} {bytes} {fault} e long is = elim is.refused [
+  | inl over ↦ record { refused = inl (λ short. omega (arith, long, short), over.1) }
+  | inr rest ↦ absurd (long_read 1099511627776 all bytes e long rest.0)
+]
+
+refused_of : {all bytes : Text} {fault : DictFault} → bytes ≡ read_of 1099511627776 all → IsRefusedBy bytes fault → IsRefusedBy all fault
+refused_of {all} {bytes} {fault} e refused = elim (cases_lt 1099511627776 (length all)) [
+  | inl long ↦ refused_long e long refused
+  | inr short ↦ subst (λ (b : Text). IsRefusedBy b fault) (e ∙ read_whole 1099511627776 all short) refused
+]
+
+pub refused_dictionary_read : {all bytes console : Text} → bytes ≡ read_of 1099511627776 all → IsRefusedDictionary bytes console → IsRefusedDictionary all console
+refused_dictionary_read {all} {bytes} {console} e is = record { fault = is.fault; refused = refused_of e is.refused; place = is.place; rule_is = is.rule_is; console_is = is.console_is }
+
+-- ---- texts of lines
+
+-- the line of a byte up to which all was read
+line_read : (byte : ℕ) (all : Text) → line_of (read_of byte all) byte ≡ line_of all byte
+line_read byte all = ap (λ (text : Text). count_by (λ b. b == 10) text + 1) (take-take byte (byte + 1) all (omega arith))
+
+text_read : {line : LineForm} {width : ℕ} {Rest : RestRule} {all bytes : Text} {kind : LogKind} {number : ℕ} → bytes ≡ read_of 1073741824 all → TextRefused line width Rest bytes kind number → TextRefused line width Rest all kind number
+text_read {line} {width} {Rest} {all} {bytes} {kind} {number} e refused = elim (cases_lt 1073741824 (length all)) [
+  | inl long ↦ elim refused [
+    | too_long over is at ↦ too_long long is (at ∙ ap (λ (t : Text). line_of t 1073741824) e ∙ line_read 1073741824 all)
+    | at_line rows rest short wide text wrong at ↦ absurd (long_read 1073741824 all bytes e long short)
+  ]
+  | inr short ↦ subst (λ (b : Text). TextRefused line width Rest b kind number) (e ∙ read_whole 1073741824 all short) refused
+]
+
+pub refused_text_read : {line : LineForm} {width : ℕ} {Rest : RestRule} {all bytes console : Text} → bytes ≡ read_of 1073741824 all → IsRefusedBySome (TextRefused line width Rest bytes) console → IsRefusedBySome (TextRefused line width Rest all) console
+refused_text_read {line} {width} {Rest} {all} {bytes} {console} e is = record { kind = is.kind; line = is.line; refused = text_read e is.refused; console_is = is.console_is }
+
+pub log_read : (d : Dict) {all bytes : Text} {observed : List (List Bool)} → bytes ≡ read_of 1073741824 all → IsLogFor d bytes observed → IsLogFor d all observed
+log_read d {all} {bytes} {observed} e is = said_of_file (λ (b : Text). IsLogFor d b observed) (λ (log : IsLogFor d bytes observed). log.short) e is
+
+pub list_read : (c : Circuit) {all bytes : Text} {vectors : List (List Bool)} → bytes ≡ read_of 1073741824 all → IsListFor c bytes vectors → IsListFor c all vectors
+list_read c {all} {bytes} {vectors} e is = said_of_file (λ (b : Text). IsListFor c b vectors) (λ (list : IsListFor c bytes vectors). list.short) e is

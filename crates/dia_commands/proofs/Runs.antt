@@ -1,0 +1,276 @@
+-- From what the last steps of a run do to what the whole run promises.
+use Rattle.std.proofs.Common.{◌≡◌, ◌≢◌, ℕ, Bool, true, false, ◌<◌, ◌≤◌, ◌⊎◌, List, [], ◌∷◌, ◌++◌, take, length, Option, Some, None, Result, Ok, Err, refl, sym, ap, subst, ◌∙◌, inl, inr, arith, zero-le, IsTrue}
+use Rattle.std.specs.FinMap.{get, insert}
+use Rattle.diag_shelf.specs.World.{Files, World, State, appended}
+use Rattle.diag_shelf.specs.declared.shelf.ShelfFault.{ShelfFault}
+use Rattle.diag_shelf.specs.declared.shelf.ShelfFault.TheVariants.{Failed, NoMemory}
+use Rattle.std.proofs.Math.Nat.{le_refl}
+use Rattle.std.proofs.lemmas.List.{append-nil, take_all}
+use Rattle.diag_shelf.specs.Calls.{Told, OfSome, Same, SameFacts, OnlyReads, Creates, Writes, Prints, IsReadCall, IsWriteCall}
+use Rattle.diag_shelf.proofs.FileMaps.{get_off_insert, insert_again, held_at_insert}
+use Rattle.request_words.specs.Request.{Text}
+use Rattle.dia_commands.specs.Outcome.{Outcome, IsCut, IsPartOf, Leaves, after_made, written_after, said, saved}
+use Rattle.dia_commands.specs.Plan.{Plan, CallsFor, MayLeave}
+use Rattle.dia_commands.specs.Ran.{IsAmong, Stays, Ends, Follows}
+use Rattle.dia_commands.specs.Steps.{IsWriteStatus}
+
+-- all files of the outcome have these names
+abbrev pub MadeAmong : List (Text × List ℕ) → List Text → Type 0
+MadeAmong [] names = Unit {0}
+MadeAmong (m ∷ made) names = IsAmong m.0 names × MadeAmong made names
+
+-- a run may break off
+pub record MayBreak (statuses : List ℕ) : Type 0 where
+  pub write : IsAmong 8 statuses
+  pub memory : IsAmong 9 statuses
+
+-- an outcome that a run may have which answers one of these statuses and makes files of these names
+pub record Fits (statuses : List ℕ) (outputs : List Text) (o : Outcome) (Part : List (Text × List ℕ) → List ℕ → Type 0) : Type 0 where
+  pub below : o.status < 7
+  pub answers : IsAmong o.status statuses
+  pub breaks : MayBreak statuses
+  pub names : (made : List (Text × List ℕ)) (text : List ℕ) → Part made text → MadeAmong made outputs
+
+pub not_broken : (status : ℕ) → status < 8 → (status ≡ 8) ⊎ (status ≡ 9) → ⊥
+not_broken status low (inl e) = omega arith
+not_broken status low (inr e) = omega arith
+
+-- ---- what stays
+
+pub stays_same : (a : State) → Stays a a
+stays_same a = record { tells = refl; sure = refl; reads = le_refl a.read_faults; writes = le_refl a.write_faults }
+
+pub stays_then : {a b c : State} → Stays a b → Stays b c → Stays a c
+stays_then s t = record { tells = t.tells ∙ s.tells; sure = t.sure ∙ s.sure; reads = omega (arith, s.reads, t.reads); writes = omega (arith, s.writes, t.writes) }
+
+pub stays_facts : {a b : State} → SameFacts a b → Stays a b
+stays_facts s = record { tells = s.tells; sure = s.sure; reads = omega (arith, s.reads); writes = omega (arith, s.writes) }
+
+pub stays_read : {T : Type 0} {r : Result T ShelfFault} {a b : State} → IsReadCall r a b → Stays a b
+stays_read call = record { tells = call.tells; sure = call.sure; reads = call.later; writes = omega (arith, call.writes) }
+
+pub stays_written : {T : Type 0} {r : Result T ShelfFault} {a b : State} → IsWriteCall r a b → Stays a b
+stays_written call = record { tells = call.tells; sure = call.sure; reads = omega (arith, call.reads); writes = call.later }
+
+-- ---- files
+
+apart : (name x : Text) (names : List Text) → IsAmong x names → ¬ IsAmong name names → name ≢ x
+apart name x names among off e = off (subst (λ (n : Text). IsAmong n names) (sym e) among)
+
+others_after : (made : List (Text × List ℕ)) (names : List Text) (files : Files) (name : Text) → MadeAmong made names → ¬ IsAmong name names → get (after_made made files) name ≡ get files name
+others_after [] names files name among off = refl
+others_after (m ∷ made) names files name among off =
+    others_after made names (insert files m.0 m.1) name among.1 off ∙ get_off_insert files m.0 m.1 name (apart name m.0 names among.0 off)
+
+-- the files of a part have the names of the whole
+pub cut_among : (cut whole : List (Text × List ℕ)) (names : List Text) → IsCut cut whole → MadeAmong whole names → MadeAmong cut names
+cut_among [] whole names cut among = tt
+cut_among (c ∷ cs) [] names cut among = absurd cut
+cut_among (c ∷ []) (m ∷ whole) names cut among = (subst (λ (n : Text). IsAmong n names) (sym cut.0) among.0, tt)
+cut_among (c ∷ d ∷ cs) (m ∷ whole) names cut among =
+    (subst (λ (n : Text × List ℕ). IsAmong n.0 names) (sym cut.0) among.0, cut_among (d ∷ cs) whole names cut.1 among.1)
+
+pub leaves_moved : {made : List (Text × List ℕ)} {text : List ℕ} {u v w : World} → OnlyReads u v → Leaves made text v w → Leaves made text u w
+leaves_moved {made} {text} only l = record { files = l.files ∙ ap (after_made made) only.files; written = l.written ∙ ap (written_after made) only.written; console = l.console ∙ ap (λ (x : List ℕ). x ++ text) only.console }
+
+-- what was read before doesn't matter
+pub ends_moved : {o : Outcome} {Part : List (Text × List ℕ) → List ℕ → Type 0} {status : ℕ} {a b c : State} → SameFacts a b → Told a b OnlyReads → Ends o Part status b c → Ends o Part status a c
+ends_moved {o} {Part} {status} {a} {b} {c} s r e = record {
+  stays = stays_then (stays_facts s) e.stays;
+  reads = e.reads ∙ s.reads;
+  answered = e.answered;
+  write_fault = λ h. omega (arith, e.write_fault h, s.writes);
+  writes_failed = λ h. e.writes_failed (omega (arith, s.writes));
+  whole = λ h told. leaves_moved (r told) (e.whole h (s.tells ∙ told));
+  part = λ told. let l = e.part (s.tells ∙ told) in (l.0, l.1, l.2, leaves_moved (r told) l.3);
+  sure = λ h. e.sure (s.sure ∙ h) ∙ s.writes;
+}
+
+-- bytes that are written to a new file are the file
+pub written_anew : (files : Files) (name bytes : List ℕ) → appended (Some name) (insert files name []) bytes ≡ insert files name bytes
+written_anew files name [] = refl
+written_anew files name (b ∷ bytes) =
+    insert_again files name [] _ ∙ ap (λ (h : List ℕ). insert files name (h ++ b ∷ bytes)) (held_at_insert files name [])
+
+made_anew : {name bytes : List ℕ} {a b c : World} → Creates name a b → Writes bytes b c → c.files ≡ insert a.files name bytes
+made_anew {name} {bytes} {a} {b} {c} created w =
+    w.files ∙ ap (λ (o : Option (List ℕ)). appended o b.files bytes) created.written ∙ ap (λ (f : Files). appended (Some name) f bytes) created.files ∙ written_anew a.files name bytes
+
+leaves_after : {name bytes text : List ℕ} {made : List (Text × List ℕ)} {a b c d : World} → Creates name a b → Writes bytes b c → Leaves made text c d → Leaves ((name, bytes) ∷ made) text a d
+leaves_after {name} {bytes} {text} {made} k w l = record {
+  files = l.files ∙ ap (after_made made) (made_anew k w);
+  written = l.written ∙ ap (written_after made) (w.written ∙ k.written);
+  console = l.console ∙ ap (λ (s : List ℕ). s ++ text) (w.console ∙ k.console);
+}
+
+pub status_of : (fault : ShelfFault) (status : ℕ) → IsWriteStatus fault status → (status ≡ 8) ⊎ (status ≡ 9)
+status_of Failed status h = inl (h.failed refl)
+status_of NoMemory status h = inr (h.memory refl)
+
+failed_of : (fault : ShelfFault) (status : ℕ) → IsWriteStatus fault status → status ≡ 8 → fault ≡ Failed
+failed_of Failed status h e = refl
+failed_of NoMemory status h e = let n = h.memory refl in absurd (omega arith)
+
+pub not_done : (status : ℕ) → (status ≡ 8) ⊎ (status ≡ 9) → status ≡ 0 → ⊥
+not_done status (inl a) z = omega arith
+not_done status (inr a) z = omega arith
+
+apart_from : (meant status : ℕ) → meant < 7 → (status ≡ 8) ⊎ (status ≡ 9) → status ≡ meant → ⊥
+apart_from meant status lt (inl a) z = omega arith
+apart_from meant status lt (inr a) z = omega arith
+
+still : {T : Type 0} (fault : ShelfFault) (a b : State) → IsWriteCall {T = T} (Err fault) a b → IsTrue a.sure → ¬ (fault ≡ Failed) → b.write_faults ≡ a.write_faults
+still Failed a b call s n = absurd (n refl)
+still NoMemory a b call s n = call.memory s refl
+
+-- a text was said
+pub ends_said : {T : Type 0} {x : T} {status : ℕ} {text : List ℕ} {a b : State} → status < 7 → IsWriteCall (Ok x) a b → Told a b (Prints text) → Ends (said status text) (IsPartOf (said status text)) status a b
+ends_said {T} {x} {status} {text} {a} {b} below call printed = record {
+  stays = stays_written call;
+  reads = call.reads;
+  answered = inl refl;
+  write_fault = λ e. absurd (omega arith);
+  writes_failed = λ h. absurd (omega (arith, call.ok));
+  whole = λ e told. let p = printed told in record { files = p.files; written = p.written; console = p.console };
+  part = λ told.
+      let p = printed told in
+      ([], text, record { files = tt; console = (length text, le_refl (length text), sym (take_all (length text) text (le_refl (length text)))); order = λ _. refl }, record { files = p.files; written = p.written; console = p.console });
+  sure = λ s. call.ok;
+}
+
+-- a beginning of a text was said
+pub ends_said_part : {T : Type 0} {fault : ShelfFault} {meant status : ℕ} {text : List ℕ} {a b : State} → meant < 7 → IsWriteCall {T = T} (Err fault) a b → Told a b (OfSome Prints text) → (IsTrue a.sure → fault ≡ Failed → ⊥) → IsWriteStatus fault status → Ends (said meant text) (IsPartOf (said meant text)) status a b
+ends_said_part {T} {fault} {meant} {status} {text} {a} {b} below call printed never is = record {
+  stays = stays_written call;
+  reads = call.reads;
+  answered = inr (status_of fault status is);
+  write_fault = λ e. call.failed (ap Err (failed_of fault status is e));
+  writes_failed = λ _. status_of fault status is;
+  whole = λ e. absurd (apart_from meant status below (status_of fault status is) e);
+  part = λ told.
+      let p = printed told in
+      ([], take p.0 text, record { files = tt; console = (p.0, p.1, refl); order = λ _. refl }, record { files = p.2.files; written = p.2.written; console = p.2.console });
+  sure = λ s. still fault a b call s (never s);
+}
+
+-- no file was made
+pub ends_unmade : {T : Type 0} {fault : ShelfFault} {whole : List (Text × List ℕ)} {text : List ℕ} {Part : List (Text × List ℕ) → List ℕ → Type 0} {status : ℕ} {a b : State} → Part [] [] → IsWriteCall {T = T} (Err fault) a b → Told a b Same → (IsTrue a.sure → fault ≡ Failed → ⊥) → IsWriteStatus fault status → Ends (saved whole text) Part status a b
+ends_unmade {T} {fault} {whole} {text} {Part} {status} {a} {b} none call same never is = record {
+  stays = stays_written call;
+  reads = call.reads;
+  answered = inr (status_of fault status is);
+  write_fault = λ e. call.failed (ap Err (failed_of fault status is e));
+  writes_failed = λ _. status_of fault status is;
+  whole = λ e. absurd (not_done status (status_of fault status is) e);
+  part = λ told. let p = same told in ([], [], none, record { files = p.files; written = p.written; console = p.console ∙ sym (append-nil a.world.console) });
+  sure = λ s. still fault a b call s (never s);
+}
+
+-- a new file was made, and a part of it was written
+pub ends_cut : {T U : Type 0} {x : T} {fault : ShelfFault} {name : Text} {whole : List (Text × List ℕ)} {text : List ℕ} {Part : List (Text × List ℕ) → List ℕ → Type 0} {status : ℕ} {a b c : State} → (IsTrue b.sure → IsTrue b.tells) → IsWriteCall (Ok x) a b → Told a b (Creates name) → IsWriteCall {T = U} (Err fault) b c → Told b c (λ u v. (part : List ℕ) × Part ((name, part) ∷ []) [] × Writes part u v) → (IsTrue b.sure → fault ≡ Failed → b.world.written ≡ None) → IsWriteStatus fault status → Ends (saved whole text) Part status a c
+ends_cut {T} {U} {x} {fault} {name} {whole} {text} {Part} {status} {a} {b} {c} law made created wrote cut absent is = record {
+  stays = stays_then (stays_written made) (stays_written wrote);
+  reads = wrote.reads ∙ made.reads;
+  answered = inr (status_of fault status is);
+  write_fault = λ e. omega (arith, wrote.failed (ap Err (failed_of fault status is e)), made.ok);
+  writes_failed = λ _. status_of fault status is;
+  whole = λ e. absurd (not_done status (status_of fault status is) e);
+  part = λ told.
+      let k = created told in
+      let w = cut (made.tells ∙ told) in
+      ((name, w.0) ∷ [], [], w.1, record { files = made_anew k w.2; written = w.2.written ∙ k.written; console = w.2.console ∙ k.console ∙ sym (append-nil a.world.console) });
+  sure = λ s.
+      let sb = made.sure ∙ s in
+      let none : fault ≡ Failed → ⊥ = λ e. let w = absent sb e in let k = (created (sym made.tells ∙ law sb)).written in cc in
+      still fault b c wrote sb none ∙ made.ok;
+}
+
+-- a new file was made whole before the rest was done
+pub ends_after : {T U : Type 0} {x : T} {y : U} {name bytes text : List ℕ} {made : List (Text × List ℕ)} {Part Whole : List (Text × List ℕ) → List ℕ → Type 0} {status : ℕ} {a b c d : State} → (IsTrue a.tells → (m : List (Text × List ℕ)) (t : List ℕ) → Part m t → Whole ((name, bytes) ∷ m) t) → IsWriteCall (Ok x) a b → Told a b (Creates name) → IsWriteCall (Ok y) b c → Told b c (Writes bytes) → Ends (saved made text) Part status c d → Ends (saved ((name, bytes) ∷ made) text) Whole status a d
+ends_after {T} {U} {x} {y} {name} {bytes} {text} {made} {Part} {Whole} {status} {a} {b} {c} {d} parts create created write written e = record {
+  stays = stays_then (stays_written create) (stays_then (stays_written write) e.stays);
+  reads = e.reads ∙ write.reads ∙ create.reads;
+  answered = e.answered;
+  write_fault = λ h. omega (arith, e.write_fault h, write.ok, create.ok);
+  writes_failed = λ h. e.writes_failed (omega (arith, write.ok, create.ok));
+  whole = λ h told. leaves_after (created told) (written (create.tells ∙ told)) (e.whole h (write.tells ∙ create.tells ∙ told));
+  part = λ told.
+      let l = e.part (write.tells ∙ create.tells ∙ told) in
+      ((name, bytes) ∷ l.0, l.1, parts told l.0 l.1 l.2, leaves_after (created told) (written (create.tells ∙ told)) l.3);
+  sure = λ s. e.sure (write.sure ∙ create.sure ∙ s) ∙ write.ok ∙ create.ok;
+}
+
+-- a file that is whole comes before what is cut
+pub cut_after : (name : Text) (bytes : List ℕ) (made whole : List (Text × List ℕ)) → IsCut made whole → IsCut ((name, bytes) ∷ made) ((name, bytes) ∷ whole)
+cut_after name bytes [] whole cut = (refl, (length bytes, le_refl (length bytes), sym (take_all (length bytes) bytes (le_refl (length bytes)))))
+cut_after name bytes (m ∷ made) whole cut = (refl, cut)
+
+pub part_after : (name : Text) (bytes text : List ℕ) (whole made : List (Text × List ℕ)) (t : List ℕ) → IsPartOf (saved whole text) made t → IsPartOf (saved ((name, bytes) ∷ whole) text) ((name, bytes) ∷ made) t
+part_after name bytes text whole made t part = record {
+  files = cut_after name bytes made whole part.files;
+  console = part.console;
+  order = λ some. ap (λ (m : List (Text × List ℕ)). (name, bytes) ∷ m) (part.order some);
+}
+
+-- no file, or a file of which a beginning was written, is a part of what is to be made
+pub none_made : {whole : List (Text × List ℕ)} {text : List ℕ} → IsPartOf (saved whole text) [] []
+none_made {whole} {text} = record { files = tt; console = (0, zero-le, refl); order = λ some. absurd (some refl) }
+
+pub part_written : {name : Text} {bytes text : List ℕ} (n : ℕ) → n ≤ length bytes → IsPartOf (saved ((name, bytes) ∷ []) text) ((name, take n bytes) ∷ []) []
+part_written {name} {bytes} {text} n h = record { files = (refl, (n, h, refl)); console = (0, zero-le, refl); order = λ some. absurd (some refl) }
+
+-- ---- the whole run
+
+done_status : (o : Outcome) (status : ℕ) → (status ≡ o.status) ⊎ ((status ≡ 8) ⊎ (status ≡ 9)) → status < 8 → status ≡ o.status
+done_status o status (inl e) lt = e
+done_status o status (inr (inl e)) lt = absurd (omega arith)
+done_status o status (inr (inr e)) lt = absurd (omega arith)
+
+answered_among : {statuses : List ℕ} {meant status : ℕ} → MayBreak statuses → IsAmong meant statuses → (status ≡ meant) ⊎ ((status ≡ 8) ⊎ (status ≡ 9)) → IsAmong status statuses
+answered_among {statuses} {meant} {status} breaks among (inl e) = subst (λ (n : ℕ). IsAmong n statuses) (sym e) among
+answered_among {statuses} {meant} {status} breaks among (inr (inl e)) = subst (λ (n : ℕ). IsAmong n statuses) (sym e) breaks.write
+answered_among {statuses} {meant} {status} breaks among (inr (inr e)) = subst (λ (n : ℕ). IsAmong n statuses) (sym e) breaks.memory
+
+-- what the last steps do is what the plan promises
+pub ran : {plan : Plan} {statuses : List ℕ} {outputs : List Text} {o : Outcome} {Part : List (Text × List ℕ) → List ℕ → Type 0} {status : ℕ} {a b : State} → Fits statuses outputs o Part → (status ≡ o.status → IsTrue a.tells → CallsFor a.world.files plan o)
+    → (IsTrue a.tells → (made : List (Text × List ℕ)) (text : List ℕ) → Part made text → MayLeave a.world.files plan made text) → Ends o Part status a b → Follows plan statuses outputs status a b
+ran {plan} {statuses} {outputs} {o} {Part} {status} {a} {b} fits called may e = record {
+  answers = answered_among fits.breaks fits.answers e.answered;
+  stays = e.stays;
+  causes = record {
+    read_fault = λ h. let s = done_status o status e.answered (omega arith) in absurd (omega (arith, fits.below));
+    write_fault = e.write_fault;
+    reads_failed = λ h. absurd (omega (arith, e.reads));
+    writes_failed = e.writes_failed;
+  };
+  done = λ told lt.
+      let s = done_status o status e.answered (omega arith) in
+      (o, called s told, sym s, e.whole s told);
+  unread = λ told h. let s = done_status o status e.answered (omega arith) in absurd (omega (arith, fits.below));
+  broken_off = λ told broke. let l = e.part told in inr (l.0, l.1, may told l.0 l.1 l.2, l.3);
+  others = λ told name off.
+      let l = e.part told in
+      ap (λ (f : Files). get f name) l.3.files ∙ others_after l.0 outputs a.world.files name (fits.names l.0 l.1 l.2) off;
+  sure = λ s held. record { reads = e.reads; writes = e.sure s };
+}
+
+file_by : (P : List ℕ → Type 0) (a b : State) (tells : Bool) → a.tells ≡ tells → Told a b (λ u v. (file : List ℕ) × P file × Writes file u v) → (file : List ℕ) × Told a b (Writes file) × (IsTrue a.tells → P file)
+file_by P a b true e written = let w = written e in (w.0, λ told. w.2, λ told. w.1)
+file_by P a b false e written = ([], λ told. absurd (cc), λ told. absurd (cc))
+
+-- a file of which something is told where its shelf tells
+pub told_file : (P : List ℕ → Type 0) (a b : State) → Told a b (λ u v. (file : List ℕ) × P file × Writes file u v) → (file : List ℕ) × Told a b (Writes file) × (IsTrue a.tells → P file)
+told_file P a b written = file_by P a b a.tells refl written
+
+-- memory was wanting for a text, and nothing was said
+pub ends_silent : {meant : ℕ} {text : List ℕ} {a : State} → meant < 7 → Ends (said meant text) (IsPartOf (said meant text)) 9 a a
+ends_silent {meant} {text} {a} below = record {
+  stays = stays_same a;
+  reads = refl;
+  answered = inr (inr refl);
+  write_fault = λ e. absurd (omega arith);
+  writes_failed = λ h. inr refl;
+  whole = λ e. absurd (omega arith);
+  part = λ told. ([], [], record { files = tt; console = (0, zero-le, refl); order = λ n. absurd (n refl) }, record { files = refl; written = refl; console = sym (append-nil a.world.console) });
+  sure = λ s. refl;
+}

@@ -1,0 +1,12 @@
+pub mod Outputs
+pub mod Texts
+pub mod Faults
+pub mod Netlists
+pub mod Results
+pub mod Dictionaries
+pub mod Logs
+pub mod Outcome
+pub mod Plan
+pub mod Plans
+pub mod Ran
+pub mod Steps

@@ -1,0 +1,34 @@
+-- What becomes of the bytes of a tester's log and of a list of vectors.
+use Rattle.std.specs.Prelude.{◌≡◌, ℕ, Bool, List}
+use Rattle.net_model.specs.Circuit.{Circuit}
+use Rattle.table_dicts.specs.declared.dict.Dict.{Dict}
+use Rattle.diagnose.specs.declared.fault.LogKind.{LogKind}
+use Rattle.diagnose.specs.LogText.{IsLog, LogRefused}
+use Rattle.diagnose.specs.VectorText.{IsVectorList, VectorsRefused}
+use Rattle.request_words.specs.Request.{Text}
+use Rattle.dia_commands.specs.Texts.{log_text}
+
+-- The bytes are refused, by a rule that a line breaks, with this text.
+pub record IsRefusedBySome (LineRefused : LogKind → ℕ → Type 0) (console : Text) : Type 0 where
+  pub kind : LogKind
+  pub line : ℕ
+  pub refused : LineRefused kind line
+  pub console_is : console ≡ log_text kind line
+
+-- ---- logs
+
+-- The bytes are the log of these observed answers, for a dictionary.
+abbrev pub IsLogFor : Dict → Text → List (List Bool) → Type 0
+IsLogFor d bytes observed = IsLog d.patterns d.positions bytes observed
+
+abbrev pub IsRefusedLog : Dict → Text → Text → Type 0
+IsRefusedLog d bytes console = IsRefusedBySome (LogRefused d.patterns d.positions bytes) console
+
+-- ---- lists of vectors
+
+-- The bytes are the list of these vectors, for a circuit.
+abbrev pub IsListFor : Circuit → Text → List (List Bool) → Type 0
+IsListFor c bytes vectors = IsVectorList c.sources bytes vectors
+
+abbrev pub IsRefusedList : Circuit → Text → Text → Type 0
+IsRefusedList c bytes console = IsRefusedBySome (VectorsRefused c.sources bytes) console

@@ -1,0 +1,95 @@
+-- The plan of each request.
+use Rattle.std.specs.Prelude.{◌≡◌, Bool, List, [], ◌∷◌, ◌++◌, Option, Some, None}
+use Rattle.net_model.specs.declared.circuit.Design.{Design}
+use Rattle.net_model.specs.Circuit.{Circuit}
+use Rattle.sim_listing.specs.SimText.{IsSimText}
+use Rattle.result_file.specs.declared.record.Budgets.{Budgets}
+use Rattle.result_file.specs.declared.record.Summary.{Summary}
+use Rattle.dia_gen.specs.Made.{IsMade, IsCutFile}
+use Rattle.request_words.specs.Request.{Text, Request, gen, check, make_dict, convert, diagnose, list_faults, simulate, synth}
+use Rattle.dia_commands.specs.Outputs.{synth_budgets}
+use Rattle.synth_netlist.specs.Synth.{synth_text}
+use Rattle.dia_commands.specs.Texts.{summary_text, not_understood_text}
+use Rattle.dia_commands.specs.Faults.{IsFaultsText}
+use Rattle.dia_commands.specs.Netlists.{IsDesign, IsRefused}
+use Rattle.dia_commands.specs.Results.{IsResult, IsRefusedResult, IsValidText}
+use Rattle.table_dicts.specs.declared.dict.Dict.{Dict}
+use Rattle.dia_commands.specs.Dictionaries.{IsDictionaryFile, IsRefusedDictionary, IsMadeDictionary, IsConverted, IsDiagnosis}
+use Rattle.dia_commands.specs.Logs.{IsLogFor, IsRefusedLog, IsListFor, IsRefusedList}
+use Rattle.dia_commands.specs.Outcome.{Outcome, said, saved, IsCut}
+use Rattle.dia_commands.specs.Plan.{Plan, finish, judged, IsLeftBy}
+
+-- ---- files that are read
+
+-- a netlist
+abbrev pub with_netlist : Text → (Design → Plan) → Plan
+with_netlist bench next = judged bench 3 Design IsRefused IsDesign next
+
+-- a result for a circuit
+abbrev pub with_result : Text → Circuit → (Text → Plan) → Plan
+with_result result c next = judged result 4 Text (IsRefusedResult c) (IsResult c) next
+
+-- a dictionary
+abbrev pub with_dictionary : Text → (Dict → Plan) → Plan
+with_dictionary dict next = judged dict 5 Dict IsRefusedDictionary IsDictionaryFile next
+
+-- a log for a dictionary
+abbrev pub with_log : Text → Dict → (List (List Bool) → Plan) → Plan
+with_log log d next = judged log 6 (List (List Bool)) (IsRefusedLog d) (IsLogFor d) next
+
+-- a list of vectors for a circuit
+abbrev pub with_vectors : Text → Circuit → (List (List Bool) → Plan) → Plan
+with_vectors vectors c next = judged vectors 6 (List (List Bool)) (IsRefusedList c) (IsListFor c) next
+
+-- ---- what is done with them
+
+-- all is made before anything is written
+abbrev pub never_cut : List (Text × Text) → Text → Type 0
+never_cut made text = ⊥
+
+-- a text is printed
+abbrev pub says : (Text → Type 0) → Plan
+says IsText = finish (λ o. (text : Text) × IsText text × (o ≡ said 0 text)) never_cut
+
+-- a file is made under a name, and a text is printed
+abbrev pub makes_file : Text → (Text → Text → Type 0) → Plan
+makes_file name AreMade = finish (λ o. (file : Text) × (text : Text) × AreMade file text × (o ≡ saved ((name, file) ∷ []) text)) never_cut
+
+-- a result of the circuit, after these files
+pub record MakesResult (before : List (Text × Text)) (result : Text) (budgets : Budgets) (c : Circuit) (o : Outcome) : Type 0 where
+  pub summary : Summary
+  pub file : Text
+  pub made : IsMade c budgets summary file
+  pub outcome : o ≡ saved (before ++ (result, file) ∷ []) (summary_text summary)
+
+-- a result that was cut short, after these files: a beginning of lines that are right for the circuit, and nothing printed
+pub record IsCutResult (before : List (Text × Text)) (result : Text) (c : Circuit) (made : List (Text × Text)) (text : Text) : Type 0 where
+  pub part : Text
+  pub lines : IsCutFile c part
+  pub files : IsCut made (before ++ (result, part) ∷ [])
+  pub silent : text ≡ []
+
+-- a part of it, or such a cut
+abbrev pub IsResultPart : Circuit → Budgets → List (Text × Text) → Text → List (Text × Text) → Text → Type 0
+IsResultPart c budgets before result = IsLeftBy (MakesResult before result budgets c) (IsCutResult before result c)
+
+abbrev pub makes_result : List (Text × Text) → Text → Budgets → Circuit → Plan
+makes_result before result budgets c = finish (MakesResult before result budgets c) (IsCutResult before result c)
+
+-- a netlist under this name, and then a result of its circuit
+abbrev pub makes_both : Text → Text → Text → Budgets → Plan
+makes_both bench netlist result budgets = finish (λ o. (design : Design) × IsDesign netlist design × MakesResult ((bench, netlist) ∷ []) result budgets design.circuit o)
+    (λ made text. (design : Design) × IsDesign netlist design × IsCutResult ((bench, netlist) ∷ []) result design.circuit made text)
+
+-- ---- each request
+
+abbrev pub plan_of : Option Request → Plan
+plan_of None = finish (λ o. o ≡ said 2 not_understood_text) never_cut
+plan_of (Some (gen bench result budgets)) = with_netlist bench (λ design. makes_result [] result budgets design.circuit)
+plan_of (Some (check bench result)) = with_netlist bench (λ design. with_result result design.circuit (λ file. says (IsValidText design.circuit file)))
+plan_of (Some (make_dict kind bench result dict)) = with_netlist bench (λ design. with_result result design.circuit (λ file. makes_file dict (IsMadeDictionary design.circuit kind file)))
+plan_of (Some (convert old new)) = with_dictionary old (λ d. makes_file new (IsConverted d))
+plan_of (Some (diagnose dict log)) = with_dictionary dict (λ d. with_log log d (λ observed. says (IsDiagnosis d observed)))
+plan_of (Some (list_faults bench)) = with_netlist bench (λ design. says (IsFaultsText design))
+plan_of (Some (simulate bench vectors)) = with_netlist bench (λ design. with_vectors vectors design.circuit (λ list. says (IsSimText design.circuit list)))
+plan_of (Some (synth n bench result)) = makes_both bench (synth_text n) result synth_budgets

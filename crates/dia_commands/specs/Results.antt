@@ -1,0 +1,29 @@
+-- What becomes of a result's bytes: they are valid for a circuit, or refused.
+use Rattle.std.specs.Prelude.{◌≡◌, List}
+use Rattle.net_model.specs.Circuit.{Circuit}
+use Rattle.result_file.specs.declared.record.Record.{Record}
+use Rattle.result_file.specs.declared.fault.ResultFault.{ResultFault}
+use Rattle.result_file.specs.Spelling.{text_of}
+use Rattle.result_file.specs.Summary.{summary_of}
+use Rattle.result_file.specs.Valid.{IsValid, IsValidFile}
+use Rattle.result_file.specs.Refusal.{FileRefused}
+use Rattle.request_words.specs.Request.{Text}
+use Rattle.dia_commands.specs.Texts.{result_text, valid_text}
+
+-- The bytes are accepted as this file, which is valid.
+pub record IsResult (c : Circuit) (bytes file : Text) : Type 0 where
+  pub same : bytes ≡ file
+  pub valid : IsValidFile c file
+
+-- The bytes are refused with this text.
+pub record IsRefusedResult (c : Circuit) (bytes console : Text) : Type 0 where
+  pub fault : ResultFault
+  pub refused : FileRefused c bytes fault
+  pub console_is : console ≡ result_text fault
+
+-- The text says what a valid file amounts to.
+pub record IsValidText (c : Circuit) (file text : Text) : Type 0 where
+  pub records : List Record
+  pub spelled : file ≡ text_of records
+  pub valid : IsValid c records
+  pub text_is : text ≡ valid_text (summary_of records)

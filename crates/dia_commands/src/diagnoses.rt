@@ -1,0 +1,71 @@
+//! The command `diagnose`: the numbers that a dictionary and a log point to.
+
+ghost use Rattle.std.specs.Prelude.{◌≡◌, ◌++◌, ℕ, Bool, List, IfOk, OnOk, Some, flat_map};
+ghost use Rattle.table_dicts.specs.Rows.{AreRows};
+ghost use Rattle.dict_file.specs.Spelling.{HasSpelling};
+ghost use Rattle.request_words.specs.Request.{diagnose};
+ghost use Rattle.dia_commands.specs.Dictionaries.{IsDiagnosis};
+ghost use Rattle.dia_commands.specs.Plans.{says, with_log};
+ghost use Rattle.dia_commands.specs.Ran.{Ran, RanOn};
+ghost use Rattle.dia_commands.specs.Texts.{number_line};
+
+use crate::dictionaries::read_dictionary;
+use crate::ends::say;
+use crate::logs::read_observed;
+use crate::texts::{listed_text, number_line};
+use diag_shelf::Shelf;
+use diagnose::matches;
+use net_model::AnswerRows;
+use std::alloc::{AllocError, Global};
+use table_dicts::Dict;
+
+/// Reads and judges the dictionary and then the log, and prints the numbers that they point to.
+pub fn diagnose_log<S: Shelf>(alloc: Global, shelf: &mut S, dict: &str, log: &str) -> u8
+    ensures { Ran (Some (diagnose dict.now log.now)) result (S.state shelf.old) (S.state shelf.new) }
+{
+    match read_dictionary(alloc, shelf, dict) {
+        Ok(dict) => diagnose_by(alloc, shelf, &dict, log),
+        Err(status) => status,
+    }
+}
+
+// Reads and judges the log, and prints the numbers that the dictionary and the log point to.
+fn diagnose_by<S: Shelf>(alloc: Global, shelf: &mut S, dict: &Dict, log: &str) -> u8
+    requires { HasSpelling dict.now }
+    ensures { (name : List ℕ) → RanOn (diagnose name log.now) (with_log log.now dict.now (λ (observed : List (List Bool)). says (IsDiagnosis dict.now observed))) result (S.state shelf.old) (S.state shelf.new) }
+{
+    let observed = match read_observed(alloc, shelf, dict, log) {
+        Ok(observed) => observed,
+        Err(status) => return status,
+    };
+    match diagnosis(alloc, dict, &observed) {
+        Ok(text) => say(shelf, 0, &text),
+        Err(_) => 9,
+    }
+}
+
+// A line for each number whose entry is that of the observed answers, and how many they are.
+#[tactic(auto, unfolding(crate::specs::Texts::numbers_text))]
+fn diagnosis(alloc: Global, dict: &Dict, observed: &AnswerRows) -> Result<Vec<u8>, AllocError>
+    requires dictionary { HasSpelling dict.now }
+    requires observed { AreRows dict.now.patterns dict.now.positions observed.now }
+    ensures { IfOk result (λ text. IsDiagnosis dict.now observed.now text.items) }
+{
+    let numbers = matches(alloc, dict, observed)?;
+    let mut text = Vec::new(alloc);
+    push_numbers(&mut text, &numbers)?;
+    let count = listed_text(alloc, numbers.len())?;
+    text.extend_from_slice(count.as_bytes())?;
+    Ok(text)
+}
+
+// A line for each number.
+fn push_numbers(text: &mut Vec<u8>, numbers: &[u32]) -> Result<(), AllocError>
+    ensures { OnOk result (text.new.items ≡ text.old.items ++ flat_map number_line numbers.now) }
+{
+    for number in numbers {
+        let line = number_line(*text.allocator(), *number)?;
+        text.extend_from_slice(line.as_bytes())?;
+    }
+    Ok(())
+}

@@ -1,0 +1,70 @@
+//! From a dictionary's name to the dictionary, or to the end of the run.
+
+ghost use Rattle.std.specs.Prelude.{◌≡◌, IfErr, IfOk, option_map};
+ghost use Rattle.dict_file.specs.Spelling.{HasSpelling};
+ghost use Rattle.dia_commands.specs.Dictionaries.{IsDictionaryFile, IsRefusedDictionary};
+ghost use Rattle.dia_commands.specs.Outcome.{said, IsPartOf};
+ghost use Rattle.dia_commands.specs.Ran.{Ends};
+ghost use Rattle.dia_commands.specs.Steps.{WasAccepted, IsOver};
+ghost use Rattle.dia_commands.specs.Texts.{dictionary_rule, dictionary_text};
+
+use crate::ends::{read_status, say};
+use crate::texts::dictionary_text;
+use diag_shelf::{Shelf, read_all};
+use dict_file::{DictFault, decode};
+use std::alloc::Global;
+use table_dicts::Dict;
+
+// The most bytes that a dictionary may have.
+const DICTIONARY_LIMIT: u64 = 1_099_511_627_776;
+
+/// Reads and judges the dictionary under a name. Where it isn't accepted, the console says why, and the run ends with the
+/// status that is answered.
+pub(crate) fn read_dictionary<S: Shelf>(
+    alloc: Global,
+    shelf: &mut S,
+    name: &str,
+) -> Result<Dict, u8>
+    ensures spelled { IfOk result HasSpelling }
+    ensures ok { IfOk result (λ dict. WasAccepted name.now IsDictionaryFile dict (S.state shelf.old) (S.state shelf.new)) }
+    ensures err { IfErr result (λ status. IsOver name.now 5 IsRefusedDictionary status (S.state shelf.old) (S.state shelf.new)) }
+{
+    let bytes = match read_all(alloc, shelf, name, DICTIONARY_LIMIT) {
+        Ok(bytes) => bytes,
+        Err(fault) => return Err(read_status(fault)),
+    };
+    let fault = match decode(alloc, &bytes) {
+        Ok(dict) => return Ok(dict),
+        Err(fault) => fault,
+    };
+    match rule_of(&fault) {
+        Some((rule, byte)) => Err(say_refusal(alloc, shelf, rule, byte)),
+        None => Err(9),
+    }
+}
+
+// The rule that a dictionary breaks, and at which byte.
+fn rule_of(fault: &DictFault) -> Option<(&'static str, u64)>
+    ensures { option_map (λ rule. (rule.0.now, rule.1)) result ≡ dictionary_rule fault.now }
+{
+    match fault {
+        DictFault::Magic => Some(("Magic", 0)),
+        DictFault::Version => Some(("Version", 4)),
+        DictFault::Kind => Some(("Kind", 6)),
+        DictFault::Short(byte) => Some(("Short", *byte)),
+        DictFault::Value(byte) => Some(("Value", *byte)),
+        DictFault::Trailing(byte) => Some(("Trailing", *byte)),
+        DictFault::TooLong(byte) => Some(("TooLong", *byte)),
+        DictFault::NoMemory => None,
+    }
+}
+
+// Says why a dictionary is refused.
+fn say_refusal<S: Shelf>(alloc: Global, shelf: &mut S, rule: &str, byte: u64) -> u8
+    ensures { Ends (said 5 (dictionary_text rule.now byte)) (IsPartOf (said 5 (dictionary_text rule.now byte))) result (S.state shelf.old) (S.state shelf.new) }
+{
+    match dictionary_text(alloc, rule, byte) {
+        Ok(text) => say(shelf, 5, text.as_bytes()),
+        Err(_) => 9,
+    }
+}

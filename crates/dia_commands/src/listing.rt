@@ -1,0 +1,119 @@
+//! The command `faults`: the faults of a netlist's circuit, each with its root and its name.
+
+ghost use Rattle.std.specs.Prelude.{◌≡◌, ◌++◌, ℕ, List, All, Some, IfOk, OnOk, length};
+ghost use Rattle.net_model.specs.Circuit.{line_count};
+ghost use Rattle.net_model.specs.Fault.{IsFaultOf};
+ghost use Rattle.net_model.specs.FaultList.{faults as faults_of};
+ghost use Rattle.fault_list.specs.Names.{fault_name};
+ghost use Rattle.fault_collapse.specs.Forest.{number_count};
+ghost use Rattle.request_words.specs.Request.{list_faults};
+ghost use Rattle.dia_commands.specs.Texts.{line_start};
+ghost use Rattle.dia_commands.specs.Faults.{IsFaultsText, fault_lines, fault_fields};
+ghost use Rattle.dia_commands.specs.Plans.{says};
+ghost use Rattle.dia_commands.specs.Ran.{Ran, RanOn};
+
+use crate::ends::say;
+use crate::netlists::read_design;
+use crate::texts::{count_text, line_start};
+use diag_shelf::Shelf;
+use fault_collapse::{Forest, collapse};
+use fault_list::{FaultList, list, name_text};
+use net_model::{Design, Fault};
+use std::alloc::{AllocError, Global};
+
+/// Reads and judges the netlist, and prints the faults of its circuit.
+pub fn list_faults<S: Shelf>(alloc: Global, shelf: &mut S, bench: &str) -> u8
+    ensures { Ran (Some (list_faults bench.now)) result (S.state shelf.old) (S.state shelf.new) }
+{
+    match read_design(alloc, shelf, bench) {
+        Ok(design) => print_faults(alloc, shelf, &design),
+        Err(status) => status,
+    }
+}
+
+// Prints the faults of a circuit.
+fn print_faults<S: Shelf>(alloc: Global, shelf: &mut S, design: &Design) -> u8
+    requires { length design.now.names ≡ line_count design.now.circuit }
+    ensures { (bench : List ℕ) → RanOn (list_faults bench) (says (IsFaultsText design.now)) result (S.state shelf.old) (S.state shelf.new) }
+{
+    match faults_text(alloc, design) {
+        Ok(text) => say(shelf, 0, &text),
+        Err(_) => 9,
+    }
+}
+
+// A line for each fault, and how many faults and roots there are.
+fn faults_text(alloc: Global, design: &Design) -> Result<Vec<u8>, AllocError>
+    requires { length design.now.names ≡ line_count design.now.circuit }
+    ensures { IfOk result (λ text. IsFaultsText design.now text.items) }
+{
+    let listed = list(alloc, &design.circuit)?;
+    let forest = collapse(alloc, &design.circuit, &listed)?;
+    let mut text = Vec::new(alloc);
+    push_faults(&mut text, design, &listed, &forest)?;
+    let count = count_text(alloc, listed.len() - 1, forest.root_count())?;
+    text.extend_from_slice(count.as_bytes())?;
+    Ok(text)
+}
+
+// A line for each fault.
+fn push_faults(
+    text: &mut Vec<u8>,
+    design: &Design,
+    listed: &FaultList,
+    forest: &Forest,
+) -> Result<(), AllocError>
+    requires named { length design.now.names ≡ line_count design.now.circuit }
+    requires listed { listed.now ≡ faults_of design.now.circuit }
+    requires stand { All (IsFaultOf design.now.circuit) listed.now }
+    requires forest { number_count forest.now ≡ length listed.now }
+    ensures { OnOk result (text.new.items ≡ text.old.items ++ fault_lines design.now forest.now) }
+{
+    for number in 0..listed.len() {
+        push_fault(
+            text,
+            design,
+            &listed.get(number),
+            number,
+            forest.root(number),
+        )?;
+    }
+    Ok(())
+}
+
+// The line of a fault with this number and the number of its root.
+#[tactic(auto, unfolding(crate::specs::Faults::fault_fields))]
+fn push_fault(
+    text: &mut Vec<u8>,
+    design: &Design,
+    fault: &Fault,
+    number: u32,
+    root: u32,
+) -> Result<(), AllocError>
+    requires named { length design.now.names ≡ line_count design.now.circuit }
+    requires fault { IsFaultOf design.now.circuit fault.now }
+    ensures { OnOk result (text.new.items ≡ text.old.items ++ fault_fields design.now fault.now number root) }
+{
+    push_start(text, number, root)?;
+    push_name(text, design, fault)?;
+    text.push(b'\n')?;
+    Ok(())
+}
+
+// The number and that of the root.
+fn push_start(text: &mut Vec<u8>, number: u32, root: u32) -> Result<(), AllocError>
+    ensures { OnOk result (text.new.items ≡ text.old.items ++ line_start number root) }
+{
+    let start = line_start(*text.allocator(), number, root)?;
+    text.extend_from_slice(start.as_bytes())
+}
+
+// The name of a fault.
+fn push_name(text: &mut Vec<u8>, design: &Design, fault: &Fault) -> Result<(), AllocError>
+    requires named { length design.now.names ≡ line_count design.now.circuit }
+    requires fault { IsFaultOf design.now.circuit fault.now }
+    ensures { OnOk result (text.new.items ≡ text.old.items ++ fault_name design.now.circuit design.now.names fault.now) }
+{
+    let name = name_text(*text.allocator(), design, fault)?;
+    text.extend_from_slice(&name)
+}

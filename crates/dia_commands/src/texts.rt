@@ -1,0 +1,209 @@
+//! The lines of the console.
+
+ghost use Rattle.std.specs.Prelude.{◌≡◌, IfOk, string_bytes};
+ghost use Rattle.dia_commands.specs.Texts.{kind_name, refusal_text, loop_start, line_start, count_text, summary_text, valid_text, evidence_rule, evidence_text, result_rule, result_text, dictionary_text, apart_text, groups_text, log_rule, log_text, number_line, listed_text};
+
+use bench_reader::{NetKind, Place};
+use diagnose::LogKind;
+use refute_check::{Refusal, RefusalKind};
+use result_file::{ResultFault, ResultKind, Summary};
+use std::alloc::{AllocError, Global};
+
+fn kind_name(kind: NetKind) -> &'static str
+    ensures { result.now ≡ kind_name kind }
+{
+    match kind {
+        NetKind::BadByte => "BadByte",
+        NetKind::Expected => "Expected",
+        NetKind::UnknownGate => "UnknownGate",
+        NetKind::WrongPins => "WrongPins",
+        NetKind::DrivenTwice => "DrivenTwice",
+        NetKind::Undriven => "Undriven",
+        NetKind::TooLong => "TooLong",
+    }
+}
+
+/// Why a netlist's text is refused.
+#[tactic(auto, unfolding(crate::specs::Texts::refusal_text))]
+pub(crate) fn refusal_text(alloc: Global, kind: NetKind, place: Place) -> Result<String, AllocError>
+    ensures { IfOk result (λ text. string_bytes text ≡ refusal_text kind place) }
+{
+    let name = kind_name(kind);
+    let Place { byte, line } = place;
+    format!(in alloc; "netlist: {name} at byte {byte}, line {line}\n")
+}
+
+/// Where the walk along a loop begins; the names along it follow.
+#[tactic(auto, unfolding(crate::specs::Texts::loop_start))]
+pub(crate) fn loop_start(alloc: Global, place: Place) -> Result<String, AllocError>
+    ensures { IfOk result (λ text. string_bytes text ≡ loop_start place) }
+{
+    let Place { byte, line } = place;
+    format!(in alloc; "netlist: Loop at byte {byte}, line {line}:")
+}
+
+/// The number of a fault and that of its root; the fault's name follows.
+#[tactic(auto, unfolding(crate::specs::Texts::line_start))]
+pub(crate) fn line_start(alloc: Global, number: u32, root: u32) -> Result<String, AllocError>
+    ensures { IfOk result (λ text. string_bytes text ≡ line_start number root) }
+{
+    format!(in alloc; "{number} {root} ")
+}
+
+/// How many faults and roots there are.
+#[tactic(auto, unfolding(crate::specs::Texts::count_text))]
+pub(crate) fn count_text(alloc: Global, faults: u32, roots: u32) -> Result<String, AllocError>
+    ensures { IfOk result (λ text. string_bytes text ≡ count_text faults roots) }
+{
+    format!(in alloc; "faults {faults} roots {roots}\n")
+}
+
+/// What a result amounts to.
+#[tactic(auto, unfolding(crate::specs::Texts::summary_text))]
+pub(crate) fn summary_text(alloc: Global, summary: Summary) -> Result<String, AllocError>
+    ensures { IfOk result (λ text. string_bytes text ≡ summary_text summary) }
+{
+    let Summary {
+        numbers,
+        patterns,
+        classes,
+        equal,
+        spent,
+    } = summary;
+    format!(in alloc;
+        "numbers {numbers} patterns {patterns} classes {classes} equal {equal} open {spent}\n"
+    )
+}
+
+/// What a valid result amounts to.
+#[tactic(auto, unfolding(crate::specs::Texts::valid_text))]
+pub(crate) fn valid_text(alloc: Global, summary: Summary) -> Result<String, AllocError>
+    ensures { IfOk result (λ text. string_bytes text ≡ valid_text summary) }
+{
+    let counts = summary_text(alloc, summary)?;
+    format!(in alloc; "valid {counts}")
+}
+
+/// Why a result is refused.
+#[tactic(auto, unfolding(crate::specs::Texts::result_text))]
+pub(crate) fn result_text(alloc: Global, fault: ResultFault) -> Result<String, AllocError>
+    ensures { IfOk result (λ text. string_bytes text ≡ result_text fault) }
+{
+    let rule = rule_text(alloc, fault.kind)?;
+    let line = fault.line;
+    format!(in alloc; "result: {rule}line {line}\n")
+}
+
+// The rule that a line breaks.
+fn rule_text(alloc: Global, kind: ResultKind) -> Result<String, AllocError>
+    ensures { IfOk result (λ text. string_bytes text ≡ result_rule kind) }
+{
+    match kind {
+        ResultKind::Syntax => String::from_str(alloc, "Syntax at "),
+        ResultKind::Head => String::from_str(alloc, "Head at "),
+        ResultKind::Order => String::from_str(alloc, "Order at "),
+        ResultKind::Pattern => String::from_str(alloc, "Pattern at "),
+        ResultKind::Member => String::from_str(alloc, "Member at "),
+        ResultKind::Roots => String::from_str(alloc, "Roots at "),
+        ResultKind::Evidence(refusal) => evidence_text(alloc, refusal),
+        ResultKind::Table => String::from_str(alloc, "Table at "),
+        ResultKind::TooLong => String::from_str(alloc, "TooLong at "),
+    }
+}
+
+// The rule that evidence breaks, and at which token or chain.
+#[tactic(auto, unfolding(crate::specs::Texts::evidence_text))]
+fn evidence_text(alloc: Global, refusal: Refusal) -> Result<String, AllocError>
+    ensures { IfOk result (λ text. string_bytes text ≡ evidence_text refusal) }
+{
+    let rule = evidence_rule(refusal);
+    let step = refusal.step;
+    format!(in alloc; "Evidence {rule} at step {step}, ")
+}
+
+fn evidence_rule(refusal: Refusal) -> &'static str
+    ensures { result.now ≡ evidence_rule refusal.kind }
+{
+    match refusal.kind {
+        RefusalKind::NoSuchClause => "NoSuchClause",
+        RefusalKind::NoPivot => "NoPivot",
+        RefusalKind::NotEmpty => "NotEmpty",
+        RefusalKind::EmptyEarly => "EmptyEarly",
+        RefusalKind::NotFresh => "NotFresh",
+        RefusalKind::LeafOpen => "LeafOpen",
+        RefusalKind::BadTree => "BadTree",
+        RefusalKind::WrongCount => "WrongCount",
+    }
+}
+
+/// Why a dictionary is refused: the rule that it breaks, and at which byte.
+#[tactic(auto, unfolding(crate::specs::Texts::dictionary_text))]
+pub(crate) fn dictionary_text(alloc: Global, rule: &str, byte: u64) -> Result<String, AllocError>
+    ensures { IfOk result (λ text. string_bytes text ≡ dictionary_text rule.now byte) }
+{
+    format!(in alloc; "dictionary: {rule} at byte {byte}\n")
+}
+
+/// What a dictionary has, and how many pairs of classes it keeps apart.
+#[tactic(auto, unfolding(crate::specs::Texts::apart_text))]
+pub(crate) fn apart_text(
+    alloc: Global,
+    numbers: u32,
+    patterns: u32,
+    classes: u32,
+    apart: u64,
+) -> Result<String, AllocError>
+    ensures { IfOk result (λ text. string_bytes text ≡ apart_text numbers patterns classes apart) }
+{
+    format!(in alloc; "numbers {numbers} patterns {patterns} classes {classes} apart {apart}\n")
+}
+
+/// What a dictionary has.
+#[tactic(auto, unfolding(crate::specs::Texts::groups_text))]
+pub(crate) fn groups_text(
+    alloc: Global,
+    numbers: u32,
+    patterns: u32,
+    groups: u32,
+) -> Result<String, AllocError>
+    ensures { IfOk result (λ text. string_bytes text ≡ groups_text numbers patterns groups) }
+{
+    format!(in alloc; "numbers {numbers} patterns {patterns} groups {groups}\n")
+}
+
+/// Why a log or a list of vectors is refused.
+#[tactic(auto, unfolding(crate::specs::Texts::log_text))]
+pub(crate) fn log_text(alloc: Global, kind: LogKind, line: u64) -> Result<String, AllocError>
+    ensures { IfOk result (λ text. string_bytes text ≡ log_text kind line) }
+{
+    let rule = log_rule(&kind);
+    format!(in alloc; "log: {rule} at line {line}\n")
+}
+
+fn log_rule(kind: &LogKind) -> &'static str
+    ensures { result.now ≡ log_rule kind.now }
+{
+    match kind {
+        LogKind::Syntax => "Syntax",
+        LogKind::Order => "Order",
+        LogKind::Width => "Width",
+        LogKind::Missing => "Missing",
+        LogKind::TooLong => "TooLong",
+    }
+}
+
+/// A number.
+#[tactic(auto, unfolding(crate::specs::Texts::number_line))]
+pub(crate) fn number_line(alloc: Global, number: u32) -> Result<String, AllocError>
+    ensures { IfOk result (λ text. string_bytes text ≡ number_line number) }
+{
+    format!(in alloc; "{number}\n")
+}
+
+/// How many numbers were listed.
+#[tactic(auto, unfolding(crate::specs::Texts::listed_text))]
+pub(crate) fn listed_text(alloc: Global, count: usize) -> Result<String, AllocError>
+    ensures { IfOk result (λ text. string_bytes text ≡ listed_text count) }
+{
+    format!(in alloc; "listed {count}\n")
+}

@@ -1,0 +1,116 @@
+-- No file is both accepted and refused, and none is read as two things.
+use Rattle.std.proofs.Common.{◌≡◌, ◌≤◌, Bool, List, ap, subst, ◌∙◌, arith, sym}
+use Rattle.std.specs.Prelude.{Some}
+use Rattle.net_model.specs.declared.circuit.Design.{Design}
+use Rattle.net_model.specs.Circuit.{Circuit, IsCircuit}
+use Rattle.net_model.specs.Laws.{NoneReachesItself, WalkReachesItself}
+use Rattle.bench_reader.specs.Netlist.{Netlist}
+use Rattle.bench_reader.specs.Laws.{NeverAcceptedAndRefused, OneNetlist}
+use Rattle.scan_cut.specs.Cut.{cut_circuit, cut_design}
+use Rattle.synth_netlist.proofs.LoopWalks.{walk_first}
+use Rattle.request_words.specs.Request.{Text, Request, gen, check, make_dict, convert, diagnose, list_faults, simulate, synth}
+use Rattle.dia_commands.specs.Netlists.{IsDesign, IsRefused, by_text, by_loop}
+use Rattle.dia_commands.specs.Results.{IsResult, IsRefusedResult}
+use Rattle.dia_commands.specs.Dictionaries.{IsDictionaryFile, IsRefusedDictionary}
+use Rattle.dia_commands.specs.Logs.{IsLogFor, IsRefusedLog, IsListFor, IsRefusedList}
+use Rattle.table_dicts.specs.declared.dict.Dict.{Dict}
+use Rattle.dict_file.specs.Laws.{RefusedIsWrong, OneDictionary}
+use Rattle.diagnose.specs.Laws.{RefusedLogIsWrong, OneLogReading, RefusedListIsWrong, OneListReading}
+use Rattle.dia_commands.specs.Outcome.{Outcome}
+use Rattle.dia_commands.specs.Plans.{plan_of}
+use Rattle.dia_commands.specs.Plan.{IsClearFile, IsClear}
+use Rattle.result_file.specs.Refusal.{FileRefused}
+use Rattle.result_file.specs.Laws.{RefusedFileIsWrong}
+use Rattle.fault_collapse.specs.Laws.{SameRootEqual}
+use Rattle.pair_sets.specs.Laws.{CoveringEqual, LeavesClosed, SpendingBounded}
+use Rattle.result_file.proofs.Truth.{AreSound}
+use Rattle.result_file.proofs.SoundLemmas.{sound_circuit}
+
+-- The laws by which no file is both accepted and refused.
+pub record HasLaws : Type 0 where
+  pub text : NeverAcceptedAndRefused
+  pub one : OneNetlist
+  pub none : NoneReachesItself
+  pub walk : WalkReachesItself
+  pub results : RefusedFileIsWrong
+  pub dictionaries : RefusedIsWrong
+  pub one_dictionary : OneDictionary
+  pub logs : RefusedLogIsWrong
+  pub one_log : OneLogReading
+  pub lists : RefusedListIsWrong
+  pub one_list : OneListReading
+
+pub accepted_not_refused : HasLaws → {bytes console : Text} {design : Design} → IsDesign bytes design → IsRefused bytes console → ⊥
+accepted_not_refused laws {bytes} {console} {design} is (by_text kind byte refused text) = laws.text bytes is.netlist (kind, byte) is.accepted refused
+accepted_not_refused laws {bytes} {console} {design} is (by_loop netlist place names accepted loops text) =
+    let same : is.netlist ≡ netlist = laws.one bytes is.netlist netlist is.accepted accepted in
+    let circuit : IsCircuit (cut_circuit netlist) = subst (λ (n : Netlist). IsCircuit (cut_circuit n)) same is.circuit in
+    let first = walk_first loops.is_walk in
+    laws.none (cut_circuit netlist) first.0 circuit (laws.walk (cut_circuit netlist) loops.walk first.0 loops.is_walk first.1)
+
+one_design : HasLaws → {bytes : Text} {design other : Design} → IsDesign bytes design → IsDesign bytes other → design ≡ other
+one_design laws {bytes} {design} {other} is also = is.cut ∙ ap cut_design (laws.one bytes is.netlist also.netlist is.accepted also.accepted) ∙ sym also.cut
+
+pub circuit_of : {bytes : Text} {design : Design} → IsDesign bytes design → IsCircuit design.circuit
+unfolding cut_design
+circuit_of {bytes} {design} is = subst (λ (d : Design). IsCircuit d.circuit) (sym is.cut) is.circuit
+
+-- ---- no file is read as two things
+
+clear_netlist : HasLaws → IsClearFile 3 Design IsRefused IsDesign
+clear_netlist laws = record { above = omega arith; apart = λ bytes console design is refused. accepted_not_refused laws is refused; once = λ bytes x y is also. one_design laws is also }
+
+clear_result : HasLaws → {c : Circuit} → IsCircuit c → IsClearFile 4 Text (IsRefusedResult c) (IsResult c)
+clear_result laws {c} circuit = record {
+  above = omega arith;
+  apart = λ bytes console file is refused. laws.results c file refused.fault circuit (subst (λ (b : Text). FileRefused c b refused.fault) is.same refused.refused) is.valid;
+  once = λ bytes x y is also. sym is.same ∙ also.same;
+}
+
+clear_dictionary : HasLaws → IsClearFile 5 Dict IsRefusedDictionary IsDictionaryFile
+clear_dictionary laws = record {
+  above = omega arith;
+  apart = λ bytes console d is refused. laws.dictionaries bytes d refused.fault refused.refused is;
+  once = λ bytes d e is also. (laws.one_dictionary bytes is.0 also.0 d e is.1 also.1).1;
+}
+
+clear_log : HasLaws → (d : Dict) → d.patterns ≤ 67108864 → IsClearFile 6 (List (List Bool)) (IsRefusedLog d) (IsLogFor d)
+clear_log laws d few = record {
+  above = omega arith;
+  apart = λ bytes console rows is refused. laws.logs d.patterns d.positions bytes rows refused.kind refused.line (omega (arith, few)) refused.refused is;
+  once = λ bytes x y is also. laws.one_log d.patterns d.positions bytes x y is also;
+}
+
+clear_list : HasLaws → (c : Circuit) → IsClearFile 6 (List (List Bool)) (IsRefusedList c) (IsListFor c)
+clear_list laws c = record {
+  above = omega arith;
+  apart = λ bytes console vectors is refused. laws.lists c.sources bytes vectors refused.kind refused.line refused.refused is;
+  once = λ bytes x y is also. laws.one_list c.sources bytes x y is also;
+}
+
+status_is : {o p : Outcome} → o ≡ p → o.status ≡ p.status
+status_is {o} {p} e = ap (λ (q : Outcome). q.status) e
+
+pub clear : HasLaws → (request : Request) → IsClear (plan_of (Some request))
+clear laws (gen bench result budgets) = (clear_netlist laws, λ bytes design is o made. status_is made.outcome)
+clear laws (check bench result) = (clear_netlist laws, λ bytes design is. (clear_result laws (circuit_of is), λ bytes file valid o says. status_is says.2))
+clear laws (make_dict kind bench result dict) = (clear_netlist laws, λ bytes design is. (clear_result laws (circuit_of is), λ bytes file valid o made. status_is made.3))
+clear laws (convert old new) = (clear_dictionary laws, λ bytes d is o made. status_is made.3)
+clear laws (diagnose dict log) = (clear_dictionary laws, λ bytes d is. (clear_log laws d is.1.has.patterns, λ bytes rows read o says. status_is says.2))
+clear laws (list_faults bench) = (clear_netlist laws, λ bytes design is o says. status_is says.2)
+clear laws (simulate bench vectors) = (clear_netlist laws, λ bytes design is. (clear_list laws design.circuit, λ bytes list read o says. status_is says.2))
+clear laws (synth n bench result) = λ o both. status_is both.2.outcome
+
+-- ---- what evidence means
+
+-- the laws by which evidence is sound
+pub record EvidenceLaws : Type 0 where
+  pub roots : SameRootEqual
+  pub covering : CoveringEqual
+  pub leaves : LeavesClosed
+  pub bounded : SpendingBounded
+
+pub sound_design : EvidenceLaws → {bytes : Text} {design : Design} → IsDesign bytes design → AreSound design.circuit
+unfolding cut_design
+sound_design laws {bytes} {design} is =
+    subst (λ (d : Design). AreSound d.circuit) (sym is.cut) (sound_circuit (cut_circuit is.netlist) is.circuit laws.roots laws.covering laws.leaves laws.bounded)

@@ -1,6 +1,0 @@
-use Rattle.std.proofs.Common.{arith}
-use Rattle.dia_runs.proofs.Runs.{ends_silent}
-use Rattle.dia_runs.proofs.checks.say_valid.Goals as goal
-
-pub returns-in-Err : goal.returns-in-Err
-returns-in-Err g c = ends_silent (omega arith)

@@ -1,0 +1,2 @@
+pub mod Synth
+pub mod Laws
