@@ -1,7 +1,6 @@
 pub mod Alike
 pub mod Chains
 pub mod LogSteps
-pub mod Sets
 pub mod Steps
 pub mod HeldLemmas
 pub mod ClosureLemmas

@@ -1,19 +1,18 @@
 -- The clause that a chain has reached, as literals come and go.
-use Rattle.std.proofs.Common.{◌≡◌, ◌≢◌, ◌∙◌, ℕ, zero, suc, ◌+◌, ◌<◌, ◌⊎◌, inl, inr, refl, sym, ap, arith, subst, get_or, take, length, set, cond, eqb, eq-eqb, append_assoc}
-use Rattle.std.specs.Prelude.{Bool, true, false, not, ◌&&◌, List, [], ◌∷◌, ◌++◌, Contains}
-use Rattle.std.specs.List.{IsAnyAnswer}
+use Rattle.std.proofs.Common.{◌≡◌, ◌≢◌, ◌∙◌, ℕ, zero, suc, ◌+◌, ◌<◌, ◌⊎◌, inl, inr, refl, sym, ap, arith, subst, get_or, length, set}
+use Rattle.std.specs.Prelude.{Bool, true, false, ◌&&◌, List, [], ◌∷◌, ◌++◌, Contains}
 use Rattle.std.proofs.lemmas.Bool.{cases_eq, cases_lt, and_from}
-use Rattle.std.proofs.lemmas.List.{append-nil, get_or-set_same, get_or-set_other, get_or_past, length-set, take_more}
-use Rattle.std.proofs.lemmas.List.Elements.{Contains-append_left, Contains-append_right, Contains-append_cases, filter-append}
+use Rattle.std.proofs.lemmas.List.{get_or-set_same, get_or-set_other, get_or_past, length-set}
+use Rattle.std.proofs.lemmas.List.Elements.{Contains-append_left, Contains-append_right, Contains-append_cases}
 use Rattle.net_model.specs.Answer.{bit_at}
 use Rattle.net_model.proofs.Elements.{none_in}
-use Rattle.clause_pool.specs.Literal.{Literal, opposite, same_literal}
+use Rattle.clause_pool.specs.Literal.{Literal, opposite}
 use Rattle.clause_pool.specs.LiteralCode.{code_of}
 use Rattle.clause_pool.specs.Clauses.{Clause}
-use Rattle.clause_pool.proofs.Literals.{same_literal-same, same_by_code, literal_cases}
+use Rattle.clause_pool.proofs.Literals.{same_by_code, literal_cases}
 use Rattle.pair_miter.specs.Miter.{has_literal}
 use Rattle.pair_miter.specs.Resolution.{clause_without, can_resolve, SameLiterals}
-use Rattle.pair_miter.proofs.SameLiterals.{has_from, from_has, differs, without_has, from_without}
+use Rattle.pair_miter.proofs.SameLiterals.{has_from, from_has, without_has, from_without}
 use Rattle.refute_check.specs.declared.reached.Reached.{Reached}
 use Rattle.refute_check.specs.Reached.{IsReached}
 use Rattle.refute_check.proofs.AssignmentLemmas.{last_in, only_in}
@@ -44,34 +43,6 @@ still_marked marks p l t = elim (cases_eq (code_of l) p) [
 
 kept_marked : (marks : List Bool) (pivot l : Literal) → bit_at marks (code_of l) ≡ true → l ≢ pivot → bit_at (set marks (code_of pivot) false) (code_of l) ≡ true
 kept_marked marks pivot l t ne = get_or-set_other marks (code_of pivot) (code_of l) false false (λ e. ne (same_by_code l pivot e)) ∙ t
-
--- ---- clauses without a literal
-
-without_same : (o m : Literal) (xs : Clause) → m ≡ o → clause_without o (xs ++ m ∷ []) ≡ clause_without o xs
-without_same o m xs e =
-    filter-append (λ n. not (same_literal o n)) xs (m ∷ [])
-    ∙ ap (λ (b : Bool). clause_without o xs ++ cond (not b) (m ∷ []) []) (same_literal-same o m (sym e)) ∙ append-nil (clause_without o xs)
-
-without_more : (o m : Literal) (xs : Clause) → m ≢ o → clause_without o (xs ++ m ∷ []) ≡ clause_without o xs ++ m ∷ []
-without_more o m xs ne =
-    filter-append (λ n. not (same_literal o n)) xs (m ∷ [])
-    ∙ ap (λ (b : Bool). clause_without o xs ++ cond b (m ∷ []) []) (differs o m ne)
-
--- the literals of a clause but one, up to the next place
-module _ (clause other : Clause) (o lit : Literal) (i : ℕ) (inside : i < length other) (is : lit ≡ get_or other i lit) where
-  next_is : take (i + 1) other ≡ take i other ++ lit ∷ []
-  next_is = take_more other i lit inside ∙ ap (λ m. take i other ++ m ∷ []) (sym is)
-
-  pub next_same : lit ≡ o → clause ++ clause_without o (take i other) ≡ clause ++ clause_without o (take (i + 1) other)
-  next_same e = ap (λ (ls : Clause). clause ++ ls) (sym (ap (clause_without o) next_is ∙ without_same o lit (take i other) e))
-
-  pub next_more : lit ≢ o → clause ++ clause_without o (take i other) ++ lit ∷ [] ≡ clause ++ clause_without o (take (i + 1) other)
-  next_more ne =
-      append_assoc clause (clause_without o (take i other)) (lit ∷ [])
-      ∙ ap (λ (ls : Clause). clause ++ ls) (sym (ap (clause_without o) next_is ∙ without_more o lit (take i other) ne))
-
-  pub next_begun : take i other ++ lit ∷ [] ≡ take (i + 1) other
-  next_begun = sym next_is
 
 -- ---- what is reached
 
@@ -134,31 +105,6 @@ module _ (r : Reached) (clause other : Clause) (pivot : Literal) (is : IsReached
 
   pub cannot_mark : bit_at r.marks.items (code_of pivot) ≡ false → can_resolve pivot clause other ≡ false
   cannot_mark unset = ap (λ (b : Bool). b && has_literal other (opposite pivot)) (unmarked_not (has_literal clause pivot) refl unset)
-
-and_false : (a b : Bool) → b ≡ false → (a && b) ≡ false
-and_false true b e = e
-and_false false b e = refl
-
-not_in : (clause : Clause) (at : Literal) (found : Bool) → IsAnyAnswer (λ l t. eqb (code_of l) (code_of at) ≡ t) clause found → found ≡ false → Contains clause at → ⊥
-not_in clause at true is f m = let wrong : ◌≡◌ {A = Bool} true false = f in cc
-not_in clause at false is f (k, h, e) =
-    let same = eq-eqb (code_of (get_or clause k at)) (code_of at) (ap code_of e) in
-    let wrong : ◌≡◌ {A = Bool} true false = sym same ∙ is k at (omega arith) h in
-    cc
-
-by_has : (clause : Clause) (l : Literal) → (Contains clause l → ⊥) → (b : Bool) → has_literal clause l ≡ b → has_literal clause l ≡ false
-by_has clause l never true e = absurd (never (from_has clause l e))
-by_has clause l never false e = e
-
--- a literal whose number isn't found in the clause isn't there
-pub not_contained : (clause : Clause) (at : Literal) (found : Bool) → IsAnyAnswer (λ l t. eqb (code_of l) (code_of at) ≡ t) clause found → found ≡ false → has_literal clause at ≡ false
-not_contained clause at found is f = by_has clause at (not_in clause at found is f) (has_literal clause at) refl
-
-pub cannot_pivot : (clause other : Clause) (pivot : Literal) → has_literal clause pivot ≡ false → can_resolve pivot clause other ≡ false
-cannot_pivot clause other pivot e = ap (λ (b : Bool). b && has_literal other (opposite pivot)) e
-
-pub cannot_other : (clause other : Clause) (pivot : Literal) → has_literal other (opposite pivot) ≡ false → can_resolve pivot clause other ≡ false
-cannot_other clause other pivot e = and_false (has_literal clause pivot) (has_literal other (opposite pivot)) e
 
 -- ---- the set is taken out, literal by literal
 

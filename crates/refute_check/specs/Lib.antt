@@ -1,4 +1,3 @@
-pub mod ClauseView
 pub mod Closure
 pub mod Held
 pub mod Assignment

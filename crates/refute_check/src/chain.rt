@@ -6,10 +6,10 @@ ghost use Rattle.refute_check.specs.declared.refusal.RefusalKind.{RefusalKind};
 ghost use Rattle.refute_check.specs.LogRefusal.{ChainStops, EndsAs};
 ghost use Rattle.refute_check.specs.Reached.{IsReached};
 
-use crate::clause::Clause;
 use crate::reached::Reached;
 use crate::refusal::ChainFault;
 use clause_pool::{Lit, Pool};
+use literal_sets::Clause;
 use pair_miter::Chain;
 use std::alloc::Global;
 

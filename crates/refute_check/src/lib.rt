@@ -3,7 +3,6 @@
 
 mod assignment;
 mod chain;
-mod clause;
 mod freshness;
 mod index;
 mod laws;
@@ -14,11 +13,11 @@ mod refusal;
 mod tree;
 
 pub use chain::run_chain;
-pub use clause::{Clause, resolve};
 pub use freshness::fresh;
 pub use laws::{
     chain_ends_or_stops, log_is_refused_once, refutation_is_equal, tree_is_refused_once,
 };
+pub use literal_sets::{Clause, NoPivot, resolve};
 pub use log::check_log;
-pub use refusal::{ChainFault, CheckFault, EvidenceKind, NoPivot, Refusal, RefusalKind};
+pub use refusal::{ChainFault, CheckFault, EvidenceKind, Refusal, RefusalKind};
 pub use tree::check_tree;

@@ -13,11 +13,11 @@ ghost use Rattle.refute_check.specs.Propagation.{IsReady, IsReadyFor};
 ghost use Rattle.refute_check.specs.Reached.{IsReached};
 
 use crate::chain::follow;
-use crate::clause::Clause;
 use crate::freshness::Propagator;
 use crate::reached::Reached;
 use crate::refusal::{ChainFault, CheckFault, EvidenceKind, RefusalKind, refused};
 use clause_pool::{Lit, Pool};
+use literal_sets::Clause;
 use pair_miter::{Chain, Log, Miter};
 use std::alloc::{AllocError, Global};
 

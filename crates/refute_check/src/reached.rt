@@ -7,10 +7,10 @@ ghost use Rattle.clause_pool.specs.LiteralCode.{code_of};
 ghost use Rattle.pair_miter.specs.Resolution.{can_resolve, resolvent, SameLiterals};
 ghost use Rattle.refute_check.specs.Reached.{IsReached};
 
-use crate::clause::Clause as Ordered;
 use crate::index::place;
 use crate::refusal::ChainFault;
 use clause_pool::Lit;
+use literal_sets::Clause as Ordered;
 use std::alloc::{AllocError, Global};
 
 /// A set of literals in no order: those that are marked. A resolution takes time in the clause that is resolved with, whatever

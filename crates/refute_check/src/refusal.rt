@@ -4,6 +4,7 @@ ghost use Rattle.std.specs.Prelude.{◌≡◌};
 ghost use Rattle.refute_check.specs.declared.refusal.ChainFault.TheVariants as chain;
 ghost use Rattle.refute_check.specs.declared.refusal.CheckFault.TheVariants as check;
 
+use literal_sets::NoPivot;
 use std::alloc::AllocError;
 use thiserror::Error;
 
@@ -73,11 +74,6 @@ pub enum ChainFault {
     #[error("out of memory")]
     NoMemory,
 }
-
-/// Two clauses can't be resolved at a pivot.
-#[derive(Clone, Copy, Debug, PartialEq, Eq, Error)]
-#[error("the clauses can't be resolved at the pivot")]
-pub struct NoPivot;
 
 impl From<NoPivot> for ChainFault {
     ghost from_gives = { λ _ e. e ≡ chain.NoPivot };

@@ -24,7 +24,7 @@ loop-lit-preserved c = λ clause is.
 pub returns-clause-ended : goal.returns-clause-ended
 returns-clause-ended c = λ clause is.
     let none : c.loop-lit.self.listed.items ≡ [] = nil_of c.loop-lit.self.listed.items (omega (arith, c.in_default.ensures.cases, c.loop-lit.self.listed.ok.0)) in
-    same_trans c.of.result.literals c.loop-lit.kept.items clause c.of.ensures (taken_all clause c.loop-lit.self c.loop-lit.kept.items (c.loop-lit.invariant clause is) none)
+    same_trans c.of.result.literals c.loop-lit.kept.items clause c.of.ensures.literals (taken_all clause c.loop-lit.self c.loop-lit.kept.items (c.loop-lit.invariant clause is) none)
 
 pub returns-clause-empty : goal.returns-clause-empty
 returns-clause-empty c = λ clause is.

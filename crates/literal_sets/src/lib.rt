@@ -1,0 +1,6 @@
+//! Sets of literals, and their resolution.
+#![tactic(auto)]
+
+mod clause;
+
+pub use clause::{Clause, NoPivot, resolve};
