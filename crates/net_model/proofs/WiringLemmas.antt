@@ -1,8 +1,8 @@
 -- The users of lines, number by number, and users that get new numbers.
 use Rattle.std.proofs.Common.{◌≡◌, ◌≢◌, ℕ, suc, ◌+◌, ◌<◌, ◌≤◌, ◌⊎◌, List, [], ◌∷◌, ◌++◌, length, map, get_or, set, refl, sym, ◌∙◌, ap, subst, arith, inl, inr}
-use Rattle.std.specs.Prelude.{All, Contains, sum_by}
+use Rattle.std.specs.Prelude.{All, Contains, replicate, sum_by}
 use Rattle.std.proofs.lemmas.Bool.{cases_eq, cases_lt}
-use Rattle.std.proofs.lemmas.List.{get_or-set_same, get_or-set_other, get_or-map, get_or_past, length-map, length-set, get_or_default, ext_get_or}
+use Rattle.std.proofs.lemmas.List.{get_or-set_same, get_or-set_other, get_or-map, get_or_past, get_or-replicate, length-replicate, length-map, length-set, get_or_default, ext_get_or}
 use Rattle.std.proofs.lemmas.List.Elements.{Contains-append_left, Contains-push, Contains-push_cases}
 use Rattle.std.proofs.lemmas.List.Sums.{sum_by-cons}
 use Rattle.net_model.specs.Circuit.{Circuit, FitsTogether, line_count, pins_of}
@@ -16,12 +16,18 @@ use Rattle.net_model.proofs.Orders.{reader_is_gate, order_has}
 
 -- ---- all users, number by number
 
-pub users_none : (uses : ℕ → List ℕ) (users : List (List ℕ)) → ((line : ℕ) → get_or users line [] ≡ []) → AreUsers 0 uses users
-users_none uses users none = record {
-  all = λ line number h has. absurd (omega (arith, h));
-  below = λ line number has. absurd (none_in number (subst (λ us. Contains us number) (none line) has));
-  only = λ line number has. absurd (none_in number (subst (λ us. Contains us number) (none line) has));
-}
+pub users_none : (uses : ℕ → List ℕ) (lines : ℕ) (users : List (List ℕ)) → users ≡ replicate lines [] → AreUsers 0 uses users
+users_none uses lines users e =
+    let none : (line : ℕ) → get_or users line [] ≡ [] =
+    λ line. ap (λ us. get_or us line []) e ∙ (elim (cases_lt line lines) [
+      | inl inside ↦ get_or-replicate {A = List ℕ} lines line [] [] inside
+      | inr past ↦ get_or_past (replicate {A = List ℕ} lines []) line [] (omega (arith, length-replicate {A = List ℕ} lines []))
+    ]) in
+    record {
+      all = λ line number h has. absurd (omega (arith, h));
+      below = λ line number has. absurd (none_in number (subst (λ us. Contains us number) (none line) has));
+      only = λ line number has. absurd (none_in number (subst (λ us. Contains us number) (none line) has));
+    }
 
 -- one number more, which uses one line
 pub users_more : (uses : ℕ → List ℕ) (users : List (List ℕ)) (line count : ℕ) → uses count ≡ line ∷ [] → line < length users → AreUsers count uses users

@@ -4,7 +4,7 @@ ghost use Rattle.std.specs.Prelude.{◌≡◌, ◌≢◌, ◌<◌, ◌^◌, ℕ,
 ghost use Rattle.net_model.specs.Circuit.{FitsTogether, line_count};
 ghost use Rattle.net_model.specs.Order.{IsOrder};
 ghost use Rattle.net_model.specs.Topological.{parts_circuit, AreReaders};
-ghost use Rattle.net_model.specs.Wiring.{AreUsers, IsWiring, shows_at};
+ghost use Rattle.net_model.specs.Wiring.{AreUsers, IsWiring, reads_at, shows_at};
 
 use crate::lists::Lists;
 use crate::topological::Parts;
@@ -60,7 +60,7 @@ pub(crate) fn wiring_of(
     alloc: Global,
     parts: &Parts,
     order: Vec<u32>,
-    mut readers: Users,
+    readers: Users,
 ) -> Result<Wiring, AllocError>
     requires fits { FitsTogether (parts_circuit parts.now) }
     requires order { IsOrder (parts_circuit parts.now) order.items }
@@ -68,16 +68,33 @@ pub(crate) fn wiring_of(
     requires readers { AreReaders (parts_circuit parts.now) readers }
     ensures { IfOk result (λ wiring. IsWiring (parts_circuit parts.now) wiring) }
 {
-    let lines = parts.sources + parts.gates.len() as u32;
-    let places = places_of(alloc, lines, order.as_slice())?;
-    readers.renumber(places.as_slice());
-    let readers = Lists::of_users(alloc, &readers)?;
+    let readers = reader_places(alloc, parts, order.as_slice(), readers)?;
     let showing = Lists::of_users(alloc, &showing_of(alloc, parts)?)?;
     Ok(Wiring {
         order,
         readers,
         showing,
     })
+}
+
+// For each line the places in the order of the gates that read it, of which these are the readers.
+fn reader_places(
+    alloc: Global,
+    parts: &Parts,
+    order: &[u32],
+    mut readers: Users,
+) -> Result<Lists, AllocError>
+    requires fits { FitsTogether (parts_circuit parts.now) }
+    requires order { IsOrder (parts_circuit parts.now) order.now }
+    requires distinct { (j k : ℕ) → j < k → k < length order.now → slice_index order.now j ≢ slice_index order.now k }
+    requires readers { AreReaders (parts_circuit parts.now) readers }
+    ensures users { IfOk result (λ places. AreUsers (length order.now) (reads_at (parts_circuit parts.now) order.now) places) }
+    ensures whole { IfOk result (λ places. length places ≡ line_count (parts_circuit parts.now)) }
+{
+    let lines = parts.sources + parts.gates.len() as u32;
+    let places = places_of(alloc, lines, order)?;
+    readers.renumber(places.as_slice());
+    Lists::of_users(alloc, &readers)
 }
 
 // The place of each line that is in the order.

@@ -1,10 +1,28 @@
-use Rattle.std.proofs.Common.{◌≡◌, ◌∙◌, ◌<◌, [], ◌∷◌, ◌++◌, length, get_or, set, refl, ap, subst, arith, length-append}
-use Rattle.std.proofs.lemmas.List.{length-set}
+use Rattle.std.proofs.Common.{◌≡◌, ◌∙◌, ◌+◌, ◌<◌, [], ◌∷◌, ◌++◌, ℕ, List, length, get_or, set, refl, ap, subst, arith, mul-zero, length-append}
+use Rattle.std.proofs.lemmas.List.{length-set, length-replicate}
+use Rattle.std.specs.Prelude.{sum_by}
+use Rattle.std.proofs.lemmas.List.Folds.{sum_by-replicate}
 use Rattle.std.proofs.lemmas.List.Sums.{sum_by-set}
 use Rattle.net_model.specs.Topological.{parts_circuit, users_at}
 use Rattle.net_model.specs.Wiring.{AreUsers, shows_at}
-use Rattle.net_model.proofs.WiringLemmas.{users_more}
+use Rattle.net_model.proofs.WiringLemmas.{users_none, users_more}
 use Rattle.net_model.proofs.wiring.showing_of.Goals as goal
+
+pub loop-position-init : goal.loop-position-init
+loop-position-init c =
+    let lines = c.args.parts.now.sources + c.len.result in
+    let none = c.in_ok-users.ensures in
+    record {
+      users = users_none (shows_at (parts_circuit c.args.parts.now)) lines c.in_ok-users.users none;
+      whole = omega (arith, ap length none, length-replicate {A = List ℕ} lines [], c.len.ensures, c.args.parts.now.gates.ok.0);
+      total = ap (sum_by length) none ∙ sum_by-replicate length lines [] ∙ mul-zero lines;
+    }
+
+pub add-requires : goal.add-requires
+add-requires c =
+    let shown = c.deref-line-items.ensures.value in
+    let position = c.loop-position.position in
+    omega (arith, ap (λ ps. get_or ps position 0) shown, c.requires.positions position 0 (omega (arith, c.loop-position-test.true, ap length shown)), c.loop-position.invariant.whole)
 
 pub loop-position-preserved : goal.loop-position-preserved
 loop-position-preserved c =
@@ -24,7 +42,11 @@ loop-position-preserved c =
       total = omega (arith, sum_by-set length users line more [] inside, length-append (users_at users line) (position ∷ []), c.loop-position.invariant.total);
     }
 
+done : (c : goal.After-loop-position) → c.loop-position.position ≡ length c.args.parts.now.positions.items
+done c = omega (arith, c.loop-position-test.false, c.loop-position.auto.position-end, ap length c.deref-line-items.ensures.value)
+
 pub returns-clause-users : goal.returns-clause-users
-returns-clause-users c =
-    let done : c.loop-position.position ≡ length c.args.parts.now.positions.items = omega (arith, ap length c.deref-line-items.ensures.value) in
-    subst (λ n. AreUsers n (shows_at (parts_circuit c.args.parts.now)) c.loop-position.users) done c.loop-position.invariant.users
+returns-clause-users c = subst (λ n. AreUsers n (shows_at (parts_circuit c.args.parts.now)) c.loop-position.users) (done c) c.loop-position.invariant.users
+
+pub returns-clause-total : goal.returns-clause-total
+returns-clause-total c = c.loop-position.invariant.total ∙ done c

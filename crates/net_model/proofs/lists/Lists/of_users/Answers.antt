@@ -1,6 +1,19 @@
-use Rattle.std.proofs.Common.{◌≡◌, ◌∙◌, ◌<◌, ◌++◌, ◌∷◌, [], length, get_or, ap, arith}
-use Rattle.net_model.proofs.ListLemmas.{lists_more}
+use Rattle.std.proofs.Common.{◌≡◌, ◌∙◌, ◌<◌, ◌++◌, ◌∷◌, [], length, get_or, ap, arith, length-append}
+use Rattle.std.proofs.lemmas.List.{take_all}
+use Rattle.std.proofs.lemmas.List.Sums.{sum_by_more_le}
+use Rattle.net_model.proofs.ListLemmas.{lists_none, lists_more}
 use Rattle.net_model.proofs.lists.Lists.of_users.Goals as goal
+
+pub loop-line-init : goal.loop-line-init
+loop-line-init c = rw (c.in_ok-push.ensures.items, c.in_ok-starts.ensures.items, c.new-numbers.ensures.items) (lists_none c.args.users.now)
+
+pub overflow_cast-len : goal.overflow_cast-len
+overflow_cast-len c =
+    let users = c.args.users.now in
+    let line = c.loop-line.line in
+    let inside : line < length users = omega (arith, c.loop-line-test.true, c.lines-line-end.ensures) in
+    let longer = length-append c.loop-line.numbers.items c.at.result.now in
+    omega (arith, c.len.ensures, c.extend_from_slice.new.self.ok.0, ap length c.in_ok-extend_from_slice.ensures.items, longer, ap length c.at.ensures, c.loop-line.invariant.total, sum_by_more_le length users line [] inside, c.requires.numbers)
 
 pub loop-line-preserved : goal.loop-line-preserved
 loop-line-preserved c =
@@ -13,3 +26,9 @@ loop-line-preserved c =
     let start : c.push-in-loop-line.new.self.items ≡ starts ++ length (c.loop-line.numbers.items ++ get_or users line []) ∷ [] =
     c.in_ok-push-2.ensures.items ∙ ap (λ n. starts ++ n ∷ []) (long ∙ ap length numbers) in
     rw (numbers, start) (lists_more starts c.loop-line.numbers.items users line c.loop-line.invariant inside)
+
+pub invariant_of-result : goal.invariant_of-result
+invariant_of-result c = c.loop-line.invariant.are_starts
+
+pub returns : goal.returns
+returns c = c.loop-line.invariant.between ∙ take_all c.loop-line.line c.args.users.now (omega (arith, c.loop-line-test.false, c.lines-line-end.ensures))
