@@ -1,7 +1,7 @@
 //! Netlists that are cut, and loops, with answers worked out by hand.
 
-use bench_reader::{NetFault, Place, read};
-use net_model::Names;
+use bench_reader::{NetFault, Place, Statements, read};
+use net_model::{Circuit, Design, Names};
 use scan_cut::cut;
 use std::alloc::Global;
 use std::test::Fail;
@@ -24,7 +24,24 @@ fn are_names(names: &Names, expected: &[&[u8]]) -> bool {
     true
 }
 
-// Whether a netlist is cut to so many sources, these positions and lines of these names.
+// Whether a circuit has so many sources and these positions.
+fn has_ends(circuit: &Circuit, sources: u32, positions: &[u32]) -> bool {
+    circuit.sources() == sources && circuit.positions() == positions
+}
+
+// Whether statements are cut to so many sources, these positions and lines of these names.
+fn are_cut(
+    alloc: Global,
+    statements: &Statements,
+    sources: u32,
+    positions: &[u32],
+    names: &[&[u8]],
+) -> Result<bool, NetFault> {
+    let design = cut(alloc, statements)?;
+    Ok(has_ends(&design.circuit, sources, positions) && are_names(&design.names, names))
+}
+
+// Whether a netlist is.
 fn is_cut(
     alloc: Global,
     text: &[u8],
@@ -33,58 +50,88 @@ fn is_cut(
     names: &[&[u8]],
 ) -> Result<bool, NetFault> {
     let statements = read(alloc, text)?;
-    let design = cut(alloc, &statements)?;
-    Ok(
-        design.circuit.sources() == sources
-            && design.circuit.positions() == positions
-            && are_names(&design.names, names),
-    )
+    are_cut(alloc, &statements, sources, positions, names)
 }
 
-// Whether a netlist's cut has a loop at this place, along these names.
-fn is_loop(alloc: Global, text: &[u8], place: Place, along: &[&[u8]]) -> Result<bool, NetFault> {
-    let statements = read(alloc, text)?;
-    match cut(alloc, &statements) {
-        Err(NetFault::Loop(found, names)) => Ok(found == place && are_names(&names, along)),
-        _ => Ok(false),
-    }
-}
+// A netlist, and what it is cut to.
+const CUTS: &[(&[u8], u32, &[u32], &[&[u8]])] = &[
+    (b"q=DFF(d)\nd=NOT(q)", 1, &[1], &[b"q", b"d"]),
+    (b"q=DFF(q)", 1, &[0], &[b"q"]),
+    (
+        b"OUTPUT(z)\nz=AND(q,a)\nq=DFF(z)\nINPUT(a)",
+        2,
+        &[2, 2],
+        &[b"a", b"q", b"z"],
+    ),
+    (b"", 0, &[], &[]),
+];
 
 #[test]
 fn flip_flops_are_cut(rt: HostRuntime) -> Result<(), Fail> {
-    let toggle = b"q=DFF(d)\nd=NOT(q)";
-    assert!(rt; is_cut(rt.alloc(), toggle, 1, &[1], &[b"q", b"d"])?);
-    assert!(rt; is_cut(rt.alloc(), b"q=DFF(q)", 1, &[0], &[b"q"])?);
-    let late = b"OUTPUT(z)\nz=AND(q,a)\nq=DFF(z)\nINPUT(a)";
-    assert!(rt; is_cut(rt.alloc(), late, 2, &[2, 2], &[b"a", b"q", b"z"])?);
-    assert!(rt; is_cut(rt.alloc(), b"", 0, &[], &[])?);
+    for (number, (text, sources, positions, names)) in CUTS.iter().enumerate() {
+        assert!(rt;
+            is_cut(rt.alloc(), text, *sources, positions, names)?,
+            "netlist {number}"
+        );
+    }
     Ok(())
+}
+
+// Whether statements are cut as those of s27.
+fn are_cut_s27(alloc: Global, statements: &Statements) -> Result<bool, NetFault> {
+    let design = cut(alloc, statements)?;
+    Ok(has_ends(&design.circuit, 7, &[8, 13, 14, 16]) && design.circuit.lines() == 17)
 }
 
 #[test]
 fn s27_is_cut(rt: HostRuntime) -> Result<(), Fail> {
     let statements = read(rt.alloc(), S27)?;
-    let design = cut(rt.alloc(), &statements)?;
-    assert_eq!(rt; design.circuit.sources(), 7);
-    assert_eq!(rt; design.circuit.lines(), 17);
-    assert!(rt; design.circuit.positions() == [8, 13, 14, 16].as_slice());
+    assert!(rt; are_cut_s27(rt.alloc(), &statements)?);
     Ok(())
 }
 
+// Whether a loop at this place, along these names, is why there is no cut.
+fn is_loop(made: &Result<Design, NetFault>, place: Place, along: &[&[u8]]) -> bool {
+    match made {
+        Err(NetFault::Loop(found, names)) => *found == place && are_names(names, along),
+        _ => false,
+    }
+}
+
+// Whether the cut of statements has such a loop.
+fn have_loop(alloc: Global, statements: &Statements, place: Place, along: &[&[u8]]) -> bool {
+    let made = cut(alloc, statements);
+    is_loop(&made, place, along)
+}
+
+// Whether that of a netlist has.
+fn has_loop(alloc: Global, text: &[u8], place: Place, along: &[&[u8]]) -> Result<bool, NetFault> {
+    let statements = read(alloc, text)?;
+    Ok(have_loop(alloc, &statements, place, along))
+}
+
+// A netlist, and the place of its loop and the names along it.
+const LOOPS: &[(&[u8], Place, &[&[u8]])] = &[
+    (
+        b"INPUT(a)\nx=AND(a,y)\ny=NOT(x)",
+        Place { byte: 9, line: 2 },
+        &[b"x", b"y"],
+    ),
+    (
+        b"INPUT(a)\nz=AND(a,x)\nx=NOT(y)\ny=NOT(x)",
+        Place { byte: 20, line: 3 },
+        &[b"x", b"y"],
+    ),
+    (b"z=AND(z,z)", Place { byte: 0, line: 1 }, &[b"z"]),
+];
+
 #[test]
 fn loops_are_found(rt: HostRuntime) -> Result<(), Fail> {
-    let short = b"INPUT(a)\nx=AND(a,y)\ny=NOT(x)";
-    assert!(rt; is_loop(rt.alloc(), short, Place { byte: 9, line: 2 }, &[b"x", b"y"])?);
-    let behind = b"INPUT(a)\nz=AND(a,x)\nx=NOT(y)\ny=NOT(x)";
-    assert!(rt;
-        is_loop(
-            rt.alloc(),
-            behind,
-            Place { byte: 20, line: 3 },
-            &[b"x", b"y"]
-        )?
-    );
-    let own = b"z=AND(z,z)";
-    assert!(rt; is_loop(rt.alloc(), own, Place { byte: 0, line: 1 }, &[b"z"])?);
+    for (number, (text, place, along)) in LOOPS.iter().enumerate() {
+        assert!(rt;
+            has_loop(rt.alloc(), text, *place, along)?,
+            "netlist {number}"
+        );
+    }
     Ok(())
 }
