@@ -3,12 +3,13 @@ ghost use Rattle.std.specs.Prelude.{◌≡◌, List, ℕ, Err, IfOk, length};
 ghost use Rattle.net_model.specs.Circuit.{IsCircuit, line_count};
 ghost use Rattle.bench_reader.specs.declared.fault.NetKind.{NetKind};
 ghost use Rattle.bench_reader.specs.declared.fault.Place.{Place};
-ghost use Rattle.scan_cut.specs.Cut.{cut_design, IsNetlistLoop};
+ghost use Rattle.net_model.specs.LoopWalk.{IsLoopWalk};
+ghost use Rattle.scan_cut.specs.Cut.{cut_circuit, cut_design, IsNetlistLoop};
 
 use crate::loops::loop_of;
 use crate::parts::{Parts, collect_parts};
 use bench_reader::{NetFault, Statements};
-use net_model::{BuildFault, Circuit, Design};
+use net_model::{BuildFault, Circuit, Design, Names};
 use std::alloc::Global;
 
 /// The full-scan cut of a netlist: a circuit in which each flip-flop's output is a source and its data pin an observed
@@ -29,11 +30,29 @@ pub fn cut(alloc: Global, statements: &Statements) -> Result<Design, NetFault>
     } = collect_parts(alloc, statements)?;
     match Circuit::build(alloc, sources, gates, positions) {
         Ok(circuit) => Ok(Design { circuit, names }),
-        Err(BuildFault::NoMemory) => Err(NetFault::NoMemory),
-        Err(BuildFault::Loop(walk)) => {
-            let walk = walk.as_slice();
-            let (place, names) = loop_of(alloc, statements, sources, &names, walk)?;
-            Err(NetFault::Loop(place, names))
-        }
+        Err(fault) => Err(cut_fault(alloc, statements, sources, &names, &fault)),
+    }
+}
+
+// Why there is no cut: the loop of its gates, or want of memory.
+fn cut_fault(
+    alloc: Global,
+    statements: &Statements,
+    sources: u32,
+    names: &Names,
+    fault: &BuildFault,
+) -> NetFault
+    requires sources { sources ≡ (cut_circuit statements.now).sources }
+    requires names { names.now ≡ (cut_design statements.now).names }
+    requires walk { (walk : List ℕ) → fault.now ≡ BuildFault.Loop walk → IsLoopWalk (cut_circuit statements.now) walk }
+    ensures looped { (place : Place) (names : List (List ℕ)) → result ≡ NetFault.Loop place names → IsNetlistLoop statements.now place names }
+    ensures no_rule { (kind : NetKind) (place : Place) → result ≡ NetFault.At kind place → ⊥ }
+{
+    let BuildFault::Loop(walk) = fault else {
+        return NetFault::NoMemory;
+    };
+    match loop_of(alloc, statements, sources, names, walk.as_slice()) {
+        Ok((place, names)) => NetFault::Loop(place, names),
+        Err(_) => NetFault::NoMemory,
     }
 }

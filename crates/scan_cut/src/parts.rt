@@ -1,6 +1,7 @@
 //! The parts of the cut circuit, and the name of each of its lines.
 ghost use Rattle.std.specs.Prelude.{◌≡◌, ◌<◌, map, filter_map, length, slice_index, slice_index_or, [], All, IfOk};
 ghost use Rattle.bench_reader.specs.Driven.{used_numbers};
+ghost use Rattle.scan_cut.specs.Cut.{source_names, line_names};
 ghost use Rattle.scan_cut.specs.Lines.{looked_up_gate};
 ghost use Rattle.scan_cut.specs.Parts.{AreParts};
 
@@ -26,13 +27,29 @@ pub(crate) fn collect_parts(alloc: Global, statements: &Statements) -> Result<Pa
     let mut line_names = source_names(alloc, list)?;
     let sources = line_names.len() as u32;
     add_gate_names(&mut line_names, list)?;
-    let lines = lines_by_name(alloc, statements.names_len(), line_names.as_slice())?;
+    parts_of(alloc, statements, sources, line_names.as_slice())
+}
+
+// The parts, where these are the numbers of the lines' names, and the first ones are sources.
+fn parts_of(
+    alloc: Global,
+    statements: &Statements,
+    sources: u32,
+    numbers: &[u32],
+) -> Result<Parts, AllocError>
+    requires sources { sources ≡ length (source_names statements.now.statements) }
+    requires numbers { numbers.now ≡ line_names statements.now.statements }
+    ensures { IfOk result (AreParts statements.now) }
+{
+    let list = statements.as_slice();
+    let table = lines_by_name(alloc, statements.names_len(), numbers)?;
+    let lines = table.as_slice();
     let positions = position_names(alloc, list)?;
     Ok(Parts {
         sources,
-        gates: gates(alloc, list, lines.as_slice())?,
-        positions: looked_up(alloc, positions.as_slice(), lines.as_slice())?,
-        names: names(alloc, statements, line_names.as_slice())?,
+        gates: gates(alloc, list, lines)?,
+        positions: looked_up(alloc, positions.as_slice(), lines)?,
+        names: names(alloc, statements, numbers)?,
     })
 }
 

@@ -1,5 +1,4 @@
-use Rattle.std.proofs.Common.{◌≡◌, ◌∙◌, refl, ap, Err}
-use Rattle.net_model.specs.LoopWalk.{IsLoopWalk}
+use Rattle.std.proofs.Common.{◌≡◌, refl, ap, Err}
 use Rattle.scan_cut.specs.Cut.{cut_circuit, cut_design}
 use Rattle.scan_cut.proofs.FitLemmas.{names_fit}
 use Rattle.scan_cut.proofs.cutting.cut.Goals as goal
@@ -14,13 +13,10 @@ returns-in-Ok-clause-ok c =
     let circuit : c.in-Ok.circuit ≡ cut_circuit c.args.statements.now = rw (a.sources, a.gates, a.positions) at c.in-Ok.ensures.ok in
     rw (circuit, a.names) refl
 
-pub loop_of-requires-clause-walk : goal.loop_of-requires-clause-walk
-loop_of-requires-clause-walk c =
+pub cut_fault-requires-clause-walk : goal.cut_fault-requires-clause-walk
+cut_fault-requires-clause-walk c = λ walk is.
     let a = c.in_ok-gates.ensures in
-    let walk : IsLoopWalk (cut_circuit c.args.statements.now) c.in-Err-Loop.walk =
-    rw (a.sources, a.gates, a.positions) at (c.in-Err-Loop.ensures.looped c.in-Err-Loop.walk (ap (λ e. Err e) c.in-Err-Loop.field-0-is)) in
-    let same : c.as_slice-walk.result.now ≡ c.in-Err-Loop.walk = c.as_slice-walk.ensures ∙ c.in-Err-Loop.walk-is in
-    rw same walk
+    rw (a.sources, a.gates, a.positions) at (c.in-Err.ensures.looped walk (ap (λ e. Err e) is))
 
 pub returns-in-Ok-clause-named : goal.returns-in-Ok-clause-named
 unfolding cut_design
