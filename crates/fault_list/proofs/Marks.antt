@@ -7,6 +7,9 @@ use Rattle.std.proofs.lemmas.List.Elements.{Contains-push, Contains-append_left,
 use Rattle.net_model.specs.Answer.{bit_at}
 use Rattle.fault_list.specs.Scope.{AreMarks, MarksLines}
 
+pub marks_none : (test : ℕ → Bool) (marks : List Bool) → marks ≡ [] → AreMarks test 0 marks
+marks_none test marks none = record { whole = ap length none; each = λ n h. absurd (omega (arith, h)) }
+
 pub marks_more : (test : ℕ → Bool) (count : ℕ) (marks : List Bool) (bit : Bool) → bit ≡ test count → AreMarks test count marks → AreMarks test (count + 1) (marks ++ bit ∷ [])
 marks_more test count marks bit is so_far = record {
   whole = omega (arith, length-append marks (bit ∷ []), so_far.whole);

@@ -34,29 +34,35 @@ fn site_text(alloc: Global, design: &Design, site: Site) -> Result<Vec<u8>, Allo
     requires names { length design.now.names ≡ line_count design.now.circuit }
     ensures { IfOk result (λ text. text.items ≡ join_with_byte 32 (site_fields design.now.circuit design.now.names site)) }
 {
-    let names = &design.names;
     let mut text = Vec::new(alloc);
+    add_site(&mut text, design, site)?;
+    Ok(text)
+}
+
+// Its fields, one blank between them.
+fn add_site(text: &mut Vec<u8>, design: &Design, site: Site) -> Result<(), AllocError>
+    requires fault { IsFaultOf design.now.circuit (Fault.Stuck site false) }
+    requires names { length design.now.names ≡ line_count design.now.circuit }
+    ensures { OnOk result (text.new.items ≡ text.old.items ++ join_with_byte 32 (site_fields design.now.circuit design.now.names site)) }
+{
+    let names = &design.names;
     match site {
         Site::Stem(line) => {
             text.push(b'S')?;
-            add_field(&mut text, names.text(line))?;
+            add_field(text, names.text(line))
         }
         Site::Pin(gate, pin) => {
             text.push(b'G')?;
-            add_field(&mut text, names.text(read_line(&design.circuit, gate, pin)))?;
-            add_field(&mut text, names.text(gate))?;
-            add_number(&mut text, pin)?;
+            add_field(text, names.text(read_line(&design.circuit, gate, pin)))?;
+            add_field(text, names.text(gate))?;
+            add_number(text, pin)
         }
         Site::Position(at) => {
             text.push(b'O')?;
-            add_field(
-                &mut text,
-                names.text(design.circuit.positions()[at as usize]),
-            )?;
-            add_number(&mut text, at)?;
+            add_field(text, names.text(design.circuit.positions()[at as usize]))?;
+            add_number(text, at)
         }
     }
-    Ok(text)
 }
 
 // The line that a pin of a gate reads.

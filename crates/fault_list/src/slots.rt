@@ -1,7 +1,7 @@
 //! A table that finds the place of a site among the sites of a list. It has a row for the observed positions and
 //! then a row for each line, with its stem and the pins of its gate.
 
-ghost use Rattle.std.specs.Prelude.{◌≡◌, ◌<◌, ◌+◌, ◌↔◌, ℕ, IfOk, Some, flat_map, length, map, slice_get};
+ghost use Rattle.std.specs.Prelude.{◌≡◌, ◌<◌, ◌+◌, ◌↔◌, ℕ, [], IfOk, OnOk, Some, flat_map, length, map, slice_get};
 ghost use Rattle.std.specs.List.{range_with_len};
 ghost use Rattle.net_model.specs.Circuit.{all_lines, line_count, pins_of};
 ghost use Rattle.net_model.specs.FaultList.{sites_of_line};
@@ -14,15 +14,24 @@ use std::alloc::{AllocError, Global};
 pub(crate) fn starts(alloc: Global, circuit: &Circuit) -> Result<Vec<u32>, AllocError>
     ensures { IfOk result (λ found. found.items ≡ map (row_start circuit.now) (range_with_len 0 (line_count circuit.now + 2))) }
 {
-    let mut next = circuit.positions().len() as u32;
     let mut starts = Vec::with_capacity(alloc, circuit.lines() as usize + 2)?;
+    add_starts(&mut starts, circuit)?;
+    Ok(starts)
+}
+
+// Adds them to none.
+fn add_starts(starts: &mut Vec<u32>, circuit: &Circuit) -> Result<(), AllocError>
+    requires { starts.old.items ≡ [] }
+    ensures { OnOk result (starts.new.items ≡ map (row_start circuit.now) (range_with_len 0 (line_count circuit.now + 2))) }
+{
+    let mut next = circuit.positions().len() as u32;
     starts.push(0)?;
     starts.push(next)?;
     for line in 0..circuit.lines() {
         next += 1 + pin_count(circuit, line);
         starts.push(next)?;
     }
-    Ok(starts)
+    Ok(())
 }
 
 // How many pins the gate of a line has, if a gate drives the line.

@@ -1,7 +1,7 @@
 use Rattle.std.proofs.Common.{◌≡◌, ◌+◌, map}
 use Rattle.std.specs.List.{range_with_len}
 use Rattle.fault_list.specs.Slots.{row_start}
-use Rattle.fault_list.proofs.slots.starts.Given as goal
+use Rattle.fault_list.proofs.slots.add_starts.Given as goal
 
 abbrev pub invariant-loop-line : goal.invariant-loop-line
 invariant-loop-line l = record {

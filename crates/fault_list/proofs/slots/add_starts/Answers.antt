@@ -3,7 +3,7 @@ use Rattle.std.specs.List.{range_with_len}
 use Rattle.std.proofs.lemmas.List.FromFn.{map-range_with_len_more}
 use Rattle.fault_list.specs.Slots.{row_start}
 use Rattle.fault_list.proofs.Table.{row_start-more, row_start-few}
-use Rattle.fault_list.proofs.slots.starts.Goals as goal
+use Rattle.fault_list.proofs.slots.add_starts.Goals as goal
 
 pub overflow_add-next : goal.overflow_add-next
 overflow_add-next c =
