@@ -8,7 +8,7 @@ ghost use Rattle.bench_reader.specs.Bytes.{kind_at, length_at, is_skipped, insid
 use crate::fault::Place;
 
 /// What stands at a place where a token is read.
-#[derive(Clone, Copy, Debug, PartialEq, Eq)]
+#[derive(Clone, Copy)]
 pub(crate) enum LexemeKind {
     OpenBracket,
     CloseBracket,
@@ -20,7 +20,7 @@ pub(crate) enum LexemeKind {
 }
 
 /// A token, or the end of the text: its first byte, and the byte behind it.
-#[derive(Clone, Copy, Debug, PartialEq, Eq)]
+#[derive(Clone, Copy)]
 pub(crate) struct Lexeme {
     pub(crate) kind: LexemeKind,
     pub(crate) place: Place,

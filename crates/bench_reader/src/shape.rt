@@ -10,14 +10,14 @@ use crate::word::{Driver, Port, driver_of, port_of, takes};
 use std::alloc::Global;
 
 /// An input or an observed name; a gate: the name that it drives, what its word says, the word and its pins.
-#[derive(Debug, Drop)]
+#[derive(Drop)]
 pub(crate) enum Shape {
     Port(Port, Lexeme),
     Gate(Lexeme, Driver, Lexeme, Vec<Lexeme>),
 }
 
 /// The tokens with which a gate begins, up to the opening bracket, and what its word says.
-#[derive(Clone, Copy, Debug, PartialEq, Eq)]
+#[derive(Clone, Copy)]
 pub(crate) struct GateHead {
     name: Lexeme,
     equals: Lexeme,

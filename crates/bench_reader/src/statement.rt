@@ -63,10 +63,20 @@ pub enum Statement {
 }
 
 /// The statements of a netlist, and its names by number.
-#[derive(Drop)]
 pub struct Statements {
     pub(crate) statements: Vec<Statement>,
     pub(crate) names: IndexSet<Vec<u8>>,
+}
+
+// Written out, it is one step in the proof of each function that lets statements go, where a derived one is a step for
+// each vector in them.
+impl Drop for Statements {
+    fn drop(self) {
+        let Statements {
+            statements: _,
+            names: _,
+        } = self;
+    }
 }
 
 impl Model for Statements {

@@ -7,7 +7,7 @@ ghost use Rattle.bench_reader.specs.Shapes.{driver_in, port_phrase};
 use net_model::Kind;
 
 /// What a gate word says.
-#[derive(Clone, Copy, Debug, PartialEq, Eq)]
+#[derive(Clone, Copy)]
 pub(crate) enum Driver {
     Gate(Kind),
     FlipFlop,
@@ -77,7 +77,7 @@ pub(crate) fn takes(driver: Driver, pins: usize) -> bool
 }
 
 /// What the word before a bracket at the start of a statement says.
-#[derive(Clone, Copy, Debug, PartialEq, Eq)]
+#[derive(Clone, Copy)]
 pub(crate) enum Port {
     Input,
     Output,
