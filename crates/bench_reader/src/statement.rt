@@ -17,7 +17,7 @@ pub struct Word {
 }
 
 /// A list of words.
-#[derive(Debug, Drop)]
+#[derive(Debug)]
 pub struct Words {
     words: SmallVec<Word, 4>,
 }
@@ -50,6 +50,13 @@ impl Words {
         ensures { result.now ≡ self.now }
     {
         self.words.as_slice()
+    }
+}
+
+// Written out for the reason that the drop of pins is.
+impl Drop for Words {
+    fn drop(self) {
+        let Words { words: _ } = self;
     }
 }
 
