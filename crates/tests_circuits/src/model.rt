@@ -150,10 +150,10 @@ const SHOWN: &[(Parts, Fault, &str, &str)] = &[
 
 #[test]
 fn answers_under_faults(rt: HostRuntime) -> Result<(), Fail> {
-    for (parts, fault, vector, answer) in SHOWN {
+    for (number, (parts, fault, vector, answer)) in SHOWN.iter().enumerate() {
         assert!(rt;
             parts_answer(rt.alloc(), *parts, fault, vector, answer)?,
-            "{fault:?} {vector}"
+            "answer {number}"
         );
     }
     Ok(())

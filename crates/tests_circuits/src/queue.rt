@@ -7,7 +7,7 @@ use sample_circuits::all_below;
 use std::test::Fail;
 
 // What is done with a queue: a number or several begin to wait, or the lowest is taken and is this one.
-#[derive(Clone, Copy, Debug)]
+#[derive(Clone, Copy)]
 enum Step<'a> {
     Insert(u32),
     Wake(&'a [u32]),
@@ -55,8 +55,8 @@ const STEPS: &[Step] = &[
 #[test]
 fn the_lowest_is_taken_first(rt: HostRuntime) -> Result<(), Fail> {
     let mut queue = NumberQueue::new(rt.alloc(), 130)?;
-    for step in STEPS {
-        assert!(rt; goes(&mut queue, 130, *step), "{step:?}");
+    for (number, step) in STEPS.iter().enumerate() {
+        assert!(rt; goes(&mut queue, 130, *step), "step {number}");
     }
     Ok(())
 }

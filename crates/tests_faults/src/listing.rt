@@ -216,8 +216,8 @@ const SCOPES: &[(Fault, Fault, [bool; 7])] = &[
 
 #[test]
 fn scopes_of_pairs(rt: HostRuntime) -> Result<(), Fail> {
-    for (f, g, wanted) in SCOPES {
-        assert!(rt; are_marked(rt.alloc(), f, g, wanted)?, "{f:?} {g:?}");
+    for (number, (f, g, wanted)) in SCOPES.iter().enumerate() {
+        assert!(rt; are_marked(rt.alloc(), f, g, wanted)?, "pair {number}");
     }
     Ok(())
 }
