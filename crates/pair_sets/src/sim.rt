@@ -34,7 +34,6 @@ pub(crate) struct Level {
 
 /// Two faults under a cube of input vectors: each line has the pairs of values that they may give it, taking what
 /// the pins of a gate see as independent. It borrows the circuit and keeps copies of the faults.
-#[derive(Drop)]
 pub struct PairSim<'a> {
     pair: FaultPair<'a>,
     base: Vec<PairSet>,
@@ -43,6 +42,22 @@ pub struct PairSim<'a> {
     trail: Trail,
     tally: Tally,
     levels: Vec<Level>,
+}
+
+// Written out, it is one step in the proof of each function that lets a simulation go, where a derived one is a step for
+// each vector in it.
+impl Drop for PairSim<'_> {
+    fn drop(self) {
+        let PairSim {
+            pair: _,
+            base: _,
+            cone: _,
+            queue: _,
+            trail: _,
+            tally: _,
+            levels: _,
+        } = self;
+    }
 }
 
 impl<'a> Model for PairSim<'a> {
@@ -91,8 +106,7 @@ impl<'a> PairSim<'a> {
     {
         let lines = circuit.lines() as usize;
         let base = base_pairs(alloc, circuit)?;
-        let mut sets = Vec::with_capacity(alloc, lines)?;
-        sets.extend_from_slice(base.as_slice())?;
+        let trail = Trail::of(alloc, base.as_slice(), 4 * lines)?;
         Ok(PairSim {
             pair: FaultPair {
                 circuit,
@@ -102,12 +116,9 @@ impl<'a> PairSim<'a> {
             base,
             cone: Cone::none(alloc, lines)?,
             queue: NumberQueue::new(alloc, circuit.order().len())?,
-            trail: Trail {
-                sets,
-                changes: Vec::with_capacity(alloc, 4 * lines)?,
-            },
-            tally: Tally::none(alloc, circuit.positions().len())?,
+            trail,
             levels: Vec::with_capacity(alloc, circuit.sources() as usize)?,
+            tally: Tally::none(alloc, circuit.positions().len())?,
         })
     }
 

@@ -1,10 +1,11 @@
 //! The pairs of all lines, and how to take their changes back.
 
-ghost use Rattle.std.specs.Prelude.{◌≡◌, ℕ, ◌<◌, ◌≤◌, ◌∷◌, [], ◌++◌, All, Contains, drop, length, slice_set, vec_capacity};
+ghost use Rattle.std.specs.Prelude.{◌≡◌, ℕ, ◌<◌, ◌≤◌, ◌∷◌, [], ◌++◌, All, Contains, IfOk, drop, length, slice_set, vec_capacity};
 ghost use Rattle.pair_sets.specs.CubeState.{set_at};
 ghost use Rattle.pair_sets.specs.Trail.{HasRoom, change_with, pair_count, undone};
 
 use crate::pair_set::PairSet;
+use std::alloc::{AllocError, Global};
 
 /// A line whose pairs changed, and what they were before.
 #[derive(Clone, Copy)]
@@ -21,6 +22,18 @@ pub(crate) struct Trail {
 }
 
 impl Trail {
+    /// These pairs of the lines, with room for so many changes.
+    pub(crate) fn of(alloc: Global, sets: &[PairSet], room: usize) -> Result<Trail, AllocError>
+        ensures sets { IfOk result (λ trail. trail.sets.items ≡ sets.now) }
+        ensures changes { IfOk result (λ trail. trail.changes.items ≡ []) }
+        ensures room { IfOk result (λ trail. vec_capacity trail.changes ≡ room) }
+    {
+        Ok(Trail {
+            sets: Vec::from_slice(alloc, sets)?,
+            changes: Vec::with_capacity(alloc, room)?,
+        })
+    }
+
     /// Gives a line fewer pairs. It takes no memory.
     pub(crate) fn set(&mut self, line: u32, pairs: PairSet)
         requires line { line < length self.old.sets.items }

@@ -3,8 +3,8 @@
 ghost use Rattle.std.specs.Prelude.{◌≡◌, ◌<◌, []};
 
 use net_model::Fault::{self, Free, Stuck};
-use net_model::Kind;
 use net_model::Site::{Pin, Position, Stem};
+use net_model::{Circuit, Kind};
 use pair_sets::PairState::{AllSame, Apart, Undecided};
 use pair_sets::{PairSim, PairState, Token, Tree};
 use sample_circuits::{
@@ -22,7 +22,7 @@ const SAME: PairState = AllSame;
 type Cubes = (Parts<'static>, Fault, Fault, [PairState; 3]);
 
 // Two pins that read one line choose by themselves, those of an XOR and the data pins of a multiplexer.
-const CUBES: [Cubes; 7] = [
+const CUBES: &[Cubes] = &[
     (NOT_AND_OR, Free, Stuck(Stem(2), true), [OPEN, SAME, SAME]),
     (XOR_OF_ONE, Free, Stuck(Stem(1), false), [OPEN, SAME, SAME]),
     (BUFFER, Free, Stuck(Stem(1), false), [OPEN, SAME, Apart(0)]),
@@ -60,24 +60,43 @@ fn state_at(sim: &mut PairSim, bit: bool) -> PairState
     state
 }
 
-// Whether these are the states of a pair. Undone, the first one comes again.
-fn has_states(alloc: Global, case: &Cubes) -> Result<bool, Fail> {
-    let (parts, f, g, [all, at_zero, at_one]) = *case;
-    let circuit = circuit(alloc, parts)?;
-    if circuit.sources() == 0 || !stands(&circuit, f) || !stands(&circuit, g) {
+// Whether a simulation shows these states. Undone, the first one comes again.
+fn shows(sim: &mut PairSim, states: [PairState; 3]) -> bool
+    requires source { 0 < sim.old.circuit.sources }
+    requires free { sim.old.cube ≡ [] }
+{
+    let [all, at_zero, at_one] = states;
+    let first = sim.state() == all;
+    let second = state_at(sim, false) == at_zero;
+    let third = state_at(sim, true) == at_one;
+    first && second && third && sim.state() == all
+}
+
+// Whether these are the states of two faults of a circuit.
+fn has_states(
+    alloc: Global,
+    circuit: &Circuit,
+    f: Fault,
+    g: Fault,
+    states: [PairState; 3],
+) -> Result<bool, Fail> {
+    if circuit.sources() == 0 || !stands(circuit, f) || !stands(circuit, g) {
         return Err(Fail::new("there is no source, or a fault doesn't stand"));
     }
-    let mut sim = PairSim::new(alloc, &circuit, &f, &g)?;
-    let first = sim.state() == all;
-    let second = state_at(&mut sim, false) == at_zero;
-    let third = state_at(&mut sim, true) == at_one;
-    Ok(first && second && third && sim.state() == all)
+    let mut sim = PairSim::new(alloc, circuit, &f, &g)?;
+    Ok(shows(&mut sim, states))
+}
+
+fn is_right(alloc: Global, case: &Cubes) -> Result<bool, Fail> {
+    let (parts, f, g, states) = *case;
+    let circuit = circuit(alloc, parts)?;
+    has_states(alloc, &circuit, f, g, states)
 }
 
 #[test]
 fn states_of_cubes(rt: HostRuntime) -> Result<(), Fail> {
     for (at, case) in CUBES.iter().enumerate() {
-        assert!(rt; has_states(rt.alloc(), case)?, "case {at}");
+        assert!(rt; is_right(rt.alloc(), case)?, "case {at}");
     }
     Ok(())
 }
@@ -129,20 +148,30 @@ fn stand_alike(sim: &PairSim, other: &PairSim, reached: usize, state: PairState)
         && other.state() == state
 }
 
-// Whether a simulation that is restarted for a pair says what a new one says, and what is wanted, of the cube of all vectors,
-// and of source 0 at 1, where it is left.
+// Whether they do for the cube of all vectors, and for source 0 at 1, where they are left.
+fn go_alike(sim: &mut PairSim, other: &mut PairSim, reached: usize, states: [PairState; 2]) -> bool
+    requires source { 0 < sim.old.circuit.sources }
+    requires circuit { other.old.circuit ≡ sim.old.circuit }
+    requires free { sim.old.cube ≡ [] }
+    requires other { other.old.cube ≡ [] }
+{
+    let [all, at_one] = states;
+    let first = stand_alike(sim, other, reached, all);
+    sim.assign(0, true);
+    other.assign(0, true);
+    first && stand_alike(sim, other, reached, at_one)
+}
+
+// Whether a simulation that is restarted for a pair says what a new one says, and what is wanted.
 fn restarts(alloc: Global, sim: &mut PairSim, case: &Pair) -> Result<bool, Fail> {
-    let (f, g, reached, [all, at_one]) = *case;
+    let (f, g, reached, states) = *case;
     let circuit = sim.circuit();
     if circuit.sources() == 0 || !stands(circuit, f) || !stands(circuit, g) {
         return Err(Fail::new("there is no source, or a fault doesn't stand"));
     }
     let mut other = PairSim::new(alloc, circuit, &f, &g)?;
     sim.restart(&f, &g);
-    let first = stand_alike(sim, &other, reached, all);
-    sim.assign(0, true);
-    other.assign(0, true);
-    Ok(first && stand_alike(sim, &other, reached, at_one))
+    Ok(go_alike(sim, &mut other, reached, states))
 }
 
 // The first pair, if any, of which a simulation that is restarted for one after another says something else.
@@ -167,13 +196,17 @@ fn one_simulation_for_many_pairs(rt: HostRuntime) -> Result<(), Fail> {
     Ok(())
 }
 
+// Whether an empty tree has these tokens once they are pushed.
+fn takes(tree: &mut Tree, tokens: &[Token]) -> Result<bool, Fail> {
+    for token in tokens {
+        tree.push(*token)?;
+    }
+    Ok(tree.as_slice() == tokens)
+}
+
 #[test]
 fn tokens_of_a_tree(rt: HostRuntime) -> Result<(), Fail> {
-    let tokens = [Token::Split(0), Token::Closed, Token::Rest];
     let mut tree = Tree::new(rt.alloc());
-    for token in tokens {
-        tree.push(token)?;
-    }
-    assert_eq!(rt; tree.as_slice(), tokens.as_slice());
+    assert!(rt; takes(&mut tree, &[Token::Split(0), Token::Closed, Token::Rest])?);
     Ok(())
 }

@@ -1,5 +1,8 @@
 //! What searches find, and the shapes of their trees.
 
+ghost use Rattle.std.specs.Prelude.{◌≤◌};
+ghost use Rattle.net_model.specs.Fault.{IsFaultOf};
+
 use distinguish_search::{Found, Levels, search};
 use net_model::{Circuit, Fault, Kind};
 use pair_sets::{PairSim, Token, Tree};
@@ -36,7 +39,22 @@ fn shape_of(found: &Found) -> Shape {
 // A search for the stem of a line, stuck at a value, with so many leaves.
 type Asked = (u32, bool, u32);
 
-// The shape of what is found for a simulation's circuit without a fault and with one.
+// The shape of what is found for a simulation's circuit without a fault and with one that stands in it.
+fn found_with(
+    alloc: Global,
+    sim: &mut PairSim,
+    levels: &Levels,
+    stuck: Fault,
+    leaves: u32,
+) -> Result<Shape, Fail>
+    requires some { 1 ≤ leaves }
+    requires fault { IsFaultOf sim.old.circuit stuck }
+{
+    let found = search(alloc, sim, levels, &Fault::Free, &stuck, leaves)?;
+    Ok(shape_of(&found))
+}
+
+// The same with levels of its own.
 fn found_by(alloc: Global, sim: &mut PairSim, asked: Asked) -> Result<Shape, Fail> {
     let circuit = sim.circuit();
     let (line, bit, leaves) = asked;
@@ -45,11 +63,10 @@ fn found_by(alloc: Global, sim: &mut PairSim, asked: Asked) -> Result<Shape, Fai
         return Err(Fail::new("there is no leaf, or the fault doesn't stand"));
     }
     let levels = Levels::new(alloc, circuit)?;
-    let found = search(alloc, sim, &levels, &Fault::Free, &stuck, leaves)?;
-    Ok(shape_of(&found))
+    found_with(alloc, sim, &levels, stuck, leaves)
 }
 
-// The same with a simulation of its own.
+// And with a simulation of its own.
 fn found_alone(alloc: Global, circuit: &Circuit, asked: Asked) -> Result<Shape, Fail> {
     let mut sim = PairSim::new(alloc, circuit, &Fault::Free, &Fault::Free)?;
     found_by(alloc, &mut sim, asked)
@@ -76,7 +93,7 @@ const CONSTANT: Parts<'static> = Parts {
     positions: &[0],
 };
 
-const SHAPES: [(Parts<'static>, Asked, Shape); 12] = [
+const SHAPES: &[(Parts<'static>, Asked, Shape)] = &[
     (NOT_AND_OR, (0, false, 64), Shape::Covered(2, 0)),
     (NOT_AND_OR, (0, false, 2), Shape::Covered(2, 0)),
     (NOT_AND_OR, (0, false, 1), Shape::Spent(1, 1)),
@@ -106,7 +123,7 @@ fn shapes_of_trees(rt: HostRuntime) -> Result<(), Fail> {
     Ok(())
 }
 
-const IN_TURN: [Asked; 7] = [
+const IN_TURN: &[Asked] = &[
     (0, true, 4),
     (14, true, 4),
     (9, false, 1),

@@ -1,4 +1,4 @@
-use Rattle.std.proofs.Common.{◌≡◌, ◌≤◌, ◌*◌, ◌∙◌, [], length, sym, ap, arith, rules, subst}
+use Rattle.std.proofs.Common.{◌≡◌, ◌≤◌, ◌*◌, ◌∙◌, [], length, sym, ap, arith, subst}
 use Rattle.std.specs.Prelude.{vec_capacity}
 use Rattle.net_model.specs.declared.fault.Fault.TheVariants.{Free}
 use Rattle.net_model.specs.Circuit.{line_count}
@@ -19,24 +19,24 @@ pub invariant_of-result : goal.invariant_of-result
 invariant_of-result c =
     let circuit = c.args.circuit.now in
     let base : ArePairSets circuit Free Free [] c.in_ok-base.base.items = c.in_ok-base.ensures in
-    let items : c.extend_from_slice.new.self.items ≡ c.in_ok-base.base.items = search rules in
-    let right : ArePairSets circuit Free Free [] c.extend_from_slice.new.self.items = subst (ArePairSets circuit Free Free []) (sym items) base in
-    let changes = c.in_ok-with_capacity.field-0 in
-    let room : 4 * line_count circuit ≤ vec_capacity changes = omega (arith, c.in_ok-with_capacity.ensures.exact, c.lines-lines.ensures.value) in
+    let trail = c.in_ok-trail.trail in
+    let items : trail.sets.items ≡ c.in_ok-base.base.items = c.in_ok-trail.ensures.sets ∙ c.as_slice.ensures.value in
+    let right : ArePairSets circuit Free Free [] trail.sets.items = subst (ArePairSets circuit Free Free []) (sym items) base in
+    let room : 4 * line_count circuit ≤ vec_capacity trail.changes = omega (arith, c.in_ok-trail.ensures.room, c.lines-lines.ensures.value) in
     record {
       circuit = c.order.ensures.circuit;
       none_waits = c.in_ok-new.ensures.none;
       queue_room = c.in_ok-new.ensures.room ∙ order_count circuit (fits_from circuit c.order.ensures.circuit) c.order.result.now c.order.ensures.order;
-      levels = lowest_level circuit Free Free (vec_capacity changes) c.in_ok-with_capacity-2.field-0.items changes.items c.extend_from_slice.new.self.items
-          c.in_ok-with_capacity-2.ensures.items c.in_ok-with_capacity.ensures.items right room;
-      within = λ k d h. absurd (omega (arith, h, ap length c.in_ok-with_capacity.ensures.items));
+      levels = lowest_level circuit Free Free (vec_capacity trail.changes) c.in_ok-with_capacity.field-0.items trail.changes.items trail.sets.items
+          c.in_ok-with_capacity.ensures.items c.in_ok-trail.ensures.changes right room;
+      within = λ k d h. absurd (omega (arith, h, ap length c.in_ok-trail.ensures.changes));
       trail_room = room;
-      levels_room = omega (arith, c.in_ok-with_capacity-2.ensures.exact, c.sources.ensures.value);
+      levels_room = omega (arith, c.in_ok-with_capacity.ensures.exact, c.sources.ensures.value);
       base = base;
       cone = record {
         whole = c.in_ok-none.ensures.whole ∙ c.lines-lines.ensures.value;
         each = λ line h. c.in_ok-none.ensures.none line ∙ sym (none_split circuit line);
       };
       tally = blank_tally circuit c.in_ok-none-2.field-0 c.in_ok-none-2.ensures.blank (subst (λ n. HasPlaces n c.in_ok-none-2.field-0) (ap length c.positions.ensures.value) c.in_ok-none-2.ensures.places);
-      shown = blank_shown circuit c.in_ok-none-2.field-0 c.extend_from_slice.new.self.items c.in_ok-none-2.ensures.blank;
+      shown = blank_shown circuit c.in_ok-none-2.field-0 trail.sets.items c.in_ok-none-2.ensures.blank;
     }
