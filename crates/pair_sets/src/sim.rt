@@ -44,8 +44,18 @@ pub struct PairSim<'a> {
     levels: Vec<Level>,
 }
 
-// Written out, it is one step in the proof of each function that lets a simulation go, where a derived one is a step for
-// each vector in it.
+impl<'a> Model for PairSim<'a> {
+    ghost use Rattle.pair_sets.specs.PairSimFields.{pair_sim_of, IsReady};
+    ghost use Rattle.pair_sets.specs.PairSim as spec;
+
+    ghost view = { pair_sim_of };
+
+    ghost invariant = { IsReady };
+
+    ghost Value = { spec.PairSim };
+}
+
+// Written out, it is one step in the proof of each function that lets a simulation go.
 impl Drop for PairSim<'_> {
     fn drop(self) {
         let PairSim {
@@ -58,17 +68,6 @@ impl Drop for PairSim<'_> {
             levels: _,
         } = self;
     }
-}
-
-impl<'a> Model for PairSim<'a> {
-    ghost use Rattle.pair_sets.specs.PairSimFields.{pair_sim_of, IsReady};
-    ghost use Rattle.pair_sets.specs.PairSim as spec;
-
-    ghost view = { pair_sim_of };
-
-    ghost invariant = { IsReady };
-
-    ghost Value = { spec.PairSim };
 }
 
 impl<'a> PairSim<'a> {

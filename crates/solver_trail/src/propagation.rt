@@ -16,7 +16,7 @@ use crate::watches::{Watches, partner};
 use clause_pool::{Lit, Pool};
 
 /// The numbers of the attached clauses, in the order of attaching.
-#[derive(Debug, Drop)]
+#[derive(Drop)]
 pub(crate) struct Attached {
     /// Those of fewer than two literals, which watch nothing.
     pub(crate) short: Vec<u32>,

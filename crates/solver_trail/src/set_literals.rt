@@ -11,7 +11,7 @@ use std::alloc::{AllocError, Global};
 use std::marker::Model;
 
 /// A literal that is set, its level, and the number of the clause that forced it, none where it was decided.
-#[derive(Clone, Copy, Debug)]
+#[derive(Clone, Copy)]
 pub(crate) struct SetLiteral {
     pub(crate) literal: Lit,
     pub(crate) level: u32,
@@ -19,14 +19,14 @@ pub(crate) struct SetLiteral {
 }
 
 /// The sign with which a variable is set, and the place of its literal.
-#[derive(Clone, Copy, Debug)]
+#[derive(Clone, Copy)]
 pub(crate) struct Slot {
     positive: bool,
     place: u32,
 }
 
 /// The set literals of the variables from 1 up, as a stack. The slots are by variable; number 0 is no variable.
-#[derive(Debug, Drop)]
+#[derive(Drop)]
 pub(crate) struct SetLiterals {
     variables: u32,
     level: u32,

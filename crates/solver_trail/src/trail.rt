@@ -26,13 +26,24 @@ pub enum Propagated {
 /// numbers of the clauses that propagation goes over. The clauses themselves are in a pool.
 ///
 /// Variables are from 1 up. Each level above 0 begins with its decided literal.
-#[derive(Debug, Drop)]
 pub struct Trail {
     set: SetLiterals,
     attached: Attached,
     watches: Watches,
     // how many of the first set literals have been gone through, and stay so until they are unset
     visited: usize,
+}
+
+// Written out, it is one step in the proof of each function that lets a trail go.
+impl Drop for Trail {
+    fn drop(self) {
+        let Trail {
+            set: _,
+            attached: _,
+            watches: _,
+            visited: _,
+        } = self;
+    }
 }
 
 impl Model for Trail {
@@ -58,11 +69,11 @@ impl Trail {
         let _ = set.level();
         Ok(Trail {
             set,
+            watches: Watches::new(alloc, variables)?,
             attached: Attached {
                 short: Vec::new(alloc),
                 long: Vec::new(alloc),
             },
-            watches: Watches::new(alloc, variables)?,
             visited: 0,
         })
     }

@@ -11,7 +11,7 @@ use std::alloc::{AllocError, Global};
 /// The watches of clauses, two for each. A watch is a number, and those of the k-th clause are 2 k and 2 k + 1.
 ///
 /// The watches of a literal are a linked list, so that a watch moves to another literal without memory.
-#[derive(Debug, Drop)]
+#[derive(Drop)]
 pub(crate) struct Watches {
     /// The literal that each watch watches.
     pub(crate) literals: Vec<Lit>,

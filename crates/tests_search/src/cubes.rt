@@ -88,9 +88,9 @@ fn has_states(
 }
 
 fn is_right(alloc: Global, case: &Cubes) -> Result<bool, Fail> {
-    let (parts, f, g, states) = *case;
-    let circuit = circuit(alloc, parts)?;
-    has_states(alloc, &circuit, f, g, states)
+    let (parts, f, g, states) = case;
+    let circuit = circuit(alloc, *parts)?;
+    has_states(alloc, &circuit, *f, *g, *states)
 }
 
 #[test]

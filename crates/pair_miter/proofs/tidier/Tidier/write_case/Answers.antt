@@ -1,9 +1,10 @@
-use Rattle.std.proofs.Common.{◌≡◌, ◌-◌, ◌<◌, ◌^◌, ◌∙◌, sym, ap, subst, arith}
-use Rattle.std.specs.Prelude.{Bool, true, ◌||◌, [], ◌∷◌, ◌++◌, if◌then◌else◌}
+use Rattle.std.proofs.Common.{◌≡◌, ◌+◌, ◌-◌, ◌<◌, ◌^◌, ◌∙◌, length, sym, ap, subst, arith}
+use Rattle.std.specs.Prelude.{Bool, true, false, ◌||◌, [], ◌∷◌, ◌++◌, if◌then◌else◌}
 use Rattle.std.proofs.Math.Bool.{or-true}
 use Rattle.clause_pool.specs.Literal.{Literal}
+use Rattle.clause_pool.specs.Clauses.{Clause}
 use Rattle.pair_miter.specs.Operand.{Operand, is_constant}
-use Rattle.pair_miter.specs.Adds.{Adds}
+use Rattle.pair_miter.specs.Adds.{Adds, Writes}
 use Rattle.pair_miter.specs.Miter.{tidy}
 use Rattle.pair_miter.specs.Rows.{case_clause, operand_literals}
 use Rattle.pair_miter.proofs.AddSteps.{adds_none}
@@ -36,3 +37,19 @@ pub fill_case-requires-clause-chosen : goal.fill_case-requires-clause-chosen
 fill_case-requires-clause-chosen c =
     let few = subst (λ n. n < 2 ^ 31) c.self.view_is c.self.invariant.few in
     operand_weaker c.args.self.now (2 ^ 31 - 1) c.args.chosen.now (omega (arith, few)) c.requires.chosen
+
+-- without one there is one clause, the row
+one_left : (l : Literal) (unless : Bool) (chooser : Operand) (positive : Bool) (chosen : Operand) {row : Clause} → is_constant unless chooser ≡ false → is_constant positive chosen ≡ false → row ≡ l ∷ operand_literals unless chooser ++ operand_literals positive chosen
+    → case_clause l unless chooser positive chosen ≡ row ∷ []
+one_left l unless chooser positive chosen e f is = (λ i. if e i || f i then [] else (l ∷ operand_literals unless chooser ++ operand_literals positive chosen) ∷ []) ∙ ap (λ (ls : Clause). ls ∷ []) (sym is)
+
+pub write_once-requires-clause-few : goal.write_once-requires-clause-few
+write_once-requires-clause-few c =
+    subst (λ rows. length c.args.pool.now.clauses + length (tidy rows) < 2 ^ 30)
+    (one_left c.args.l c.args.unless c.args.chooser.now c.args.positive c.args.chosen.now (sym c.is_constant.ensures ∙ c.if-is_constant.false) (sym c.is_constant-else-is_constant.ensures ∙ c.if-is_constant-2.false) (c.as_slice.ensures.value ∙ c.in_ok-fill_case.ensures))
+    c.requires.few
+
+pub returns-clause-written : goal.returns-clause-written
+returns-clause-written c =
+    let left = one_left c.args.l c.args.unless c.args.chooser.now c.args.positive c.args.chosen.now (sym c.is_constant.ensures ∙ c.if-is_constant.false) (sym c.is_constant-else-is_constant.ensures ∙ c.if-is_constant-2.false) (c.as_slice.ensures.value ∙ c.in_ok-fill_case.ensures) in
+    subst (λ rows. Writes c.write_once.result c.args.pool.now c.write_once.new.pool (tidy rows)) (sym left) c.write_once.ensures.written
