@@ -7,7 +7,7 @@ ghost use Rattle.pair_miter.specs.MiterView.{miter_with};
 use clause_pool::{Lit, Pool};
 use net_model::Fault::{self, Free, Stuck};
 use net_model::Site::{self, Stem};
-use net_model::{Bits, Circuit, Gate, Kind, Pins, Vector};
+use net_model::{Bits, Circuit, Kind, Vector};
 use pair_miter::{Chain, Log, Miter, build};
 use sample_circuits::{NOT_AND_OR, Parts, circuit, stands};
 use std::alloc::{AllocError, Global};
@@ -25,6 +25,13 @@ struct Case {
     difference: &'static str,
 }
 
+// Line 1 is the AND of the source with itself.
+const AND_OF_ONE: Parts<'static> = Parts {
+    sources: 1,
+    gates: &[(Kind::And, &[0, 0])],
+    positions: &[1],
+};
+
 // An OR of opposites.
 const OPPOSITES: Case = Case {
     parts: NOT_AND_OR,
@@ -37,7 +44,7 @@ const OPPOSITES: Case = Case {
 
 // A source that nothing shows; a line at two pins; a multiplexer; and constants in both copies, 1 stuck at 0 against 0 stuck
 // at 1.
-const OTHERS: [Case; 4] = [
+const OTHERS: &[Case] = &[
     Case {
         parts: Parts {
             sources: 1,
@@ -51,11 +58,7 @@ const OTHERS: [Case; 4] = [
         difference: "0 ",
     },
     Case {
-        parts: Parts {
-            sources: 1,
-            gates: &[(Kind::And, &[0, 0])],
-            positions: &[1],
-        },
+        parts: AND_OF_ONE,
         f: Free,
         g: Stuck(Stem(1), false),
         counts: "4 9: ",
@@ -144,12 +147,17 @@ fn is_built(alloc: Global, case: &Case, pool: &mut Pool) -> Result<bool, Fail>
     Ok(text.as_str() == wanted.as_str())
 }
 
-// A pool of just the room stays as it is.
+// Whether it is built so into a pool of just the room, which stays as it is.
+fn fits(alloc: Global, case: &Case, pool: &mut Pool) -> Result<bool, Fail>
+    requires { pool.old.clauses ≡ [] }
+{
+    Ok(is_built(alloc, case, pool)? && pool.spare_clauses() == 0 && pool.spare_literals() == 0)
+}
+
 #[test]
 fn a_miter_in_its_room(rt: HostRuntime) -> Result<(), Fail> {
     let mut pool = Pool::with_room(rt.alloc(), 11, 25)?;
-    assert!(rt; is_built(rt.alloc(), &OPPOSITES, &mut pool)?);
-    assert!(rt; pool.spare_clauses() == 0 && pool.spare_literals() == 0);
+    assert!(rt; fits(rt.alloc(), &OPPOSITES, &mut pool)?);
     Ok(())
 }
 
@@ -165,26 +173,6 @@ fn clauses_of_miters(rt: HostRuntime) -> Result<(), Fail> {
         assert!(rt; grows(rt.alloc(), case)?, "miter {number}");
     }
     Ok(())
-}
-
-// Line 1 is the AND of the source with itself.
-fn and_of_one(alloc: Global) -> Result<Circuit, AllocError>
-    ensures { IfOk result (λ circuit. circuit ≡ circuit_with 1 (record { kind = Kind.And; pins = 0 ∷ 0 ∷ [] } ∷ []) (1 ∷ [])) }
-{
-    let mut pins = Pins::new(alloc);
-    pins.push(0)?;
-    pins.push(0)?;
-    let mut gates = Vec::new(alloc);
-    gates.push(Gate {
-        kind: Kind::And,
-        pins,
-    })?;
-    let mut positions = Vec::new(alloc);
-    positions.push(1)?;
-    match Circuit::build(alloc, 1, gates, positions) {
-        Ok(circuit) => Ok(circuit),
-        Err(_) => Err(AllocError),
-    }
 }
 
 // The source and the line are 1 without the fault, and the line is 0 with it.
@@ -206,24 +194,35 @@ fn miter_of_one<'a>(alloc: Global, circuit: &'a Circuit) -> Result<Miter<'a>, Al
     build(alloc, circuit, &Free, &Stuck(Stem(1), false), &mut pool)
 }
 
-fn vector_of_model(alloc: Global) -> Result<Vector, AllocError> {
-    let circuit = and_of_one(alloc)?;
+// The vector of the model of a miter.
+fn vector_of_model(alloc: Global, circuit: &Circuit) -> Result<Vector, AllocError>
+    requires { circuit.now ≡ circuit_with 1 (record { kind = Kind.And; pins = 0 ∷ 0 ∷ [] } ∷ []) (1 ∷ []) }
+{
     let model = model(alloc)?;
-    let miter = miter_of_one(alloc, &circuit)?;
+    let miter = miter_of_one(alloc, circuit)?;
     miter.vector_of(&model)
+}
+
+fn vector_of_one(alloc: Global) -> Result<Vector, Fail> {
+    let circuit = circuit(alloc, AND_OF_ONE)?;
+    Ok(vector_of_model(alloc, &circuit)?)
 }
 
 #[test]
 fn vector_of_a_model(rt: HostRuntime) -> Result<(), Fail> {
-    let v = vector_of_model(rt.alloc())?;
+    let v = vector_of_one(rt.alloc())?;
     assert!(rt; v.len() == 1 && v.get(0));
     Ok(())
 }
 
+fn take_two_steps(chain: &mut Chain) -> Result<(), AllocError> {
+    chain.push(Lit::new(5, false), 11)?;
+    chain.push(Lit::new(4, false), 6)
+}
+
 fn chain_of_two_steps(alloc: Global) -> Result<Chain, AllocError> {
     let mut chain = Chain::new(alloc, 8, Some(Lit::new(3, false)));
-    chain.push(Lit::new(5, false), 11)?;
-    chain.push(Lit::new(4, false), 6)?;
+    take_two_steps(&mut chain)?;
     chain.set_at(Some(Lit::new(2, true)));
     Ok(chain)
 }
@@ -234,11 +233,16 @@ fn has_two_steps(chain: &Chain) -> bool {
     chain.steps() == steps.as_slice() && chain.start() == 8 && chain.at() == Some(Lit::new(2, true))
 }
 
+// Whether an empty log takes that chain.
+fn takes_chain(alloc: Global, log: &mut Log) -> Result<bool, Fail> {
+    log.push(chain_of_two_steps(alloc)?)?;
+    let chains = log.as_slice();
+    Ok(chains.len() == 1 && has_two_steps(&chains[0]))
+}
+
 #[test]
 fn a_log_of_one_chain(rt: HostRuntime) -> Result<(), Fail> {
     let mut log = Log::new(rt.alloc());
-    log.push(chain_of_two_steps(rt.alloc())?)?;
-    let chains = log.as_slice();
-    assert!(rt; chains.len() == 1 && has_two_steps(&chains[0]));
+    assert!(rt; takes_chain(rt.alloc(), &mut log)?);
     Ok(())
 }

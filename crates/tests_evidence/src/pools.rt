@@ -1,5 +1,7 @@
 //! A small pool of clauses, with answers worked out by hand.
 
+ghost use Rattle.std.specs.Prelude.{◌≡◌, []};
+
 use clause_pool::{Full, Lit, Pool};
 use std::test::Fail;
 
@@ -11,9 +13,12 @@ fn takes_two(pool: &mut Pool) -> bool {
         && pool.push(&pair) == Err(Full)
         && pool.push(&last) == Ok(2)
         && pool.push(&[]) == Err(Full)
-        && pool.len() == 2
-        && pool.get(1) == pair.as_slice()
-        && pool.get(2) == last.as_slice()
+        && has_two(pool, &pair, &last)
+}
+
+// Whether a pool has these two clauses.
+fn has_two(pool: &Pool, first: &[Lit], second: &[Lit]) -> bool {
+    pool.len() == 2 && pool.get(1) == first && pool.get(2) == second
 }
 
 // How many clauses there are, and for how many more clauses and literals there is room.
@@ -21,15 +26,22 @@ fn room(pool: &Pool) -> (u32, usize, usize) {
     (pool.len(), pool.spare_clauses(), pool.spare_literals())
 }
 
+// Whether they are given up again, and the pool grows to three clauses.
+fn is_emptied(pool: &mut Pool) -> Result<bool, Fail>
+    requires { pool.old.clauses ≡ [] }
+{
+    let empty = pool.mark();
+    let full = takes_two(pool);
+    pool.release(empty);
+    let emptied = room(pool) == (0, 2, 3);
+    pool.grow(3, 1)?;
+    Ok(full && emptied && room(pool) == (0, 3, 3))
+}
+
 #[test]
 fn room_for_two_clauses_and_three_literals(rt: HostRuntime) -> Result<(), Fail> {
     let mut pool = Pool::with_room(rt.alloc(), 2, 3)?;
-    let empty = pool.mark();
-    assert!(rt; takes_two(&mut pool));
-    pool.release(empty);
-    assert!(rt; room(&pool) == (0, 2, 3));
-    pool.grow(3, 1)?;
-    assert!(rt; room(&pool) == (0, 3, 3));
+    assert!(rt; is_emptied(&mut pool)?);
     Ok(())
 }
 

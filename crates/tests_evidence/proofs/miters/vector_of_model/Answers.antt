@@ -13,10 +13,10 @@ of_one p circuit e same = e ∙ ap (λ (c : Circuit). miter_with c Free (Stuck (
 
 pub vector_of-requires-clause-whole : goal.vector_of-requires-clause-whole
 vector_of-requires-clause-whole c =
-    let built = of_one c.in_ok-miter.miter c.in_ok-circuit.circuit c.in_ok-miter.ensures c.in_ok-circuit.ensures in
+    let built = of_one c.in_ok-miter.miter c.args.circuit.now c.in_ok-miter.ensures c.requires in
     ap length c.in_ok-model.ensures ∙ sym (ap (λ (p : Miter). variable_count p.circuit p.f p.g) built ∙ and_variables)
 
 pub vector_of-requires-clause-satisfies : goal.vector_of-requires-clause-satisfies
 vector_of-requires-clause-satisfies c =
-    let built = of_one c.in_ok-miter.miter c.in_ok-circuit.circuit c.in_ok-miter.ensures c.in_ok-circuit.ensures in
+    let built = of_one c.in_ok-miter.miter c.args.circuit.now c.in_ok-miter.ensures c.requires in
     (λ i. is_model (c.in_ok-model.ensures i) (miter (built i).circuit (built i).f (built i).g)) ∙ and_model
