@@ -14,7 +14,7 @@ use std::alloc::{AllocError, Global};
 use std::marker::Model;
 
 /// The order of decisions, and the sign that each variable had last, negative at first.
-#[derive(Debug, Drop)]
+#[derive(Drop)]
 pub(crate) struct Decider {
     queue: Queue,
     phases: Vec<bool>,

@@ -8,7 +8,7 @@ use std::alloc::{AllocError, Global};
 use std::marker::Model;
 
 /// All variables in a ring that number 0 closes, each newer than the one before it. Stamps rise along it.
-#[derive(Debug, Drop)]
+#[derive(Drop)]
 pub(crate) struct Queue {
     variables: u32,
     older: Vec<u32>,

@@ -1,7 +1,7 @@
 //! When the search restarts (Luby, Sinclair and Zuckerman 1993).
 
 /// Luby's sequence of intervals, in hundreds of conflicts, and what is left of the present one.
-#[derive(Clone, Copy, Debug)]
+#[derive(Clone, Copy)]
 pub(crate) struct Restarts {
     turn: u32,
     length: u32,
