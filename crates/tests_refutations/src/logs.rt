@@ -1,6 +1,6 @@
 //! Logs over miters of small circuits, and sets of literals.
 
-ghost use Rattle.std.specs.Prelude.{◌≢◌, ◌<◌, ◌^◌};
+ghost use Rattle.std.specs.Prelude.{◌≡◌, ◌≢◌, ◌<◌, ◌^◌, []};
 ghost use Rattle.net_model.specs.Fault.{IsFaultOf};
 ghost use Rattle.refute_check.specs.declared.refusal.EvidenceKind as EvidenceKind;
 
@@ -36,7 +36,7 @@ type Judged = (
 const REFUTATION: &[(i32, u32)] = &[(1, 3), (2, 4), (3, 8), (-5, 11), (-4, 6)];
 
 // An OR of a line and its negation, with its output stuck at 1.
-const OF_OPPOSITES: [Judged; 10] = [
+const OF_OPPOSITES: &[Judged] = &[
     (1, None, 1, REFUTATION, None),
     (1, None, 1, &[(-1, 3)], Some((NoPivot, 0))),
     (1, None, 1, &[(2, 3)], Some((NoPivot, 0))),
@@ -62,18 +62,23 @@ const AND_OF_ORS: Parts<'static> = Parts {
 };
 
 // Where line 5 isn't 0 both ORs are 1. Then a is 1, which unit propagation doesn't see; that line 3 is 1 it sees.
-const OF_ORS: [Judged; 3] = [
+const OF_ORS: &[Judged] = &[
     (1, Some(1), 5, &[(2, 2), (-3, 8)], None),
     (1, Some(-4), 5, &[(2, 2), (-3, 8)], Some((NotFresh, 0))),
     (1, Some(1), 5, &[(2, 2)], Some((NotFresh, 0))),
 ];
 
+fn push_steps(chain: &mut Chain, steps: &[(i32, u32)]) -> Result<(), AllocError> {
+    for (pivot, clause) in steps {
+        chain.push(lit(*pivot), *clause)?;
+    }
+    Ok(())
+}
+
 // The log of one chain.
 fn log_of(alloc: Global, case: &Judged) -> Result<Log, AllocError> {
     let mut chain = Chain::new(alloc, case.2, case.1.map(lit));
-    for (pivot, clause) in case.3 {
-        chain.push(lit(*pivot), *clause)?;
-    }
+    push_steps(&mut chain, case.3)?;
     let mut log = Log::new(alloc);
     log.push(chain)?;
     Ok(log)
@@ -88,7 +93,28 @@ fn kind_of(at: Option<i32>) -> EvidenceKind
     }
 }
 
-/// What the checker says of a log, over the clauses of the circuit without a fault and with this one.
+// What the checker says of a log, over the clauses of a circuit without a fault and with this one, in an empty pool.
+fn checked_in(
+    alloc: Global,
+    circuit: &Circuit,
+    stuck: Fault,
+    pool: &mut Pool,
+    log: &Log,
+    kind: EvidenceKind,
+    conflicts: u32,
+) -> Result<Result<(), CheckFault>, AllocError>
+    requires empty { pool.old.clauses ≡ [] }
+    requires fault { IsFaultOf circuit.now stuck }
+    requires kind { kind ≢ EvidenceKind.Covered }
+    requires few { conflicts < 2 ^ 16 }
+{
+    let miter = build(alloc, circuit, &Free, &stuck, pool)?;
+    let (built, counted) = (pool.len(), miter.clause_count());
+    prove!(built == counted);
+    Ok(check_log(alloc, &miter, pool, log, kind, conflicts))
+}
+
+/// The same in a new pool.
 pub(crate) fn checked(
     alloc: Global,
     circuit: &Circuit,
@@ -102,21 +128,28 @@ pub(crate) fn checked(
     requires few { conflicts < 2 ^ 16 }
 {
     let mut pool = Pool::with_room(alloc, 0, 0)?;
-    let miter = build(alloc, circuit, &Free, &stuck, &mut pool)?;
-    let (built, counted) = (pool.len(), miter.clause_count());
-    prove!(built == counted);
-    Ok(check_log(alloc, &miter, &mut pool, log, kind, conflicts))
+    checked_in(alloc, circuit, stuck, &mut pool, log, kind, conflicts)
 }
 
-// Whether the checker says of a log, over the circuit of these parts, what is wanted.
-fn is_judged(alloc: Global, parts: Parts, stuck: Fault, case: &Judged) -> Result<bool, Fail> {
-    let circuit = circuit(alloc, parts)?;
-    if !stands(&circuit, stuck) {
+// Whether the checker says of a log, over a circuit, what is wanted.
+fn is_judged_in(
+    alloc: Global,
+    circuit: &Circuit,
+    stuck: Fault,
+    case: &Judged,
+) -> Result<bool, Fail> {
+    if !stands(circuit, stuck) {
         return Err(Fail::new("the fault doesn't stand"));
     }
     let log = log_of(alloc, case)?;
-    let found = checked(alloc, &circuit, stuck, &log, kind_of(case.1), case.0 as u32)?;
+    let found = checked(alloc, circuit, stuck, &log, kind_of(case.1), case.0 as u32)?;
     Ok(is_refusal(found, case.4))
+}
+
+// The same over the circuit of these parts.
+fn is_judged(alloc: Global, parts: Parts, stuck: Fault, case: &Judged) -> Result<bool, Fail> {
+    let circuit = circuit(alloc, parts)?;
+    is_judged_in(alloc, &circuit, stuck, case)
 }
 
 /// Whether the answer is this refusal, or none.
@@ -145,27 +178,39 @@ fn logs_are_checked(rt: HostRuntime) -> Result<(), Fail> {
     Ok(())
 }
 
-// The end of a chain by which the clauses 1 2 and 1 -2 are resolved.
-fn resolved(alloc: Global) -> Result<Clause, Fail> {
-    let mut pool = Pool::with_room(alloc, 2, 4)?;
-    if pool.push(&[lit(1), lit(2)]).is_err() || pool.push(&[lit(1), lit(-2)]).is_err() {
-        return Err(Fail::new("there is no room"));
-    }
+// The end of a chain by which the first clause of a pool is resolved with the second at 2.
+fn resolved(alloc: Global, pool: &Pool) -> Result<Clause, Fail> {
     let mut chain = Chain::new(alloc, 1, None);
     chain.push(lit(2), 2)?;
-    match run_chain(alloc, &pool, &chain) {
-        Ok(end) => Ok(end),
-        Err(_) => Err(Fail::new("the chain has an end")),
-    }
+    Ok(run_chain(alloc, pool, &chain)?)
+}
+
+// Whether the clauses 1 2 and 1 -2 are resolved to 1, in an empty pool.
+fn resolves(alloc: Global, pool: &mut Pool) -> Result<bool, Fail> {
+    pool.push(&[lit(1), lit(2)])?;
+    pool.push(&[lit(1), lit(-2)])?;
+    let end = resolved(alloc, pool)?;
+    Ok(end.as_slice() == [lit(1)].as_slice())
+}
+
+// The same in a new pool.
+fn resolves_alone(alloc: Global) -> Result<bool, Fail> {
+    let mut pool = Pool::with_room(alloc, 2, 4)?;
+    resolves(alloc, &mut pool)
+}
+
+// Whether the literals 3, -1 and 3 are put in order, each once, into a set with room for three.
+fn loads(clause: &mut Clause) -> bool
+    requires { clause.old.room ≡ 3 }
+{
+    clause.load(&[lit(3), lit(-1), lit(3)]);
+    clause.as_slice() == [lit(-1), lit(3)].as_slice() && clause.room() == 3
 }
 
 #[test]
 fn sets_of_literals(rt: HostRuntime) -> Result<(), Fail> {
-    let end = resolved(rt.alloc())?;
-    assert_eq!(rt; end.as_slice(), [lit(1)].as_slice());
+    assert!(rt; resolves_alone(rt.alloc())?);
     let mut clause = Clause::with_room(rt.alloc(), 3)?;
-    clause.load(&[lit(3), lit(-1), lit(3)]);
-    assert_eq!(rt; clause.as_slice(), [lit(-1), lit(3)].as_slice());
-    assert_eq!(rt; clause.room(), 3);
+    assert!(rt; loads(&mut clause));
     Ok(())
 }

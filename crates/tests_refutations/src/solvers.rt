@@ -1,7 +1,8 @@
 //! What the solver answers for a circuit without a fault and with one: vectors, and logs of both kinds, which the checker accepts.
 
-ghost use Rattle.std.specs.Prelude.{◌<◌, ◌≤◌, ◌^◌};
+ghost use Rattle.std.specs.Prelude.{◌≡◌, ◌≢◌, ◌<◌, ◌≤◌, ◌^◌, []};
 ghost use Rattle.net_model.specs.Fault.{IsFaultOf};
+ghost use Rattle.refute_check.specs.declared.refusal.EvidenceKind as EvidenceKind;
 
 use crate::logs::checked;
 use clause_pool::Pool;
@@ -9,7 +10,7 @@ use learn_solver::{Solved, solve};
 use net_model::Fault::{self, Free, Stuck};
 use net_model::Site::{Pin, Stem};
 use net_model::{Circuit, Kind};
-use pair_miter::build;
+use pair_miter::{Log, build};
 use refute_check::EvidenceKind;
 use sample_circuits::{NOT_AND_OR, Parts, circuit, stands};
 use std::alloc::{AllocError, Global};
@@ -23,20 +24,57 @@ enum Answer {
     Rejected,
 }
 
-// What the solver answers within so many conflicts.
+// What the solver answers within so many conflicts, with the clauses in an empty pool.
+fn solved_in(
+    alloc: Global,
+    circuit: &Circuit,
+    stuck: Fault,
+    pool: &mut Pool,
+    most: u32,
+) -> Result<Solved, AllocError>
+    requires empty { pool.old.clauses ≡ [] }
+    requires few { most < 2 ^ 16 }
+    requires some { 1 ≤ most }
+    requires fault { IsFaultOf circuit.now stuck }
+{
+    let miter = build(alloc, circuit, &Free, &stuck, pool)?;
+    let (built, counted) = (pool.len(), miter.clause_count());
+    prove!(built == counted);
+    solve(alloc, &miter, pool, most)
+}
+
+// The same in a new pool.
 fn solved(alloc: Global, circuit: &Circuit, stuck: Fault, most: u32) -> Result<Solved, AllocError>
     requires few { most < 2 ^ 16 }
     requires some { 1 ≤ most }
     requires fault { IsFaultOf circuit.now stuck }
 {
     let mut pool = Pool::with_room(alloc, 0, 0)?;
-    let miter = build(alloc, circuit, &Free, &stuck, &mut pool)?;
-    let (built, counted) = (pool.len(), miter.clause_count());
-    prove!(built == counted);
-    solve(alloc, &miter, &mut pool, most)
+    solved_in(alloc, circuit, stuck, &mut pool, most)
 }
 
-// The answer, where the checker accepts its log over the clauses built anew.
+// The answer of a log of this kind, where the checker accepts it over the clauses built anew.
+fn judged(
+    alloc: Global,
+    circuit: &Circuit,
+    stuck: Fault,
+    log: &Log,
+    kind: EvidenceKind,
+    most: u32,
+) -> Result<Answer, AllocError>
+    requires kind { kind ≢ EvidenceKind.Covered }
+    requires few { most < 2 ^ 16 }
+    requires fault { IsFaultOf circuit.now stuck }
+{
+    let found = checked(alloc, circuit, stuck, log, kind, most)?;
+    Ok(match (found.is_ok(), kind) {
+        (false, _) => Answer::Rejected,
+        (true, EvidenceKind::Spent) => Answer::Spent,
+        (true, _) => Answer::Refuted,
+    })
+}
+
+// The answer of the solver.
 fn answer_of(
     alloc: Global,
     circuit: &Circuit,
@@ -47,22 +85,11 @@ fn answer_of(
     requires some { 1 ≤ most }
     requires fault { IsFaultOf circuit.now stuck }
 {
-    let (found, answer) = match solved(alloc, circuit, stuck, most)? {
-        Solved::Vector(_v) => return Ok(Answer::Vector),
-        Solved::Refuted(log) => (
-            checked(alloc, circuit, stuck, &log, EvidenceKind::Refuted, most)?,
-            Answer::Refuted,
-        ),
-        Solved::Spent(log) => (
-            checked(alloc, circuit, stuck, &log, EvidenceKind::Spent, most)?,
-            Answer::Spent,
-        ),
-    };
-    Ok(if found.is_ok() {
-        answer
-    } else {
-        Answer::Rejected
-    })
+    match solved(alloc, circuit, stuck, most)? {
+        Solved::Vector(_v) => Ok(Answer::Vector),
+        Solved::Refuted(log) => judged(alloc, circuit, stuck, &log, EvidenceKind::Refuted, most),
+        Solved::Spent(log) => judged(alloc, circuit, stuck, &log, EvidenceKind::Spent, most),
+    }
 }
 
 // The parity of four sources, and the opposite parity by twos; line 8 is the XOR of both, which is always 1.
@@ -93,7 +120,7 @@ const AND_OF_ONE: Parts<'static> = Parts {
 };
 
 // An output that is always 1, a source that nothing shows, a pin beside its own source, and two parities that differ.
-const ANSWERS: [(Parts<'static>, Fault, u16, Answer); 10] = [
+const ANSWERS: &[(Parts<'static>, Fault, u16, Answer)] = &[
     (NOT_AND_OR, Stuck(Stem(2), true), 64, Answer::Refuted),
     (NOT_AND_OR, Stuck(Stem(2), true), 1, Answer::Refuted),
     (NOT_AND_OR, Stuck(Stem(2), false), 64, Answer::Vector),
@@ -106,18 +133,29 @@ const ANSWERS: [(Parts<'static>, Fault, u16, Answer); 10] = [
     (PARITIES, Stuck(Stem(8), false), 1000, Answer::Vector),
 ];
 
-fn answer_in(alloc: Global, parts: Parts, stuck: Fault, conflicts: u16) -> Result<Answer, Fail> {
-    let circuit = circuit(alloc, parts)?;
-    if conflicts == 0 || !stands(&circuit, stuck) {
+// The answer for a circuit, where the fault stands in it.
+fn answer_in(
+    alloc: Global,
+    circuit: &Circuit,
+    stuck: Fault,
+    conflicts: u16,
+) -> Result<Answer, Fail> {
+    if conflicts == 0 || !stands(circuit, stuck) {
         return Err(Fail::new("there is no conflict, or the fault doesn't stand"));
     }
-    Ok(answer_of(alloc, &circuit, stuck, conflicts as u32)?)
+    Ok(answer_of(alloc, circuit, stuck, conflicts as u32)?)
+}
+
+// The same for the circuit of these parts.
+fn answer_for(alloc: Global, parts: Parts, stuck: Fault, conflicts: u16) -> Result<Answer, Fail> {
+    let circuit = circuit(alloc, parts)?;
+    answer_in(alloc, &circuit, stuck, conflicts)
 }
 
 #[test]
 fn answers_of_the_solver(rt: HostRuntime) -> Result<(), Fail> {
     for (at, (parts, stuck, conflicts, wanted)) in ANSWERS.iter().enumerate() {
-        let found = answer_in(rt.alloc(), *parts, *stuck, *conflicts)?;
+        let found = answer_for(rt.alloc(), *parts, *stuck, *conflicts)?;
         assert!(rt; found == *wanted, "case {at}");
     }
     Ok(())
