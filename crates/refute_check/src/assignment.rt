@@ -10,7 +10,7 @@ use std::alloc::{AllocError, Global};
 
 /// What unit propagation finds at a clause: a literal is held or two are undetermined; or the literal at this place is
 /// undetermined and all others are false; or all are false.
-#[derive(Clone, Copy, Debug, PartialEq, Eq)]
+#[derive(Clone, Copy)]
 pub(crate) enum Look {
     Quiet,
     Unit(usize),

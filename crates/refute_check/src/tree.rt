@@ -43,8 +43,8 @@ pub fn check_tree(
 // none.
 #[derive(Drop)]
 struct Walk<'a> {
-    scope: Scope,
     sim: PairSim<'a>,
+    scope: Scope,
     path: Vec<(u32, bool)>,
     sources: u32,
     whole: bool,
@@ -65,8 +65,8 @@ impl<'a> Walk<'a> {
         ensures root { IfOk result (λ walk. waiting_in walk ≡ [] ∷ []) }
     {
         Ok(Walk {
-            scope: Scope::of(alloc, circuit, f, g)?,
             sim: PairSim::new(alloc, circuit, f, g)?,
+            scope: Scope::of(alloc, circuit, f, g)?,
             path: Vec::new(alloc),
             sources: circuit.sources(),
             whole: false,
