@@ -20,22 +20,32 @@ pub struct Copies {
 pub(crate) fn split_lines(alloc: Global, numbering: &Numbering) -> Result<Vec<Copies>, AllocError>
     ensures { IfOk result (λ lines. AreSplitLines numbering.now.circuit numbering.now.f numbering.now.g lines.items) }
 {
-    let mut copies = split_sources(alloc, numbering)?;
-    for line in numbering.circuit().order() {
-        push_split(&mut copies, numbering, *line)?;
-    }
+    let mut copies = Vec::new(alloc);
+    push_sources(&mut copies, numbering)?;
+    push_gates(&mut copies, numbering)?;
     Ok(copies)
 }
 
-// The copies of the split sources that have variables, ascending.
-fn split_sources(alloc: Global, numbering: &Numbering) -> Result<Vec<Copies>, AllocError>
-    ensures { IfOk result (λ copies. copies.items ≡ all_copies numbering.now.circuit numbering.now.f numbering.now.g (range_with_len 0 numbering.now.circuit.sources)) }
+// Adds the copies of the split sources that have variables, ascending, to none.
+fn push_sources(copies: &mut Vec<Copies>, numbering: &Numbering) -> Result<(), AllocError>
+    requires { copies.old.items ≡ [] }
+    ensures { OnOk result (copies.new.items ≡ all_copies numbering.now.circuit numbering.now.f numbering.now.g (range_with_len 0 numbering.now.circuit.sources)) }
 {
-    let mut copies = Vec::new(alloc);
     for source in 0..numbering.circuit().sources() {
-        push_split(&mut copies, numbering, source)?;
+        push_split(copies, numbering, source)?;
     }
-    Ok(copies)
+    Ok(())
+}
+
+// Adds those of the gates to those of the sources.
+fn push_gates(copies: &mut Vec<Copies>, numbering: &Numbering) -> Result<(), AllocError>
+    requires { copies.old.items ≡ all_copies numbering.now.circuit numbering.now.f numbering.now.g (range_with_len 0 numbering.now.circuit.sources) }
+    ensures { OnOk result (AreSplitLines numbering.now.circuit numbering.now.f numbering.now.g copies.new.items) }
+{
+    for line in numbering.circuit().order() {
+        push_split(copies, numbering, *line)?;
+    }
+    Ok(())
 }
 
 // Adds the copies of a line, if it is split and has variables.

@@ -4,10 +4,10 @@ use Rattle.net_model.specs.Circuit.{Circuit}
 use Rattle.net_model.proofs.Orders.{range_with_len_more}
 use Rattle.pair_miter.specs.SplitLines.{all_copies}
 use Rattle.pair_miter.proofs.SplitLemmas.{copies_none, copies_more}
-use Rattle.pair_miter.proofs.split.split_sources.Goals as goal
+use Rattle.pair_miter.proofs.split.push_sources.Goals as goal
 
 pub loop-source-init : goal.loop-source-init
-loop-source-init c = let p = c.args.numbering.now in c.new-copies.ensures.items ∙ sym (copies_none p.circuit p.f p.g)
+loop-source-init c = let p = c.args.numbering.now in c.requires ∙ sym (copies_none p.circuit p.f p.g)
 
 pub loop-source-preserved : goal.loop-source-preserved
 loop-source-preserved c =

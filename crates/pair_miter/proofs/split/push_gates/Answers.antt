@@ -7,12 +7,12 @@ use Rattle.net_model.proofs.Orders.{order_only}
 use Rattle.net_model.proofs.SetSoFar.{fits_from}
 use Rattle.pair_miter.specs.SplitLines.{all_copies}
 use Rattle.pair_miter.proofs.SplitLemmas.{copies_more}
-use Rattle.pair_miter.proofs.split.split_lines.Goals as goal
+use Rattle.pair_miter.proofs.split.push_gates.Goals as goal
 
 pub loop-line-init : goal.loop-line-init
 loop-line-init c =
     let p = c.args.numbering.now in
-    c.in_ok-copies.ensures ∙ ap (all_copies p.circuit p.f p.g) (sym (append-nil (range_with_len 0 p.circuit.sources)))
+    c.requires ∙ ap (all_copies p.circuit p.f p.g) (sym (append-nil (range_with_len 0 p.circuit.sources)))
 
 pub push_split-requires : goal.push_split-requires
 push_split-requires c =
