@@ -69,13 +69,32 @@ fn run(
     ensures circuit { sim.new.circuit ≡ sim.old.circuit }
     ensures found { IfOk result (IsFound sim.old.circuit f.now g.now leaves) }
 {
-    let circuit = sim.circuit();
-    sim.restart(f, g);
     let mut stack = Stack::new(alloc);
+    sim.restart(f, g);
+    go_through(alloc, sim, &mut stack, rule, leaves)
+}
+
+// Goes through the cubes of all vectors, with a stack that is empty.
+fn go_through(
+    alloc: Global,
+    sim: &mut PairSim,
+    stack: &mut Stack,
+    rule: Rule,
+    leaves: u32,
+) -> Result<Found, AllocError>
+    requires leaves { 1 ≤ leaves }
+    requires first { IsFaultOf sim.old.circuit sim.old.f }
+    requires second { IsFaultOf sim.old.circuit sim.old.g }
+    requires all { sim.old.cube ≡ [] }
+    requires empty { stack.old ≡ [] }
+    ensures circuit { sim.new.circuit ≡ sim.old.circuit }
+    ensures found { IfOk result (IsFound sim.old.circuit sim.old.f sim.old.g leaves) }
+{
+    let circuit = sim.circuit();
     let mut closed = 0;
     loop {
         let full = closed == leaves;
-        match descend(sim, &mut stack, rule, full)? {
+        match descend(sim, stack, rule, full)? {
             End::Leaf => {}
             End::Apart => return Ok(Found::Apart(stack.cube(alloc, circuit.sources())?)),
         }
@@ -83,7 +102,7 @@ fn run(
             closed += 1;
         }
         let tree = leaf(alloc, full)?;
-        match climb(alloc, sim, &mut stack, tree)? {
+        match climb(alloc, sim, stack, tree)? {
             Some(tree) => return Ok(finished(tree)),
             None => {}
         }

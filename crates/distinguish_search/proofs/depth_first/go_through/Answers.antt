@@ -6,21 +6,21 @@ use Rattle.distinguish_search.specs.End.{IsEnd}
 use Rattle.distinguish_search.specs.Found.{IsFound}
 use Rattle.distinguish_search.specs.Frames.{cube_of, IsClimbed}
 use Rattle.distinguish_search.proofs.SearchSteps.{more_then, more_else, once_here, cube_found, leaf_here, tree_found, goes_on}
-use Rattle.distinguish_search.proofs.depth_first.run.Goals as goal
-use Rattle.distinguish_search.proofs.depth_first.run.Goals.{After-climb, then-not-full, else-not-full}
+use Rattle.distinguish_search.proofs.depth_first.go_through.Goals as goal
+use Rattle.distinguish_search.proofs.depth_first.go_through.Goals.{After-climb, then-not-full, else-not-full}
 
 pub cube-requires : goal.cube-requires
 cube-requires c =
     let loop = c.loop-stack in
     subst (λ n. FixesOnce n (cube_of c.descend.new.stack)) (sym (c.sources.ensures.value ∙ ap (λ (k : Circuit). k.sources) c.circuit-circuit.ensures.value))
-    (once_here c.args.sim.now.circuit c.args.f.now c.args.g.now c.args.leaves loop.closed loop.sim loop.stack loop.invariant c.descend.new.sim c.descend.new.stack c.in_ok-descend.ensures.under_way)
+    (once_here c.args.sim.now.circuit c.args.sim.now.f c.args.sim.now.g c.args.leaves loop.closed loop.sim loop.stack loop.invariant c.descend.new.sim c.descend.new.stack c.in_ok-descend.ensures.under_way)
 
 pub returns-in-Apart-clause-found : goal.returns-in-Apart-clause-found
 returns-in-Apart-clause-found c =
     let loop = c.loop-stack in
     let new = c.descend.new.sim in
     let full = loop.closed == c.args.leaves in
-    cube_found c.args.sim.now.circuit c.args.f.now c.args.g.now c.args.leaves loop.closed loop.sim loop.stack loop.invariant new c.descend.new.stack c.in_ok-descend.ensures.under_way full
+    cube_found c.args.sim.now.circuit c.args.sim.now.f c.args.sim.now.g c.args.leaves loop.closed loop.sim loop.stack loop.invariant new c.descend.new.stack c.in_ok-descend.ensures.under_way full
     c.in_ok-cube-in-Apart.field-0.items c.circuit-circuit.ensures.circuit (subst (IsEnd loop.sim.circuit loop.sim.f loop.sim.g new.cube full) c.in-Apart.is c.in_ok-descend.ensures.ends)
     (c.in_ok-cube-in-Apart.ensures.width ∙ c.sources.ensures.value ∙ ap (λ (k : Circuit). k.sources) c.circuit-circuit.ensures.value) c.in_ok-cube-in-Apart.ensures.bits
 
@@ -29,7 +29,7 @@ climb-requires-clause-tree c =
     let loop = c.loop-stack in
     let new = c.descend.new.sim in
     let full = loop.closed == c.args.leaves in
-    leaf_here c.args.sim.now.circuit c.args.f.now c.args.g.now c.args.leaves loop.closed loop.sim loop.stack loop.invariant new c.descend.new.stack c.in_ok-descend.ensures.under_way full
+    leaf_here c.args.sim.now.circuit c.args.sim.now.f c.args.sim.now.g c.args.leaves loop.closed loop.sim loop.stack loop.invariant new c.descend.new.stack c.in_ok-descend.ensures.under_way full
     c.in_ok-tree.tree (subst (IsEnd loop.sim.circuit loop.sim.f loop.sim.g new.cube full) c.in-Leaf.is c.in_ok-descend.ensures.ends) c.in_ok-tree.ensures
 
 -- a leaf more is closed, if there was one left
@@ -44,8 +44,8 @@ returns-in-Some-clause-found c =
     let loop = c.loop-stack in
     let new = c.descend.new.sim in
     let stack = c.descend.new.stack in
-    subst (IsFound c.args.sim.now.circuit c.args.f.now c.args.g.now c.args.leaves) (sym c.finished.ensures)
-    (tree_found c.args.sim.now.circuit c.args.f.now c.args.g.now c.args.leaves loop.closed loop.sim loop.stack loop.invariant new stack c.in_ok-descend.ensures.under_way c.in_ok-descend.ensures.splits
+    subst (IsFound c.args.sim.now.circuit c.args.sim.now.f c.args.sim.now.g c.args.leaves) (sym c.finished.ensures)
+    (tree_found c.args.sim.now.circuit c.args.sim.now.f c.args.sim.now.g c.args.leaves loop.closed loop.sim loop.stack loop.invariant new stack c.in_ok-descend.ensures.under_way c.in_ok-descend.ensures.splits
     c.if-not-full.closed (closed_now (goal.at.returns-in-Some-clause-found c).After-climb) c.in_ok-tree.tree c.in_ok-tree.ensures c.climb.new.sim c.climb.new.stack c.in-Some.tree
     (subst (IsClimbed new.circuit new.f new.g c.in_ok-tree.tree stack c.climb.new.sim c.climb.new.stack) c.in-Some.is c.in_ok-tree-2.ensures.climbed))
 
@@ -54,6 +54,6 @@ loop-stack-preserved c =
     let loop = c.loop-stack in
     let new = c.descend.new.sim in
     let stack = c.descend.new.stack in
-    goes_on c.args.sim.now.circuit c.args.f.now c.args.g.now c.args.leaves loop.closed loop.sim loop.stack loop.invariant new stack c.in_ok-descend.ensures.under_way c.in_ok-descend.ensures.splits
+    goes_on c.args.sim.now.circuit c.args.sim.now.f c.args.sim.now.g c.args.leaves loop.closed loop.sim loop.stack loop.invariant new stack c.in_ok-descend.ensures.under_way c.in_ok-descend.ensures.splits
     c.if-not-full.closed (closed_now (goal.at.loop-stack-preserved c).After-climb) c.in_ok-tree.tree c.in_ok-tree.ensures c.climb.new.sim c.climb.new.stack
     (subst (IsClimbed new.circuit new.f new.g c.in_ok-tree.tree stack c.climb.new.sim c.climb.new.stack) c.in-None.is c.in_ok-tree-2.ensures.climbed)
