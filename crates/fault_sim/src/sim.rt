@@ -16,13 +16,26 @@ use std::marker::Model;
 use word_sim::{GoodSim, LANES, Lanes};
 
 /// Where the answers under the last injected fault differ from the fault-free ones, in each lane.
-#[derive(Drop)]
 pub struct FaultSim<'a> {
     circuit: &'a Circuit,
     queue: NumberQueue,
     marks: NumberQueue,
     lines: Rows,
     positions: Rows,
+}
+
+// Written out, it is one step in the proof of each function that lets a simulator go, where a derived one is a step for
+// each vector in it.
+impl Drop for FaultSim<'_> {
+    fn drop(self) {
+        let FaultSim {
+            circuit: _,
+            queue: _,
+            marks: _,
+            lines: _,
+            positions: _,
+        } = self;
+    }
 }
 
 impl<'a> Model for FaultSim<'a> {
