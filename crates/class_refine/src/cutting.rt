@@ -50,9 +50,7 @@ impl Classes {
             parents: Vec::new(alloc),
         };
         for class in 0..self.count() {
-            let mut cut = self.cut_class(alloc, answers, class)?;
-            pieces.groups.append(&mut cut.groups)?;
-            pieces.parents.append(&mut cut.parents)?;
+            self.add_pieces(alloc, answers, class, &mut pieces)?;
         }
         Ok(pieces)
     }
@@ -74,11 +72,27 @@ impl Classes {
             parents: Vec::new(alloc),
         };
         for class in classes {
-            let mut cut = self.cut_class(alloc, answers, *class)?;
-            pieces.groups.append(&mut cut.groups)?;
-            pieces.parents.append(&mut cut.parents)?;
+            self.add_pieces(alloc, answers, *class, &mut pieces)?;
         }
         Ok(pieces)
+    }
+
+    // Adds the pieces that leave a class.
+    fn add_pieces(
+        &self,
+        alloc: Global,
+        answers: &AnswerRows,
+        class: u32,
+        pieces: &mut Pieces,
+    ) -> Result<(), AllocError>
+        requires rows { length answers.now ≡ length self.now.class_of }
+        requires class { class < class_count self.now }
+        ensures { OnOk result ((lows : List ℕ) → ArePieces self.now answers.now lows pieces.old.groups.items pieces.old.parents.items → ArePieces self.now answers.now (lows ++ filter (begins_class self.now answers.now) (members self.now class)) pieces.new.groups.items pieces.new.parents.items) }
+    {
+        let mut cut = self.cut_class(alloc, answers, class)?;
+        pieces.groups.append(&mut cut.groups)?;
+        pieces.parents.append(&mut cut.parents)?;
+        Ok(())
     }
 
     // The pieces that leave a class. A number that answers as the representative stays.

@@ -2,14 +2,13 @@ use Rattle.std.proofs.Common.{◌≡◌, ℕ, List, subst, arith, filter, flat_m
 use Rattle.std.specs.List.{range_with_len}
 use Rattle.net_model.specs.ClassTable.{class_count, members, begins_class, new_lowest}
 use Rattle.class_refine.specs.Steps.{ArePieces}
-use Rattle.class_refine.proofs.Leaving.{pieces_more}
 use Rattle.class_refine.proofs.Ranges.{parts_more}
 use Rattle.class_refine.proofs.classes.Classes.pieces.Goals as goal
 
 pub loop-class-preserved : goal.loop-class-preserved
 loop-class-preserved c =
     let part : ℕ → List ℕ = λ class. filter (begins_class c.args.self.now c.args.answers.now) (members c.args.self.now class) in
-    pieces_more c.loop-class.invariant c.in_ok-cut.ensures c.in_ok-append.ensures.items c.in_ok-append-2.ensures.items (parts_more part c.loop-class.class)
+    rw (parts_more part c.loop-class.class) (c.in_ok-add_pieces.ensures _ c.loop-class.invariant)
 
 pub returns : goal.returns
 unfolding new_lowest

@@ -2,7 +2,6 @@ use Rattle.std.proofs.Common.{◌≡◌, ◌∙◌, ◌+◌, ◌++◌, [], ℕ, 
 use Rattle.std.proofs.lemmas.List.{take_more, take_all, flat_map_more}
 use Rattle.net_model.specs.ClassTable.{members, begins_class}
 use Rattle.class_refine.specs.Steps.{ArePieces}
-use Rattle.class_refine.proofs.Leaving.{pieces_more}
 use Rattle.class_refine.proofs.Listed.{listed_pieces}
 use Rattle.class_refine.proofs.classes.Classes.pieces_in.Goals as goal
 
@@ -13,7 +12,7 @@ loop-class-preserved c =
     let part : ℕ → List ℕ = λ class. filter (begins_class c.args.self.now c.args.answers.now) (members c.args.self.now class) in
     let more : flat_map part (take (i + 1) classes) ≡ flat_map part (take i classes) ++ part (get_or classes i 0) =
     ap (flat_map part) (take_more classes i 0 c.loop-class-test.true) ∙ sym (flat_map_more part [] (take i classes) (get_or classes i 0)) in
-    pieces_more c.loop-class.invariant c.in_ok-cut.ensures c.in_ok-append.ensures.items c.in_ok-append-2.ensures.items more
+    rw more (c.in_ok-add_pieces.ensures _ c.loop-class.invariant)
 
 pub returns : goal.returns
 returns c =
