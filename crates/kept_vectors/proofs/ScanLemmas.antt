@@ -1,5 +1,7 @@
 -- The working state of a keeper, for its circuit, and after a block has run.
 use Rattle.std.proofs.Common.{◌≡◌, ◌∙◌, ◌<◌, ℕ, Bool, List, false, length, Some, refl, sym, ap, subst}
+use Rattle.std.specs.Prelude.{Result, Ok, Err, OnOk, IfOk}
+use Rattle.std.specs.declared.alloc.AllocError.{AllocError}
 use Rattle.net_model.specs.Circuit.{Circuit, IsCircuit}
 use Rattle.net_model.specs.Answer.{bit_at}
 use Rattle.net_model.specs.FaultList.{faults, fault_count}
@@ -27,6 +29,11 @@ scan_of s c same is listed forest block differences blank = record {
   blank = rw same blank;
 }
 
+-- it stays a scan with another row that is clear
+pub scan_with_row : {s : Scan} → IsScan s → (row : List (List Bool)) → IsBlank s.good.circuit row
+    → IsScan (record { listed = s.listed; forest = s.forest; block = s.block; good = s.good; differences = s.differences; row = row })
+scan_with_row {s} is row blank = scan_of _ s.good.circuit refl is.circuit is.faults_are is.forest_of is.block is.differences blank
+
 module _ {scan : Scan} {good : GoodSim} (is : IsScan scan) (ran : good ≡ good_sim_with scan.good.circuit (Some scan.block.vectors)) where
   -- it stays a scan with what is noted and cleared since
   pub scan_after : (differences : Differences) (row : List (List Bool)) → AreOf good.circuit differences → IsBlank good.circuit row
@@ -47,12 +54,14 @@ module _ {scan : Scan} {good : GoodSim} (is : IsScan scan) (ran : good ≡ good_
   })
 
   -- and what is then noted of a table's classes is told of it
-  pub told_by : {splitting : List Bool} {spans : List Span} {notes : List Note} {t : ClassTable} → IsWhole t → length t.class_of ≡ fault_count scan.good.circuit → AreRight good notes
-      → ((m n : ℕ) → m < length t.class_of → n < length t.class_of → class_at t m ≡ class_at t n → AreNoted good notes m n)
-      → ((m n lane : ℕ) → m < length t.class_of → n < length t.class_of → class_at t m ≡ class_at t n → lane < length (vectors_of good) → bit_at splitting lane ≡ false → AreAlikeAt good lane m n) → ArePartsOf notes spans
-      → ((m n lane : ℕ) → m < length t.class_of → n < length t.class_of → class_at t m ≡ class_at t n → lane < length (vectors_of good) → AreShown good (lane_notes spans notes lane) notes lane m n)
-      → AreTold good scan.block.vectors splitting spans notes t
-  told_by whole numbers right noted alike parts shown = record {
+  pub told_by : (spans : List Span) (notes : List Note) (t : ClassTable) → IsWhole t → length t.class_of ≡ fault_count scan.good.circuit → (noted : Result (List Bool) AllocError) → OnOk noted (AreRight good notes)
+      → OnOk noted ((m n : ℕ) → m < length t.class_of → n < length t.class_of → class_at t m ≡ class_at t n → AreNoted good notes m n)
+      → IfOk noted (λ lanes. (m n lane : ℕ) → m < length t.class_of → n < length t.class_of → class_at t m ≡ class_at t n → lane < length (vectors_of good) → bit_at lanes lane ≡ false → AreAlikeAt good lane m n)
+      → OnOk noted (ArePartsOf notes spans)
+      → OnOk noted ((m n lane : ℕ) → m < length t.class_of → n < length t.class_of → class_at t m ≡ class_at t n → lane < length (vectors_of good) → AreShown good (lane_notes spans notes lane) notes lane m n)
+      → IfOk noted (λ lanes. AreTold good scan.block.vectors lanes spans notes t)
+  told_by spans notes t whole numbers (Err e) right noted alike parts shown = tt
+  told_by spans notes t whole numbers (Ok lanes) right noted alike parts shown = record {
     circuit = rw ran is.circuit;
     ran = ap (λ (s : GoodSim). s.ran) ran;
     whole = whole;

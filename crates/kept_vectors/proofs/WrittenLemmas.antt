@@ -1,5 +1,5 @@
 -- Rows in which the bit of a note is written.
-use Rattle.std.proofs.Common.{◌≡◌, ◌≢◌, ◌∙◌, ℕ, ◌<◌, ◌+◌, ◌&&◌, ◌||◌, Bool, true, false, not, cond, eqb, List, [], length, get_or, set, take, refl, sym, ap, subst, arith, inl, inr}
+use Rattle.std.proofs.Common.{◌≡◌, ◌≢◌, ◌∙◌, ℕ, ◌<◌, ◌+◌, ◌&&◌, ◌||◌, Bool, true, false, cond, eqb, List, [], length, get_or, set, take, refl, sym, ap, subst, arith, inl, inr}
 use Rattle.std.proofs.lemmas.Bool.{cases_eq, eq-eqb, ne_eqb}
 use Rattle.std.proofs.lemmas.List.{length-set, get_or-set_same, get_or-set_other}
 use Rattle.std.proofs.lemmas.List.Folds.{list_any_more}
@@ -83,15 +83,16 @@ module _ (notes : List Note) (i : ℕ) (note : Note) (h : i < length notes) (is 
   pub noted_more : (lane number position : ℕ) → is_noted (take (i + 1) notes) lane number position ≡ (is_noted (take i notes) lane number position || has_lane lane number position note)
   noted_more lane number position = list_any_more (has_lane lane number position) notes i note h ∙ ap (λ n. is_noted (take i notes) lane number position || has_lane lane number position n) (sym is)
 
-pub set_where : (here before : Bool) → cond here true before ≡ (before || here)
-set_where true true = refl
-set_where true false = refl
-set_where false true = refl
-set_where false false = refl
+pub written_where : (here before bit old : Bool) → cond here bit (cond before bit old) ≡ cond (before || here) bit old
+written_where true true bit old = refl
+written_where true false bit old = refl
+written_where false true bit old = refl
+written_where false false bit old = refl
 
-pub clear_where : (here all before : Bool) → cond here false (all && not before) ≡ (all && not (before || here))
-clear_where true true true = refl
-clear_where true true false = refl
-clear_where true false before = refl
-clear_where false all true = refl
-clear_where false all false = refl
+pub filled : (noted : Bool) → cond noted true false ≡ noted
+filled true = refl
+filled false = refl
+
+pub cleared : (noted : Bool) → cond noted false noted ≡ false
+cleared true = refl
+cleared false = refl

@@ -1,6 +1,6 @@
 //! A row of answers, as differences from the fault-free ones.
 
-ghost use Rattle.std.specs.Prelude.{◌≡◌, ℕ, ◌<◌, false};
+ghost use Rattle.std.specs.Prelude.{◌≡◌, ℕ, ◌<◌, false, if◌then◌else◌};
 ghost use Rattle.kept_vectors.specs.Notes.{is_noted, AreWithin, HaveSamePlaces, bit_in};
 
 use crate::notes::Note;
@@ -15,11 +15,7 @@ pub(crate) fn fill_row(notes: &[Note], lane: u32, row: &mut AnswerRows)
     ensures places { HaveSamePlaces row.old row.new }
     ensures set { (number position : ℕ) → bit_in row.new number position ≡ is_noted notes.now lane number position }
 {
-    for note in notes {
-        if note.lanes.get(lane) {
-            row.set(note.number as usize, note.position as usize, true);
-        }
-    }
+    write_bits(notes, lane, true, row);
 }
 
 // Clears what is noted in a lane.
@@ -30,9 +26,19 @@ pub(crate) fn clear_row(notes: &[Note], lane: u32, row: &mut AnswerRows)
     ensures places { HaveSamePlaces row.old row.new }
     ensures clear { (number position : ℕ) → bit_in row.new number position ≡ false }
 {
+    write_bits(notes, lane, false, row);
+}
+
+// Writes a bit where something is noted in a lane.
+fn write_bits(notes: &[Note], lane: u32, bit: bool, row: &mut AnswerRows)
+    requires lane { lane < LANES }
+    requires inside { AreWithin row.old notes.now }
+    ensures places { HaveSamePlaces row.old row.new }
+    ensures written { (number position : ℕ) → bit_in row.new number position ≡ (if is_noted notes.now lane number position then bit else bit_in row.old number position) }
+{
     for note in notes {
         if note.lanes.get(lane) {
-            row.set(note.number as usize, note.position as usize, false);
+            row.set(note.number as usize, note.position as usize, bit);
         }
     }
 }

@@ -40,11 +40,7 @@ impl Scan<'_> {
         ensures err { OnErr result (kept_now kept.new ≡ kept_now kept.old) }
     {
         let live = self.block.live();
-        self.good.run(&self.block);
-        let roots = self.forest.roots();
-        let splitting = self
-            .differences
-            .note_classes(self.listed, &self.good, roots, &kept.classes)?;
+        let splitting = self.note(&kept.classes)?;
         let lane = self.differences.tally.fullest(live);
         let Differences { spans, notes, .. } = &self.differences;
         judge_lane(

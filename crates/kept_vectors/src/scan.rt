@@ -10,7 +10,8 @@ ghost use Rattle.fault_collapse.specs.Forest.{IsForestOf};
 ghost use Rattle.fault_sim.specs.FaultyLanes.{vector_at};
 ghost use Rattle.kept_vectors.specs.Kept.{with_vector, Keeps, KeepsFirst};
 ghost use Rattle.kept_vectors.specs.Scan.{kept_now, IsScan, IsOffered, HasJudged, IsEnded};
-ghost use Rattle.kept_vectors.specs.Notes.{AreTold, IsBlank};
+ghost use Rattle.kept_vectors.specs.Notes.{AreOf, AreTold, IsBlank};
+ghost use Rattle.word_sim.specs.Block.{IsBlock};
 
 use crate::answers::{clear_row, fill_row};
 use crate::differences::Differences;
@@ -133,14 +134,35 @@ impl<'a> Scan<'a> {
         ensures scan { IfOk result IsScan }
         ensures circuit { IfOk result (λ scan. scan.good.circuit ≡ circuit.now) }
     {
-        let numbers = listed.len() as usize;
+        let good = GoodSim::new(alloc, circuit)?;
+        let differences = Differences::new(alloc, circuit, listed.len() as usize)?;
+        Scan::with(alloc, listed, forest, good, differences)
+    }
+
+    // The scan of a circuit with its simulators.
+    fn with(
+        alloc: Global,
+        listed: &'a FaultList,
+        forest: &'a Forest,
+        good: GoodSim<'a>,
+        differences: Differences<'a>,
+    ) -> Result<Scan<'a>, AllocError>
+        requires forest { IsForestOf good.circuit forest.now }
+        requires faults { listed.now ≡ faults_of good.circuit }
+        requires differences { AreOf good.circuit differences }
+        ensures scan { IfOk result IsScan }
+        ensures circuit { IfOk result (λ scan. scan.good.circuit ≡ good.entry.circuit) }
+    {
+        let circuit = good.circuit();
+        let row = AnswerRows::zeros(alloc, listed.len() as usize, circuit.positions().len())?;
+        let block = Block::new(alloc, circuit.sources())?;
         Ok(Scan {
             listed,
             forest,
-            row: AnswerRows::zeros(alloc, numbers, circuit.positions().len())?,
-            block: Block::new(alloc, circuit.sources())?,
-            good: GoodSim::new(alloc, circuit)?,
-            differences: Differences::new(alloc, circuit, numbers)?,
+            block,
+            good,
+            differences,
+            row,
         })
     }
 
@@ -173,11 +195,7 @@ impl<'a> Scan<'a> {
         if self.block.live() == 0 {
             return Ok(0);
         }
-        self.good.run(&self.block);
-        let roots = self.forest.roots();
-        let splitting = self
-            .differences
-            .note_classes(self.listed, &self.good, roots, &kept.classes)?;
+        let splitting = self.note(&kept.classes)?;
         let Differences { spans, notes, .. } = &self.differences;
         judge_lanes(
             &self.block,
@@ -189,6 +207,23 @@ impl<'a> Scan<'a> {
             kept,
             run,
         )
+    }
+
+    // Notes how the numbers of each class answer to the vectors of the block. Answers the lanes that can split a class.
+    pub(crate) fn note(&mut self, classes: &Classes) -> Result<Lanes, AllocError>
+        requires scan { IsScan self.old }
+        requires block { IsBlock self.old.block }
+        requires whole { IsWhole classes.now }
+        requires numbers { length classes.now.class_of ≡ fault_count self.old.good.circuit }
+        ensures scan { IsScan self.new }
+        ensures block { self.new.block ≡ self.old.block }
+        ensures circuit { self.new.good.circuit ≡ self.old.good.circuit }
+        ensures told { IfOk result (λ splitting. AreTold self.new.good self.old.block.vectors splitting self.new.differences.spans.items self.new.differences.notes.items classes.now) }
+    {
+        self.good.run(&self.block);
+        let roots = self.forest.roots();
+        self.differences
+            .note_classes(self.listed, &self.good, roots, classes)
     }
 }
 

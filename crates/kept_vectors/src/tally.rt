@@ -62,10 +62,11 @@ impl Tally {
         requires { lane < LANES }
     {
         let mut count: u32 = 0;
-        for digit in self.digits.iter().rev() {
-            count = count
-                .wrapping_mul(2)
-                .wrapping_add(u32::from(digit.get(lane)));
+        for at in (0..self.digits.len()).rev() {
+            count = count.wrapping_mul(2);
+            if self.digits[at].get(lane) {
+                count = count.wrapping_add(1);
+            }
         }
         count
     }

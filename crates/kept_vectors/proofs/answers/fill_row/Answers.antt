@@ -1,32 +1,9 @@
-use Rattle.std.proofs.Common.{◌∙◌, true, cond, take, sym, ap}
-use Rattle.kept_vectors.specs.Notes.{has_lane, is_noted}
-use Rattle.kept_vectors.proofs.RowLemmas.{places_later}
-use Rattle.kept_vectors.proofs.WrittenLemmas.{IsWritten, note_written, note_left, note_inside, noted_more, set_where}
+use Rattle.std.proofs.Common.{◌∙◌, true, cond, ap}
+use Rattle.kept_vectors.specs.Notes.{is_noted}
+use Rattle.kept_vectors.proofs.WrittenLemmas.{filled}
 use Rattle.kept_vectors.proofs.answers.fill_row.Goals as goal
-use Rattle.kept_vectors.proofs.answers.fill_row.Goals.{then-get, else-get}
 
-pub set-requires : goal.set-requires
-set-requires c =
-    let at = note_inside c.args.notes.now c.loop-note.note-index c.note-item.result c.loop-note-test.true c.note-item.is c.requires.inside c.loop-note.invariant.places in
-    record { row = at.0; at = at.1 }
-
-pub loop-note-preserved : goal.loop-note-preserved
-loop-note-preserved c =
-    let notes = c.args.notes.now in
-    let lane = c.args.lane in
-    let i = c.loop-note.note-index in
-    let note = c.note-item.result in
-    let row = c.loop-note.row in
-    let so_far = c.loop-note.invariant in
-    let at = note_inside notes i note c.loop-note-test.true c.note-item.is c.requires.inside so_far.places in
-    let now : IsWritten note lane true row c.if-get.row = elim c.if-get.branch [
-      | then-get w ↦ note_written note lane true row c.if-get.row at.0 at.1 w.if-get.ensures.value (w.row-is ∙ w.set.ensures)
-      | else-get w ↦ note_left note lane true row c.if-get.row w.if-get.ensures.value w.row-is
-    ] in
-    record {
-      places = places_later so_far.places now.places;
-      set = λ number position.
-          let here = has_lane lane number position note in
-          let before = is_noted (take i notes) lane number position in
-          now.bits number position ∙ (ap (cond here true) (so_far.set number position) ∙ (set_where here before ∙ sym (noted_more notes i note c.loop-note-test.true c.note-item.is lane number position)));
-    }
+pub returns-clause-set : goal.returns-clause-set
+returns-clause-set c = λ number position.
+    let noted = is_noted c.args.notes.now c.args.lane number position in
+    c.write_bits.ensures.written number position ∙ (ap (cond noted true) (c.requires.clear number position) ∙ filled noted)

@@ -1,6 +1,29 @@
-use Rattle.std.proofs.Common.{◌∙◌, ap, length}
-use Rattle.kept_vectors.proofs.KeepLemmas.{some_number}
+use Rattle.std.proofs.Common.{◌≡◌, ◌∙◌, length, sym, ap, subst}
+use Rattle.net_model.specs.Circuit.{Circuit}
+use Rattle.net_model.specs.ClassTable.{first_table}
+use Rattle.net_model.specs.FaultList.{fault_count}
+use Rattle.word_sim.specs.StreamState.{stream_at}
+use Rattle.kept_vectors.specs.Keeper.{keeper_with, IsKeeper}
+use Rattle.kept_vectors.specs.Kept.{nothing_kept}
+use Rattle.kept_vectors.proofs.KeepLemmas.{keeper_first, some_number}
 use Rattle.kept_vectors.proofs.keeper.Keeper.new.Goals as goal
 
 pub new-requires : goal.new-requires
 new-requires c = rw (c.len.ensures.value ∙ ap length c.requires.faults) (some_number c.args.circuit.now)
+
+first_keeper : (c : goal.After-new-stream) → keeper_with c.in_ok-scan.scan.good.circuit (record { vectors = c.new-vectors.result.items; table = c.in_ok-classes.classes }) ≡ keeper_with c.args.circuit.now (nothing_kept (fault_count c.args.circuit.now))
+first_keeper c =
+    let table = c.in_ok-classes.ensures ∙ ap first_table (c.len.ensures.value ∙ ap length c.requires.faults) in
+    λ i. keeper_with (c.in_ok-scan.ensures.circuit i) (record { vectors = c.new-vectors.ensures.items i; table = table i })
+
+pub invariant_of-result : goal.invariant_of-result
+invariant_of-result c =
+    let scan = c.in_ok-scan.ensures in
+    record {
+      scan = scan.scan;
+      keeper = subst IsKeeper (sym (first_keeper c)) (keeper_first c.args.circuit.now c.sources.ensures.circuit);
+      stream = (0, c.new-stream.ensures ∙ ap (λ n. stream_at n 0) (c.sources.ensures.value ∙ ap (λ (k : Circuit). k.sources) (sym scan.circuit)));
+    }
+
+pub returns : goal.returns
+returns c = first_keeper c
