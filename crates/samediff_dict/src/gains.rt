@@ -1,10 +1,10 @@
 //! How many pairs of classes each candidate tells apart.
 
 ghost use Rattle.std.specs.Prelude.{◌≡◌, ◌<◌, ◌^◌, length, IfOk, slice_index};
-ghost use Rattle.samediff_dict.specs.Groups.{AreWithin, AreGains, gain_at, in_one, IsFirstMost, IsFoundAbove};
+ghost use Rattle.samediff_dict.specs.Groups.{AreWithin, AreGains, AreGroups, InBoth, IsTallyOf, gain_at, in_one, IsFirstMost, IsFoundAbove};
 ghost use Rattle.samediff_dict.specs.Partition.{IsListed, are_together};
 
-use crate::groups::Groups;
+use crate::groups::{Groups, Tally};
 use crate::partition::{Partition, picked};
 use std::alloc::{AllocError, Global};
 
@@ -25,6 +25,28 @@ impl Groups {
         let cells = self.meet(alloc, answers)?;
         let all = self.tally(alloc)?;
         let alike = cells.tally(alloc)?;
+        self.gains_by(alloc, answers, candidates, &cells, &all, &alike)
+    }
+
+    // The same by the sizes of the groups and those of their parts that answer alike.
+    fn gains_by(
+        &self,
+        alloc: Global,
+        answers: &[u32],
+        candidates: usize,
+        cells: &Groups,
+        all: &Tally,
+        alike: &Tally,
+    ) -> Result<Vec<u64>, AllocError>
+        requires long { length answers.now ≡ length self.now.group_of.items }
+        requires few { length answers.now < 2 ^ 32 }
+        requires within { AreWithin self.now.group_of.items self.now.count }
+        requires known { AreWithin answers.now candidates }
+        requires cells { AreGroups (length answers.now) (InBoth self.now.group_of.items answers.now) cells.now.group_of.items cells.now.count }
+        requires all { IsTallyOf self.now.group_of.items self.now.count all.now.sizes.items all.now.together }
+        requires alike { IsTallyOf cells.now.group_of.items cells.now.count alike.now.sizes.items alike.now.together }
+        ensures { IfOk result (λ gains. AreGains (in_one self.now.group_of.items) answers.now candidates gains.items) }
+    {
         let groups = self.group_of.as_slice();
         let parts = cells.group_of.as_slice();
         let sizes = all.sizes.as_slice();

@@ -1,10 +1,12 @@
 //! The answers of the classes to a circuit's patterns, some patterns at a time.
 
+ghost use Rattle.net_model.specs.ClassTable.{class_count, representative};
 ghost use Rattle.net_model.specs.FaultList.{fault_count};
 ghost use Rattle.net_model.specs.Rows.{row_at};
 ghost use Rattle.samediff_dict.specs.Numbered.{AreNumbered, baselines_at};
 ghost use Rattle.samediff_dict.specs.Setting.{AreAnswersOfNumbers, AreChosenOf};
-ghost use Rattle.std.specs.Prelude.{◌≡◌, ◌+◌, ◌-◌, ◌<◌, ◌≤◌, ◌^◌, ℕ, length, All, IfOk};
+ghost use Rattle.std.specs.List.{range_with_len};
+ghost use Rattle.std.specs.Prelude.{◌≡◌, ◌+◌, ◌-◌, ◌<◌, ◌≤◌, ◌^◌, ℕ, length, map, All, IfOk};
 ghost use Rattle.table_dicts.specs.AnswerTable.{Answers, HasSizes, answer_to};
 ghost use Rattle.table_dicts.specs.Rows.{AreRows};
 ghost use Rattle.table_dicts.specs.Setting.{IsSetting, AreAnswersAt};
@@ -25,11 +27,25 @@ pub(crate) fn candidates(alloc: Global, setting: &Setting) -> Result<Vec<Candida
     requires { IsSetting setting.now }
     ensures { IfOk result (λ patterns. (t : Answers) → AreAnswersAt setting.now t → AreNumbered setting.now.classes.now t.rows patterns.items) }
 {
-    let count = setting.classes.count();
     let lowest = representatives(alloc, setting.classes)?;
-    let lowest = lowest.as_slice();
-    let leads = first_numbers(alloc, count)?;
-    let leads = leads.as_slice();
+    let leads = first_numbers(alloc, setting.classes.count())?;
+    candidates_of(alloc, setting, lowest.as_slice(), leads.as_slice())
+}
+
+// The same by the lowest number of each class, and the classes.
+fn candidates_of(
+    alloc: Global,
+    setting: &Setting,
+    lowest: &[u32],
+    leads: &[u32],
+) -> Result<Vec<Candidates>, AllocError>
+    requires setting { IsSetting setting.now }
+    requires lowest { lowest.now ≡ map (representative setting.now.classes.now) (range_with_len 0 (class_count setting.now.classes.now)) }
+    requires within { All (λ number. number < fault_count setting.now.circuit.now) lowest.now }
+    requires leads { leads.now ≡ range_with_len 0 (class_count setting.now.classes.now) }
+    ensures { IfOk result (λ patterns. (t : Answers) → AreAnswersAt setting.now t → AreNumbered setting.now.classes.now t.rows patterns.items) }
+{
+    let count = setting.classes.count();
     let vectors = setting.patterns.as_slice();
     let at_once = patterns_at_once(count, setting.circuit.positions().len() as u32);
     let mut patterns = Vec::with_capacity(alloc, vectors.len())?;

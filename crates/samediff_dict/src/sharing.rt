@@ -48,6 +48,21 @@ impl Partition {
     {
         let classes = self.classes.as_slice();
         let places = matching(alloc, classes, other.classes.as_slice())?;
+        self.meet_at(alloc, other, &places)
+    }
+
+    // The same, where the classes that stand in both are at these places.
+    fn meet_at(
+        &self,
+        alloc: Global,
+        other: &Partition,
+        places: &Places,
+    ) -> Result<Partition, AllocError>
+        requires listed { (classes : ℕ) × (classes < 2 ^ 32) × IsListed classes self.now × IsListed classes other.now }
+        requires matched { AreMatched self.now.classes.items other.now.classes.items (length self.now.classes.items) places.now.here.items places.now.there.items }
+        ensures { IfOk result (λ both. (classes : ℕ) → IsListed classes self.now → IsListed classes other.now → IsPartition classes (TogetherInBoth self.now other.now) both) }
+    {
+        let classes = self.classes.as_slice();
         let here = places.here.as_slice();
         let ours = Groups {
             group_of: picked(alloc, self.groups.group_of.as_slice(), here)?,

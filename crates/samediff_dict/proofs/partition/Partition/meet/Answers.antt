@@ -1,12 +1,7 @@
-use Rattle.std.proofs.Common.{◌≡◌, ◌∙◌, ◌<◌, ◌^◌, ℕ, List, length, get_or, ap, subst, arith}
-use Rattle.std.proofs.lemmas.List.{get_or_default}
-use Rattle.samediff_dict.specs.Groups.{AreGroups, InBoth}
-use Rattle.samediff_dict.specs.Partition.{AreMatched}
-use Rattle.samediff_dict.proofs.ListedLemmas.{ascending_few, listed_few}
-use Rattle.samediff_dict.proofs.CutLemmas.{met_partition}
+use Rattle.std.proofs.Common.{length, ap, arith}
+use Rattle.samediff_dict.proofs.ListedLemmas.{listed_few}
 use Rattle.samediff_dict.proofs.MatchLemmas.{matched_in}
 use Rattle.samediff_dict.proofs.partition.Partition.meet.Goals as goal
-use Rattle.samediff_dict.proofs.partition.Partition.meet.Goals.{In_ok-places}
 
 pub matching-requires-clause-few : goal.matching-requires-clause-few
 matching-requires-clause-few c = omega (arith, ap length c.as_slice-classes.ensures.value, listed_few c.requires.2, c.requires.1)
@@ -14,51 +9,5 @@ matching-requires-clause-few c = omega (arith, ap length c.as_slice-classes.ensu
 pub matching-requires-clause-others_few : goal.matching-requires-clause-others_few
 matching-requires-clause-others_few c = omega (arith, ap length c.as_slice.ensures.value, listed_few c.requires.3, c.requires.1)
 
-matched : (c : In_ok-places) → AreMatched c.args.self.now.classes.items c.args.other.now.classes.items (length c.args.self.now.classes.items) c.in_ok-places.places.here.items c.in_ok-places.places.there.items
-matched c = matched_in c.as_slice-classes.ensures.value c.as_slice.ensures.value c.in_ok-places.ensures
-
--- the places are places of the lists
-here_within : (c : In_ok-places) (items : List ℕ) → items ≡ c.in_ok-places.places.here.items → (k d : ℕ) → k < length items → get_or items k d < length c.args.self.now.classes.items
-here_within c items same k d h = omega (arith, get_or_default items k d 0 h, ap (λ (xs : List ℕ). get_or xs k 0) same, (matched c).within k (omega (arith, h, ap length same)))
-
-there_within : (c : In_ok-places) (items : List ℕ) → items ≡ c.in_ok-places.places.there.items → (k d : ℕ) → k < length items → get_or items k d < length c.args.other.now.classes.items
-there_within c items same k d h = omega (arith, get_or_default items k d 0 h, ap (λ (xs : List ℕ). get_or xs k 0) same, (matched c).there_within k (omega (arith, h, ap length same)))
-
-pub picked-requires : goal.picked-requires
-picked-requires c = λ k d h.
-    let at = (goal.at.picked-requires c).In_ok-places in
-    omega (arith, here_within at c.as_slice-here.result.now c.as_slice-here.ensures.value k d h, ap length c.as_slice-2.ensures.value, c.requires.2.one_each)
-
-pub picked-requires-2 : goal.picked-requires-2
-picked-requires-2 c = λ k d h.
-    let at = (goal.at.picked-requires-2 c).In_ok-places in
-    omega (arith, there_within at c.as_slice-4.result.now c.as_slice-4.ensures.value k d h, ap length c.as_slice-3.ensures.value, c.requires.3.one_each)
-
-pub picked-requires-3 : goal.picked-requires-3
-picked-requires-3 c = λ k d h.
-    let at = (goal.at.picked-requires-3 c).In_ok-places in
-    omega (arith, here_within at c.as_slice-here.result.now c.as_slice-here.ensures.value k d h, ap length c.as_slice-classes.ensures.value)
-
--- no more places are found than there are classes
-here_few : (c : In_ok-places) → length c.in_ok-places.places.here.items < 2 ^ 32
-here_few c =
-    let are = matched c in
-    omega (arith, ascending_few c.in_ok-places.places.here.items (length c.args.self.now.classes.items) are.ascending are.within, listed_few c.requires.2, c.requires.1)
-
-pub meet-requires-clause-few : goal.meet-requires-clause-few
-meet-requires-clause-few c =
-    let at = (goal.at.meet-requires-clause-few c).In_ok-places in
-    omega (arith, here_few at, (matched at).one_each, ap length c.as_slice-5.ensures.value, c.in_ok-theirs.ensures.long, ap length c.as_slice-4.ensures.value)
-
-pub returns : goal.returns
-returns c classes listed other_listed =
-    let here = c.as_slice-here.ensures.value in
-    let there = c.as_slice-4.ensures.value in
-    let are = matched_in c.as_slice-classes.ensures.value c.as_slice.ensures.value c.in_ok-places.ensures in
-    met_partition listed other_listed c.in_ok-places.places.here.items c.in_ok-places.places.there.items are c.in_ok-picked.field-0.items c.in_ok-theirs.theirs.items
-    (λ k h. c.in_ok-picked.ensures.each k (omega (arith, h, ap length here)) ∙ (λ i. get_or (c.as_slice-2.ensures.value i) (get_or (here i) k 0) 0))
-    (c.in_ok-theirs.ensures.long ∙ (ap length there ∙ are.one_each))
-    (λ k h. c.in_ok-theirs.ensures.each k (omega (arith, h, ap length there, are.one_each)) ∙ (λ i. get_or (c.as_slice-3.ensures.value i) (get_or (there i) k 0) 0))
-    (subst (λ (xs : List ℕ). AreGroups (length xs) (InBoth c.in_ok-picked.field-0.items xs) c.in_ok-meet.field-0.group_of.items c.in_ok-meet.field-0.count) c.as_slice-5.ensures.value c.in_ok-meet.ensures)
-    (c.in_ok-picked-2.ensures.long ∙ ap length here)
-    (λ k h. c.in_ok-picked-2.ensures.each k (omega (arith, h, ap length here)) ∙ (λ i. get_or (c.as_slice-classes.ensures.value i) (get_or (here i) k 0) 0))
+pub meet_at-requires-clause-matched : goal.meet_at-requires-clause-matched
+meet_at-requires-clause-matched c = matched_in c.as_slice-classes.ensures.value c.as_slice.ensures.value c.in_ok-places.ensures

@@ -4,37 +4,37 @@ use Rattle.samediff_dict.specs.Groups.{AreWithin}
 use Rattle.samediff_dict.proofs.PairLemmas.{others_of}
 use Rattle.samediff_dict.proofs.TallyLemmas.{sum_to_none}
 use Rattle.samediff_dict.proofs.GainLemmas.{size_split, others-few, gain_to, gain_all, gains_more, gains_bound}
-use Rattle.samediff_dict.proofs.groups.Groups.gains.Goals as goal
-use Rattle.samediff_dict.proofs.groups.Groups.gains.Goals.{After-size_of-part}
+use Rattle.samediff_dict.proofs.groups.Groups.gains_by.Goals as goal
+use Rattle.samediff_dict.proofs.groups.Groups.gains_by.Goals.{After-size_of-part}
 
 pub size_of-size-requires-clause-place : goal.size_of-size-requires-clause-place
 size_of-size-requires-clause-place c = omega (arith, ap length c.as_slice-groups.ensures.value, c.requires.long)
 
 pub size_of-size-requires-clause-within : goal.size_of-size-requires-clause-within
 size_of-size-requires-clause-within c =
-    let long : length c.as_slice-sizes.result.now ≡ c.args.self.now.count = ap length c.as_slice-sizes.ensures.value ∙ c.in_ok-all.ensures.count_is in
+    let long : length c.as_slice-sizes.result.now ≡ c.args.self.now.count = ap length c.as_slice-sizes.ensures.value ∙ c.requires.all.count_is in
     subst (λ n. AreWithin c.as_slice-groups.result.now n) (sym long) (subst (λ (gs : List ℕ). AreWithin gs c.args.self.now.count) (sym c.as_slice-groups.ensures.value) c.requires.within)
 
 pub size_of-part-requires-clause-place : goal.size_of-part-requires-clause-place
-size_of-part-requires-clause-place c = omega (arith, ap length c.as_slice-parts.ensures.value, c.in_ok-cells.ensures.one_each)
+size_of-part-requires-clause-place c = omega (arith, ap length c.as_slice-parts.ensures.value, c.requires.cells.one_each)
 
 pub size_of-part-requires-clause-within : goal.size_of-part-requires-clause-within
 size_of-part-requires-clause-within c =
-    let long : length c.as_slice-part_sizes.result.now ≡ c.in_ok-cells.cells.count = ap length c.as_slice-part_sizes.ensures.value ∙ c.in_ok-alike.ensures.count_is in
-    subst (λ n. AreWithin c.as_slice-parts.result.now n) (sym long) (subst (λ (gs : List ℕ). AreWithin gs c.in_ok-cells.cells.count) (sym c.as_slice-parts.ensures.value) c.in_ok-cells.ensures.within)
+    let long : length c.as_slice-part_sizes.result.now ≡ c.args.cells.now.count = ap length c.as_slice-part_sizes.ensures.value ∙ c.requires.alike.count_is in
+    subst (λ n. AreWithin c.as_slice-parts.result.now n) (sym long) (subst (λ (gs : List ℕ). AreWithin gs c.args.cells.now.count) (sym c.as_slice-parts.ensures.value) c.requires.cells.within)
 
 -- the size of a group is that of the part with the others that answer otherwise
 split : (c : After-size_of-part) → c.size_of-size.result ≡ c.size_of-part.result + others_of c.args.self.now.group_of.items c.args.answers.now (length c.args.answers.now) c.loop-place.place
 split c =
     let groups = c.args.self.now.group_of.items in
     let answers = c.args.answers.now in
-    let cells = c.in_ok-cells.cells.group_of.items in
+    let cells = c.args.cells.now.group_of.items in
     let place = c.loop-place.place in
     let inside : place < length answers = omega arith in
-    let size : c.size_of-size.result ≡ get_or c.in_ok-all.all.sizes.items (get_or groups place 0) 0 = c.size_of-size.ensures ∙ (λ i. get_or (c.as_slice-sizes.ensures.value i) (get_or (c.as_slice-groups.ensures.value i) place 0) 0) in
-    let part : c.size_of-part.result ≡ get_or c.in_ok-alike.alike.sizes.items (get_or cells place 0) 0 = c.size_of-part.ensures ∙ (λ i. get_or (c.as_slice-part_sizes.ensures.value i) (get_or (c.as_slice-parts.ensures.value i) place 0) 0) in
-    let both = size_split groups answers cells c.args.self.now.count c.in_ok-cells.cells.count c.in_ok-all.all.sizes.items c.in_ok-alike.alike.sizes.items c.in_ok-all.all.together c.in_ok-alike.alike.together
-    c.in_ok-cells.ensures c.requires.long c.in_ok-all.ensures c.in_ok-alike.ensures place inside (c.requires.within place (omega (arith, inside, c.requires.long))) in
+    let size : c.size_of-size.result ≡ get_or c.args.all.now.sizes.items (get_or groups place 0) 0 = c.size_of-size.ensures ∙ (λ i. get_or (c.as_slice-sizes.ensures.value i) (get_or (c.as_slice-groups.ensures.value i) place 0) 0) in
+    let part : c.size_of-part.result ≡ get_or c.args.alike.now.sizes.items (get_or cells place 0) 0 = c.size_of-part.ensures ∙ (λ i. get_or (c.as_slice-part_sizes.ensures.value i) (get_or (c.as_slice-parts.ensures.value i) place 0) 0) in
+    let both = size_split groups answers cells c.args.self.now.count c.args.cells.now.count c.args.all.now.sizes.items c.args.alike.now.sizes.items c.args.all.now.together c.args.alike.now.together
+    c.requires.cells c.requires.long c.requires.all c.requires.alike place inside (c.requires.within place (omega (arith, inside, c.requires.long))) in
     size ∙ (both ∙ ap (λ n. n + others_of groups answers (length answers) place) (sym part))
 
 pub loop-place-init : goal.loop-place-init

@@ -2,7 +2,7 @@ use Rattle.std.proofs.Common.{length, ◌-◌, ◌≤◌}
 use Rattle.table_dicts.specs.AnswerTable.{Answers}
 use Rattle.table_dicts.specs.Setting.{AreAnswersAt}
 use Rattle.samediff_dict.proofs.MadeLemmas.{AreNumberedTo}
-use Rattle.samediff_dict.proofs.setting.candidates.Given as goal
+use Rattle.samediff_dict.proofs.setting.candidates_of.Given as goal
 
 abbrev pub invariant-loop-first : goal.invariant-loop-first
 invariant-loop-first l = record {
