@@ -1,63 +1,47 @@
 //! Two small tables, worked out by hand.
 
-ghost use Rattle.std.specs.Prelude.{◌≡◌, ◌<◌, length, All, IfOk};
+ghost use Rattle.std.specs.Prelude.{◌≡◌, length, IfOk};
 
 use class_refine::Classes;
 use net_model::AnswerRows;
-use std::alloc::{AllocError, Global};
-use std::process::Abort;
+use std::alloc::Global;
 use std::test::Fail;
 
-// The faults of an AND of two sources at the vectors 00, 10, 01 and 11: the free circuit, each source at 0 and at 1,
-// and the gate at 0 and at 1.
-fn and_classes(rt: &impl Abort, alloc: Global) -> Result<Classes, Fail>
-    ensures { IfOk result (λ classes. length classes.class_of ≡ 7) }
+// The numbers and places at which rows of answers are 1, and how many classes these rows add.
+type Cut = (&'static [(usize, usize)], u32);
+
+// Whether each of these rows adds so many classes.
+fn are_added(
+    alloc: Global,
+    classes: &mut Classes,
+    numbers: u32,
+    width: usize,
+    cuts: &[Cut],
+) -> Result<bool, Fail>
+    requires { length classes.old.class_of ≡ numbers }
+    ensures { length classes.new.class_of ≡ numbers }
 {
-    let mut classes = Classes::new(alloc, 7)?;
-    let at_00 = rows_with(alloc, 7, 1, &[(6, 0)])?;
-    let at_10 = rows_with(alloc, 7, 1, &[(4, 0), (6, 0)])?;
-    let at_01 = rows_with(alloc, 7, 1, &[(2, 0), (6, 0)])?;
-    let at_11 = rows_with(alloc, 7, 1, &[(0, 0), (2, 0), (4, 0), (6, 0)])?;
-    assert_eq!(rt; classes.refine(&at_00)?, 1);
-    assert_eq!(rt; classes.refine(&at_10)?, 1);
-    assert_eq!(rt; classes.refine(&at_01)?, 1);
-    assert_eq!(rt; classes.refine(&at_11)?, 1);
-    assert_eq!(rt; classes.refine(&at_10)?, 0);
-    Ok(classes)
+    for (ones, added) in cuts {
+        if added_by(alloc, classes, numbers, width, *ones)? != *added {
+            return Ok(false);
+        }
+    }
+    Ok(true)
 }
 
-#[test]
-fn classes_of_an_and(rt: HostRuntime) -> Result<(), Fail> {
-    let classes = and_classes(&rt, rt.alloc())?;
-    assert_eq!(rt; classes.count(), 5);
-    assert_eq!(rt; classes.patterns(), 4);
-    assert_eq!(rt; classes.class_of(6), 1);
-    assert_eq!(rt; classes.class_of(4), 2);
-    assert_eq!(rt; classes.class_of(2), 3);
-    assert_eq!(rt; classes.members(4), [1, 3, 5].as_slice());
-    assert_eq!(rt; classes.representative(4), 1);
-    assert_eq!(rt; classes.born(4), Some((0, 3)));
-    assert_eq!(rt; classes.born(0), None);
-    assert_eq!(rt; classes.named(0, 4), 3);
-    assert_eq!(rt; classes.named(3, 2), 1);
-    Ok(())
-}
-
-// Two pieces leave class 0 at one pattern, and one leaves class 1 at the next: new numbers go by class and then by
-// lowest member.
-#[test]
-fn new_numbers_go_by_class(rt: HostRuntime) -> Result<(), Fail> {
-    let alloc = rt.alloc();
-    let mut classes = Classes::new(alloc, 6)?;
-    let first = rows_with(alloc, 6, 2, &[(3, 0), (4, 1), (5, 0)])?;
-    let second = rows_with(alloc, 6, 2, &[(5, 0), (2, 0)])?;
-    assert_eq!(rt; classes.refine(&first)?, 2);
-    assert_eq!(rt; classes.refine(&second)?, 2);
-    assert_eq!(rt; classes.count(), 5);
-    assert_eq!(rt; classes.class_of(2), 3);
-    assert_eq!(rt; classes.class_of(5), 4);
-    assert_eq!(rt; classes.born(4), Some((1, 1)));
-    Ok(())
+// How many classes are added by the rows that are 1 at these numbers and places.
+fn added_by(
+    alloc: Global,
+    classes: &mut Classes,
+    numbers: u32,
+    width: usize,
+    ones: &[(usize, usize)],
+) -> Result<u32, Fail>
+    requires { length classes.old.class_of ≡ numbers }
+    ensures { length classes.new.class_of ≡ numbers }
+{
+    let rows = rows_with(alloc, numbers as usize, width, ones)?;
+    Ok(classes.refine(&rows)?)
 }
 
 // Rows of answers that are 1 at these numbers and places, and else 0.
@@ -66,13 +50,63 @@ fn rows_with(
     numbers: usize,
     width: usize,
     ones: &[(usize, usize)],
-) -> Result<AnswerRows, AllocError>
-    requires { All (λ one. (one.0 < numbers) × (one.1 < width)) ones.now }
+) -> Result<AnswerRows, Fail>
     ensures { IfOk result (λ rows. length rows ≡ numbers) }
 {
     let mut rows = AnswerRows::zeros(alloc, numbers, width)?;
     for (number, at) in ones {
+        if *number >= numbers || *at >= width {
+            return Err(Fail::new("there is no such answer"));
+        }
         rows.set(*number, *at, true);
     }
     Ok(rows)
+}
+
+// The faults of an AND of two sources at the vectors 00, 10, 01 and 11, and at 10 again: the free circuit, each source at 0
+// and at 1, and the gate at 0 and at 1.
+const CUTS_OF_AND: [Cut; 5] = [
+    (&[(6, 0)], 1),
+    (&[(4, 0), (6, 0)], 1),
+    (&[(2, 0), (6, 0)], 1),
+    (&[(0, 0), (2, 0), (4, 0), (6, 0)], 1),
+    (&[(4, 0), (6, 0)], 0),
+];
+
+#[test]
+fn classes_of_an_and(rt: HostRuntime) -> Result<(), Fail> {
+    let mut classes = Classes::new(rt.alloc(), 7)?;
+    assert!(rt; are_added(rt.alloc(), &mut classes, 7, 1, &CUTS_OF_AND)?);
+    assert!(rt; are_of_and(&classes));
+    Ok(())
+}
+
+// Whether these are the classes of the faults of an AND.
+fn are_of_and(classes: &Classes) -> bool
+    requires { length classes.now.class_of ≡ 7 }
+{
+    classes.count() == 5
+        && classes.patterns() == 4
+        && classes.class_of(6) == 1
+        && classes.class_of(4) == 2
+        && classes.class_of(2) == 3
+        && classes.members(4) == [1, 3, 5].as_slice()
+        && classes.representative(4) == 1
+        && classes.born(4) == Some((0, 3))
+        && classes.born(0) == None
+        && classes.named(0, 4) == 3
+        && classes.named(3, 2) == 1
+}
+
+// Two pieces leave class 0 at one pattern, and one leaves class 1 at the next: new numbers go by class and then by
+// lowest member.
+const CUTS_BY_CLASS: [Cut; 2] = [(&[(3, 0), (4, 1), (5, 0)], 2), (&[(5, 0), (2, 0)], 2)];
+
+#[test]
+fn new_numbers_go_by_class(rt: HostRuntime) -> Result<(), Fail> {
+    let mut classes = Classes::new(rt.alloc(), 6)?;
+    assert!(rt; are_added(rt.alloc(), &mut classes, 6, 2, &CUTS_BY_CLASS)?);
+    let numbered = classes.count() == 5 && classes.class_of(2) == 3 && classes.class_of(5) == 4;
+    assert!(rt; numbered && classes.born(4) == Some((1, 1)));
+    Ok(())
 }
