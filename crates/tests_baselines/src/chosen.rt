@@ -4,11 +4,11 @@ ghost use Rattle.std.specs.Prelude.{◌≡◌, ◌<◌, length, IfOk};
 ghost use Rattle.table_dicts.specs.Rows.{AreRows};
 
 use crate::agreeing::alike;
-use crate::made::{Given, classes_of, spelled, table_of};
+use crate::made::{Given, are_spelled, classes_of, table_of};
 use class_refine::Classes;
 use net_model::AnswerRows;
 use samediff_dict::choose;
-use std::alloc::Global;
+use std::alloc::{AllocError, Global};
 use std::test::Fail;
 use table_dicts::{AnswerTable, apart, pass_fail, project};
 
@@ -48,41 +48,71 @@ fn apart_by(
     table: &AnswerTable,
     classes: &Classes,
     baselines: &AnswerRows,
-) -> Result<u64, Fail>
+) -> Result<u64, AllocError>
     requires some { 0 < table.now.numbers }
     requires numbers { length classes.now.class_of ≡ table.now.numbers }
     requires rows { AreRows (length table.now.rows) table.now.positions baselines.now }
 {
     let dict = project(alloc, table, baselines)?;
-    Ok(apart(alloc, &dict, classes)?)
+    apart(alloc, &dict, classes)
 }
 
 // How many the fault-free answers keep apart.
-fn apart_by_failing(alloc: Global, table: &AnswerTable, classes: &Classes) -> Result<u64, Fail>
+fn apart_by_failing(
+    alloc: Global,
+    table: &AnswerTable,
+    classes: &Classes,
+) -> Result<u64, AllocError>
     requires some { 0 < table.now.numbers }
     requires numbers { length classes.now.class_of ≡ table.now.numbers }
 {
     let dict = pass_fail(alloc, table)?;
-    Ok(apart(alloc, &dict, classes)?)
+    apart(alloc, &dict, classes)
+}
+
+// Whether baselines and the fault-free answers keep so many pairs of classes apart.
+fn keep_apart(
+    alloc: Global,
+    table: &AnswerTable,
+    classes: &Classes,
+    baselines: &AnswerRows,
+    pairs: [u64; 2],
+) -> Result<bool, AllocError>
+    requires some { 0 < table.now.numbers }
+    requires numbers { length classes.now.class_of ≡ table.now.numbers }
+    requires rows { AreRows (length table.now.rows) table.now.positions baselines.now }
+{
+    Ok(
+        apart_by(alloc, table, classes, baselines)? == pairs[0]
+            && apart_by_failing(alloc, table, classes)? == pairs[1],
+    )
+}
+
+// Whether a table has these classes and chosen baselines, and so many pairs are kept apart.
+fn agrees(alloc: Global, table: &AnswerTable, classes: &Classes, case: &Case) -> Result<bool, Fail>
+    requires some { 0 < table.now.numbers }
+    requires numbers { length classes.now.class_of ≡ table.now.numbers }
+{
+    let (_, wanted, baselines, pairs) = *case;
+    let rows = chosen(alloc, table, classes)?;
+    Ok(
+        are_spelled(alloc, &rows, baselines)?
+            && keep_apart(alloc, table, classes, &rows, pairs)?
+            && are_classes(classes, table.numbers(), wanted),
+    )
 }
 
 fn holds(alloc: Global, case: &Case) -> Result<bool, Fail> {
-    let ((numbers, positions, answers), wanted, baselines, pairs) = *case;
+    let (numbers, positions, answers) = case.0;
     if numbers == 0 {
         return Err(Fail::new("there is no number"));
     }
     let table = table_of(alloc, numbers, positions, answers)?;
     let classes = classes_of(alloc, answers, numbers, positions)?;
-    let rows = chosen(alloc, &table, &classes)?;
-    let found = [
-        apart_by(alloc, &table, &classes, &rows)?,
-        apart_by_failing(alloc, &table, &classes)?,
-    ];
-    let same = spelled(alloc, &rows)?.as_str() == baselines;
-    Ok(same && found == pairs && are_classes(&classes, numbers, wanted))
+    agrees(alloc, &table, &classes, case)
 }
 
-const CASES: [Case; 8] = [
+const CASES: &[Case] = &[
     // The first step alone decides.
     (
         (4, 2, &["00 01 01 10", "00 01 10 01"]),

@@ -71,11 +71,39 @@ pub(crate) fn classes_of(
     ensures { IfOk result (λ classes. length classes.class_of ≡ numbers) }
 {
     let mut classes = Classes::new(alloc, numbers)?;
-    for text in answers {
-        let rows = rows_of(alloc, numbers as usize, positions as usize, text.as_bytes())?;
-        refine(&mut classes, numbers, &rows)?;
-    }
+    refine_all(alloc, &mut classes, answers, numbers, positions)?;
     Ok(classes)
+}
+
+fn refine_all(
+    alloc: Global,
+    classes: &mut Classes,
+    answers: &[&str],
+    numbers: u32,
+    positions: u32,
+) -> Result<(), Fail>
+    requires { length classes.old.class_of ≡ numbers }
+    ensures { length classes.new.class_of ≡ numbers }
+{
+    for text in answers {
+        refine_by(alloc, classes, text.as_bytes(), numbers, positions)?;
+    }
+    Ok(())
+}
+
+// Refines classes by the answers of a text.
+fn refine_by(
+    alloc: Global,
+    classes: &mut Classes,
+    text: &[u8],
+    numbers: u32,
+    positions: u32,
+) -> Result<(), Fail>
+    requires { length classes.old.class_of ≡ numbers }
+    ensures { length classes.new.class_of ≡ numbers }
+{
+    let rows = rows_of(alloc, numbers as usize, positions as usize, text)?;
+    refine(classes, numbers, &rows)
 }
 
 fn refine(classes: &mut Classes, numbers: u32, answers: &AnswerRows) -> Result<(), Fail>
@@ -92,11 +120,7 @@ fn refine(classes: &mut Classes, numbers: u32, answers: &AnswerRows) -> Result<(
 // Rows of the digits of a text, with a blank between two rows.
 fn rows_of(alloc: Global, count: usize, width: usize, text: &[u8]) -> Result<AnswerRows, Fail> {
     let mut rows = AnswerRows::zeros(alloc, count, width)?;
-    for (row, digits) in text.split(|byte| *byte == b' ').enumerate() {
-        for (at, digit) in digits.iter().enumerate() {
-            set_bit(&mut rows, row, at, *digit == b'1')?;
-        }
-    }
+    set_bits(&mut rows, text)?;
     Ok(rows)
 }
 
@@ -108,14 +132,32 @@ fn set_bit(rows: &mut AnswerRows, row: usize, at: usize, bit: bool) -> Result<()
     Ok(())
 }
 
-/// The rows, each with a blank behind it.
-pub(crate) fn spelled(alloc: Global, rows: &AnswerRows) -> Result<String, AllocError> {
+fn set_bits(rows: &mut AnswerRows, text: &[u8]) -> Result<(), Fail> {
+    for (row, digits) in text.split(|byte| *byte == b' ').enumerate() {
+        for (at, digit) in digits.iter().enumerate() {
+            set_bit(rows, row, at, *digit == b'1')?;
+        }
+    }
+    Ok(())
+}
+
+/// Whether these are the rows, each with a blank behind it.
+pub(crate) fn are_spelled(
+    alloc: Global,
+    rows: &AnswerRows,
+    wanted: &str,
+) -> Result<bool, AllocError> {
     let mut text = String::new(alloc);
+    push_rows(&mut text, rows)?;
+    Ok(text.as_str() == wanted)
+}
+
+fn push_rows(text: &mut String, rows: &AnswerRows) -> Result<(), AllocError> {
     for row in 0..rows.rows() {
         for at in 0..rows.width() {
             text.push_str(if rows.get(row, at) { "1" } else { "0" })?;
         }
         text.push_str(" ")?;
     }
-    Ok(text)
+    Ok(())
 }

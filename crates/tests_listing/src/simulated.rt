@@ -1,9 +1,10 @@
 //! What is written of vectors of small circuits.
 
-ghost use Rattle.std.specs.Prelude.{◌≡◌, All, IfOk, length};
+ghost use Rattle.std.specs.Prelude.{◌≡◌, ◌<◌, All, IfOk, length};
+ghost use Rattle.net_model.specs.FaultList.{faults as faults_of};
 
-use fault_list::list;
-use net_model::{Circuit, Kind, Vectors};
+use fault_list::{FaultList, list};
+use net_model::{Circuit, Kind, Vector, Vectors};
 use sample_circuits::{AND_OF_TWO, BUFFER, Parts, SHOWN_TWICE, bits, circuit};
 use sim_listing::block_text;
 use std::alloc::{AllocError, Global};
@@ -30,67 +31,133 @@ fn listed(alloc: Global, circuit: &Circuit, digits: &[&str]) -> Result<Vectors, 
 {
     let mut vectors = Vectors::new(alloc);
     for text in digits {
-        let vector = bits(alloc, *text)?;
-        if vector.len() != circuit.sources() as usize {
-            return Err(Fail::new("a vector has another width"));
-        }
-        vectors.push(vector)?;
+        vectors.push(vector_of(alloc, circuit, *text)?)?;
     }
     Ok(vectors)
 }
 
-// The text of a simulation, block after block.
-fn simulated(alloc: Global, parts: Parts, digits: &[&str]) -> Result<Vec<u8>, Fail> {
-    let circuit = circuit(alloc, parts)?;
-    let faults = list(alloc, &circuit)?;
-    let vectors = listed(alloc, &circuit, digits)?;
-    let vectors = vectors.as_slice();
-    let mut text = Vec::new(alloc);
-    let mut first = 0;
-    while first < vectors.len() {
-        let block = block_text(alloc, &circuit, &faults, vectors, first)?;
-        text.extend_from_slice(block.as_bytes())?;
-        first += (vectors.len() - first).min(LANES as usize);
+// The vector of these digits, which has one for each source.
+fn vector_of(alloc: Global, circuit: &Circuit, digits: &str) -> Result<Vector, Fail>
+    ensures { IfOk result (λ v. length v ≡ circuit.now.sources) }
+{
+    let vector = bits(alloc, digits)?;
+    if vector.len() != circuit.sources() as usize {
+        return Err(Fail::new("a vector has another width"));
     }
-    Ok(text)
+    Ok(vector)
 }
 
-// An AND; a source that is shown twice; no position; no source; no vector.
-#[test]
-fn texts_of_small_circuits(rt: HostRuntime) -> Result<(), Fail> {
-    let cases: [(Parts, &[&str], &[u8]); 5] = [
-        (
-            AND_OF_TWO,
-            &["11"],
-            b"pattern 0 answer 1\nfault 1 0\nfault 3 0\nfault 5 0\n",
-        ),
-        (
-            SHOWN_TWICE,
-            &["0", "1"],
-            b"pattern 0 answer 00\nfault 2 11\nfault 4 10\nfault 6 01\npattern 1 answer 11\nfault 1 00\nfault 3 01\nfault 5 10\n",
-        ),
-        (
-            NOTHING_SHOWN,
-            &["1", "0"],
-            b"pattern 0 answer -\npattern 1 answer -\n",
-        ),
-        (CONSTANT, &[""], b"pattern 0 answer 1\nfault 1 0\n"),
-        (AND_OF_TWO, &[], b""),
-    ];
-    for (parts, digits, expected) in cases {
-        let found = simulated(rt.alloc(), parts, digits)?;
-        assert_eq!(rt; found.as_slice(), expected);
+// Adds the text of a simulation, block after block.
+fn push_blocks(
+    alloc: Global,
+    circuit: &Circuit,
+    faults: &FaultList,
+    vectors: &[Vector],
+    text: &mut Vec<u8>,
+) -> Result<(), AllocError>
+    requires faults { faults.now ≡ faults_of circuit.now }
+    requires widths { All (λ v. length v ≡ circuit.now.sources) vectors.now }
+{
+    let mut first = 0;
+    while first < vectors.len() {
+        push_block(alloc, circuit, faults, vectors, first, text)?;
+        first += (vectors.len() - first).min(LANES as usize);
     }
     Ok(())
 }
 
-// The lines of a wire at so many vectors 0, from number 0 on.
-fn lines_at_zero(alloc: Global, count: u32) -> Result<String, AllocError> {
+fn push_block(
+    alloc: Global,
+    circuit: &Circuit,
+    faults: &FaultList,
+    vectors: &[Vector],
+    first: usize,
+    text: &mut Vec<u8>,
+) -> Result<(), AllocError>
+    requires faults { faults.now ≡ faults_of circuit.now }
+    requires widths { All (λ v. length v ≡ circuit.now.sources) vectors.now }
+    requires first { first < length vectors.now }
+{
+    let block = block_text(alloc, circuit, faults, vectors, first)?;
+    text.extend_from_slice(block.as_bytes())
+}
+
+// Whether this is the text of a simulation of a circuit at vectors.
+fn is_text(
+    alloc: Global,
+    circuit: &Circuit,
+    vectors: &[Vector],
+    wanted: &[u8],
+) -> Result<bool, AllocError>
+    requires { All (λ v. length v ≡ circuit.now.sources) vectors.now }
+{
+    let faults = list(alloc, circuit)?;
+    let mut text = Vec::new(alloc);
+    push_blocks(alloc, circuit, &faults, vectors, &mut text)?;
+    Ok(text.as_slice() == wanted)
+}
+
+// The same at the vectors of these digits.
+fn is_text_at(
+    alloc: Global,
+    circuit: &Circuit,
+    digits: &[&str],
+    wanted: &[u8],
+) -> Result<bool, Fail> {
+    let vectors = listed(alloc, circuit, digits)?;
+    Ok(is_text(alloc, circuit, vectors.as_slice(), wanted)?)
+}
+
+// The same of the circuit of these parts.
+fn is_text_of(alloc: Global, parts: Parts, digits: &[&str], wanted: &[u8]) -> Result<bool, Fail> {
+    let circuit = circuit(alloc, parts)?;
+    is_text_at(alloc, &circuit, digits, wanted)
+}
+
+// An AND; a source that is shown twice; no position; no source; no vector.
+const SMALL: &[(Parts, &[&str], &str)] = &[
+    (
+        AND_OF_TWO,
+        &["11"],
+        "pattern 0 answer 1\nfault 1 0\nfault 3 0\nfault 5 0\n",
+    ),
+    (
+        SHOWN_TWICE,
+        &["0", "1"],
+        "pattern 0 answer 00\nfault 2 11\nfault 4 10\nfault 6 01\npattern 1 answer 11\nfault 1 00\nfault 3 01\nfault 5 10\n",
+    ),
+    (
+        NOTHING_SHOWN,
+        &["1", "0"],
+        "pattern 0 answer -\npattern 1 answer -\n",
+    ),
+    (CONSTANT, &[""], "pattern 0 answer 1\nfault 1 0\n"),
+    (AND_OF_TWO, &[], ""),
+];
+
+#[test]
+fn texts_of_small_circuits(rt: HostRuntime) -> Result<(), Fail> {
+    for (parts, digits, wanted) in SMALL {
+        let same = is_text_of(rt.alloc(), *parts, digits, wanted.as_bytes())?;
+        assert!(rt; same, "{wanted}");
+    }
+    Ok(())
+}
+
+// The text of a wire at so many vectors 0, and then at a vector 1.
+fn wire_text(alloc: Global, count: u32) -> Result<String, AllocError> {
     let mut text = String::new(alloc);
+    push_lines_at_zero(&mut text, count)?;
+    write!(text, "pattern {count} answer 1\nfault 1 0\nfault 3 0\n")?;
+    Ok(text)
+}
+
+// Adds the lines of a wire at so many vectors 0, from number 0 on.
+fn push_lines_at_zero(text: &mut String, count: u32) -> Result<(), AllocError> {
     for number in 0..count {
         write!(text, "pattern {number} answer 0\nfault 2 1\nfault 4 1\n")?;
     }
-    Ok(text)
+    Ok(())
 }
 
 // One vector more than a block has.
@@ -98,9 +165,7 @@ fn lines_at_zero(alloc: Global, count: u32) -> Result<String, AllocError> {
 fn texts_of_two_blocks(rt: HostRuntime) -> Result<(), Fail> {
     let mut digits = ["0"; LANES as usize + 1];
     digits[LANES as usize] = "1";
-    let found = simulated(rt.alloc(), BUFFER, digits.as_slice())?;
-    let mut expected = lines_at_zero(rt.alloc(), LANES)?;
-    write!(expected, "pattern {LANES} answer 1\nfault 1 0\nfault 3 0\n")?;
-    assert_eq!(rt; found.as_slice(), expected.as_bytes());
+    let wanted = wire_text(rt.alloc(), LANES)?;
+    assert!(rt; is_text_of(rt.alloc(), BUFFER, digits.as_slice(), wanted.as_bytes())?);
     Ok(())
 }

@@ -1,5 +1,5 @@
 use Rattle.std.proofs.Common.{◌≤◌, ◌-◌, length}
-use Rattle.tests_listing.proofs.simulated.simulated.Given as goal
+use Rattle.tests_listing.proofs.simulated.push_blocks.Given as goal
 
 abbrev pub invariant-loop-first : goal.invariant-loop-first
 invariant-loop-first l = l.first ≤ length l.vectors
