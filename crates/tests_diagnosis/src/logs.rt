@@ -2,8 +2,10 @@
 
 ghost use Rattle.std.specs.Prelude.{◌≡◌, ◌<◌, IfOk, OnOk};
 ghost use Rattle.table_dicts.specs.Dictionary.{IsGroupedDict, IsShaped};
+ghost use Rattle.table_dicts.specs.Rows.{AreRows};
 
 use diagnose::{matches, read_log};
+use net_model::AnswerRows;
 use std::alloc::{AllocError, Global};
 use std::test::Fail;
 use table_dicts::{AnswerTable, Dict, DictKind, full, pass_fail};
@@ -56,28 +58,57 @@ fn dict_at(alloc: Global, kind: DictKind, table: &AnswerTable) -> Result<Dict, A
     }
 }
 
-fn dict_of(alloc: Global, kind: DictKind) -> Result<Dict, Fail>
-    ensures grouped { IfOk result IsGroupedDict }
-    ensures shaped { IfOk result IsShaped }
+// Whether observed answers list these numbers.
+fn list_these(
+    alloc: Global,
+    dict: &Dict,
+    observed: &AnswerRows,
+    listed: &[u32],
+) -> Result<bool, AllocError>
+    requires grouped { IsGroupedDict dict.now }
+    requires shaped { IsShaped dict.now }
+    requires observed { AreRows dict.now.patterns dict.now.positions observed.now }
 {
-    let table = table(alloc)?;
-    Ok(dict_at(alloc, kind, &table)?)
+    let found = matches(alloc, dict, observed)?;
+    Ok(found.as_slice() == listed)
 }
 
-// Whether a log lists these numbers.
+// Whether a log does.
 fn lists(alloc: Global, dict: &Dict, log: &str, listed: &[u32]) -> Result<bool, Fail>
     requires grouped { IsGroupedDict dict.now }
     requires shaped { IsShaped dict.now }
 {
     let observed = read_log(alloc, dict, log.as_bytes())?;
-    let found = matches(alloc, dict, &observed)?;
-    Ok(found.as_slice() == listed)
+    Ok(list_these(alloc, dict, &observed, listed)?)
 }
 
 // Whether it does with the dictionary of a kind.
-fn are_listed(alloc: Global, kind: DictKind, log: &str, listed: &[u32]) -> Result<bool, Fail> {
-    let dict = dict_of(alloc, kind)?;
+fn lists_by(
+    alloc: Global,
+    kind: DictKind,
+    table: &AnswerTable,
+    log: &str,
+    listed: &[u32],
+) -> Result<bool, Fail>
+    requires { 0 < table.now.numbers }
+{
+    let dict = dict_at(alloc, kind, table)?;
     lists(alloc, &dict, log, listed)
+}
+
+// Whether it does with both dictionaries.
+fn are_listed(alloc: Global, table: &AnswerTable, log: &str, listed: &[u32]) -> Result<bool, Fail>
+    requires { 0 < table.now.numbers }
+{
+    Ok(
+        lists_by(alloc, DictKind::PassFail, table, log, listed)?
+            && lists_by(alloc, DictKind::Full, table, log, listed)?,
+    )
+}
+
+fn is_answered(alloc: Global, log: &str, listed: &[u32]) -> Result<bool, Fail> {
+    let table = table(alloc)?;
+    are_listed(alloc, &table, log, listed)
 }
 
 const LOGS: &[(&str, &[u32])] = &[
@@ -92,14 +123,7 @@ const LOGS: &[(&str, &[u32])] = &[
 #[test]
 fn listed_numbers(rt: HostRuntime) -> Result<(), Fail> {
     for (log, listed) in LOGS {
-        assert!(rt;
-            are_listed(rt.alloc(), DictKind::PassFail, log, listed)?,
-            "{log}"
-        );
-        assert!(rt;
-            are_listed(rt.alloc(), DictKind::Full, log, listed)?,
-            "{log}"
-        );
+        assert!(rt; is_answered(rt.alloc(), log, listed)?, "{log}");
     }
     Ok(())
 }

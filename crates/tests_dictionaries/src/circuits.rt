@@ -38,12 +38,27 @@ fn keep_all(
     ensures { OnOk result (keeper.new.circuit ≡ circuit.now) }
 {
     for text in texts {
-        let v = bits(alloc, text)?;
-        if v.len() != circuit.sources() as usize {
-            return Err(Fail::new("a vector has another width"));
-        }
-        keeper.keep(&v)?;
+        keep_text(alloc, circuit, keeper, text)?;
     }
+    Ok(())
+}
+
+fn keep_text(alloc: Global, circuit: &Circuit, keeper: &mut Keeper, text: &str) -> Result<(), Fail>
+    requires { keeper.old.circuit ≡ circuit.now }
+    ensures { OnOk result (keeper.new.circuit ≡ circuit.now) }
+{
+    let v = bits(alloc, text)?;
+    keep_vector(circuit, keeper, &v)
+}
+
+fn keep_vector(circuit: &Circuit, keeper: &mut Keeper, v: &Vector) -> Result<(), Fail>
+    requires { keeper.old.circuit ≡ circuit.now }
+    ensures { OnOk result (keeper.new.circuit ≡ circuit.now) }
+{
+    if v.len() != circuit.sources() as usize {
+        return Err(Fail::new("a vector has another width"));
+    }
+    keeper.keep(v)?;
     Ok(())
 }
 
@@ -63,18 +78,29 @@ fn kept_of(
     let forest = collapse(alloc, circuit, faults)?;
     let mut keeper = Keeper::new(alloc, circuit, faults, &forest)?;
     keep_all(alloc, circuit, &mut keeper, texts)?;
+    kept_by(alloc, keeper)
+}
+
+// What a keeper has kept.
+fn kept_by(alloc: Global, keeper: Keeper) -> Result<Kept, Fail>
+    ensures widths { IfOk result (λ kept. All (λ v. length v ≡ keeper.entry.circuit.sources) kept.patterns) }
+    ensures few { IfOk result (λ kept. length kept.patterns < 2 ^ 32) }
+    ensures numbers { IfOk result (λ kept. length kept.classes.class_of ≡ fault_count keeper.entry.circuit) }
+    ensures table { IfOk result (λ kept. IsTableOf keeper.entry.circuit kept.patterns kept.classes) }
+{
     let (vectors, classes) = keeper.into_kept();
-    if vectors.len() > 1000 {
-        return Err(Fail::new("there are too many vectors"));
-    }
     let patterns = listed(alloc, vectors)?;
     Ok(Kept { patterns, classes })
 }
 
-// These vectors as a list.
-fn listed(alloc: Global, vectors: Vec<Vector>) -> Result<Vectors, AllocError>
-    ensures { IfOk result (λ list. list ≡ vectors.items) }
+// These vectors as a list, which isn't long.
+fn listed(alloc: Global, vectors: Vec<Vector>) -> Result<Vectors, Fail>
+    ensures list { IfOk result (λ list. list ≡ vectors.items) }
+    ensures few { IfOk result (λ list. length list < 2 ^ 32) }
 {
+    if vectors.len() > 1000 {
+        return Err(Fail::new("there are too many vectors"));
+    }
     let mut list = Vectors::new(alloc);
     for v in vectors {
         list.push(v)?;

@@ -6,7 +6,7 @@ ghost use Rattle.table_dicts.specs.Dictionary.{IsGroupedDict};
 use crate::spelled::{fit, is_dict, rows_of};
 use class_refine::Classes;
 use net_model::AnswerRows;
-use std::alloc::Global;
+use std::alloc::{AllocError, Global};
 use std::test::Fail;
 use table_dicts::{AnswerTable, Dict, apart, full, pass_fail, project};
 
@@ -153,13 +153,25 @@ fn tells_three(dict: &Dict) -> bool {
     dict.groups.as_slice() == [0, 1, 2].as_slice()
 }
 
-// Whether both dictionaries keep three numbers apart.
-fn tell_three(alloc: Global, table: &AnswerTable) -> Result<bool, Fail>
+fn full_tells_three(alloc: Global, table: &AnswerTable) -> Result<bool, AllocError>
     requires { 0 < table.now.numbers }
 {
-    let all = full(alloc, table)?;
-    let fails = pass_fail(alloc, table)?;
-    Ok(tells_three(&all) && tells_three(&fails))
+    let dict = full(alloc, table)?;
+    Ok(tells_three(&dict))
+}
+
+fn pass_fail_tells_three(alloc: Global, table: &AnswerTable) -> Result<bool, AllocError>
+    requires { 0 < table.now.numbers }
+{
+    let dict = pass_fail(alloc, table)?;
+    Ok(tells_three(&dict))
+}
+
+// Whether both dictionaries keep three numbers apart.
+fn tell_three(alloc: Global, table: &AnswerTable) -> Result<bool, AllocError>
+    requires { 0 < table.now.numbers }
+{
+    Ok(full_tells_three(alloc, table)? && pass_fail_tells_three(alloc, table)?)
 }
 
 #[test]
