@@ -1,10 +1,12 @@
 //! Words by the definition of a simple command of `clap`, and what its matches hold.
 
-ghost use Rattle.std.specs.Prelude.{◌≡◌, ◌≢◌, ◌≤◌, ◌<◌, ◌^◌, [], IfOk, OnOk, Err, map, string_bytes, true, false};
+ghost use Rattle.std.specs.Prelude.{◌≡◌, ◌≢◌, ◌≤◌, ◌<◌, ◌^◌, [], IfOk, OnOk, Err, map, pos, string_bytes, true, false};
 ghost use Rattle.clap.specs.Words.{rule_of, app_of, found_of, rows_of, matches_of, fault_of, is_broken, is_simple_and_free};
+ghost use Rattle.clap.specs.declared.builder.value_parser.ValueParser.TheVariants as value_parsers;
 ghost use Rattle.request_words.specs.Arguments.{bare_app, two_names_app, name_rule, number_rule, option_rule, name_in, number_in, kind_named};
 
 use crate::request::EntryKind;
+use clap::builder::ValueParser;
 use clap::error::ErrorKind;
 use clap::{Arg, ArgAction, ArgMatches, Command, value_parser};
 use std::alloc::{AllocError, Global};
@@ -65,10 +67,7 @@ pub(crate) fn number_arg<'a>(alloc: Global, id: &'a str, most: u32) -> Arg<'a>
     ensures rule { rule_of result ≡ number_rule id.entry.now most }
     ensures local { result.global ≡ false }
 {
-    Arg::new(alloc, id)
-        .required(true)
-        .action(ArgAction::Set)
-        .value_parser(value_parser!(u32).range(1..=i64::from(most)))
+    name_arg(alloc, id).value_parser(number_parser(1, most))
 }
 
 /// An option with a number of at most this, and its default.
@@ -79,7 +78,14 @@ pub(crate) fn option_arg<'a>(alloc: Global, id: &'a str, default: &'a str, most:
     Arg::new(alloc, id)
         .long(id)
         .default_value(default)
-        .value_parser(value_parser!(u32).range(0..=i64::from(most)))
+        .value_parser(number_parser(0, most))
+}
+
+// What takes the numbers from a least to a most.
+fn number_parser<'a>(least: u32, most: u32) -> ValueParser<'a>
+    ensures { result ≡ value_parsers.Signed (pos least) (pos most) }
+{
+    value_parser!(u32).range(i64::from(least)..=i64::from(most))
 }
 
 // ---- matches
