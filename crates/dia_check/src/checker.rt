@@ -104,6 +104,18 @@ impl<'a> Checker<'a> {
         ensures { Judges subject.now self.old self.new (line_of entry) result }
     {
         self.make_way(subject, &entry)?;
+        self.judge_next(alloc, subject, entry)
+    }
+
+    // Judges the line of a record, behind patterns that wait only where it is one too.
+    fn judge_next(&mut self, alloc: Global, subject: &Subject, entry: Record) -> Judged
+        requires check { HasCheck subject.now self.old }
+        requires room { length self.old.waiting.items < LANES }
+        requires none { pattern_of entry ≡ None → self.old.waiting.items ≡ [] }
+        requires spelled { HasSpelling entry }
+        requires one { ¬ Contains (spelling entry) 10 }
+        ensures { Judges subject.now self.old self.new (line_of entry) result }
+    {
         match entry {
             Record::Head(sources, positions, numbers) => {
                 self.judge_head(subject, sources, positions, numbers)

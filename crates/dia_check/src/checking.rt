@@ -38,10 +38,24 @@ pub fn check<S: Shelf>(
 {
     let listed = list(alloc, circuit)?;
     let forest = collapse(alloc, circuit, &listed)?;
-    let subject = Subject::new(circuit, &listed, &forest);
-    let mut reader = Reader::start(alloc, &subject)?;
-    read_rest(alloc, &subject, &mut reader, shelf)?;
-    reader.finish(alloc, &subject)
+    check_for(alloc, &Subject::new(circuit, &listed, &forest), shelf)
+}
+
+// Checks the opened file for a subject.
+fn check_for<S: Shelf>(
+    alloc: Global,
+    subject: &Subject,
+    shelf: &mut S,
+) -> Result<Checked, FileFault>
+    requires opened { IsTrue (S.state shelf.old).tells → IsSome (S.state shelf.old).world.rest }
+    ensures call { IsReadCall (as_shelf result) (S.state shelf.old) (S.state shelf.new) × (IsTrue (S.state shelf.old).sure → ¬ IsErrOf result FileFault.Failed) }
+    ensures read { Told (S.state shelf.old) (S.state shelf.new) OnlyReads × OnOk (as_shelf result) (Told (S.state shelf.old) (S.state shelf.new) ReadsRest) }
+    ensures valid { IfOk result (λ checked. (records : List Record) × IsAccepted subject.now records checked × Told (S.state shelf.old) (S.state shelf.new) (λ old new. rest_of old ≡ text_of records)) }
+    ensures refused { (fault : ResultFault) → IsErrOf result (FileFault.Result fault) → Told (S.state shelf.old) (S.state shelf.new) (λ old new. FileRefused subject.now (rest_of old) fault) }
+{
+    let mut reader = Reader::start(alloc, subject)?;
+    read_rest(alloc, subject, &mut reader, shelf)?;
+    reader.finish(alloc, subject)
 }
 
 const PIECE: usize = 4096;
