@@ -55,35 +55,50 @@ fn is_budget(alloc: Global, line: &str) -> Result<bool, Fail> {
     is_line(alloc, Record::Budget(budgets), line)
 }
 
-#[test]
-fn ends_are_lines(rt: HostRuntime) -> Result<(), Fail> {
-    let alloc = rt.alloc();
-    assert!(rt; is_line(alloc, Record::Head(2, 1, 7), "diatest 1 2 1 7\n")?);
-    assert!(rt; is_budget(alloc, "budget 4 64 2000\n")?);
-    assert!(rt; is_line(alloc, Record::End, "end\n")?);
-    Ok(())
+fn are_ends(alloc: Global) -> Result<bool, Fail> {
+    Ok(
+        is_line(alloc, Record::Head(2, 1, 7), "diatest 1 2 1 7\n")?
+            && is_budget(alloc, "budget 4 64 2000\n")?
+            && is_line(alloc, Record::End, "end\n")?,
+    )
 }
 
 #[test]
+fn ends_are_lines(rt: HostRuntime) -> Result<(), Fail> {
+    assert!(rt; are_ends(rt.alloc())?);
+    Ok(())
+}
+
+const CLASSES: &[(u32, Option<(u32, u32)>, &str)] = &[
+    (0, None, "class 0 - -\n"),
+    (3, Some((0, 2)), "class 3 0 2\n"),
+];
+
+#[test]
 fn classes_are_lines(rt: HostRuntime) -> Result<(), Fail> {
-    let alloc = rt.alloc();
-    assert!(rt; is_line(alloc, Record::Class(0, None), "class 0 - -\n")?);
-    assert!(rt; is_line(alloc, Record::Class(3, Some((0, 2))), "class 3 0 2\n")?);
-    assert!(rt; is_line(alloc, Record::Member(0, 0, Mark::Rep), "member 0 0 rep\n")?);
-    assert!(rt;
-        is_line(
-            alloc,
-            Record::Member(3, 4, Mark::Equal),
-            "member 3 4 equal\n"
-        )?
-    );
-    assert!(rt;
-        is_line(
-            alloc,
-            Record::Member(5, 4, Mark::Spent),
-            "member 5 4 open\n"
-        )?
-    );
+    for (number, birth, line) in CLASSES {
+        assert!(rt;
+            is_line(rt.alloc(), Record::Class(*number, *birth), line)?,
+            "{line}"
+        );
+    }
+    Ok(())
+}
+
+const MEMBERS: &[(u32, u32, Mark, &str)] = &[
+    (0, 0, Mark::Rep, "member 0 0 rep\n"),
+    (3, 4, Mark::Equal, "member 3 4 equal\n"),
+    (5, 4, Mark::Spent, "member 5 4 open\n"),
+];
+
+#[test]
+fn members_are_lines(rt: HostRuntime) -> Result<(), Fail> {
+    for (number, class, mark, line) in MEMBERS {
+        assert!(rt;
+            is_line(rt.alloc(), Record::Member(*number, *class, *mark), line)?,
+            "{line}"
+        );
+    }
     Ok(())
 }
 
