@@ -4,6 +4,7 @@ use crate::outcome::is_answered;
 use net_model::Kind;
 use result_file::Summary;
 use sample_circuits::{Parts, circuit};
+use std::alloc::Global;
 use std::test::Fail;
 
 // The ISCAS-85 circuit c17: the sources 1, 2, 3, 6, 7, the gates 10, 11, 16, 19, 22, 23, and the outputs 22, 23.
@@ -40,17 +41,23 @@ const RESULT: &[&str] = &[
     "end\n",
 ];
 
-// It has 35 numbers in 23 classes, of which 12 are equal to others, however many bytes are read at once.
+// It has 35 numbers in 23 classes, of which 12 are equal to others.
+const SUMMARY: Summary = Summary {
+    numbers: 35,
+    patterns: 11,
+    classes: 23,
+    equal: 12,
+    spent: 0,
+};
+
+fn is_accepted(alloc: Global) -> Result<bool, Fail> {
+    let known = circuit(alloc, C17)?;
+    is_answered(alloc, &known, RESULT, Ok(SUMMARY))
+}
+
+// However many bytes are read at once.
 #[test]
 fn the_result_of_c17(rt: HostRuntime) -> Result<(), Fail> {
-    let known = circuit(rt.alloc(), C17)?;
-    let summary = Summary {
-        numbers: 35,
-        patterns: 11,
-        classes: 23,
-        equal: 12,
-        spent: 0,
-    };
-    assert!(rt; is_answered(rt.alloc(), &known, RESULT, Ok(summary))?);
+    assert!(rt; is_accepted(rt.alloc())?);
     Ok(())
 }

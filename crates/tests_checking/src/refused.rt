@@ -272,9 +272,13 @@ fn fails_at_third(alloc: Global, circuit: &Circuit) -> Result<bool, Fail> {
     fails(alloc, circuit, &mut shelf)
 }
 
+fn a_read_fails(alloc: Global) -> Result<bool, Fail> {
+    let circuit = circuit(alloc, AND_OF_TWO)?;
+    fails_at_third(alloc, &circuit)
+}
+
 #[test]
 fn a_failed_read_comes_before_a_refusal(rt: HostRuntime) -> Result<(), Fail> {
-    let circuit = circuit(rt.alloc(), AND_OF_TWO)?;
-    assert!(rt; fails_at_third(rt.alloc(), &circuit)?);
+    assert!(rt; a_read_fails(rt.alloc())?);
     Ok(())
 }
