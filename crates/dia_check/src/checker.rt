@@ -12,10 +12,10 @@ ghost use Rattle.dia_check.specs.Checker.{HasCheck, Judges, JudgesWaiting, Judge
 ghost use Rattle.dia_check.specs.Reader.{IsAcceptedText};
 
 use crate::answer::Checked;
-use crate::evidence::check_evidence;
 use crate::progress::Progress;
 use crate::stop::{Judged, Stop};
 use clause_pool::Pool;
+use evidence_check::check_evidence;
 use kept_vectors::Keeper;
 use member_marks::{Marks, Subject, mark_of};
 use net_model::{Vector, Vectors};

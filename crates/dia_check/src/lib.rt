@@ -4,7 +4,6 @@
 mod answer;
 mod checker;
 mod checking;
-mod evidence;
 mod progress;
 mod reader;
 mod stop;

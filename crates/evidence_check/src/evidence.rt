@@ -1,4 +1,4 @@
-//! The check of the proof of evidence.
+//! The proof of evidence, by its kind.
 
 ghost use Rattle.std.specs.Prelude.{◌≡◌, ◌≢◌, ◌≤◌, ◌<◌, [], OnOk, IsErrOf};
 ghost use Rattle.net_model.specs.Fault.{IsFaultOf};
@@ -19,8 +19,9 @@ use refute_check::{CheckFault, EvidenceKind, check_log, check_tree};
 use result_file::{Budgets, Evidence, Proof};
 use std::alloc::Global;
 
-// Checks the proof of evidence within the budgets. The pool is empty, and stays so where the proof is right.
-pub(crate) fn check_evidence(
+/// Checks the proof of evidence within the budgets. The pool is empty, and stays so where the proof is right. Where it isn't,
+/// the answer has the rule that it breaks, and the token or chain that breaks it.
+pub fn check_evidence(
     alloc: Global,
     subject: &Subject,
     pool: &mut Pool,

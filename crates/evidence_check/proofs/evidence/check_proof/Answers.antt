@@ -1,4 +1,4 @@
-use Rattle.dia_check.proofs.evidence.check_proof.Goals as goal
+use Rattle.evidence_check.proofs.evidence.check_proof.Goals as goal
 
 pub returns-in-Covered-clause-refused : goal.returns-in-Covered-clause-refused
 returns-in-Covered-clause-refused c = λ refusal is. rw c.in-Covered.is (c.check_tree.ensures.refused refusal is)

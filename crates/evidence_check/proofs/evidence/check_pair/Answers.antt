@@ -1,6 +1,6 @@
 use Rattle.std.proofs.lemmas.Result.{err_from_is_err_and}
 use Rattle.result_file.specs.Refusal.PairRefused.{by_tree, by_log}
-use Rattle.dia_check.proofs.evidence.check_pair.Goals as goal
+use Rattle.evidence_check.proofs.evidence.check_pair.Goals as goal
 
 pub returns-in_err-check_tree-clause-refused : goal.returns-in_err-check_tree-clause-refused
 returns-in_err-check_tree-clause-refused c =
