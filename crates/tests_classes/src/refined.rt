@@ -65,7 +65,7 @@ fn rows_with(
 
 // The faults of an AND of two sources at the vectors 00, 10, 01 and 11, and at 10 again: the free circuit, each source at 0
 // and at 1, and the gate at 0 and at 1.
-const CUTS_OF_AND: [Cut; 5] = [
+static CUTS_OF_AND: [Cut; 5] = [
     (&[(6, 0)], 1),
     (&[(4, 0), (6, 0)], 1),
     (&[(2, 0), (6, 0)], 1),
@@ -100,7 +100,7 @@ fn are_of_and(classes: &Classes) -> bool
 
 // Two pieces leave class 0 at one pattern, and one leaves class 1 at the next: new numbers go by class and then by
 // lowest member.
-const CUTS_BY_CLASS: [Cut; 2] = [(&[(3, 0), (4, 1), (5, 0)], 2), (&[(5, 0), (2, 0)], 2)];
+static CUTS_BY_CLASS: [Cut; 2] = [(&[(3, 0), (4, 1), (5, 0)], 2), (&[(5, 0), (2, 0)], 2)];
 
 #[test]
 fn new_numbers_go_by_class(rt: HostRuntime) -> Result<(), Fail> {

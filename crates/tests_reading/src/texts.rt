@@ -20,7 +20,7 @@ fn is_refusal(found: &Result<Statements, NetFault>, expected: Option<(NetKind, u
     }
 }
 
-const READ: [&str; 14] = [
+static READ: [&str; 14] = [
     "",
     "INPUT(a)",
     "input(INPUT)\nAND=and(INPUT)",
