@@ -49,7 +49,7 @@ impl Destinations {
     {
         let mut lists = Vec::with_capacity(alloc, lines as usize)?;
         for _ in 0..lines {
-            lists.push(Vec::new(alloc))?;
+            lists.push_reserved(Vec::new(alloc));
         }
         Ok(Destinations { lists })
     }

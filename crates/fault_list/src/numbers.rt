@@ -40,8 +40,7 @@ pub fn list(alloc: Global, circuit: &Circuit) -> Result<FaultList, AllocError>
     ensures stand { IfOk result (λ listed. All (IsFaultOf circuit.now) listed) }
     ensures few { IfOk result (λ listed. length listed < 2 ^ 27) }
 {
-    let readers = Destinations::of_circuit(alloc, circuit)?;
-    let sites = sites(alloc, circuit, &readers)?;
+    let sites = sites(alloc, circuit, &Destinations::of_circuit(alloc, circuit)?)?;
     let starts = starts(alloc, circuit)?;
     let places = places(alloc, circuit, starts.as_slice(), sites.as_slice())?;
     Ok(FaultList {

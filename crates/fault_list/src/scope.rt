@@ -99,7 +99,7 @@ fn first_lines(
 {
     let mut marks = Vec::with_capacity(alloc, circuit.lines() as usize)?;
     for line in 0..circuit.lines() {
-        marks.push(begins_at(f, g, line))?;
+        marks.push_reserved(begins_at(f, g, line));
     }
     Ok(marks)
 }

@@ -33,11 +33,11 @@ impl Lists {
         ensures { IfOk result (λ lists. lists ≡ users.now) }
     {
         let mut starts = Vec::with_capacity(alloc, users.lines() as usize + 1)?;
-        starts.push(0)?;
+        starts.push_reserved(0);
         let mut numbers = Vec::new(alloc);
         for line in 0..users.lines() {
             numbers.extend_from_slice(users.at(line))?;
-            starts.push(numbers.len() as u32)?;
+            starts.push_reserved(numbers.len() as u32);
         }
         Ok(Lists { starts, numbers })
     }

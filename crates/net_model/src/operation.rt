@@ -6,7 +6,7 @@ ghost use Rattle.net_model.specs.Gate.{operation_of, inverts};
 use crate::gate::Kind;
 
 /// An operation over any number of pins in any order: 1 where all of them are 1, where any of them is, or where an odd number is.
-#[derive(Clone, Copy, Debug, PartialEq, Eq)]
+#[derive(Clone, Copy)]
 pub enum Fold {
     AllOf,
     AnyOf,
@@ -14,7 +14,7 @@ pub enum Fold {
 }
 
 /// What a gate makes of its pins, before it may invert: a fold of them, or the pin that the first one chooses.
-#[derive(Clone, Copy, Debug, PartialEq, Eq)]
+#[derive(Clone, Copy)]
 pub enum Operation {
     Folded(Fold),
     Chosen,

@@ -27,7 +27,7 @@ impl Users {
     {
         let mut lists = Vec::with_capacity(alloc, lines as usize)?;
         for _ in 0..lines {
-            lists.push(Vec::new(alloc))?;
+            lists.push_reserved(Vec::new(alloc));
         }
         Ok(Users { lists })
     }

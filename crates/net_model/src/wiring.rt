@@ -1,6 +1,6 @@
 //! An order of the gates, and who uses each line.
 
-ghost use Rattle.std.specs.Prelude.{◌≡◌, ◌≢◌, ◌<◌, ◌^◌, ℕ, [], All, IfOk, length, sum_by, slice_index, slice_index_or};
+ghost use Rattle.std.specs.Prelude.{◌≡◌, ◌≢◌, ◌<◌, ◌^◌, ℕ, [], All, IfOk, length, slice_index, slice_index_or};
 ghost use Rattle.net_model.specs.Circuit.{FitsTogether, line_count};
 ghost use Rattle.net_model.specs.Order.{IsOrder};
 ghost use Rattle.net_model.specs.Topological.{parts_circuit, AreReaders};
@@ -69,7 +69,7 @@ pub(crate) fn wiring_of(
     ensures { IfOk result (λ wiring. IsWiring (parts_circuit parts.now) wiring) }
 {
     let readers = reader_places(alloc, parts, order.as_slice(), readers)?;
-    let showing = Lists::of_users(alloc, &showing_of(alloc, parts)?)?;
+    let showing = showing_of(alloc, parts)?;
     Ok(Wiring {
         order,
         readers,
@@ -113,16 +113,15 @@ fn places_of(alloc: Global, lines: u32, order: &[u32]) -> Result<Vec<u32>, Alloc
 }
 
 // The observed positions that show each line.
-fn showing_of(alloc: Global, parts: &Parts) -> Result<Users, AllocError>
+fn showing_of(alloc: Global, parts: &Parts) -> Result<Lists, AllocError>
     requires { FitsTogether (parts_circuit parts.now) }
-    ensures users { IfOk result (λ users. AreUsers (length parts.now.positions.items) (shows_at (parts_circuit parts.now)) users) }
-    ensures whole { IfOk result (λ users. length users ≡ line_count (parts_circuit parts.now)) }
-    ensures total { IfOk result (λ users. sum_by length users ≡ length parts.now.positions.items) }
+    ensures users { IfOk result (λ places. AreUsers (length parts.now.positions.items) (shows_at (parts_circuit parts.now)) places) }
+    ensures whole { IfOk result (λ places. length places ≡ line_count (parts_circuit parts.now)) }
 {
     let lines = parts.sources + parts.gates.len() as u32;
     let mut users = Users::none(alloc, lines)?;
     for (position, line) in parts.positions.iter().enumerate() {
         users.add(*line, position as u32)?;
     }
-    Ok(users)
+    Lists::of_users(alloc, &users)
 }

@@ -1,6 +1,6 @@
 use Rattle.std.proofs.Common.{◌≡◌, ◌∙◌, ◌<◌, ◌+◌, ◌-◌, ℕ, List, length, get_or, ap, subst, arith, length-append}
-use Rattle.std.proofs.lemmas.List.{get_or_read}
-use Rattle.net_model.specs.Topological.{parts_circuit, users_at, IsTold}
+use Rattle.std.proofs.lemmas.List.{get_or_read, take_all}
+use Rattle.net_model.specs.Topological.{parts_circuit, users_at, IsTold, IsQueue}
 use Rattle.net_model.proofs.QueueEnd.{queue_short}
 use Rattle.net_model.proofs.QueueSteps.{head_gate, enough, queue_step}
 use Rattle.net_model.proofs.topological.sorted.Goals as goal
@@ -43,3 +43,15 @@ loop-head-preserved c =
       within = omega (arith, ap length told.extends, length-append order.items told.more, here);
       queue = queue_step (parts_circuit c.args.parts.now) c.args.readers.now c.requires.readers head waits.items order.items c.loop-head.invariant.queue here c.tell.new.self.waits.items c.tell.new.self.order.items told;
     }
+
+pub loop-head-init : goal.loop-head-init
+loop-head-init c = record { within = omega arith; queue = c.in_ok-queue.ensures }
+
+pub index-line-requires : goal.index-line-requires
+index-line-requires c = omega (arith, c.loop-head-test.true, c.len.ensures)
+
+pub returns : goal.returns
+returns c =
+    let queue = c.loop-head.queue in
+    subst (λ told. IsQueue (parts_circuit c.args.parts.now) told queue.waits.items queue.order.items)
+    (take_all c.loop-head.head queue.order.items (omega (arith, c.loop-head-test.false, c.len.ensures, queue.order.ok.0))) c.loop-head.invariant.queue

@@ -1,8 +1,10 @@
-use Rattle.std.proofs.Common.{◌≡◌, ◌∙◌, ◌+◌, ◌<◌, [], ◌∷◌, ◌++◌, ℕ, List, length, get_or, set, refl, ap, subst, arith, mul-zero, length-append}
+use Rattle.std.proofs.Common.{◌≡◌, ◌∙◌, ◌+◌, ◌<◌, [], ◌∷◌, ◌++◌, ℕ, List, length, get_or, set, refl, sym, ap, subst, arith, mul-zero, length-append}
 use Rattle.std.proofs.lemmas.List.{length-set, length-replicate}
 use Rattle.std.specs.Prelude.{sum_by}
 use Rattle.std.proofs.lemmas.List.Folds.{sum_by-replicate}
 use Rattle.std.proofs.lemmas.List.Sums.{sum_by-set}
+use Rattle.std.proofs.lemmas.Result.{IfOk-weaker}
+use Rattle.net_model.specs.Circuit.{line_count}
 use Rattle.net_model.specs.Topological.{parts_circuit, users_at}
 use Rattle.net_model.specs.Wiring.{AreUsers, shows_at}
 use Rattle.net_model.proofs.WiringLemmas.{users_none, users_more}
@@ -42,11 +44,22 @@ loop-position-preserved c =
       total = omega (arith, sum_by-set length users line more [] inside, length-append (users_at users line) (position ∷ []), c.loop-position.invariant.total);
     }
 
-done : (c : goal.After-loop-position) → c.loop-position.position ≡ length c.args.parts.now.positions.items
-done c = omega (arith, c.loop-position-test.false, c.loop-position.auto.position-end, ap length c.deref-line-items.ensures.value)
+pub of_users-requires : goal.of_users-requires
+of_users-requires c =
+    let was = c.loop-position.invariant in
+    record {
+      lines = omega (arith, was.whole, c.requires.small);
+      numbers = omega (arith, was.total, c.loop-position.auto.position-end, ap length c.deref-line-items.ensures.value, c.requires.small);
+    }
 
 pub returns-clause-users : goal.returns-clause-users
-returns-clause-users c = subst (λ n. AreUsers n (shows_at (parts_circuit c.args.parts.now)) c.loop-position.users) (done c) c.loop-position.invariant.users
+returns-clause-users c =
+    let shown = shows_at (parts_circuit c.args.parts.now) in
+    let count = length c.args.parts.now.positions.items in
+    let users = AreUsers count shown in
+    let all : c.loop-position.position ≡ count = omega (arith, c.loop-position-test.false, c.loop-position.auto.position-end, ap length c.deref-line-items.ensures.value) in
+    let found = subst (λ n. AreUsers n shown c.loop-position.users) all c.loop-position.invariant.users in
+    IfOk-weaker c.of_users.result (λ lists. lists ≡ c.loop-position.users) users (λ lists same. subst users (sym same) found) c.of_users.ensures
 
-pub returns-clause-total : goal.returns-clause-total
-returns-clause-total c = c.loop-position.invariant.total ∙ done c
+pub returns-clause-whole : goal.returns-clause-whole
+returns-clause-whole c = IfOk-weaker c.of_users.result (λ lists. lists ≡ c.loop-position.users) (λ lists. length lists ≡ line_count (parts_circuit c.args.parts.now)) (λ lists same. ap length same ∙ c.loop-position.invariant.whole) c.of_users.ensures

@@ -1,6 +1,6 @@
-use Rattle.std.proofs.Common.{◌∙◌, ℕ, List, length, sym, ap, subst}
+use Rattle.std.proofs.Common.{ℕ, List, length, subst}
 use Rattle.net_model.specs.Topological.{parts_circuit}
-use Rattle.net_model.specs.Wiring.{AreUsers, reads_at, shows_at}
+use Rattle.net_model.specs.Wiring.{AreUsers, reads_at}
 use Rattle.net_model.proofs.Orders.{is_circuit-order}
 use Rattle.net_model.proofs.wiring.wiring_of.Goals as goal
 
@@ -19,7 +19,7 @@ returns c =
       circuit = is_circuit-order circuit c.requires.fits order c.requires.order;
       order = c.requires.order;
       readers = subst users c.as_slice.ensures.value c.in_ok-readers.ensures.users;
-      showing = subst (AreUsers (length circuit.positions) (shows_at circuit)) (sym c.in_ok-showing.ensures) c.in_ok-showing_of.ensures.users;
+      showing = c.in_ok-showing.ensures.users;
       readers_whole = c.in_ok-readers.ensures.whole;
-      showing_whole = ap length c.in_ok-showing.ensures ∙ c.in_ok-showing_of.ensures.whole;
+      showing_whole = c.in_ok-showing.ensures.whole;
     }

@@ -1,6 +1,26 @@
-use Rattle.std.proofs.Common.{[]}
-use Rattle.std.proofs.lemmas.List.{map_push, replicate_more}
+use Rattle.std.proofs.Common.{◌≡◌, ◌∙◌, [], List, Vec, Global, length, map, replicate, ap, arith}
+use Rattle.std.proofs.lemmas.List.{length-map, length-replicate, map_push, replicate_more}
+use Rattle.net_model.specs.declared.fault.Site.{Site}
 use Rattle.fault_list.proofs.destinations.Destinations.none.Goals as goal
 
+abbrev items_of : Vec Site Global → List Site
+items_of list = list.items
+
+pub loop-init : goal.loop-init
+loop-init c = record { lists = ap (map items_of) c.in_ok-lists.ensures.items; room = c.in_ok-lists.ensures.exact }
+
+pub push_reserved-requires : goal.push_reserved-requires
+push_reserved-requires c =
+    let lists = c.loop.lists in
+    omega (arith, ap length c.loop.invariant.lists, length-map lists.items items_of, length-replicate {A = List Site} c.loop.counter [], lists.ok.0, c.loop.invariant.room, c.loop-test.true)
+
 pub loop-preserved : goal.loop-preserved
-loop-preserved c = rw (c.in_ok-push.ensures.items, map_push, c.loop.invariant, c.new.ensures.items) (replicate_more c.loop.counter [])
+loop-preserved c = record {
+  lists = rw (c.push_reserved.ensures.items, map_push, c.loop.invariant.lists, c.new.ensures.items) (replicate_more c.loop.counter []);
+  room = c.push_reserved.ensures.capacity ∙ c.loop.invariant.room;
+}
+
+pub returns : goal.returns
+returns c =
+    let all : c.loop.counter ≡ c.args.lines = omega arith in
+    c.loop.invariant.lists ∙ ap (λ n. replicate {A = List Site} n []) all

@@ -1,5 +1,6 @@
-use Rattle.std.proofs.Common.{◌≡◌, ◌∙◌, ◌-◌, take, get_or, ap, arith}
-use Rattle.std.proofs.lemmas.List.{get_or_read, take_more}
+use Rattle.std.proofs.Common.{◌≡◌, ◌∙◌, ◌-◌, [], take, get_or, refl, sym, ap, subst, arith}
+use Rattle.std.proofs.lemmas.List.{append-nil, get_or_read, take_more, take_all}
+use Rattle.net_model.specs.Topological.{IsTold}
 use Rattle.net_model.proofs.QueueSteps.{enough_so_far, reader_inside, reader_is_line, reader_is_open, told_closed, told_queued}
 use Rattle.net_model.proofs.topological.Queue.tell.Goals as goal
 use Rattle.net_model.proofs.topological.Queue.tell.Goals.{then-waits-eq0+in_ok-push, else-waits-eq0}
@@ -37,3 +38,20 @@ loop-reader-preserved c =
           told_closed (take i readers) old waits order longer reader c.loop-reader.invariant enough (c.index.result.now - 1) c.if-waits-eq0.self.waits.items c.if-waits-eq0.self.order.items
           left (ap (λ q. q.waits.items) w.self-is) (w.if-waits-eq0.false, ap (λ q. q.order.items) w.self-is)
     ])
+
+pub loop-reader-init : goal.loop-reader-init
+loop-reader-init c = record {
+  whole = refl;
+  fewer = λ line. omega arith;
+  more = [];
+  extends = sym (append-nil c.args.self.now.order.items);
+  only = λ line m. m;
+  all = λ line m none. absurd (omega (arith, m.1));
+  ready = c.requires.ready;
+}
+
+pub returns : goal.returns
+returns c =
+    let old = c.args.self.now in
+    let new = c.loop-reader.self in
+    subst (λ rs. IsTold rs old.waits.items new.waits.items old.order.items new.order.items) (take_all c.loop-reader.reader-index c.args.readers.now c.loop-reader-test.false) c.loop-reader.invariant
