@@ -1,5 +1,6 @@
 //! The statements of a whole text.
-ghost use Rattle.std.specs.Prelude.{◌≤◌, length, IfOk, IfErr};
+ghost use Rattle.std.specs.Prelude.{◌≡◌, ◌≤◌, [], length, IfOk, OnOk, IfErr};
+ghost use Rattle.bench_reader.specs.Names.{texts_in};
 ghost use Rattle.bench_reader.specs.Parsed.{IsParsed};
 ghost use Rattle.bench_reader.specs.Stops.{IsGrammarFault};
 
@@ -8,6 +9,7 @@ use crate::numbers::statement;
 use crate::parsed::Parsed;
 use crate::scanner::{LexemeKind, next_lexeme};
 use crate::shape::statement_at;
+use crate::statement::Statement;
 use indexmap::IndexSet;
 use std::alloc::Global;
 
@@ -19,15 +21,32 @@ pub(crate) fn parse(alloc: Global, bytes: &[u8]) -> Result<Parsed, NetFault>
 {
     let mut statements = Vec::new(alloc);
     let mut names = IndexSet::new(alloc);
+    add_statements(alloc, bytes, &mut statements, &mut names)?;
+    Ok(Parsed { statements, names })
+}
+
+// Reads all statements of a text, and the names in them.
+fn add_statements(
+    alloc: Global,
+    bytes: &[u8],
+    statements: &mut Vec<Statement>,
+    names: &mut IndexSet<Vec<u8>>,
+) -> Result<(), NetFault>
+    requires short { length bytes.now ≤ 16777216 }
+    requires no_statements { statements.old.items ≡ [] }
+    requires no_names { texts_in names.old ≡ [] }
+    ensures ok { OnOk result (IsParsed bytes.now (record { statements = statements.new.items; names = texts_in names.new })) }
+    ensures refused { IfErr result (IsGrammarFault bytes.now) }
+{
     let mut place = Place { byte: 0, line: 1 };
     'statements: loop {
         let first = next_lexeme(bytes, place);
         match first.kind {
-            LexemeKind::End => return Ok(Parsed { statements, names }),
+            LexemeKind::End => return Ok(()),
             _ => {}
         }
         let (shape, behind) = statement_at(alloc, bytes, first)?;
-        let next = statement(alloc, &mut names, bytes, shape)?;
+        let next = statement(alloc, names, bytes, shape)?;
         statements.push(next)?;
         place = behind;
     }

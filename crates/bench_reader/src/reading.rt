@@ -1,8 +1,10 @@
 //! Reading a netlist's text.
-ghost use Rattle.std.specs.Prelude.{◌≡◌, ◌<◌, IfOk, IfErr, count_by, ◌==◌, length};
+ghost use Rattle.std.specs.Prelude.{◌≡◌, ◌<◌, None, IfOk, OnOk, IfErr, count_by, ◌==◌, length};
+ghost use Rattle.bench_reader.specs.Drivers.{driver_fault, AreNumbered};
 ghost use Rattle.bench_reader.specs.Parsed.{IsParsed};
 ghost use Rattle.bench_reader.specs.Reading.{place_of, IsNetlist};
 ghost use Rattle.bench_reader.specs.Stops.{IsTextFault};
+ghost use Rattle.bench_reader.specs.Tokens.{Text};
 
 use crate::drivers::check_drivers;
 use crate::fault::{NetFault, NetKind, Place};
@@ -25,13 +27,22 @@ pub fn read(alloc: Global, bytes: &[u8]) -> Result<Statements, NetFault>
     ensures refused { IfErr result (IsTextFault bytes.now) }
 {
     let parsed = parse_short(alloc, bytes)?;
-    let fault = check_drivers(alloc, &parsed)?;
-    match fault {
+    judge(alloc, &parsed)?;
+    Ok(Statements {
+        statements: parsed.statements,
+        names: parsed.names,
+    })
+}
+
+// Refuses the statements of a text in which a name is driven twice, or used and not driven.
+fn judge(alloc: Global, parsed: &Parsed) -> Result<(), NetFault>
+    requires { AreNumbered (length parsed.now.names) parsed.now.statements }
+    ensures ok { OnOk result (driver_fault parsed.now.statements ≡ None) }
+    ensures refused { IfErr result (λ fault. (text : Text) → IsParsed text parsed.now → IsTextFault text fault) }
+{
+    match check_drivers(alloc, parsed)? {
         Some((kind, place)) => Err(NetFault::At(kind, place)),
-        None => Ok(Statements {
-            statements: parsed.statements,
-            names: parsed.names,
-        }),
+        None => Ok(()),
     }
 }
 
@@ -43,8 +54,7 @@ fn parse_short(alloc: Global, bytes: &[u8]) -> Result<Parsed, NetFault>
     if bytes.len() > MOST_BYTES {
         return Err(NetFault::At(NetKind::TooLong, limit_place(bytes)));
     }
-    let parsed = parse(alloc, bytes)?;
-    Ok(parsed)
+    parse(alloc, bytes)
 }
 
 // The place of the first byte behind the limit.

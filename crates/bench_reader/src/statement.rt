@@ -10,14 +10,13 @@ use std::alloc::{AllocError, Global};
 use std::marker::Model;
 
 /// A name by its number, and where it stands.
-#[derive(Clone, Copy, Debug, Default, PartialEq, Eq)]
+#[derive(Clone, Copy, Default)]
 pub struct Word {
     pub name: u32,
     pub place: Place,
 }
 
 /// A list of words.
-#[derive(Debug)]
 pub struct Words {
     words: SmallVec<Word, 4>,
 }
@@ -61,7 +60,7 @@ impl Drop for Words {
 }
 
 /// An input; an observed name; a gate with the name that it drives and its pins; a flip-flop with its output and its data pin.
-#[derive(Debug, Drop)]
+#[derive(Drop)]
 pub enum Statement {
     Input(Word),
     Output(Word),

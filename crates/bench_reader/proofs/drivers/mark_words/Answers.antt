@@ -1,4 +1,5 @@
-use Rattle.std.proofs.Common.{◌∙◌, ◌<◌, length, get_or, sym, arith}
+use Rattle.std.proofs.Common.{◌∙◌, ◌<◌, false, length, get_or, refl, sym, ap, arith}
+use Rattle.std.proofs.lemmas.List.{get_or-replicate}
 use Rattle.std.proofs.lemmas.List.Elements.{All-get_or}
 use Rattle.bench_reader.specs.declared.statement.Word.{Word}
 use Rattle.bench_reader.proofs.NumberLemmas.{repeated_is, repeated_none}
@@ -18,3 +19,11 @@ returns-then-marks-word-clause-repeated c =
 
 pub returns-clause-repeated : goal.returns-clause-repeated
 returns-clause-repeated c = sym (repeated_none c.args.words.now nowhere (λ k lt. c.loop-word.invariant.fresh k nowhere (omega (arith, lt, c.loop-word-test.false))))
+
+pub loop-word-init : goal.loop-word-init
+loop-word-init c =
+    let marks = c.args.marks.now in
+    record {
+      marked = record { whole = refl; each = λ number h. ap (λ xs. get_or xs number false) c.requires.clear ∙ get_or-replicate (length marks) number false false h };
+      fresh = λ k d h. absurd (omega (arith, h));
+    }

@@ -1,5 +1,6 @@
-use Rattle.std.proofs.Common.{◌≡◌, ◌∙◌, ◌≤◌, length, None, sym, subst, arith}
+use Rattle.std.proofs.Common.{◌≡◌, ◌≤◌, length, None, sym, subst, arith}
 use Rattle.std.specs.Prelude.{sum_by}
+use Rattle.std.proofs.lemmas.Result.{err_from_is_err_and}
 use Rattle.bench_reader.specs.Netlist.{Netlist}
 use Rattle.bench_reader.specs.Names.{texts_in}
 use Rattle.bench_reader.specs.Reading.{IsNetlist}
@@ -7,33 +8,33 @@ use Rattle.bench_reader.specs.Driven.{IsDriven, statement_size}
 use Rattle.bench_reader.specs.Drivers.{driver_fault}
 use Rattle.bench_reader.proofs.SizeLemmas.{few_names, small_statements}
 use Rattle.bench_reader.proofs.DriverLemmas.{numbered, accepted, all_driven}
-use Rattle.bench_reader.proofs.ReadLemmas.{driver_refused}
 use Rattle.bench_reader.proofs.reading.read.Goals as goal
 
-pub check_drivers-requires : goal.check_drivers-requires
-check_drivers-requires c = numbered c.args.bytes.now c.in_ok-parsed.parsed c.in_ok-parsed.ensures.ok
+pub judge-requires : goal.judge-requires
+judge-requires c = numbered c.args.bytes.now c.in_ok-parsed.parsed c.in_ok-parsed.ensures.ok
 
 pub invariant_of-result : goal.invariant_of-result
 invariant_of-result c =
     let text = c.args.bytes.now in
     let n = c.in_ok-parsed.parsed in
     let p = c.in_ok-parsed.ensures.ok in
-    let none : driver_fault n.statements ≡ None = sym c.in_ok-fault.ensures ∙ c.in-None.is in
+    let none : driver_fault n.statements ≡ None = c.in_ok-judge.ensures.ok in
     let few : length n.names ≤ 16777216 = omega (arith, few_names text n p, p.is_text.short) in
     let small : sum_by statement_size n.statements ≤ 16777216 = omega (arith, small_statements text n p, p.is_text.short) in
     let driven : IsDriven n = all_driven text n p none few small in
     let e : ◌≡◌ {A = Netlist} (record { statements = c.parsed.inside.statements.items; names = texts_in c.parsed.inside.names }) n = c.parsed.view_is in
     subst (λ (m : Netlist). IsDriven m) (sym e) driven
 
-pub returns-in-Some-clause-refused : goal.returns-in-Some-clause-refused
-returns-in-Some-clause-refused c =
-    driver_refused c.args.bytes.now c.in_ok-parsed.parsed c.in_ok-parsed.ensures.ok c.in-Some.kind c.in-Some.place (sym c.in_ok-fault.ensures ∙ c.in-Some.is)
+pub returns-in_err-judge-clause-refused : goal.returns-in_err-judge-clause-refused
+returns-in_err-judge-clause-refused c =
+    let p = err_from_is_err_and c.from_residual-in_err-judge.result c.from_residual-in_err-judge.ensures.1 in
+    rw (p.1, p.2) (c.in_err-judge.ensures.refused c.args.bytes.now c.in_ok-parsed.ensures.ok)
 
-pub returns-in-None-clause-ok : goal.returns-in-None-clause-ok
-returns-in-None-clause-ok c =
+pub returns-clause-ok : goal.returns-clause-ok
+returns-clause-ok c =
     let text = c.args.bytes.now in
     let n = c.in_ok-parsed.parsed in
-    let none : driver_fault n.statements ≡ None = sym c.in_ok-fault.ensures ∙ c.in-None.is in
+    let none : driver_fault n.statements ≡ None = c.in_ok-judge.ensures.ok in
     let read : IsNetlist text n = accepted text n c.in_ok-parsed.ensures.ok none in
     let e : ◌≡◌ {A = Netlist} (record { statements = c.parsed.inside.statements.items; names = texts_in c.parsed.inside.names }) n = c.parsed.view_is in
     subst (λ (m : Netlist). IsNetlist text m) (sym e) read

@@ -2,7 +2,7 @@ use Rattle.std.proofs.Common.{◌≤◌, length}
 use Rattle.bench_reader.specs.Names.{texts_in}
 use Rattle.bench_reader.specs.Scanning.{tokens_at, IsPlace}
 use Rattle.bench_reader.proofs.ReadLemmas.{ReadSoFar}
-use Rattle.bench_reader.proofs.parsing.parse.Given as goal
+use Rattle.bench_reader.proofs.parsing.add_statements.Given as goal
 
 abbrev pub invariant-statements : goal.invariant-statements
 invariant-statements l = record {
