@@ -21,9 +21,8 @@ use Rattle.pair_sets.specs.declared.trail.Change.{Change}
 use Rattle.pair_sets.specs.Cube.{Cube, FixesOnce, fixed_bit}
 use Rattle.pair_sets.specs.PairSet.{forced_pairs, free_pairs, fixed_pairs, only_equal, only_unequal, IsWithin}
 use Rattle.pair_sets.specs.CubeState.{set_at, source_pairs, ArePairSets, position_pairs, state_of}
-use Rattle.event_queue.specs.Pending.{IsEmpty}
 use Rattle.pair_sets.specs.Trail.{undone}
-use Rattle.pair_sets.specs.Events.{AreSettled, AreLoose, gate_line_pairs}
+use Rattle.pair_sets.specs.Events.{AreLoose, gate_line_pairs}
 use Rattle.pair_sets.specs.PairSimFields.{cube_of, IsLevelRight, AreLevels, IsReady}
 use Rattle.pair_sets.proofs.CubeLemmas.{few_fixed}
 use Rattle.pair_sets.proofs.PairLemmas.{within_same, within_forced}
@@ -56,10 +55,10 @@ module _ (c : Circuit) (f g : Fault) (cube : Cube) (sets : List PairSet) (are : 
       (within_forced (stuck_stem f source) (stuck_stem g source) (fixed_pairs bit) free_pairs (fixed_is_free bit))
 
   -- the pairs of the cube in which it is fixed
-  pub pairs_fixed : (bit : Bool) (pairs : PairSet) (order : List ℕ) (queue : List Bool) (new : List PairSet) → pairs ≡ forced_pairs (stuck_stem f source) (stuck_stem g source) (fixed_pairs bit)
-      → length new ≡ line_count c → ((s : ℕ) → s < c.sources → set_at new s ≡ set_at (set sets source pairs) s) → AreSettled c f g order queue new → IsEmpty queue
+  pub pairs_fixed : (bit : Bool) (pairs : PairSet) (new : List PairSet) → pairs ≡ forced_pairs (stuck_stem f source) (stuck_stem g source) (fixed_pairs bit)
+      → length new ≡ line_count c → ((s : ℕ) → s < c.sources → set_at new s ≡ set_at (set sets source pairs) s) → ((line : ℕ) → c.sources ≤ line → line < line_count c → set_at new line ≡ gate_line_pairs c f g new line)
       → ArePairSets c f g ((source, bit) ∷ cube) new
-  pairs_fixed bit pairs order queue new is whole sources settled none = record {
+  pairs_fixed bit pairs new is whole sources right = record {
     whole = whole;
     each = λ line h. elim (cases_lt line c.sources) [
       | inl under ↦
@@ -72,7 +71,7 @@ module _ (c : Circuit) (f g : Fault) (cube : Cube) (sets : List PairSet) (are : 
             | inr ne ↦
                 get_or-set_other sets source line pairs free_pairs ne ∙ are.each line h ∙ source_line_pairs c f g cube sets line under ∙ ap stems (sym (fixed_other source bit cube line ne))
           ]) ∙ sym (source_line_pairs c f g ((source, bit) ∷ cube) new line under)
-      | inr over ↦ settled line over h (λ place k e. none place) ∙ any_cube c f g [] ((source, bit) ∷ cube) new line over h
+      | inr over ↦ right line over h ∙ any_cube c f g [] ((source, bit) ∷ cube) new line over h
     ];
   }
 

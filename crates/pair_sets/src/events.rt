@@ -1,14 +1,14 @@
 //! Changes are followed by events: only the readers of lines whose pairs change are evaluated, gate by gate in an
 //! order of the circuit.
 
-ghost use Rattle.std.specs.Prelude.{◌≡◌, ℕ, ◌<◌, length, slice_set};
+ghost use Rattle.std.specs.Prelude.{◌≡◌, ℕ, ◌<◌, ◌≤◌, length, slice_set};
 ghost use Rattle.event_queue.specs.Pending.{IsEmpty};
 ghost use Rattle.net_model.specs.Circuit.{line_count};
 ghost use Rattle.net_model.specs.Wiring.{IsWiring};
 ghost use Rattle.pair_sets.specs.CubeState.{set_at};
 ghost use Rattle.pair_sets.specs.PairSet.{IsWithin};
 ghost use Rattle.pair_sets.specs.Trail.{HasRoom, IsLonger};
-ghost use Rattle.pair_sets.specs.Events.{AreSettled, AreLoose, WakesReaders};
+ghost use Rattle.pair_sets.specs.Events.{AreSettled, AreLoose, WakesReaders, gate_line_pairs};
 
 use crate::fault_pair::FaultPair;
 use crate::pair_set::PairSet;
@@ -16,8 +16,34 @@ use crate::trail::Trail;
 use event_queue::NumberQueue;
 use net_model::Wiring;
 
-/// Gives a line its pairs, which are among those that it had. Where they change, its readers wait from now on.
-pub(crate) fn settle(
+/// Gives a source its pairs, which are among those that it had, and then each gate the pairs that follow.
+pub(crate) fn change_source(
+    pair: &FaultPair,
+    source: u32,
+    pairs: PairSet,
+    queue: &mut NumberQueue,
+    trail: &mut Trail,
+)
+    requires source { source < pair.now.circuit.now.sources }
+    requires width { length trail.old.sets.items ≡ line_count pair.now.circuit.now }
+    requires fewer { IsWithin pairs (set_at trail.old.sets.items source) }
+    requires room { HasRoom trail.old }
+    requires queue { length queue.old ≡ length pair.now.circuit.now.gates }
+    requires right { (line : ℕ) → pair.now.circuit.now.sources ≤ line → line < line_count pair.now.circuit.now → set_at trail.old.sets.items line ≡ gate_line_pairs pair.now.circuit.now pair.now.f pair.now.g trail.old.sets.items line }
+    ensures longer { IsLonger trail.old trail.new }
+    ensures room { HasRoom trail.new }
+    ensures queue { length queue.new ≡ length queue.old }
+    ensures none { IsEmpty queue.new }
+    ensures right { (line : ℕ) → pair.now.circuit.now.sources ≤ line → line < line_count pair.now.circuit.now → set_at trail.new.sets.items line ≡ gate_line_pairs pair.now.circuit.now pair.now.f pair.now.g trail.new.sets.items line }
+    ensures sources { (line : ℕ) → line < pair.now.circuit.now.sources → set_at trail.new.sets.items line ≡ set_at (slice_set trail.old.sets.items source pairs) line }
+{
+    let wiring = pair.circuit.wiring();
+    settle(pair, wiring, source, pairs, queue, trail);
+    follow(pair, wiring, queue, trail);
+}
+
+// Gives a line its pairs, which are among those that it had. Where they change, its readers wait from now on.
+fn settle(
     pair: &FaultPair,
     wiring: &Wiring,
     line: u32,
@@ -44,8 +70,8 @@ pub(crate) fn settle(
     queue.wake(wiring.readers(line));
 }
 
-/// Settles gate by gate, until none waits.
-pub(crate) fn follow(pair: &FaultPair, wiring: &Wiring, queue: &mut NumberQueue, trail: &mut Trail)
+// Settles gate by gate, until none waits.
+fn follow(pair: &FaultPair, wiring: &Wiring, queue: &mut NumberQueue, trail: &mut Trail)
     requires wiring { IsWiring pair.now.circuit.now wiring.now }
     requires width { length trail.old.sets.items ≡ line_count pair.now.circuit.now }
     requires room { HasRoom trail.old }

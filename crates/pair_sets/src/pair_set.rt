@@ -10,7 +10,7 @@ use net_model::Fold;
 use std::marker::Model;
 
 /// A set of pairs of bits: whether each of the four is in it.
-#[derive(Clone, Copy, Debug, PartialEq, Eq)]
+#[derive(Clone, Copy, PartialEq, Eq)]
 pub struct PairSet {
     both_zero: bool,
     zero_one: bool,

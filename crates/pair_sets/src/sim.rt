@@ -12,7 +12,7 @@ ghost use Rattle.pair_sets.specs.PairSim.{pair_sim, with_cube};
 
 use crate::base::base_pairs;
 use crate::cone::Cone;
-use crate::events::{follow, settle};
+use crate::events::change_source;
 use crate::fault_pair::FaultPair;
 use crate::pair_set::PairSet;
 use crate::spread::spread;
@@ -112,12 +112,12 @@ impl<'a> PairSim<'a> {
                 f: Fault::Free,
                 g: Fault::Free,
             },
-            base,
-            cone: Cone::none(alloc, lines)?,
-            queue: NumberQueue::new(alloc, circuit.order().len())?,
-            trail,
             levels: Vec::with_capacity(alloc, circuit.sources() as usize)?,
+            queue: NumberQueue::new(alloc, circuit.order().len())?,
+            cone: Cone::none(alloc, lines)?,
             tally: Tally::none(alloc, circuit.positions().len())?,
+            base,
+            trail,
         })
     }
 
@@ -162,25 +162,11 @@ impl<'a> PairSim<'a> {
         requires free { fixed_bit self.old.cube source ≡ None }
         ensures { self.new ≡ with_cube self.old ((source, bit) ∷ self.old.cube) }
     {
-        let wiring = self.pair.circuit.wiring();
         let start = self.trail.changes.len();
         let pairs = self.pair.stem_pairs(source, PairSet::fixed(bit));
-        settle(
-            &self.pair,
-            wiring,
-            source,
-            pairs,
-            &mut self.queue,
-            &mut self.trail,
-        );
-        follow(&self.pair, wiring, &mut self.queue, &mut self.trail);
-        self.tally.recount(
-            &self.pair,
-            wiring,
-            &self.cone,
-            self.trail.sets.as_slice(),
-            &self.trail.changes[start..],
-        );
+        change_source(&self.pair, source, pairs, &mut self.queue, &mut self.trail);
+        self.tally
+            .recount(&self.pair, &self.cone, &self.trail, start);
         self.levels.push_reserved(Level { source, bit, start });
     }
 
@@ -191,13 +177,8 @@ impl<'a> PairSim<'a> {
     {
         if let Some(level) = self.levels.pop() {
             self.trail.restore(level.start);
-            self.tally.recount(
-                &self.pair,
-                self.pair.circuit.wiring(),
-                &self.cone,
-                self.trail.sets.as_slice(),
-                &self.trail.changes[level.start..],
-            );
+            self.tally
+                .recount(&self.pair, &self.cone, &self.trail, level.start);
             self.trail.changes.truncate(level.start);
         }
     }

@@ -1,6 +1,6 @@
 //! What the reached positions show, kept up with the pairs of the lines.
 
-ghost use Rattle.std.specs.Prelude.{◌≡◌, ◌≢◌, ℕ, ◌<◌, ◌^◌, All, Contains, IfOk, find, length, slice_index};
+ghost use Rattle.std.specs.Prelude.{◌≡◌, ◌≢◌, ℕ, ◌<◌, ◌≤◌, ◌^◌, All, Contains, IfOk, drop, find, length, slice_index};
 ghost use Rattle.fault_list.specs.Scope.{AreMarks};
 ghost use Rattle.pair_sets.specs.CubeState.{position_pairs};
 ghost use Rattle.pair_sets.specs.PairSet.{only_unequal};
@@ -15,7 +15,7 @@ use crate::fault_pair::FaultPair;
 use crate::pair_set::PairSet;
 use crate::reached::{is_reached, wake_reached};
 use crate::shown::Shown;
-use crate::trail::Change;
+use crate::trail::Trail;
 use event_queue::NumberQueue;
 use net_model::Wiring;
 use std::alloc::{AllocError, Global};
@@ -75,25 +75,20 @@ impl Tally {
         }
     }
 
-    /// Looks again at the positions that show a line of these changes. It takes no memory.
-    pub(crate) fn recount(
-        &mut self,
-        pair: &FaultPair,
-        wiring: &Wiring,
-        cone: &Cone,
-        sets: &[PairSet],
-        changes: &[Change],
-    )
-        requires wiring { IsWiring pair.now.circuit.now wiring.now }
-        requires width { length sets.now ≡ line_count pair.now.circuit.now }
+    /// Looks again at the positions that show a line of the changes from one on. It takes no memory.
+    pub(crate) fn recount(&mut self, pair: &FaultPair, cone: &Cone, trail: &Trail, start: usize)
+        requires width { length trail.now.sets.items ≡ line_count pair.now.circuit.now }
         requires cone { AreMarks (is_split pair.now.circuit.now pair.now.f pair.now.g) (line_count pair.now.circuit.now) cone.now }
         requires tally { IsTally pair.now.circuit.now pair.now.f pair.now.g self.old }
-        requires lines { All (λ change. change.line < length sets.now) changes.now }
-        requires others { (at : ℕ) → at < length pair.now.circuit.now.positions → All (λ change. change.line ≢ slice_index pair.now.circuit.now.positions at) changes.now → IsShownAt pair.now.circuit.now pair.now.f pair.now.g sets.now self.old.shown at }
+        requires start { start ≤ length trail.now.changes.items }
+        requires lines { All (λ change. change.line < length trail.now.sets.items) (drop start trail.now.changes.items) }
+        requires others { (at : ℕ) → at < length pair.now.circuit.now.positions → All (λ change. change.line ≢ slice_index pair.now.circuit.now.positions at) (drop start trail.now.changes.items) → IsShownAt pair.now.circuit.now pair.now.f pair.now.g trail.now.sets.items self.old.shown at }
         ensures tally { IsTally pair.now.circuit.now pair.now.f pair.now.g self.new }
-        ensures shown { IsShown pair.now.circuit.now pair.now.f pair.now.g sets.now self.new.shown }
+        ensures shown { IsShown pair.now.circuit.now pair.now.f pair.now.g trail.now.sets.items self.new.shown }
     {
-        for change in changes {
+        let wiring = pair.circuit.wiring();
+        let sets = trail.sets.as_slice();
+        for change in &trail.changes[start..] {
             self.look_again(pair, cone, sets, wiring.showing(change.line));
         }
     }

@@ -1,6 +1,6 @@
-use Rattle.std.proofs.Common.{◌≡◌, ◌<◌, ◌∙◌, length, set, sym, ap, arith, inr}
+use Rattle.std.proofs.Common.{◌≡◌, ◌<◌, ◌∙◌, [], length, set, refl, sym, ap, arith, inl, inr}
 use Rattle.std.proofs.lemmas.Bool.{false≢true}
-use Rattle.std.proofs.lemmas.List.{get_or_read, set-get_or}
+use Rattle.std.proofs.lemmas.List.{append-nil, get_or_read, set-get_or}
 use Rattle.pair_sets.specs.PairSet.{free_pairs}
 use Rattle.pair_sets.specs.CubeState.{set_at}
 use Rattle.pair_sets.proofs.EventLemmas.{readers_within, readers_woken}
@@ -39,3 +39,18 @@ returns-clause-wakes c =
     let woken =
     readers_woken c.args.pair.now.circuit.now c.args.wiring.now c.requires.wiring c.args.line c.readers.result.now c.readers.ensures c.args.queue.now c.wake.new.self c.wake.ensures.kept c.wake.ensures.only c.wake.ensures.here in
     record { others = woken.others; readers = inr woken.readers }
+
+pub returns-then-eq-clause-longer : goal.returns-then-eq-clause-longer
+returns-then-eq-clause-longer c = record { added = []; extends = sym (append-nil c.args.trail.now.changes.items); before = refl; whole = refl; within = λ k d h. absurd (omega (arith, h)); capacity = refl }
+
+pub returns-then-eq-clause-wakes : goal.returns-then-eq-clause-wakes
+returns-then-eq-clause-wakes c =
+    let sets = c.args.trail.now.sets.items in
+    let line = c.args.line in
+    let inside : line < length sets = omega (arith, c.requires.width, c.requires.line) in
+    let was : c.index.result.now ≡ set_at sets line = get_or_read sets line c.index.result.now inside c.index.ensures free_pairs in
+    let same : c.index.result.now ≡ c.args.pairs = same_sets_are c.index.result.now c.args.pairs (sym c.eq.ensures ∙ c.if-eq.true) in
+    record { others = record { kept = λ place e. e; only = λ place e. inl e }; readers = inl (sym was ∙ same) }
+
+pub index-requires : goal.index-requires
+index-requires c = omega (arith, c.requires.width, c.requires.line, c.args.trail.now.sets.ok.0)

@@ -9,7 +9,11 @@ use Rattle.pair_sets.specs.PairSim.{PairSim, pair_sim}
 use Rattle.pair_sets.specs.PairSimFields.{cube_of, pair_sim_of, IsReady}
 use Rattle.pair_sets.specs.Tally.{IsBlank, IsShown, IsTally}
 use Rattle.pair_sets.proofs.BlankLemmas.{free_blank, lowest_level, no_levels, unfixed}
+use Rattle.net_model.specs.Circuit.{line_count}
+use Rattle.net_model.specs.Fault.{IsFaultOf}
+use Rattle.net_model.specs.Scope.{is_split}
 use Rattle.net_model.proofs.Places.{places_are_gates}
+use Rattle.fault_list.specs.Scope.{AreMarks}
 use Rattle.pair_sets.proofs.LevelLemmas.{right_of}
 use Rattle.pair_sets.proofs.sim.PairSim.enter.Goals as goal
 
@@ -39,6 +43,37 @@ module _ (a : Inside) (ready : IsReady a) (sim : PairSim) (view : pair_sim_of a 
       free_blank c a.tally sets
       (subst (λ (g : Fault). IsTally c Free g a.tally) second_free (subst (λ (f : Fault). IsTally c f a.pair.g a.tally) first_free ready.tally))
       (subst (λ (g : Fault). IsShown c Free g sets a.tally.shown) second_free (subst (λ (f : Fault). IsShown c f a.pair.g sets a.tally.shown) first_free ready.shown))
+
+pub spread-requires-clause-first : goal.spread-requires-clause-first
+spread-requires-clause-first c = subst (λ (sim : PairSim). IsFaultOf sim.circuit c.args.f.now) (sym c.self.view_is) c.requires.first
+
+pub spread-requires-clause-second : goal.spread-requires-clause-second
+spread-requires-clause-second c = subst (λ (sim : PairSim). IsFaultOf sim.circuit c.args.g.now) (sym c.self.view_is) c.requires.second
+
+pub spread-requires-clause-unmarked : goal.spread-requires-clause-unmarked
+spread-requires-clause-unmarked c =
+    let a = c.self.inside in
+    let circuit = a.pair.circuit.now in
+    subst (λ (g : Fault). AreMarks (is_split circuit Free g) (line_count circuit) a.cone) (second_free a c.self.invariant c.args.self.now c.self.view_is c.requires.free)
+    (subst (λ (f : Fault). AreMarks (is_split circuit f a.pair.g) (line_count circuit) a.cone) (first_free a c.self.invariant c.args.self.now c.self.view_is c.requires.free) c.self.invariant.cone)
+
+pub spread-requires-clause-none : goal.spread-requires-clause-none
+spread-requires-clause-none c = c.self.invariant.none_waits
+
+pub fill-requires-clause-first : goal.fill-requires-clause-first
+fill-requires-clause-first c = subst (λ (sim : PairSim). IsFaultOf sim.circuit c.args.f.now) (sym c.self.view_is) c.requires.first
+
+pub fill-requires-clause-second : goal.fill-requires-clause-second
+fill-requires-clause-second c = subst (λ (sim : PairSim). IsFaultOf sim.circuit c.args.g.now) (sym c.self.view_is) c.requires.second
+
+pub fill-requires-clause-width : goal.fill-requires-clause-width
+fill-requires-clause-width c = ap length c.as_slice.ensures.value ∙ c.spread.ensures.sets.whole
+
+pub fill-requires-clause-cone : goal.fill-requires-clause-cone
+fill-requires-clause-cone c = c.spread.ensures.cone
+
+pub fill-requires-clause-places : goal.fill-requires-clause-places
+fill-requires-clause-places c = c.self.invariant.tally.places
 
 pub spread-requires-clause-free : goal.spread-requires-clause-free
 spread-requires-clause-free c = pairs_free c.self.inside c.self.invariant c.args.self.now c.self.view_is c.requires.free

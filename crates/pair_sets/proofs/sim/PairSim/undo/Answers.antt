@@ -1,15 +1,16 @@
-use Rattle.std.proofs.Common.{◌≡◌, ◌≢◌, ◌-◌, ◌*◌, ℕ, List, ◌<◌, ◌≤◌, ◌∙◌, ◌∷◌, [], length, get_or, take, drop, sym, ap, subst, Vec}
+use Rattle.std.proofs.Common.{◌≡◌, ◌≢◌, ◌*◌, ◌<◌, ◌≤◌, ◌∙◌, ◌∷◌, ◌++◌, [], List, length, get_or, take, drop, sym, ap, subst, Vec}
 use Rattle.std.specs.Prelude.{All, reverse, vec_capacity}
 use Rattle.std.proofs.lemmas.List.{reverse-append}
 use Rattle.std.proofs.lemmas.List.Elements.{All-take, All-drop}
 use Rattle.std.specs.declared.alloc.Global.{Global}
 use Rattle.net_model.specs.Circuit.{line_count}
+use Rattle.pair_sets.specs.declared.sim.Level.{Level}
+use Rattle.pair_sets.specs.declared.sim.PairSim.TheInside.{Inside}
 use Rattle.pair_sets.specs.declared.trail.Change.{Change}
 use Rattle.pair_sets.specs.Trail.{undone}
-use Rattle.pair_sets.specs.PairSimFields.{AreLevels}
-use Rattle.pair_sets.specs.Tally.{IsShown}
+use Rattle.pair_sets.specs.PairSimFields.{AreLevels, IsReady}
 use Rattle.pair_sets.proofs.LevelLemmas.{right_of}
-use Rattle.pair_sets.proofs.TallyLemmas.{all_from, shown_before}
+use Rattle.pair_sets.proofs.TallyLemmas.{shown_before}
 use Rattle.pair_sets.proofs.TrailLemmas.{length-undone}
 use Rattle.pair_sets.proofs.sim.PairSim.undo.Goals as goal
 
@@ -46,26 +47,23 @@ invariant_of-self c =
       base = c.self.invariant.base;
       cone = c.self.invariant.cone;
       tally = c.recount.ensures.tally;
-      shown = subst (λ xs. IsShown circuit a.pair.f a.pair.g xs c.recount.new.self.shown) c.as_slice.ensures.value c.recount.ensures.shown;
+      shown = c.recount.ensures.shown;
     }
 
 pub recount-requires-clause-width : goal.recount-requires-clause-width
 recount-requires-clause-width c =
     let a = c.self.inside in
-    ap length (c.as_slice.ensures.value ∙ c.restore.ensures.sets) ∙ length-undone (drop c.in-Some.level.start a.trail.changes.items) a.trail.sets.items ∙ (right_of a c.self.invariant).right.whole
-
--- the changes that are looked at are those that are taken back
-taken_from : (old new : Vec Change Global) (changes : List Change) (start : ℕ) → changes ≡ new.items → new ≡ old → take (length changes - start) (drop start changes) ≡ drop start old.items
-taken_from old new changes start are same = all_from start changes ∙ ap (drop start) (are ∙ ap (λ (v : Vec Change Global). v.items) same)
+    ap length c.restore.ensures.sets ∙ length-undone (drop c.in-Some.level.start a.trail.changes.items) a.trail.sets.items ∙ (right_of a c.self.invariant).right.whole
 
 pub recount-requires-clause-lines : goal.recount-requires-clause-lines
 recount-requires-clause-lines c =
     let a = c.self.inside in
     let start = c.in-Some.level.start in
     let back = drop start a.trail.changes.items in
-    let are = taken_from a.trail.changes c.restore.new.self.changes c.deref.result.now start c.deref.ensures.value c.restore.ensures.changes in
-    let whole : length c.as_slice.result.now ≡ length a.trail.sets.items = ap length (c.as_slice.ensures.value ∙ c.restore.ensures.sets) ∙ length-undone back a.trail.sets.items in
-    subst (All (λ (change : Change). change.line < length c.as_slice.result.now)) (sym are)
+    let restored = c.restore.new.self in
+    let are : drop start restored.changes.items ≡ back = ap (λ (v : Vec Change Global). drop start v.items) c.restore.ensures.changes in
+    let whole : length restored.sets.items ≡ length a.trail.sets.items = ap length c.restore.ensures.sets ∙ length-undone back a.trail.sets.items in
+    subst (All (λ (change : Change). change.line < length restored.sets.items)) (sym are)
     (subst (λ n. All (λ (change : Change). change.line < n) back) (sym whole) (All-drop (λ (change : Change). change.line < length a.trail.sets.items) start a.trail.changes.items c.self.invariant.within))
 
 pub recount-requires-clause-others : goal.recount-requires-clause-others
@@ -73,7 +71,30 @@ recount-requires-clause-others c = λ at h none.
     let a = c.self.inside in
     let circuit = a.pair.circuit.now in
     let start = c.in-Some.level.start in
-    let are = taken_from a.trail.changes c.restore.new.self.changes c.deref.result.now start c.deref.ensures.value c.restore.ensures.changes in
-    shown_before circuit a.pair.f a.pair.g a.trail.sets.items c.as_slice.result.now a.tally.shown (drop start a.trail.changes.items) c.self.invariant.shown at h
+    let are : drop start c.restore.new.self.changes.items ≡ drop start a.trail.changes.items = ap (λ (v : Vec Change Global). drop start v.items) c.restore.ensures.changes in
+    shown_before circuit a.pair.f a.pair.g a.trail.sets.items c.restore.new.self.sets.items a.tally.shown (drop start a.trail.changes.items) c.self.invariant.shown at h
     (subst (All (λ (change : Change). change.line ≢ get_or circuit.positions at 0)) are none)
-    (c.as_slice.ensures.value ∙ c.restore.ensures.sets)
+    c.restore.ensures.sets
+
+-- a level begins at one of the changes
+level_start : (a : Inside) (ready : IsReady a) (rest : List Level) (level : Level) → a.levels.items ≡ rest ++ level ∷ [] → level.start ≤ length a.trail.changes.items
+level_start a ready rest level e =
+    let levels = subst (λ levels. AreLevels a.pair.circuit.now a.pair.f a.pair.g (vec_capacity a.trail.changes) levels a.trail.changes.items a.trail.sets.items) (ap reverse e ∙ reverse-append rest (level ∷ [])) ready.levels in
+    levels.3
+
+pub restore-requires-clause-start : goal.restore-requires-clause-start
+restore-requires-clause-start c = level_start c.self.inside c.self.invariant c.pop.new.self.items c.in-Some.level c.in-Some.ensures.items
+
+pub restore-requires-clause-within : goal.restore-requires-clause-within
+restore-requires-clause-within c = c.self.invariant.within
+
+pub recount-requires-clause-cone : goal.recount-requires-clause-cone
+recount-requires-clause-cone c = c.self.invariant.cone
+
+pub recount-requires-clause-tally : goal.recount-requires-clause-tally
+recount-requires-clause-tally c = c.self.invariant.tally
+
+pub recount-requires-clause-start : goal.recount-requires-clause-start
+recount-requires-clause-start c =
+    subst (λ (v : Vec Change Global). c.in-Some.level.start ≤ length v.items) (sym c.restore.ensures.changes)
+    (level_start c.self.inside c.self.invariant c.pop.new.self.items c.in-Some.level c.in-Some.ensures.items)

@@ -1,4 +1,4 @@
-use Rattle.std.proofs.Common.{◌≡◌, ◌≢◌, ◌<◌, ◌≤◌, ◌-◌, ◌∙◌, ◌∷◌, [], ◌++◌, ℕ, length, get_or, set, true, false, sym, ap, arith, subst, inl, inr}
+use Rattle.std.proofs.Common.{◌≡◌, ◌≢◌, ◌<◌, ◌≤◌, ◌+◌, ◌-◌, ◌∙◌, ◌∷◌, [], ◌++◌, ℕ, length, get_or, set, true, false, sym, ap, arith, subst, inl, inr}
 use Rattle.std.specs.Prelude.{if◌then◌else◌}
 use Rattle.std.specs.List.{range_with_len}
 use Rattle.std.proofs.lemmas.Bool.{cases_eq, cases_lt, false_from_ne_true}
@@ -105,3 +105,33 @@ returns-clause-shown c = λ at h.
       | inl under ↦ was.before at under
       | inr over ↦ shown_unreached circuit c.args.pair.now.f c.args.pair.now.g c.args.sets.now c.loop-at.self.shown at (sym (was.next at over h) ∙ c.in_default.ensures.cases.0 at) (was.behind at over)
     ]
+
+pub loop-at-init : goal.loop-at-init
+loop-at-init c =
+    let places = c.requires.places in
+    record {
+      from = omega arith;
+      queue_room = c.wake_reached.ensures.room ∙ places.queue_room;
+      low = λ at h. absurd (omega (arith, h));
+      next = λ at above h. c.wake_reached.ensures.reached at h;
+      reached = c.requires.blank.reached;
+      room = places.room;
+      whole = places.whole;
+      before = λ at h. absurd (omega (arith, h));
+      behind = λ at h. c.requires.blank.free at;
+    }
+
+pub put-requires : goal.put-requires
+put-requires c = omega (arith, pending_within c.loop-at.self.waiting c.in-Some.at c.in-Some.ensures.cases.was, c.loop-at.invariant.queue_room, c.loop-at.invariant.whole)
+
+pub loop-at-smaller : goal.loop-at-smaller
+loop-at-smaller c =
+    let was = c.loop-at.invariant in
+    let count = length c.args.pair.now.circuit.now.positions in
+    let within = pending_within c.loop-at.self.waiting c.in-Some.at c.in-Some.ensures.cases.was in
+    let low = not_before c.loop-at.self.waiting c.loop-at.from c.in-Some.at was.low c.in-Some.ensures.cases.was in
+    let smaller : count - (c.in-Some.at + 1) < count - c.loop-at.from = omega (arith, within, was.queue_room, low) in
+    smaller
+
+pub position_pairs-requires-clause-position : goal.position_pairs-requires-clause-position
+position_pairs-requires-clause-position c = omega (arith, pending_within c.loop-at.self.waiting c.in-Some.at c.in-Some.ensures.cases.was, c.loop-at.invariant.queue_room)

@@ -7,6 +7,6 @@ abbrev pub invariant-loop-change : goal.invariant-loop-change
 invariant-loop-change l = record {
   all : KeepsAll l.initial.self l.self;
   others : (at : ℕ) → at < length l.pair.circuit.now.positions
-      → ((k : ℕ) (d : Change) → l.change-index ≤ k → k < length l.changes → (get_or l.changes k d).line ≢ get_or l.pair.circuit.now.positions at 0)
+      → ((k : ℕ) (d : Change) → l.change-index ≤ k → k < length l.change-items → (get_or l.change-items k d).line ≢ get_or l.pair.circuit.now.positions at 0)
       → IsShownAt l.pair.circuit.now l.pair.f l.pair.g l.sets l.self.shown at;
 }
