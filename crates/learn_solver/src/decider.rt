@@ -39,11 +39,12 @@ impl Decider {
         requires { variables < 2 ^ 31 }
         ensures { IfOk result (λ decider. decider ≡ variables) }
     {
+        let phases = vec![in alloc; false; variables as usize + 1]?;
         let queue = Queue::new(alloc, variables)?;
         let place = queue.newest();
         Ok(Decider {
             queue,
-            phases: vec![in alloc; false; variables as usize + 1]?,
+            phases,
             place,
             highest: 0,
             low: 0,

@@ -33,9 +33,9 @@ pub(crate) fn begin(alloc: Global, pool: &Pool, variables: u32) -> Result<Search
     ensures variables { IfOk result (λ search. search.trail.assignment.variables ≡ variables) }
     ensures none { IfOk result (λ search. search.chains.items ≡ []) }
 {
+    let trail = attach_all(alloc, pool, variables)?;
     let marks = Marks::new(alloc, variables)?;
     let decider = Decider::new(alloc, variables)?;
-    let trail = attach_all(alloc, pool, variables)?;
     Ok(Search {
         trail,
         decider,

@@ -46,8 +46,8 @@ impl<'a> Numbering<'a> {
     ) -> Result<Numbering<'a>, AllocError>
         ensures { IfOk result (λ numbering. numbering ≡ miter_with circuit.now f g) }
     {
-        let scope = Scope::of(alloc, circuit, &f, &g)?;
         let mut firsts = Vec::with_capacity(alloc, circuit.lines() as usize)?;
+        let scope = Scope::of(alloc, circuit, &f, &g)?;
         let mut end = 1;
         for line in 0..circuit.lines() {
             firsts.push(end)?;

@@ -44,8 +44,8 @@ pub fn check_log(
         return Err(refused(RefusalKind::WrongCount, chains.len()));
     }
     let variables = miter.variables();
-    let mut reached = Reached::new(alloc);
     let mut propagator = propagator_for(alloc, pool, variables, kind)?;
+    let mut reached = Reached::new(alloc);
     check_chains(
         alloc,
         &mut reached,

@@ -92,7 +92,7 @@ impl From<AllocError> for ChainFault {
 }
 
 /// What evidence is to show: a covering tree, a refutation, or a spent budget.
-#[derive(Clone, Copy, Debug, PartialEq, Eq)]
+#[derive(Clone, Copy, PartialEq, Eq)]
 pub enum EvidenceKind {
     Covered,
     Refuted,

@@ -8,7 +8,7 @@ use crate::set_literals::SetLiterals;
 use clause_pool::Lit;
 
 /// The two literals that a clause watches.
-#[derive(Clone, Copy, Debug)]
+#[derive(Clone, Copy)]
 pub(crate) struct WatchedPair {
     pub(crate) first: Lit,
     pub(crate) second: Lit,

@@ -16,7 +16,7 @@ use std::marker::Model;
 
 /// What unit propagation ends with: every attached clause has a true literal or two unset ones, or the attached clause
 /// of this number is false.
-#[derive(Clone, Copy, Debug, PartialEq, Eq)]
+#[derive(Clone, Copy, PartialEq, Eq)]
 pub enum Propagated {
     Quiet,
     Conflict(u32),

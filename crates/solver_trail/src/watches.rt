@@ -28,9 +28,10 @@ impl Watches {
         ensures firsts { IfOk result (λ watches. watches.firsts.items ≡ replicate (2 * variables + 2) None) }
         ensures nexts { IfOk result (λ watches. watches.nexts.items ≡ []) }
     {
+        let firsts = vec![in alloc; None; 2 * variables as usize + 2]?;
         Ok(Watches {
             literals: Vec::new(alloc),
-            firsts: vec![in alloc; None; 2 * variables as usize + 2]?,
+            firsts,
             nexts: Vec::new(alloc),
         })
     }
