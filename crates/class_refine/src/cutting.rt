@@ -16,10 +16,19 @@ use std::alloc::{AllocError, Global};
 use std::collections::BTreeMap;
 
 /// Pieces that leave their classes: the members of each, and the class that it leaves.
-#[derive(Drop)]
 pub(crate) struct Pieces {
     pub(crate) groups: Vec<Group>,
     pub(crate) parents: Vec<u32>,
+}
+
+// Written out, it is one step in the proof of each function that lets pieces go.
+impl Drop for Pieces {
+    fn drop(self) {
+        let Pieces {
+            groups: _,
+            parents: _,
+        } = self;
+    }
 }
 
 impl Pieces {

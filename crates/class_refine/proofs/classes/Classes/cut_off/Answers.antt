@@ -14,25 +14,25 @@ use Rattle.class_refine.proofs.classes.Classes.cut_off.Goals.{After-len-added, I
 
 -- the pieces leave their classes by a row
 abbrev Leave : After-len-added → List (List Bool) → Type 0
-Leave c row = AreLeaving c.args.self.now row c.args.pieces.groups.items c.args.pieces.parents.items
+Leave c row = AreLeaving c.args.self.now row c.args.pieces.now.groups.items c.args.pieces.now.parents.items
 
 added : (c : After-len-added) (row : List (List Bool)) → Leave c row → c.len-added.result ≡ length (new_lowest c.args.self.now row)
 added c row are =
     let t = c.args.self.now in
-    omega (arith, c.len-added.ensures, c.args.pieces.groups.ok.0, ap length are.groups_are, length-map (new_lowest t row) (piece_of t row))
+    omega (arith, c.len-added.ensures, c.args.pieces.now.groups.ok.0, ap length are.groups_are, length-map (new_lowest t row) (piece_of t row))
 
 adding : (c : After-len-added) (row : List (List Bool)) → Leave c row → Adds c.args.self.now row c.len-added.result
 adding c row are =
     let kept : IsKept c.args.self.now c.self.inside.members.items = subst (λ t. IsKept t c.self.inside.members.items) c.self.view_is c.self.invariant in
     adds c.args.self.now row c.len-added.result kept.whole (added c row are)
 
-groups : (c : In_ok-append) (row : List (List Bool)) → AreLeaving c.args.self.now row c.args.pieces.groups.items c.args.pieces.parents.items → AreJoined c.args.self.now row c.append.new.self.items
+groups : (c : In_ok-append) (row : List (List Bool)) → AreLeaving c.args.self.now row c.args.pieces.now.groups.items c.args.pieces.now.parents.items → AreJoined c.args.self.now row c.append.new.self.items
 groups c row are =
     let old = c.self.inside.members.items in
     rw c.in_ok-append.ensures.items
-    (joined c.args.self.now row old c.args.pieces.groups.items c.args.pieces.parents.items (subst (λ t. IsKept t old) c.self.view_is c.self.invariant) are)
+    (joined c.args.self.now row old c.args.pieces.now.groups.items c.args.pieces.now.parents.items (subst (λ t. IsKept t old) c.self.view_is c.self.invariant) are)
 
-table : (c : After-enter_classes) (row : List (List Bool)) → AreLeaving c.args.self.now row c.args.pieces.groups.items c.args.pieces.parents.items → AreJoined c.args.self.now row c.append.new.self.items
+table : (c : After-enter_classes) (row : List (List Bool)) → AreLeaving c.args.self.now row c.args.pieces.now.groups.items c.args.pieces.now.parents.items → AreJoined c.args.self.now row c.append.new.self.items
     → table_with (with_items c.self.inside.class_of c.enter_classes.new.class_of).items c.add_births.new.births.items (c.self.inside.patterns + 1) ≡ refined_table c.args.self.now row
 table c row leave are =
     let t = c.args.self.now in
