@@ -1,6 +1,6 @@
 //! In which lanes the answers of fault numbers differ: from the fault-free ones, and within a class.
 
-ghost use Rattle.std.specs.Prelude.{◌≡◌, ◌≤◌, ◌<◌, ◌+◌, ◌^◌, ◌++◌, ℕ, List, false, length, All, Contains, IfOk, OnOk, slice_index};
+ghost use Rattle.std.specs.Prelude.{◌≡◌, ◌≤◌, ◌<◌, ◌+◌, ◌^◌, ◌++◌, ℕ, List, false, length, All, Contains, IfOk, OnOk, MatchOption, slice_index};
 ghost use Rattle.net_model.specs.FaultList.{fault_count, fault_numbered};
 ghost use Rattle.net_model.specs.Answer.{bit_at};
 ghost use Rattle.net_model.specs.ClassTable.{class_at};
@@ -132,14 +132,38 @@ impl<'a> Differences<'a> {
         if have_one_root(roots, group) {
             return Ok(lanes);
         }
-        self.starts[0] = self.notes.len();
-        simulate(&mut self.lead, listed, good, group[0], &mut self.notes)?;
-        self.starts[1] = self.notes.len();
-        self.places[roots[group[0] as usize] as usize] = 0;
+        self.note_lead(listed, good, roots, group)?;
         for at in 1..group.len() {
             lanes = self.note_member(listed, good, roots, group, at, lanes)?;
         }
         Ok(lanes)
+    }
+
+    // Notes the answers of the first number of a group.
+    fn note_lead(
+        &mut self,
+        listed: &FaultList,
+        good: &GoodSim,
+        roots: &[u32],
+        group: &[u32],
+    ) -> Result<(), AllocError>
+        requires run { HasRun good.now listed.now roots.now }
+        requires inside { All (λ number. number < fault_count good.now.circuit) group.now }
+        requires room { length group.now ≤ fault_count good.now.circuit }
+        requires some { 0 < length group.now }
+        requires of { AreOf good.now.circuit self.old }
+        ensures of { AreOf good.now.circuit self.new }
+        ensures kept { self.new.spans ≡ self.old.spans }
+        ensures lead { OnOk result (AreDifferences good.now.circuit (fault_numbered good.now.circuit (slice_index group.now 0)) (vectors_of good.now) self.new.lead.differences) }
+        ensures more { OnOk result ((more : List Note) × (self.new.notes.items ≡ self.old.notes.items ++ more) × IsReportOf good.now (slice_index group.now 0) more) }
+        ensures spans { OnOk result (AreSpans good.now group.now 1 self.new.starts.items self.new.notes.items) }
+        ensures start { OnOk result (slice_index self.new.starts.items 1 ≡ length self.new.notes.items) }
+    {
+        self.starts[0] = self.notes.len();
+        simulate(&mut self.lead, listed, good, group[0], &mut self.notes)?;
+        self.starts[1] = self.notes.len();
+        self.places[roots[group[0] as usize] as usize] = 0;
+        Ok(())
     }
 
     // Notes the answers of the number at a place of a group, behind those of the places before. A lane that is false
@@ -171,9 +195,7 @@ impl<'a> Differences<'a> {
         ensures alike { IfOk result (λ lanes. (k lane : ℕ) → k < at + 1 → lane < length (vectors_of good.now) → bit_at lanes lane ≡ false → AreAlikeAt good.now lane (slice_index group.now 0) (slice_index group.now k)) }
     {
         let number = group[at];
-        let root = roots[number as usize];
-        let place = self.places[root as usize];
-        if place < at && roots[group[place] as usize] == root {
+        if let Some(place) = twin_at(self.places.as_slice(), roots, group, at) {
             let (start, end) = (self.starts[place], self.starts[place + 1]);
             copy_notes(&mut self.notes, start, end, number)?;
             self.starts[at + 1] = self.notes.len();
@@ -181,11 +203,26 @@ impl<'a> Differences<'a> {
         }
         simulate(&mut self.member, listed, good, number, &mut self.notes)?;
         self.starts[at + 1] = self.notes.len();
-        self.places[root as usize] = at;
+        self.places[roots[number as usize] as usize] = at;
         let told = apart(&self.lead, &self.member);
         self.tally.add(told);
         Ok(lanes.or(told))
     }
+}
+
+// The place of an earlier number of a group that was simulated and has the root of the one at a place, if there is one.
+fn twin_at(places: &[usize], roots: &[u32], group: &[u32], at: usize) -> Option<usize>
+    requires at { at < length group.now }
+    requires numbers { All (λ number. number < length roots.now) group.now }
+    requires roots { All (λ root. root < length places.now) roots.now }
+    ensures { MatchOption result (Unit {0}) (λ place. (place < at) × (slice_index roots.now (slice_index group.now place) ≡ slice_index roots.now (slice_index group.now at))) }
+{
+    let root = roots[group[at] as usize];
+    let place = places[root as usize];
+    if place < at && roots[group[place] as usize] == root {
+        return Some(place);
+    }
+    None
 }
 
 // 1 in the lanes in which the answers differ.

@@ -14,6 +14,10 @@ use Rattle.samediff_dict.specs.Chosen.{candidates, distinct_answers}
 use Rattle.samediff_dict.specs.Numbered.{class_answers, AreNumbersOf, AreCandidates, AreChosen, answers_base, baselines_at}
 use Rattle.samediff_dict.proofs.DistinctLemmas.{entries_distinct, group_below, from_distinct, distinct-few}
 
+-- no candidates
+abbrev pub none : Candidates
+none = record { numbers = []; count = 0 }
+
 -- the groups of answers number the distinct ones
 pub numbers_of_groups : (answers : List (List Bool)) (groups : List ℕ) (entries : List (List Bool)) (c : Candidates) → AreGroupsOf answers groups entries → c.numbers ≡ groups → c.count ≡ length entries → AreNumbersOf answers c
 numbers_of_groups answers groups entries c are numbers count =

@@ -12,12 +12,8 @@ use Rattle.samediff_dict.specs.declared.numbering.Candidates.{Candidates}
 use Rattle.samediff_dict.specs.Chosen.{candidates}
 use Rattle.samediff_dict.specs.Copied.{HasClass, HaveClasses, IsLead, AreLeads, AreWanted}
 use Rattle.samediff_dict.specs.Numbered.{AreNumbered, baselines_at}
-use Rattle.samediff_dict.proofs.CandidateLemmas.{base_at}
+use Rattle.samediff_dict.proofs.CandidateLemmas.{none, base_at}
 use Rattle.samediff_dict.proofs.MadeLemmas.{length-range}
-
--- no candidates
-abbrev none : Candidates
-none = record { numbers = []; count = 0 }
 
 pub range_at : {X : Type 0} (xs : List X) (first end k : ℕ) (d : X) → first + k < end → get_or (slice_range xs first end) k d ≡ get_or xs (first + k) d
 range_at xs first end k d h = get_or-take (end - first) (drop first xs) k d (omega (arith, h)) ∙ get_or-drop first xs k d

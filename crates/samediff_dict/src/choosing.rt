@@ -1,10 +1,14 @@
 //! The first two steps of the choice: pattern by pattern, and against the fault-free answers.
 
-ghost use Rattle.std.specs.Prelude.{◌≡◌, Bool, List, IfOk};
+ghost use Rattle.std.specs.Prelude.{◌≡◌, ◌<◌, Bool, List, length, slice_index_or, nat_lt, IfOk};
+ghost use Rattle.net_model.specs.ClassTable.{class_count};
 ghost use Rattle.table_dicts.specs.Entries.{free_baselines};
 ghost use Rattle.samediff_dict.specs.Chosen.{pairs_apart, greedy_baselines, better_baselines, chosen_baselines};
 ghost use Rattle.samediff_dict.specs.Numbered.{AreNumbered, HasBaselines, baselines_at};
 ghost use Rattle.samediff_dict.specs.Choice.{IsChoice, IsChosen};
+ghost use Rattle.samediff_dict.specs.Groups.{IsFirstMost, gain_at};
+ghost use Rattle.samediff_dict.specs.Partition.{IsListed, IsPartition, TogetherAt, are_together};
+ghost use Rattle.samediff_dict.specs.declared.numbering.Candidates.{Candidates};
 
 use crate::numbering::Candidates;
 use crate::partition::Partition;
@@ -49,13 +53,31 @@ impl Choice<'_> {
         let mut before = Partition::whole(alloc, self.count)?;
         let mut chosen = Vec::with_capacity(alloc, self.patterns.len())?;
         for pattern in 0..self.patterns.len() {
-            let candidates = &self.patterns[pattern];
-            let numbers = candidates.numbers.as_slice();
-            let best = before.first_most(alloc, numbers, candidates.count)?;
-            before = before.cut(alloc, numbers, best)?;
+            let best = self.cut_most(alloc, pattern, &mut before)?;
             chosen.push(best)?;
         }
         Ok(chosen)
+    }
+
+    // Cuts the groups by the candidate of a pattern that tells most pairs apart, and answers its number.
+    fn cut_most(
+        &self,
+        alloc: Global,
+        pattern: usize,
+        before: &mut Partition,
+    ) -> Result<u32, AllocError>
+        ghost rows: { List (List (List Bool)) }
+        requires choice { IsChoice rows self.now }
+        requires pattern { pattern < length rows }
+        requires listed { IsListed (class_count self.now.classes.now) before.old }
+        ensures most { IfOk result (λ best. (c : Candidates) → IsFirstMost (gain_at (are_together before.old) (slice_index_or self.now.patterns.now pattern c).numbers) (slice_index_or self.now.patterns.now pattern c).count best) }
+        ensures cut { IfOk result (λ best. (c : Candidates) → IsPartition (class_count self.now.classes.now) (TogetherAt before.old (slice_index_or self.now.patterns.now pattern c).numbers best) before.new) }
+    {
+        let candidates = &self.patterns[pattern];
+        let numbers = candidates.numbers.as_slice();
+        let best = before.first_most(alloc, numbers, candidates.count)?;
+        *before = before.cut(alloc, numbers, best)?;
+        Ok(best)
     }
 
     // The fault-free answers.
@@ -98,11 +120,22 @@ impl Choice<'_> {
     {
         let greedy = self.greedy(alloc)?;
         let free = self.fault_free(alloc)?;
-        let most = self.apart(alloc, greedy.as_slice())?;
-        let fewest = self.apart(alloc, free.as_slice())?;
-        if most < fewest {
+        if self.keep_more(alloc, greedy.as_slice(), free.as_slice())? {
             return Ok(free);
         }
         Ok(greedy)
+    }
+
+    // Whether other baselines keep more pairs apart.
+    fn keep_more(&self, alloc: Global, chosen: &[u32], other: &[u32]) -> Result<bool, AllocError>
+        ghost rows: { List (List (List Bool)) }
+        requires choice { IsChoice rows self.now }
+        requires chosen { IsChosen rows self.now chosen.now }
+        requires other { IsChosen rows self.now other.now }
+        ensures { IfOk result (λ more. more ≡ nat_lt (pairs_apart self.now.classes.now rows (baselines_at self.now.classes.now rows chosen.now)) (pairs_apart self.now.classes.now rows (baselines_at self.now.classes.now rows other.now))) }
+    {
+        let fewest = self.apart(alloc, chosen)?;
+        let most = self.apart(alloc, other)?;
+        Ok(fewest < most)
     }
 }

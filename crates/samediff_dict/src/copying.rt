@@ -47,9 +47,18 @@ fn chosen_rows(
 {
     let chosen = choose_numbers(alloc, classes, patterns)?;
     let leads = chosen_leads(alloc, classes, patterns, chosen.as_slice())?;
-    let mut baselines = AnswerRows::zeros(alloc, chosen.len(), table.positions() as usize)?;
-    copy_own(table, leads.as_slice(), 0, &mut baselines);
-    Ok(baselines)
+    own_rows(alloc, table, leads.as_slice())
+}
+
+// An answer to each pattern of a table. For each there is the number whose answer it is.
+fn own_rows(alloc: Global, table: &AnswerTable, numbers: &[u32]) -> Result<AnswerRows, AllocError>
+    requires known { All (λ number. number < table.now.numbers) numbers.now }
+    requires one_each { length numbers.now ≡ length table.now.rows }
+    ensures { IfOk result (λ rows. (wanted : ℕ → List Bool) → AreWanted table.now numbers.now 0 wanted → AreRowsBegun (length table.now.rows) table.now.positions (length table.now.rows) wanted rows) }
+{
+    let mut rows = AnswerRows::zeros(alloc, numbers.len(), table.positions() as usize)?;
+    copy_own(table, numbers, 0, &mut rows);
+    Ok(rows)
 }
 
 /// For each pattern the lowest number of a class that has the chosen one among its candidates.

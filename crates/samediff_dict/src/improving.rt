@@ -1,9 +1,14 @@
 //! The third step of the choice: single replacements, as long as one keeps more pairs apart.
 
-ghost use Rattle.std.specs.Prelude.{◌≡◌, ◌+◌, ◌<◌, Bool, List, length, IfOk, OnOk, None, MatchOption};
-ghost use Rattle.samediff_dict.specs.Chosen.{better_baselines, improvement, chosen_baselines};
+ghost use Rattle.std.specs.Prelude.{◌≡◌, ◌+◌, ◌<◌, ◌++◌, ◌∷◌, [], Bool, List, length, slice_index_or, IfOk, OnOk, None, MatchOption};
+ghost use Rattle.net_model.specs.ClassTable.{class_count};
+ghost use Rattle.samediff_dict.specs.Chosen.{better_baselines, candidates, improvement, chosen_baselines};
 ghost use Rattle.samediff_dict.specs.Numbered.{HasBaselines, baselines_at};
 ghost use Rattle.samediff_dict.specs.Choice.{IsChoice, IsChosen, AreEnds, AreSomeEnds, AreStarts, IsFirstBetter};
+ghost use Rattle.samediff_dict.specs.Partition.{IsListed, IsPartition, TogetherAt, together_in_both};
+ghost use Rattle.samediff_dict.specs.Groups.{IsFoundAbove, gain_at};
+ghost use Rattle.samediff_dict.specs.declared.numbering.Candidates.{Candidates};
+ghost use Rattle.samediff_dict.specs.declared.partition.Partition.{Partition};
 
 use crate::choosing::Choice;
 use crate::partition::Partition;
@@ -86,17 +91,37 @@ impl Choice<'_> {
         ensures starts { OnOk result (AreStarts rows self.now chosen.now starts.new.items) }
     {
         for pattern in 0..chosen.len() {
-            let candidates = &self.patterns[pattern];
-            let numbers = candidates.numbers.as_slice();
             let end = &ends[chosen.len() - 1 - pattern];
-            let (count, current) = (candidates.count, chosen[pattern]);
-            let found = starts[pattern].first_above_in(alloc, end, numbers, count, current)?;
+            let found = self.above_at(alloc, pattern, chosen[pattern], &starts[pattern], end)?;
             if let Some(answer) = found {
                 return Ok(Some(Replacement { pattern, answer }));
             }
             self.add_start(alloc, chosen, pattern, starts)?;
         }
         Ok(None)
+    }
+
+    // The first candidate of a pattern that tells more pairs apart than this one, if one does, of the classes that are together in
+    // both partitions.
+    fn above_at(
+        &self,
+        alloc: Global,
+        pattern: usize,
+        current: u32,
+        start: &Partition,
+        end: &Partition,
+    ) -> Result<Option<u32>, AllocError>
+        ghost rows: { List (List (List Bool)) }
+        requires choice { IsChoice rows self.now }
+        requires pattern { pattern < length rows }
+        requires current { current < length (candidates self.now.classes.now (slice_index_or rows pattern [])) }
+        requires start { IsListed (class_count self.now.classes.now) start.now }
+        requires end { IsListed (class_count self.now.classes.now) end.now }
+        ensures { IfOk result (λ found. (c : Candidates) → IsFoundAbove (gain_at (together_in_both start.now end.now) (slice_index_or self.now.patterns.now pattern c).numbers) (slice_index_or self.now.patterns.now pattern c).count current found) }
+    {
+        let candidates = &self.patterns[pattern];
+        let numbers = candidates.numbers.as_slice();
+        start.first_above_in(alloc, end, numbers, candidates.count, current)
     }
 
     // Adds the groups of classes that are alike in more of the last baselines, up to all.
@@ -114,9 +139,7 @@ impl Choice<'_> {
     {
         for last in ends.len() - 1..chosen.len() {
             let pattern = chosen.len() - 1 - last;
-            let numbers = self.patterns[pattern].numbers.as_slice();
-            let next = ends[last].cut(alloc, numbers, chosen[pattern])?;
-            ends.push(next)?;
+            self.push_cut(alloc, pattern, chosen[pattern], ends, last)?;
         }
         Ok(())
     }
@@ -141,9 +164,30 @@ impl Choice<'_> {
         if pattern + 1 < starts.len() {
             return Ok(());
         }
+        self.push_cut(alloc, pattern, chosen[pattern], starts, pattern)?;
+        Ok(())
+    }
+
+    // Adds the groups of one of the partitions, each cut into the classes that have this number at a pattern and those that
+    // have not.
+    fn push_cut(
+        &self,
+        alloc: Global,
+        pattern: usize,
+        number: u32,
+        parts: &mut Vec<Partition>,
+        from: usize,
+    ) -> Result<(), AllocError>
+        ghost rows: { List (List (List Bool)) }
+        requires choice { IsChoice rows self.now }
+        requires pattern { pattern < length rows }
+        requires from { from < length parts.old.items }
+        requires listed { (d : Partition) → IsListed (class_count self.now.classes.now) (slice_index_or parts.old.items from d) }
+        ensures { OnOk result ((next : Partition) × (parts.new.items ≡ parts.old.items ++ next ∷ []) × ((c : Candidates) (d : Partition) → IsPartition (class_count self.now.classes.now) (TogetherAt (slice_index_or parts.old.items from d) (slice_index_or self.now.patterns.now pattern c).numbers number) next)) }
+    {
         let numbers = self.patterns[pattern].numbers.as_slice();
-        let next = starts[pattern].cut(alloc, numbers, chosen[pattern])?;
-        starts.push(next)?;
+        let next = parts[from].cut(alloc, numbers, number)?;
+        parts.push(next)?;
         Ok(())
     }
 }

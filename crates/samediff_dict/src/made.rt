@@ -5,7 +5,7 @@ ghost use Rattle.table_dicts.specs.Setting.{IsSetting, AreAnswersAt};
 ghost use Rattle.table_dicts.specs.AnswerTable.{Answers};
 ghost use Rattle.table_dicts.specs.Dictionary.{IsSameDiff};
 ghost use Rattle.samediff_dict.specs.Chosen.{chosen_baselines};
-ghost use Rattle.samediff_dict.specs.Numbered.{AreNumbered};
+ghost use Rattle.samediff_dict.specs.Numbered.{AreNumbered, HasBaselines};
 
 use crate::choosing::choose_numbers;
 use crate::differing::class_entries;
@@ -33,10 +33,27 @@ fn dict_among(alloc: Global, setting: &Setting, patterns: &[Candidates]) -> Resu
     requires numbered { AreNumbered setting.now.classes.now t.rows patterns.now }
     ensures { IfOk result (IsSameDiff t (chosen_baselines setting.now.classes.now t.rows)) }
 {
+    let chosen = choose_numbers(alloc, setting.classes, patterns)?;
+    dict_with(alloc, setting, patterns, chosen.as_slice())
+}
+
+// The dictionary with the baselines of these numbers among the candidates.
+fn dict_with(
+    alloc: Global,
+    setting: &Setting,
+    patterns: &[Candidates],
+    chosen: &[u32],
+) -> Result<Dict, AllocError>
+    ghost t: { Answers }
+    requires setting { IsSetting setting.now }
+    requires answers { AreAnswersAt setting.now t }
+    requires numbered { AreNumbered setting.now.classes.now t.rows patterns.now }
+    requires chosen { HasBaselines setting.now.classes.now t.rows chosen.now (chosen_baselines setting.now.classes.now t.rows) }
+    ensures { IfOk result (IsSameDiff t (chosen_baselines setting.now.classes.now t.rows)) }
+{
     let classes = setting.classes;
-    let chosen = choose_numbers(alloc, classes, patterns)?;
-    let baselines = baselines(alloc, setting, patterns, chosen.as_slice())?;
-    let entries = class_entries(alloc, patterns, chosen.as_slice(), classes.count())?;
+    let baselines = baselines(alloc, setting, patterns, chosen)?;
+    let entries = class_entries(alloc, patterns, chosen, classes.count())?;
     let numbers = setting.faults.len();
     let positions = setting.circuit.positions().len() as u32;
     let kind = DictKind::SameDiff;

@@ -1,7 +1,7 @@
 //! The candidates of patterns, and which of them each class answers.
 
-ghost use Rattle.samediff_dict.specs.Numbered.{AreAdded};
-ghost use Rattle.std.specs.Prelude.{◌≡◌, ◌<◌, ◌^◌, length, map, All, OnOk};
+ghost use Rattle.samediff_dict.specs.Numbered.{AreAdded, AreNumbersOf};
+ghost use Rattle.std.specs.Prelude.{◌≡◌, ◌<◌, ◌^◌, length, map, All, IfOk, OnOk};
 ghost use Rattle.table_dicts.specs.AnswerTable.{answer_to};
 ghost use Rattle.table_dicts.specs.Rows.{AreRows};
 
@@ -43,13 +43,32 @@ pub(crate) fn add_candidates(
 {
     let mut rows = AnswerRows::zeros(alloc, leads.len(), table.positions() as usize)?;
     for pattern in 0..table.patterns() {
-        copy_answers(table, leads, pattern, &mut rows);
-        let grouped = group_rows(alloc, &rows)?;
-        let count = grouped.entries.rows() as u32;
-        patterns.push(Candidates {
-            numbers: grouped.groups,
-            count,
-        })?;
+        let next = candidates_at(alloc, table, leads, pattern, &mut rows)?;
+        patterns.push(next)?;
     }
     Ok(())
+}
+
+// The candidates of a pattern of a table. The rows are room for the answers.
+fn candidates_at(
+    alloc: Global,
+    table: &AnswerTable,
+    leads: &[u32],
+    pattern: u32,
+    rows: &mut AnswerRows,
+) -> Result<Candidates, AllocError>
+    requires known { All (λ lead. lead < table.now.numbers) leads.now }
+    requires few { length leads.now < 2 ^ 32 }
+    requires pattern { pattern < length table.now.rows }
+    requires shape { AreRows (length leads.now) table.now.positions rows.old }
+    ensures numbers { IfOk result (AreNumbersOf (map (answer_to table.now pattern) leads.now)) }
+    ensures shape { OnOk result (AreRows (length leads.now) table.now.positions rows.new) }
+{
+    copy_answers(table, leads, pattern, rows);
+    let grouped = group_rows(alloc, rows)?;
+    let count = grouped.entries.rows() as u32;
+    Ok(Candidates {
+        numbers: grouped.groups,
+        count,
+    })
 }

@@ -6,9 +6,9 @@ ghost use Rattle.net_model.specs.Rows.{row_at};
 ghost use Rattle.samediff_dict.specs.Numbered.{AreNumbered, baselines_at};
 ghost use Rattle.samediff_dict.specs.Setting.{AreAnswersOfNumbers, AreChosenOf};
 ghost use Rattle.std.specs.List.{range_with_len};
-ghost use Rattle.std.specs.Prelude.{◌≡◌, ◌+◌, ◌-◌, ◌<◌, ◌≤◌, ◌^◌, ℕ, length, map, All, IfOk};
+ghost use Rattle.std.specs.Prelude.{◌≡◌, ◌+◌, ◌-◌, ◌<◌, ◌≤◌, ◌^◌, ℕ, length, map, All, IfOk, OnOk};
 ghost use Rattle.table_dicts.specs.AnswerTable.{Answers, HasSizes, answer_to};
-ghost use Rattle.table_dicts.specs.Rows.{AreRows};
+ghost use Rattle.table_dicts.specs.Rows.{AreRows, AreRowsBegun};
 ghost use Rattle.table_dicts.specs.Setting.{IsSetting, AreAnswersAt};
 
 use crate::copying::{chosen_leads, copy_own};
@@ -76,12 +76,33 @@ pub(crate) fn baselines(
     let mut first = 0;
     while first < chosen.len() {
         let end = end_after(first, LANES as usize, chosen.len());
-        let table = chosen_answers(alloc, setting, patterns, chosen, first, end)?;
-        let places = first_numbers(alloc, table.patterns())?;
-        copy_own(&table, places.as_slice(), first, &mut rows);
+        copy_range(alloc, setting, patterns, chosen, first, end, &mut rows)?;
         first = end;
     }
     Ok(rows)
+}
+
+// Copies the baselines of the patterns in a range.
+fn copy_range(
+    alloc: Global,
+    setting: &Setting,
+    patterns: &[Candidates],
+    chosen: &[u32],
+    first: usize,
+    end: usize,
+    rows: &mut AnswerRows,
+) -> Result<(), AllocError>
+    ghost t: { Answers }
+    requires chosen { AreChosenOf setting.now t patterns.now chosen.now }
+    requires first { first ≤ end }
+    requires end { end ≤ length chosen.now }
+    requires begun { AreRowsBegun (length chosen.now) t.positions first (row_at (baselines_at setting.now.classes.now t.rows chosen.now)) rows.old }
+    ensures { OnOk result (AreRowsBegun (length chosen.now) t.positions end (row_at (baselines_at setting.now.classes.now t.rows chosen.now)) rows.new) }
+{
+    let table = chosen_answers(alloc, setting, patterns, chosen, first, end)?;
+    let places = first_numbers(alloc, table.patterns())?;
+    copy_own(&table, places.as_slice(), first, rows);
+    Ok(())
 }
 
 // Where so many patterns from a first one on end, or all patterns do.

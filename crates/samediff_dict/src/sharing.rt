@@ -1,6 +1,6 @@
 //! The search for a candidate among the classes that two partitions leave together.
 
-ghost use Rattle.std.specs.Prelude.{◌≡◌, ◌<◌, ◌^◌, ℕ, length, AllPairs, Contains, slice_index, IfOk, MatchOption};
+ghost use Rattle.std.specs.Prelude.{◌≡◌, ◌<◌, ◌^◌, ◌++◌, ◌∷◌, [], ℕ, length, AllPairs, Contains, slice_index, IfOk, OnOk, MatchOption};
 ghost use Rattle.samediff_dict.specs.Groups.{AreWithin, gain_at, IsFoundAbove};
 ghost use Rattle.samediff_dict.specs.Partition.{AreMatched, IsListed, IsPartition, TogetherInBoth, together_in_both};
 
@@ -13,6 +13,18 @@ use std::alloc::{AllocError, Global};
 struct Places {
     here: Vec<u32>,
     there: Vec<u32>,
+}
+
+impl Places {
+    // Puts a place of each list behind those before.
+    fn push(&mut self, here: u32, there: u32) -> Result<(), AllocError>
+        ensures here { OnOk result (self.new.here.items ≡ self.old.here.items ++ here ∷ []) }
+        ensures there { OnOk result (self.new.there.items ≡ self.old.there.items ++ there ∷ []) }
+    {
+        self.here.push(here)?;
+        self.there.push(there)?;
+        Ok(())
+    }
 }
 
 impl Partition {
@@ -87,15 +99,16 @@ fn matching(alloc: Global, numbers: &[u32], others: &[u32]) -> Result<Places, Al
     requires ascending { AllPairs (λ low high. low < high) others.now }
     ensures { IfOk result (λ places. AreMatched numbers.now others.now (length numbers.now) places.here.items places.there.items) }
 {
-    let mut here = Vec::new(alloc);
-    let mut there = Vec::new(alloc);
+    let mut places = Places {
+        here: Vec::new(alloc),
+        there: Vec::new(alloc),
+    };
     for place in 0..numbers.len() {
         if let Some(other) = place_in(others, numbers[place]) {
-            here.push(place as u32)?;
-            there.push(other as u32)?;
+            places.push(place as u32, other as u32)?;
         }
     }
-    Ok(Places { here, there })
+    Ok(places)
 }
 
 // The place of a number in an ascending list, if it stands there.

@@ -2,10 +2,12 @@
 
 ghost use Rattle.std.specs.Prelude.{◌≡◌, ◌<◌, ◌^◌, ℕ, length, slice_index, All, IfOk};
 ghost use Rattle.net_model.specs.FaultList.{fault_count};
-ghost use Rattle.table_dicts.specs.AnswerTable.{Answers, AreAnswerable, AreAnswers, HasSizes, answer_to};
+ghost use Rattle.table_dicts.specs.AnswerTable.{Answers, AreAnswerable, AreAnswers, ArePicked, HasSizes, IsTable, answer_to};
+ghost use Rattle.table_dicts.specs.Blocks.{IsListedBit, AreRightTo};
 
 use crate::answer_table::AnswerTable;
 use crate::by_root::root_groups;
+use crate::grouping::Sorted;
 use crate::simulating::{Kept, tabulate};
 use fault_collapse::collapse;
 use fault_list::FaultList;
@@ -25,7 +27,24 @@ pub fn answers_at(
 {
     let forest = collapse(alloc, circuit, faults)?;
     let sorted = root_groups(alloc, forest.roots())?;
-    let patterns = patterns.as_slice();
+    spread(alloc, circuit, faults, patterns.as_slice(), &sorted)
+}
+
+// The answers of all numbers of groups, of each those of the first number of its group.
+fn spread(
+    alloc: Global,
+    circuit: &Circuit,
+    faults: &FaultList,
+    patterns: &[Vector],
+    sorted: &Sorted,
+) -> Result<AnswerTable, AllocError>
+    requires answerable { AreAnswerable circuit.now faults.now patterns.now }
+    requires firsts { All (λ number. number < fault_count circuit.now) sorted.now.firsts.items }
+    requires few { length sorted.now.firsts.items < 2 ^ 32 }
+    requires groups { All (λ group. group < length sorted.now.firsts.items) sorted.now.groups }
+    requires many { length sorted.now.groups < 2 ^ 32 }
+    ensures { IfOk result (λ table. (listed : Answers) × IsTable table × AreRightTo (IsListedBit Kept.Bits circuit.now patterns.now sorted.now.firsts.items) (length patterns.now) (length sorted.now.firsts.items) (length circuit.now.positions) (length patterns.now) listed × ArePicked listed sorted.now.groups table) }
+{
     let lowest = sorted.firsts.as_slice();
     let listed = tabulate(alloc, circuit, faults, patterns, Kept::Bits, lowest)?;
     let table = listed.pick(alloc, sorted.groups.as_slice())?;

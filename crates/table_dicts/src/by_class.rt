@@ -9,12 +9,12 @@ ghost use Rattle.table_dicts.specs.AnswerTable.{Answers, HasSizes};
 ghost use Rattle.table_dicts.specs.ByClass.{AreRowsOfClasses, AreEntriesOfClasses};
 ghost use Rattle.table_dicts.specs.Dictionary.{IsDictionary};
 ghost use Rattle.table_dicts.specs.Entries.{same_diff_entry};
-ghost use Rattle.table_dicts.specs.Grouped.{AreFirstsOf};
+ghost use Rattle.table_dicts.specs.Grouped.{AreFirstsOf, AreGroupsOf};
 ghost use Rattle.table_dicts.specs.Rows.{AreRows};
 
 use crate::bits::rows_at;
 use crate::dict::{Dict, DictKind, Groups};
-use crate::grouping::{Sorted, group_rows};
+use crate::grouping::{Grouped, Sorted, group_rows};
 use class_refine::Classes;
 use net_model::AnswerRows;
 use std::alloc::{AllocError, Global};
@@ -52,35 +52,54 @@ pub fn dict_of_classes(
     requires entries { AreRows (class_count classes.now) (length baselines) entries.now }
     ensures { IfOk result (λ dict. (t : Answers) → HasSizes t (length baselines) numbers positions → AreEntriesOfClasses classes.now entries.now (same_diff_entry t.rows baselines) → IsDictionary dict kind t baselines (same_diff_entry t.rows baselines)) }
 {
-    let sorted = class_groups(alloc, classes, numbers)?;
-    let cells = entries_of(alloc, classes, entries, sorted.firsts.as_slice())?;
-    let grouped = group_rows(alloc, &cells)?;
-    let outer = grouped.groups.as_slice();
-    let groups = regroup(alloc, sorted.groups.as_slice(), outer)?;
+    let grouped = group_numbers(alloc, classes, numbers, entries)?;
     Ok(Dict {
         kind,
         positions,
         patterns: baselines.rows() as u32,
         numbers,
         baselines,
+        groups: grouped.groups,
+        entries: grouped.entries,
+    })
+}
+
+// The groups of all numbers, so many, whose classes have equal entries.
+fn group_numbers(
+    alloc: Global,
+    classes: &Classes,
+    numbers: u32,
+    entries: &AnswerRows,
+) -> Result<Grouped, AllocError>
+    requires numbers { numbers ≡ length classes.now.class_of }
+    requires entries { length entries.now ≡ class_count classes.now }
+    ensures { IfOk result (λ grouped. (rows : List (List Bool)) → length rows ≡ numbers → AreEntriesOfClasses classes.now entries.now (row_at rows) → AreGroupsOf rows grouped.groups grouped.entries) }
+{
+    let sorted = class_groups(alloc, classes, numbers)?;
+    let grouped = group_entries(alloc, classes, entries, sorted.firsts.as_slice())?;
+    let outer = grouped.groups.as_slice();
+    let groups = regroup(alloc, sorted.groups.as_slice(), outer)?;
+    Ok(Grouped {
         groups,
         entries: grouped.entries,
     })
 }
 
-// The entry of the class of each of these numbers.
-fn entries_of(
+// The groups of the equal entries of the classes of these numbers.
+fn group_entries(
     alloc: Global,
     classes: &Classes,
     entries: &AnswerRows,
     numbers: &[u32],
-) -> Result<AnswerRows, AllocError>
+) -> Result<Grouped, AllocError>
     requires numbers { All (λ number. number < length classes.now.class_of) numbers.now }
+    requires few { length numbers.now < 2 ^ 32 }
     requires entries { length entries.now ≡ class_count classes.now }
-    ensures { IfOk result (λ rows. rows ≡ map (row_at entries.now) (map (class_at classes.now) numbers.now)) }
+    ensures { IfOk result (λ grouped. AreGroupsOf (map (row_at entries.now) (map (class_at classes.now) numbers.now)) grouped.groups grouped.entries) }
 {
     let own = classes_of(alloc, classes, numbers)?;
-    rows_at(alloc, entries, own.as_slice())
+    let cells = rows_at(alloc, entries, own.as_slice())?;
+    group_rows(alloc, &cells)
 }
 
 // The class of each of these numbers.

@@ -1,8 +1,10 @@
 //! Dictionaries of a circuit from the simulators, without a table of all answers.
 
-ghost use Rattle.std.specs.Prelude.{IfOk};
+ghost use Rattle.std.specs.Prelude.{◌≡◌, length, IfOk};
 ghost use Rattle.table_dicts.specs.AnswerTable.{Answers};
 ghost use Rattle.table_dicts.specs.Dictionary.{IsFull, IsPassFail};
+ghost use Rattle.table_dicts.specs.Entries.{free_baselines};
+ghost use Rattle.table_dicts.specs.Rows.{AreRows};
 ghost use Rattle.table_dicts.specs.Setting.{IsSetting, AreAnswersAt};
 
 use crate::by_class::{class_groups, dict_of_classes, representatives};
@@ -45,23 +47,38 @@ pub fn pass_fail_at(alloc: Global, setting: &Setting) -> Result<Dict, AllocError
     ensures { IfOk result (λ dict. (t : Answers) → AreAnswersAt setting.now t → IsPassFail t dict) }
 {
     let circuit = setting.circuit;
-    let faults = setting.faults;
-    let classes = setting.classes;
-    let _ = circuit.sources();
-    let numbers = faults.len();
     let patterns = setting.patterns.as_slice();
-    let free = tabulate(alloc, circuit, faults, patterns, Kept::Bits, &[0])?;
-    let baselines = answers_of(alloc, &free, 0)?;
-    let lowest = representatives(alloc, classes)?;
+    let lowest = representatives(alloc, setting.classes)?;
     let lowest = lowest.as_slice();
-    let fails = tabulate(alloc, circuit, faults, patterns, Kept::Fails, lowest)?;
+    let fails = tabulate(
+        alloc,
+        circuit,
+        setting.faults,
+        patterns,
+        Kept::Fails,
+        lowest,
+    )?;
+    let baselines = free_answers(alloc, setting)?;
     dict_of_classes(
         alloc,
         DictKind::PassFail,
-        classes,
-        numbers,
-        free.positions(),
+        setting.classes,
+        setting.faults.len(),
+        circuit.positions().len() as u32,
         baselines,
         fails.cells(),
     )
+}
+
+// The answers of the circuit without a fault, which number 0 stands for.
+fn free_answers(alloc: Global, setting: &Setting) -> Result<AnswerRows, AllocError>
+    requires { IsSetting setting.now }
+    ensures shape { IfOk result (AreRows (length setting.now.patterns.now) (length setting.now.circuit.now.positions)) }
+    ensures free { IfOk result (λ rows. (t : Answers) → AreAnswersAt setting.now t → rows ≡ free_baselines t.rows) }
+{
+    let patterns = setting.patterns.as_slice();
+    let circuit = setting.circuit;
+    let free = tabulate(alloc, circuit, setting.faults, patterns, Kept::Bits, &[0])?;
+    let _ = free.positions();
+    answers_of(alloc, &free, 0)
 }

@@ -1,12 +1,16 @@
-use Rattle.std.proofs.Common.{◌∙◌, ◌<◌, arith}
-use Rattle.table_dicts.proofs.RowLemmas.{width_at, rows_more, rows_all}
+use Rattle.std.proofs.Common.{◌∙◌, ◌<◌, refl, arith}
+use Rattle.table_dicts.proofs.RowLemmas.{zeros_begun, width_at, rows_more, rows_all}
 use Rattle.dict_file.specs.Places.{rows_of}
+use Rattle.dict_file.specs.Reading.{row_of}
 use Rattle.dict_file.proofs.FieldLemmas.{length-rows_of, get_or-rows_of}
 use Rattle.dict_file.proofs.PlaceLemmas.{no_bits}
 use Rattle.dict_file.proofs.row_bytes.load_rows.Goals as goal
 
 pub returns-then-rows-eq0 : goal.returns-then-rows-eq0
 returns-then-rows-eq0 c = c.in_ok-loaded.ensures ∙ no_bits c.args.bytes.now c.args.rows c.args.count c.if-rows-eq0.true
+
+pub loop-row-init : goal.loop-row-init
+loop-row-init c = zeros_begun c.args.count c.args.rows.width c.args.count c.args.rows.width (row_of c.args.bytes.now c.args.rows) c.in_ok-loaded.ensures refl refl
 
 pub loop-row-preserved : goal.loop-row-preserved
 loop-row-preserved c =

@@ -1,71 +1,10 @@
-use Rattle.std.proofs.Common.{◌≡◌, ◌∙◌, ℕ, Bool, List, length, map, sym, ap, subst, arith}
-use Rattle.std.specs.List.{range_with_len}
-use Rattle.std.proofs.lemmas.Result.{IfOk-weaker}
-use Rattle.net_model.specs.ClassTable.{class_count}
-use Rattle.kept_vectors.proofs.KeepLemmas.{table_numbers}
-use Rattle.table_dicts.specs.declared.dict.Dict.{Dict}
-use Rattle.table_dicts.specs.declared.dict.DictKind.TheVariants.{SameDiff}
-use Rattle.table_dicts.specs.AnswerTable.{Answers, HasSizes}
-use Rattle.table_dicts.specs.ByClass.{AreEntriesOfClasses}
-use Rattle.table_dicts.specs.Dictionary.{IsDictionary, IsSameDiff}
-use Rattle.table_dicts.specs.Entries.{same_diff_entry}
-use Rattle.table_dicts.specs.Rows.{AreRows}
-use Rattle.table_dicts.proofs.FailLemmas.{patterns_are}
+use Rattle.std.proofs.Common.{ℕ, List, sym, subst}
 use Rattle.samediff_dict.specs.Chosen.{chosen_baselines}
-use Rattle.samediff_dict.specs.Copied.{HaveClasses, class_entry}
-use Rattle.samediff_dict.specs.Numbered.{HasBaselines, baselines_at}
-use Rattle.samediff_dict.proofs.MadeLemmas.{answer_alike, have_classes, entries_are}
-use Rattle.samediff_dict.proofs.made.dict_among.Given as given
+use Rattle.samediff_dict.specs.Numbered.{HasBaselines}
 use Rattle.samediff_dict.proofs.made.dict_among.Goals as goal
-use Rattle.samediff_dict.proofs.made.dict_among.Goals.{After-count}
 
--- what is chosen, at the slice that the entries are made of
-chosen_has : (g : given.Over) (c : After-count g) → HasBaselines c.args.setting.now.classes.now g.t.rows c.as_slice-2.result.now (chosen_baselines c.args.setting.now.classes.now g.t.rows)
-chosen_has g c = subst (λ (xs : List ℕ). HasBaselines c.args.setting.now.classes.now g.t.rows xs (chosen_baselines c.args.setting.now.classes.now g.t.rows)) (sym c.as_slice-2.ensures.value) c.in_ok-chosen.ensures
-
-bases_are : (g : given.Over) (c : After-count g) → c.in_ok-baselines.baselines ≡ baselines_at c.args.setting.now.classes.now g.t.rows c.as_slice-2.result.now
-bases_are g c = c.in_ok-baselines.ensures.rows ∙ ap (baselines_at c.args.setting.now.classes.now g.t.rows) (c.as_slice.ensures.value ∙ sym c.as_slice-2.ensures.value)
-
-pub baselines-requires : goal.baselines-requires
-baselines-requires g c =
+pub dict_with-requires : goal.dict_with-requires
+dict_with-requires g c =
     let classes = c.args.setting.now.classes.now in
     let has = subst (λ (xs : List ℕ). HasBaselines classes g.t.rows xs (chosen_baselines classes g.t.rows)) (sym c.as_slice.ensures.value) c.in_ok-chosen.ensures in
-    record { setting = c.requires.0; answers = c.requires.1.0; numbered = c.requires.1.1; one_each = has.one_each; chosen_are = has.chosen_are }
-
-pub class_entries-requires : goal.class_entries-requires
-class_entries-requires g c =
-    let has = chosen_has g (goal.at.class_entries-requires g c).After-count in
-    subst (λ n. HaveClasses n c.args.patterns.now c.as_slice-2.result.now) (sym c.count.ensures.value) (have_classes c.args.setting.now.classes.now g.t.rows c.args.patterns.now c.as_slice-2.result.now c.requires.1.1 has.one_each has.chosen_are)
-
-pub dict_of_classes-requires-clause-numbers : goal.dict_of_classes-requires-clause-numbers
-dict_of_classes-requires-clause-numbers g c = c.len-numbers.ensures.value ∙ (ap length c.requires.0.answerable.faults_are ∙ sym (table_numbers c.requires.0.classes))
-
-pub dict_of_classes-requires-clause-few : goal.dict_of_classes-requires-clause-few
-dict_of_classes-requires-clause-few g c =
-    omega (arith, c.in_ok-baselines.ensures.shape.count_is, patterns_are c.args.setting.now.circuit.now c.args.setting.now.patterns.now g.t c.requires.1.0, c.requires.0.answerable.few)
-
-pub returns : goal.returns
-returns g c =
-    let at = (goal.at.returns g c).After-count in
-    let circuit = c.args.setting.now.circuit.now in
-    let k = c.args.setting.now.classes.now in
-    let patterns = c.args.patterns.now in
-    let chosen = c.as_slice-2.result.now in
-    let has = chosen_has g at in
-    let bases = baselines_at k g.t.rows chosen in
-    let baselines = c.in_ok-baselines.baselines in
-    let same = bases_are g at in
-    let shape = subst (λ (bs : List (List Bool)). AreRows (length g.t.rows) g.t.positions bs) same c.in_ok-baselines.ensures.shape in
-    let alike = answer_alike circuit c.positions.ensures.circuit c.args.setting.now.patterns.now k c.requires.0.classes g.t c.requires.1.0 in
-    let listed : c.in_ok-entries.entries ≡ map (class_entry patterns chosen) (range_with_len 0 (class_count k)) = c.in_ok-entries.ensures.entries ∙ ap (λ n. map (class_entry patterns chosen) (range_with_len 0 n)) c.count.ensures.value in
-    let entries : AreEntriesOfClasses k c.in_ok-entries.entries (same_diff_entry g.t.rows baselines) =
-    subst (λ (bs : List (List Bool)). AreEntriesOfClasses k c.in_ok-entries.entries (same_diff_entry g.t.rows bs)) (sym same)
-    (subst (λ (es : List (List Bool)). AreEntriesOfClasses k es (same_diff_entry g.t.rows bases)) (sym listed) (entries_are k g.t patterns chosen c.requires.1.1 has.one_each has.chosen_are shape c.count.ensures.whole alike)) in
-    let sizes : HasSizes g.t (length baselines) c.len-numbers.result (length c.positions.result.now) = record {
-      patterns_are = sym c.in_ok-baselines.ensures.shape.count_is;
-      numbers_are = c.requires.1.0.numbers ∙ (ap length (sym c.requires.0.answerable.faults_are) ∙ sym c.len-numbers.ensures.value);
-      positions_are = c.requires.1.0.positions ∙ ap length (sym c.positions.ensures.value);
-    } in
-    IfOk-weaker c.dict_of_classes.result
-    (λ (d : Dict). (t : Answers) → HasSizes t (length baselines) c.len-numbers.result (length c.positions.result.now) → AreEntriesOfClasses k c.in_ok-entries.entries (same_diff_entry t.rows baselines) → IsDictionary d SameDiff t baselines (same_diff_entry t.rows baselines))
-    (IsSameDiff g.t (chosen_baselines k g.t.rows)) (λ d made. subst (λ (bs : List (List Bool)). IsSameDiff g.t bs d) (same ∙ has.baselines_are) (made g.t sizes entries)) c.dict_of_classes.ensures
+    (c.requires.0, (c.requires.1.0, (c.requires.1.1, has)))

@@ -1,14 +1,27 @@
 use Rattle.std.proofs.Common.{◌≡◌, ◌∙◌, ◌+◌, ◌++◌, ◌∷◌, ℕ, Bool, [], List, length, get_or, map, refl, sym, ap, subst, arith}
 use Rattle.std.proofs.lemmas.List.{length_push, get_or_append_left}
 use Rattle.table_dicts.specs.AnswerTable.{answer_to}
-use Rattle.table_dicts.specs.Grouped.{AreGroupsOf}
+use Rattle.table_dicts.proofs.RowLemmas.{zeros_begun}
 use Rattle.samediff_dict.specs.declared.numbering.Candidates.{Candidates}
 use Rattle.samediff_dict.specs.Numbered.{AreNumbersOf}
-use Rattle.samediff_dict.proofs.CandidateLemmas.{numbers_of_groups, groups_few, added_push}
+use Rattle.samediff_dict.proofs.CandidateLemmas.{added_push}
 use Rattle.samediff_dict.proofs.numbering.add_candidates.Goals as goal
 
-pub overflow_cast-count : goal.overflow_cast-count
-overflow_cast-count c = omega (arith, groups_few c.in_ok-grouped.ensures, c.rows-count.ensures, c.copy_answers.ensures.shape.count_is, c.requires.few)
+pub loop-pattern-init : goal.loop-pattern-init
+loop-pattern-init c = record {
+  shape = (zeros_begun (length c.args.leads.now) c.positions.result (length c.args.leads.now) c.args.table.now.positions (λ row. []) c.in_ok-rows.ensures refl c.positions.ensures.value).are;
+  count = omega arith;
+  before = λ k d h. refl;
+  added = λ pattern d h. absurd (omega (arith, h));
+}
+
+pub candidates_at-requires : goal.candidates_at-requires
+candidates_at-requires c = record {
+  known = c.requires.known;
+  few = c.requires.few;
+  pattern = omega (arith, c.patterns-pattern-end.ensures.value);
+  shape = c.loop-pattern.invariant.shape;
+}
 
 pub loop-pattern-preserved : goal.loop-pattern-preserved
 loop-pattern-preserved c =
@@ -16,18 +29,24 @@ loop-pattern-preserved c =
     let leads = c.args.leads.now in
     let pattern = c.loop-pattern.pattern in
     let so_far = c.loop-pattern.invariant in
-    let grouped = c.in_ok-grouped.grouped in
+    let next = c.in_ok-next.next in
     let before = c.loop-pattern.patterns.items in
     let old = c.args.patterns.now.items in
-    let next : Candidates = record { numbers = grouped.groups; count = c.rows-count.result } in
     let answers : ℕ → List (List Bool) = λ p. map (answer_to table p) leads in
     let items : c.push.new.self.items ≡ before ++ next ∷ [] = c.in_ok-push.ensures.items in
-    let here : AreNumbersOf (answers pattern) next =
-    numbers_of_groups (answers pattern) grouped.groups grouped.entries next (subst (λ (rs : List (List Bool)). AreGroupsOf rs grouped.groups grouped.entries) c.copy_answers.ensures.rows c.in_ok-grouped.ensures) refl c.rows-count.ensures in
     record {
-      shape = c.copy_answers.ensures.shape;
+      shape = c.in_ok-next.ensures.shape;
       count = omega (arith, ap length items, length_push before next, so_far.count);
       before = λ k d h. ap (λ (ps : List Candidates). get_or ps k d) items ∙ (get_or_append_left before (next ∷ []) d k (omega (arith, h, so_far.count)) ∙ so_far.before k d h);
       added = λ p d h. subst (λ (ps : List Candidates). AreNumbersOf (answers p) (get_or ps (length old + p) d)) (sym items)
-          (added_push (λ q one. AreNumbersOf (answers q) one) (length old) before next pattern so_far.count so_far.added here p d h);
+          (added_push (λ q one. AreNumbersOf (answers q) one) (length old) before next pattern so_far.count so_far.added c.in_ok-next.ensures.numbers p d h);
+    }
+
+pub returns : goal.returns
+returns c =
+    let all = c.loop-pattern.invariant in
+    record {
+      count = omega (arith, all.count, c.patterns-pattern-end.ensures.value);
+      before = all.before;
+      added = λ pattern d h. all.added pattern d (omega (arith, h, c.patterns-pattern-end.ensures.value));
     }

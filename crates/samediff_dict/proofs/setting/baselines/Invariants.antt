@@ -4,8 +4,8 @@ use Rattle.table_dicts.specs.Rows.{AreRowsBegun}
 use Rattle.samediff_dict.specs.Numbered.{baselines_at}
 use Rattle.samediff_dict.proofs.setting.baselines.Given as goal
 
-abbrev pub ghost-chosen_answers : goal.ghost-chosen_answers
-ghost-chosen_answers g a = g.t
+abbrev pub ghost-copy_range : goal.ghost-copy_range
+ghost-copy_range g a = g.t
 
 abbrev pub invariant-loop-first : goal.invariant-loop-first
 invariant-loop-first g l = record {

@@ -2,4 +2,4 @@ use Rattle.samediff_dict.specs.Partition.{AreMatched}
 use Rattle.samediff_dict.proofs.sharing.matching.Given as goal
 
 abbrev pub invariant-loop-place : goal.invariant-loop-place
-invariant-loop-place l = AreMatched l.numbers l.others l.place l.here.items l.there.items
+invariant-loop-place l = AreMatched l.numbers l.others l.place l.places.here.items l.places.there.items

@@ -1,9 +1,10 @@
-use Rattle.std.proofs.Common.{◌≡◌, ◌∙◌, ◌<◌, ◌^◌, ℕ, List, Bool, length, sym, ap, subst, arith}
+use Rattle.std.proofs.Common.{◌<◌, ◌^◌, ℕ, List, Bool, length, sym, ap, subst, arith}
 use Rattle.std.specs.Prelude.{All}
+use Rattle.std.proofs.lemmas.Result.{IfOk-weaker}
 use Rattle.std.proofs.lemmas.List.Elements.{All-from_get_or}
 use Rattle.net_model.specs.FaultList.{fault_count}
 use Rattle.table_dicts.specs.declared.simulating.Kept.TheVariants.{Bits}
-use Rattle.table_dicts.specs.AnswerTable.{AreAnswerable, ArePicked}
+use Rattle.table_dicts.specs.AnswerTable.{Answers, AreAnswerable, AreAnswers, ArePicked, IsTable}
 use Rattle.table_dicts.specs.Blocks.{IsListedBit, AreRightTo}
 use Rattle.table_dicts.specs.ByRoot.{AreGroupsByRoot}
 use Rattle.table_dicts.proofs.BlockLemmas.{right_all}
@@ -33,34 +34,27 @@ module _ (c : In_ok-sorted) where
   firsts_few : length c.in_ok-sorted.sorted.firsts.items < 2 ^ 27
   firsts_few = omega (arith, by_root.few, (settled c.in_ok-forest.ensures).few)
 
-pub tabulate-requires-clause-answerable : goal.tabulate-requires-clause-answerable
-tabulate-requires-clause-answerable c = subst (AreAnswerable c.args.circuit.now c.args.faults.now) (sym c.as_slice-patterns.ensures) c.requires
-
-pub tabulate-requires-clause-numbers : goal.tabulate-requires-clause-numbers
-tabulate-requires-clause-numbers c = rw c.as_slice-lowest.ensures.value (firsts_inside (goal.at.tabulate-requires-clause-numbers c).In_ok-sorted)
-
-pub tabulate-requires-clause-count : goal.tabulate-requires-clause-count
-tabulate-requires-clause-count c = omega (arith, ap length c.as_slice-lowest.ensures.value, firsts_few (goal.at.tabulate-requires-clause-count c).In_ok-sorted)
-
-pub pick-requires-clause-inside : goal.pick-requires-clause-inside
-pick-requires-clause-inside c =
-    let are = by_root (goal.at.pick-requires-clause-inside c).In_ok-sorted in
-    let numbers : c.in_ok-listed.listed.numbers ≡ length c.in_ok-sorted.sorted.firsts.items = c.in_ok-listed.ensures.sizes.numbers_are ∙ ap length c.as_slice-lowest.ensures.value in
-    rw (c.as_slice.ensures, numbers) (All-from_get_or (λ number. number < length c.in_ok-sorted.sorted.firsts.items) c.in_ok-sorted.sorted.groups 0 (λ n h. are.known n (omega (arith, h, are.one_each))))
-
-pub pick-requires-clause-few : goal.pick-requires-clause-few
-pick-requires-clause-few c =
-    omega (arith, ap length c.as_slice.ensures, (by_root (goal.at.pick-requires-clause-few c).In_ok-sorted).one_each, (settled c.in_ok-forest.ensures).few)
+pub spread-requires : goal.spread-requires
+spread-requires c =
+    let at = (goal.at.spread-requires c).In_ok-sorted in
+    let are = by_root at in
+    record {
+      answerable = subst (AreAnswerable c.args.circuit.now c.args.faults.now) (sym c.as_slice.ensures) c.requires;
+      firsts = firsts_inside at;
+      few = omega (arith, firsts_few at);
+      groups = All-from_get_or (λ group. group < length c.in_ok-sorted.sorted.firsts.items) c.in_ok-sorted.sorted.groups 0 (λ n h. are.known n (omega (arith, h, are.one_each)));
+      many = omega (arith, are.one_each, (settled c.in_ok-forest.ensures).few);
+    }
 
 pub returns : goal.returns
 returns c =
     let at = (goal.at.returns c).In_ok-sorted in
     let circuit = c.args.circuit.now in
     let patterns = c.args.patterns.now in
-    let listed = c.in_ok-listed.listed in
-    let lowest = c.as_slice-lowest.result.now in
-    let ran = subst (λ (ps : List (List Bool)). AreRightTo (IsListedBit Bits circuit ps lowest) (length ps) (length lowest) (length circuit.positions) (length ps) listed) c.as_slice-patterns.ensures c.in_ok-listed.ensures in
-    let right = subst (λ (ns : List ℕ). AreRightTo (IsListedBit Bits circuit patterns ns) (length patterns) (length ns) (length circuit.positions) (length patterns) listed) c.as_slice-lowest.ensures.value ran in
-    let picked = subst (λ (ns : List ℕ). ArePicked listed ns c.in_ok-table.table) c.as_slice.ensures c.in_ok-table.ensures in
-    right_all (length patterns) c.in_ok-forest.ensures.circuit c.numbers.ensures.table
-    (right_of_firsts circuit patterns c.in_ok-forest.forest c.in_ok-forest.ensures c.in_ok-sorted.sorted.groups c.in_ok-sorted.sorted.firsts.items (by_root at) listed c.in_ok-table.table c.requires.widths right picked) (omega arith)
+    let firsts = c.in_ok-sorted.sorted.firsts.items in
+    let groups = c.in_ok-sorted.sorted.groups in
+    let Right : List (List Bool) → Answers → Type 0 = λ ps listed. AreRightTo (IsListedBit Bits circuit ps firsts) (length ps) (length firsts) (length circuit.positions) (length ps) listed in
+    IfOk-weaker c.spread.result (λ table. (listed : Answers) × IsTable table × Right c.as_slice.result.now listed × ArePicked listed groups table) (AreAnswers circuit patterns)
+    (λ table made. right_all (length patterns) c.in_ok-forest.ensures.circuit made.1
+    (right_of_firsts circuit patterns c.in_ok-forest.forest c.in_ok-forest.ensures groups firsts (by_root at) made.0 table c.requires.widths (subst (λ (ps : List (List Bool)). Right ps made.0) c.as_slice.ensures made.2) made.3) (omega arith))
+    c.spread.ensures

@@ -1,16 +1,15 @@
-use Rattle.std.proofs.Common.{◌≡◌, ℕ, ◌<◌, ◌++◌, List, set, length, get_or, refl, sym, ap, subst, ◌∙◌, arith, inl, inr}
+use Rattle.std.proofs.Common.{◌≡◌, ℕ, ◌<◌, ◌++◌, List, length, get_or, sym, ap, subst, ◌∙◌, arith, inl, inr}
 use Rattle.std.specs.Prelude.{Contains}
 use Rattle.std.proofs.lemmas.Bool.{cases_lt}
 use Rattle.std.proofs.lemmas.Grind.{get_or_default_zero}
-use Rattle.std.proofs.lemmas.List.{append_assoc, length-set, get_or-set_same}
+use Rattle.std.proofs.lemmas.List.{append_assoc}
 use Rattle.std.proofs.lemmas.List.Elements.{All-append, All-contains, Contains-get_or}
 use Rattle.net_model.specs.FaultList.{fault_count, fault_numbered}
 use Rattle.word_sim.specs.GoodSim.{vectors_of}
 use Rattle.fault_sim.specs.FaultSim.{FaultSim, AreDifferences}
 use Rattle.kept_vectors.specs.declared.notes.Note.{Note}
-use Rattle.kept_vectors.specs.Notes.{AreRight, AreSpans, IsUnnoted, IsWholeOf, AreAlikeAt}
+use Rattle.kept_vectors.specs.Notes.{AreRight, IsUnnoted, IsWholeOf, AreAlikeAt}
 use Rattle.kept_vectors.proofs.NoteLemmas.{right_more, whole_later, whole_here, alike_itself, alike_by_third, alike_by_roots}
-use Rattle.kept_vectors.proofs.SpanLemmas.{spans_more}
 use Rattle.kept_vectors.proofs.differences.Differences.note_class.Goals as goal
 
 -- a member is at a place
@@ -44,36 +43,34 @@ returns-then-have_one_root-clause-alike c m n lane hm hn live none =
     alike_by_roots good c.requires.run.circuit roots c.requires.run.roots_are c.requires.run.widths m n lane (All-contains (λ k. k < fault_count good.circuit) group m c.requires.inside hm) (All-contains (λ k. k < fault_count good.circuit) group n c.requires.inside hn)
     (one_root group roots m same hm ∙ sym (one_root group roots n same hn)) live
 
+pub note_lead-requires : goal.note_lead-requires
+note_lead-requires c = record {
+  run = c.requires.run;
+  inside = c.requires.inside;
+  room = c.requires.room;
+  some = omega (arith, c.have_one_root.ensures.several c.if-have_one_root.false);
+  of = c.requires.of;
+}
+
 pub loop-at-init : goal.loop-at-init
 loop-at-init c =
     let good = c.args.good.now in
     let group = c.args.group.now in
     let first = get_or group 0 0 in
-    let starts = c.args.self.now.starts.items in
     let old = c.args.self.now.notes.items in
-    let new = c.simulate.new.notes.items in
-    let two = c.have_one_root.ensures.several c.if-have_one_root.false in
-    let inside : first < fault_count good.circuit = c.requires.inside 0 0 (omega (arith, two)) in
-    let noted = c.in_ok-simulate.ensures.noted in
-    let len : c.len.result ≡ length old = omega (arith, c.len.ensures, c.args.self.now.notes.ok.0) in
-    let len_two : c.len-2.result ≡ length new = omega (arith, c.len-2.ensures, c.simulate.new.notes.ok.0) in
-    let room : 1 < length starts = omega (arith, two, c.requires.room, c.requires.of.starts) in
-    let zeroed = set starts 0 c.len.result in
-    let start : get_or zeroed 0 0 ≡ length old = get_or-set_same starts 0 c.len.result 0 (omega (arith, room)) ∙ len in
-    let spans = spans_more good group 0 zeroed old noted.0 (omega (arith, room, length-set starts 0 c.len.result)) (λ k h. absurd (omega (arith, h))) start noted.2 in
+    let new = c.note_lead.new.self.notes.items in
+    let some : 0 < length group = omega (arith, c.have_one_root.ensures.several c.if-have_one_root.false) in
+    let inside : first < fault_count good.circuit = c.requires.inside 0 0 some in
+    let made = c.in_ok-note_lead.ensures in
+    let noted = made.more in
     record {
-      of = record {
-        lead = c.in_ok-simulate.ensures.circuit;
-        member = c.requires.of.member;
-        places = length-set c.args.self.now.places.items (get_or c.args.roots.now first 0) 0 ∙ c.requires.of.places;
-        starts = length-set zeroed 1 c.len-2.result ∙ (length-set starts 0 c.len.result ∙ c.requires.of.starts);
-      };
-      kept = refl;
-      lead = c.in_ok-simulate.ensures.differ;
+      of = made.of;
+      kept = made.kept;
+      lead = made.lead;
       right = subst (AreRight good) (sym noted.1) (right_more good old noted.0 first inside noted.2 c.requires.right);
-      more = (noted.0, noted.1, λ k d h. subst (λ n. Contains group n) (sym (noted.2.numbers k d h)) (Contains-get_or group 0 0 (omega (arith, two))));
-      spans = subst (λ n. AreSpans good group 1 (set zeroed 1 n) new) (sym len_two) (subst (λ ns. AreSpans good group 1 (set zeroed 1 (length ns)) ns) (sym noted.1) spans);
-      start = get_or-set_same zeroed 1 c.len-2.result 0 (omega (arith, room, length-set starts 0 c.len.result)) ∙ len_two;
+      more = (noted.0, noted.1, λ k d h. subst (λ n. Contains group n) (sym (noted.2.numbers k d h)) (Contains-get_or group 0 0 some));
+      spans = made.spans;
+      start = made.start;
       whole = λ k h. subst (λ n. IsWholeOf good new (get_or group n 0)) (let e : 0 ≡ k = omega (arith, h) in e) (subst (λ ns. IsWholeOf good ns first) (sym noted.1) (whole_here good old noted.0 first inside noted.2));
       alike = λ k lane h live none. alike_itself good c.requires.run.circuit first (get_or group k 0) lane (ap (λ n. get_or group n 0) (let e : 0 ≡ k = omega (arith, h) in e));
     }
@@ -130,8 +127,3 @@ returns-clause-alike c m n lane hm hn live none =
     alike_by_third good c.requires.run.circuit first m n lane
     (subst (λ k. AreAlikeAt good lane first k) (at_place group m hm) (so_far.alike hm.0 lane (omega (arith, hm.1, c.loop-at-test.false)) live none))
     (subst (λ k. AreAlikeAt good lane first k) (at_place group n hn) (so_far.alike hn.0 lane (omega (arith, hn.1, c.loop-at-test.false)) live none))
-
-pub returns-in_err-simulate-clause-of : goal.returns-in_err-simulate-clause-of
-returns-in_err-simulate-clause-of c =
-    let of = c.requires.of in
-    record { lead = c.in_err-simulate.ensures.circuit; member = of.member; places = of.places; starts = length-set c.args.self.now.starts.items 0 c.len.result ∙ of.starts }

@@ -1,6 +1,7 @@
-use Rattle.std.proofs.Common.{◌≡◌, ◌+◌, ◌<◌, map, set, length, get_or, sym, subst, ◌∙◌, arith, inl, inr}
+use Rattle.std.proofs.Common.{◌≡◌, ◌+◌, ◌<◌, map, set, length, get_or, sym, ap, subst, ◌∙◌, arith, inl, inr}
 use Rattle.std.specs.Prelude.{slice_range}
 use Rattle.std.proofs.lemmas.Bool.{cases_lt, or_parts}
+use Rattle.std.proofs.lemmas.Option.{MatchOption-at_some}
 use Rattle.std.proofs.lemmas.Grind.{get_or_default_zero}
 use Rattle.std.proofs.lemmas.List.{length-set}
 use Rattle.net_model.specs.Answer.{bit_at}
@@ -9,55 +10,73 @@ use Rattle.kept_vectors.specs.Notes.{renumbered, IsReportOf, AreAlikeAt, AreSpan
 use Rattle.kept_vectors.proofs.NoteLemmas.{report_copied, alike_by_roots, alike_by_sims, alike_onward}
 use Rattle.kept_vectors.proofs.SpanLemmas.{spans_more}
 use Rattle.kept_vectors.proofs.differences.Differences.note_member.Goals as goal
-use Rattle.kept_vectors.proofs.differences.Differences.note_member.Goals.{In_ok-copy_notes}
+use Rattle.kept_vectors.proofs.differences.Differences.note_member.Goals.{In-Some, In_ok-copy_notes}
+
+pub twin_at-requires : goal.twin_at-requires
+twin_at-requires c =
+    let run = c.requires.run.roots_are in
+    record {
+      at = c.requires.at;
+      numbers = λ k d h. omega (arith, c.requires.inside k d h, run.whole);
+      roots = λ k d h. omega (arith, run.within k d h, c.requires.of.places, ap length c.as_slice.ensures.value);
+    }
+
+-- a place that is found is an earlier one with the same root
+twin : (c : In-Some) → (c.in-Some.place < c.args.at) × (get_or c.args.roots.now (get_or c.args.group.now c.in-Some.place 0) 0 ≡ get_or c.args.roots.now (get_or c.args.group.now c.args.at 0) 0)
+twin c =
+    let roots = c.args.roots.now in
+    let group = c.args.group.now in
+    MatchOption-at_some (Unit {0}) (λ place. (place < c.args.at) × (get_or roots (get_or group place 0) 0 ≡ get_or roots (get_or group c.args.at 0) 0)) c.in-Some.place c.in-Some.is c.twin_at.ensures
 
 -- the notes that are copied report the number
-copied : (c : In_ok-copy_notes) → IsReportOf c.args.good.now (get_or c.args.group.now c.args.at 0) (map (renumbered (get_or c.args.group.now c.args.at 0)) (slice_range c.args.self.now.notes.items c.index.result.now c.index-then-roots-group.result.now))
+copied : (c : In_ok-copy_notes) → IsReportOf c.args.good.now (get_or c.args.group.now c.args.at 0) (map (renumbered (get_or c.args.group.now c.args.at 0)) (slice_range c.args.self.now.notes.items c.index.result.now c.index-in-Some.result.now))
 copied c =
+    let found = twin (goal.at.In_ok-copy_notes c).In-Some in
     let good = c.args.good.now in
     let group = c.args.group.now in
     let starts = c.args.self.now.starts.items in
-    let place = c.index-place.result.now in
+    let place = c.in-Some.place in
     let twin = get_or group place 0 in
     let number = get_or group c.args.at 0 in
-    let span = c.requires.spans place c.if-place-at.true in
-    let one : c.index.result.now ≡ get_or starts place 0 = c.index.ensures ∙ get_or_default_zero starts place c.index.result.now (omega (arith, c.if-place-at.true, c.requires.at, c.requires.room, c.requires.of.starts)) in
-    let two : c.index-then-roots-group.result.now ≡ get_or starts (place + 1) 0 = c.index-then-roots-group.ensures ∙ get_or_default_zero starts (place + 1) c.index-then-roots-group.result.now (omega (arith, c.if-place-at.true, c.requires.at, c.requires.room, c.requires.of.starts)) in
-    let same : slice_range c.args.self.now.notes.items c.index.result.now c.index-then-roots-group.result.now ≡ slice_range c.args.self.now.notes.items (get_or starts place 0) (get_or starts (place + 1) 0) =
+    let span = c.requires.spans place found.0 in
+    let one : c.index.result.now ≡ get_or starts place 0 = c.index.ensures ∙ get_or_default_zero starts place c.index.result.now (omega (arith, found.0, c.requires.at, c.requires.room, c.requires.of.starts)) in
+    let two : c.index-in-Some.result.now ≡ get_or starts (place + 1) 0 = c.index-in-Some.ensures ∙ get_or_default_zero starts (place + 1) c.index-in-Some.result.now (omega (arith, found.0, c.requires.at, c.requires.room, c.requires.of.starts)) in
+    let same : slice_range c.args.self.now.notes.items c.index.result.now c.index-in-Some.result.now ≡ slice_range c.args.self.now.notes.items (get_or starts place 0) (get_or starts (place + 1) 0) =
     λ i. slice_range c.args.self.now.notes.items (one i) (two i) in
-    let equal = c.requires.run.roots_are.equal c.requires.run.circuit twin number (c.requires.inside place 0 (omega (arith, c.if-place-at.true, c.requires.at))) (c.requires.inside c.args.at 0 c.requires.at) c.if-roots-group.true in
-    report_copied good c.requires.run.circuit c.requires.run.widths twin number equal (slice_range c.args.self.now.notes.items c.index.result.now c.index-then-roots-group.result.now) (subst (λ part. IsReportOf good twin part) (sym same) span.2)
+    let equal = c.requires.run.roots_are.equal c.requires.run.circuit twin number (c.requires.inside place 0 (omega (arith, found.0, c.requires.at))) (c.requires.inside c.args.at 0 c.requires.at) found.1 in
+    report_copied good c.requires.run.circuit c.requires.run.widths twin number equal (slice_range c.args.self.now.notes.items c.index.result.now c.index-in-Some.result.now) (subst (λ part. IsReportOf good twin part) (sym same) span.2)
 
-pub returns-then-roots-group-clause-more : goal.returns-then-roots-group-clause-more
-returns-then-roots-group-clause-more c =
-    let k = (goal.at.returns-then-roots-group-clause-more c).In_ok-copy_notes in
-    (map (renumbered (get_or c.args.group.now c.args.at 0)) (slice_range c.args.self.now.notes.items c.index.result.now c.index-then-roots-group.result.now), c.in_ok-copy_notes.ensures, copied k)
+pub returns-in-Some-clause-more : goal.returns-in-Some-clause-more
+returns-in-Some-clause-more c =
+    let k = (goal.at.returns-in-Some-clause-more c).In_ok-copy_notes in
+    (map (renumbered (get_or c.args.group.now c.args.at 0)) (slice_range c.args.self.now.notes.items c.index.result.now c.index-in-Some.result.now), c.in_ok-copy_notes.ensures, copied k)
 
-pub returns-then-roots-group-clause-spans : goal.returns-then-roots-group-clause-spans
-returns-then-roots-group-clause-spans c =
-    let k = (goal.at.returns-then-roots-group-clause-spans c).In_ok-copy_notes in
+pub returns-in-Some-clause-spans : goal.returns-in-Some-clause-spans
+returns-in-Some-clause-spans c =
+    let k = (goal.at.returns-in-Some-clause-spans c).In_ok-copy_notes in
     let good = c.args.good.now in
     let group = c.args.group.now in
     let at = c.args.at in
     let starts = c.args.self.now.starts.items in
-    let more = map (renumbered (get_or group at 0)) (slice_range c.args.self.now.notes.items c.index.result.now c.index-then-roots-group.result.now) in
+    let more = map (renumbered (get_or group at 0)) (slice_range c.args.self.now.notes.items c.index.result.now c.index-in-Some.result.now) in
     let spans = spans_more good group at starts c.args.self.now.notes.items more (omega (arith, c.requires.at, c.requires.room, c.requires.of.starts)) c.requires.spans c.requires.start (copied k) in
     let len : c.len.result ≡ length c.copy_notes.new.notes.items = omega (arith, c.len.ensures, c.copy_notes.new.notes.ok.0) in
     subst (λ n. AreSpans good group (at + 1) (set starts (at + 1) n) c.copy_notes.new.notes.items) (sym len)
     (subst (λ ns. AreSpans good group (at + 1) (set starts (at + 1) (length ns)) ns) (sym c.in_ok-copy_notes.ensures) spans)
 
-pub returns-then-roots-group-clause-alike : goal.returns-then-roots-group-clause-alike
-returns-then-roots-group-clause-alike c k lane h live none = elim (cases_lt k c.args.at) [
+pub returns-in-Some-clause-alike : goal.returns-in-Some-clause-alike
+returns-in-Some-clause-alike c k lane h live none = elim (cases_lt k c.args.at) [
   | inl less ↦ c.requires.alike k lane less live none
   | inr most ↦
       let good = c.args.good.now in
       let group = c.args.group.now in
-      let place = c.index-place.result.now in
+      let place = c.in-Some.place in
+      let found = twin (goal.at.returns-in-Some-clause-alike c).In-Some in
       let e : c.args.at ≡ k = omega (arith, h, most) in
       let twins = alike_by_roots good c.requires.run.circuit c.args.roots.now c.requires.run.roots_are c.requires.run.widths (get_or group place 0) (get_or group c.args.at 0) lane
-      (c.requires.inside place 0 (omega (arith, c.if-place-at.true, c.requires.at))) (c.requires.inside c.args.at 0 c.requires.at) c.if-roots-group.true live in
+      (c.requires.inside place 0 (omega (arith, found.0, c.requires.at))) (c.requires.inside c.args.at 0 c.requires.at) found.1 live in
       subst (λ n. AreAlikeAt good lane (get_or group 0 0) (get_or group n 0)) e
-      (alike_onward good c.requires.run.circuit (get_or group 0 0) (get_or group place 0) (get_or group c.args.at 0) lane (c.requires.alike place lane c.if-place-at.true live none) twins)
+      (alike_onward good c.requires.run.circuit (get_or group 0 0) (get_or group place 0) (get_or group c.args.at 0) lane (c.requires.alike place lane found.0 live none) twins)
 ]
 
 pub returns-clause-spans : goal.returns-clause-spans
@@ -92,8 +111,8 @@ returns-clause-alike c k lane h live none =
 pub returns-in_err-copy_notes-clause-of : goal.returns-in_err-copy_notes-clause-of
 returns-in_err-copy_notes-clause-of c = let of = c.requires.of in record { lead = of.lead; member = of.member; places = of.places; starts = of.starts }
 
-pub returns-then-roots-group-clause-of : goal.returns-then-roots-group-clause-of
-returns-then-roots-group-clause-of c =
+pub returns-in-Some-clause-of : goal.returns-in-Some-clause-of
+returns-in-Some-clause-of c =
     let of = c.requires.of in
     record { lead = of.lead; member = of.member; places = of.places; starts = length-set c.args.self.now.starts.items (c.args.at + 1) c.len.result ∙ of.starts }
 

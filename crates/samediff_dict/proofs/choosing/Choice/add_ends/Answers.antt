@@ -1,24 +1,26 @@
-use Rattle.std.proofs.Common.{◌∙◌, ◌-◌, length, get_or, refl, sym, ap, subst, arith}
+use Rattle.std.proofs.Common.{◌-◌, length, get_or, refl, arith}
+use Rattle.std.proofs.lemmas.List.{get_or_default}
 use Rattle.net_model.specs.ClassTable.{class_count}
-use Rattle.samediff_dict.specs.Partition.{IsListed}
+use Rattle.samediff_dict.proofs.CandidateLemmas.{none}
 use Rattle.samediff_dict.proofs.EndLemmas.{ends_more}
 use Rattle.samediff_dict.proofs.choosing.Choice.add_ends.Goals as goal
+
+pub push_cut-requires : goal.push_cut-requires
+push_cut-requires g c =
+    let last = c.loop-last.last in
+    let so_far = c.loop-last.invariant in
+    (c.requires.0, (omega (arith, c.requires.1.0.one_each), (omega (arith, so_far.count), λ d. (so_far.each last d (omega arith)).listed)))
 
 pub loop-last-preserved : goal.loop-last-preserved
 loop-last-preserved g c =
     let chosen = c.args.chosen.now in
     let last = c.loop-last.last in
+    let so_far = c.loop-last.invariant in
     let pattern = length chosen - 1 - last in
-    let candidates = c.index-self-pattern.result in
-    let numbers = c.as_slice-numbers.result.now in
-    let are = c.requires.0.numbered.each pattern candidates (omega (arith, c.requires.1.0.one_each)) in
-    ends_more g.rows c.args.self.now chosen c.index.result.now c.in_ok-next.next c.loop-last.ends.items c.push.new.self.items last pattern (length numbers) numbers (get_or c.args.self.now.patterns.now pattern candidates)
-    c.requires.1.0 (omega arith) c.loop-last.invariant refl are c.as_slice-numbers.ensures c.index.ensures c.in_ok-next.ensures (ap length c.as_slice-numbers.ensures ∙ are.one_each) c.in_ok-push.ensures.items
-
-pub cut-requires-clause-listed : goal.cut-requires-clause-listed
-cut-requires-clause-listed g c =
-    let last = c.loop-last.last in
-    let p = c.index.result.now in
-    let are = c.requires.0.numbered.each (length c.args.chosen.now - 1 - last) c.index-self-pattern.result (omega (arith, c.requires.1.0.one_each)) in
-    subst (λ n. IsListed n p) (sym (ap length c.as_slice-numbers.ensures ∙ are.one_each))
-    (subst (λ q. IsListed (class_count c.args.self.now.classes.now) q) (sym c.index.ensures) (c.loop-last.invariant.each last p (omega arith)).listed)
+    let ends = c.loop-last.ends.items in
+    let added = c.in_ok-push_cut.ensures in
+    let end = get_or ends last added.0 in
+    let one = get_or c.args.self.now.patterns.now pattern none in
+    ends_more g.rows c.args.self.now chosen end added.0 ends c.push_cut.new.parts.items last pattern (class_count c.args.self.now.classes.now) one.numbers one
+    c.requires.1.0 (omega arith) so_far refl (c.requires.0.numbered.each pattern none (omega (arith, c.requires.1.0.one_each))) refl
+    (get_or_default ends last added.0 end (omega (arith, so_far.count))) (added.2 none added.0) refl added.1

@@ -4,3 +4,6 @@ use Rattle.samediff_dict.proofs.choosing.Choice.add_ends.Given as goal
 
 abbrev pub invariant-loop-last : goal.invariant-loop-last
 invariant-loop-last g l = AreEnds g.rows l.self l.chosen (l.last + 1) l.ends.items
+
+abbrev pub ghost-push_cut : goal.ghost-push_cut
+ghost-push_cut g a = g.rows

@@ -6,5 +6,5 @@ ghost-greedy g a = g.rows
 abbrev pub ghost-fault_free : goal.ghost-fault_free
 ghost-fault_free g a = g.rows
 
-abbrev pub ghost-apart : goal.ghost-apart
-ghost-apart g a = g.rows
+abbrev pub ghost-keep_more : goal.ghost-keep_more
+ghost-keep_more g a = g.rows

@@ -13,3 +13,6 @@ invariant-loop-pattern g l = record {
   there : l.pattern < length l.starts.items;
   none : NoneBefore l.self.classes.now g.rows (baselines_at l.self.classes.now g.rows l.chosen) l.pattern;
 }
+
+abbrev pub ghost-above_at : goal.ghost-above_at
+ghost-above_at g a = g.rows
