@@ -35,6 +35,14 @@ pub added_last : {E : Type 0} (old : Command) (arg : Arg) {app : App} {rule : Ru
 added_last old arg {app} {rule} r adds app_is rule_is local =
     IfOk-weaker r (λ new. AddsArg old arg new) (λ new. app_of new ≡ with_rule app rule) (λ new one. added one app_is rule_is local) adds
 
+-- and one that gets more rules, by a function of what it has
+pub more_rules : {E : Type 0} (old : Command) {app : App} (more : App → App) (r : Result Command E) → app_of old ≡ app → IfOk r (λ new. app_of new ≡ more (app_of old)) → IfOk r (λ new. app_of new ≡ more app)
+more_rules old {app} more r is = IfOk-weaker r (λ new. app_of new ≡ more (app_of old)) (λ new. app_of new ≡ more app) (λ new e. e ∙ ap more is)
+
+pub named_more : {E : Type 0} (old : Command) {app : App} (first second : Rule) (r : Result Command E) → app_of old ≡ app → IfOk r (λ new. app_of new ≡ with_rule (with_rule (app_of old) first) second)
+    → IfOk r (λ new. app_of new ≡ with_rule (with_rule app first) second)
+named_more old first second r is = more_rules old (λ (a : App). with_rule (with_rule a first) second) r is
+
 -- ---- words that are taken, and words that aren't
 
 none_true : (b : Bool) → ¬ (b ≡ true) → b ≡ false

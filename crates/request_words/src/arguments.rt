@@ -1,14 +1,15 @@
 //! Words by the definition of a simple command of `clap`, and what its matches hold.
 
 ghost use Rattle.std.specs.Prelude.{◌≡◌, ◌≢◌, ◌≤◌, ◌<◌, ◌^◌, [], IfOk, OnOk, Err, map, pos, string_bytes, true, false};
-ghost use Rattle.clap.specs.Words.{rule_of, app_of, found_of, rows_of, matches_of, fault_of, is_broken, is_simple_and_free};
+ghost use Rattle.clap.specs.Words.{rule_of, app_of, found_of, rows_of, matches_of, fault_of, kind_of, is_simple_and_free, with_rule};
+ghost use Rattle.clap.specs.declared.error.ErrorKind.TheVariants.{OutOfMemory};
 ghost use Rattle.clap.specs.declared.builder.value_parser.ValueParser.TheVariants as value_parsers;
 ghost use Rattle.request_words.specs.Arguments.{bare_app, two_names_app, name_rule, number_rule, option_rule, name_in, number_in, kind_named};
 
 use crate::request::EntryKind;
 use clap::builder::ValueParser;
 use clap::error::ErrorKind;
-use clap::{Arg, ArgAction, ArgMatches, Command, value_parser};
+use clap::{Arg, ArgAction, ArgMatches, Command, Error, value_parser};
 use std::alloc::{AllocError, Global};
 
 /// Why the words give no request.
@@ -49,7 +50,19 @@ pub(crate) fn two_names<'a>(
 ) -> Result<Command<'a>, AllocError>
     ensures { IfOk result (λ c. app_of c ≡ two_names_app name.entry.now first.entry.now second.entry.now) }
 {
-    bare_command(alloc, name)
+    with_names(alloc, bare_command(alloc, name), first, second)
+}
+
+/// A command with two names more that have to stand.
+pub(crate) fn with_names<'a>(
+    alloc: Global,
+    command: Command<'a>,
+    first: &'a str,
+    second: &'a str,
+) -> Result<Command<'a>, AllocError>
+    ensures { IfOk result (λ c. app_of c ≡ with_rule (with_rule (app_of command.entry) (name_rule first.entry.now)) (name_rule second.entry.now)) }
+{
+    command
         .arg(name_arg(alloc, first))?
         .arg(name_arg(alloc, second))
 }
@@ -102,8 +115,18 @@ pub(crate) fn parse<'a>(
 {
     match command.try_get_matches_from(words) {
         Ok(matches) => Ok(matches),
-        Err(error) if error.kind() == ErrorKind::OutOfMemory => Err(WordsFault::NoMemory),
-        Err(_) => Err(WordsFault::NotUnderstood),
+        Err(error) => Err(words_fault(&error)),
+    }
+}
+
+// Why the words give no request, by the error of `clap`.
+fn words_fault(error: &Error) -> WordsFault
+    ensures { result ≡ WordsFault.NotUnderstood → kind_of error.now ≢ OutOfMemory }
+{
+    if error.kind() == ErrorKind::OutOfMemory {
+        WordsFault::NoMemory
+    } else {
+        WordsFault::NotUnderstood
     }
 }
 

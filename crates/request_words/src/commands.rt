@@ -1,12 +1,14 @@
 //! The words of the commands that take more or less than two names: `gen`, `dict`, `faults` and `synth`.
 
-ghost use Rattle.std.specs.Prelude.{◌≡◌, IfOk, IfSome, option_map};
-ghost use Rattle.clap.specs.Words.{app_of, found_of, rows_of};
+ghost use Rattle.std.specs.Prelude.{◌≡◌, IfOk, IfSome, codes, option_map};
+ghost use Rattle.clap.specs.Words.{app_of, found_of, rows_of, with_rule};
+ghost use Rattle.request_words.specs.Arguments.{option_rule};
 ghost use Rattle.request_words.specs.Request.{gen_app, gen_by, dict_app, dict_by, faults_app, faults_by, synth_app, synth_by};
 ghost use Rattle.request_words.specs.Asked.{asked, HasLimits};
 
 use crate::arguments::{
     bare_command, kind_named, name_arg, name_in, number_arg, number_in, option_arg, two_names,
+    with_names,
 };
 use crate::request::Request;
 use clap::{ArgMatches, Command};
@@ -29,7 +31,14 @@ const SYNTH_LIMIT: u32 = 2000;
 pub(crate) fn gen_command<'a>(alloc: Global) -> Result<Command<'a>, AllocError>
     ensures { IfOk result (λ c. app_of c ≡ gen_app) }
 {
-    two_names(alloc, "gen", "bench", "result")?
+    with_options(alloc, two_names(alloc, "gen", "bench", "result")?)
+}
+
+// A command with the options of `gen`.
+fn with_options<'a>(alloc: Global, command: Command<'a>) -> Result<Command<'a>, AllocError>
+    ensures { IfOk result (λ c. app_of c ≡ with_rule (with_rule (with_rule (app_of command.entry) (option_rule (codes "blocks") (codes "4") 65536)) (option_rule (codes "cubes") (codes "64") 1048576)) (option_rule (codes "conflicts") (codes "2000") 100000)) }
+{
+    command
         .arg(option_arg(alloc, "blocks", "4", BLOCKS_LIMIT))?
         .arg(option_arg(alloc, "cubes", "64", CUBES_LIMIT))?
         .arg(option_arg(alloc, "conflicts", "2000", CONFLICTS_LIMIT))
@@ -56,9 +65,12 @@ pub(crate) fn gen_in<'a>(matches: &ArgMatches<'a>) -> Request<'a>
 pub(crate) fn dict_command<'a>(alloc: Global) -> Result<Command<'a>, AllocError>
     ensures { IfOk result (λ c. app_of c ≡ dict_app) }
 {
-    two_names(alloc, "dict", "kind", "bench")?
-        .arg(name_arg(alloc, "result"))?
-        .arg(name_arg(alloc, "dict"))
+    with_names(
+        alloc,
+        two_names(alloc, "dict", "kind", "bench")?,
+        "result",
+        "dict",
+    )
 }
 
 /// The request of its matches, if they name a kind.
@@ -94,10 +106,8 @@ pub(crate) fn faults_in<'a>(matches: &ArgMatches<'a>) -> Request<'a>
 pub(crate) fn synth_command<'a>(alloc: Global) -> Result<Command<'a>, AllocError>
     ensures { IfOk result (λ c. app_of c ≡ synth_app) }
 {
-    bare_command(alloc, "synth")
-        .arg(number_arg(alloc, "n", SYNTH_LIMIT))?
-        .arg(name_arg(alloc, "bench"))?
-        .arg(name_arg(alloc, "result"))
+    let command = bare_command(alloc, "synth").arg(number_arg(alloc, "n", SYNTH_LIMIT))?;
+    with_names(alloc, command, "bench", "result")
 }
 
 /// The request of its matches.

@@ -1,6 +1,6 @@
 -- What a reader answers, from what the readers of its parts answer.
-use Rattle.std.proofs.Common.{◌≡◌, ◌∙◌, ℕ, ◌<◌, ◌≤◌, Bool, true, false, not, List, [], ◌∷◌, ◌++◌, map, length, get_or, Option, Some, None, Result, Ok, Err, refl, sym, ap, arith}
-use Rattle.std.specs.Prelude.{All, ◌==◌, flat_map, codes, decimal, IfOk, IsErrOf, IsSome, ⊤}
+use Rattle.std.proofs.Common.{◌≡◌, ◌≢◌, ◌∙◌, ℕ, ◌<◌, ◌≤◌, Bool, true, false, not, List, [], ◌∷◌, ◌++◌, map, length, get_or, Option, Some, None, Result, Ok, Err, refl, sym, ap, arith, if◌then◌else◌}
+use Rattle.std.specs.Prelude.{All, ◌==◌, flat_map, codes, decimal, IfOk, IsErrOf, IsSome, MatchOption, ⊤}
 use Rattle.std.specs.Option.{option_to_list}
 use Rattle.std.specs.List.{slice_split}
 use Rattle.net_model.specs.BitText.{bit_digit, bits_text}
@@ -54,15 +54,33 @@ no_negative : (positive : Bool) (n : ℕ) (digits : Text) → IsVariable n → (
 no_negative true n digits small never e = omega (arith, first_digit n (omega (arith, small.1)), ap first_byte e)
 no_negative false n digits small never e = never n small (tails e).1
 
-pub negative_none : (field digits : Text) → field ≡ 45 ∷ digits → ((m : ℕ) → IsVariable m → decimal m ≡ digits → ⊥) → (l : Literal) → IsLiteral l → literal_field l ≡ field → ⊥
+negative_none : (field digits : Text) → field ≡ 45 ∷ digits → ((m : ℕ) → IsVariable m → decimal m ≡ digits → ⊥) → (l : Literal) → IsLiteral l → literal_field l ≡ field → ⊥
 negative_none field digits is never l small e = no_negative l.positive l.variable digits small never (e ∙ is)
 
 no_positive : (positive : Bool) (n : ℕ) (field : Text) → IsVariable n → ((rest : Text) → field ≡ 45 ∷ rest → ⊥) → ((m : ℕ) → IsVariable m → decimal m ≡ field → ⊥) → literal_field (record { variable = n; positive = positive }) ≡ field → ⊥
 no_positive true n field small dash never e = never n small e
 no_positive false n field small dash never e = dash (decimal n) (sym e)
 
-pub positive_none : (field : Text) → ((rest : Text) → field ≡ 45 ∷ rest → ⊥) → ((m : ℕ) → IsVariable m → decimal m ≡ field → ⊥) → (l : Literal) → IsLiteral l → literal_field l ≡ field → ⊥
+positive_none : (field : Text) → ((rest : Text) → field ≡ 45 ∷ rest → ⊥) → ((m : ℕ) → IsVariable m → decimal m ≡ field → ⊥) → (l : Literal) → IsLiteral l → literal_field l ≡ field → ⊥
 positive_none field dash never l small e = no_positive l.positive l.variable field small dash never e
+
+-- what is read behind a dash, and what is read where there is none
+abbrev pub LiteralWith : Bool → Text → Option Literal → Type 0
+LiteralWith positive digits r = MatchOption r ((n : ℕ) → IsVariable n → decimal n ≢ digits) (λ l. IsVariable l.variable × (decimal l.variable ≡ digits) × (l.positive ≡ positive))
+
+abbrev pub LiteralOf : Text → Option Literal → Type 0
+LiteralOf field r = MatchOption r ((l : Literal) → IsLiteral l → literal_field l ≢ field) (λ l. IsLiteral l × (literal_field l ≡ field))
+
+spelled_as : (positive : Bool) (digits : Text) (l : Literal) → decimal l.variable ≡ digits → l.positive ≡ positive → literal_field l ≡ (if positive then [] else codes "-") ++ digits
+spelled_as positive digits l is sign = ap (λ (b : Bool). (if b then [] else codes "-") ++ decimal l.variable) sign ∙ ap (λ (text : Text). (if positive then [] else codes "-") ++ text) is
+
+pub negative_read : (field digits : Text) (r : Option Literal) → field ≡ 45 ∷ digits → LiteralWith false digits r → LiteralOf field r
+negative_read field digits (Some l) is read = (read.0, spelled_as false digits l read.1 read.2 ∙ sym is)
+negative_read field digits None is never = negative_none field digits is never
+
+pub positive_read : (field : Text) (r : Option Literal) → ((rest : Text) → field ≡ 45 ∷ rest → ⊥) → LiteralWith true field r → LiteralOf field r
+positive_read field (Some l) dash read = (read.0, spelled_as true field l read.1 read.2)
+positive_read field None dash never = positive_none field dash never
 
 -- ---- bits
 

@@ -1,9 +1,9 @@
 //! Records read from lines of text.
 
-ghost use Rattle.std.specs.Prelude.{◌≡◌, ◌==◌, ◌∷◌, codes, map, IfOk, IsErrOf};
+ghost use Rattle.std.specs.Prelude.{◌≡◌, ◌≢◌, ◌==◌, ℕ, [], ◌∷◌, codes, decimal, map, IfOk, IsErrOf, MatchOption};
 ghost use Rattle.std.specs.List.{slice_split};
 ghost use Rattle.result_file.specs.declared.fault.RecordFault.TheVariants as record_fault;
-ghost use Rattle.result_file.specs.Spelling.{spelling, fields, HasSpelling, IsNoSpelling};
+ghost use Rattle.result_file.specs.Spelling.{spelling, fields, HasSpelling, IsNoSpelling, IsNumber};
 ghost use Rattle.result_file.specs.Reading.{Reads};
 
 use crate::evidence::read_proof;
@@ -52,14 +52,12 @@ fn read_fields(alloc: Global, parts: &[&str]) -> Result<Record, RecordFault>
 fn read_head(rest: &[&str]) -> Result<Record, RecordFault>
     ensures { Reads HasSpelling fields (codes "diatest" ∷ map (λ f. f.now) rest.now) result }
 {
-    let ["1", sources, positions, numbers] = rest else {
+    let ["1", rest @ ..] = rest else {
         return Err(RecordFault::Syntax);
     };
-    match (number_of(sources), number_of(positions), number_of(numbers)) {
-        (Some(sources), Some(positions), Some(numbers)) => {
-            Ok(Record::Head(sources, positions, numbers))
-        }
-        _ => Err(RecordFault::Syntax),
+    match three_numbers(rest) {
+        Some((sources, positions, numbers)) => Ok(Record::Head(sources, positions, numbers)),
+        None => Err(RecordFault::Syntax),
     }
 }
 
@@ -75,16 +73,13 @@ fn read_pattern(alloc: Global, rest: &[&str]) -> Result<Record, RecordFault>
 fn read_budget(rest: &[&str]) -> Result<Record, RecordFault>
     ensures { Reads HasSpelling fields (codes "budget" ∷ map (λ f. f.now) rest.now) result }
 {
-    let [blocks, cubes, conflicts] = rest else {
-        return Err(RecordFault::Syntax);
-    };
-    match (number_of(blocks), number_of(cubes), number_of(conflicts)) {
-        (Some(blocks), Some(cubes), Some(conflicts)) => Ok(Record::Budget(Budgets {
+    match three_numbers(rest) {
+        Some((blocks, cubes, conflicts)) => Ok(Record::Budget(Budgets {
             blocks,
             cubes,
             conflicts,
         })),
-        _ => Err(RecordFault::Syntax),
+        None => Err(RecordFault::Syntax),
     }
 }
 
@@ -94,7 +89,7 @@ fn read_same(alloc: Global, rest: &[&str]) -> Result<Record, RecordFault>
     let [member, partner, proof @ ..] = rest else {
         return Err(RecordFault::Syntax);
     };
-    let (Some(member), Some(partner)) = (number_of(member), number_of(partner)) else {
+    let Some((member, partner)) = two_numbers(member, partner) else {
         return Err(RecordFault::Syntax);
     };
     Ok(Record::Same(Evidence {
@@ -116,9 +111,9 @@ fn read_class(rest: &[&str]) -> Result<Record, RecordFault>
     if *parent == "-" && *pattern == "-" {
         return Ok(Record::Class(number, None));
     }
-    match (number_of(parent), number_of(pattern)) {
-        (Some(parent), Some(pattern)) => Ok(Record::Class(number, Some((parent, pattern)))),
-        _ => Err(RecordFault::Syntax),
+    match two_numbers(parent, pattern) {
+        Some(birth) => Ok(Record::Class(number, Some(birth))),
+        None => Err(RecordFault::Syntax),
     }
 }
 
@@ -128,8 +123,8 @@ fn read_member(rest: &[&str]) -> Result<Record, RecordFault>
     let [number, class, mark] = rest else {
         return Err(RecordFault::Syntax);
     };
-    match (number_of(number), number_of(class), mark_of(mark)) {
-        (Some(number), Some(class), Some(mark)) => Ok(Record::Member(number, class, mark)),
+    match (two_numbers(number, class), mark_of(mark)) {
+        (Some((number, class)), Some(mark)) => Ok(Record::Member(number, class, mark)),
         _ => Err(RecordFault::Syntax),
     }
 }
@@ -142,4 +137,24 @@ fn read_end(rest: &[&str]) -> Result<Record, RecordFault>
     } else {
         Err(RecordFault::Syntax)
     }
+}
+
+// The numbers that three fields spell, and no more.
+fn three_numbers(parts: &[&str]) -> Option<(u32, u32, u32)>
+    ensures { MatchOption result ((a b c : ℕ) → IsNumber a → IsNumber b → IsNumber c → decimal a ∷ decimal b ∷ decimal c ∷ [] ≢ map (λ f. f.now) parts.now)
+        (λ n. IsNumber n.0 × IsNumber n.1 × IsNumber n.2 × (decimal n.0 ∷ decimal n.1 ∷ decimal n.2 ∷ [] ≡ map (λ f. f.now) parts.now)) }
+{
+    let [first, second, third] = parts else {
+        return None;
+    };
+    let (first, second) = two_numbers(first, second)?;
+    Some((first, second, number_of(third)?))
+}
+
+// The numbers that two fields spell.
+fn two_numbers(first: &str, second: &str) -> Option<(u32, u32)>
+    ensures { MatchOption result ((a b : ℕ) → IsNumber a → IsNumber b → decimal a ≡ first.now → decimal b ≢ second.now)
+        (λ n. IsNumber n.0 × IsNumber n.1 × (decimal n.0 ≡ first.now) × (decimal n.1 ≡ second.now)) }
+{
+    Some((number_of(first)?, number_of(second)?))
 }

@@ -33,21 +33,21 @@ pub fn number_of(field: &str) -> Option<u32>
 pub(crate) fn literal_of(field: &str) -> Option<Lit>
     ensures { MatchOption result ((l : Literal) → IsLiteral l → literal_field l ≢ field.now) (λ l. IsLiteral l × (literal_field l ≡ field.now)) }
 {
-    if let Some(digits) = field.strip_prefix('-') {
-        return Some(Lit::new(variable_of(digits)?, false));
+    match field.strip_prefix('-') {
+        Some(digits) => literal_with(digits, false),
+        None => literal_with(field, true),
     }
-    Some(Lit::new(variable_of(field)?, true))
 }
 
-// The variable that digits spell.
-fn variable_of(digits: &str) -> Option<u32>
-    ensures { MatchOption result ((n : ℕ) → IsVariable n → decimal n ≢ digits.now) (λ n. IsVariable n × (decimal n ≡ digits.now)) }
+// The literal of the variable that digits spell.
+fn literal_with(digits: &str, positive: bool) -> Option<Lit>
+    ensures { MatchOption result ((n : ℕ) → IsVariable n → decimal n ≢ digits.now) (λ l. IsVariable l.variable × (decimal l.variable ≡ digits.now) × (l.positive ≡ positive)) }
 {
     let variable = number_of(digits)?;
     if variable == 0 || variable >= 1 << 31 {
         return None;
     }
-    Some(variable)
+    Some(Lit::new(variable, positive))
 }
 
 /// The token that a field spells.

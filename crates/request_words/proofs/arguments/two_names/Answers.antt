@@ -1,7 +1,5 @@
-use Rattle.request_words.proofs.WordLemmas.{added, added_last}
+use Rattle.request_words.proofs.WordLemmas.{named_more}
 use Rattle.request_words.proofs.arguments.two_names.Goals as goal
 
 pub returns : goal.returns
-returns c =
-    let one = added c.in_ok-arg.ensures c.bare_command.ensures.app c.name_arg.ensures.rule c.name_arg.ensures.local in
-    added_last _ _ c.arg-2.result c.arg-2.ensures one c.name_arg-2.ensures.rule c.name_arg-2.ensures.local
+returns c = named_more _ _ _ c.with_names.result c.bare_command.ensures.app c.with_names.ensures

@@ -1,10 +1,14 @@
+use Rattle.std.specs.Prelude.{codes}
+use Rattle.clap.specs.Words.{App, with_rule}
+use Rattle.request_words.specs.Arguments.{option_rule}
 use Rattle.request_words.specs.Request.{gen_app}
-use Rattle.request_words.proofs.WordLemmas.{added, added_last}
+use Rattle.request_words.proofs.WordLemmas.{more_rules}
 use Rattle.request_words.proofs.commands.gen_command.Goals as goal
+
+-- the options that it adds
+abbrev with_options : App → App
+with_options app = with_rule (with_rule (with_rule app (option_rule (codes "blocks") (codes "4") 65536)) (option_rule (codes "cubes") (codes "64") 1048576)) (option_rule (codes "conflicts") (codes "2000") 100000)
 
 pub returns : goal.returns
 unfolding gen_app
-returns c =
-    let three = added c.in_ok-arg.ensures c.in_ok-two_names.ensures c.option_arg.ensures.rule c.option_arg.ensures.local in
-    let four = added c.in_ok-arg-2.ensures three c.option_arg-2.ensures.rule c.option_arg-2.ensures.local in
-    added_last _ _ c.arg-3.result c.arg-3.ensures four c.option_arg-3.ensures.rule c.option_arg-3.ensures.local
+returns c = more_rules _ with_options c.with_options.result c.in_ok-two_names.ensures c.with_options.ensures

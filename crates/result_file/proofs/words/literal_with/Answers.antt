@@ -1,7 +1,7 @@
 use Rattle.std.proofs.Common.{◌≡◌, ◌∙◌, sym, arith}
 use Rattle.result_file.proofs.NumberLemmas.{number_once}
-use Rattle.result_file.proofs.words.variable_of.Goals.{then-variable-eq0-via-then-variable-eq0, then-variable-eq0-via-else-variable-eq0+then-variable}
-use Rattle.result_file.proofs.words.variable_of.Goals as goal
+use Rattle.result_file.proofs.words.literal_with.Goals.{then-variable-eq0-via-then-variable-eq0, then-variable-eq0-via-else-variable-eq0+then-variable}
+use Rattle.result_file.proofs.words.literal_with.Goals as goal
 
 pub returns-then-variable-eq0 : goal.returns-then-variable-eq0
 returns-then-variable-eq0 c = λ n small e.
