@@ -2,19 +2,16 @@
 
 ghost use Rattle.std.specs.Prelude.{ℕ, List, Some};
 ghost use Rattle.request_words.specs.Request.{check};
-ghost use Rattle.dia_commands.specs.Texts.{valid_text};
-ghost use Rattle.dia_commands.specs.Outcome.{said, IsPartOf};
 ghost use Rattle.dia_commands.specs.Plans.{says, with_result};
-ghost use Rattle.dia_commands.specs.Ran.{Ends, Ran, RanOn};
+ghost use Rattle.dia_commands.specs.Ran.{Ran, RanOn};
 ghost use Rattle.dia_commands.specs.Results.{IsValidText};
 
-use crate::ends::say;
+use crate::ends::say_text;
 use crate::netlists::read_design;
 use crate::results::read_result;
 use crate::texts::valid_text;
 use diag_shelf::Shelf;
 use net_model::Circuit;
-use result_file::Summary;
 use std::alloc::Global;
 
 /// Reads and judges the netlist and then the result, and prints what the result amounts to.
@@ -32,17 +29,7 @@ fn check_for<S: Shelf>(alloc: Global, shelf: &mut S, circuit: &Circuit, output: 
     ensures { (bench : List ℕ) → RanOn (check bench output.now) (with_result output.now circuit.now (λ (file : List ℕ). says (IsValidText circuit.now file))) result (S.state shelf.old) (S.state shelf.new) }
 {
     match read_result(alloc, shelf, circuit, output) {
-        Ok(checked) => say_valid(alloc, shelf, checked.summary),
+        Ok(checked) => say_text(shelf, 0, valid_text(alloc, checked.summary)),
         Err(status) => status,
-    }
-}
-
-// Says what a valid result amounts to.
-fn say_valid<S: Shelf>(alloc: Global, shelf: &mut S, summary: Summary) -> u8
-    ensures { Ends (said 0 (valid_text summary)) (IsPartOf (said 0 (valid_text summary))) result (S.state shelf.old) (S.state shelf.new) }
-{
-    match valid_text(alloc, summary) {
-        Ok(text) => say(shelf, 0, text.as_bytes()),
-        Err(_) => 9,
     }
 }

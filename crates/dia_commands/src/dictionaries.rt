@@ -8,7 +8,7 @@ ghost use Rattle.dia_commands.specs.Ran.{Ends};
 ghost use Rattle.dia_commands.specs.Steps.{WasAccepted, IsOver};
 ghost use Rattle.dia_commands.specs.Texts.{dictionary_rule, dictionary_text};
 
-use crate::ends::{read_status, say};
+use crate::ends::{read_status, say_text};
 use crate::texts::dictionary_text;
 use diag_shelf::{Shelf, read_all};
 use dict_file::{DictFault, decode};
@@ -63,8 +63,5 @@ fn rule_of(fault: &DictFault) -> Option<(&'static str, u64)>
 fn say_refusal<S: Shelf>(alloc: Global, shelf: &mut S, rule: &str, byte: u64) -> u8
     ensures { Ends (said 5 (dictionary_text rule.now byte)) (IsPartOf (said 5 (dictionary_text rule.now byte))) result (S.state shelf.old) (S.state shelf.new) }
 {
-    match dictionary_text(alloc, rule, byte) {
-        Ok(text) => say(shelf, 5, text.as_bytes()),
-        Err(_) => 9,
-    }
+    say_text(shelf, 5, dictionary_text(alloc, rule, byte))
 }

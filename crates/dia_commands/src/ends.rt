@@ -1,11 +1,12 @@
 //! The last steps of a run: a file is written, a text is printed, and the status follows.
 
-ghost use Rattle.std.specs.Prelude.{◌<◌, [], ◌∷◌};
+ghost use Rattle.std.specs.Prelude.{◌≡◌, ◌<◌, ℕ, List, [], ◌∷◌, IfOk, string_bytes};
 ghost use Rattle.dia_commands.specs.Outcome.{said, saved, IsPartOf};
 ghost use Rattle.dia_commands.specs.Ran.{Ends};
 ghost use Rattle.dia_commands.specs.Steps.{IsReadStatus, IsWriteStatus};
 
 use diag_shelf::{Shelf, ShelfFault, print_all, write_all};
+use std::alloc::AllocError;
 
 /// The status of a failed read.
 pub(crate) fn read_status(fault: ShelfFault) -> u8
@@ -35,6 +36,17 @@ pub(crate) fn say<S: Shelf>(shelf: &mut S, status: u8, text: &[u8]) -> u8
     match print_all(shelf, text) {
         Ok(()) => status,
         Err(fault) => write_status(fault),
+    }
+}
+
+/// Prints a text and ends with a status, or ends for want of memory where there is no text.
+pub(crate) fn say_text<S: Shelf>(shelf: &mut S, status: u8, text: Result<String, AllocError>) -> u8
+    requires { status < 7 }
+    ensures { (said_text : List ℕ) → IfOk text (λ t. string_bytes t ≡ said_text) → Ends (said status said_text) (IsPartOf (said status said_text)) result (S.state shelf.old) (S.state shelf.new) }
+{
+    match text {
+        Ok(text) => say(shelf, status, text.as_bytes()),
+        Err(_) => 9,
     }
 }
 

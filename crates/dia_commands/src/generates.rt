@@ -5,7 +5,7 @@ ghost use Rattle.result_file.specs.Lines.{AreWithinLimits};
 ghost use Rattle.request_words.specs.Request.{gen};
 ghost use Rattle.dia_commands.specs.Ran.{Ran, SavesResult};
 
-use crate::ends::{say, write_status};
+use crate::ends::{say_text, write_status};
 use crate::netlists::read_design;
 use crate::texts::summary_text;
 use dia_gen::generate;
@@ -25,11 +25,10 @@ pub fn generate_file<S: Shelf>(
     requires { AreWithinLimits budgets }
     ensures { Ran (Some (gen bench.now output.now budgets)) result (S.state shelf.old) (S.state shelf.new) }
 {
-    let design = match read_design(alloc, shelf, bench) {
-        Ok(design) => design,
-        Err(status) => return status,
-    };
-    save_result(alloc, shelf, &design.circuit, output, budgets)
+    match read_design(alloc, shelf, bench) {
+        Ok(design) => save_result(alloc, shelf, &design.circuit, output, budgets),
+        Err(status) => status,
+    }
 }
 
 /// Generates a result of the circuit under this name, and prints what it amounts to.
@@ -46,12 +45,8 @@ pub(crate) fn save_result<S: Shelf>(
     if let Err(fault) = shelf.create_file(output) {
         return write_status(fault);
     }
-    let summary = match generate(alloc, circuit, budgets, shelf) {
-        Ok(summary) => summary,
-        Err(fault) => return write_status(fault),
-    };
-    let Ok(text) = summary_text(alloc, summary) else {
-        return 9;
-    };
-    say(shelf, 0, text.as_bytes())
+    match generate(alloc, circuit, budgets, shelf) {
+        Ok(summary) => say_text(shelf, 0, summary_text(alloc, summary)),
+        Err(fault) => write_status(fault),
+    }
 }

@@ -1,6 +1,6 @@
 //! The command `faults`: the faults of a netlist's circuit, each with its root and its name.
 
-ghost use Rattle.std.specs.Prelude.{◌≡◌, ◌++◌, ℕ, List, All, Some, IfOk, OnOk, length};
+ghost use Rattle.std.specs.Prelude.{◌≡◌, ◌<◌, ◌++◌, ℕ, List, All, Some, IfOk, OnOk, length};
 ghost use Rattle.net_model.specs.Circuit.{line_count};
 ghost use Rattle.net_model.specs.Fault.{IsFaultOf};
 ghost use Rattle.net_model.specs.FaultList.{faults as faults_of};
@@ -8,7 +8,7 @@ ghost use Rattle.fault_list.specs.Names.{fault_name};
 ghost use Rattle.fault_collapse.specs.Forest.{number_count};
 ghost use Rattle.request_words.specs.Request.{list_faults};
 ghost use Rattle.dia_commands.specs.Texts.{line_start};
-ghost use Rattle.dia_commands.specs.Faults.{IsFaultsText, fault_lines, fault_fields};
+ghost use Rattle.dia_commands.specs.Faults.{IsFaultsText, faults_text, fault_lines, fault_fields};
 ghost use Rattle.dia_commands.specs.Plans.{says};
 ghost use Rattle.dia_commands.specs.Ran.{Ran, RanOn};
 
@@ -49,8 +49,25 @@ fn faults_text(alloc: Global, design: &Design) -> Result<Vec<u8>, AllocError>
 {
     let listed = list(alloc, &design.circuit)?;
     let forest = collapse(alloc, &design.circuit, &listed)?;
+    lines_text(alloc, design, &listed, &forest)
+}
+
+// The lines of a circuit's faults with these roots.
+fn lines_text(
+    alloc: Global,
+    design: &Design,
+    listed: &FaultList,
+    forest: &Forest,
+) -> Result<Vec<u8>, AllocError>
+    requires named { length design.now.names ≡ line_count design.now.circuit }
+    requires some { 0 < length listed.now }
+    requires listed { listed.now ≡ faults_of design.now.circuit }
+    requires stand { All (IsFaultOf design.now.circuit) listed.now }
+    requires forest { number_count forest.now ≡ length listed.now }
+    ensures { IfOk result (λ text. text.items ≡ faults_text design.now forest.now) }
+{
     let mut text = Vec::new(alloc);
-    push_faults(&mut text, design, &listed, &forest)?;
+    push_faults(&mut text, design, listed, forest)?;
     let count = count_text(alloc, listed.len() - 1, forest.root_count())?;
     text.extend_from_slice(count.as_bytes())?;
     Ok(text)

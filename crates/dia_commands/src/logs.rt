@@ -9,7 +9,7 @@ ghost use Rattle.dia_commands.specs.Ran.{Ends};
 ghost use Rattle.dia_commands.specs.Steps.{WasAccepted, IsOver};
 ghost use Rattle.dia_commands.specs.Texts.{log_text};
 
-use crate::ends::{read_status, say};
+use crate::ends::{read_status, say_text};
 use crate::texts::log_text;
 use diag_shelf::{Shelf, read_all};
 use diagnose::{LogFault, LogKind, read_log, read_vectors};
@@ -70,8 +70,5 @@ pub(crate) fn read_list<S: Shelf>(
 fn say_refusal<S: Shelf>(alloc: Global, shelf: &mut S, kind: LogKind, line: u64) -> u8
     ensures { Ends (said 6 (log_text kind line)) (IsPartOf (said 6 (log_text kind line))) result (S.state shelf.old) (S.state shelf.new) }
 {
-    match log_text(alloc, kind, line) {
-        Ok(text) => say(shelf, 6, text.as_bytes()),
-        Err(_) => 9,
-    }
+    say_text(shelf, 6, log_text(alloc, kind, line))
 }

@@ -10,7 +10,7 @@ ghost use Rattle.dia_commands.specs.Results.{IsResult, IsRefusedResult};
 ghost use Rattle.dia_commands.specs.Steps.{WasAccepted, IsOver};
 ghost use Rattle.dia_commands.specs.Texts.{result_text};
 
-use crate::ends::{read_status, say};
+use crate::ends::{read_status, say_text};
 use crate::texts::result_text;
 use dia_check::{Checked, FileFault, check};
 use diag_shelf::Shelf;
@@ -44,8 +44,5 @@ pub(crate) fn read_result<S: Shelf>(
 fn say_refusal<S: Shelf>(alloc: Global, shelf: &mut S, fault: ResultFault) -> u8
     ensures { Ends (said 4 (result_text fault)) (IsPartOf (said 4 (result_text fault))) result (S.state shelf.old) (S.state shelf.new) }
 {
-    match result_text(alloc, fault) {
-        Ok(text) => say(shelf, 4, text.as_bytes()),
-        Err(_) => 9,
-    }
+    say_text(shelf, 4, result_text(alloc, fault))
 }

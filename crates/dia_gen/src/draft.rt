@@ -45,38 +45,36 @@ impl Drop for Draft<'_> {
 }
 
 impl<'a> Draft<'a> {
-    // Writes the first two lines, and a line for each vector of the stream that is kept.
-    pub(crate) fn start<S: Shelf>(
-        alloc: Global,
-        setting: &Setting<'a>,
-        shelf: &mut S,
-    ) -> Result<Draft<'a>, ShelfFault>
-        ensures draft { IfOk result (λ draft. IsDraft setting.now draft (S.state shelf.old) (S.state shelf.new)) }
-        ensures err { IfErr result (λ fault. BrokeOff setting.now.circuit fault (S.state shelf.old) (S.state shelf.new)) }
-    {
-        let Ok(draft) = Draft::begin(alloc, setting) else {
-            return Err(ShelfFault::NoMemory);
-        };
-        write_head(alloc, shelf, setting)?;
-        write_patterns(alloc, shelf, draft.keeper.vectors())?;
-        Ok(draft)
-    }
-
     // The vectors of the stream that are kept, and no mark.
-    fn begin(alloc: Global, setting: &Setting<'a>) -> Result<Draft<'a>, AllocError>
+    pub(crate) fn begin(alloc: Global, setting: &Setting<'a>) -> Result<Draft<'a>, AllocError>
         ensures { IfOk result (IsBegun setting.now) }
     {
-        let mut keeper = setting.keeper(alloc)?;
-        keeper.keep_stream(setting.budgets().blocks)?;
         let marks = Marks::none(alloc, setting.numbers())?;
         let pool = Pool::with_room(alloc, 0, 0)?;
         let sim = PairSim::new(alloc, setting.circuit(), &Fault::Free, &Fault::Free)?;
+        let keeper = setting.keeper(alloc)?;
         Ok(Draft {
             keeper,
             marks,
             sim,
             pool,
         })
+    }
+
+    // Writes the first two lines, and a line for each vector of the stream that is kept.
+    pub(crate) fn start<S: Shelf>(
+        &self,
+        alloc: Global,
+        setting: &Setting,
+        shelf: &mut S,
+    ) -> Result<(), ShelfFault>
+        requires { IsBegun setting.now self.now }
+        ensures draft { OnOk result (IsDraft setting.now self.now (S.state shelf.old) (S.state shelf.new)) }
+        ensures err { IfErr result (λ fault. BrokeOff setting.now.circuit fault (S.state shelf.old) (S.state shelf.new)) }
+    {
+        write_head(alloc, shelf, setting)?;
+        write_patterns(alloc, shelf, self.keeper.vectors())?;
+        Ok(())
     }
 
     // Writes evidence or patterns until each number is a representative or marked.

@@ -5,7 +5,7 @@ ghost use Rattle.diag_shelf.specs.World.{State};
 ghost use Rattle.diag_shelf.specs.Calls.{IsWriteCall, Told, Writes};
 ghost use Rattle.result_file.specs.Lines.{AreWithinLimits};
 ghost use Rattle.member_marks.specs.Given.{AreAllMarked};
-ghost use Rattle.dia_gen.specs.Draft.{IsDraft};
+ghost use Rattle.dia_gen.specs.Draft.{IsBegun, IsDraft};
 ghost use Rattle.dia_gen.specs.Made.{IsMade, IsCutFile};
 ghost use Rattle.dia_gen.specs.Writing.{HasWritten, BrokeOff};
 
@@ -67,9 +67,29 @@ fn write_result<S: Shelf>(
     ensures complete { IfOk result (λ summary. 2 ^ setting.now.circuit.sources ≤ setting.now.budgets.cubes → summary.spent ≡ 0) }
     ensures err { IfErr result (λ fault. BrokeOff setting.now.circuit fault start (S.state shelf.new)) }
 {
-    let mut draft = Draft::start(alloc, setting, shelf)?;
+    match Draft::begin(alloc, setting) {
+        Ok(mut draft) => write_lines(alloc, setting, shelf, &mut draft),
+        Err(_) => Err(ShelfFault::NoMemory),
+    }
+}
+
+// Writes all lines of a result that is begun.
+fn write_lines<S: Shelf>(
+    alloc: Global,
+    setting: &Setting,
+    shelf: &mut S,
+    draft: &mut Draft,
+) -> Result<Summary, ShelfFault>
+    ghost start: { State }
+    requires start { start ≡ S.state shelf.old }
+    requires begun { IsBegun setting.now draft.old }
+    ensures ok { IfOk result (λ summary. (file : List ℕ) × IsMade setting.now.circuit setting.now.budgets summary file × HasWritten file start (S.state shelf.new)) }
+    ensures complete { IfOk result (λ summary. 2 ^ setting.now.circuit.sources ≤ setting.now.budgets.cubes → summary.spent ≡ 0) }
+    ensures err { IfErr result (λ fault. BrokeOff setting.now.circuit fault start (S.state shelf.new)) }
+{
+    draft.start(alloc, setting, shelf)?;
     draft.mark_all(alloc, setting, shelf)?;
-    write_end(alloc, setting, shelf, &draft)
+    write_end(alloc, setting, shelf, draft)
 }
 
 // Writes the lines of the classes and of the numbers, and the end.

@@ -6,8 +6,8 @@ ghost use Rattle.net_model.specs.Fault.{IsFaultOf};
 ghost use Rattle.net_model.specs.Collapse.{root};
 ghost use Rattle.dia_gen.specs.Setting as spec;
 ghost use Rattle.net_model.specs.FaultList.{fault_count, fault_numbered};
-ghost use Rattle.kept_vectors.specs.Kept.{nothing_kept};
-ghost use Rattle.kept_vectors.specs.Keeper.{keeper_with};
+ghost use Rattle.kept_vectors.specs.Kept.{Keeps, nothing_kept};
+ghost use Rattle.word_sim.specs.Stream.{stream};
 ghost use Rattle.result_file.specs.Lines.{AreWithinLimits};
 ghost use Rattle.dia_gen.specs.Setting.{setting_with};
 
@@ -92,11 +92,15 @@ impl<'a> Setting<'a> {
         self.subject.same_root(a, b)
     }
 
-    // A keeper of vectors for the circuit.
+    // A keeper of vectors for the circuit, which keeps those of the stream that it needs.
     pub(crate) fn keeper(&self, alloc: Global) -> Result<Keeper<'a>, AllocError>
-        ensures value { IfOk result (λ keeper. keeper ≡ keeper_with self.now.circuit (nothing_kept (fault_count self.now.circuit))) }
-        ensures circuit { IsCircuit self.now.circuit }
+        ensures is_circuit { IsCircuit self.now.circuit }
+        ensures limits { AreWithinLimits self.now.budgets }
+        ensures circuit { IfOk result (λ keeper. keeper.circuit ≡ self.now.circuit) }
+        ensures kept { IfOk result (λ keeper. Keeps self.now.circuit (stream self.now.circuit.sources self.now.budgets.blocks) (nothing_kept (fault_count self.now.circuit)) keeper.kept) }
     {
-        self.subject.keeper(alloc)
+        let mut keeper = self.subject.keeper(alloc)?;
+        keeper.keep_stream(self.budgets.blocks)?;
+        Ok(keeper)
     }
 }

@@ -1,7 +1,8 @@
 //! The top call.
 
-ghost use Rattle.std.specs.Prelude.{◌≡◌, ◌⊎◌, map, string_bytes, IsTrue, None};
+ghost use Rattle.std.specs.Prelude.{◌≡◌, ◌⊎◌, map, string_bytes, IsTrue, Some, None};
 ghost use Rattle.diag_shelf.specs.Calls.{Told};
+ghost use Rattle.request_words.specs.Asked.{asked, HasLimits};
 ghost use Rattle.request_words.specs.Request.{request_of};
 ghost use Rattle.dia_runs.specs.DictionaryRuns.{MakesDictionary, ConvertsDictionary, PrintsDiagnosis, DiagnosesAlike};
 ghost use Rattle.dia_commands.specs.Outputs.{outputs_of};
@@ -95,19 +96,27 @@ fn dispatch<S: Shelf>(alloc: Global, words: &[String], shelf: &mut S) -> u8
     ensures { Ran (request_of (map string_bytes words.now)) result (S.state shelf.old) (S.state shelf.new) }
 {
     match read_words(alloc, words) {
-        Ok(Request::Gen(bench, output, budgets)) => {
-            generate_file(alloc, shelf, bench, output, budgets)
-        }
-        Ok(Request::Check(bench, output)) => check_result(alloc, shelf, bench, output),
-        Ok(Request::MakeDict(kind, bench, results, output)) => {
-            make_dictionary(alloc, shelf, kind, bench, results, output)
-        }
-        Ok(Request::Convert(old, new)) => convert_file(alloc, shelf, old, new),
-        Ok(Request::Diagnose(dict, log)) => diagnose_log(alloc, shelf, dict, log),
-        Ok(Request::ListFaults(bench)) => list_faults(alloc, shelf, bench),
-        Ok(Request::Simulate(bench, vectors)) => simulate(alloc, shelf, bench, vectors),
-        Ok(Request::Synth(n, bench, output)) => synthesize(alloc, shelf, n, bench, output),
+        Ok(request) => carry_out(alloc, request, shelf),
         Err(WordsFault::NotUnderstood) => refuse_words(shelf),
         Err(WordsFault::NoMemory) => 9,
+    }
+}
+
+// Calls the command of a request.
+fn carry_out<S: Shelf>(alloc: Global, request: Request<'_>, shelf: &mut S) -> u8
+    requires { HasLimits request }
+    ensures { Ran (Some (asked request.entry)) result (S.state shelf.old) (S.state shelf.new) }
+{
+    match request {
+        Request::Gen(bench, output, budgets) => generate_file(alloc, shelf, bench, output, budgets),
+        Request::Check(bench, output) => check_result(alloc, shelf, bench, output),
+        Request::MakeDict(kind, bench, results, output) => {
+            make_dictionary(alloc, shelf, kind, bench, results, output)
+        }
+        Request::Convert(old, new) => convert_file(alloc, shelf, old, new),
+        Request::Diagnose(dict, log) => diagnose_log(alloc, shelf, dict, log),
+        Request::ListFaults(bench) => list_faults(alloc, shelf, bench),
+        Request::Simulate(bench, vectors) => simulate(alloc, shelf, bench, vectors),
+        Request::Synth(n, bench, output) => synthesize(alloc, shelf, n, bench, output),
     }
 }

@@ -21,4 +21,4 @@ returns-in-Ok g c = λ bench.
     let circuit = c.args.circuit.now in
     let read = c.in-Ok.ensures.ok in
     let is : IsValidText circuit (text_of read.0) (valid_text c.in-Ok.checked.summary) = record { records = read.0; spelled = refl; valid = read.1.valid; text_is = ap valid_text read.1.summary } in
-    result_then (says_valid circuit) (g.met.S.Shelf.sure_tells _) read.2 (says_follows (IsValidText circuit (text_of read.0)) two_read.breaks (inl refl) is c.say_valid.ensures)
+    result_then (says_valid circuit) (g.met.S.Shelf.sure_tells _) read.2 (says_follows (IsValidText circuit (text_of read.0)) two_read.breaks (inl refl) is (c.say_text.ensures (valid_text c.in-Ok.checked.summary) c.valid_text.ensures))

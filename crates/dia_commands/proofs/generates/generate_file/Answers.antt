@@ -8,7 +8,7 @@ use Rattle.dia_commands.proofs.generates.generate_file.Goals as goal
 pub returns-in-Err : goal.returns-in-Err
 returns-in-Err g c = netlist_over one_read (inr (inl refl)) (λ (design : Design). makes_result [] c.args.output.now c.args.budgets design.circuit) c.in-Err.ensures.err
 
-pub returns : goal.returns
-returns g c =
+pub returns-in-Ok : goal.returns-in-Ok
+returns-in-Ok g c =
     netlist_then (λ (design : Design). makes_result [] c.args.output.now c.args.budgets design.circuit) (g.met.S.Shelf.sure_tells _) c.in-Ok.ensures.ok
     (saved_follows [] c.args.output.now one_read.breaks (inl refl) (λ file. (inl refl, tt)) c.save_result.ensures)

@@ -1,10 +1,9 @@
-use Rattle.std.proofs.Common.{ap, Err, [], ◌∷◌, refl, sym, subst, ◌∙◌, length, arith, ◌≡◌, List, ℕ}
+use Rattle.std.proofs.Common.{ap, Err, [], refl, sym, ◌∙◌, length, List, ℕ}
 use Rattle.std.proofs.Math.Nat.{le_refl}
 use Rattle.std.proofs.lemmas.List.{take_all}
 use Rattle.dia_gen.specs.Made.{IsMade}
 use Rattle.dia_commands.specs.Texts.{summary_text}
-use Rattle.dia_commands.specs.Outcome.{saved, IsPartOf}
-use Rattle.dia_commands.proofs.Runs.{ends_after, ends_silent, part_after, told_file}
+use Rattle.dia_commands.proofs.Runs.{ends_after, part_after, told_file}
 use Rattle.dia_commands.proofs.Generated.{whole_result, cut_result, saves_none, saves_cut}
 use Rattle.dia_commands.proofs.generates.save_result.Goals as goal
 
@@ -20,34 +19,16 @@ returns-in-Err-generate g c =
     (λ s e. absurd (c.in-Err-generate.ensures.never s (ap Err e)))
     c.write_status-in-Err-generate.ensures
 
-pub returns-in_default-summary_text : goal.returns-in_default-summary_text
-returns-in_default-summary_text g c =
+pub returns-in-Ok : goal.returns-in-Ok
+returns-in-Ok g c =
     let P : List ℕ → Type 0 = λ file. IsMade c.args.circuit.now c.args.budgets c.in-Ok.summary file in
     let state = g.S.Shelf.state in
     let f = told_file P (state c.create_file.new.self) (state c.generate.new.shelf) c.in-Ok.ensures.written in
     let text = summary_text c.in-Ok.summary in
-    let output = c.args.output.now in
     record {
       file = f.0;
       text = text;
-      ends = ends_after (λ told m t part. whole_result c.in-Ok.summary f.0 (f.2 (c.in_default.ensures.call.tells ∙ told)) (part_after output f.0 text [] m t part))
-          c.in_default.ensures.call c.in_default.ensures.created c.in-Ok.ensures.call f.1 (ends_silent (omega arith));
-      made = λ z. absurd (omega arith);
-    }
-
-pub returns : goal.returns
-returns g c =
-    let P : List ℕ → Type 0 = λ file. IsMade c.args.circuit.now c.args.budgets c.in-Ok.summary file in
-    let state = g.S.Shelf.state in
-    let f = told_file P (state c.create_file.new.self) (state c.generate.new.shelf) c.in-Ok.ensures.written in
-    let said_text = c.as_bytes.result.now in
-    let text : said_text ≡ summary_text c.in-Ok.summary = c.as_bytes.ensures.value ∙ c.in-Ok-summary_text.ensures in
-    let output = c.args.output.now in
-    record {
-      file = f.0;
-      text = said_text;
-      ends = ends_after (λ told m t part.
-          whole_result c.in-Ok.summary f.0 (f.2 (c.in_default.ensures.call.tells ∙ told)) (subst (λ (x : List ℕ). IsPartOf (saved ((output, f.0) ∷ []) x) ((output, f.0) ∷ m) t) text (part_after output f.0 said_text [] m t part)))
-          c.in_default.ensures.call c.in_default.ensures.created c.in-Ok.ensures.call f.1 c.say.ensures;
-      made = λ z told. (c.in-Ok.summary, f.2 (c.in_default.ensures.call.tells ∙ told), text);
+      ends = ends_after (λ told m t part. whole_result c.in-Ok.summary f.0 (f.2 (c.in_default.ensures.call.tells ∙ told)) (part_after c.args.output.now f.0 text [] m t part))
+          c.in_default.ensures.call c.in_default.ensures.created c.in-Ok.ensures.call f.1 (c.say_text.ensures text c.summary_text.ensures);
+      made = λ z told. (c.in-Ok.summary, f.2 (c.in_default.ensures.call.tells ∙ told), refl);
     }

@@ -1,6 +1,4 @@
-use Rattle.std.proofs.Common.{arith}
-use Rattle.dia_commands.proofs.Runs.{ends_silent}
 use Rattle.dia_commands.proofs.logs.say_refusal.Goals as goal
 
-pub returns-in-Err : goal.returns-in-Err
-returns-in-Err g c = ends_silent (omega arith)
+pub returns : goal.returns
+returns g c = c.say_text.ensures _ c.log_text.ensures
