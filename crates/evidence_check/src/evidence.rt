@@ -19,8 +19,8 @@ use refute_check::{CheckFault, EvidenceKind, check_log, check_tree};
 use result_file::{Budgets, Evidence, Proof};
 use std::alloc::Global;
 
-/// Checks the proof of evidence within the budgets. The pool is empty, and stays so where the proof is right. Where it isn't,
-/// the answer has the rule that it breaks, and the token or chain that breaks it.
+/// Checks the proof of evidence within the budgets. The pool is empty, and is so again whatever is answered. Where the proof isn't
+/// right, the answer has the rule that it breaks, and the token or chain that breaks it.
 pub fn check_evidence(
     alloc: Global,
     subject: &Subject,
@@ -34,7 +34,7 @@ pub fn check_evidence(
     requires conflicts { budgets.conflicts ≤ 100000 }
     ensures right { OnOk result (IsRightProof subject.now (fault_numbered subject.now evidence.now.partner) (fault_numbered subject.now evidence.now.member) budgets evidence.now.proof) }
     ensures refused { (refusal : Refusal) → IsErrOf result (CheckFault.Refused refusal) → ProofRefused subject.now (fault_numbered subject.now evidence.now.partner) (fault_numbered subject.now evidence.now.member) budgets evidence.now.proof refusal }
-    ensures emptied { OnOk result (pool.new.clauses ≡ []) }
+    ensures emptied { pool.new.clauses ≡ [] }
 {
     let f = subject.fault(evidence.partner);
     let g = subject.fault(evidence.member);
@@ -65,7 +65,7 @@ fn check_proof(
     requires conflicts { budgets.conflicts ≤ 100000 }
     ensures right { OnOk result (IsRightProof circuit.now f.now g.now budgets proof.now) }
     ensures refused { (refusal : Refusal) → IsErrOf result (CheckFault.Refused refusal) → ProofRefused circuit.now f.now g.now budgets proof.now refusal }
-    ensures emptied { OnOk result (pool.new.clauses ≡ []) }
+    ensures emptied { pool.new.clauses ≡ [] }
 {
     match proof {
         Proof::Collapse => Ok(()),
@@ -104,13 +104,13 @@ fn check_pair(
     ensures tree { OnOk result (IsRightTree circuit.now f.now g.now kind budgets.cubes tree.now) }
     ensures log { OnOk result (IsRightLog kind (miter circuit.now f.now g.now) budgets.conflicts log.now) }
     ensures refused { (refusal : Refusal) → IsErrOf result (CheckFault.Refused refusal) → PairRefused circuit.now f.now g.now kind budgets tree.now log.now refusal }
-    ensures emptied { OnOk result (pool.new.clauses ≡ []) }
+    ensures emptied { pool.new.clauses ≡ [] }
 {
     check_tree(alloc, circuit, f, g, tree, kind, budgets.cubes)?;
     miter_is_small();
     let empty = pool.mark();
     let miter = build(alloc, circuit, f, g, pool)?;
-    check_log(alloc, &miter, pool, log, kind, budgets.conflicts)?;
+    let checked = check_log(alloc, &miter, pool, log, kind, budgets.conflicts);
     pool.release(empty);
-    Ok(())
+    checked
 }

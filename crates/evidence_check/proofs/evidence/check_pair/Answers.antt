@@ -7,7 +7,6 @@ returns-in_err-check_tree-clause-refused c =
     let p = err_from_is_err_and c.from_residual.result c.from_residual.ensures.1 in
     rw (p.1, p.2) (λ refusal is. by_tree (c.in_err-check_tree.ensures.refused refusal is))
 
-pub returns-in_err-check_log-clause-refused : goal.returns-in_err-check_log-clause-refused
-returns-in_err-check_log-clause-refused c =
-    let p = err_from_is_err_and c.from_residual-in_err-check_log.result c.from_residual-in_err-check_log.ensures.1 in
-    rw (p.1, p.2) (λ refusal is. by_log c.in_ok-check_tree.ensures.right (rw c.in_ok-miter.ensures.clauses at (c.in_err-check_log.ensures.refused refusal is)))
+pub returns-clause-refused : goal.returns-clause-refused
+returns-clause-refused c = λ refusal is.
+    by_log c.in_ok-check_tree.ensures.right (rw c.in_ok-miter.ensures.clauses at (c.check_log-checked.ensures.refused refusal is))
