@@ -1,9 +1,5 @@
-//! Tests of tester logs, of lists of vectors, and of the fault numbers that a log points to.
+//! Tests of tester logs, of lists of vectors, of the fault numbers that a log points to, and of the texts of simulations.
 #![tactic(auto)]
 
 #[cfg(test)]
-mod lists;
-#[cfg(test)]
-mod logs;
-#[cfg(test)]
-mod refused;
+mod tests;

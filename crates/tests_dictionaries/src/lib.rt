@@ -1,11 +1,5 @@
-//! Tests of tables of answers and of the dictionaries made of them, on small circuits and tables that were worked out by hand.
+//! Tests of tables of answers, of the dictionaries made of them and of the choice of baselines, on small ones worked out by hand.
 #![tactic(auto)]
 
 #[cfg(test)]
-mod circuits;
-#[cfg(test)]
-mod rows;
-#[cfg(test)]
-mod spelled;
-#[cfg(test)]
-mod tables;
+mod tests;

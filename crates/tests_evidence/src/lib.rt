@@ -1,9 +1,5 @@
-//! Tests of what evidence is made of: pools of clauses, unit propagation over them, miters, and chains. A module tests a crate.
+//! Tests of what evidence is made of, and of its checker, with logs and trees worked out by hand and with what the solver answers.
 #![tactic(auto)]
 
 #[cfg(test)]
-mod miters;
-#[cfg(test)]
-mod pools;
-#[cfg(test)]
-mod trails;
+mod tests;

@@ -1,11 +1,5 @@
-//! Tests of the public calls of result_file: what is written and read, beyond what the contracts say.
+//! Tests of how records are written and read, beyond what the contracts say, and of the check of result files.
 #![tactic(auto)]
 
 #[cfg(test)]
-mod lines;
-#[cfg(test)]
-mod logs;
-#[cfg(test)]
-mod pieces;
-#[cfg(test)]
-mod reading;
+mod tests;

@@ -1,7 +1,5 @@
-//! Tests of the simulators, against values worked out by hand. A module tests a crate.
+//! Tests of the simulators, of the class table, and of pair sets and the search, against values worked out by hand.
 #![tactic(auto)]
 
 #[cfg(test)]
-mod injected;
-#[cfg(test)]
-mod lanes;
+mod tests;

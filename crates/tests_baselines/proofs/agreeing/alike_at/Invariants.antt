@@ -1,5 +1,0 @@
-use Rattle.tests_baselines.specs.Leads.{AnswerAsLeads}
-use Rattle.tests_baselines.proofs.agreeing.alike_at.Given as goal
-
-abbrev pub invariant-loop-number : goal.invariant-loop-number
-invariant-loop-number l = AnswerAsLeads l.classes l.table l.pattern l.number

@@ -1,0 +1,9 @@
+//! The modules, by what they test.
+
+mod collapsing;
+mod cuts;
+mod listing;
+mod model;
+mod queue;
+mod shelves;
+mod texts;

@@ -1,5 +1,0 @@
-//! Tests of the class table.
-#![tactic(auto)]
-
-#[cfg(test)]
-mod refined;

@@ -1,0 +1,9 @@
+//! The modules, by what they test.
+
+mod agreeing;
+mod chosen;
+mod circuits;
+mod made;
+mod rows;
+mod spelled;
+mod tables;

@@ -1,0 +1,11 @@
+//! The modules, by what they test.
+
+mod known;
+mod lines;
+mod logs;
+mod outcome;
+mod pieces;
+mod reading;
+mod refused;
+mod texts;
+mod valid;

@@ -1,0 +1,7 @@
+//! The modules, by what they test.
+
+mod cubes;
+mod injected;
+mod lanes;
+mod refined;
+mod searches;
