@@ -1,11 +1,11 @@
 -- What the fields of `Statements` show, and what is true of them.
 use Rattle.bench_reader.specs.declared.statement.Statements.TheInside.{Inside}
 use Rattle.bench_reader.specs.Netlist.{Netlist}
-use Rattle.bench_reader.specs.Names.{texts_in}
+use Rattle.bench_reader.specs.Names.{texts_of_names}
 use Rattle.bench_reader.specs.Driven.{IsDriven}
 
 abbrev pub netlist_in : Inside → Netlist
-netlist_in a = record { statements = a.statements.items; names = texts_in a.names }
+netlist_in a = record { statements = a.statements.items; names = texts_of_names a.names.items }
 
 abbrev pub IsSound : Inside → Type 0
 IsSound a = IsDriven (netlist_in a)

@@ -9,6 +9,9 @@ use Rattle.bench_reader.specs.Tokens.{Text}
 abbrev pub NameSet : Type 0
 NameSet = IndexSet (Vec ℕ Global) (BuildHasherDefault FoldHasher)
 
+abbrev pub texts_of_names : List (Vec ℕ Global) → List Text
+texts_of_names names = map (λ v. v.items) names
+
 -- the names by number
 abbrev pub texts_in : NameSet → List Text
-texts_in names = map (λ v. v.items) names.keys
+texts_in names = texts_of_names names.keys

@@ -1,7 +1,7 @@
 -- What the fields of parsed statements show.
 use Rattle.bench_reader.specs.declared.parsed.Parsed.TheInside.{Inside}
 use Rattle.bench_reader.specs.Netlist.{Netlist}
-use Rattle.bench_reader.specs.Names.{texts_in}
+use Rattle.bench_reader.specs.Names.{texts_of_names}
 
 abbrev pub parsed_in : Inside → Netlist
-parsed_in a = record { statements = a.statements.items; names = texts_in a.names }
+parsed_in a = record { statements = a.statements.items; names = texts_of_names a.names.items }

@@ -1,13 +1,12 @@
 //! The statements of a text, before it is judged which names are driven.
 use crate::statement::Statement;
-use indexmap::IndexSet;
 use std::marker::Model;
 
 /// The statements in order, and the names by number.
 #[derive(Drop)]
 pub(crate) struct Parsed {
     pub(crate) statements: Vec<Statement>,
-    pub(crate) names: IndexSet<Vec<u8>>,
+    pub(crate) names: Vec<Vec<u8>>,
 }
 
 impl Model for Parsed {

@@ -22,6 +22,7 @@ pub(crate) fn parse(alloc: Global, bytes: &[u8]) -> Result<Parsed, NetFault>
     let mut statements = Vec::new(alloc);
     let mut names = IndexSet::new(alloc);
     add_statements(alloc, bytes, &mut statements, &mut names)?;
+    let names = names.into_iter().collect(alloc)?;
     Ok(Parsed { statements, names })
 }
 

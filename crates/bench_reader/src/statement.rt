@@ -3,7 +3,6 @@ ghost use Rattle.std.specs.Prelude.{◌≡◌, ◌<◌, ◌++◌, ◌∷◌, [],
 ghost use Rattle.bench_reader.specs.Driven.{IsDriven};
 
 use crate::fault::Place;
-use indexmap::IndexSet;
 use net_model::Kind;
 use smallvec::SmallVec;
 use std::alloc::{AllocError, Global};
@@ -71,7 +70,7 @@ pub enum Statement {
 /// The statements of a netlist, and its names by number.
 pub struct Statements {
     pub(crate) statements: Vec<Statement>,
-    pub(crate) names: IndexSet<Vec<u8>>,
+    pub(crate) names: Vec<Vec<u8>>,
 }
 
 // Written out, it is one step in the proof of each function that lets statements go, where a derived one is a step for

@@ -15,11 +15,12 @@ fault_of-requires-clause-driven c = c.as_slice.ensures.value ∙ c.in_ok-driven.
 
 pub fault_of-requires-clause-numbered : goal.fault_of-requires-clause-numbered
 fault_of-requires-clause-numbered c =
-    let keys = c.parsed.inside.names.keys in
+    let keys = c.parsed.inside.names.items in
     let now = c.args.parsed.now in
     let made : c.in_ok-marks.marks.items ≡ replicate c.len.result false = c.in_ok-marks.ensures.items_if_clones_equal (λ y e. e) in
+    let len : c.len.result ≡ length keys = c.len.ensures ∙ c.parsed.inside.names.ok.0 in
     let count : length c.as_mut_slice.result.now ≡ length now.names =
-    ap length (c.as_mut_slice.ensures.value ∙ made) ∙ length-replicate c.len.result false ∙ c.len.ensures.len ∙ sym (length_mapped keys) ∙ ap (λ (n : Netlist). length n.names) c.parsed.view_is in
+    ap length (c.as_mut_slice.ensures.value ∙ made) ∙ length-replicate c.len.result false ∙ len ∙ sym (length_mapped keys) ∙ ap (λ (n : Netlist). length n.names) c.parsed.view_is in
     let statements : c.as_slice-statements.result.now ≡ now.statements = c.as_slice-statements.ensures.value ∙ ap (λ (n : Netlist). n.statements) c.parsed.view_is in
     subst (λ n. AreNumbered n c.as_slice-statements.result.now) (sym count) (subst (AreNumbered (length now.names)) (sym statements) c.requires)
 

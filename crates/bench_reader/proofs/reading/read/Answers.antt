@@ -2,7 +2,7 @@ use Rattle.std.proofs.Common.{◌≡◌, ◌≤◌, length, None, sym, subst, ar
 use Rattle.std.specs.Prelude.{sum_by}
 use Rattle.std.proofs.lemmas.Result.{err_from_is_err_and}
 use Rattle.bench_reader.specs.Netlist.{Netlist}
-use Rattle.bench_reader.specs.Names.{texts_in}
+use Rattle.bench_reader.specs.Names.{texts_of_names}
 use Rattle.bench_reader.specs.Reading.{IsNetlist}
 use Rattle.bench_reader.specs.Driven.{IsDriven, statement_size}
 use Rattle.bench_reader.specs.Drivers.{driver_fault}
@@ -22,7 +22,7 @@ invariant_of-result c =
     let few : length n.names ≤ 16777216 = omega (arith, few_names text n p, p.is_text.short) in
     let small : sum_by statement_size n.statements ≤ 16777216 = omega (arith, small_statements text n p, p.is_text.short) in
     let driven : IsDriven n = all_driven text n p none few small in
-    let e : ◌≡◌ {A = Netlist} (record { statements = c.parsed.inside.statements.items; names = texts_in c.parsed.inside.names }) n = c.parsed.view_is in
+    let e : ◌≡◌ {A = Netlist} (record { statements = c.parsed.inside.statements.items; names = texts_of_names c.parsed.inside.names.items }) n = c.parsed.view_is in
     subst (λ (m : Netlist). IsDriven m) (sym e) driven
 
 pub returns-in_err-judge-clause-refused : goal.returns-in_err-judge-clause-refused
@@ -36,5 +36,5 @@ returns-clause-ok c =
     let n = c.in_ok-parsed.parsed in
     let none : driver_fault n.statements ≡ None = c.in_ok-judge.ensures.ok in
     let read : IsNetlist text n = accepted text n c.in_ok-parsed.ensures.ok none in
-    let e : ◌≡◌ {A = Netlist} (record { statements = c.parsed.inside.statements.items; names = texts_in c.parsed.inside.names }) n = c.parsed.view_is in
+    let e : ◌≡◌ {A = Netlist} (record { statements = c.parsed.inside.statements.items; names = texts_of_names c.parsed.inside.names.items }) n = c.parsed.view_is in
     subst (λ (m : Netlist). IsNetlist text m) (sym e) read
