@@ -1,10 +1,15 @@
 -- Rows that are set and cleared.
-use Rattle.std.proofs.Common.{◌≢◌, ℕ, ◌<◌, List, [], ◌∷◌, ◌++◌, length, get_or, set, sym, subst, arith, inl, inr}
+use Rattle.std.proofs.Common.{◌≡◌, ◌≢◌, ℕ, ◌<◌, List, [], ◌∷◌, ◌++◌, length, get_or, replicate, set, sym, ap, ◌∙◌, subst, arith, inl, inr}
 use Rattle.std.specs.Prelude.{Bool, Contains, All}
 use Rattle.std.proofs.lemmas.Bool.{cases_eq}
-use Rattle.std.proofs.lemmas.List.{get_or-set_same, get_or-set_other, length-set}
+use Rattle.std.proofs.lemmas.List.{get_or-set_same, get_or-set_other, get_or-replicate, length-replicate, length-set}
 use Rattle.std.proofs.lemmas.List.Elements.{Contains-append_left, Contains-push, Contains-push_cases}
 use Rattle.fault_sim.specs.Rows.{IsFalse, AreFalseBut}
+
+pub false_rows : (rows : List (List Bool)) (count : ℕ) (row : List Bool) → rows ≡ replicate count row → IsFalse row → AreFalseBut [] rows
+false_rows rows count row e none k inside apart =
+    let within : k < count = omega (arith, ap length e, length-replicate count row) in
+    subst IsFalse (sym (ap (λ l. get_or l k []) e ∙ get_or-replicate count k row [] within)) none
 
 pub within_set : (rows : List (List Bool)) (at : ℕ) (row : List Bool) (listed : List ℕ) → All (λ k. k < length rows) listed → All (λ k. k < length (set rows at row)) listed
 within_set rows at row listed h = subst (λ n. All (λ k. k < n) listed) (sym (length-set rows at row)) h

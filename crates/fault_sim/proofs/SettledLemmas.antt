@@ -20,8 +20,8 @@ use Rattle.event_queue.specs.Pending.{is_pending}
 use Rattle.fault_sim.specs.Rows.{IsFalse, AreFalseBut}
 use Rattle.net_model.specs.Wiring.{Wiring, IsWiring}
 use Rattle.net_model.specs.Gate.{inverted}
-use Rattle.fault_sim.specs.FaultyLanes.{faulty_bits, vector_at, IsFreeLane, IsSettledLine}
-use Rattle.fault_sim.specs.Events.{IsIdle, AreSettled, AreIdleSettled, AreIdleSettledBut}
+use Rattle.fault_sim.specs.FaultyLanes.{faulty_bits, vector_at, IsFreeLane, IsFalsePast, IsSettledLine}
+use Rattle.fault_sim.specs.Events.{IsIdle, AreSettled, AreIdleSettled, AreIdleSettledBut, AreFalsePast}
 use Rattle.fault_sim.proofs.FaultyLemmas.{length-faulty, faulty_at}
 
 -- ---- bits
@@ -132,3 +132,13 @@ settled_all good f rows width settled lane free at = record {
   whole = length-faulty free rows lane ∙ width;
   each = λ line h. settled lane free at line h;
 }
+
+pub past_set : (good : GoodSim) (rows : List (List Bool)) (line : ℕ) (row : List Bool) → AreFalsePast good rows → IsFalsePast good row → AreFalsePast good (set rows line row)
+past_set good rows line row was here k inside =
+    let old : k < length rows = omega (arith, length-set rows line row) in
+    elim (cases_eq k line) [
+      | inl same ↦
+          let P : ℕ → Type 0 = λ j. IsFalsePast good (get_or (set rows line row) j []) in
+          subst P (sym same) (subst (IsFalsePast good) (sym (get_or-set_same rows line row [] (subst (λ j. j < length rows) same old))) here)
+      | inr ne ↦ subst (IsFalsePast good) (sym (get_or-set_other rows line k row [] ne)) (was k old)
+    ]

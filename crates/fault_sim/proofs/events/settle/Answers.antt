@@ -1,11 +1,13 @@
 use Rattle.std.proofs.Common.{◌≡◌, ◌<◌, ◌∙◌, ℕ, [], length, get_or, sym, ap, arith, subst, inl, inr}
 use Rattle.std.specs.Prelude.{Contains}
+use Rattle.std.proofs.lemmas.List.{length-set, length_push}
 use Rattle.std.proofs.lemmas.List.Elements.{Contains-get_or}
 use Rattle.net_model.specs.Gate.{inverted}
 use Rattle.net_model.specs.Answer.{bit_at}
 use Rattle.word_sim.specs.declared.lanes.TheConstants.{LANES}
-use Rattle.fault_sim.specs.Events.{AreIdleSettled}
-use Rattle.fault_sim.proofs.SettledLemmas.{inverted_false, none_true, settled_same, settled_changed}
+use Rattle.fault_sim.specs.Rows.{Rows}
+use Rattle.fault_sim.specs.Events.{AreIdleSettled, AreFalsePast}
+use Rattle.fault_sim.proofs.SettledLemmas.{inverted_false, none_true, past_set, settled_same, settled_changed}
 use Rattle.fault_sim.proofs.events.settle.Goals as goal
 
 pub returns-then-not-any-clause-settled : goal.returns-then-not-any-clause-settled
@@ -48,3 +50,28 @@ returns-clause-settled c =
     (settled_changed good c.args.fault wiring c.requires.wiring.circuit c.requires.wiring c.args.queue.now c.wake.new.self rows line c.line_change-row.result c.requires.underway.width inside c.requires.settled
     (rw c.as_slice.ensures.value at c.line_change-row.ensures.live)
     c.wake.ensures.kept (λ n has. c.wake.ensures.here n (subst (λ us. Contains us n) (sym c.readers.ensures) has)))
+
+pub returns-clause-listed : goal.returns-clause-listed
+returns-clause-listed c = omega (arith, ap (λ (r : Rows). length r.listed) c.set.ensures, length_push c.args.rows.now.listed c.args.line)
+
+pub returns-clause-underway : goal.returns-clause-underway
+returns-clause-underway c =
+    let was = c.requires.underway in
+    let rows = c.args.rows.now.rows in
+    let line = c.args.line in
+    let row = c.line_change-row.result in
+    let new = ap (λ (r : Rows). r.rows) c.set.ensures in
+    record {
+      width = ap length new ∙ length-set rows line row ∙ was.width;
+      queue_room = omega (arith, was.queue_room, c.wake.ensures.room);
+      past = subst (AreFalsePast c.args.good.now) (sym new) (past_set c.args.good.now rows line row was.past c.line_change-row.ensures.past);
+    }
+
+pub returns-then-not-any-clause-pending : goal.returns-then-not-any-clause-pending
+returns-then-not-any-clause-pending c = λ place was. inl was
+
+pub returns-then-not-any-clause-underway : goal.returns-then-not-any-clause-underway
+returns-then-not-any-clause-underway c = c.requires.underway
+
+pub set-requires-clause-within : goal.set-requires-clause-within
+set-requires-clause-within c = omega (arith, c.requires.underway.width, c.requires.line)
