@@ -2,7 +2,8 @@ use Rattle.std.proofs.Common.{◌≡◌, ◌∙◌, ◌<◌, ◌+◌, ◌++◌, 
 use Rattle.std.specs.List.{range_with_len}
 use Rattle.std.specs.Vec.{with_items}
 use Rattle.std.proofs.lemmas.List.{with_items_is, length-map}
-use Rattle.net_model.specs.ClassTable.{ClassTable, class_count, new_lowest, class_after, refined_table}
+use Rattle.std.proofs.lemmas.Result.{IfOk-from_err}
+use Rattle.net_model.specs.ClassTable.{ClassTable, class_at, class_count, new_lowest, class_after, refined_table}
 use Rattle.class_refine.specs.Fields.{IsKept, table_with}
 use Rattle.class_refine.specs.Steps.{piece_of, AreLeaving}
 use Rattle.class_refine.proofs.Refined.{few_classes, count-refined}
@@ -107,3 +108,36 @@ returns-clause-cut c row leave =
       refined = λ some. table at.After-enter_classes row leave (groups at.In_ok-append row leave);
       unchanged = λ none. absurd (omega (arith, none, c.if-added-eq0.false));
     }
+
+-- ---- out of memory
+
+pub invariant_of-self : goal.invariant_of-self
+invariant_of-self c = rw c.in_err-reserve.ensures.items c.self.invariant
+
+pub invariant_of-self-in_err-append : goal.invariant_of-self-in_err-append
+invariant_of-self-in_err-append c = rw (c.in_ok-reserve.ensures.items, c.in_err-append.ensures.items) c.self.invariant
+
+pub returns-in_err-reserve-clause-cut : goal.returns-in_err-reserve-clause-cut
+returns-in_err-reserve-clause-cut c = IfOk-from_err c.from_residual.result _ c.from_residual.ensures.0
+
+pub returns-in_err-append-clause-cut : goal.returns-in_err-append-clause-cut
+returns-in_err-append-clause-cut c = IfOk-from_err c.from_residual-in_err-append.result _ c.from_residual-in_err-append.ensures.0
+
+pub add_births-requires : goal.add_births-requires
+add_births-requires c =
+    let t = c.args.self.now in
+    let row = c.requires.0 in
+    omega (arith, c.in_ok-reserve.ensures.ok, ap length (c.as_slice-parents.ensures.value ∙ c.requires.1.parents_are), length-map (new_lowest t row) (class_at t), added ((goal.at.add_births-requires c).After-len-added) row c.requires.1)
+
+pub returns-in_err-reserve-clause-numbers : goal.returns-in_err-reserve-clause-numbers
+returns-in_err-reserve-clause-numbers c = ap (λ (t : ClassTable). length t.class_of) c.self.view_is
+
+pub returns-in_err-append-clause-numbers : goal.returns-in_err-append-clause-numbers
+returns-in_err-append-clause-numbers c = ap (λ (t : ClassTable). length t.class_of) c.self.view_is
+
+pub returns-clause-numbers : goal.returns-clause-numbers
+returns-clause-numbers c =
+    let old = c.self.inside.class_of in
+    let new = c.enter_classes.new.class_of in
+    let same = c.enter_classes.auto.class_of ∙ ap length c.as_mut_slice.ensures.value in
+    ap length (with_items_is old new (omega (arith, c.enter_classes.auto.class_of, c.as_mut_slice.ensures.len))) ∙ same ∙ ap (λ (t : ClassTable). length t.class_of) c.self.view_is
