@@ -40,3 +40,17 @@ returns-clause-block c = λ sources done before.
     let drawn = rw wide at c.draw_blocks.ensures.rows in
     (λ i. block_with (length (same i)) (columns (same i) (64 * count)))
     ∙ (λ i. block_with (same_width i) (drawn_blocks sources done count new (λ lane h. drawn done lane after h) i))
+
+pub invariant_of-block : goal.invariant_of-block
+invariant_of-block c = record {
+  few = omega (arith, c.min-filled.ensures);
+  short = rw (with_items_is c.block.inside.rows c.draw_blocks.new.rows (omega (arith, c.draw_blocks.auto.rows, c.deref_mut.ensures.len)))
+      (omega (arith, c.draw_blocks.auto.rows, c.deref_mut.ensures.len, c.block.inside.rows.ok.0, c.block.invariant.short));
+}
+
+pub returns-clause-sources : goal.returns-clause-sources
+returns-clause-sources c =
+    let new = c.draw_blocks.new.rows in
+    let wide : length new ≡ c.args.self.now.sources =
+    omega (arith, c.draw_blocks.auto.rows, c.deref_mut.ensures.len, c.block.inside.rows.ok.0, c.requires.sources, ap (λ (b : Block). b.sources) c.block.view_is) in
+    ap length (with_items_is c.block.inside.rows new (omega (arith, c.draw_blocks.auto.rows, c.deref_mut.ensures.len))) ∙ wide

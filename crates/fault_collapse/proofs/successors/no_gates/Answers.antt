@@ -1,6 +1,0 @@
-use Rattle.std.proofs.Common.{◌∙◌, ◌++◌, ◌∷◌, [], None, ap}
-use Rattle.std.proofs.lemmas.List.{replicate_more}
-use Rattle.fault_collapse.proofs.successors.no_gates.Goals as goal
-
-pub loop-preserved : goal.loop-preserved
-loop-preserved c = c.in_ok-push.ensures.items ∙ ap (λ gates. gates ++ None ∷ []) c.loop.invariant ∙ replicate_more c.loop.counter None
