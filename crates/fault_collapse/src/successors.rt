@@ -33,11 +33,7 @@ pub(crate) fn sole_gates(
 fn no_gates(alloc: Global, lines: u32) -> Result<Vec<Option<u32>>, AllocError>
     ensures { IfOk result (λ gates. gates.items ≡ replicate lines None) }
 {
-    let mut gates = Vec::with_capacity(alloc, lines as usize)?;
-    for _ in 0..lines {
-        gates.push(None)?;
-    }
-    Ok(gates)
+    vec![in alloc; None; lines as usize]
 }
 
 // Notes a gate at the lines whose sole destinations are its pins. Such a pin has no number of its own.
