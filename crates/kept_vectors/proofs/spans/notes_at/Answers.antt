@@ -1,11 +1,11 @@
-use Rattle.std.proofs.Common.{◌≡◌, ◌∙◌, ◌<◌, ◌+◌, ◌++◌, ◌∷◌, ℕ, [], List, cond, length, get_or, take, sym, ap}
+use Rattle.std.proofs.Common.{◌≡◌, ◌∙◌, ◌<◌, ◌≤◌, ◌+◌, ◌++◌, ◌∷◌, ℕ, [], List, cond, length, get_or, take, sym, ap, arith, subst}
 use Rattle.std.specs.Prelude.{filter, flat_map, slice_range}
-use Rattle.std.proofs.lemmas.List.{append-nil, take_more}
+use Rattle.std.proofs.lemmas.List.{append-nil, take_more, take_all}
 use Rattle.std.proofs.lemmas.Grind.{flat_map-append}
 use Rattle.net_model.specs.Answer.{bit_at}
 use Rattle.kept_vectors.specs.declared.notes.Note.{Note}
 use Rattle.kept_vectors.specs.declared.spans.Span.{Span}
-use Rattle.kept_vectors.specs.Spans.{lane_notes, span_notes}
+use Rattle.kept_vectors.specs.Spans.{lane_notes, span_notes, ArePartsOf}
 use Rattle.kept_vectors.proofs.spans.notes_at.Goals as goal
 
 -- what is noted in one more span
@@ -38,3 +38,15 @@ loop-span-preserved c =
     let some : span_notes notes lane span ≡ part = ap (λ b. cond b part []) (sym c.if-not-get.ensures.value) in
     c.in_ok-pick.ensures ∙ (ap (λ (ns : List Note). ns ++ part) c.loop-span.invariant
     ∙ sym (one_more notes lane spans i span c.loop-span-test.true c.span-item.is ∙ ap (λ (ns : List Note). lane_notes (take i spans) notes lane ++ ns) some))
+
+part : (notes : List Note) (spans : List Span) (i : ℕ) (span : Span) → ArePartsOf notes spans → i < length spans → span ≡ get_or spans i span → (span.start ≤ span.end) × (span.end ≤ length notes)
+part notes spans i span parts h is = subst (λ (s : Span). (s.start ≤ s.end) × (s.end ≤ length notes)) (sym is) (parts i span h)
+
+pub slice_bounds-pick-start : goal.slice_bounds-pick-start
+slice_bounds-pick-start c = omega (arith, part c.args.notes.now c.args.spans.now c.loop-span.span-index c.span-item.result c.requires.spans c.loop-span-test.true c.span-item.is)
+
+pub slice_bounds-pick-end : goal.slice_bounds-pick-end
+slice_bounds-pick-end c = omega (arith, part c.args.notes.now c.args.spans.now c.loop-span.span-index c.span-item.result c.requires.spans c.loop-span-test.true c.span-item.is)
+
+pub returns : goal.returns
+returns c = c.loop-span.invariant ∙ ap (λ (spans : List Span). lane_notes spans c.args.notes.now c.args.lane) (take_all c.loop-span.span-index c.args.spans.now c.loop-span-test.false)

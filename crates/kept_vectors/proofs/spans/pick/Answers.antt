@@ -1,6 +1,6 @@
 use Rattle.std.proofs.Common.{◌≡◌, ◌∙◌, ◌<◌, ◌+◌, ◌++◌, ◌∷◌, ℕ, Bool, true, false, [], List, cond, length, get_or, take, sym, ap}
 use Rattle.std.specs.Prelude.{filter}
-use Rattle.std.proofs.lemmas.List.{append-nil, append_assoc}
+use Rattle.std.proofs.lemmas.List.{append-nil, append_assoc, take_all}
 use Rattle.std.proofs.lemmas.List.Elements.{filter_more}
 use Rattle.net_model.specs.Answer.{bit_at}
 use Rattle.kept_vectors.specs.declared.notes.Note.{Note}
@@ -31,3 +31,11 @@ loop-note-preserved c =
     let test : Note → Bool = λ n. bit_at n.lanes c.args.lane in
     c.in_ok-push.ensures.items ∙ (ap (λ (ns : List Note). ns ++ note ∷ []) c.loop-note.invariant
     ∙ (append_assoc old (filter test (take i notes)) (note ∷ []) ∙ ap (λ (ns : List Note). old ++ ns) (sym (kept test notes i note c.loop-note-test.true c.note-item.is c.if-not-get.ensures.value))))
+
+pub loop-note-init : goal.loop-note-init
+loop-note-init c = sym (append-nil c.args.picked.now.items)
+
+pub returns : goal.returns
+returns c =
+    let old = c.args.picked.now.items in
+    c.loop-note.invariant ∙ ap (λ (ns : List Note). old ++ filter (λ n. bit_at n.lanes c.args.lane) ns) (take_all c.loop-note.note-index c.args.notes.now c.loop-note-test.false)

@@ -127,3 +127,32 @@ returns-clause-alike c m n lane hm hn live none =
     alike_by_third good c.requires.run.circuit first m n lane
     (subst (λ k. AreAlikeAt good lane first k) (at_place group m hm) (so_far.alike hm.0 lane (omega (arith, hm.1, c.loop-at-test.false)) live none))
     (subst (λ k. AreAlikeAt good lane first k) (at_place group n hn) (so_far.alike hn.0 lane (omega (arith, hn.1, c.loop-at-test.false)) live none))
+
+-- ---- what the loop keeps
+
+pub note_member-requires : goal.note_member-requires
+note_member-requires c =
+    let so_far = c.loop-at.invariant in
+    record {
+      run = c.requires.run;
+      inside = c.requires.inside;
+      room = c.requires.room;
+      of = so_far.of;
+      at = c.loop-at-test.true;
+      lead = so_far.lead;
+      spans = so_far.spans;
+      start = so_far.start;
+      alike = so_far.alike;
+    }
+
+pub returns-clause-of : goal.returns-clause-of
+returns-clause-of c = c.loop-at.invariant.of
+
+pub returns-clause-spans : goal.returns-clause-spans
+returns-clause-spans c = c.loop-at.invariant.kept
+
+pub returns-clause-right : goal.returns-clause-right
+returns-clause-right c = c.loop-at.invariant.right
+
+pub returns-clause-more : goal.returns-clause-more
+returns-clause-more c = c.loop-at.invariant.more

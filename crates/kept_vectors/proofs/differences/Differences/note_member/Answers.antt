@@ -3,7 +3,7 @@ use Rattle.std.specs.Prelude.{slice_range}
 use Rattle.std.proofs.lemmas.Bool.{cases_lt, or_parts}
 use Rattle.std.proofs.lemmas.Option.{MatchOption-at_some}
 use Rattle.std.proofs.lemmas.Grind.{get_or_default_zero}
-use Rattle.std.proofs.lemmas.List.{length-set}
+use Rattle.std.proofs.lemmas.List.{get_or-set_same, length-set}
 use Rattle.net_model.specs.Answer.{bit_at}
 use Rattle.word_sim.specs.declared.lanes.TheConstants.{LANES}
 use Rattle.kept_vectors.specs.Notes.{renumbered, IsReportOf, AreAlikeAt, AreSpans}
@@ -129,3 +129,42 @@ returns-clause-of c =
       places = length-set c.args.self.now.places.items root c.args.at ∙ of.places;
       starts = length-set c.args.self.now.starts.items (c.args.at + 1) c.len-2.result ∙ of.starts;
     }
+
+-- ---- places within the room
+
+pub index-requires : goal.index-requires
+index-requires c = omega (arith, (twin (goal.at.index-requires c).In-Some).0, c.requires.at, c.requires.room, c.requires.of.starts, c.args.self.now.starts.ok.0)
+
+pub index-requires-in-Some : goal.index-requires-in-Some
+index-requires-in-Some c = omega (arith, (twin (goal.at.index-requires-in-Some c).In-Some).0, c.requires.at, c.requires.room, c.requires.of.starts, c.args.self.now.starts.ok.0)
+
+pub index_mut-requires : goal.index_mut-requires
+index_mut-requires c = omega (arith, c.requires.at, c.requires.room, c.requires.of.starts, c.args.self.now.starts.ok.0)
+
+pub index_mut-requires-2 : goal.index_mut-requires-2
+index_mut-requires-2 c = omega (arith, c.requires.at, c.requires.room, c.requires.of.starts, c.args.self.now.starts.ok.0)
+
+pub bounds-roots-number : goal.bounds-roots-number
+bounds-roots-number c = omega (arith, c.requires.inside c.args.at 0 c.requires.at, c.requires.run.roots_are.whole)
+
+pub index_mut-requires-3 : goal.index_mut-requires-3
+index_mut-requires-3 c =
+    let number = get_or c.args.group.now c.args.at 0 in
+    let inside : number < length c.args.roots.now = omega (arith, c.requires.inside c.args.at 0 c.requires.at, c.requires.run.roots_are.whole) in
+    omega (arith, c.requires.run.roots_are.within number 0 inside, c.requires.of.places, c.args.self.now.places.ok.0)
+
+pub apart-told-requires : goal.apart-told-requires
+apart-told-requires c = c.requires.of.lead ∙ sym c.in_ok-simulate.ensures.circuit
+
+pub returns-clause-more : goal.returns-clause-more
+returns-clause-more c = c.in_ok-simulate.ensures.noted
+
+pub returns-clause-start : goal.returns-clause-start
+returns-clause-start c =
+    get_or-set_same c.args.self.now.starts.items (c.args.at + 1) c.len-2.result 0 (omega (arith, c.requires.at, c.requires.room, c.requires.of.starts))
+    ∙ omega (arith, c.len-2.ensures, c.simulate.new.notes.ok.0)
+
+pub returns-in-Some-clause-start : goal.returns-in-Some-clause-start
+returns-in-Some-clause-start c =
+    get_or-set_same c.args.self.now.starts.items (c.args.at + 1) c.len.result 0 (omega (arith, c.requires.at, c.requires.room, c.requires.of.starts))
+    ∙ omega (arith, c.len.ensures, c.copy_notes.new.notes.ok.0)
