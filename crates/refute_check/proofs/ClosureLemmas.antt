@@ -124,12 +124,14 @@ module _ (clause : Clause) (at : Literal) where
           ];
         }
 
-    -- the literal is false already
-    pub others_same : IsFalseAt values l → AreOthersFalseBefore clause at (k + 1) values
+    -- the literal is the one that stays open, or false already
+    pub others_same : (l ≢ at → IsFalseAt values l) → AreOthersFalseBefore clause at (k + 1) values
     others_same f = record {
       at_open = are.at_open;
       others = λ j d h ne. elim (cases_eq j k) [
-        | inl e ↦ subst (IsFalseAt values) (sym (ap (λ n. get_or clause n d) e ∙ at_place d)) f
+        | inl e ↦
+            let here = ap (λ n. get_or clause n d) e ∙ at_place d in
+            subst (IsFalseAt values) (sym here) (f (λ same. ne (here ∙ same)))
         | inr late ↦ are.others j d (omega (arith, h, late)) ne
       ];
       no_more = are.no_more;

@@ -34,7 +34,7 @@ by_signs l m true false p q e = absurd (omega (arith, e))
 by_signs l m false true p q e = absurd (omega (arith, e))
 by_signs l m false false p q e = same_literals l m (omega (arith, e)) (p ∙ sym q)
 
-same_by_code : (l m : Literal) → code_of l ≡ code_of m → l ≡ m
+pub same_by_code : (l m : Literal) → code_of l ≡ code_of m → l ≡ m
 same_by_code l m e = by_signs l m l.positive m.positive refl refl e
 
 -- a literal whose number is found in the clause stands there
@@ -86,7 +86,7 @@ module _ (values : List (Option Bool)) (l : Literal) where
   pub open_is : IsOpenAt values l → get_or values l.variable None ≡ None
   open_is e = open_value (get_or values l.variable None) l.positive e
 
-  is_open : get_or values l.variable None ≡ None → IsOpenAt values l
+  pub is_open : get_or values l.variable None ≡ None → IsOpenAt values l
   is_open e = ap (option_map (λ bit. beq bit l.positive)) e
 
   pub opposite_true : IsFalseAt values l → IsTrueAt values (opposite l)

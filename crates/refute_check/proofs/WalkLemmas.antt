@@ -1,10 +1,11 @@
 -- A walk through a tree: what is right at its cube, and how it goes on.
-use Rattle.std.proofs.Common.{◌≡◌, ℕ, ◌+◌, ◌<◌, List, [], ◌∷◌, length, take, below_more, refl, sym, ◌∙◌, ap, subst, arith}
-use Rattle.std.specs.Prelude.{Bool, true, false, Option, None, Some, slice_get, reverse, cond, is_some, option_map, find, ◌==◌, ◌||◌, if◌then◌else◌}
+use Rattle.std.proofs.Common.{◌≡◌, ℕ, ◌+◌, ◌<◌, List, [], ◌∷◌, ◌++◌, length, take, drop, below_more, refl, sym, ◌∙◌, ap, subst, arith}
+use Rattle.std.specs.Prelude.{Bool, true, false, Option, None, Some, Vec, slice_get, reverse, cond, is_some, option_map, find, ◌==◌, ◌||◌, if◌then◌else◌}
 use Rattle.std.specs.List.{list_any}
-use Rattle.std.proofs.lemmas.List.{take_more, take_all}
+use Rattle.std.proofs.lemmas.List.{take_more, take_all, reverse-append}
 use Rattle.std.proofs.lemmas.List.Sums.{fold-append}
 use Rattle.std.proofs.lemmas.List.Sorted.{IsPermutation-reverse, list_any-IsPermutation}
+use Rattle.std.specs.declared.alloc.Global.{Global}
 use Rattle.net_model.specs.declared.fault.Fault.{Fault}
 use Rattle.net_model.specs.Circuit.{Circuit}
 use Rattle.net_model.specs.Answer.{bit_at}
@@ -13,7 +14,7 @@ use Rattle.pair_sets.specs.declared.state.PairState.{PairState}
 use Rattle.pair_sets.specs.declared.state.PairState.TheVariants.{AllSame, Undecided}
 use Rattle.pair_sets.specs.declared.tree.Token.{Token}
 use Rattle.pair_sets.specs.declared.tree.Token.TheVariants.{Split, Closed, Rest}
-use Rattle.pair_sets.specs.Cube.{Cube, fixed_bit}
+use Rattle.pair_sets.specs.Cube.{Cube, FixesOnce, fixed_bit}
 use Rattle.pair_sets.specs.CubeState.{IsState}
 use Rattle.pair_sets.specs.PairSim.{PairSim, pair_sim, with_cube}
 use Rattle.pair_sets.specs.Tree.{SplitsFree, IsRightAt, IsTree, after_token, waiting_after, cube_at, token_at}
@@ -94,6 +95,41 @@ pub record GoesUp (start now : Walk) : Type 0 where
   pub same : now.sim ≡ with_cube start.sim now.sim.cube
   pub inside : now.whole ≡ false
   pub halves : second_halves now.sim.cube ≡ second_halves start.sim.cube
+
+module _ (start walk : Walk) (up : GoesUp start walk) (rest : Vec (ℕ × Bool) Global) (half : ℕ × Bool) (split : walk.path.items ≡ rest.items ++ half ∷ []) where
+  pub last_first : walk.sim.cube ≡ half ∷ reverse rest.items
+  last_first = up.walk.stands ∙ (ap reverse split ∙ reverse-append rest.items (half ∷ []))
+
+  pub last_once : FixesOnce walk.sim.circuit.sources (half ∷ reverse rest.items)
+  last_once = subst (FixesOnce walk.sim.circuit.sources) last_first up.walk.once
+
+  halves_of : (bit : Bool) → half.1 ≡ bit → (if bit then second_halves (reverse rest.items) else ((half.0, true) ∷ reverse rest.items) ∷ second_halves (reverse rest.items)) ≡ second_halves start.sim.cube
+  halves_of bit e =
+      sym (ap second_halves last_first ∙ ap (λ bit. if bit then second_halves (reverse rest.items) else ((half.0, true) ∷ reverse rest.items) ∷ second_halves (reverse rest.items)) e) ∙ up.halves
+
+  module _ (sim : PairSim) (undone : sim ≡ with_cube walk.sim (drop 1 walk.sim.cube)) where
+    pub is_undone : sim ≡ with_cube walk.sim (reverse rest.items)
+    is_undone = undone ∙ ap (λ cube. with_cube walk.sim (drop 1 cube)) last_first
+
+    pub up_more : half.1 ≡ true → GoesUp start (record walk { sim = sim; path = rest })
+    up_more bit = subst (λ sim. GoesUp start (record walk { sim = sim; path = rest })) (sym is_undone) (record {
+      walk = record { circuit = up.walk.circuit; stands = refl; once = last_once.2; scope = up.walk.scope; sources = up.walk.sources };
+      same = ap (λ sim. with_cube sim (reverse rest.items)) up.same;
+      inside = up.inside;
+      halves = halves_of true bit;
+    })
+
+    pub second_half : half.1 ≡ false → (path : Vec (ℕ × Bool) Global) (down : PairSim) → path.items ≡ rest.items ++ (half.0, true) ∷ [] → down ≡ with_cube sim ((half.0, true) ∷ sim.cube)
+        → GoesOn start (record walk { sim = down; path = path }) (second_halves start.sim.cube)
+    second_half bit path down pushed assigned =
+        let cube = (half.0, true) ∷ reverse rest.items in
+        let new = record walk { sim = with_cube walk.sim cube; path = path } in
+        let stands : reverse path.items ≡ cube = ap reverse pushed ∙ reverse-append rest.items ((half.0, true) ∷ []) in
+        subst (λ sim. GoesOn start (record walk { sim = sim; path = path }) (second_halves start.sim.cube)) (sym (assigned ∙ ap (λ (sim : PairSim). with_cube sim ((half.0, true) ∷ sim.cube)) is_undone)) (record {
+          walk = record { circuit = up.walk.circuit; stands = sym stands; once = last_once; scope = up.walk.scope; sources = up.walk.sources };
+          same = ap (λ sim. with_cube sim cube) up.same;
+          waiting = waiting_is new cube up.inside stands ∙ halves_of false bit;
+        })
 
 -- ---- the whole tree
 

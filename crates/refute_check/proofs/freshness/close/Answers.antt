@@ -87,3 +87,9 @@ returns-clause-quiet c = λ t.
 
 pub returns-clause-room : goal.returns-clause-room
 returns-clause-room c = c.loop-head.invariant.looks.room ∙ sym c.requires.looked.room
+
+pub returns-then-not-visit-clause-none : goal.returns-then-not-visit-clause-none
+returns-then-not-visit-clause-none c = λ f. c.visit.ensures.none c.if-not-visit.true
+
+pub returns-then-not-visit-2-clause-step : goal.returns-then-not-visit-2-clause-step
+returns-then-not-visit-2-clause-step c = λ t. cc

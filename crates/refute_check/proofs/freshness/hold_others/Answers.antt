@@ -1,4 +1,4 @@
-use Rattle.std.proofs.Common.{◌≡◌, ◌≢◌, ◌∙◌, ◌+◌, ◌<◌, length, sym, ap, subst, arith, eq-eqb}
+use Rattle.std.proofs.Common.{◌≡◌, ◌≢◌, ◌∙◌, ◌+◌, ◌<◌, length, sym, ap, subst, arith, eq-eqb, eqb-true}
 use Rattle.std.specs.Prelude.{Bool, Some, true, false, not}
 use Rattle.std.proofs.lemmas.List.{length-set}
 use Rattle.clause_pool.specs.Literal.{Literal, opposite}
@@ -6,10 +6,24 @@ use Rattle.clause_pool.specs.LiteralCode.{code_of}
 use Rattle.refute_check.specs.declared.assignment.Assignment.{Assignment}
 use Rattle.refute_check.specs.Assignment.{IsAssignment}
 use Rattle.refute_check.specs.Held.{IsTrueAt, IsFalseAt, IsOpenAt}
-use Rattle.refute_check.proofs.HeldLemmas.{hold, open_not_true}
+use Rattle.refute_check.proofs.HeldLemmas.{same_by_code, hold, open_not_true}
 use Rattle.refute_check.proofs.ClosureLemmas.{AreOthersFalseBefore, not_of_at, not_true, others_more, others_same}
 use Rattle.refute_check.proofs.freshness.hold_others.Goals as goal
 use Rattle.refute_check.proofs.freshness.hold_others.Goals.{in-Some-false, in-None}
+
+pub loop-lit-preserved-then-eq : goal.loop-lit-preserved-then-eq
+loop-lit-preserved-then-eq c =
+    let clause = c.args.clause.now in
+    let at = c.args.at in
+    let l = c.lit-item.result in
+    let k = c.loop-lit.lit-index in
+    let old = c.loop-lit.invariant in
+    let same = same_by_code l at (eqb-true (code_of l) (code_of at) (sym c.eq.ensures ∙ c.if-eq.true)) in
+    record {
+      assignment = old.assignment;
+      size = old.size;
+      others = others_same clause at k c.loop-lit.held.values.items old.others l c.loop-lit-test.true c.lit-item.is (λ other. absurd (other same));
+    }
 
 pub returns-then-variable-clause-none : goal.returns-then-variable-clause-none
 returns-then-variable-clause-none c =
@@ -44,7 +58,7 @@ loop-lit-preserved c =
           record {
             assignment = subst IsAssignment (sym w.held-is) c.loop-lit.invariant.assignment;
             size = ap (λ (a : Assignment). length a.values.items) w.held-is ∙ c.loop-lit.invariant.size;
-            others = subst (λ (a : Assignment). AreOthersFalseBefore clause at (k + 1) a.values.items) (sym w.held-is) (others_same clause at k values c.loop-lit.invariant.others l c.loop-lit-test.true c.lit-item.is no);
+            others = subst (λ (a : Assignment). AreOthersFalseBefore clause at (k + 1) a.values.items) (sym w.held-is) (others_same clause at k values c.loop-lit.invariant.others l c.loop-lit-test.true c.lit-item.is (λ other. no));
           }
       | in-None w ↦
           let open_yet : IsOpenAt values l = sym c.value.ensures ∙ w.in-None.is in

@@ -2,6 +2,7 @@ use Rattle.std.proofs.Common.{◌≡◌, ◌∙◌, ◌+◌, length, vec_len, sy
 use Rattle.std.specs.Prelude.{Contains, IsTrue, ◌↔◌}
 use Rattle.pair_miter.specs.Fresh.{IsFresh}
 use Rattle.refute_check.specs.declared.freshness.Propagator.{Propagator}
+use Rattle.refute_check.specs.Assignment.{IsAssignment}
 use Rattle.refute_check.specs.Index.{IsIndexOf}
 use Rattle.refute_check.specs.Looked.{IsLookedAt}
 use Rattle.refute_check.proofs.HeldLemmas.{contained}
@@ -58,3 +59,9 @@ returns-clause-ready c =
       unlooked = c.forget.ensures.none;
       index = facts.1;
     }
+
+pub clear-requires : goal.clear-requires
+clear-requires c = elim c.if-hold_others.branch [
+  | then-hold_others w ↦ subst (λ (p : Propagator). IsAssignment p.held) (sym w.self-is) w.close-fresh.ensures.assignment
+  | else-hold_others w ↦ subst (λ (p : Propagator). IsAssignment p.held) (sym w.self-is) c.hold_others.ensures.assignment
+]
