@@ -1,3 +1,6 @@
+use Rattle.std.proofs.lemmas.Result.{IfOk-from_err}
+use Rattle.learn_solver.specs.declared.analysis.Learned.{Learned}
+use Rattle.learn_solver.specs.Learned.{IsLearned}
 use Rattle.std.proofs.Common.{◌≡◌, ◌∙◌, ℕ, ◌<◌, ◌≤◌, length, get_or, ap, sym, subst, arith}
 use Rattle.std.specs.Prelude.{List, [], Option, Some}
 use Rattle.std.proofs.lemmas.List.{length-map}
@@ -45,3 +48,7 @@ returns c =
           (subst (λ (ls : List Literal). (d : Literal) (place : ℕ) → 1 < length ls → IsFalseAt a (get_or ls 1 d) place → c.back_level-back.result ≡ (set_at a place).level) value c.back_level-back.ensures.some);
       clear = clear_end a clauses l.marks l.analysis.chain kept l.analysis.left over;
     }
+
+pub returns-in_err-visit-clause-learned : goal.returns-in_err-visit-clause-learned
+returns-in_err-visit-clause-learned c =
+    IfOk-from_err c.from_residual-in_err-visit.result (λ (learned : Learned). IsLearned c.args.trail.now.assignment c.args.pool.now.clauses learned.chain learned.clause.items learned.back) c.from_residual-in_err-visit.ensures.0

@@ -1,4 +1,5 @@
-use Rattle.std.proofs.Common.{◌∙◌, ◌∷◌, ◌++◌, [], length, ap, sym, subst}
+use Rattle.std.proofs.Common.{◌∙◌, ◌∷◌, ◌++◌, [], length, ap, sym, subst, arith}
+use Rattle.std.proofs.lemmas.List.{length_push}
 use Rattle.std.proofs.lemmas.Result.{on_ok_weaker}
 use Rattle.clause_pool.specs.Clauses.{numbered_clause}
 use Rattle.clause_pool.specs.Proper.{IsProper}
@@ -34,3 +35,6 @@ returns-clause-ready c =
     (λ attached. ready_learned old c.back_to.new.self c.attach.new.self c.args.pool.now.clauses c.add.new.pool.clauses c.args.clause.now c.args.back c.in_ok-number.number c.requires.ready c.requires.asserting
     c.in_ok-number.ensures.ok c.in_ok-number.ensures.number c.back_to.ensures.assignment c.back_to.ensures.attached attached a.assignment a.fits a.trail)
     a.attached
+
+pub attach-requires-clause-from : goal.attach-requires-clause-from
+attach-requires-clause-from c = omega (arith, c.in_ok-number.ensures.number, ap length c.in_ok-number.ensures.ok, length_push c.args.pool.now.clauses c.args.clause.now)

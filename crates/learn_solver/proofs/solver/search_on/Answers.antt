@@ -38,3 +38,8 @@ conflicts-preserved-then-is_due c =
     let end = subst (EndsStep c.args.miter.now c.args.conflicts Model c.conflicts.search c.take_step.new.search c.take_step.new.pool.clauses) c.in-Learned.is c.in_ok-take_step.ensures.ends in
     let e = c.restart.ensures in
     restarted c.args.miter.now c.args.conflicts c.take_step.new.search c.take_step.new.pool.clauses end.0 c.restart.new.search e.prepared e.variables e.chains
+
+pub restart-requires : goal.restart-requires
+restart-requires c =
+    let end = subst (EndsStep c.args.miter.now c.args.conflicts Model c.conflicts.search c.take_step.new.search c.take_step.new.pool.clauses) c.in-Learned.is c.in_ok-take_step.ensures.ends in
+    end.0.prepared

@@ -1,4 +1,5 @@
 use Rattle.std.proofs.Common.{refl, sym, subst}
+use Rattle.clause_pool.proofs.Numbered.{begins_through}
 use Rattle.learn_solver.specs.Decisions.{IsAim}
 use Rattle.learn_solver.specs.Descent.{IsFoundAt}
 use Rattle.learn_solver.specs.Search.{Learns}
@@ -44,3 +45,12 @@ returns-in-Some-clause-ends c =
     let mid : Search = record old { trail = c.descend.new.trail; decider = c.descend.new.decider } in
     let search = c.requires.search in
     subst (Learns mid clauses c.learn_from.new.search c.learn_from.new.pool.clauses) c.in-Some.is c.in_ok-learn_from-in-Conflict.ensures.learned _ _ search.learning search.few
+
+pub returns-in-Some-clause-begins : goal.returns-in-Some-clause-begins
+returns-in-Some-clause-begins c = begins_through _ _ _ c.learn_from.ensures.begins c.requires.search.begins
+
+pub returns-in-None-clause-begins : goal.returns-in-None-clause-begins
+returns-in-None-clause-begins c = begins_through _ _ _ c.learn_from.ensures.begins c.requires.search.begins
+
+pub returns-in_err-learn_from-in-Conflict-clause-begins : goal.returns-in_err-learn_from-in-Conflict-clause-begins
+returns-in_err-learn_from-in-Conflict-clause-begins c = begins_through _ _ _ c.learn_from.ensures.begins c.requires.search.begins

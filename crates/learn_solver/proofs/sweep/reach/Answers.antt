@@ -1,7 +1,8 @@
 use Rattle.std.proofs.Common.{refl, subst}
+use Rattle.std.proofs.lemmas.Result.{IfOk-from_err}
 use Rattle.learn_solver.specs.declared.aim.Aim.TheVariants.{Both}
 use Rattle.learn_solver.specs.declared.search.Search.{Search}
-use Rattle.learn_solver.specs.Search.{EndsStep, IsSearch}
+use Rattle.learn_solver.specs.Search.{EndsStep, EndsSweep, IsSearch}
 use Rattle.learn_solver.proofs.Searching.{prepared_on, restarted, search_on}
 use Rattle.learn_solver.proofs.sweep.reach.Goals.{else-loop-turn-test, then-loop-turn-test+else-len-conflicts+in_ok-take_step+in-Open}
 use Rattle.learn_solver.proofs.sweep.reach.Goals as goal
@@ -35,3 +36,17 @@ pub returns-clause-ends : goal.returns-clause-ends
 returns-clause-ends c =
     let e = c.restart.ensures in
     restarted c.args.miter.now c.args.conflicts c.loop-turn-test.search c.loop-turn-test.pool.clauses (ended c) c.restart.new.search e.prepared e.variables e.chains
+
+pub restart-requires : goal.restart-requires
+restart-requires c = elim c.loop-turn-test.branch [
+  | else-loop-turn-test w ↦ rw (w.search-is, w.pool-is) c.loop-turn.invariant.prepared
+  | then-loop-turn-test+else-len-conflicts+in_ok-take_step+in-Open w ↦
+      let end = subst (EndsStep c.args.miter.now c.args.conflicts (Both c.args.both) c.loop-turn.search w.take_step.new.search w.take_step.new.pool.clauses) w.in-Open.is w.in_ok-take_step.ensures.ends in
+      rw (w.search-is, w.pool-is) end.0.prepared
+]
+
+pub returns-in_err-take_step-clause-ends : goal.returns-in_err-take_step-clause-ends
+returns-in_err-take_step-clause-ends c = IfOk-from_err c.from_residual.result (EndsSweep c.args.miter.now c.args.conflicts c.take_step.new.search c.take_step.new.pool.clauses) c.from_residual.ensures.0
+
+pub returns-clause-begins : goal.returns-clause-begins
+returns-clause-begins c = (ended c).begins
