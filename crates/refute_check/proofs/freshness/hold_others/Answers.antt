@@ -6,7 +6,7 @@ use Rattle.clause_pool.specs.LiteralCode.{code_of}
 use Rattle.refute_check.specs.declared.assignment.Assignment.{Assignment}
 use Rattle.refute_check.specs.Assignment.{IsAssignment}
 use Rattle.refute_check.specs.Held.{IsTrueAt, IsFalseAt, IsOpenAt}
-use Rattle.refute_check.proofs.HeldLemmas.{same_by_code, hold, open_not_true}
+use Rattle.refute_check.proofs.HeldLemmas.{same_by_code, hold, open_not_true, opposite_open}
 use Rattle.refute_check.proofs.ClosureLemmas.{AreOthersFalseBefore, not_of_at, not_true, others_more, others_same}
 use Rattle.refute_check.proofs.freshness.hold_others.Goals as goal
 use Rattle.refute_check.proofs.freshness.hold_others.Goals.{in-Some-false, in-None}
@@ -69,3 +69,8 @@ loop-lit-preserved c =
             others = subst (AreOthersFalseBefore clause at (k + 1)) (sym now) (others_more clause at k values c.loop-lit.invariant.others l c.loop-lit-test.true c.lit-item.is apart (open_not_true values l open_yet) within);
           }
     ]
+
+pub hold-requires-clause-undetermined : goal.hold-requires-clause-undetermined
+hold-requires-clause-undetermined c =
+    let values = c.loop-lit.held.values.items in
+    subst (IsOpenAt values) (sym c.opposite.ensures) (opposite_open values c.lit-item.result (sym c.value.ensures ∙ c.in-None.is))

@@ -1,18 +1,13 @@
-use Rattle.std.proofs.Common.{◌≡◌, ◌+◌, ℕ, List, zero, suc, get_or, refl, sym, subst, arith, rules}
+use Rattle.std.proofs.Common.{◌≡◌, ◌+◌, ℕ, List, sym, subst, arith, rules}
 use Rattle.std.specs.Prelude.{Bool, Option, None, replicate}
 use Rattle.clause_pool.specs.Literal.{Literal}
 use Rattle.refute_check.specs.Held.{IsOpenAt}
 use Rattle.refute_check.proofs.HeldLemmas.{is_open}
-use Rattle.refute_check.proofs.AssignmentLemmas.{empty_assignment}
+use Rattle.refute_check.proofs.AssignmentLemmas.{all_same, empty_assignment}
 use Rattle.refute_check.proofs.assignment.Assignment.new.Goals as goal
 
-none_at : (n k : ℕ) → get_or (replicate {A = Option Bool} n None) k None ≡ None
-none_at zero k = refl
-none_at (suc n) zero = refl
-none_at (suc n) (suc k) = none_at n k
-
 all_open : (values : List (Option Bool)) (n : ℕ) → values ≡ replicate n None → (l : Literal) → IsOpenAt values l
-all_open values n made l = subst (λ values. IsOpenAt values l) (sym made) (is_open (replicate n None) l (none_at n l.variable))
+all_open values n made l = subst (λ values. IsOpenAt values l) (sym made) (is_open (replicate n None) l (all_same n l.variable None))
 
 pub returns-clause-empty : goal.returns-clause-empty
 returns-clause-empty c = all_open c.in_ok-vec.field-0.items (c.args.variables + 1) (c.in_ok-vec.ensures.items_if_clones_equal (search rules))
