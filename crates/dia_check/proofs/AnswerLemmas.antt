@@ -1,16 +1,19 @@
 -- What the check answers, once the rest of the file is read.
-use Rattle.std.proofs.Common.{◌≡◌, ◌∙◌, ◌≤◌, ◌^◌, List, length, Result, Ok, Err}
-use Rattle.std.specs.Prelude.{IfOk, OnOk}
+use Rattle.std.proofs.Common.{◌≡◌, ◌∙◌, ℕ, ◌≤◌, ◌^◌, true, false, List, length, Option, None, Result, Ok, Err, refl, sym, ap, arith}
+use Rattle.std.specs.Prelude.{IfOk, OnOk, IsErrOf, IsSome, is_some}
 use Rattle.diag_shelf.specs.World.{State}
-use Rattle.diag_shelf.specs.Calls.{Told}
+use Rattle.diag_shelf.specs.Calls.{Told, IsReadCall, SameFacts}
+use Rattle.diag_shelf.specs.declared.shelf.ShelfFault.{ShelfFault}
+use Rattle.diag_shelf.specs.declared.shelf.ShelfFault.TheVariants as shelf
 use Rattle.net_model.specs.Circuit.{Circuit}
 use Rattle.result_file.specs.declared.record.Record.{Record}
+use Rattle.result_file.specs.declared.fault.ResultFault.{ResultFault}
 use Rattle.result_file.specs.Spelling.{Text, text_of}
 use Rattle.dia_check.specs.declared.answer.Checked.{Checked}
 use Rattle.dia_check.specs.declared.answer.FileFault.{FileFault}
 use Rattle.dia_check.specs.declared.answer.FileFault.TheVariants as file
 use Rattle.dia_check.specs.declared.reader.Reader.{Reader}
-use Rattle.dia_check.specs.Faults.{as_shelf}
+use Rattle.dia_check.specs.Faults.{as_shelf, fault_of}
 use Rattle.dia_check.specs.Accepted.{IsAccepted, ReadsRest, rest_of}
 use Rattle.dia_check.specs.Reader.{IsReading, IsAcceptedText}
 use Rattle.dia_check.specs.Rest.{HasRead}
@@ -22,6 +25,39 @@ on_any (Ok x) p = p
 on_any (Err (file.Result fault)) p = p
 on_any (Err file.Failed) p = tt
 on_any (Err file.NoMemory) p = tt
+
+pub on_no_result : (P : Type 0) (e : FileFault) → ((fault : ResultFault) → ¬ (e ≡ file.Result fault)) → OnOk (as_shelf (let r : Result Checked FileFault = Err e in r)) P
+on_no_result P (file.Result fault) never = absurd (never fault refl)
+on_no_result P file.Failed never = tt
+on_no_result P file.NoMemory never = tt
+
+-- want of memory is no fault of the shelf
+pub no_memory : {a b : State} → SameFacts a b → IsReadCall {T = Unit {0}} (Err shelf.NoMemory) a b
+no_memory s = record { tells = s.tells; sure = s.sure; writes = s.writes; later = omega (arith, s.reads); ok = tt; failed = λ e. absurd (cc); memory = λ sure e. s.reads }
+
+-- nor is any answer behind a call that read, but that it failed
+pub call_after : {T : Type 0} (result : Result T FileFault) {a b : State} → ¬ IsErrOf result file.Failed → IsReadCall {T = Unit {0}} (Ok tt) a b → IsReadCall (as_shelf result) a b
+call_after (Ok x) never call = call
+call_after (Err (file.Result fault)) never call = call
+call_after (Err file.Failed) never call = absurd (never refl)
+call_after (Err file.NoMemory) never call = no_memory (record { tells = call.tells; sure = call.sure; reads = call.ok; writes = call.writes })
+
+abbrev out_of_memory : Result Checked FileFault
+out_of_memory = Err file.NoMemory
+
+pub memory_is_no_failure : ¬ IsErrOf out_of_memory file.Failed
+memory_is_no_failure same = cc
+
+pub memory_is_no_fault : (fault : ResultFault) → ¬ IsErrOf out_of_memory (file.Result fault)
+memory_is_no_fault fault same = cc
+
+pub accepted_is_no_fault : (checked : Checked) (fault : ResultFault) → ¬ IsErrOf (Ok checked) (file.Result fault)
+accepted_is_no_fault checked fault same = cc
+
+-- a sure shelf doesn't fail to read a file that is opened
+pub opened_never_fails : (e : ShelfFault) {rest : Option (List ℕ)} → (IsErrOf (let r : Result ℕ ShelfFault = Err e in r) shelf.Failed → rest ≡ None) → IsSome rest → ¬ IsErrOf (let r : Result (Unit {0}) FileFault = Err (fault_of e) in r) file.Failed
+opened_never_fails shelf.Failed fails some same = let clash : false ≡ true = ap is_some (sym (fails refl)) ∙ some in cc
+opened_never_fails shelf.NoMemory fails some same = cc
 
 module _ {c : Circuit} {reader : Reader} {old new : State} (read : HasRead c reader old new) where
   pub told_read : Told old new ReadsRest

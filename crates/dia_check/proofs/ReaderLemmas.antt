@@ -1,5 +1,5 @@
 -- Bytes that are read: lines among them, the limit, and the end.
-use Rattle.std.proofs.Common.{◌≡◌, ◌∙◌, ℕ, suc, ◌-◌, ◌<◌, ◌≤◌, ◌^◌, Bool, true, false, [], ◌∷◌, ◌++◌, length, length-append, length-take, take, Option, None, Some, Ok, Err, sym, ap, subst, append_assoc, arith}
+use Rattle.std.proofs.Common.{◌≡◌, ◌∙◌, ℕ, suc, ◌-◌, ◌<◌, ◌≤◌, ◌^◌, Bool, true, false, [], ◌∷◌, ◌++◌, length, length-append, length-take, take, Option, None, Some, Ok, Err, refl, sym, ap, subst, append_assoc, arith}
 use Rattle.std.specs.Prelude.{Contains, not, ◌==◌, min, drop, is_some}
 use Rattle.std.specs.List.{prefix_len}
 use Rattle.std.proofs.lemmas.Bool.{ne_eqb}
@@ -15,8 +15,9 @@ use Rattle.dia_check.specs.declared.checker.Checker.{Checker}
 use Rattle.dia_check.specs.declared.reader.Reader.{Reader}
 use Rattle.dia_check.specs.declared.stop.Stop.{Stop}
 use Rattle.dia_check.specs.declared.stop.Stop.TheVariants as stop
-use Rattle.dia_check.specs.Checker.{IsCheckOf, HasCheck, IsRefusedText, IsJudged, Judges, JudgesWaiting, JudgesEnd}
-use Rattle.dia_check.specs.Reader.{IsHeld, IsOpen, IsReading, HasHeld, HasOpen, AreTaken, IsTaken, TakesLines, TakesPiece, IsRefusedEnd}
+use Rattle.dia_check.specs.declared.answer.Checked.{Checked}
+use Rattle.dia_check.specs.Checker.{IsCheckOf, HasCheck, IsComplete, IsRefusedText, IsJudged, Judges, JudgesWaiting, JudgesEnd}
+use Rattle.dia_check.specs.Reader.{IsHeld, IsOpen, IsReading, HasHeld, HasOpen, AreTaken, IsTaken, TakesLines, TakesPiece, IsAcceptedText, IsRefusedEnd}
 use Rattle.dia_check.proofs.CheckLemmas.{fault_behind, refused_longer, text_seen}
 
 -- ---- a line that is taken out
@@ -111,6 +112,28 @@ reading_longer {c} {fed} {r} piece some is = record {
   going = λ none. let clash : false ≡ true = ap is_some (sym none) ∙ some in absurd (cc);
   refused = λ fault there. refused_longer piece (is.refused fault there);
 }
+
+none_by : (o : Option ResultFault) → is_some o ≡ false → o ≡ None
+none_by None none = refl
+none_by (Some fault) none = absurd (cc)
+
+module _ {c : Circuit} {fed : Text} {old : Reader} (piece : Text) (none : is_some old.refused ≡ false) (is : IsReading c fed old) where
+  open_so_far : IsOpen c fed old
+  open_so_far = is.going (none_by old.refused none)
+
+  pub reading_more : {new : Reader} {x : Unit {0}} → TakesPiece c old new piece (Ok x) → IsReading c (fed ++ piece) new
+  reading_more {new} takes = record {
+    going = λ e. takes.taken fed open_so_far;
+    refused = λ fault there. let clash : ◌≡◌ {A = Option ResultFault} None (Some fault) = sym (takes.refused ∙ none_by old.refused none) ∙ there in absurd (cc);
+  }
+
+  pub reading_refused : {new : Reader} {fault : ResultFault} → TakesPiece c old new piece (Err (stop.Refused fault)) → (r : Reader) → r.refused ≡ Some fault → IsReading c (fed ++ piece) r
+  reading_refused {new} {fault} takes r there = record {
+    going = λ e. let clash : ◌≡◌ {A = Option ResultFault} None (Some fault) = sym e ∙ there in absurd (cc);
+    refused = λ other found.
+        let same : fault ≡ other = cc in
+        subst (λ (f : ResultFault). IsRefusedText c (fed ++ piece) f) same (takes.taken fed open_so_far);
+  }
 
 -- ---- a piece, up to the limit
 
@@ -212,3 +235,12 @@ end_refused {c} {fed} {r} {new} {rest} {fault} is rest_is judges =
       whole = subst (λ (t : Text). FileRefused c t fault) whole (judges.judged h.text h.check (omega (arith, is.room, ap length whole)));
       beyond = λ more. absurd (omega (arith, more, is.room));
     }
+
+pub end_accepted : {c : Circuit} {fed : Text} {r : Reader} {new : Checker} {rest : Text} {x : Unit {0}} {checked : Checked} → IsOpen c fed r → rest ≡ r.lines → JudgesEnd c r.checker new rest (Ok x)
+    → ((c : Circuit) (text : Text) → IsComplete c text new → IsAcceptedText c text checked) → (length fed ≤ 2 ^ 40) × IsAcceptedText c fed checked
+end_accepted {c} {fed} {r} {new} {rest} {x} {checked} is rest_is judges accepted =
+    let h = is.held in
+    let whole : h.text ++ rest ≡ fed = ap (λ (t : Text). h.text ++ t) rest_is ∙ sym h.fed_is in
+    let both = judges.judged h.text h.check (omega (arith, is.room, ap length whole)) in
+    let same : h.text ≡ fed = sym (append-nil h.text) ∙ ap (λ (t : Text). h.text ++ t) (sym both.0) ∙ whole in
+    (omega (arith, is.room), subst (λ (t : Text). IsAcceptedText c t checked) same (accepted c h.text both.1))

@@ -1,9 +1,13 @@
 use Rattle.std.proofs.Common.{rules, ◌≡◌, Result, Err, ap}
+use Rattle.result_file.specs.declared.fault.ResultFault.{ResultFault}
+use Rattle.diag_shelf.specs.Calls.{Told}
+use Rattle.diag_shelf.proofs.Steps.{facts_same}
+use Rattle.dia_check.specs.Accepted.{ReadsRest}
 use Rattle.dia_check.specs.declared.answer.FileFault.{FileFault}
 use Rattle.dia_check.specs.declared.answer.FileFault.TheVariants as file
 use Rattle.std.proofs.lemmas.Result.{err_from_is_err_and}
 use Rattle.dia_check.proofs.RestLemmas.{rest_refused}
-use Rattle.dia_check.proofs.AnswerLemmas.{on_any, told_read, valid_after}
+use Rattle.dia_check.proofs.AnswerLemmas.{on_any, on_no_result, no_memory, memory_is_no_failure, call_after, told_read, valid_after}
 use Rattle.dia_check.proofs.checking.check_for.Goals as goal
 
 pub returns-in_err-read_rest-clause-call : goal.returns-in_err-read_rest-clause-call
@@ -28,3 +32,17 @@ pub returns-clause-refused : goal.returns-clause-refused
 returns-clause-refused g c = λ fault same told.
     let read = c.in_ok-read_rest.ensures.read in
     rest_refused (read.all told) (c.finish.ensures.refused fault same read.fed read.reading)
+
+pub returns-in_err-reader-clause-call : goal.returns-in_err-reader-clause-call
+returns-in_err-reader-clause-call g c =
+    let p = err_from_is_err_and c.from_residual.result c.from_residual.ensures.1 in
+    rw (p.1, p.2) (no_memory (facts_same _), λ sure. memory_is_no_failure)
+
+pub returns-in_err-read_rest-clause-read : goal.returns-in_err-read_rest-clause-read
+returns-in_err-read_rest-clause-read g c =
+    let p = err_from_is_err_and c.from_residual-in_err-read_rest.result c.from_residual-in_err-read_rest.ensures.1 in
+    let never = λ (fault : ResultFault) (e : c.in_err-read_rest.field-0.0 ≡ file.Result fault). c.in_err-read_rest.ensures.result fault (ap (λ (x : FileFault). let r : Result (Unit {0}) FileFault = Err x in r) e) in
+    rw (p.1, p.2) (c.in_err-read_rest.ensures.others, on_no_result (Told (g.S.Shelf.state c.args.shelf.now) (g.S.Shelf.state c.read_rest.new.shelf) ReadsRest) c.in_err-read_rest.field-0.0 never)
+
+pub returns-clause-call : goal.returns-clause-call
+returns-clause-call g c = (call_after c.finish.result c.finish.ensures.never c.in_ok-read_rest.ensures.call, λ sure. c.finish.ensures.never)

@@ -1,4 +1,5 @@
 use Rattle.std.proofs.Common.{◌≡◌, ◌∙◌, ◌+◌, ◌<◌, ◌^◌, ◌++◌, [], Result, Ok, IsTrue, take, length, length-append, refl, arith}
+use Rattle.std.proofs.lemmas.Result.{err_from_is_err_and}
 use Rattle.std.specs.Prelude.{IsErrOf, drop}
 use Rattle.std.proofs.lemmas.List.{take-append-le, length-take}
 use Rattle.diag_shelf.specs.World.{State}
@@ -6,6 +7,7 @@ use Rattle.diag_shelf.specs.Calls.{SameFacts, IsReadCall}
 use Rattle.diag_shelf.proofs.Steps.{facts_same, facts_after_read}
 use Rattle.dia_check.specs.declared.answer.FileFault.{FileFault}
 use Rattle.dia_check.specs.declared.answer.FileFault.TheVariants as file
+use Rattle.dia_check.proofs.AnswerLemmas.{opened_never_fails}
 use Rattle.dia_check.proofs.RestLemmas.{takes_nothing, takes_more, takes_end, takes_limit}
 use Rattle.dia_check.proofs.checking.read_rest.Goals as goal
 
@@ -75,3 +77,9 @@ returns-then-count-eq0 g c =
       never = λ sure. no_fault file.Failed;
       result = λ fault. no_fault (file.Result fault);
     }
+
+pub returns-in_err-count-clause-never : goal.returns-in_err-count-clause-never
+returns-in_err-count-clause-never g c =
+    let p = err_from_is_err_and c.from_residual.result c.from_residual.ensures.1 in
+    let before = c.loop-taken.invariant in
+    rw (p.1, p.2) (λ sure. opened_never_fails c.in_err-count.field-0.0 (c.in_err-count.ensures.sure (before.facts.sure ∙ sure)) (before.opened (g.met.S.Shelf.sure_tells _ sure)))

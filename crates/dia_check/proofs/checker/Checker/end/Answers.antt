@@ -30,3 +30,11 @@ returns-then-not-self c = rw c.refused-then-not-self.ensures (record {
 
 pub refused-requires : goal.refused-requires
 refused-requires c = few_lines (has_after c.requires.check c.in_ok-flush.ensures.judged)
+
+pub returns : goal.returns
+returns c = record {
+  judged = λ text is short. (
+    empty_of c.args.rest.now (eqb-true (length c.args.rest.now) 0 (sym c.if-not-is_empty.ensures)),
+    record { is = c.in_ok-flush.ensures.judged.judged text is; none = c.in_ok-flush.ensures.none; ended = c.if-not-self.false },
+  );
+}
