@@ -83,9 +83,8 @@ pub(crate) fn position_names(
 ) -> Result<Vec<u32>, AllocError>
     ensures { IfOk result (λ names. names.items ≡ position_names statements.now) }
 {
-    statements
-        .iter()
-        .filter_map(output)
+    let outputs = statements.iter().filter_map(output);
+    outputs
         .chain(statements.iter().filter_map(flop_data))
         .collect(alloc)
 }
