@@ -1,9 +1,12 @@
 -- Texts that are cut where a byte stands for the first time.
-use Rattle.std.proofs.Common.{◌≡◌, ℕ, suc, ◌<◌, [], ◌∷◌, ◌++◌, refl, sym, ap₂, arith}
-use Rattle.std.specs.Prelude.{All, Contains}
+use Rattle.std.proofs.Common.{◌≡◌, ℕ, suc, ◌+◌, ◌-◌, ◌<◌, ◌≤◌, [], ◌∷◌, ◌++◌, ◌==◌, true, take, drop, length, length-take, add-one, refl, sym, ap, ap₂, ◌∙◌, arith}
+use Rattle.std.specs.Prelude.{All, Contains, slice_index, slice_index_or}
+use Rattle.std.proofs.Math.Seq.{drop-cons}
+use Rattle.std.proofs.lemmas.Bool.{eqb-true, eq-eqb}
+use Rattle.std.proofs.lemmas.List.{get_or_default, get_or-take, take-append-drop, take_rest}
 use Rattle.std.proofs.lemmas.List.Elements.{All-contains}
 use Rattle.result_file.proofs.Cuts.{tails}
-use Rattle.diagnose.specs.Lines.{Text}
+use Rattle.diagnose.specs.Lines.{Text, IsCutAt}
 
 missing_later : (byte b : ℕ) (bs : Text) → ¬ Contains (b ∷ bs) byte → ¬ Contains bs byte
 missing_later byte b bs missing there = missing (suc there.0, omega (arith, there.1), there.2)
@@ -25,3 +28,23 @@ missing_below byte text all there = let low : byte < byte = All-contains (λ b. 
 pub not_empty : (front back : Text) (byte : ℕ) → front ++ byte ∷ back ≡ [] → ⊥
 not_empty [] back byte e = absurd (cc)
 not_empty (b ∷ front) back byte e = absurd (cc)
+
+-- the test that a search for a byte makes
+same_byte : (text : Text) (byte k : ℕ) → k < length text → slice_index_or text k byte ≡ byte → (slice_index text k == byte) ≡ true
+same_byte text byte k h e = eq-eqb (slice_index text k) byte (get_or_default text k 0 byte h ∙ e)
+
+-- a byte that is found nowhere isn't contained
+pub found_nowhere : (byte : ℕ) (text : Text) → ((k : ℕ) → 0 ≤ k → k < length text → ¬ ((slice_index text k == byte) ≡ true)) → ¬ Contains text byte
+found_nowhere byte text nowhere there = nowhere there.0 (omega arith) there.1 (same_byte text byte there.0 there.1 there.2)
+
+-- the cut at the first place of a byte
+pub cut_at : (byte : ℕ) (text : Text) (at : ℕ) → at < length text → ((k : ℕ) → 0 ≤ k → k < at → ¬ ((slice_index text k == byte) ≡ true)) → (slice_index text at == byte) ≡ true
+    → IsCutAt byte text (take at text) (take (length text - (at + 1)) (drop (at + 1) text))
+cut_at byte text at within nowhere here =
+    let from : drop at text ≡ slice_index text at ∷ drop (at + 1) text = rw add-one (drop-cons text at 0 within) in
+    record {
+      first = λ there.
+          let below : there.0 < at = omega (arith, there.1, length-take at text) in
+          nowhere there.0 (omega arith) below (same_byte text byte there.0 (omega (arith, below)) (sym (get_or-take at text there.0 byte below) ∙ there.2));
+      text_is = sym (take-append-drop at text) ∙ ap (λ (d : Text). take at text ++ d) (from ∙ ap₂ (λ (z : ℕ) (zs : Text). z ∷ zs) (eqb-true (slice_index text at) byte here) (sym (take_rest text (at + 1))));
+    }
