@@ -1,8 +1,9 @@
 -- The lowest numbers of classes with the chosen numbers, and what they answer.
-use Rattle.std.proofs.Common.{◌≡◌, ◌∙◌, ℕ, ◌+◌, ◌-◌, ◌<◌, ◌≤◌, Bool, List, [], length, get_or, drop, sym, ap, subst, arith}
+use Rattle.std.proofs.Common.{◌≡◌, ◌∙◌, ℕ, ◌+◌, ◌-◌, ◌<◌, ◌≤◌, Bool, List, [], ◌∷◌, ◌++◌, length, length-append, get_or, drop, sym, ap, subst, arith}
 use Rattle.std.specs.Prelude.{slice_range, All}
 use Rattle.std.specs.List.{range_with_len}
-use Rattle.std.proofs.lemmas.List.{get_or-take, get_or-drop}
+use Rattle.std.proofs.lemmas.List.{get_or-take, get_or-drop, get_or_append_left, get_or_push}
+use borrow.Author.Count.{below_more}
 use Rattle.std.proofs.lemmas.List.Elements.{All-from_get_or}
 use Rattle.std.proofs.lemmas.List.FromFn.{get_or-range_with_len}
 use Rattle.net_model.specs.ClassTable.{ClassTable}
@@ -32,6 +33,18 @@ have_in_range {classes} patterns chosen first end within have =
 module _ {t : ClassTable} {patterns : List Candidates} {chosen : List ℕ} where
   pub leads_inside : {count : ℕ} {leads : List ℕ} → AreLeads t patterns chosen count leads → (numbers : ℕ) → length t.class_of ≡ numbers → All (λ lead. lead < numbers) leads
   leads_inside {count} {leads} are numbers e = All-from_get_or (λ lead. lead < numbers) leads 0 (λ k h. omega (arith, (are.each k none (omega (arith, h, are.one_each))).within, e))
+
+-- with one for the next pattern
+pub leads_more : (t : ClassTable) (patterns : List Candidates) (chosen leads : List ℕ) (lead count : ℕ) → AreLeads t patterns chosen count leads → ((d : Candidates) → IsLead t (get_or patterns count d) (get_or chosen count 0) lead)
+    → AreLeads t patterns chosen (count + 1) (leads ++ lead ∷ [])
+leads_more t patterns chosen leads lead count are here = record {
+  one_each = omega (arith, length-append leads (lead ∷ []), are.one_each);
+  each = λ k d.
+      below_more (λ (k : ℕ). IsLead t (get_or patterns k d) (get_or chosen k 0) (get_or (leads ++ lead ∷ []) k 0)) count
+      (λ k h. subst (IsLead t (get_or patterns k d) (get_or chosen k 0)) (sym (get_or_append_left leads (lead ∷ []) 0 k (omega (arith, h, are.one_each)))) (are.each k d h))
+      (subst (IsLead t (get_or patterns count d) (get_or chosen count 0)) (sym (get_or_push leads lead 0 count are.one_each)) (here d))
+      k;
+}
 
 -- those of a range
 pub leads_in_range : {t : ClassTable} (patterns : List Candidates) (chosen : List ℕ) {count : ℕ} {leads : List ℕ} (first end : ℕ) → AreLeads t (slice_range patterns first end) (slice_range chosen first end) count leads
