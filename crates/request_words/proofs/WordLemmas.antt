@@ -1,7 +1,9 @@
 -- What a command's words ask for, by the definition of the command.
-use Rattle.std.proofs.Common.{◌≡◌, ◌≢◌, Bool, true, false, List, [], ◌∷◌, Option, Some, None, Result, Ok, Err, refl, sym, ap, ap₂, ◌∙◌, ◌==◌, length, arith, if◌then◌else◌}
+use Rattle.std.proofs.Common.{◌≡◌, ◌≢◌, Bool, true, false, List, [], ◌∷◌, Option, Some, None, Result, Ok, Err, inl, inr, refl, sym, ap, ap₂, ◌∙◌, ◌==◌, length, arith, if◌then◌else◌}
 use Rattle.std.proofs.lemmas.Bool.{eqb-true}
-use Rattle.clap.specs.Words.{App, Rule, Row, app_of, rule_of, with_rule, fault_of, matches_of, is_simple_and_free}
+use Rattle.clap.specs.Words.{App, Rule, Row, app_of, rule_of, with_rule, fault_of, matches_of, is_simple_and_free, HasKind, Kinds, kind_of}
+use Rattle.clap.specs.declared.error.Error.{Error}
+use Rattle.clap.specs.declared.error.ErrorKind.TheVariants.{OutOfMemory}
 use Rattle.clap.specs.Built.{AddsArg}
 use Rattle.clap.specs.declared.builder.command.Command.{Command}
 use Rattle.clap.specs.declared.builder.arg.Arg.{Arg}
@@ -39,6 +41,10 @@ added_last old arg {app} {rule} r adds app_is rule_is local =
 pub more_rules : {E : Type 0} (old : Command) {app : App} (more : App → App) (r : Result Command E) → app_of old ≡ app → IfOk r (λ new. app_of new ≡ more (app_of old)) → IfOk r (λ new. app_of new ≡ more app)
 more_rules old {app} more r is = IfOk-weaker r (λ new. app_of new ≡ more (app_of old)) (λ new. app_of new ≡ more app) (λ new e. e ∙ ap more is)
 
+-- and one that gets a rule more, by a call that gives it
+pub rule_more : {E : Type 0} (old : Command) {app : App} (rule : Rule) (r : Result Command E) → app_of old ≡ app → IfOk r (λ new. app_of new ≡ with_rule (app_of old) rule) → IfOk r (λ new. app_of new ≡ with_rule app rule)
+rule_more old {app} rule r is = more_rules old (λ (a : App). with_rule a rule) r is
+
 pub named_more : {E : Type 0} (old : Command) {app : App} (first second : Rule) (r : Result Command E) → app_of old ≡ app → IfOk r (λ new. app_of new ≡ with_rule (with_rule (app_of old) first) second)
     → IfOk r (λ new. app_of new ≡ with_rule (with_rule app first) second)
 named_more old first second r is = more_rules old (λ (a : App). with_rule (with_rule a first) second) r is
@@ -63,8 +69,14 @@ module _ (verb : Verb) (words : List Text) where
   pub asked_refused : fault_of (app_for verb) words ≢ [] → asked_by (Some verb) words ≡ None
   asked_refused some = ap asked_where (some_fault (fault_of (app_for verb) words) some)
 
+-- an error that isn't want of memory has a kind
+pub kind_left : (kinds : Kinds) (error : Error) → HasKind kinds error → kind_of error ≢ OutOfMemory → kinds ≢ []
+kind_left [] error (inl memory) other none = absurd (other memory)
+kind_left [] error (inr among) other none = absurd among
+kind_left (k ∷ kinds) error has other none = absurd (cc)
+
 -- a fault that `?` passed on
-same_fault : {U E : Type 0} {x y : E} → ◌≡◌ {A = Result U E} (Err x) (Err y) → x ≡ y
+pub same_fault : {U E : Type 0} {x y : E} → ◌≡◌ {A = Result U E} (Err x) (Err y) → x ≡ y
 same_fault e = cc
 
 pub passed_on : {T U E : Type 0} (r : Result U E) (fault want : E) → IsErrAnd r (λ y. y ≡ fault) → r ≡ Err want → ◌≡◌ {A = Result T E} (Err fault) (Err want)

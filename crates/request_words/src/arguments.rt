@@ -94,6 +94,19 @@ pub(crate) fn option_arg<'a>(alloc: Global, id: &'a str, default: &'a str, most:
         .value_parser(number_parser(0, most))
 }
 
+/// A command with an option more.
+pub(crate) fn with_option<'a>(
+    alloc: Global,
+    command: Command<'a>,
+    id: &'a str,
+    default: &'a str,
+    most: u32,
+) -> Result<Command<'a>, AllocError>
+    ensures { IfOk result (λ c. app_of c ≡ with_rule (app_of command.entry) (option_rule id.entry.now default.entry.now most)) }
+{
+    command.arg(option_arg(alloc, id, default, most))
+}
+
 // What takes the numbers from a least to a most.
 fn number_parser<'a>(least: u32, most: u32) -> ValueParser<'a>
     ensures { result ≡ value_parsers.Signed (pos least) (pos most) }

@@ -7,8 +7,8 @@ ghost use Rattle.request_words.specs.Request.{gen_app, gen_by, dict_app, dict_by
 ghost use Rattle.request_words.specs.Asked.{asked, HasLimits};
 
 use crate::arguments::{
-    bare_command, kind_named, name_arg, name_in, number_arg, number_in, option_arg, two_names,
-    with_names,
+    bare_command, kind_named, name_arg, name_in, number_arg, number_in, two_names, with_names,
+    with_option,
 };
 use crate::request::Request;
 use clap::{ArgMatches, Command};
@@ -38,10 +38,9 @@ pub(crate) fn gen_command<'a>(alloc: Global) -> Result<Command<'a>, AllocError>
 fn with_options<'a>(alloc: Global, command: Command<'a>) -> Result<Command<'a>, AllocError>
     ensures { IfOk result (λ c. app_of c ≡ with_rule (with_rule (with_rule (app_of command.entry) (option_rule (codes "blocks") (codes "4") 65536)) (option_rule (codes "cubes") (codes "64") 1048576)) (option_rule (codes "conflicts") (codes "2000") 100000)) }
 {
-    command
-        .arg(option_arg(alloc, "blocks", "4", BLOCKS_LIMIT))?
-        .arg(option_arg(alloc, "cubes", "64", CUBES_LIMIT))?
-        .arg(option_arg(alloc, "conflicts", "2000", CONFLICTS_LIMIT))
+    let command = with_option(alloc, command, "blocks", "4", BLOCKS_LIMIT)?;
+    let command = with_option(alloc, command, "cubes", "64", CUBES_LIMIT)?;
+    with_option(alloc, command, "conflicts", "2000", CONFLICTS_LIMIT)
 }
 
 /// The request of its matches.

@@ -1,9 +1,7 @@
-use Rattle.std.proofs.Common.{refl}
-use Rattle.request_words.proofs.WordLemmas.{added, added_last}
+use Rattle.std.proofs.Common.{◌∙◌, ap₂, refl}
+use Rattle.clap.specs.Words.{with_rule}
+use Rattle.request_words.proofs.WordLemmas.{rule_more}
 use Rattle.request_words.proofs.commands.with_options.Goals as goal
 
 pub returns : goal.returns
-returns c =
-    let one = added c.in_ok-arg.ensures refl c.option_arg.ensures.rule c.option_arg.ensures.local in
-    let two = added c.in_ok-arg-2.ensures one c.option_arg-2.ensures.rule c.option_arg-2.ensures.local in
-    added_last _ _ c.arg-3.result c.arg-3.ensures two c.option_arg-3.ensures.rule c.option_arg-3.ensures.local
+returns c = rule_more _ _ c.with_option-3.result (c.in_ok-command-2.ensures ∙ ap₂ with_rule c.in_ok-command.ensures refl) c.with_option-3.ensures
