@@ -1,7 +1,7 @@
 -- Lines of vectors, and what is refused behind some.
 use Rattle.std.proofs.Common.{◌≡◌, ◌≢◌, ◌∙◌, ℕ, ◌+◌, ◌<◌, ◌≤◌, Bool, eqb, List, [], ◌∷◌, ◌++◌, length, refl, sym, ap, subst, arith}
 use Rattle.std.specs.Prelude.{Contains}
-use Rattle.std.proofs.lemmas.List.{length-append, length-map}
+use Rattle.std.proofs.lemmas.List.{append-nil, length-append, length-map}
 use Rattle.std.proofs.lemmas.List.Elements.{All-push, Contains-append_right}
 use Rattle.net_model.specs.BitText.{bits_text}
 use Rattle.diagnose.specs.declared.fault.LogKind.{LogKind}
@@ -82,6 +82,10 @@ list_more sources text number vectors rest digits more so_far right =
       number_is = omega (arith, so_far.number_is, length-append vectors (bits ∷ []));
       left = omega (arith, so_far.left, shorter rest digits more right.begins);
     }
+
+pub list_done : (sources : ℕ) (text : Text) (number : ℕ) (vectors : List (List Bool)) (rest : Text) → IsListSoFar sources text number vectors rest → length text ≤ text_limit → length rest ≡ 0 → IsVectorList sources text vectors
+list_done sources text number vectors [] so_far short none = record { short = short; wide = so_far.wide; text_is = so_far.text_is ∙ append-nil (lines_from vector_line 0 vectors) }
+list_done sources text number vectors (b ∷ rest) so_far short none = absurd (omega (arith, none))
 
 pub list_refused : (sources : ℕ) (text : Text) (number : ℕ) (vectors : List (List Bool)) (rest : Text) (kind : LogKind) → IsListSoFar sources text number vectors rest → length text ≤ text_limit
     → ((before : ℕ) → VectorRestRefused sources before rest kind) → VectorsRefused sources text kind number
