@@ -46,6 +46,9 @@ adds_both a b c xs ys first second = record {
 pub adds_keeps : (old new : Clauses) (clauses : List Clause) → Adds old new clauses → Keeps old new clauses
 adds_keeps old new clauses adds = record { begins = record { more = clauses; are = adds.written }; in_room = adds.in_room }
 
+pub keeps_all : (pool : Clauses) (clauses : List Clause) → Keeps pool pool clauses
+keeps_all pool clauses = record { begins = record { more = []; are = sym (append-nil pool.clauses) }; in_room = λ room. record { of_clauses = refl; of_literals = refl } }
+
 -- where the first clauses are written and the others fail, or the first fail already
 pub keeps_both : (a b c : Clauses) (xs ys : List Clause) → Adds a b xs → Keeps b c ys → Keeps a c (xs ++ ys)
 keeps_both a b c xs ys first second = record {

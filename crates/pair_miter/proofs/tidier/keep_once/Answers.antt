@@ -1,6 +1,6 @@
 use Rattle.std.proofs.Common.{◌≡◌, ◌+◌, ◌*◌, ◌<◌, ◌∙◌, [], ◌∷◌, ◌++◌, ap, sym, subst, take, length, set, arith, Vec, Global}
 use Rattle.std.specs.Prelude.{Bool, true, false, ◌||◌}
-use Rattle.std.proofs.lemmas.List.{take_more, get_or_read}
+use Rattle.std.proofs.lemmas.List.{take_all, take_more, get_or_read}
 use Rattle.std.proofs.lemmas.Grind.{common_steps}
 use Rattle.net_model.specs.Answer.{bit_at}
 use Rattle.clause_pool.specs.Literal.{Literal, opposite}
@@ -49,3 +49,12 @@ loop-lit-preserved c =
       places = places;
       marked = subst (AreMarks c.if-not-index.marks.items) (sym more) both.1;
     }
+
+pub returns-clause-kept : goal.returns-clause-kept
+returns-clause-kept c = c.loop-lit.invariant.kept ∙ ap without_repeats (take_all c.loop-lit.lit-index c.args.clause.now c.loop-lit-test.false)
+
+pub returns-clause-opposites : goal.returns-clause-opposites
+returns-clause-opposites c = c.loop-lit.invariant.opposites ∙ ap is_tautology (take_all c.loop-lit.lit-index c.args.clause.now c.loop-lit-test.false)
+
+pub returns-clause-marked : goal.returns-clause-marked
+returns-clause-marked c = subst (AreMarks c.loop-lit.marks.items) (take_all c.loop-lit.lit-index c.args.clause.now c.loop-lit-test.false) c.loop-lit.invariant.marked

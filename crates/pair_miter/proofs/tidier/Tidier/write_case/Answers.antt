@@ -7,7 +7,7 @@ use Rattle.pair_miter.specs.Operand.{Operand, is_constant}
 use Rattle.pair_miter.specs.Adds.{Adds, Writes}
 use Rattle.pair_miter.specs.Miter.{tidy}
 use Rattle.pair_miter.specs.Rows.{case_clause, operand_literals}
-use Rattle.pair_miter.proofs.AddSteps.{adds_none}
+use Rattle.pair_miter.proofs.AddSteps.{adds_none, keeps_all, writes_err}
 use Rattle.pair_miter.proofs.OperandSteps.{operand_weaker}
 use Rattle.pair_miter.proofs.TidyParts.{tidy_none}
 use Rattle.pair_miter.proofs.tidier.Tidier.write_case.Goals as goal
@@ -53,3 +53,13 @@ pub returns-clause-written : goal.returns-clause-written
 returns-clause-written c =
     let left = one_left c.args.l c.args.unless c.args.chooser.now c.args.positive c.args.chosen.now (sym c.is_constant.ensures ∙ c.if-is_constant.false) (sym c.is_constant-else-is_constant.ensures ∙ c.if-is_constant-2.false) (c.as_slice.ensures.value ∙ c.in_ok-fill_case.ensures) in
     subst (λ rows. Writes c.write_once.result c.args.pool.now c.write_once.new.pool (tidy rows)) (sym left) c.write_once.ensures.written
+
+pub invariant_of-self : goal.invariant_of-self
+invariant_of-self c = c.self.invariant
+
+pub invariant_of-self-2 : goal.invariant_of-self-2
+invariant_of-self-2 c = record { few = c.self.invariant.few; places = c.write_once.ensures.places ∙ c.self.invariant.places; none = c.write_once.ensures.clear }
+
+pub returns-in_err-fill_case-clause-written : goal.returns-in_err-fill_case-clause-written
+returns-in_err-fill_case-clause-written c =
+    writes_err c.from_residual.result c.from_residual.ensures.0 (keeps_all c.args.pool.now (tidy (case_clause c.args.l c.args.unless c.args.chooser.now c.args.positive c.args.chosen.now)))
