@@ -110,3 +110,29 @@ pub returns-in_ok-push-in-None-clause-fits : goal.returns-in_ok-push-in-None-cla
 returns-in_ok-push-in-None-clause-fits c =
     let d = (goal.at.returns-in_ok-push-in-None-clause-fits c).After-two_to_watch in
     rw c.in_ok-push-in-None.ensures.items (fits_short (fits d) c.args.number c.get-clause.result.now c.get-clause.ensures c.requires.from c.requires.below (proper d) c.in-None.ensures)
+
+-- ---- no memory: what held before holds
+
+pub returns-in_err-reserve-in-Some-clause-fits : goal.returns-in_err-reserve-in-Some-clause-fits
+returns-in_err-reserve-in-Some-clause-fits c =
+    rw c.in_err-reserve-in-Some.ensures.items (fits (goal.at.returns-in_err-reserve-in-Some-clause-fits c).After-two_to_watch)
+
+pub invariant_of-self-in_err-watch-in-Some : goal.invariant_of-self-in_err-watch-in-Some
+invariant_of-self-in_err-watch-in-Some c =
+    let i = c.self.inside in
+    let h = c.self.invariant in
+    record {
+      trail = h.trail;
+      listed = c.in_err-watch-in-Some.ensures.listed;
+      codes = c.in_err-watch-in-Some.ensures.firsts ∙ h.codes;
+      kept = subst (AreKept i.set.literals i.visited i.visited) (sym c.in_err-watch-in-Some.ensures.literals) h.kept;
+      reached = h.reached;
+    }
+
+pub returns-in_err-watch-in-Some-clause-fits : goal.returns-in_err-watch-in-Some-clause-fits
+returns-in_err-watch-in-Some-clause-fits c =
+    rw (c.in_ok-reserve-in-Some.ensures.items, c.in_err-watch-in-Some.ensures.literals) (fits (goal.at.returns-in_err-watch-in-Some-clause-fits c).After-two_to_watch)
+
+pub returns-in_err-push-in-None-clause-fits : goal.returns-in_err-push-in-None-clause-fits
+returns-in_err-push-in-None-clause-fits c =
+    rw c.in_err-push-in-None.ensures.items (fits (goal.at.returns-in_err-push-in-None-clause-fits c).After-two_to_watch)
