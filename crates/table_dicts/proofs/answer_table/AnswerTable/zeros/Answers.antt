@@ -26,3 +26,6 @@ returns-clause-clear c pattern number position =
     no_bit a (cells_are c) pattern number position (λ (hp, hn, hk).
     bit_is a (cells_are c) pattern number position hp hn hk
     ∙ (ap (λ (rows : List (List Bool)). row_bit rows number (pattern * c.args.positions + position)) c.in_ok-zeros.ensures ∙ zero_bits c.args.numbers c.width_of-width.result number (pattern * c.args.positions + position)))
+
+pub invariant_of-result : goal.invariant_of-result
+invariant_of-result c = cells_are c
