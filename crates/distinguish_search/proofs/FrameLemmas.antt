@@ -1,9 +1,9 @@
 -- Splits that are under way: one more, and one less.
 use Rattle.std.proofs.Common.{◌≡◌, ◌≢◌, ℕ, suc, inl, inr, eq-eqb, ◌+◌, ◌-◌, ◌^◌, ◌<◌, List, [], ◌∷◌, ◌++◌, length, get_or, take, drop, refl, sym, ◌∙◌, ap, subst, arith}
-use Rattle.std.specs.Prelude.{Bool, true, false, not, Option, None, Some, find, option_map, ◌==◌, replicate, reverse, slice_set, cond, unwrap_or, if◌then◌else◌}
+use Rattle.std.specs.Prelude.{Bool, true, false, not, Option, None, Some, find, option_map, ◌==◌, reverse, slice_set, cond, unwrap_or, if◌then◌else◌}
 use Rattle.std.proofs.Math.Nat.{one-le-pow, two-pow-succ}
-use Rattle.std.proofs.lemmas.Bool.{cases_eq, cases_lt, ne_eqb}
-use Rattle.std.proofs.lemmas.List.{take-append-drop, take_more, reverse-append, map-append, length-map, length-replicate, get_or-set_same, get_or-set_other, get_or-replicate, get_or_past}
+use Rattle.std.proofs.lemmas.Bool.{cases_eq, ne_eqb}
+use Rattle.std.proofs.lemmas.List.{take-append-drop, take_more, reverse-append, map-append, length-map, get_or-set_same, get_or-set_other}
 use Rattle.std.proofs.lemmas.List.Sums.{sum_by-cons, sum_by-append}
 use Rattle.net_model.specs.declared.fault.Fault.{Fault}
 use Rattle.net_model.specs.Circuit.{Circuit}
@@ -33,14 +33,6 @@ fixed_beside : (cube : Cube) (source : ℕ) (bit : Bool) (other : ℕ) → sourc
 fixed_beside cube source bit other ne =
     let t : (source == other) ≡ false = ne_eqb source other ne in
     ap (λ b. option_map (λ (fixed : ℕ × Bool). fixed.1) (cond b (Some (source, bit)) (find (λ (fixed : ℕ × Bool). fixed.0 == other) cube))) t
-
--- before any frame no source is fixed
-pub bits_none : (n source : ℕ) → get_or {A = Option Bool} (replicate n None) source None ≡ None
-bits_none n source =
-    let none : Option Bool = None in elim (cases_lt source n) [
-      | inl below ↦ get_or-replicate n source none none below
-      | inr past ↦ get_or_past (replicate n none) source none (omega (arith, past, length-replicate n none))
-    ]
 
 -- a vector that has all bits of a cube is in it
 pub has_fixed : (n : ℕ) (cube : Cube) (v : List Bool) → FixesOnce n cube → ((source : ℕ) (bit : Bool) → fixed_bit cube source ≡ Some bit → bit_at v source ≡ bit) → InCube cube v

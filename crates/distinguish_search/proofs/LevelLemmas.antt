@@ -1,12 +1,13 @@
 -- The levels that are set so far.
 use Rattle.std.proofs.Common.{◌≡◌, ◌≢◌, ◌∙◌, ℕ, suc, ◌+◌, ◌<◌, ◌≤◌, ◌^◌, inl, inr, max, List, [], ◌∷◌, length, take, set, get_or, refl, sym, ap, subst, arith, length-take, get_or-take}
 use Rattle.std.specs.Prelude.{fold, replicate, Contains, Some}
-use Rattle.std.proofs.lemmas.Bool.{cases_eq, cases_lt}
-use Rattle.std.proofs.lemmas.List.{take_more, take_all, length-set, length-replicate, get_or-set_same, get_or-set_other, get_or-replicate, get_or_past}
+use Rattle.std.proofs.lemmas.Bool.{cases_eq}
+use Rattle.std.proofs.lemmas.List.{take_more, take_all, length-set, length-replicate, get_or-set_same, get_or-set_other}
 use Rattle.std.proofs.lemmas.List.Elements.{Contains-push_cases}
 use Rattle.std.proofs.lemmas.Option.{slice_get-get_or}
 use Rattle.net_model.specs.Circuit.{Circuit, IsCircuit, line_count, pins_of, Feeds}
 use Rattle.net_model.specs.Order.{IsOrder}
+use Rattle.net_model.proofs.Elements.{get_or-replicate_anywhere}
 use Rattle.net_model.proofs.Orders.{order_has, order_only, order_count}
 use Rattle.net_model.proofs.SetSoFar.{fits_from}
 use Rattle.distinguish_search.specs.Levels.{level_at, highest_level, AreLevels}
@@ -35,17 +36,11 @@ pub record LevelsSoFar (c : Circuit) (order : List ℕ) (i : ℕ) (levels : List
   pub sources : (line : ℕ) → line < c.sources → level_at levels line ≡ 0
   pub gates : (line : ℕ) → Contains (take i order) line → level_at levels line ≡ highest_level levels (pins_of c line) + 1
 
-zero_at : (n line : ℕ) → level_at (replicate n 0) line ≡ 0
-zero_at n line = elim (cases_lt line n) [
-  | inl below ↦ get_or-replicate n line 0 0 below
-  | inr past ↦ get_or_past (replicate n 0) line 0 (omega (arith, past, length-replicate {A = ℕ} n 0))
-]
-
 pub levels_none : (c : Circuit) (order : List ℕ) → LevelsSoFar c order 0 (replicate (line_count c) 0)
 levels_none c order = record {
   whole = length-replicate (line_count c) 0;
-  low = λ line. omega (arith, zero_at (line_count c) line);
-  sources = λ line source. zero_at (line_count c) line;
+  low = λ line. omega (arith, get_or-replicate_anywhere {A = ℕ} (line_count c) line 0);
+  sources = λ line source. get_or-replicate_anywhere (line_count c) line 0;
   gates = λ line (k, within, there). absurd (omega (arith, within));
 }
 

@@ -1,10 +1,11 @@
 -- The gates of sole destinations, found pin by pin.
-use Rattle.std.proofs.Common.{◌≡◌, ◌∙◌, ℕ, zero, suc, ◌+◌, ◌<◌, ◌≤◌, false, List, [], ◌∷◌, length, get_or, set, replicate, refl, sym, ap, arith, subst, inl, inr, ◌⊎◌, get_or-set_same, get_or-set_other}
+use Rattle.std.proofs.Common.{◌≡◌, ◌∙◌, ℕ, ◌+◌, ◌<◌, ◌≤◌, false, List, [], ◌∷◌, length, get_or, set, replicate, refl, sym, ap, arith, subst, inl, inr, ◌⊎◌, get_or-set_same, get_or-set_other}
 use Rattle.std.specs.Prelude.{Option, None, Some, slice_get, slice_set}
 use Rattle.std.proofs.lemmas.Bool.{cases_eq}
 use Rattle.std.proofs.lemmas.Option.{slice_get_within}
 use Rattle.std.proofs.lemmas.List.{ext_get_or, length-set, length-replicate}
 use Rattle.std.proofs.lemmas.List.FromFn.{length-map-range_with_len, get_or-map-range_with_len}
+use Rattle.net_model.proofs.Elements.{get_or-replicate_anywhere}
 use Rattle.net_model.specs.declared.fault.Site.{Site}
 use Rattle.net_model.specs.declared.fault.Site.TheVariants.{Pin}
 use Rattle.net_model.specs.declared.fault.Fault.TheVariants.{Stuck}
@@ -32,15 +33,10 @@ module _ (c : Circuit) where
   pub none_found : (gates : List (Option ℕ)) → gates ≡ replicate (line_count c) None → AreSoleBefore c c.sources 0 gates
   none_found gates e = record {
     whole = ap length e ∙ length-replicate (line_count c) (let o : Option ℕ = None in o);
-    sound = λ line sole is. let clash : None ≡ Some sole = sym (ap (λ xs. get_or xs line None) e ∙ none_at (line_count c) line) ∙ is in cc;
+    sound = λ line sole is. let clash : None ≡ Some sole = sym (ap (λ xs. get_or xs line None) e ∙ get_or-replicate_anywhere (line_count c) line None) ∙ is in cc;
     found = λ line sole at only before. absurd (not_before sole at (sole_within line sole at only).0 before);
   }
     where
-      none_at : (n line : ℕ) → get_or (replicate n (let o : Option ℕ = None in o)) line None ≡ None
-      none_at zero line = refl
-      none_at (suc n) zero = refl
-      none_at (suc n) (suc line) = none_at n line
-
       not_before : (sole at : ℕ) → c.sources ≤ sole → IsPinBefore sole at c.sources 0 → ⊥
       not_before sole at from (inl lower) = omega arith
       not_before sole at from (inr (same, lower)) = omega (arith, lower)

@@ -2,10 +2,10 @@
 use Rattle.std.proofs.Common.{◌≡◌, ◌∙◌, ℕ, ◌+◌, ◌<◌, ◌≤◌, List, length, get_or, ap, subst, arith, inl, inr}
 use Rattle.std.specs.Prelude.{Bool, true, false, All, Contains, replicate}
 use Rattle.std.proofs.lemmas.Bool.{cases_lt}
-use Rattle.std.proofs.lemmas.List.{length-append, get_or_append_left, length-replicate, get_or-replicate, get_or_past}
+use Rattle.std.proofs.lemmas.List.{length-append, get_or_append_left, length-replicate}
 use Rattle.learn_solver.specs.Walk.{AreClear}
 use Rattle.std.proofs.lemmas.List.Elements.{All-contains}
-use Rattle.net_model.proofs.Elements.{any_from, all_from}
+use Rattle.net_model.proofs.Elements.{any_from, all_from, get_or-replicate_anywhere}
 use Rattle.clause_pool.specs.Literal.{Literal, opposite}
 use Rattle.clause_pool.specs.Clauses.{Clause, BeginsWith}
 use Rattle.clause_pool.specs.Partial.{IsQuiet, IsSatisfied}
@@ -77,8 +77,5 @@ model_of held bits clauses true_bits all = all_from (is_satisfied_by bits) claus
 pub clear_zeros : (variables : ℕ) → AreClear variables (replicate (variables + 1) false)
 clear_zeros variables = record {
   places = length-replicate (variables + 1) false;
-  none = λ v. elim (cases_lt v (variables + 1)) [
-    | inl within ↦ get_or-replicate (variables + 1) v false false within
-    | inr over ↦ get_or_past (replicate (variables + 1) false) v false (omega (arith, over, length-replicate (variables + 1) false))
-  ];
+  none = λ v. get_or-replicate_anywhere (variables + 1) v false;
 }

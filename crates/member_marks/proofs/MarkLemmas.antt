@@ -1,5 +1,5 @@
 -- The marks that are given: with evidence for one number more, and after one pattern more.
-use Rattle.std.proofs.Common.{◌≡◌, ℕ, zero, suc, ◌<◌, ◌≤◌, Bool, true, false, cond, List, [], ◌∷◌, ◌++◌, length, get_or, set, replicate, Option, Some, None, refl, sym, ap, ap₂, subst, ◌∙◌, inl, inr, arith}
+use Rattle.std.proofs.Common.{◌≡◌, ℕ, ◌<◌, ◌≤◌, Bool, true, false, cond, List, [], ◌∷◌, ◌++◌, length, get_or, set, replicate, Option, Some, None, refl, sym, ap, ap₂, subst, ◌∙◌, inl, inr, arith}
 use Rattle.std.specs.Prelude.{◌==◌, ◌&&◌, is_none, is_some, option_and_then, All, IsSome, MatchOption, if◌then◌else◌}
 use Rattle.std.specs.Option.{option_map, option_or}
 use Rattle.std.specs.List.{find}
@@ -9,6 +9,7 @@ use Rattle.std.proofs.lemmas.List.Elements.{All-append, All-head, All-tail}
 use Rattle.std.proofs.lemmas.List.Folds.{find-append}
 use Rattle.std.proofs.lemmas.Option.{same_Some}
 use Rattle.net_model.specs.ClassTable.{ClassTable, class_at, representative}
+use Rattle.net_model.proofs.Elements.{get_or-replicate_anywhere}
 use Rattle.class_refine.specs.Fields.{IsWhole}
 use Rattle.class_refine.proofs.Refined.{representative-member}
 use Rattle.result_file.specs.declared.record.Evidence.{Evidence}
@@ -161,7 +162,7 @@ nothing_given = None
 -- at first nothing is given
 pub given_none : {t : ClassTable} (numbers : ℕ) → numbers ≡ length t.class_of → AreGiven t [] (replicate numbers None)
 given_none {t} numbers all =
-    let nothing : (n : ℕ) → get_or (replicate numbers nothing_given) n None ≡ None = λ n. none_at numbers n in
+    let nothing : (n : ℕ) → get_or (replicate numbers nothing_given) n None ≡ None = λ n. get_or-replicate_anywhere numbers n nothing_given in
     record {
       whole = length-replicate numbers nothing_given ∙ all;
       marks = λ n below. is_by_evidence t [] n ∙ ap (λ (o : Option Given). by_given (representative t (class_at t n)) o n) (sym (nothing n));
@@ -169,11 +170,6 @@ given_none {t} numbers all =
       partners = λ k d below. absurd (omega arith);
       low = λ n g below found. let clash : ◌≡◌ {A = Option Given} None (Some g) = sym (nothing n) ∙ found in absurd (cc);
     }
-  where
-    none_at : (count n : ℕ) → get_or (replicate count nothing_given) n None ≡ None
-    none_at zero n = refl
-    none_at (suc count) zero = refl
-    none_at (suc count) (suc n) = none_at count n
 
 -- ---- one pattern more
 

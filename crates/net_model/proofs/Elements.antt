@@ -1,6 +1,6 @@
 -- Tests of the elements of a list, and the elements that pass.
 use Rattle.std.proofs.Common.{◌≡◌, ◌∙◌, ℕ, zero, suc, ◌≤◌, ◌⊎◌, inl, inr, refl, sym, ap, arith, subst}
-use Rattle.std.specs.Prelude.{Bool, true, false, List, [], ◌∷◌, length, map, filter, flat_map, cond, None, slice_get, ◌||◌, Contains}
+use Rattle.std.specs.Prelude.{Bool, true, false, List, [], ◌∷◌, length, map, filter, flat_map, cond, None, get_or, replicate, slice_get, ◌||◌, Contains}
 use Rattle.std.specs.List.{list_all, list_any}
 use Rattle.std.proofs.lemmas.Bool.{and_from, and_parts}
 use Rattle.std.proofs.lemmas.List.Elements.{All-contains, All-contains_itself, All-filter, Contains-append_left, Contains-append_right, filter_passes}
@@ -18,6 +18,12 @@ none_in x (k, h, e) = omega (arith, h)
 pub first_or_later : {A : Type 0} (y : A) (ys : List A) (x : A) → Contains (y ∷ ys) x → (y ≡ x) ⊎ Contains ys x
 first_or_later y ys x (zero, h, e) = inl e
 first_or_later y ys x (suc k, h, e) = inr (k, omega (arith, h), e)
+
+-- one element again and again is read at any place, past the end too where it is the default
+pub get_or-replicate_anywhere : {A : Type 0} (n k : ℕ) (x : A) → get_or (replicate n x) k x ≡ x
+get_or-replicate_anywhere zero k x = refl
+get_or-replicate_anywhere (suc n) zero x = refl
+get_or-replicate_anywhere (suc n) (suc k) x = get_or-replicate_anywhere n k x
 
 pub slice_get-none : {A : Type 0} (xs : List A) (i : ℕ) → slice_get xs i ≡ None → length xs ≤ i
 slice_get-none [] i e = omega arith

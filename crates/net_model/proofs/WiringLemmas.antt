@@ -2,7 +2,7 @@
 use Rattle.std.proofs.Common.{◌≡◌, ◌≢◌, ℕ, suc, ◌+◌, ◌<◌, ◌≤◌, ◌⊎◌, List, [], ◌∷◌, ◌++◌, length, map, get_or, set, refl, sym, ◌∙◌, ap, subst, arith, inl, inr}
 use Rattle.std.specs.Prelude.{All, Contains, replicate, sum_by}
 use Rattle.std.proofs.lemmas.Bool.{cases_eq, cases_lt}
-use Rattle.std.proofs.lemmas.List.{get_or-set_same, get_or-set_other, get_or-map, get_or_past, get_or-replicate, length-replicate, length-map, length-set, get_or_default, ext_get_or}
+use Rattle.std.proofs.lemmas.List.{get_or-set_same, get_or-set_other, get_or-map, get_or_past, length-map, length-set, get_or_default, ext_get_or}
 use Rattle.std.proofs.lemmas.List.Elements.{Contains-append_left, Contains-push, Contains-push_cases}
 use Rattle.std.proofs.lemmas.List.Sums.{sum_by-cons}
 use Rattle.net_model.specs.Circuit.{Circuit, FitsTogether, line_count, pins_of}
@@ -10,7 +10,7 @@ use Rattle.net_model.specs.Order.{IsOrder}
 use Rattle.net_model.specs.Topological.{users_at, AreReaders}
 use Rattle.net_model.specs.Wiring.{AreUsers, reads_at}
 use Rattle.net_model.proofs.Copies.{pins_within}
-use Rattle.net_model.proofs.Elements.{Contains-map, none_in, first_or_later}
+use Rattle.net_model.proofs.Elements.{Contains-map, none_in, first_or_later, get_or-replicate_anywhere}
 use Rattle.net_model.proofs.OpenPins.{count_has, has_count}
 use Rattle.net_model.proofs.Orders.{reader_is_gate, order_has}
 
@@ -19,10 +19,7 @@ use Rattle.net_model.proofs.Orders.{reader_is_gate, order_has}
 pub users_none : (uses : ℕ → List ℕ) (lines : ℕ) (users : List (List ℕ)) → users ≡ replicate lines [] → AreUsers 0 uses users
 users_none uses lines users e =
     let none : (line : ℕ) → get_or users line [] ≡ [] =
-    λ line. ap (λ us. get_or us line []) e ∙ (elim (cases_lt line lines) [
-      | inl inside ↦ get_or-replicate {A = List ℕ} lines line [] [] inside
-      | inr past ↦ get_or_past (replicate {A = List ℕ} lines []) line [] (omega (arith, length-replicate {A = List ℕ} lines []))
-    ]) in
+    λ line. ap (λ us. get_or us line []) e ∙ get_or-replicate_anywhere lines line [] in
     record {
       all = λ line number h has. absurd (omega (arith, h));
       below = λ line number has. absurd (none_in number (subst (λ us. Contains us number) (none line) has));

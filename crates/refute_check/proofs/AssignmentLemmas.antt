@@ -1,6 +1,6 @@
 -- An assignment and the list of what it holds, as literals come and go.
 use Rattle.std.proofs.Common.{◌≡◌, ◌∙◌, ℕ, zero, suc, ◌<◌, ◌≤◌, ◌+◌, inl, inr, refl, sym, ap, arith, subst, get_or, length-append}
-use Rattle.std.specs.Prelude.{Bool, true, false, cond, List, [], ◌∷◌, ◌++◌, length, set, Option, None, Some, is_none, Contains, vec_capacity, replicate}
+use Rattle.std.specs.Prelude.{Bool, true, false, cond, List, [], ◌∷◌, ◌++◌, length, set, Option, None, Some, is_none, Contains, vec_capacity}
 use Rattle.std.proofs.lemmas.Bool.{cases_eq}
 use Rattle.std.proofs.lemmas.List.{get_or-set_same, get_or-set_other, length-set}
 use Rattle.std.proofs.lemmas.List.Elements.{Contains-append_left, Contains-append_right, Contains-append_cases}
@@ -31,11 +31,6 @@ open_one_less values h within o =
     omega (arith, sums, was)
 
 -- a list of one value has it at each place
-pub all_same : {X : Type 0} → (n k : ℕ) (x : X) → get_or (replicate n x) k x ≡ x
-all_same zero k x = refl
-all_same (suc n) zero x = refl
-all_same (suc n) (suc k) x = all_same n k x
-
 pub open_all : (values : List (Option Bool)) → ((k : ℕ) → get_or values k None ≡ None) → open_count values ≡ length values
 unfolding count_one
 open_all [] none = refl

@@ -4,6 +4,7 @@ use Rattle.std.proofs.lemmas.Bool.{cases_lt, cases_eq}
 use Rattle.std.proofs.lemmas.List.{ext_get_or, get_or_default, get_or-replicate, get_or_past, length-replicate}
 use Rattle.net_model.specs.Answer.{bit_at}
 use Rattle.net_model.proofs.Copies.{same_bits_same_list}
+use Rattle.net_model.proofs.Elements.{get_or-replicate_anywhere}
 use Rattle.net_model.specs.Rows.{row_at, row_bit, HaveSameShape}
 use Rattle.table_dicts.specs.Rows.{AreRows, IsBitSet, IsRowBegun, IsRowSet, AreRowsBegun}
 
@@ -72,14 +73,8 @@ rows_all {count} {width} {done} {wanted} {rows} all so_far over long are =
 
 -- ---- zeros
 
-zero_bit : (width at : ℕ) → bit_at (replicate width false) at ≡ false
-zero_bit width at = elim (cases_lt at width) [
-  | inl low ↦ get_or-replicate width at false false low
-  | inr over ↦ get_or_past (replicate width false) at false (omega (arith, over, length-replicate width false))
-]
-
 pub zero_bits : (count width row at : ℕ) → row_bit (replicate count (replicate width false)) row at ≡ false
 zero_bits count width row at = elim (cases_lt row count) [
-  | inl low ↦ ap (λ (r : List Bool). bit_at r at) (get_or-replicate count row (replicate width false) [] low) ∙ zero_bit width at
+  | inl low ↦ ap (λ (r : List Bool). bit_at r at) (get_or-replicate count row (replicate width false) [] low) ∙ get_or-replicate_anywhere width at false
   | inr over ↦ ap (λ (r : List Bool). bit_at r at) (get_or_past (replicate count (replicate width false)) row [] (omega (arith, over, length-replicate count (replicate width false))))
 ]

@@ -1,10 +1,11 @@
 use Rattle.std.proofs.Common.{◌≡◌, ◌∙◌, ◌≤◌, ℕ, List, length, length-set, get_or, sym, ap, arith, subst}
 use Rattle.std.specs.Prelude.{Bool, Option, None, Some, replicate, reverse}
 use Rattle.std.proofs.lemmas.List.{take_all, length-replicate}
+use Rattle.net_model.proofs.Elements.{get_or-replicate_anywhere}
 use Rattle.pair_sets.specs.Cube.{fixed_bit, FixesOnce}
 use Rattle.distinguish_search.specs.declared.frames.Frame.{Frame}
 use Rattle.distinguish_search.specs.Frames.{cube_of}
-use Rattle.distinguish_search.proofs.FrameLemmas.{source_within, bits_none, bits_more}
+use Rattle.distinguish_search.proofs.FrameLemmas.{source_within, bits_more}
 use Rattle.distinguish_search.proofs.stack.Stack.cube.Goals as goal
 
 once_of_items : (sources : ℕ) (items own frames : List Frame) → items ≡ own → reverse own ≡ frames → FixesOnce sources (cube_of frames) → FixesOnce sources (cube_of (reverse items))
@@ -15,7 +16,7 @@ loop-frame-init c =
     let none : Option Bool = None in
     let made : c.in_ok-cube.cube.items ≡ replicate c.args.sources none = c.in_ok-cube.ensures in (
       ap length made ∙ length-replicate c.args.sources none,
-      λ source. (λ i. get_or (made i) source none) ∙ bits_none c.args.sources source,
+      λ source. (λ i. get_or (made i) source none) ∙ get_or-replicate_anywhere c.args.sources source none,
     )
 
 pub index_mut-requires : goal.index_mut-requires
