@@ -1,9 +1,10 @@
 -- What the check answers, once the rest of the file is read.
-use Rattle.std.proofs.Common.{◌≡◌, ◌∙◌, ℕ, ◌≤◌, ◌^◌, true, false, List, length, Option, None, Result, Ok, Err, refl, sym, ap, arith}
+use Rattle.std.proofs.Common.{◌≡◌, ◌∙◌, ℕ, ◌≤◌, ◌^◌, true, false, List, length, Option, None, Result, Ok, Err, refl, sym, ap}
 use Rattle.std.specs.Prelude.{IfOk, OnOk, IsErrOf, IsSome, is_some}
 use Rattle.diag_shelf.specs.World.{State}
-use Rattle.diag_shelf.specs.Calls.{Told, IsReadCall, SameFacts}
+use Rattle.diag_shelf.specs.Calls.{Told, IsReadCall}
 use Rattle.diag_shelf.specs.declared.shelf.ShelfFault.{ShelfFault}
+use Rattle.diag_shelf.proofs.Steps.{read_unkept}
 use Rattle.diag_shelf.specs.declared.shelf.ShelfFault.TheVariants as shelf
 use Rattle.net_model.specs.Circuit.{Circuit}
 use Rattle.result_file.specs.declared.record.Record.{Record}
@@ -31,16 +32,12 @@ on_no_result P (file.Result fault) never = absurd (never fault refl)
 on_no_result P file.Failed never = tt
 on_no_result P file.NoMemory never = tt
 
--- want of memory is no fault of the shelf
-pub no_memory : {a b : State} → SameFacts a b → IsReadCall {T = Unit {0}} (Err shelf.NoMemory) a b
-no_memory s = record { tells = s.tells; sure = s.sure; writes = s.writes; later = omega (arith, s.reads); ok = tt; failed = λ e. absurd (cc); memory = λ sure e. s.reads }
-
--- nor is any answer behind a call that read, but that it failed
+-- an answer behind a call that read is no fault of the shelf, but that it failed
 pub call_after : {T : Type 0} (result : Result T FileFault) {a b : State} → ¬ IsErrOf result file.Failed → IsReadCall {T = Unit {0}} (Ok tt) a b → IsReadCall (as_shelf result) a b
 call_after (Ok x) never call = call
 call_after (Err (file.Result fault)) never call = call
 call_after (Err file.Failed) never call = absurd (never refl)
-call_after (Err file.NoMemory) never call = no_memory (record { tells = call.tells; sure = call.sure; reads = call.ok; writes = call.writes })
+call_after (Err file.NoMemory) never call = read_unkept _ _ _ (record { tells = call.tells; sure = call.sure; reads = call.ok; writes = call.writes }) refl
 
 abbrev out_of_memory : Result Checked FileFault
 out_of_memory = Err file.NoMemory

@@ -6,7 +6,7 @@ use Rattle.diag_shelf.specs.declared.shelf.ShelfFault.{ShelfFault}
 use Rattle.diag_shelf.specs.declared.shelf.ShelfFault.TheVariants.{Failed, NoMemory}
 use Rattle.diag_shelf.specs.World.{Files, World, State}
 use Rattle.diag_shelf.specs.Calls.{IsReadCall, SameFacts, OnlyReads, Told, Rose}
-use Rattle.diag_shelf.proofs.Steps.{facts_same, facts_after_read}
+use Rattle.diag_shelf.proofs.Steps.{facts_same, facts_after_read, read_failed}
 use Rattle.request_words.specs.Request.{Text}
 use Rattle.dia_commands.specs.Outcome.{said, IsPartOf, IsUntouched}
 use Rattle.dia_commands.specs.Plan.{Plan, judged, refused_file, accepted_file, CallsFor, MayLeave, AreHeld}
@@ -185,15 +185,4 @@ was_accepted {T} {X} {y} {name} {Accepted} {x} {a} {b} call only held = record {
 
 -- a call that opened the file, and then one that failed
 pub read_after : {T U : Type 0} {x : U} {fault : ShelfFault} {a b c : State} → IsReadCall (Ok x) a b → IsReadCall {T = T} (Err fault) b c → IsReadCall {T = T} (Err fault) a c
-read_after {T} {U} {x} {fault} {a} {b} {c} opened call = record {
-  tells = call.tells ∙ opened.tells;
-  sure = call.sure ∙ opened.sure;
-  writes = call.writes ∙ opened.writes;
-  later = omega (arith, call.later, opened.ok);
-  ok = tt;
-  failed = λ e. omega (arith, call.failed e, opened.ok);
-  memory = λ s e. call.memory (opened.sure ∙ s) e ∙ opened.ok;
-}
-
-pub reads_after : {u v w : World} → OnlyReads u v → OnlyReads v w → OnlyReads u w
-reads_after r s = record { files = s.files ∙ r.files; written = s.written ∙ r.written; console = s.console ∙ r.console }
+read_after {T} {U} {x} {fault} {a} {b} {c} opened call = read_failed (Err fault) fault a b c (facts_read opened) call refl

@@ -1,13 +1,13 @@
-use Rattle.std.proofs.Common.{rules, ◌≡◌, Result, Err, ap}
+use Rattle.std.proofs.Common.{rules, ◌≡◌, Result, Err, refl, ap}
 use Rattle.result_file.specs.declared.fault.ResultFault.{ResultFault}
 use Rattle.diag_shelf.specs.Calls.{Told}
-use Rattle.diag_shelf.proofs.Steps.{facts_same}
+use Rattle.diag_shelf.proofs.Steps.{facts_same, read_unkept}
 use Rattle.dia_check.specs.Accepted.{ReadsRest}
 use Rattle.dia_check.specs.declared.answer.FileFault.{FileFault}
 use Rattle.dia_check.specs.declared.answer.FileFault.TheVariants as file
 use Rattle.std.proofs.lemmas.Result.{err_from_is_err_and}
 use Rattle.dia_check.proofs.RestLemmas.{rest_refused}
-use Rattle.dia_check.proofs.AnswerLemmas.{on_any, on_no_result, no_memory, memory_is_no_failure, call_after, told_read, valid_after}
+use Rattle.dia_check.proofs.AnswerLemmas.{on_any, on_no_result, memory_is_no_failure, call_after, told_read, valid_after}
 use Rattle.dia_check.proofs.checking.check_for.Goals as goal
 
 pub returns-in_err-read_rest-clause-call : goal.returns-in_err-read_rest-clause-call
@@ -36,7 +36,7 @@ returns-clause-refused g c = λ fault same told.
 pub returns-in_err-reader-clause-call : goal.returns-in_err-reader-clause-call
 returns-in_err-reader-clause-call g c =
     let p = err_from_is_err_and c.from_residual.result c.from_residual.ensures.1 in
-    rw (p.1, p.2) (no_memory (facts_same _), λ sure. memory_is_no_failure)
+    rw (p.1, p.2) (read_unkept _ _ _ (facts_same _) refl, λ sure. memory_is_no_failure)
 
 pub returns-in_err-read_rest-clause-read : goal.returns-in_err-read_rest-clause-read
 returns-in_err-read_rest-clause-read g c =

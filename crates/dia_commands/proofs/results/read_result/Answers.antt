@@ -4,9 +4,9 @@ use Rattle.std.specs.FinMap.{get}
 use Rattle.diag_shelf.specs.World.{State}
 use Rattle.diag_shelf.specs.declared.shelf.ShelfFault.TheVariants.{Failed, NoMemory}
 use Rattle.diag_shelf.specs.Calls.{Told, Opens, OnlyReads}
-use Rattle.diag_shelf.proofs.Steps.{facts_same, facts_after_read}
+use Rattle.diag_shelf.proofs.Steps.{facts_same, facts_after_read, reads_more}
 use Rattle.dia_check.specs.Accepted.{rest_of}
-use Rattle.dia_commands.proofs.Followed.{over_fault, over_refused, read_after, reads_after}
+use Rattle.dia_commands.proofs.Followed.{over_fault, over_refused, read_after}
 use Rattle.dia_commands.proofs.results.read_result.Goals as goal
 
 some_held : (o : Option (List ℕ)) → IsSome o → o ≡ Some (unwrap_or o [])
@@ -19,7 +19,7 @@ record IsOpened (name : List ℕ) (a b : State) : Type 0 where
   tells : b.tells ≡ a.tells
 
 only_reads : {name : List ℕ} {a b : State} (c : State) → IsOpened name a b → Told b c OnlyReads → Told a c OnlyReads
-only_reads {name} {a} {b} c is others told = reads_after (is.opened told).only (others (is.tells ∙ told))
+only_reads {name} {a} {b} c is others told = reads_more (is.opened told).only (others (is.tells ∙ told))
 
 held : {name : List ℕ} {a b : State} → IsOpened name a b → IsTrue a.tells → get a.world.files name ≡ Some (rest_of b.world)
 held {name} {a} {b} is told = let o = is.opened told in sym o.rest ∙ some_held b.world.rest o.found
