@@ -1,6 +1,6 @@
-use Rattle.std.proofs.Common.{◌∙◌, ◌<◌, length, refl, inl, inr, arith}
+use Rattle.std.proofs.Common.{◌∙◌, ◌<◌, false, length, refl, inl, inr, arith}
 use Rattle.std.specs.Prelude.{IsTrue}
-use Rattle.std.proofs.lemmas.Bool.{cases_lt}
+use Rattle.std.proofs.lemmas.Bool.{both_ways, cases_lt}
 use Rattle.std.proofs.lemmas.Result.{err_from_is_err_and}
 use Rattle.net_model.specs.ClassTable.{class_at, class_count}
 use Rattle.kept_vectors.proofs.KeepLemmas.{table_numbers}
@@ -40,7 +40,7 @@ loop-member-init g c = record { draft = c.requires.1.0; same = refl; below = c.r
 pub loop-member-preserved : goal.loop-member-preserved
 loop-member-preserved g c =
     let settled = c.in_ok-settle.ensures in
-    let evidence : ¬ IsTrue c.in_ok-settle.field-0 = λ apart. (let no = c.if-branch.false in cc) in
+    let evidence : ¬ IsTrue c.in_ok-settle.field-0 = both_ways c.in_ok-settle.field-0 c.if-branch.false in
     record { draft = settled.draft; same = settled.same evidence ∙ c.loop-member.invariant.same; below = settled.marked evidence }
 
 pub returns-in_err-settle : goal.returns-in_err-settle
@@ -49,7 +49,7 @@ returns-in_err-settle g c =
     rw (p.1, p.2) (record { draft = tt; more = tt; marked = tt; err = c.in_err-settle.ensures.err })
 
 pub returns : goal.returns
-returns g c = record { draft = c.loop-member.invariant.draft; more = λ none. absurd (cc); marked = rw c.classes.ensures.value at c.in_default.ensures; err = tt }
+returns g c = record { draft = c.loop-member.invariant.draft; more = λ none. absurd (both_ways false refl none); marked = rw c.classes.ensures.value at c.in_default.ensures; err = tt }
 
 pub returns-then-branch-clause-draft : goal.returns-then-branch-clause-draft
 returns-then-branch-clause-draft g c = c.in_ok-settle.ensures.draft

@@ -1,3 +1,4 @@
+use Rattle.std.proofs.lemmas.Result.{err_from_is_err_and}
 use Rattle.std.proofs.Common.{arith}
 use Rattle.kept_vectors.proofs.KeepLemmas.{table_numbers}
 use Rattle.dia_gen.proofs.DraftSteps.{draft_broken}
@@ -19,3 +20,13 @@ settle_pair-requires-clause-simulated g c = c.requires.1.0.is.sim
 
 pub returns-in-Err-clause-err : goal.returns-in-Err-clause-err
 returns-in-Err-clause-err g c = draft_broken c.requires.1.0
+
+pub returns-in_err-add_pattern-in-Ok-Apart : goal.returns-in_err-add_pattern-in-Ok-Apart
+returns-in_err-add_pattern-in-Ok-Apart g c =
+    let p = err_from_is_err_and c.from_residual.result c.from_residual.ensures.1 in
+    rw (p.1, p.2) (record { draft = tt; more = tt; stay = tt; same = tt; marked = tt; err = c.in_err-add_pattern-in-Ok-Apart.ensures.err })
+
+pub returns-in_err-add_evidence-in-Ok-By : goal.returns-in_err-add_evidence-in-Ok-By
+returns-in_err-add_evidence-in-Ok-By g c =
+    let p = err_from_is_err_and c.from_residual-in_err-add_evidence-in-Ok-By.result c.from_residual-in_err-add_evidence-in-Ok-By.ensures.1 in
+    rw (p.1, p.2) (record { draft = tt; more = tt; stay = tt; same = tt; marked = tt; err = c.in_err-add_evidence-in-Ok-By.ensures.err })
