@@ -83,8 +83,8 @@ pub(crate) fn number_arg<'a>(alloc: Global, id: &'a str, most: u32) -> Arg<'a>
     name_arg(alloc, id).value_parser(number_parser(1, most))
 }
 
-/// An option with a number of at most this, and its default.
-pub(crate) fn option_arg<'a>(alloc: Global, id: &'a str, default: &'a str, most: u32) -> Arg<'a>
+// An option with a number of at most this, and its default.
+fn option_arg<'a>(alloc: Global, id: &'a str, default: &'a str, most: u32) -> Arg<'a>
     ensures rule { rule_of result ≡ option_rule id.entry.now default.entry.now most }
     ensures local { result.global ≡ false }
 {
@@ -94,7 +94,7 @@ pub(crate) fn option_arg<'a>(alloc: Global, id: &'a str, default: &'a str, most:
         .value_parser(number_parser(0, most))
 }
 
-/// A command with an option more.
+/// A command with an option more: a number of at most this, and its default.
 pub(crate) fn with_option<'a>(
     alloc: Global,
     command: Command<'a>,
