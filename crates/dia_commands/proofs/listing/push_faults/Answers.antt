@@ -1,4 +1,4 @@
-use Rattle.std.proofs.Common.{◌≡◌, ◌+◌, ◌++◌, ◌∷◌, [], ℕ, List, get_or, ap, sym, ◌∙◌, arith, length}
+use Rattle.std.proofs.Common.{◌≡◌, ◌+◌, ◌<◌, ◌++◌, ◌∷◌, [], ℕ, List, get_or, ap, sym, subst, ◌∙◌, arith, length}
 use Rattle.std.specs.List.{flat_map, range_with_len}
 use Rattle.std.proofs.lemmas.List.{append_assoc, append-nil}
 use Rattle.std.proofs.lemmas.Grind.{flat_map-append}
@@ -6,9 +6,19 @@ use Rattle.std.proofs.lemmas.Option.{get_or_from_slice_get}
 use Rattle.net_model.proofs.Orders.{range_with_len_more}
 use Rattle.net_model.specs.declared.fault.Fault.{Fault}
 use Rattle.net_model.specs.declared.fault.Fault.TheVariants.{Free}
+use Rattle.net_model.specs.Fault.{IsFaultOf}
 use Rattle.net_model.specs.FaultList.{fault_numbered}
 use Rattle.dia_commands.specs.Faults.{fault_line}
 use Rattle.dia_commands.proofs.listing.push_faults.Goals as goal
+
+pub loop-number-init : goal.loop-number-init
+loop-number-init c = sym (append-nil c.args.text.now.items)
+
+pub push_fault-requires-clause-fault : goal.push_fault-requires-clause-fault
+push_fault-requires-clause-fault c =
+    let k = c.loop-number.number in
+    let inside : k < length c.args.listed.now = omega (arith, c.loop-number-test.true, c.len-number-end.ensures.value) in
+    subst (IsFaultOf c.args.design.now.circuit) (get_or_from_slice_get c.args.listed.now k c.get.result Free c.get.ensures.value) (c.requires.stand k Free inside)
 
 pub loop-number-preserved : goal.loop-number-preserved
 loop-number-preserved c =
