@@ -2,13 +2,16 @@ use Rattle.std.proofs.Common.{◌≡◌, ◌∙◌, [], inl, inr, ap, subst, ari
 use Rattle.net_model.specs.Circuit.{line_count, pins_of}
 use Rattle.net_model.specs.Topological.{parts_circuit, open_pins}
 use Rattle.net_model.proofs.Wired.{few_pins_of}
-use Rattle.net_model.proofs.QueueSteps.{IsStart, start_more, start_done}
+use Rattle.net_model.proofs.QueueSteps.{IsStart, start_none, start_more, start_done}
 use Rattle.net_model.proofs.topological.ready_gates.Goals as goal
 use Rattle.net_model.proofs.topological.ready_gates.Goals.{then-pins-eq0+in_ok-push-2, else-pins-eq0}
 
 pub gate_count-pins-requires : goal.gate_count-pins-requires
 gate_count-pins-requires c =
     rw c.pins_of.ensures.value (omega (arith, few_pins_of (parts_circuit c.args.parts.now) c.requires c.loop-line.line))
+
+pub loop-line-init : goal.loop-line-init
+loop-line-init c = rw c.new-order.ensures.items (start_none (parts_circuit c.args.parts.now) c.in_ok-waits.waits.items (c.in_ok-waits.ensures.items_if_clones_equal (λ y e. e)))
 
 pub loop-line-preserved : goal.loop-line-preserved
 loop-line-preserved c =
