@@ -1,8 +1,8 @@
 -- Marks of lines and positions, one more at a time.
-use Rattle.std.proofs.Common.{◌≡◌, ◌∙◌, ℕ, ◌+◌, ◌<◌, ◌⊎◌, inl, inr, Bool, true, false, List, [], ◌∷◌, ◌++◌, length, take, set, get_or, sym, ap, arith, subst, length-append}
+use Rattle.std.proofs.Common.{◌≡◌, ◌∙◌, ℕ, ◌+◌, ◌<◌, ◌⊎◌, inl, inr, Bool, true, false, List, [], ◌∷◌, ◌++◌, length, take, set, get_or, replicate, sym, ap, arith, subst, length-append}
 use Rattle.std.specs.Prelude.{Contains}
-use Rattle.std.proofs.lemmas.Bool.{cases_eq, cases_lt}
-use Rattle.std.proofs.lemmas.List.{get_or_append_left, get_or_at, get_or-set_same, get_or-set_other, length-set, take_more}
+use Rattle.std.proofs.lemmas.Bool.{cases_eq, cases_lt, false≢true}
+use Rattle.std.proofs.lemmas.List.{get_or_append_left, get_or_at, get_or-set_same, get_or-set_other, length-set, length-replicate, get_or-replicate, get_or_past, take_more}
 use Rattle.std.proofs.lemmas.List.Elements.{Contains-push, Contains-append_left, Contains-push_cases}
 use Rattle.net_model.specs.Answer.{bit_at}
 use Rattle.fault_list.specs.Scope.{AreMarks, MarksLines}
@@ -71,3 +71,50 @@ module _ (positions : List ℕ) (reached : List Bool) where
     pub whole : length marks ≡ lines
     pub shown : (at : ℕ) → at < count → bit_at reached at ≡ true → bit_at marks (get_or positions at 0) ≡ true
     pub no_others : (line : ℕ) → bit_at marks line ≡ true → (at : ℕ) × (at < length positions) × (bit_at reached at ≡ true) × (get_or positions at 0 ≡ line)
+
+  pub shown_none : (lines : ℕ) (marks : List Bool) → marks ≡ replicate lines false → ShownBelow 0 lines marks
+  shown_none lines marks none =
+      let unmarked : (line : ℕ) → bit_at marks line ≡ false = λ line.
+      ap (λ bits. bit_at bits line) none ∙ elim (cases_lt line lines) [
+        | inl below ↦ get_or-replicate lines line false false below
+        | inr past ↦ get_or_past (replicate lines false) line false (omega (arith, length-replicate lines false))
+      ] in
+      record {
+        whole = ap length none ∙ length-replicate lines false;
+        shown = λ at h. absurd (omega (arith, h));
+        no_others = λ line e. absurd (false≢true (sym (unmarked line) ∙ e));
+      }
+
+  pub shown_more : (count lines : ℕ) (marks : List Bool) → count < length positions → get_or positions count 0 < lines → bit_at reached count ≡ true
+      → ShownBelow count lines marks → ShownBelow (count + 1) lines (set marks (get_or positions count 0) true)
+  shown_more count lines marks within inside here so_far =
+      let at = get_or positions count 0 in
+      let fits : at < length marks = omega (arith, so_far.whole) in
+      record {
+        whole = length-set marks at true ∙ so_far.whole;
+        shown = λ k h r.
+            elim (cases_lt k count) [
+              | inl below ↦ mark_stays marks at (get_or positions k 0) (so_far.shown k below r) fits
+              | inr above ↦
+                  let same : count ≡ k = omega arith in
+                  subst (λ n. bit_at (set marks at true) (get_or positions n 0) ≡ true) same (get_or-set_same marks at true false fits)
+            ];
+        no_others = λ line e.
+            elim (mark_was marks at line e) [
+              | inl before ↦ so_far.no_others line before
+              | inr same ↦ (count, within, here, same)
+            ];
+      }
+
+  pub shown_skip : (count lines : ℕ) (marks : List Bool) → bit_at reached count ≡ false → ShownBelow count lines marks → ShownBelow (count + 1) lines marks
+  shown_skip count lines marks unreached so_far = record {
+    whole = so_far.whole;
+    shown = λ k h r.
+        elim (cases_lt k count) [
+          | inl below ↦ so_far.shown k below r
+          | inr above ↦
+              let same : count ≡ k = omega arith in
+              absurd (false≢true (sym unreached ∙ (ap (bit_at reached) same ∙ r)))
+        ];
+    no_others = so_far.no_others;
+  }

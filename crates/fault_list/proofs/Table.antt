@@ -3,20 +3,21 @@ use Rattle.std.proofs.Common.{◌≡◌, ◌≢◌, ◌∙◌, ℕ, zero, suc, �
 use Rattle.std.specs.Prelude.{None, Some, option_and_then, slice_get, sum_by, nat_lt, if◌then◌else◌}
 use Rattle.std.specs.Bool.{then_some}
 use Rattle.std.specs.List.{range_with_len}
-use Rattle.std.proofs.lemmas.Bool.{cases_eq, cases_lt}
+use Rattle.std.proofs.lemmas.Bool.{cases_eq, cases_lt, false≢true}
 use Rattle.std.proofs.lemmas.Bool.Decides.{nat_tests}
 use Rattle.std.proofs.lemmas.List.{get_or-set_same, get_or-set_other, length-set, take_all}
 use Rattle.std.proofs.lemmas.List.FromFn.{get_or-map-range_with_len, length-map-range_with_len}
 use Rattle.std.proofs.lemmas.List.Sums.{sum_by_more}
-use Rattle.std.proofs.lemmas.Option.{slice_get-get_or, slice_get_within, get_or_from_slice_get, option_and_then_some, slice_get_past, slice_get_cases}
+use Rattle.std.proofs.lemmas.Option.{slice_get-get_or, slice_get_within, get_or_from_slice_get, option_and_then_some, slice_get_past, slice_get_cases, none-some, same_Some}
 use Rattle.net_model.specs.declared.gate.Gate.{Gate}
 use Rattle.net_model.specs.declared.fault.Site.{Site}
 use Rattle.net_model.specs.declared.fault.Site.TheVariants.{Stem, Pin, Position}
 use Rattle.net_model.specs.declared.fault.Fault.TheVariants.{Stuck}
 use Rattle.net_model.specs.Circuit.{Circuit, IsCircuit, line_count, pins_of}
 use Rattle.net_model.specs.Fault.{IsFaultOf}
-use Rattle.fault_list.specs.Slots.{row_of, row_start, slot_of}
+use Rattle.fault_list.specs.Slots.{row_of, row_start, slot_of, ArePlaces}
 use Rattle.fault_list.proofs.Bound.{pins_of_item}
+use Rattle.fault_list.proofs.Numbered.{IsPlaceOf}
 
 -- ---- slots in any table
 
@@ -108,6 +109,21 @@ module _ (starts : List ℕ) (sites : List Site) where
             (λ same. differ (once place count site (subst (λ s. slice_get sites place ≡ Some s) (one_site starts rising other site slot (subst (λ n. slot_of starts other ≡ Some n) same e) at) there) here))
             f)
       ]
+
+-- ---- the place in a site's slot
+
+module _ (starts places : List ℕ) (sites : List Site) (are : ArePlaces starts places sites) (site : Site) where
+  pub no_place : option_and_then (slice_get places) (slot_of starts site) ≡ None → IsPlaceOf sites site None
+  no_place none place = (λ e. absurd (none-some place e), λ there. absurd (none-some place (sym none ∙ are place site there)))
+
+  -- the place that stands there, with a test of whether the site does at that place
+  pub place_if : (found : ℕ) → option_and_then (slice_get places) (slot_of starts site) ≡ Some found → (test : Bool)
+      → (test ≡ true → slice_get sites found ≡ Some site) → (slice_get sites found ≡ Some site → test ≡ true) → IsPlaceOf sites site (then_some test found)
+  place_if found at true right passes place = (λ e. ap (slice_get sites) (sym (same_Some found place e)) ∙ right refl, λ there. sym at ∙ are place site there)
+  place_if found at false right passes place = (
+    λ e. absurd (none-some place e),
+    λ there. absurd (false≢true (passes (ap (slice_get sites) (same_Some found place (sym at ∙ are place site there)) ∙ there))),
+  )
 
 -- ---- the rows of a circuit
 
