@@ -1,6 +1,7 @@
 use Rattle.std.proofs.Common.{◌≡◌, ◌∙◌, ◌+◌, ◌++◌, [], ◌∷◌, map, arith, ap, sym}
 use Rattle.std.specs.List.{range_with_len}
 use Rattle.std.proofs.lemmas.List.FromFn.{map-range_with_len_more}
+use Rattle.net_model.specs.Circuit.{line_count}
 use Rattle.fault_list.specs.Slots.{row_start}
 use Rattle.fault_list.proofs.Table.{row_start-more, row_start-few}
 use Rattle.fault_list.proofs.slots.add_starts.Goals as goal
@@ -30,3 +31,9 @@ loop-line-preserved c =
           ∙ (sym (map-range_with_len_more (row_start circuit) 0 (line + 2) (line + 2) (omega arith))
           ∙ ap (λ n. map (row_start circuit) (range_with_len 0 n)) (sym three)));
     }
+
+pub returns : goal.returns
+returns c =
+    let circuit = c.args.circuit.now in
+    let all : c.loop-line.line ≡ line_count circuit = omega (arith, c.lines-line-end.ensures.value) in
+    c.loop-line.invariant.starts ∙ ap (λ n. map (row_start circuit) (range_with_len 0 (n + 2))) all
