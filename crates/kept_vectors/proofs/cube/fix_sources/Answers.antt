@@ -1,7 +1,7 @@
-use Rattle.std.proofs.Common.{◌≡◌, ◌∙◌, ◌<◌, Bool, List, length, set, map, ap, arith}
+use Rattle.std.proofs.Common.{◌≡◌, ◌∙◌, ◌<◌, Bool, List, length, set, map, refl, sym, ap, arith}
 use Rattle.std.proofs.lemmas.List.{length-map}
 use Rattle.word_sim.specs.Block.{Block}
-use Rattle.kept_vectors.proofs.CubeLemmas.{below_free, below_fixed}
+use Rattle.kept_vectors.proofs.CubeLemmas.{below_none, below_free, below_fixed, below_all}
 use Rattle.kept_vectors.proofs.cube.fix_sources.Goals as goal
 use Rattle.kept_vectors.proofs.cube.fix_sources.Goals.{in-Some, in_default}
 
@@ -27,3 +27,11 @@ loop-source-preserved c =
         fixed = rw w.block-is (below_free cube source w.in_default.is old.vectors so_far.fixed);
       }
     ]
+
+pub loop-source-init : goal.loop-source-init
+loop-source-init c =
+    record { sources = refl; count = refl; fixed = below_none c.args.cube.now c.args.block.now.vectors (λ k d h. c.sources-source-end.ensures.block.widths k d h ∙ sym c.requires) }
+
+pub returns-clause-cube : goal.returns-clause-cube
+returns-clause-cube c =
+    below_all c.args.cube.now c.loop-source.source (omega (arith, c.loop-source-test.false, c.sources-source-end.ensures.value, c.requires)) c.loop-source.block.vectors c.loop-source.invariant.fixed

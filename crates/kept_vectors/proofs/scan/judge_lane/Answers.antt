@@ -1,12 +1,14 @@
 use Rattle.std.proofs.Common.{◌≡◌, ◌<◌, Bool, List, [], false, length, get_or, refl, sym, ap, subst, ◌∙◌, arith}
-use Rattle.std.proofs.lemmas.Result.{on_ok_weaker}
+use Rattle.std.specs.Prelude.{IfOk}
+use Rattle.std.proofs.lemmas.Result.{IfOk-from_err, on_ok_weaker}
+use Rattle.class_refine.specs.CutIn.{AreClassesOf}
 use Rattle.net_model.specs.Answer.{bit_at}
 use Rattle.word_sim.specs.GoodSim.{vectors_of}
 use Rattle.fault_sim.specs.FaultyLanes.{vector_at}
 use Rattle.kept_vectors.specs.declared.notes.Note.{Note}
 use Rattle.kept_vectors.specs.Kept.{with_vector}
 use Rattle.kept_vectors.specs.Notes.{AreRight, is_noted}
-use Rattle.kept_vectors.specs.Scan.{kept_now}
+use Rattle.kept_vectors.specs.Scan.{kept_now, IsOffered}
 use Rattle.kept_vectors.specs.Spans.{lane_notes}
 use Rattle.kept_vectors.proofs.KeepLemmas.{ran_vectors, offered_lane, skipped_lane}
 use Rattle.kept_vectors.proofs.ShownLemmas.{right_shown, told_at, notes_within, alike_elsewhere}
@@ -76,3 +78,61 @@ returns-clause-ok c =
     (λ number position. c.fill_row.ensures.set number position ∙ ap (λ (ns : List Note). is_noted ns lane number position) (shown at))
     (λ number h. c.fill_row.ensures.places.widths number ∙ c.requires.blank.widths number h) (kept_now c.offer-offered.new.self)
     (offered ∙ ap (λ (x : List Bool). with_vector old (x, c.fill_row.new.row)) v)) c.offer-offered.ensures.ok
+
+pub returns-clause-offered : goal.returns-clause-offered
+returns-clause-offered c =
+    let good = c.args.good.now in
+    let v : c.in_ok-v.v ≡ vector_at good c.args.lane =
+    c.in_ok-v.ensures.value ∙ ap (λ (vs : List (List Bool)). get_or vs c.args.lane []) (sym (ran_vectors good c.args.block.now.vectors c.requires.told.ran)) in
+    subst (λ x. IfOk c.offer-offered.result (λ splits. IsOffered splits x (kept_now c.args.kept.now) (kept_now c.offer-offered.new.self))) v c.offer-offered.ensures.kept
+
+pub returns-clause-err : goal.returns-clause-err
+returns-clause-err c = c.offer-offered.ensures.err
+
+pub returns-clause-blank : goal.returns-clause-blank
+returns-clause-blank c =
+    let filled = c.fill_row.ensures.places in
+    let cleared = c.clear_row.ensures.places in
+    record {
+      count = cleared.count ∙ filled.count ∙ c.requires.blank.count;
+      widths = λ number h. cleared.widths number ∙ filled.widths number ∙ c.requires.blank.widths number h;
+      clear = c.clear_row.ensures.clear;
+    }
+
+pub offer-offered-requires-clause-rows : goal.offer-offered-requires-clause-rows
+offer-offered-requires-clause-rows c = c.fill_row.ensures.places.count ∙ c.requires.blank.count ∙ sym c.requires.told.numbers
+
+pub offer-offered-requires-clause-classes : goal.offer-offered-requires-clause-classes
+offer-offered-requires-clause-classes c = subst (AreClassesOf c.args.kept.now.classes) (sym c.as_slice.ensures.value) c.in_ok-classes.ensures.classes
+
+pub clear_row-requires-clause-set : goal.clear_row-requires-clause-set
+clear_row-requires-clause-set c = c.fill_row.ensures.set
+
+-- ---- what an error returns
+
+pub returns-in_err-v-clause-blank : goal.returns-in_err-v-clause-blank
+returns-in_err-v-clause-blank c = c.requires.blank
+
+pub returns-in_err-v-clause-ok : goal.returns-in_err-v-clause-ok
+returns-in_err-v-clause-ok c = IfOk-from_err c.from_residual.result _ c.from_residual.ensures.0
+
+pub returns-in_err-v-clause-offered : goal.returns-in_err-v-clause-offered
+returns-in_err-v-clause-offered c = IfOk-from_err c.from_residual.result _ c.from_residual.ensures.0
+
+pub returns-in_err-picked-clause-blank : goal.returns-in_err-picked-clause-blank
+returns-in_err-picked-clause-blank c = c.requires.blank
+
+pub returns-in_err-picked-clause-ok : goal.returns-in_err-picked-clause-ok
+returns-in_err-picked-clause-ok c = IfOk-from_err c.from_residual-in_err-picked.result _ c.from_residual-in_err-picked.ensures.0
+
+pub returns-in_err-picked-clause-offered : goal.returns-in_err-picked-clause-offered
+returns-in_err-picked-clause-offered c = IfOk-from_err c.from_residual-in_err-picked.result _ c.from_residual-in_err-picked.ensures.0
+
+pub returns-in_err-classes-clause-blank : goal.returns-in_err-classes-clause-blank
+returns-in_err-classes-clause-blank c = c.requires.blank
+
+pub returns-in_err-classes-clause-ok : goal.returns-in_err-classes-clause-ok
+returns-in_err-classes-clause-ok c = IfOk-from_err c.from_residual-in_err-classes.result _ c.from_residual-in_err-classes.ensures.0
+
+pub returns-in_err-classes-clause-offered : goal.returns-in_err-classes-clause-offered
+returns-in_err-classes-clause-offered c = IfOk-from_err c.from_residual-in_err-classes.result _ c.from_residual-in_err-classes.ensures.0

@@ -1,4 +1,4 @@
-use Rattle.std.proofs.Common.{◌≡◌, ℕ, ◌<◌, ◌++◌, length, sym, ap, subst, ◌∙◌, arith, inl, inr}
+use Rattle.std.proofs.Common.{◌≡◌, ℕ, ◌<◌, ◌++◌, length, refl, sym, ap, subst, ◌∙◌, arith, inl, inr, true≢false}
 use Rattle.std.specs.Prelude.{All, Contains}
 use Rattle.std.proofs.lemmas.Bool.{cases_lt, or_parts}
 use Rattle.std.proofs.lemmas.List.Elements.{All-contains}
@@ -7,7 +7,8 @@ use Rattle.net_model.specs.ClassTable.{class_at, members}
 use Rattle.class_refine.proofs.Pieces.{members-All, members-contains}
 use Rattle.word_sim.specs.declared.lanes.TheConstants.{LANES}
 use Rattle.word_sim.specs.GoodSim.{vectors_of}
-use Rattle.kept_vectors.specs.Notes.{AreNoted, IsUnnoted}
+use Rattle.kept_vectors.specs.Notes.{AreNoted, AreRight, IsUnnoted}
+use Rattle.kept_vectors.specs.Spans.{ArePartsOf}
 use Rattle.kept_vectors.proofs.NoteLemmas.{unnoted_other, unnoted_later, noted_later}
 use Rattle.kept_vectors.proofs.KeepLemmas.{few_members}
 use Rattle.kept_vectors.proofs.ShownLemmas.{parts_more, shown_later, shown_class}
@@ -91,3 +92,25 @@ pub returns-clause-alike : goal.returns-clause-alike
 returns-clause-alike c m n lane hm hn same live none =
     let class = c.count-class-end.ensures.whole.classes m hm in
     c.loop-class.invariant.alike m n lane hm hn same (omega (arith, class, c.count-class-end.ensures.value, c.loop-class-test.false)) live none
+
+-- nothing is noted before the first class
+pub loop-class-init : goal.loop-class-init
+loop-class-init c =
+    let good = c.args.good.now in
+    let of = c.requires.of in
+    let no_notes = sym c.clear.ensures.items in
+    record {
+      of = record { lead = of.lead; member = of.member; places = of.places; starts = of.starts };
+      right = subst (AreRight good) no_notes (record { numbers = λ k d h. absurd (omega (arith, h)); positions = λ k d h. absurd (omega (arith, h)); differ = λ number position lane h live e. absurd (true≢false (sym e)) });
+      fresh = λ number h above. subst (λ ns. IsUnnoted good ns number) no_notes (λ position lane inside live. refl);
+      noted = λ m n hm hn same below. absurd (omega (arith, below));
+      alike = λ m n lane hm hn same below. absurd (omega (arith, below));
+      parts = subst (ArePartsOf c.clear.new.self.items) (sym c.clear-2.ensures.items) (λ k d h. absurd (omega (arith, h)));
+      shown = λ m n lane hm hn same below. absurd (omega (arith, below));
+    }
+
+pub note_class-requires-clause-of : goal.note_class-requires-clause-of
+note_class-requires-clause-of c = c.loop-class.invariant.of
+
+pub returns-clause-parts : goal.returns-clause-parts
+returns-clause-parts c = c.loop-class.invariant.parts

@@ -1,4 +1,4 @@
-use Rattle.std.proofs.Common.{◌≡◌, ◌<◌, set, length, get_or, refl, sym, subst, ◌∙◌, arith}
+use Rattle.std.proofs.Common.{◌≡◌, ◌<◌, set, length, get_or, refl, sym, ap, subst, ◌∙◌, arith}
 use Rattle.std.proofs.lemmas.List.{length-set, get_or-set_same}
 use Rattle.kept_vectors.specs.Notes.{AreSpans}
 use Rattle.kept_vectors.proofs.SpanLemmas.{spans_more}
@@ -37,3 +37,18 @@ pub returns-in_err-simulate-clause-of : goal.returns-in_err-simulate-clause-of
 returns-in_err-simulate-clause-of c =
     let of = c.requires.of in
     record { lead = c.in_err-simulate.ensures.circuit; member = of.member; places = of.places; starts = length-set c.args.self.now.starts.items 0 c.len.result ∙ of.starts }
+
+pub simulate-requires-clause-number : goal.simulate-requires-clause-number
+simulate-requires-clause-number c = omega (arith, c.requires.inside 0 0 c.requires.some, ap length c.requires.run.faults_are)
+
+pub bounds-roots-group : goal.bounds-roots-group
+bounds-roots-group c = omega (arith, c.requires.inside 0 0 c.requires.some, c.requires.run.roots_are.whole)
+
+pub index_mut-requires-3 : goal.index_mut-requires-3
+index_mut-requires-3 c =
+    let number = get_or c.args.group.now 0 0 in
+    let inside : number < length c.args.roots.now = omega (arith, c.requires.inside 0 0 c.requires.some, c.requires.run.roots_are.whole) in
+    omega (arith, c.requires.run.roots_are.within number 0 inside, c.requires.of.places, c.args.self.now.places.ok.0)
+
+pub index_mut-requires-2 : goal.index_mut-requires-2
+index_mut-requires-2 c = omega (arith, c.requires.some, c.requires.room, c.requires.of.starts, c.args.self.now.starts.ok.0)

@@ -1,4 +1,4 @@
-use Rattle.std.proofs.Common.{◌≡◌, ◌+◌, ◌<◌, map, set, length, get_or, sym, ap, subst, ◌∙◌, arith, inl, inr}
+use Rattle.std.proofs.Common.{◌≡◌, ◌+◌, ◌<◌, map, set, length, get_or, refl, sym, ap, subst, ◌∙◌, arith, inl, inr}
 use Rattle.std.specs.Prelude.{slice_range}
 use Rattle.std.proofs.lemmas.Bool.{cases_lt, or_parts}
 use Rattle.std.proofs.lemmas.Option.{MatchOption-at_some}
@@ -168,3 +168,20 @@ pub returns-in-Some-clause-start : goal.returns-in-Some-clause-start
 returns-in-Some-clause-start c =
     get_or-set_same c.args.self.now.starts.items (c.args.at + 1) c.len.result 0 (omega (arith, c.requires.at, c.requires.room, c.requires.of.starts))
     ∙ omega (arith, c.len.ensures, c.copy_notes.new.notes.ok.0)
+
+pub simulate-requires-clause-number : goal.simulate-requires-clause-number
+simulate-requires-clause-number c = omega (arith, c.requires.inside c.args.at 0 c.requires.at, ap length c.requires.run.faults_are)
+
+-- ---- what stays
+
+pub returns-in-Some-clause-kept : goal.returns-in-Some-clause-kept
+returns-in-Some-clause-kept c = refl
+
+pub returns-in-Some-clause-lead : goal.returns-in-Some-clause-lead
+returns-in-Some-clause-lead c = refl
+
+pub returns-clause-kept : goal.returns-clause-kept
+returns-clause-kept c = refl
+
+pub returns-clause-lead : goal.returns-clause-lead
+returns-clause-lead c = refl

@@ -1,5 +1,6 @@
-use Rattle.std.proofs.Common.{◌<◌, [], get_or, length, arith}
+use Rattle.std.proofs.Common.{◌<◌, [], get_or, length, ap, arith}
 use Rattle.std.proofs.lemmas.List.Elements.{Contains-get_or}
+use Rattle.word_sim.specs.Block.{Block}
 use Rattle.kept_vectors.proofs.ScanLemmas.{scan_with_row}
 use Rattle.kept_vectors.proofs.scan.Scan.keep_fullest.Goals as goal
 
@@ -18,3 +19,9 @@ returns-in_err-judge_lane-clause-scan c = scan_with_row c.note.ensures.scan _ c.
 
 pub returns-clause-scan : goal.returns-clause-scan
 returns-clause-scan c = scan_with_row c.note.ensures.scan _ c.judge_lane.ensures.blank
+
+pub judge_lane-requires-clause-lane : goal.judge_lane-requires-clause-lane
+judge_lane-requires-clause-lane c = omega (arith, c.fullest-lane.ensures, c.live-live.ensures.value, ap (λ (b : Block). length b.vectors) c.note.ensures.block)
+
+pub judge_lane-requires-clause-few : goal.judge_lane-requires-clause-few
+judge_lane-requires-clause-few c = omega (arith, c.live-live.ensures.block.few, ap (λ (b : Block). length b.vectors) c.note.ensures.block)
