@@ -2,7 +2,7 @@ use Rattle.std.proofs.Common.{◌≡◌, ◌≢◌, ◌<◌, ◌≤◌, ◌∙�
 use Rattle.std.proofs.lemmas.List.{get_or-set_other}
 use Rattle.net_model.specs.Circuit.{line_count}
 use Rattle.event_queue.specs.Pending.{IsLowest}
-use Rattle.event_queue.proofs.Marks.{pending_within}
+use Rattle.event_queue.proofs.Marks.{not_before, pending_within}
 use Rattle.pair_sets.specs.PairSet.{free_pairs, IsWithin}
 use Rattle.pair_sets.specs.CubeState.{set_at}
 use Rattle.pair_sets.specs.Events.{IsIdle, AreSettled, AreLoose, gate_line_pairs}
@@ -79,3 +79,9 @@ loop-place-preserved c =
           ∙ get_or-set_other sets line source pairs free_pairs (let ne : source ≢ line = omega (arith, at.0) in ne)
           ∙ c.loop-place.invariant.sources source h;
     }
+
+pub loop-place-smaller : goal.loop-place-smaller
+loop-place-smaller c =
+    let place = c.in-Some.place in
+    let was = c.in-Some.ensures.cases.was in
+    omega (arith, not_before c.loop-place.queue c.loop-place.from place c.loop-place.invariant.low was, pending_within c.loop-place.queue place was, c.loop-place.invariant.queue)

@@ -12,7 +12,7 @@ use Rattle.pair_sets.specs.Cube.{fixed_bit}
 use Rattle.pair_sets.specs.PairSet.{forced_pairs, fixed_pairs, IsWithin}
 use Rattle.pair_sets.specs.CubeState.{set_at}
 use Rattle.pair_sets.specs.Trail.{IsLonger}
-use Rattle.pair_sets.specs.PairSim.{PairSim}
+use Rattle.pair_sets.specs.PairSim.{PairSim, with_cube}
 use Rattle.pair_sets.specs.PairSimFields.{cube_of, pair_sim_of, IsLevelRight, AreLevels}
 use Rattle.pair_sets.proofs.TallyLemmas.{shown_after}
 use Rattle.pair_sets.proofs.LevelLemmas.{right_of, fewer_fixed, pairs_fixed, gates_right, levels_more, levels_few}
@@ -132,3 +132,10 @@ invariant_of-self c =
       tally = c.recount.ensures.tally;
       shown = c.recount.ensures.shown;
     }
+
+pub returns : goal.returns
+returns c =
+    let a = c.self.inside in
+    let level : Level = record { source = c.args.source; bit = c.args.bit; start = c.len-start.result } in
+    ap (λ levels. with_cube (pair_sim_of a) (cube_of levels)) (ap reverse c.push_reserved.ensures.items ∙ reverse-append a.levels.items (level ∷ []))
+    ∙ ap (λ (sim : PairSim). with_cube sim ((c.args.source, c.args.bit) ∷ sim.cube)) c.self.view_is

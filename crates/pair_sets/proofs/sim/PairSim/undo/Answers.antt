@@ -1,6 +1,6 @@
-use Rattle.std.proofs.Common.{◌≡◌, ◌≢◌, ◌*◌, ◌<◌, ◌≤◌, ◌∙◌, ◌∷◌, ◌++◌, [], List, length, get_or, take, drop, sym, ap, subst, Vec}
+use Rattle.std.proofs.Common.{ℕ, Bool, ◌≡◌, ◌≢◌, ◌*◌, ◌<◌, ◌≤◌, ◌∙◌, ◌∷◌, ◌++◌, [], List, length, get_or, take, drop, sym, ap, arith, subst, true≢false, Vec}
 use Rattle.std.specs.Prelude.{All, reverse, vec_capacity}
-use Rattle.std.proofs.lemmas.List.{reverse-append}
+use Rattle.std.proofs.lemmas.List.{length-map, length-reverse, reverse-append}
 use Rattle.std.proofs.lemmas.List.Elements.{All-take, All-drop}
 use Rattle.std.specs.declared.alloc.Global.{Global}
 use Rattle.net_model.specs.Circuit.{line_count}
@@ -8,7 +8,8 @@ use Rattle.pair_sets.specs.declared.sim.Level.{Level}
 use Rattle.pair_sets.specs.declared.sim.PairSim.TheInside.{Inside}
 use Rattle.pair_sets.specs.declared.trail.Change.{Change}
 use Rattle.pair_sets.specs.Trail.{undone}
-use Rattle.pair_sets.specs.PairSimFields.{AreLevels, IsReady}
+use Rattle.pair_sets.specs.PairSim.{PairSim, with_cube}
+use Rattle.pair_sets.specs.PairSimFields.{AreLevels, IsReady, cube_of, pair_sim_of}
 use Rattle.pair_sets.proofs.LevelLemmas.{right_of}
 use Rattle.pair_sets.proofs.TallyLemmas.{shown_before}
 use Rattle.pair_sets.proofs.TrailLemmas.{length-undone}
@@ -98,3 +99,13 @@ pub recount-requires-clause-start : goal.recount-requires-clause-start
 recount-requires-clause-start c =
     subst (λ (v : Vec Change Global). c.in-Some.level.start ≤ length v.items) (sym c.restore.ensures.changes)
     (level_start c.self.inside c.self.invariant c.pop.new.self.items c.in-Some.level c.in-Some.ensures.items)
+
+pub invariant_of-self-in_default : goal.invariant_of-self-in_default
+invariant_of-self-in_default c =
+    let levels = c.self.inside.levels.items in
+    absurd (true≢false (sym (c.in_default.ensures.variant.1 (omega (arith, c.requires, ap (λ (sim : PairSim). length sim.cube) c.self.view_is, length-map {B = ℕ × Bool} (reverse levels) (λ level. (level.source, level.bit)), length-reverse levels)))))
+
+pub returns-in-Some : goal.returns-in-Some
+returns-in-Some c =
+    let parts = ap reverse c.in-Some.ensures.items ∙ reverse-append c.pop.new.self.items (c.in-Some.level ∷ []) in
+    ap (λ levels. with_cube (pair_sim_of c.self.inside) (drop 1 (cube_of levels))) (sym parts) ∙ ap (λ (sim : PairSim). with_cube sim (drop 1 sim.cube)) c.self.view_is

@@ -135,3 +135,6 @@ loop-at-smaller c =
 
 pub position_pairs-requires-clause-position : goal.position_pairs-requires-clause-position
 position_pairs-requires-clause-position c = omega (arith, pending_within c.loop-at.self.waiting c.in-Some.at c.in-Some.ensures.cases.was, c.loop-at.invariant.queue_room)
+
+pub overflow_add-from : goal.overflow_add-from
+overflow_add-from c = omega (arith, pending_within c.loop-at.self.waiting c.in-Some.at c.in-Some.ensures.cases.was, c.loop-at.invariant.queue_room, c.requires.wiring.circuit.small)

@@ -66,3 +66,14 @@ look_again-requires-clause-tally c = tally_kept c.args.pair.now.circuit.now c.ar
 
 pub returns-clause-tally : goal.returns-clause-tally
 returns-clause-tally c = tally_kept c.args.pair.now.circuit.now c.args.pair.now.f c.args.pair.now.g c.args.self.now c.loop-change.self c.requires.tally c.loop-change.invariant.all
+
+pub showing-requires : goal.showing-requires
+showing-requires c =
+    let sets = c.args.trail.now.sets.items in
+    let start = c.args.start in
+    let all = c.deref.result.now in
+    let changes = take (length all - start) (drop start all) in
+    let are : changes ≡ drop start c.args.trail.now.changes.items = all_from start all ∙ ap (drop start) c.deref.ensures.value in
+    let within = subst (All (λ (change : Change). change.line < length sets)) (sym are) c.requires.lines in
+    let inside = subst (λ (change : Change). change.line < length sets) (sym c.change-item.is) (within c.loop-change.change-index c.change-item.result c.loop-change-test.true) in
+    omega (arith, inside, c.requires.width, c.wiring-wiring.ensures.showing_whole)
