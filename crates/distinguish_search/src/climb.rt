@@ -1,6 +1,6 @@
 //! Up from a finished tree, half by half, to a split of which the other half is left.
 
-ghost use Rattle.std.specs.Prelude.{◌≡◌, ◌∷◌, ◌++◌, IfOk};
+ghost use Rattle.std.specs.Prelude.{◌≡◌, ◌∷◌, ◌++◌, IfOk, if◌then◌else◌};
 ghost use Rattle.pair_sets.specs.declared.tree.Token.TheVariants.{Split};
 ghost use Rattle.pair_sets.specs.Subtree.{IsSubtree};
 ghost use Rattle.distinguish_search.specs.Frames.{IsUnderWay, IsClimbed};
@@ -43,22 +43,23 @@ pub(crate) fn climb(
                 sim.assign(source, !bit);
                 return Ok(None);
             }
-            Some(other) => {
-                tree = if bit {
-                    joined(alloc, source, &other, &tree)?
-                } else {
-                    joined(alloc, source, &tree, &other)?
-                };
-            }
+            Some(other) => tree = joined(alloc, source, bit, &tree, &other)?,
         }
     }
     Ok(Some(tree))
 }
 
-// The tree of a split, from the trees of its source at 0 and at 1.
-fn joined(alloc: Global, source: u32, zero: &Tree, one: &Tree) -> Result<Tree, AllocError>
-    ensures { IfOk result (λ tree. tree ≡ Split source ∷ zero.now ++ one.now) }
+// The tree of a split, from the trees of its source at a bit and at the other one.
+fn joined(
+    alloc: Global,
+    source: u32,
+    bit: bool,
+    here: &Tree,
+    other: &Tree,
+) -> Result<Tree, AllocError>
+    ensures { IfOk result (λ tree. tree ≡ (if bit then Split source ∷ other.now ++ here.now else Split source ∷ here.now ++ other.now)) }
 {
+    let (zero, one) = if bit { (other, here) } else { (here, other) };
     let mut tree = Tree::new(alloc);
     tree.push(Token::Split(source))?;
     tree.extend(zero.as_slice())?;

@@ -1,12 +1,9 @@
-use Rattle.std.proofs.Common.{◌≡◌, ◌∙◌, ◌∷◌, ◌++◌, List, sym, subst}
-use Rattle.std.specs.Prelude.{Bool, true, false, None, Some, if◌then◌else◌}
-use Rattle.pair_sets.specs.declared.tree.Token.{Token}
-use Rattle.pair_sets.specs.declared.tree.Token.TheVariants.{Split}
+use Rattle.std.proofs.Common.{◌≡◌, ◌∙◌, ◌∷◌, List, sym, subst}
+use Rattle.std.specs.Prelude.{None, Some}
 use Rattle.distinguish_search.specs.declared.frames.Frame.{Frame}
 use Rattle.distinguish_search.specs.Frames.{GoesOn}
 use Rattle.distinguish_search.proofs.FrameLemmas.{frame_with, ClimbsFrom, climb_turns, climb_more}
 use Rattle.distinguish_search.proofs.climb.climb.Goals as goal
-use Rattle.distinguish_search.proofs.climb.climb.Goals.{then-bit+in_ok-tree-in-Some-half, else-bit+in_ok-tree-in-Some-half-2}
 
 pub returns-in-None-clause-climbed : goal.returns-in-None-clause-climbed
 returns-in-None-clause-climbed c =
@@ -18,14 +15,6 @@ returns-in-None-clause-climbed c =
     (climb_turns sim.circuit sim.f sim.g c.args.tree c.args.stack.now c.loop-frame.sim c.loop-frame.tree rest frame.source frame.bit frame.place c.assign.new.self c.undo.new.self c.undo.ensures
     (subst (λ (frames : List Frame). ClimbsFrom sim.circuit sim.f sim.g c.args.tree c.args.stack.now c.loop-frame.sim frames c.loop-frame.tree) parts c.loop-frame.invariant) c.assign.ensures)
 
-joined_is : (bit : Bool) (high low tree : List Token) → bit ≡ true → tree ≡ high → tree ≡ (if bit then high else low)
-joined_is true high low tree e d = d
-joined_is false high low tree e d = cc
-
-joined_else : (bit : Bool) (high low tree : List Token) → bit ≡ false → tree ≡ low → tree ≡ (if bit then high else low)
-joined_else true high low tree e d = cc
-joined_else false high low tree e d = d
-
 pub loop-frame-preserved : goal.loop-frame-preserved
 loop-frame-preserved c =
     let sim = c.args.sim.now in
@@ -34,12 +23,5 @@ loop-frame-preserved c =
     let half = c.in-Some-half.other in
     let tree = c.loop-frame.tree in
     let parts : c.loop-frame.stack ≡ frame_with frame.source frame.bit (Some half) frame.place ∷ rest = c.in-Some.ensures ∙ (λ i. frame_with frame.source frame.bit (c.in-Some-half.is i) frame.place ∷ rest) in
-    let high : List Token = Split frame.source ∷ half ++ tree in
-    let low : List Token = Split frame.source ∷ tree ++ half in
-    let joined : c.if-bit.tree ≡ (if frame.bit then high else low) =
-    elim c.if-bit.branch [
-      | then-bit+in_ok-tree-in-Some-half w ↦ joined_is frame.bit high low c.if-bit.tree w.if-bit.true (w.tree-is ∙ w.in_ok-tree-in-Some-half.ensures)
-      | else-bit+in_ok-tree-in-Some-half-2 w ↦ joined_else frame.bit high low c.if-bit.tree w.if-bit.false (w.tree-is ∙ w.in_ok-tree-in-Some-half-2.ensures)
-    ] in
-    climb_more sim.circuit sim.f sim.g c.args.tree c.args.stack.now c.loop-frame.sim tree rest frame.source frame.bit frame.place c.undo.new.self c.undo.new.self c.undo.ensures half c.if-bit.tree
-    (subst (λ (frames : List Frame). ClimbsFrom sim.circuit sim.f sim.g c.args.tree c.args.stack.now c.loop-frame.sim frames tree) parts c.loop-frame.invariant) joined
+    climb_more sim.circuit sim.f sim.g c.args.tree c.args.stack.now c.loop-frame.sim tree rest frame.source frame.bit frame.place c.undo.new.self c.undo.new.self c.undo.ensures half c.in_ok-tree-in-Some-half.tree
+    (subst (λ (frames : List Frame). ClimbsFrom sim.circuit sim.f sim.g c.args.tree c.args.stack.now c.loop-frame.sim frames tree) parts c.loop-frame.invariant) c.in_ok-tree-in-Some-half.ensures

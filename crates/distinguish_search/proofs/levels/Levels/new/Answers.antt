@@ -1,11 +1,18 @@
 use Rattle.std.proofs.Common.{◌≡◌, ◌∙◌, ℕ, ◌+◌, ◌<◌, ◌≤◌, List, length, set, get_or, sym, ap, subst, arith}
+use Rattle.std.specs.Prelude.{replicate}
 use Rattle.net_model.specs.Circuit.{Circuit, IsCircuit, line_count, pins_of}
 use Rattle.net_model.specs.Order.{IsOrder}
 use Rattle.net_model.proofs.Orders.{order_only}
 use Rattle.net_model.proofs.SetSoFar.{fits_from}
 use Rattle.distinguish_search.specs.Levels.{highest_level}
-use Rattle.distinguish_search.proofs.LevelLemmas.{LevelsSoFar, level_fits, levels_more, levels_all}
+use Rattle.distinguish_search.proofs.LevelLemmas.{LevelsSoFar, levels_none, level_fits, levels_more, levels_all}
 use Rattle.distinguish_search.proofs.levels.Levels.new.Goals as goal
+
+pub loop-line-init : goal.loop-line-init
+loop-line-init c =
+    let circuit = c.args.circuit.now in
+    let order = c.order-line-items.result.now in
+    subst (LevelsSoFar circuit order 0) (sym (c.in_ok-levels.ensures.items_if_clones_equal (λ y e. e) ∙ ap (λ n. replicate n 0) c.lines.ensures.value)) (levels_none circuit order)
 
 -- a line of an order is one that a gate drives
 gate_line : (c : Circuit) (order : List ℕ) (i : ℕ) → IsCircuit c → IsOrder c order → i < length order → (c.sources ≤ get_or order i 0) × (get_or order i 0 < line_count c)
