@@ -1,8 +1,9 @@
 -- What a reader answers, from what the readers of its parts answer.
-use Rattle.std.proofs.Common.{◌≡◌, ◌≢◌, ◌∙◌, ℕ, ◌<◌, ◌≤◌, Bool, true, false, not, List, [], ◌∷◌, ◌++◌, map, length, get_or, Option, Some, None, Result, Ok, Err, refl, sym, ap, arith, if◌then◌else◌}
+use Rattle.std.proofs.Common.{◌≡◌, ◌≢◌, ◌∙◌, ℕ, ◌-◌, ◌<◌, ◌≤◌, Bool, true, false, not, List, [], ◌∷◌, ◌++◌, map, length, take, drop, get_or, Option, Some, None, Result, Ok, Err, refl, sym, ap, arith, if◌then◌else◌}
 use Rattle.std.specs.Prelude.{All, ◌==◌, flat_map, codes, decimal, IfOk, IsErrOf, IsSome, MatchOption, ⊤}
 use Rattle.std.specs.Option.{option_to_list}
 use Rattle.std.specs.List.{slice_split}
+use Rattle.std.proofs.lemmas.List.{take_all}
 use Rattle.net_model.specs.BitText.{bit_digit, bits_text}
 use Rattle.clause_pool.specs.Literal.{Literal}
 use Rattle.pair_sets.specs.declared.tree.Token.{Token}
@@ -47,6 +48,17 @@ three_texts now (x ∷ []) d low high = absurd (omega (arith, low))
 three_texts now (x ∷ y ∷ []) d low high = absurd (omega (arith, low))
 three_texts now (x ∷ y ∷ z ∷ []) d low high = refl
 three_texts now (x ∷ y ∷ z ∷ w ∷ more) d low high = absurd (omega (arith, high))
+
+-- two items, and those behind them
+pub two_texts : {B : Type 0} (now : B → Text) (xs : List B) (d : B) → 2 ≤ length xs → map now xs ≡ now (get_or xs 0 d) ∷ now (get_or xs 1 d) ∷ drop 2 (map now xs)
+two_texts now [] d low = absurd (omega (arith, low))
+two_texts now (x ∷ []) d low = absurd (omega (arith, low))
+two_texts now (x ∷ y ∷ xs) d low = refl
+
+pub behind_two : {B : Type 0} (now : B → Text) (xs : List B) → 2 ≤ length xs → map now (take (length xs - 2) (drop 2 xs)) ≡ drop 2 (map now xs)
+behind_two now [] low = absurd (omega (arith, low))
+behind_two now (x ∷ []) low = absurd (omega (arith, low))
+behind_two now (x ∷ y ∷ xs) low = ap (map now) (take_all (length (x ∷ y ∷ xs) - 2) xs (omega arith))
 
 -- ---- literals
 

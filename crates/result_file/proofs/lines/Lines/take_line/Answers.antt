@@ -1,7 +1,15 @@
-use Rattle.std.proofs.Common.{arith}
-use Rattle.result_file.specs.Held.{IsFirstFrom}
-use Rattle.result_file.proofs.PieceLemmas.{first_line, without_more}
+use Rattle.std.proofs.Common.{length, refl, arith}
+use Rattle.result_file.specs.Held.{IsFirstFrom, IsWithoutLineFeed}
+use Rattle.result_file.proofs.PieceLemmas.{none_behind, first_line, without_more}
 use Rattle.result_file.proofs.lines.Lines.take_line.Goals as goal
+
+pub returns-in_default-clause-ok : goal.returns-in_default-clause-ok
+returns-in_default-clause-ok c =
+    let items = c.self.inside.bytes.items in
+    let start = c.self.inside.start in
+    let looked = c.self.inside.looked in
+    let behind : IsWithoutLineFeed items looked (length items) = rw c.deref.ensures.value at c.in_default.ensures in
+    rw (← c.self.view_is) (none_behind items start (without_more items start looked (length items) c.self.invariant.2 behind), refl)
 
 pub returns-clause-ok : goal.returns-clause-ok
 returns-clause-ok c =
