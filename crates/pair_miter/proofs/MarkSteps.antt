@@ -1,5 +1,5 @@
 -- Marks of the literals of a clause, literal by literal.
-use Rattle.std.proofs.Common.{◌≡◌, ◌≢◌, ℕ, ◌+◌, ◌*◌, ◌<◌, refl, sym, ap, ◌∙◌, arith, length, set}
+use Rattle.std.proofs.Common.{◌≡◌, ◌≢◌, ℕ, ◌+◌, ◌*◌, ◌<◌, refl, sym, ap, ◌∙◌, arith, length, set, true≢false}
 use Rattle.std.specs.Prelude.{Bool, true, false, List, [], ◌∷◌, ◌++◌, ◌||◌, ◌&&◌, ◌==◌, if◌then◌else◌}
 use Rattle.std.specs.Bool.{beq}
 use Rattle.std.proofs.lemmas.List.{get_or-set_same, get_or-set_other}
@@ -52,6 +52,22 @@ marks_more marks xs m are room l = by (same_literal l m) refl
 -- all marked literals are of the clause
 abbrev pub AreWithin : List Bool → Clause → Type 0
 AreWithin marks clause = (l : Literal) → bit_at marks (code_of l) ≡ true → has_literal clause l ≡ true
+
+-- of a clause whose first literal's mark is taken away, the others are left
+pub within_less : (marks : List Bool) (m : Literal) (rest : Clause) → AreWithin marks (m ∷ rest) → code_of m < length marks → AreWithin (set marks (code_of m) false) rest
+within_less marks m rest within room l marked = by (same_literal l m) refl
+  where
+    by : (b : Bool) → same_literal l m ≡ b → has_literal rest l ≡ true
+    by true e = absurd (true≢false (sym marked ∙ (ap (bit_at (set marks (code_of m) false)) (same_code_of l m e) ∙ get_or-set_same marks (code_of m) false false room)))
+    by false e = ap (λ b. b || has_literal rest l) (sym e) ∙ within l (sym (get_or-set_other marks (code_of m) (code_of l) false false (other_code l m e)) ∙ marked)
+
+-- where none is left, no literal is marked
+pub within_none : (marks : List Bool) → AreWithin marks [] → AreMarks marks []
+within_none marks within l = by (bit_at marks (code_of l)) refl
+  where
+    by : (b : Bool) → bit_at marks (code_of l) ≡ b → bit_at marks (code_of l) ≡ false
+    by true e = absurd (true≢false (sym (within l e)))
+    by false e = e
 
 -- ---- a literal is kept where it isn't marked
 

@@ -37,6 +37,13 @@ loop-at-init c = record {
   variables = refl;
 }
 
+pub write_difference-requires-clause-position : goal.write_difference-requires-clause-position
+write_difference-requires-clause-position c =
+    omega (arith, c.loop-at-test.true, ap length c.positions-at-end.ensures.value, ap (λ (circuit : Circuit). length circuit.positions) c.circuit.ensures.value)
+
+pub write_difference-requires-clause-reached : goal.write_difference-requires-clause-reached
+write_difference-requires-clause-reached c = sym c.reached.ensures ∙ c.if-reached.true
+
 pub write_difference-requires-clause-few : goal.write_difference-requires-clause-few
 write_difference-requires-clause-few c =
     let p = c.args.numbering.now in

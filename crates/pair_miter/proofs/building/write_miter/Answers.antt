@@ -26,3 +26,6 @@ pub returns-in_err-variables-clause-written : goal.returns-in_err-variables-clau
 returns-in_err-variables-clause-written c =
     writes_err c.from_residual-in_err-variables.result c.from_residual-in_err-variables.ensures.0
     (subst (λ (p : Miter). Keeps c.args.pool.now c.write_parts.new.pool (miter p.circuit p.f p.g)) c.in_ok-numbering.ensures c.in_err-variables.ensures.written)
+
+pub returns-clause-miter : goal.returns-clause-miter
+returns-clause-miter c = c.in_ok-numbering.ensures

@@ -1,4 +1,5 @@
 use Rattle.std.proofs.Common.{length, arith, ap, sym, subst}
+use Rattle.std.proofs.lemmas.Result.{IfOk-from_err}
 use Rattle.pair_miter.specs.Adds.{Adds, Keeps}
 use Rattle.pair_miter.proofs.AddSteps.{first_few, first_fails, left_fails, left_few, both_parts, writes_err}
 use Rattle.pair_miter.proofs.Bounds.{few_variables_of}
@@ -73,3 +74,12 @@ returns-in_err-write_differences-clause-written c =
     let q = c.args.numbering.now in
     let keeps = left_fails (parts_of_miter q.circuit q.f q.g) c.in_ok-write_lines.ensures.written c.in_err-write_differences.ensures.written in
     writes_err c.from_residual-in_err-write_differences.result c.from_residual-in_err-write_differences.ensures.0 (subst (Keeps c.args.pool.now c.write_differences.new.pool) (sym (miter_parts q.circuit q.f q.g)) keeps)
+
+pub returns-in_err-write_lines-clause-variables : goal.returns-in_err-write_lines-clause-variables
+returns-in_err-write_lines-clause-variables c = IfOk-from_err c.from_residual-in_err-write_lines.result _ c.from_residual-in_err-write_lines.ensures.0
+
+pub returns-in_err-write_differences-clause-variables : goal.returns-in_err-write_differences-clause-variables
+returns-in_err-write_differences-clause-variables c = IfOk-from_err c.from_residual-in_err-write_differences.result _ c.from_residual-in_err-write_differences.ensures.0
+
+pub returns-clause-circuit : goal.returns-clause-circuit
+returns-clause-circuit c = c.end.ensures.circuit

@@ -1,7 +1,7 @@
-use Rattle.std.proofs.Common.{◌≡◌, ◌∙◌, ◌-◌, ◌<◌, true, false, ap, sym, arith}
+use Rattle.std.proofs.Common.{◌≡◌, ◌∙◌, ◌-◌, ◌<◌, true, false, ap, sym, subst, arith}
 use Rattle.std.specs.Prelude.{not, Some, count_by, is_none, if◌then◌else◌}
 use Rattle.net_model.specs.declared.fault.Fault.{Fault}
-use Rattle.net_model.specs.Circuit.{Circuit, gate_at}
+use Rattle.net_model.specs.Circuit.{Circuit, gate_at, line_count}
 use Rattle.net_model.specs.Fault.{stuck_stem, stuck_pin, readings}
 use Rattle.net_model.proofs.SetSoFar.{gate_at-source}
 use Rattle.net_model.proofs.Wired.{few_pins}
@@ -38,3 +38,6 @@ returns c =
     c.gate_helpers.ensures
     ∙ (ap (λ (fault : Fault). if is_parity gate.kind then count_by (λ b. b) (readings (λ pin read. is_none (stuck_pin fault c.args.line pin)) gate.pins) - 2 else 0) c.fault-fault.ensures
     ∙ sym (helpers_of_driven p.circuit p.f p.g copy c.args.line c.requires.copy gate free there))
+
+pub gate-requires-clause-below : goal.gate-requires-clause-below
+gate-requires-clause-below c = subst (λ (circuit : Circuit). c.args.line < line_count circuit) (sym c.circuit-circuit.ensures.value) c.requires.line

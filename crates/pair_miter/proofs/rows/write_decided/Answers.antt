@@ -1,10 +1,12 @@
-use Rattle.std.proofs.Common.{◌≡◌, ℕ, refl, sym, subst, [], ◌∷◌, ◌∙◌, ◌++◌, ◌+◌, drop}
-use Rattle.std.specs.Prelude.{Bool, not, List}
+use Rattle.std.proofs.Common.{◌≡◌, ℕ, refl, sym, subst, [], ◌∷◌, ◌∙◌, ◌++◌, ◌+◌, ◌<◌, ◌≤◌, ◌^◌, drop, ap, length}
+use Rattle.std.specs.Prelude.{All, Bool, not, List, if◌then◌else◌}
+use Rattle.std.proofs.lemmas.List.Elements.{All-cons, All-nil}
 use Rattle.clause_pool.specs.Clauses.{Clause, Clauses}
 use Rattle.clause_pool.specs.Literal.{Literal, opposite}
-use Rattle.pair_miter.specs.Rows.{variables, decided_rows, signed_literal, with_each, with_all}
+use Rattle.pair_miter.specs.Miter.{tidy}
+use Rattle.pair_miter.specs.Rows.{variables, decided_of, decided_rows, signed_literal, with_each, with_all}
 use Rattle.pair_miter.proofs.AddSteps.{Remains, remains_all, remains_last_few, step, step_fails, step_few, writes_err, writes_last}
-use Rattle.pair_miter.proofs.OperandSteps.{variable_at, constant_at, variables_end}
+use Rattle.pair_miter.proofs.OperandSteps.{variable_at, constant_at, operand_within, variable_within, variables_end}
 use Rattle.pair_miter.proofs.RowParts.{decided_parts}
 use Rattle.pair_miter.proofs.rows.write_decided.Goals as goal
 use Rattle.pair_miter.proofs.rows.write_decided.Goals.{in-Some+in_ok-write, in_default}
@@ -21,10 +23,27 @@ module _ (d : Bool) (l : Literal) (all : List ℕ) {old now : Clauses} {rows : L
   last_row : {k : Literal} → xs ≡ [] → k ≡ opposite l → Remains old now rows (with_all k d all ∷ [])
   last_row none is = subst (λ (k : Literal). Remains old now rows (with_all k d all ∷ [])) (sym is) (other none)
 
+pub write-requires-clause-variables : goal.write-requires-clause-variables
+write-requires-clause-variables c = All-cons (λ (l : Literal). l.variable ≤ c.args.tidier.now) c.args.l [] c.requires.output (All-nil (λ (l : Literal). l.variable ≤ c.args.tidier.now))
+
+pub write-requires-clause-few : goal.write-requires-clause-few
+write-requires-clause-few c =
+    let one = ap (λ b. if b then (c.args.l ∷ []) ∷ [] else decided_of c.args.decides c.args.l (variables c.args.operands.now)) (sym c.has_constant.ensures ∙ c.if-has_constant.true) in
+    subst (λ (rows : List Clause). length c.args.pool.now.clauses + length (tidy rows) < 2 ^ 30) one c.requires.few
+
 pub loop-operand-init : goal.loop-operand-init
 loop-operand-init c =
     let rows = decided_rows c.args.decides c.args.l c.args.operands.now in
     record { same = refl; remains = subst (Remains c.args.pool.now c.args.pool.now rows) (decided_parts c.args.decides c.args.l c.args.operands.now (sym c.has_constant.ensures ∙ c.if-has_constant.false)) (remains_all c.args.pool.now rows) }
+
+pub write-requires-in-Some-clause-variables : goal.write-requires-in-Some-clause-variables
+write-requires-in-Some-clause-variables c =
+    let n = c.args.tidier.now in
+    let operand = operand_within c.args.operands.now c.loop-operand.operand-index c.operand-item.result c.loop-operand-test.true c.operand-item.is n c.requires.operands in
+    let within = variable_within n c.in-Some.x c.operand-item.result operand (sym c.variable.ensures ∙ c.in-Some.is) in
+    let below = subst (λ (l : Literal). l.variable ≤ n) (sym c.literal-lit.ensures) within.1 in
+    subst (λ m. All (λ (l : Literal). l.variable ≤ m) (c.args.l ∷ c.literal-lit.result ∷ [])) (sym c.loop-operand.invariant.same)
+    (All-cons (λ (l : Literal). l.variable ≤ n) c.args.l (c.literal-lit.result ∷ []) c.requires.output (All-cons (λ (l : Literal). l.variable ≤ n) c.literal-lit.result [] below (All-nil (λ (l : Literal). l.variable ≤ n))))
 
 pub write-requires-in-Some-clause-few : goal.write-requires-in-Some-clause-few
 write-requires-in-Some-clause-few c =

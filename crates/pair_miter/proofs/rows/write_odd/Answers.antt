@@ -25,3 +25,6 @@ write_xor_onward-requires-clause-operands c =
     let n = c.args.tidier.now in
     let rest = rest_within n c.in-Some.first c.args.operands.now c.in-Some.rest.now c.requires.operands c.in-Some.ensures in
     rest_within n c.in-Some-next_variable.second c.in-Some.rest.now c.in-Some-next_variable.rest.now rest c.in-Some-next_variable.ensures
+
+pub returns-clause-variables : goal.returns-clause-variables
+returns-clause-variables c = c.write_xor_onward.ensures.variables

@@ -24,6 +24,13 @@ loop-operand-init c = record {
   remains = remains_all c.args.pool.now (xor_onward c.args.y c.args.helper c.args.first (c.args.second ∷ variables c.args.operands.now));
 }
 
+pub literal-here-requires : goal.literal-here-requires
+literal-here-requires c =
+    let next = variable_at c.args.operands.now c.loop-operand.operand-index c.operand-item.result c.loop-operand-test.true c.operand-item.is c.in-Some.x (sym c.variable.ensures ∙ c.in-Some.is) in
+    let one = ap length next in
+    let used = c.loop-operand.invariant.helpers (omega (arith, one)) in
+    subst (λ n. IsVariable n c.loop-operand.part) (sym c.loop-operand.invariant.same) (used.0, omega (arith, used.1, one))
+
 pub write_xor_of_two-requires-clause-few : goal.write_xor_of_two-requires-clause-few
 write_xor_of_two-requires-clause-few c =
     let next = variable_at c.args.operands.now c.loop-operand.operand-index c.operand-item.result c.loop-operand-test.true c.operand-item.is c.in-Some.x (sym c.variable.ensures ∙ c.in-Some.is) in

@@ -1,7 +1,6 @@
-use Rattle.std.proofs.Common.{◌≡◌, ◌+◌, ◌*◌, ◌<◌, ◌∙◌, [], ◌∷◌, ◌++◌, ap, sym, subst, take, length, set, arith, Vec, Global}
+use Rattle.std.proofs.Common.{◌≡◌, ◌+◌, ◌*◌, ◌<◌, ◌≤◌, ◌∙◌, [], ◌∷◌, ◌++◌, ap, sym, subst, take, length, length-set, set, arith, Vec, vec_len, vec_capacity, Global}
 use Rattle.std.specs.Prelude.{Bool, true, false, ◌||◌}
 use Rattle.std.proofs.lemmas.List.{take_all, take_more, get_or_read}
-use Rattle.std.proofs.lemmas.Grind.{common_steps}
 use Rattle.net_model.specs.Answer.{bit_at}
 use Rattle.clause_pool.specs.Literal.{Literal, opposite}
 use Rattle.clause_pool.specs.LiteralCode.{code_of}
@@ -11,6 +10,20 @@ use Rattle.pair_miter.proofs.TidyParts.{is_tautology-push}
 use Rattle.pair_miter.proofs.MarkSteps.{marks_again, marks_more, keeps_new, keeps_old, code_within}
 use Rattle.pair_miter.proofs.tidier.keep_once.Goals as goal
 use Rattle.pair_miter.proofs.tidier.keep_once.Goals.{then-not-index, else-not-index}
+
+pub index-requires-in-loop-lit : goal.index-requires-in-loop-lit
+index-requires-in-loop-lit c =
+    let m : Literal = c.lit-item.result in
+    let marks = c.loop-lit.marks.items in
+    let h = c.loop-lit.invariant in
+    let places : length c.if-not-index.marks.items ≡ length c.args.marks.now.items =
+    elim c.if-not-index.branch [
+      | then-not-index w ↦ ap (λ (v : Vec Bool Global). length v.items) w.marks-is ∙ (length-set marks c.place-at.result true ∙ h.places)
+      | else-not-index w ↦ ap (λ (v : Vec Bool Global). length v.items) w.marks-is ∙ h.places
+    ] in
+    let wide : 2 * m.variable + 1 < length c.args.marks.now.items =
+    subst (λ (l : Literal). 2 * l.variable + 1 < length c.args.marks.now.items) (sym c.lit-item.is) (c.requires.places c.loop-lit.lit-index m c.loop-lit-test.true) in
+    omega (arith, places, c.place.ensures ∙ ap code_of c.opposite.ensures, code_within (opposite m) (length c.args.marks.now.items) wide)
 
 pub loop-lit-preserved : goal.loop-lit-preserved
 loop-lit-preserved c =
@@ -38,13 +51,25 @@ loop-lit-preserved c =
           (kept ∙ keeps_old marks c.loop-lit.kept.items xs m h.marked h.kept (sym read ∙ w.if-not-index.false), subst (λ ms. AreMarks ms (xs ++ m ∷ [])) (sym there) (marks_again marks xs m h.marked (sym read ∙ w.if-not-index.false)))
     ] in
     let other = c.place.ensures ∙ ap code_of c.opposite.ensures in
-    let places : length c.if-not-index.marks.items ≡ length c.args.marks.now.items = grind (arith, common_steps) in
+    let places : length c.if-not-index.marks.items ≡ length c.args.marks.now.items =
+    elim c.if-not-index.branch [
+      | then-not-index w ↦ ap (λ (v : Vec Bool Global). length v.items) w.marks-is ∙ (length-set marks c.place-at.result true ∙ h.places)
+      | else-not-index w ↦ ap (λ (v : Vec Bool Global). length v.items) w.marks-is ∙ h.places
+    ] in
+    let sizes : (vec_len c.if-not-index.kept ≤ i + 1) × (length clause ≤ vec_capacity c.if-not-index.kept) =
+    elim c.if-not-index.branch [
+      | then-not-index w ↦ (
+        omega (arith, ap (λ (v : Vec Literal Global). vec_len v) w.kept-is, w.push_reserved.ensures.len, h.few),
+        omega (arith, ap (λ (v : Vec Literal Global). vec_capacity v) w.kept-is, w.push_reserved.ensures.capacity, h.room),
+      )
+      | else-not-index w ↦ (omega (arith, ap (λ (v : Vec Literal Global). vec_len v) w.kept-is, h.few), omega (arith, ap (λ (v : Vec Literal Global). vec_capacity v) w.kept-is, h.room))
+    ] in
     let others_inside : c.place.result < length c.if-not-index.marks.items = omega (arith, places, other, code_within (opposite m) (length c.args.marks.now.items) wide) in
     let others_read : c.index-in-loop-lit.result.now ≡ bit_at c.if-not-index.marks.items (code_of (opposite m)) = get_or_read c.if-not-index.marks.items c.place.result c.index-in-loop-lit.result.now others_inside c.index-in-loop-lit.ensures false ∙ ap (bit_at c.if-not-index.marks.items) other in
     record {
       kept = both.0 ∙ ap without_repeats (sym more);
-      few = grind (arith, common_steps);
-      room = grind (arith, common_steps);
+      few = sizes.0;
+      room = sizes.1;
       opposites = (λ j. h.opposites j || (others_read ∙ both.1 (opposite m)) j) ∙ (sym (is_tautology-push xs m) ∙ ap is_tautology (sym more));
       places = places;
       marked = subst (AreMarks c.if-not-index.marks.items) (sym more) both.1;

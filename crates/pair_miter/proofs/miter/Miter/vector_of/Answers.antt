@@ -1,7 +1,7 @@
-use Rattle.std.proofs.Common.{◌≡◌, ◌∙◌, false, arith, ap, sym, subst}
+use Rattle.std.proofs.Common.{◌≡◌, ◌∙◌, false, length, arith, ap, sym, subst}
 use Rattle.std.specs.Prelude.{map}
 use Rattle.std.specs.List.{range_with_len}
-use Rattle.std.proofs.lemmas.List.{ext_get_or}
+use Rattle.std.proofs.lemmas.List.{ext_get_or, length-replicate}
 use Rattle.std.proofs.lemmas.List.FromFn.{length-map-range_with_len, get_or-map-range_with_len}
 use Rattle.net_model.specs.Circuit.{Circuit, IsCircuit}
 use Rattle.net_model.specs.Fault.{IsFaultOf}
@@ -29,3 +29,9 @@ returns-clause-separates c =
     let first = subst (λ (q : Miter). IsFaultOf q.circuit q.f) c.self.view_is c.self.invariant.first in
     let second = subst (λ (q : Miter). IsFaultOf q.circuit q.g) c.self.view_is c.self.invariant.second in
     subst (λ v. Separates p.circuit v p.f p.g) (sym (returns-clause-value c)) (model_separates p.circuit p.f p.g c.args.model.now circuit first second c.requires.satisfies)
+
+pub loop-source-init : goal.loop-source-init
+loop-source-init c = (
+  ap length c.in_ok-v.ensures ∙ (length-replicate c.sources-sources.result false ∙ (c.sources-sources.ensures.value ∙ ap (λ (circuit : Circuit). circuit.sources) c.circuit.ensures.value)),
+  λ n h. absurd (omega (arith, h)),
+)

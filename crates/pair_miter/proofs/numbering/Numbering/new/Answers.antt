@@ -1,4 +1,4 @@
-use Rattle.std.proofs.Common.{◌≡◌, ◌∙◌, ◌<◌, ◌+◌, arith, ap, sym, subst}
+use Rattle.std.proofs.Common.{◌≡◌, ◌∙◌, ◌<◌, ◌+◌, arith, refl, ap, sym, subst}
 use Rattle.std.proofs.lemmas.Result.{IfOk-from_err}
 use Rattle.net_model.specs.Circuit.{line_count}
 use Rattle.pair_miter.specs.Numbering.{AreFirstVariables}
@@ -47,3 +47,6 @@ invariant_of-result c =
       firsts = subst (λ n. AreFirstVariables circuit c.args.f c.args.g n c.loop-line.firsts.items) done c.loop-line.invariant.0;
       end = c.loop-line.invariant.1 ∙ ap (λ n. 1 + variables_below circuit c.args.f c.args.g n) done;
     }
+
+pub returns : goal.returns
+returns c = refl

@@ -14,10 +14,10 @@ use Rattle.clause_pool.specs.Proper.{IsVariable}
 use Rattle.pair_miter.specs.Operand.{Operand}
 use Rattle.pair_miter.specs.Adds.{Adds, Keeps, Writes}
 use Rattle.pair_miter.specs.Marks.{IsOperand, AreHelpers}
-use Rattle.pair_miter.specs.Miter.{gate_operands, tidy}
+use Rattle.pair_miter.specs.Miter.{copy_clauses, gate_operands, tidy}
 use Rattle.pair_miter.specs.Rows.{variables}
 use Rattle.pair_miter.specs.Variables.{first_helper, variable_count}
-use Rattle.pair_miter.proofs.AddSteps.{adds_none, on_ok, writes_err}
+use Rattle.pair_miter.proofs.AddSteps.{adds_none, keeps_all, on_ok, writes_err}
 use Rattle.pair_miter.proofs.Bounds.{few_variables_of}
 use Rattle.pair_miter.proofs.LineClauses.{clauses_of_stuck, clauses_of_source, rows_of_driven}
 use Rattle.pair_miter.proofs.Numbers.{variable_within, helpers_of_stuck, helpers_of_source, first_helper-below, few_of_parts}
@@ -83,6 +83,11 @@ returns-then-line-sources-clause-helper c =
 
 pub read_pins-requires-clause-few : goal.read_pins-requires-clause-few
 read_pins-requires-clause-few c = omega (arith, few_pins c.circuit-circuit.result.now c.gate-gate.ensures.circuit c.args.line c.gate-gate.result.now c.gate-gate.ensures.value)
+
+pub returns-in_err-read_pins-clause-written : goal.returns-in_err-read_pins-clause-written
+returns-in_err-read_pins-clause-written c =
+    let p = c.args.numbering.now in
+    writes_err c.from_residual.result c.from_residual.ensures.0 (keeps_all c.args.pool.now (tidy (copy_clauses p.circuit p.f p.g c.args.side c.args.line)))
 
 pub write_gate-requires-clause-output : goal.write_gate-requires-clause-output
 write_gate-requires-clause-output c =

@@ -49,3 +49,6 @@ returns-in_err-write_copy-2-clause-written c =
     let p = c.args.numbering.now in
     let parts = clauses_of_split p.circuit p.f p.g c.args.line (sym c.split.ensures.value ∙ c.if-split.true) in
     writes_err c.from_residual-in_err-write_copy-2.result c.from_residual-in_err-write_copy-2.ensures.0 (left_fails parts c.in_ok-write_copy.ensures.written c.in_err-write_copy-2.ensures.written)
+
+pub write_copy-requires-then-split-clause-line : goal.write_copy-requires-then-split-clause-line
+write_copy-requires-then-split-clause-line c = c.requires.line
