@@ -29,3 +29,6 @@ loop-pattern-preserved c =
     } in
     subst (AreLeads c.args.classes.now c.args.patterns.now c.args.chosen.now (pattern + 1)) (sym c.in_ok-push.ensures.items)
     (leads_more _ _ _ _ _ _ c.loop-pattern.invariant (λ d. subst IsLeadOf (get_or_default c.args.patterns.now pattern known d (omega (arith, c.requires.count))) lead))
+
+pub loop-pattern-init : goal.loop-pattern-init
+loop-pattern-init c = record { one_each = ap length c.in_ok-leads.ensures.items; each = λ pattern d h. absurd (omega (arith, h)) }
