@@ -34,13 +34,22 @@ pub write_chosen-requires-clause-few : goal.write_chosen-requires-clause-few
 write_chosen-requires-clause-few c = few c.args.pool.now (rows c.args.kind Chosen c.args.output c.args.helper c.args.operands.now c.operation.ensures c.in-Chosen.is c.inverts.ensures c.literal-y.ensures) c.requires.few
 
 pub returns-in-Folded-AllOf-clause-written : goal.returns-in-Folded-AllOf-clause-written
-returns-in-Folded-AllOf-clause-written c = subst (λ (xs : List Clause). Writes c.write_decided.result c.args.pool.now c.write_decided.new.pool (tidy xs)) (ap (λ (l : Literal). decided_rows false l c.args.operands.now) c.opposite.ensures ∙ rows c.args.kind (Folded AllOf) c.args.output c.args.helper c.args.operands.now c.operation.ensures (c.in-Folded-AllOf.is ∙ ap (λ f. Folded f) c.in-Folded-AllOf.field-0-is) c.inverts.ensures c.literal-y.ensures) c.write_decided.ensures.written
+returns-in-Folded-AllOf-clause-written c =
+    subst (λ (xs : List Clause). Writes c.write_decided.result c.args.pool.now c.write_decided.new.pool (tidy xs))
+    (ap (λ (l : Literal). decided_rows false l c.args.operands.now) c.opposite.ensures ∙ rows c.args.kind (Folded AllOf) c.args.output c.args.helper c.args.operands.now c.operation.ensures (c.in-Folded-AllOf.is ∙ ap (λ f. Folded f) c.in-Folded-AllOf.field-0-is) c.inverts.ensures c.literal-y.ensures)
+    c.write_decided.ensures.written
 
 pub returns-in-Folded-AnyOf-clause-written : goal.returns-in-Folded-AnyOf-clause-written
-returns-in-Folded-AnyOf-clause-written c = subst (λ (xs : List Clause). Writes c.write_decided-in-Folded-AnyOf.result c.args.pool.now c.write_decided-in-Folded-AnyOf.new.pool (tidy xs)) (rows c.args.kind (Folded AnyOf) c.args.output c.args.helper c.args.operands.now c.operation.ensures (c.in-Folded-AnyOf.is ∙ ap (λ f. Folded f) c.in-Folded-AnyOf.field-0-is) c.inverts.ensures c.literal-y.ensures) c.write_decided-in-Folded-AnyOf.ensures.written
+returns-in-Folded-AnyOf-clause-written c =
+    subst (λ (xs : List Clause). Writes c.write_decided-in-Folded-AnyOf.result c.args.pool.now c.write_decided-in-Folded-AnyOf.new.pool (tidy xs))
+    (rows c.args.kind (Folded AnyOf) c.args.output c.args.helper c.args.operands.now c.operation.ensures (c.in-Folded-AnyOf.is ∙ ap (λ f. Folded f) c.in-Folded-AnyOf.field-0-is) c.inverts.ensures c.literal-y.ensures)
+    c.write_decided-in-Folded-AnyOf.ensures.written
 
 pub returns-in-Folded-OddOf-clause-written : goal.returns-in-Folded-OddOf-clause-written
-returns-in-Folded-OddOf-clause-written c = subst (λ (xs : List Clause). Writes c.write_odd.result c.args.pool.now c.write_odd.new.pool (tidy xs)) (rows c.args.kind (Folded OddOf) c.args.output c.args.helper c.args.operands.now c.operation.ensures (c.in-Folded-OddOf.is ∙ ap (λ f. Folded f) c.in-Folded-OddOf.field-0-is) c.inverts.ensures c.literal-y.ensures) c.write_odd.ensures.written
+returns-in-Folded-OddOf-clause-written c =
+    subst (λ (xs : List Clause). Writes c.write_odd.result c.args.pool.now c.write_odd.new.pool (tidy xs))
+    (rows c.args.kind (Folded OddOf) c.args.output c.args.helper c.args.operands.now c.operation.ensures (c.in-Folded-OddOf.is ∙ ap (λ f. Folded f) c.in-Folded-OddOf.field-0-is) c.inverts.ensures c.literal-y.ensures)
+    c.write_odd.ensures.written
 
 pub returns-in-Chosen-clause-written : goal.returns-in-Chosen-clause-written
 returns-in-Chosen-clause-written c = subst (λ (xs : List Clause). Writes c.write_chosen.result c.args.pool.now c.write_chosen.new.pool (tidy xs)) (rows c.args.kind Chosen c.args.output c.args.helper c.args.operands.now c.operation.ensures c.in-Chosen.is c.inverts.ensures c.literal-y.ensures) c.write_chosen.ensures.written
