@@ -2,9 +2,10 @@
 use Rattle.std.proofs.Common.{◌≡◌, ◌∙◌, ℕ, ◌+◌, ◌<◌, ◌⊎◌, inl, inr, Bool, true, false, List, [], ◌∷◌, ◌++◌, length, take, set, get_or, replicate, sym, ap, arith, subst, length-append}
 use Rattle.std.specs.Prelude.{Contains}
 use Rattle.std.proofs.lemmas.Bool.{cases_eq, cases_lt, false≢true}
-use Rattle.std.proofs.lemmas.List.{get_or_append_left, get_or_at, get_or-set_same, get_or-set_other, length-set, length-replicate, get_or-replicate, get_or_past, take_more}
+use Rattle.std.proofs.lemmas.List.{get_or_append_left, get_or_at, get_or-set_same, get_or-set_other, length-set, length-replicate, take_more}
 use Rattle.std.proofs.lemmas.List.Elements.{Contains-push, Contains-append_left, Contains-push_cases}
 use Rattle.net_model.specs.Answer.{bit_at}
+use Rattle.net_model.proofs.Elements.{get_or-replicate_anywhere}
 use Rattle.fault_list.specs.Scope.{AreMarks, MarksLines}
 
 pub marks_none : (test : ℕ → Bool) (marks : List Bool) → marks ≡ [] → AreMarks test 0 marks
@@ -75,10 +76,7 @@ module _ (positions : List ℕ) (reached : List Bool) where
   pub shown_none : (lines : ℕ) (marks : List Bool) → marks ≡ replicate lines false → ShownBelow 0 lines marks
   shown_none lines marks none =
       let unmarked : (line : ℕ) → bit_at marks line ≡ false = λ line.
-      ap (λ bits. bit_at bits line) none ∙ elim (cases_lt line lines) [
-        | inl below ↦ get_or-replicate lines line false false below
-        | inr past ↦ get_or_past (replicate lines false) line false (omega (arith, length-replicate lines false))
-      ] in
+      ap (λ bits. bit_at bits line) none ∙ get_or-replicate_anywhere lines line false in
       record {
         whole = ap length none ∙ length-replicate lines false;
         shown = λ at h. absurd (omega (arith, h));
