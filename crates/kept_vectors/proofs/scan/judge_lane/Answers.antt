@@ -1,6 +1,6 @@
 use Rattle.std.proofs.Common.{◌≡◌, ◌<◌, Bool, List, [], false, length, get_or, refl, sym, ap, subst, ◌∙◌, arith}
 use Rattle.std.specs.Prelude.{IfOk}
-use Rattle.std.proofs.lemmas.Result.{IfOk-from_err, on_ok_weaker}
+use Rattle.std.proofs.lemmas.Result.{on_ok_weaker}
 use Rattle.class_refine.specs.CutIn.{AreClassesOf}
 use Rattle.net_model.specs.Answer.{bit_at}
 use Rattle.word_sim.specs.GoodSim.{vectors_of}
@@ -107,32 +107,3 @@ offer-offered-requires-clause-classes c = subst (AreClassesOf c.args.kept.now.cl
 
 pub clear_row-requires-clause-set : goal.clear_row-requires-clause-set
 clear_row-requires-clause-set c = c.fill_row.ensures.set
-
--- ---- what an error returns
-
-pub returns-in_err-v-clause-blank : goal.returns-in_err-v-clause-blank
-returns-in_err-v-clause-blank c = c.requires.blank
-
-pub returns-in_err-v-clause-ok : goal.returns-in_err-v-clause-ok
-returns-in_err-v-clause-ok c = IfOk-from_err c.from_residual.result _ c.from_residual.ensures.0
-
-pub returns-in_err-v-clause-offered : goal.returns-in_err-v-clause-offered
-returns-in_err-v-clause-offered c = IfOk-from_err c.from_residual.result _ c.from_residual.ensures.0
-
-pub returns-in_err-picked-clause-blank : goal.returns-in_err-picked-clause-blank
-returns-in_err-picked-clause-blank c = c.requires.blank
-
-pub returns-in_err-picked-clause-ok : goal.returns-in_err-picked-clause-ok
-returns-in_err-picked-clause-ok c = IfOk-from_err c.from_residual-in_err-picked.result _ c.from_residual-in_err-picked.ensures.0
-
-pub returns-in_err-picked-clause-offered : goal.returns-in_err-picked-clause-offered
-returns-in_err-picked-clause-offered c = IfOk-from_err c.from_residual-in_err-picked.result _ c.from_residual-in_err-picked.ensures.0
-
-pub returns-in_err-classes-clause-blank : goal.returns-in_err-classes-clause-blank
-returns-in_err-classes-clause-blank c = c.requires.blank
-
-pub returns-in_err-classes-clause-ok : goal.returns-in_err-classes-clause-ok
-returns-in_err-classes-clause-ok c = IfOk-from_err c.from_residual-in_err-classes.result _ c.from_residual-in_err-classes.ensures.0
-
-pub returns-in_err-classes-clause-offered : goal.returns-in_err-classes-clause-offered
-returns-in_err-classes-clause-offered c = IfOk-from_err c.from_residual-in_err-classes.result _ c.from_residual-in_err-classes.ensures.0
