@@ -35,8 +35,10 @@ write_clauses-requires c =
     let nb = sym c.opposite-not_b.ensures i in
     let nc = sym not_c i in
     let pc = sym c.literal-c.ensures i in
-    (na ∷ b ∷ pc ∷ []) ∷ (na ∷ nb ∷ nc ∷ []) ∷ (a ∷ nb ∷ pc ∷ []) ∷ (a ∷ b ∷ nc ∷ []) ∷ [] in
-    (omega arith, (
-      subst (λ (xs : List Clause). All (All (IsBelow n)) xs) rows (all_below n a b (pos_literal c.args.variable) c.requires.output c.requires.first c.requires.second.1),
-      subst (λ (xs : List Clause). length c.args.pool.now.clauses + length (tidy xs) < 2 ^ 30) rows c.requires.few,
-    ))
+    (na ∷ b ∷ pc ∷ []) ∷ (na ∷ nb ∷ nc ∷ []) ∷ (a ∷ nb ∷ pc ∷ []) ∷ (a ∷ b ∷ nc ∷ []) ∷ [] in (
+      omega arith,
+      (
+        subst (λ (xs : List Clause). All (All (IsBelow n)) xs) rows (all_below n a b (pos_literal c.args.variable) c.requires.output c.requires.first c.requires.second.1),
+        subst (λ (xs : List Clause). length c.args.pool.now.clauses + length (tidy xs) < 2 ^ 30) rows c.requires.few,
+      ),
+    )

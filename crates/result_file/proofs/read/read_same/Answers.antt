@@ -25,8 +25,8 @@ returns-in_err-read_proof c =
     let rest = map (λ f. f.now) c.args.rest.now in
     let p = err_from_is_err_and c.from_residual.result c.from_residual.ensures.1 in
     rw (p.1, p.2) (turned HasProofSpelling proof_fields _ HasSpelling fields (codes "same" ∷ rest) c.in_err-read_proof.field-0.0 c.in_err-read_proof.ensures (λ never x is e.
-        let k = same_proof x rest is e in
-        never k.0 k.1 (k.2 ∙ sym (behind_two (λ f. f.now) c.args.rest.now c.in-len2-up.len_at_least))))
+    let k = same_proof x rest is e in
+    never k.0 k.1 (k.2 ∙ sym (behind_two (λ f. f.now) c.args.rest.now c.in-len2-up.len_at_least))))
 
 pub returns : goal.returns
 returns c =
