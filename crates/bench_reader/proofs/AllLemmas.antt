@@ -1,15 +1,8 @@
 -- What holds of each element of parts.
-use Rattle.std.proofs.Common.{List, [], ◌∷◌, ◌++◌, get_or}
+use Rattle.std.proofs.Common.{List, [], ◌∷◌, get_or}
 use Rattle.std.specs.Prelude.{flat_map, All, Contains}
-use Rattle.std.proofs.lemmas.List.Elements.{All-nil, All-cons, All-head, All-tail, Contains-get_or}
-
-pub All-left : {X : Type 0} (P : X → Type 0) (xs ys : List X) → All P (xs ++ ys) → All P xs
-All-left P [] ys a = All-nil P
-All-left P (x ∷ xs) ys a = All-cons P x xs (All-head P x (xs ++ ys) a) (All-left P xs ys (All-tail P x (xs ++ ys) a))
-
-pub All-right : {X : Type 0} (P : X → Type 0) (xs ys : List X) → All P (xs ++ ys) → All P ys
-All-right P [] ys a = a
-All-right P (x ∷ xs) ys a = All-right P xs ys (All-tail P x (xs ++ ys) a)
+use Rattle.std.proofs.lemmas.List.Elements.{All-nil, All-cons, Contains-get_or}
+use Rattle.net_model.proofs.Elements.{All-left, All-right}
 
 -- what holds of all parts holds of each part
 pub All-parts : {X Y : Type 0} (P : Y → Type 0) (f : X → List Y) (xs : List X) → All P (flat_map f xs) → All (λ x. All P (f x)) xs

@@ -212,7 +212,3 @@ pins_push text old names more pins i d words new word h n w m is e =
 
 pub all_tail : (P : Lexeme → Type 0) (x : Lexeme) (xs : List Lexeme) → All P (x ∷ xs) → All P xs
 all_tail P x xs a k d h = a (suc k) d (omega arith)
-
-pub none_in : {X : Type 0} (xs : List X) → length xs ≡ 0 → xs ≡ []
-none_in [] e = refl
-none_in (x ∷ xs) e = absurd (omega arith)

@@ -15,14 +15,12 @@ use Rattle.bench_reader.specs.Tokens.{Text, Token}
 use Rattle.bench_reader.specs.Grammar.{Named, gate_driver, flip_flop_driver, Phrase, input_phrase, output_phrase, gate_phrase, has_right_pins, phrase_names}
 use Rattle.bench_reader.specs.Reading.{distinct_names, names_of, is_among, driven_names, all_used_names, driven_twice, undriven, word_of, number_in, first_word, statement_with, ArePhrases}
 use Rattle.bench_reader.specs.Drivers.{driven_word, used_words, has_number, repeated_word}
+use Rattle.bench_reader.proofs.NameLemmas.{same_text}
 
 -- ---- equal texts
 
 same_bytes : (a b : Text) → bytes_eq a b ≡ true → a ≡ b
 same_bytes a b t = (bytes_eq-Decides a b).0 t
-
-equal_bytes : (a : Text) → bytes_eq a a ≡ true
-equal_bytes a = (bytes_eq-Decides a a).1 refl
 
 -- ---- each name of the phrases has a number
 
@@ -51,7 +49,7 @@ first_place : (names : List Text) (text : Text) → Contains names text → posi
 first_place names text (k, h, e) =
     elim (cases_lt (position_or_len (bytes_eq text) names) (length names)) [
       | inl below ↦ below
-      | inr past ↦ true_false (bytes_eq text (get_or names k text)) (ap (bytes_eq text) e ∙ equal_bytes text) (fails_before_first (bytes_eq text) names k text (omega (arith, past, h)))
+      | inr past ↦ true_false (bytes_eq text (get_or names k text)) (ap (bytes_eq text) e ∙ same_text text) (fails_before_first (bytes_eq text) names k text (omega (arith, past, h)))
     ]
 
 -- a text that is a name has the number of its place
@@ -75,7 +73,7 @@ same_number names a b ma mb =
         | inl on ↦
             let e = eqb-true (number_in names a) (number_in names b) on in
             let same : a ≡ b = sym na.1 ∙ (get_or_default names (number_in names a) a b na.0 ∙ (ap (λ k. get_or names k b) e ∙ nb.1)) in
-            true_false (bytes_eq a b) (ap (bytes_eq a) (sym same) ∙ equal_bytes a) off
+            true_false (bytes_eq a b) (ap (bytes_eq a) (sym same) ∙ same_text a) off
       ]
     ]
 

@@ -2,7 +2,7 @@
 use Rattle.std.proofs.Common.{◌≡◌, ◌∙◌, ℕ, ◌+◌, ◌-◌, ◌<◌, ◌≤◌, Bool, true, false, List, [], ◌∷◌, length, take, drop, get_or, refl, ap, sym, arith, one-add, add-one, zero-add, length-take, length-drop}
 use Rattle.std.specs.Prelude.{nat_le, not, ◌&&◌, ◌||◌, ◌==◌, filter, count_by, slice_range, if◌then◌else◌}
 use Rattle.std.specs.List.{prefix_len}
-use Rattle.std.proofs.lemmas.Bool.{eqb-true}
+use Rattle.std.proofs.lemmas.Bool.{eqb-true, or_parts}
 use Rattle.std.proofs.lemmas.Bool.Decides.{nat_tests}
 use Rattle.std.proofs.lemmas.List.Folds.{length-prefix_len}
 use Rattle.std.proofs.lemmas.List.Sums.{sum_by-append, sum_by-cons, count_by-le-length, count_by_more_yes, count_by_more_no, prefix_len-le-length}
@@ -18,10 +18,6 @@ use Rattle.bench_reader.proofs.Pieces.{name_first}
 
 abbrev pub is_feed : ℕ → Bool
 is_feed b = b == 10
-
-pub or_none : (x y : Bool) → (x || y) ≡ false → (x ≡ false) × (y ≡ false)
-or_none true y e = cc
-or_none false y e = (refl, e)
 
 -- ---- skipped bytes
 
@@ -236,7 +232,7 @@ next_some text byte place kind n s h k e =
     let rest = drop (place.byte + 1) text in
     let front = byte_front text place.byte h in
     let long = length-drop place.byte text in
-    let plain = or_none (is_blank b) (b == 35) (s.stops h) in
+    let plain = or_parts (is_blank b) (b == 35) (s.stops h) in
     let n_is : n ≡ length_at (kind_at b) (b ∷ rest) = rw (← k, ← front) e in
     record {
       tokens = s.tokens ∙ ap (tokens_in false place.byte) front ∙ begins place.byte b rest plain.0 plain.1 n n_is

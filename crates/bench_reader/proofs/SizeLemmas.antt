@@ -1,9 +1,10 @@
 -- How many tokens, names and pins a text has.
 use Rattle.std.proofs.Common.{◌≡◌, ℕ, suc, ◌+◌, ◌≤◌, Bool, true, false, List, [], ◌∷◌, length, refl, ap, arith, length-append, Option, None, Some}
-use Rattle.std.specs.Prelude.{map, flat_map, filter, not, sum_by, option_map, option_and_then, codes, ◌==◌, if◌then◌else◌}
+use Rattle.std.specs.Prelude.{map, flat_map, not, sum_by, option_map, option_and_then, codes, ◌==◌, if◌then◌else◌}
 use Rattle.std.specs.Str.{bytes_eq}
 use Rattle.std.proofs.lemmas.List.{length-map}
 use Rattle.std.proofs.lemmas.List.Sums.{sum_by-cons}
+use Rattle.net_model.proofs.Elements.{length-filter-le}
 use Rattle.bench_reader.specs.Tokens.{Text, without_comments, Piece, pieces, piece_length, placed_pieces, is_blank_piece, Token, tokens_of, open_bracket, close_bracket, comma_mark, equals_mark, name_run}
 use Rattle.bench_reader.specs.Grammar.{Named, Driver, gate_driver, flip_flop_driver, driver_of, is_word, Phrase, input_phrase, output_phrase, gate_phrase, phrase_of, driver_pins, pins_of, observed_phrase, driven_phrase, phrase_names}
 use Rattle.bench_reader.specs.Reading.{distinct_names, names_of, statement_of, joined_tokens, ArePhrases}
@@ -14,14 +15,6 @@ use Rattle.bench_reader.proofs.Pieces.{few_pieces}
 use Rattle.bench_reader.proofs.DriverPins.{Pins, no_pins, some_pins, pins_are}
 
 -- ---- tokens and bytes
-
-pub kept_length : {X : Type 0} (p : X → Bool) (xs : List X) → length (filter p xs) ≤ length xs
-kept_length p [] = omega arith
-kept_length p (x ∷ xs) = by (p x) (kept_length p xs)
-  where
-    by : (b : Bool) → length (filter p xs) ≤ length xs → length (if b then x ∷ filter p xs else filter p xs) ≤ length (x ∷ xs)
-    by true h = omega (arith, h)
-    by false h = omega (arith, h)
 
 placed_length : (byte : ℕ) (ps : List Piece) → length (placed_pieces byte ps) ≡ length ps
 placed_length byte [] = refl
@@ -38,7 +31,7 @@ pub few_tokens : (text : Text) → length (tokens_of text) ≤ length text
 unfolding tokens_of
 few_tokens text =
     let plain = without_comments false text in
-    omega (arith, kept_length (λ token. not (is_blank_piece token.0)) (placed_pieces 0 (pieces plain)), placed_length 0 (pieces plain), few_pieces plain, plain_length false text)
+    omega (arith, length-filter-le (λ token. not (is_blank_piece token.0)) (placed_pieces 0 (pieces plain)), placed_length 0 (pieces plain), few_pieces plain, plain_length false text)
 
 -- ---- names and tokens
 
@@ -114,7 +107,7 @@ small_in_groups text names (g ∷ gs) (p ∷ ps) a =
 
 pub distinct_length : (xs : List Text) → length (distinct_names xs) ≤ length xs
 distinct_length [] = omega arith
-distinct_length (x ∷ xs) = omega (arith, kept_length (λ other. not (bytes_eq x other)) (distinct_names xs), distinct_length xs)
+distinct_length (x ∷ xs) = omega (arith, length-filter-le (λ other. not (bytes_eq x other)) (distinct_names xs), distinct_length xs)
 
 pub few_names_of : (groups : List (List Token)) (phrases : List Phrase) → ArePhrases groups phrases → length (names_of phrases) ≤ length (joined_tokens groups)
 unfolding names_of

@@ -67,10 +67,10 @@ module _ (key : ℕ → ℕ) where
 
 -- ---- words
 
-same_words : (a b : Bor (List ℕ)) → Decides (is_eq (words_order a b)) (a.now ≡ b.now)
+pub same_words : (a b : Bor (List ℕ)) → Decides (is_eq (words_order a b)) (a.now ≡ b.now)
 same_words a b = Decides-at (is_eq (words_order a b)) (bytes_eq a.now b.now) (is_eq-slice_cmp a.now b.now) (bytes_eq-Decides a.now b.now)
 
-in_either : {P R : Type 0} {Q S : ℕ → Type 0} (o : Option ℕ) → (P → R) → ((k : ℕ) → Q k → S k) → MatchOption o P Q → MatchOption o R S
+pub in_either : {P R : Type 0} {Q S : ℕ → Type 0} (o : Option ℕ) → (P → R) → ((k : ℕ) → Q k → S k) → MatchOption o P Q → MatchOption o R S
 in_either None f g m = f m
 in_either (Some k) f g m = g k m
 

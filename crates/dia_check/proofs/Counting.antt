@@ -2,11 +2,11 @@
 use Rattle.std.proofs.Common.{◌≡◌, ◌∙◌, ℕ, ◌+◌, ◌≤◌, Bool, true, false, cond, List, [], ◌∷◌, ◌++◌, length, length-append, Option, None, refl, ap, arith}
 use Rattle.std.specs.List.{count_by, filter_map}
 use Rattle.std.proofs.lemmas.List.{append-nil}
-use Rattle.std.proofs.lemmas.List.Concat.{flat_map-append}
 use Rattle.std.proofs.lemmas.List.Elements.{filter_map-append}
 use Rattle.std.proofs.lemmas.List.Sums.{sum_by-append}
 use Rattle.result_file.specs.declared.record.Record.{Record}
 use Rattle.result_file.specs.Spelling.{Text, spelling, text_of}
+use Rattle.result_file.proofs.RecordLists.{text-append}
 use Rattle.dia_check.specs.Checker.{line_of}
 
 module _ (rs : List Record) (r : Record) where
@@ -28,9 +28,6 @@ module _ (rs : List Record) (r : Record) where
 
   pub length_one : length (rs ++ r ∷ []) ≡ length rs + 1
   length_one = omega (arith, length-append rs (r ∷ []))
-
-pub text-append : (xs ys : List Record) → text_of (xs ++ ys) ≡ text_of xs ++ text_of ys
-text-append xs ys = flat_map-append (λ r. spelling r ++ 10 ∷ []) xs ys
 
 -- the text with one line more
 pub text_more : (rs : List Record) (r : Record) → text_of (rs ++ r ∷ []) ≡ text_of rs ++ line_of r

@@ -4,6 +4,7 @@ use Rattle.std.specs.Prelude.{unwrap_or}
 use Rattle.std.specs.List.{count_by, filter_map, slice_get}
 use Rattle.std.proofs.lemmas.List.Elements.{filter_map-append}
 use Rattle.std.proofs.lemmas.List.Sums.{sum_by-append, count_by-le-length}
+use Rattle.std.proofs.lemmas.Bool.{false_from_ne_true}
 use Rattle.net_model.specs.ClassTable.{ClassTable}
 use Rattle.result_file.specs.declared.record.Budgets.{Budgets}
 use Rattle.result_file.specs.declared.record.Mark.{Mark}
@@ -45,13 +46,9 @@ none_behind t records is (Class n birth) place = omega (arith, place.1, is.membe
 none_behind t records is (Member n class m) place = omega (arith, place.1, end_last records is)
 none_behind t records is End place = omega (arith, place.2, end_last records is)
 
-open_by : (b : Bool) → (b ≡ true → ⊥) → b ≡ false
-open_by true never = absurd (never refl)
-open_by false never = refl
-
 module _ {rs : List Record} {p : Progress} (is : IsProgress rs p) where
   pub open_in_place : (t : ClassTable) (r : Record) → IsInPlace t rs r → p.ended ≡ false
-  open_in_place t r place = open_by p.ended (λ e. none_behind t rs (is.ended e) r place)
+  open_in_place t r place = false_from_ne_true p.ended (λ e. none_behind t rs (is.ended e) r place)
 
   -- the end stands, or no end does
   pub ended_out : (t : ClassTable) (r : Record) → p.ended ≡ true → ¬ IsInPlace t rs r

@@ -23,13 +23,12 @@ use Rattle.result_file.specs.Refusal.{line_length}
 use Rattle.result_file.specs.Refusal.RestRefused.{wrong}
 use Rattle.result_file.specs.Refusal.FileRefused.{at_line}
 use Rattle.result_file.proofs.FirstLine.{ended_length}
-use Rattle.result_file.proofs.RecordLists.{count_kept, read_kept, read_more}
+use Rattle.result_file.proofs.RecordLists.{count_kept, read_kept, read_more, text-append}
 use Rattle.result_file.proofs.RightLines.{right_more}
 use Rattle.dia_check.specs.declared.progress.Progress.{Progress}
 use Rattle.dia_check.specs.declared.checker.Checker.{Checker}
 use Rattle.dia_check.specs.Progress.{IsProgress}
 use Rattle.dia_check.specs.Checker.{IsCheckOf, IsRefusedText, line_of}
-use Rattle.dia_check.proofs.Counting.{text-append}
 use Rattle.dia_check.proofs.ProgressLemmas.{open_in_place}
 use Rattle.dia_check.proofs.CheckLemmas.{fault_behind, nothing_waits}
 

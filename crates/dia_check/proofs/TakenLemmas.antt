@@ -2,7 +2,7 @@
 use Rattle.std.proofs.Common.{◌≡◌, ◌∙◌, ℕ, ◌+◌, ◌<◌, ◌≤◌, ◌^◌, Bool, true, false, List, [], ◌∷◌, ◌++◌, map, length, get_or, set, Option, None, Some, refl, sym, ap, subst, inl, inr, append_assoc, length-append, arith}
 use Rattle.std.specs.Prelude.{Contains, IsSome, ◌==◌, option_and_then, if◌then◌else◌}
 use Rattle.std.proofs.lemmas.Bool.{cases_eq, eq-eqb}
-use Rattle.std.proofs.lemmas.List.{map-append, get_or-set_same, get_or-set_other}
+use Rattle.std.proofs.lemmas.List.{map-append, get_or-set_same, get_or-set_other, nil_from_length}
 use Rattle.std.proofs.lemmas.List.Elements.{All-append, filter_map-append}
 use Rattle.std.proofs.lemmas.Option.{slice_get_within}
 use Rattle.net_model.specs.Circuit.{Circuit}
@@ -31,10 +31,6 @@ use Rattle.dia_check.specs.Checker.{IsChecker, IsCheckOf, NamesOpen, line_of}
 use Rattle.dia_check.proofs.Counting.{read_same, count_same, text_more}
 use Rattle.dia_check.proofs.ProgressLemmas.{open_in_place, progress_line, progress_budget, progress_class, progress_member, progress_end}
 use Rattle.dia_check.proofs.CheckLemmas.{taken_line, next_line, checker_line}
-
-pub empty_of : {X : Type 0} (xs : List X) → length xs ≡ 0 → xs ≡ []
-empty_of [] none = refl
-empty_of (x ∷ xs) none = absurd (omega arith)
 
 none_by : {X : Type 0} (xs : List X) → (0 < length xs → ⊥) → xs ≡ []
 none_by [] never = refl
@@ -117,7 +113,7 @@ module _ {c : Circuit} {text : Text} {k : Checker} (is : IsCheckOf c text k) (no
   -- ---- the head and the budgets
 
   pub head_place : p.lines ≡ 0 → is.seen ≡ []
-  head_place zero = empty_of is.seen (omega (arith, is.is.progress.lines))
+  head_place zero = nil_from_length is.seen (omega (arith, is.is.progress.lines))
 
   pub head_taken : (sources positions numbers : ℕ) → HasSpelling (Head sources positions numbers) → length (text ++ line_of (Head sources positions numbers)) ≤ 2 ^ 40 → p.lines ≡ 0
       → IsRightContent c t is.seen (Head sources positions numbers) → IsCheckOf c (text ++ line_of (Head sources positions numbers)) (record k { progress = record p { lines = p.lines + 1 } })

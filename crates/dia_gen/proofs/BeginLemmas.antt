@@ -6,9 +6,9 @@ use Rattle.result_file.specs.declared.record.Record.TheVariants.{Pattern}
 use Rattle.result_file.specs.Spelling.{Text, text_of}
 use Rattle.result_file.specs.Valid.{AreRightLines}
 use Rattle.result_file.proofs.RightLines.{right_head}
+use Rattle.result_file.proofs.RecordLists.{text-append}
 use Rattle.dia_gen.specs.Made.{head_lines}
 use Rattle.dia_gen.specs.Writing.{HasWritten, WritesText, BrokeOff}
-use Rattle.dia_gen.proofs.LineLemmas.{text-append}
 use Rattle.dia_gen.proofs.WritingLemmas.{none_written, written_then, written_ok, broken}
 use Rattle.std.proofs.lemmas.List.{append-nil}
 use Rattle.net_model.specs.Circuit.{Circuit}

@@ -18,6 +18,7 @@ use Rattle.result_file.specs.declared.record.Record.TheVariants.{Pattern, Same}
 use Rattle.result_file.specs.Marks.{pattern_of, evidence_of, patterns_in, evidence_in, mark_of}
 use Rattle.result_file.specs.Spelling.{Text, text_of}
 use Rattle.result_file.specs.Valid.{AreRightLines}
+use Rattle.result_file.proofs.RecordLists.{text-append}
 use Rattle.kept_vectors.specs.Kept.{Keeps}
 use Rattle.kept_vectors.specs.Keeper.{Keeper}
 use Rattle.kept_vectors.proofs.KeepLemmas.{table_numbers, leads_rise}
@@ -32,7 +33,6 @@ use Rattle.dia_gen.specs.Settled.{IsApartBy, IsProofFor}
 use Rattle.dia_gen.specs.Writing.{HasWritten, WritesText, BrokeOff}
 use Rattle.dia_gen.specs.Draft.{AreDraftLines, IsDrafted, IsDraft}
 use Rattle.dia_gen.proofs.FallenLemmas.{mark_stays}
-use Rattle.dia_gen.proofs.LineLemmas.{text-append}
 use Rattle.member_marks.proofs.MarkLemmas.{lowest_is_next, lead_inside, given_risen, given_more}
 use Rattle.dia_gen.proofs.DraftLemmas.{lines_more, pattern_added, evidence_added}
 use Rattle.dia_gen.proofs.WritingLemmas.{written_then, written_ok, broken, broken_here}

@@ -12,6 +12,7 @@ use Rattle.result_file.specs.Spelling.{Text, text_of}
 use Rattle.result_file.specs.Valid.{AreRightLines}
 use Rattle.result_file.specs.Meaning.{class_records, member_records}
 use Rattle.result_file.proofs.Truth.{AreSound}
+use Rattle.result_file.proofs.RecordLists.{text-append}
 use Rattle.dia_gen.specs.declared.draft.Draft.{Draft}
 use Rattle.dia_gen.specs.declared.counts.Marked.{Marked}
 use Rattle.dia_gen.specs.Setting.{Setting}
@@ -20,7 +21,6 @@ use Rattle.dia_gen.specs.Marked.{member_for, AreMarkedBelow}
 use Rattle.dia_gen.specs.Made.{lines_with, IsMade}
 use Rattle.dia_gen.specs.Writing.{HasWritten, WritesText, BrokeOff}
 use Rattle.dia_gen.specs.Draft.{IsDraft}
-use Rattle.dia_gen.proofs.LineLemmas.{text-append}
 use Rattle.dia_gen.proofs.WritingLemmas.{written_then, written_ok, broken}
 use Rattle.dia_gen.proofs.DraftResult.{stated, result_right, result_made, result_true, result_summary}
 

@@ -5,15 +5,10 @@ use Rattle.std.proofs.lemmas.List.{map-append, length-map}
 use Rattle.std.specs.Option.{option_map}
 use Rattle.std.proofs.lemmas.Option.{slice_get-map, slice_get-get_or}
 use Rattle.std.proofs.lemmas.List.FromFn.{length-range_with_len, map-range_with_len_more, length-enumerate_from, get_or-enumerate_from, length-map-range_with_len, get_or-map-range_with_len}
-use Rattle.std.proofs.lemmas.Grind.{flat_map-append}
 use Rattle.result_file.specs.declared.record.Mark.{Mark}
 use Rattle.result_file.specs.declared.record.Record.{Record}
 use Rattle.result_file.specs.declared.record.Record.TheVariants.{Class, Member}
-use Rattle.result_file.specs.Spelling.{spelling, text_of}
 use Rattle.result_file.specs.Meaning.{class_records, member_records}
-
-pub text-append : (xs ys : List Record) → text_of (xs ++ ys) ≡ text_of xs ++ text_of ys
-text-append xs ys = flat_map-append (λ r. spelling r ++ 10 ∷ []) xs ys
 
 enumerate_more : {X : Type 0} (n k : ℕ) (xs : List X) (x : X) → n + length xs ≡ k → enumerate_from n (xs ++ x ∷ []) ≡ enumerate_from n xs ++ (k, x) ∷ []
 enumerate_more {X} n k [] x at = ap (λ (m : ℕ). let one : List (ℕ × X) = (m, x) ∷ [] in one) (let e : n ≡ k = omega arith in e)

@@ -1,9 +1,8 @@
 -- Proofs that a search gives.
-use Rattle.std.proofs.Common.{◌≡◌, ◌≢◌, ℕ, ◌+◌, ◌<◌, ◌^◌, List, [], ◌∷◌, ◌++◌, length, length-append, refl, sym, ap, subst, ◌∙◌, inl, inr, Bool, true, Option, arith}
-use Rattle.std.specs.Prelude.{All, Some, None, slice_get, Result, Ok, Err, IfOk}
+use Rattle.std.proofs.Common.{◌≡◌, ◌≢◌, ℕ, ◌+◌, ◌<◌, ◌^◌, List, [], ◌∷◌, ◌++◌, length, length-append, refl, sym, ap, ◌∙◌, inl, inr, Bool, true, Option, arith}
+use Rattle.std.specs.Prelude.{All, None, Result, Ok, Err, IfOk}
 use Rattle.std.specs.declared.alloc.AllocError.{AllocError}
 use Rattle.std.proofs.lemmas.List.Elements.{All-from_get_or, All-nil, All-weaker}
-use Rattle.std.proofs.lemmas.Option.{get_or_from_slice_get, slice_get_within}
 use Rattle.net_model.specs.declared.fault.Fault.{Fault}
 use Rattle.net_model.specs.Answer.{bit_at, Separates}
 use Rattle.net_model.specs.Scope.{is_relevant}
@@ -29,6 +28,7 @@ use Rattle.result_file.specs.Lines.{AreWithinLimits}
 use Rattle.result_file.specs.Spelling.{HasTokenSpelling, HasTreeSpelling, IsPlainChain, IsFreshChain}
 use Rattle.net_model.specs.Collapse.{root}
 use Rattle.net_model.specs.FaultList.{fault_numbered}
+use Rattle.net_model.proofs.Copies.{All-at}
 use Rattle.result_file.specs.declared.record.Proof.{Proof}
 use Rattle.dia_gen.specs.declared.pair.Settled.{Settled}
 use Rattle.dia_gen.specs.declared.pair.Settled.TheVariants.{Apart, By}
@@ -52,10 +52,6 @@ module _ (c : Circuit) (f g : Fault) (small : c.sources < 2 ^ 32) where
     nonempty = some_token tokens tree.shape.whole;
     each = All-from_get_or HasTokenSpelling tokens Rest (λ at below. let right = tree.each at below in token_spelling (token_at tokens at) right.0 right.2);
   }
-
--- an element in its place is one of those of which all is said
-placed : {X : Type 0} (P : X → Type 0) (xs : List X) (at : ℕ) (x : X) → All P xs → slice_get xs at ≡ Some x → P x
-placed P xs at x all is = subst P (get_or_from_slice_get xs at x x is) (all at x (slice_get_within xs at x is))
 
 module _ (c : Circuit) (is : IsCircuit c) (f g : Fault) (budgets : Budgets) (tokens : List Token) where
   sources : c.sources < 2 ^ 32
@@ -99,7 +95,7 @@ module _ (c : Circuit) (is : IsCircuit c) (f g : Fault) (budgets : Budgets) (tok
                 λ none. (let z : length log ≡ 0 = ap length none in omega (arith, long, count)),
                 log_spelled (variable_count c f g) (omega (arith, few_variables_of c f g is)) IsPlainChain (miter c f g) log (r.refutation.ends ++ [] ∷ []) inside (omega (arith, few, long, count, r.refutation.few)) r.refutation.are
                     (λ chain at end there ends within.
-                    let bare = placed (λ (ch : ChainView). ch.fresh_at ≡ None) log at chain r.bare there in
+                    let bare = All-at (λ (ch : ChainView). ch.fresh_at ≡ None) log at chain r.bare there in
                     (rw bare tt, λ spelled. (spelled, bare))),
               ),
             );

@@ -13,8 +13,8 @@ use Rattle.net_model.specs.Circuit.{Circuit}
 use Rattle.result_file.specs.declared.record.Record.{Record}
 use Rattle.result_file.specs.Spelling.{Text, text_of}
 use Rattle.result_file.specs.Valid.{AreRightLines}
+use Rattle.result_file.proofs.RecordLists.{text-append}
 use Rattle.dia_gen.specs.Writing.{HasWritten, WritesText, BrokeOff}
-use Rattle.dia_gen.proofs.LineLemmas.{text-append}
 use Rattle.dia_gen.proofs.Written.{nothing_right, writes_none}
 
 -- ---- calls

@@ -1,8 +1,8 @@
 -- What follows from a run's record, clause by clause.
-use Rattle.std.proofs.Common.{IsTrue, ◌≡◌, ◌<◌, ◌≤◌, ◌⊎◌, ℕ, Bool, true, false, ◌&&◌, List, [], ◌∷◌, ◌++◌, Option, Some, None, refl, sym, ap, subst, ◌∙◌, ◌==◌, inl, inr, arith}
+use Rattle.std.proofs.Common.{IsTrue, ◌≡◌, ◌<◌, ◌≤◌, ◌⊎◌, ℕ, Bool, true, List, [], ◌∷◌, ◌++◌, Option, Some, None, refl, sym, ap, subst, ◌∙◌, ◌==◌, inl, inr, arith}
 use Rattle.std.specs.Prelude.{nat_lt, not}
 use Rattle.std.specs.List.{list_all}
-use Rattle.std.proofs.lemmas.Bool.{cases_lt, ltb-true}
+use Rattle.std.proofs.lemmas.Bool.{cases_lt, ltb-true, and_parts}
 use Rattle.std.specs.FinMap.{get, insert}
 use Rattle.diag_shelf.specs.World.{Files, World, State}
 use Rattle.diag_shelf.proofs.FileMaps.{get_at_insert, get_off_insert}
@@ -123,15 +123,11 @@ module _ {asked : Option Request} {status : ℕ} {old new : World} (done : IsDon
 
 -- ---- statuses
 
-both : (a b : Bool) → (a && b) ≡ true → (a ≡ true) × (b ≡ true)
-both true b e = (refl, e)
-both false b e = absurd (cc)
-
 -- a test that all statuses of a list pass
 passes : (test : ℕ → Bool) (status : ℕ) (statuses : List ℕ) → list_all test statuses ≡ true → IsAmong status statuses → test status ≡ true
 passes test status [] all among = absurd among
-passes test status (s ∷ statuses) all (inl e) = subst (λ n. test n ≡ true) (sym e) (both (test s) (list_all test statuses) all).0
-passes test status (s ∷ statuses) all (inr among) = passes test status statuses (both (test s) (list_all test statuses) all).1 among
+passes test status (s ∷ statuses) all (inl e) = subst (λ n. test n ≡ true) (sym e) (and_parts (test s) (list_all test statuses) all).0
+passes test status (s ∷ statuses) all (inr among) = passes test status statuses (and_parts (test s) (list_all test statuses) all).1 among
 
 at_most_nine : (asked : Option Request) → list_all (λ s. nat_lt s 10) (statuses_of asked) ≡ true
 at_most_nine None = refl

@@ -2,12 +2,10 @@
 use Rattle.std.proofs.Common.{◌≡◌, ◌∙◌, ℕ, zero, suc, ◌+◌, ◌-◌, ◌*◌, ◌<◌, ◌≤◌, Bool, true, false, not, cond, eqb, List, [], ◌∷◌, ◌++◌, length, get_or, replicate, refl, sym, ap, ap₂, subst, inl, inr, arith}
 use Rattle.std.specs.Prelude.{All, zip, filter, flat_map}
 use Rattle.std.specs.Bool.{Decides}
-use Rattle.std.specs.Cmp.{booleans_Decides}
 use Rattle.std.specs.List.{range_with_len}
-use Rattle.std.proofs.lemmas.Bool.{eq-eqb, eqb-true, ne_eqb, cases_eq, cases_lt}
-use Rattle.std.proofs.lemmas.Slice.Eq.{slice_eq-Decides}
+use Rattle.std.proofs.lemmas.Bool.{eq-eqb, eqb-true, ne_eqb, cases_eq, cases_lt, false_from_ne_true}
 use Rattle.std.proofs.lemmas.Slice.Zip.{length-zip, get_or-zip}
-use Rattle.std.proofs.lemmas.List.{length-map, get_or-map, length-append, length-replicate, append-nil, get_or_append_left, get_or-append-add, get_or_past}
+use Rattle.std.proofs.lemmas.List.{get_or-map, length-append, length-replicate, append-nil, get_or_append_left, get_or-append-add, get_or_past}
 use Rattle.std.proofs.lemmas.List.Elements.{All-head, All-tail, filter-append}
 use Rattle.std.proofs.lemmas.Nat.Bits.{bit_at-zero}
 use Rattle.net_model.specs.ClassTable.{same_bits}
@@ -22,6 +20,7 @@ use Rattle.table_dicts.specs.Dictionary.{IsShaped, baseline_count, entry_width, 
 use Rattle.table_dicts.proofs.RowLemmas.{begun_none, begun_all}
 use Rattle.table_dicts.proofs.BlockWordLemmas.{words_more}
 use Rattle.table_dicts.proofs.WordLemmas.{bit_in}
+use Rattle.table_dicts.proofs.EntryLemmas.{same_bits-Decides, length-differences}
 use Rattle.diagnose.proofs.WordLemmas.{packed_bit, first_word_bit}
 
 -- ---- equal rows
@@ -32,18 +31,15 @@ same_answer true false one other = sym (other.1 (one.0 refl))
 same_answer false true one other = one.1 (other.0 refl)
 same_answer false false one other = refl
 
-pub same_decides : (a b : List Bool) → Decides (same_bits a b) (a ≡ b)
-same_decides a b = slice_eq-Decides booleans_Decides a b (same_bits a b) refl
-
 -- what a test of two rows has told
 pub told_same : (a b : List Bool) → true ≡ same_bits a b → a ≡ b
-told_same a b e = (same_decides a b).0 (sym e)
+told_same a b e = (same_bits-Decides a b).0 (sym e)
 
 pub told_other : (a b : List Bool) → false ≡ same_bits a b → a ≡ b → ⊥
-told_other a b e same = let clash : ◌≡◌ {A = Bool} false true = e ∙ (same_decides a b).1 same in absurd (cc)
+told_other a b e same = let clash : ◌≡◌ {A = Bool} false true = e ∙ (same_bits-Decides a b).1 same in absurd (cc)
 
 pub by_same : (a b : List Bool) (r : Bool) → Decides r (a ≡ b) → r ≡ same_bits a b
-by_same a b r decides = same_answer r (same_bits a b) decides (same_decides a b)
+by_same a b r decides = same_answer r (same_bits a b) decides (same_bits-Decides a b)
 
 -- ---- an entry that is written word by word
 
@@ -184,10 +180,6 @@ itself_at [] k inside = absurd (omega (arith, inside))
 itself_at (x ∷ xs) zero inside = refl
 itself_at (x ∷ xs) (suc k) inside = itself_at xs k (omega (arith, inside))
 
-false_by : (b : Bool) → (b ≡ true → ⊥) → b ≡ false
-false_by true never = absurd (never refl)
-false_by false never = refl
-
 module _ (d : Dict) (observed : List (List Bool)) (grouped : IsGrouped d.numbers d.groups d.entries) where
   abbrev entry : List Bool
   entry = observed_entry d.kind d.baselines observed
@@ -203,8 +195,8 @@ module _ (d : Dict) (observed : List (List Bool)) (grouped : IsGrouped d.numbers
       (λ n low high. let below : n < d.numbers = omega (arith, high) in
       same_answer {P = get_or d.groups n 0 ≡ group} (eqb (get_or d.groups n 0) group) (same_bits (entry_of d n) entry)
       (eqb-true (get_or d.groups n 0) group, eq-eqb (get_or d.groups n 0) group) (
-        (λ same. grouped.different.apart (get_or d.groups n 0) group (group_in n below) inside ((same_decides (entry_of d n) entry).0 same ∙ sym is)),
-        (λ e. (same_decides (entry_of d n) entry).1 (ap (λ (g : ℕ). get_or d.entries g []) e ∙ is)),
+        (λ same. grouped.different.apart (get_or d.groups n 0) group (group_in n below) inside ((same_bits-Decides (entry_of d n) entry).0 same ∙ sym is)),
+        (λ e. (same_bits-Decides (entry_of d n) entry).1 (ap (λ (g : ℕ). get_or d.entries g []) e ∙ is)),
       ))
 
   -- no number is listed where no row is the entry
@@ -212,7 +204,7 @@ module _ (d : Dict) (observed : List (List Bool)) (grouped : IsGrouped d.numbers
   unfolding listed_numbers
   listed_none never =
       sym (filter_range_none (λ n. same_bits (entry_of d n) entry) 0 d.numbers
-      (λ n low high. false_by (same_bits (entry_of d n) entry) (λ same. never (get_or d.groups n 0) (group_in n (omega (arith, high))) ((same_decides (entry_of d n) entry).0 same))))
+      (λ n low high. false_from_ne_true (same_bits (entry_of d n) entry) (λ same. never (get_or d.groups n 0) (group_in n (omega (arith, high))) ((same_bits-Decides (entry_of d n) entry).0 same))))
 
 -- ---- the entry of observed answers
 
@@ -228,11 +220,6 @@ pub length-flat : (rows : List (List Bool)) (width : ℕ) → All (λ row. lengt
 length-flat [] width wide = omega arith
 length-flat (row ∷ rows) width wide =
     omega (arith, length-append row (flat_map (λ r. r) rows), All-head (λ r. length r ≡ width) row rows wide, length-flat rows width (All-tail (λ r. length r ≡ width) row rows wide))
-
-pub length-differences : (observed baselines : List (List Bool)) → length observed ≡ length baselines → length (differences observed baselines) ≡ length observed
-unfolding differences
-length-differences observed baselines same =
-    length-map (zip observed baselines) (λ x. not (same_bits x.0 x.1)) ∙ omega (arith, length-zip observed baselines, same)
 
 entry_wide : (kind : DictKind) (patterns positions : ℕ) (baselines observed : List (List Bool)) → AreRows (baseline_count kind patterns) positions baselines → AreRows patterns positions observed
     → length (observed_entry kind baselines observed) ≡ entry_width kind patterns positions

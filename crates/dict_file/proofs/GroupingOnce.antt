@@ -4,13 +4,7 @@ use Rattle.std.proofs.lemmas.Bool.{cases_lt}
 use Rattle.std.proofs.lemmas.List.{ext_get_or, get_or-take, length-take-le, get_or_default}
 use Rattle.std.proofs.lemmas.List.Elements.{Contains-get_or}
 use Rattle.table_dicts.specs.Grouped.{IsGrouped, IsLeastUnused, group_row}
-
--- a number that a list has among its first ones, with its place
-place_in : (xs : List ℕ) (n x : ℕ) → n ≤ length xs → Contains (take n xs) x → (k : ℕ) × (k < n) × (get_or xs k 0 ≡ x)
-place_in xs n x h (k, l, e) =
-    let long : length (take n xs) ≡ n = length-take-le n xs h in
-    let low : k < n = omega (arith, l, long) in
-    (k, low, sym (get_or-take n xs k 0 low) ∙ (get_or_default (take n xs) k 0 x l ∙ e))
+use Rattle.table_dicts.proofs.RegroupLemmas.{place_in}
 
 place_out : (xs : List ℕ) (n x k : ℕ) → n ≤ length xs → k < n → get_or xs k 0 ≡ x → Contains (take n xs) x
 place_out xs n x k h low e =

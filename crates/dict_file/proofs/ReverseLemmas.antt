@@ -2,11 +2,12 @@
 use Rattle.std.proofs.Common.{◌≡◌, ◌∙◌, ◌↔◌, ℕ, zero, suc, ◌+◌, ◌-◌, ◌*◌, ◌/◌, ◌%◌, ◌^◌, ◌<◌, ◌≤◌, Bool, true, false, eqb, List, [], ◌∷◌, length, get_or, refl, sym, ap, arith, inl, inr}
 use Rattle.std.specs.Int.{bit_at, w8, w64, reverse_bits, reverse_bits_onto, from_be_bytes, to_be_bytes, trailing_zeros}
 use Rattle.std.proofs.lemmas.Bool.{cases_lt}
-use Rattle.std.proofs.lemmas.Nat.{shr-shr, shr_split, be_bytes_8, mod_below}
-use Rattle.std.proofs.lemmas.Nat.Bits.{bit_at-suc, bit_at_lowest, bit_at_cat_low, bit_at-trailing_zeros, bit_at-zero}
+use Rattle.std.proofs.lemmas.Nat.{shr-shr, be_bytes_8, mod_below}
+use Rattle.std.proofs.lemmas.Nat.Bits.{bit_at-suc, bit_at_lowest, bit_at-trailing_zeros, bit_at-zero}
 use Rattle.std.proofs.lemmas.List.{get_or_past}
 use lib.Count.{count_trailing_zeros}
 use Rattle.net_model.specs.Rows.{bit_of, IsPacked}
+use Rattle.net_model.proofs.SingleWords.{digit_left}
 use Rattle.dict_file.specs.Packing.{byte_count, byte_of, HasZeroPadding}
 use Rattle.dict_file.specs.Words.{IsWordAt}
 use Rattle.dict_file.proofs.BitLemmas.{fits_tight, byte_by_bits}
@@ -15,9 +16,6 @@ use Rattle.dict_file.proofs.BitLemmas.{fits_tight, byte_by_bits}
 
 pub bit_shifted : (n k i : ℕ) → bit_at (n / 2 ^ k) i ≡ bit_at n (k + i)
 bit_shifted n k i = ap (λ m. m % 2) (shr-shr n k i)
-
-pub bit_below : (n k i : ℕ) → i < k → bit_at (n % 2 ^ k) i ≡ bit_at n i
-bit_below n k i h = sym (bit_at_cat_low (n / 2 ^ k) k (n % 2 ^ k) i h) ∙ ap (λ m. bit_at m i) (shr_split n k)
 
 -- ---- reversed
 
@@ -93,7 +91,7 @@ word_of_eight bytes from eight word long bytes_fit same is at h =
     sym (byte_from_top n (at / 8) m) ∙ (ap (λ bs. get_or bs (at / 8) 0) back ∙ same (at / 8) m) in
     ap (λ b. eqb b 1)
     (ap (λ w. bit_at w at) is ∙ (reversed_low 64 n 0 at h ∙ (ap (λ j. bit_at n j) place
-    ∙ (sym (bit_shifted n (8 * (7 - at / 8)) (7 - at % 8)) ∙ (sym (bit_below (n / 2 ^ (8 * (7 - at / 8))) 8 (7 - at % 8) i) ∙ ap (λ b. bit_at b (7 - at % 8)) byte)))))
+    ∙ (sym (bit_shifted n (8 * (7 - at / 8)) (7 - at % 8)) ∙ (sym (digit_left (n / 2 ^ (8 * (7 - at / 8))) 8 (7 - at % 8) i) ∙ ap (λ b. bit_at b (7 - at % 8)) byte)))))
 
 -- ---- a byte of a packed row, from the row's words
 
@@ -108,7 +106,7 @@ byte_of_words words at word byte result row word_is byte_is result_is fits insid
     let here : 0 + (8 * at + i) / 64 ≡ at / 8 = omega (arith, k) in
     ap (λ b. eqb b 1)
     (ap (λ b. bit_at b (7 - i)) result_is ∙ (reversed_low 8 byte 0 (7 - i) (omega (arith, h)) ∙ (ap (λ l. bit_at byte l) turned
-    ∙ (ap (λ b. bit_at b i) byte_is ∙ (bit_below (word / 2 ^ (8 * (at % 8))) 8 i h ∙ (bit_shifted word (8 * (at % 8)) i
+    ∙ (ap (λ b. bit_at b i) byte_is ∙ (digit_left (word / 2 ^ (8 * (at % 8))) 8 i h ∙ (bit_shifted word (8 * (at % 8)) i
     ∙ (ap (λ l. bit_at word l) (sym j) ∙ (ap (λ w. bit_at w ((8 * at + i) % 64)) word_is ∙ ap (λ l. bit_at (get_or words l 0) ((8 * at + i) % 64)) (sym here)))))))))
     ∙ packed.bits (8 * at + i) (omega (arith, k, inside)))
 

@@ -3,20 +3,22 @@ use Rattle.std.proofs.Common.{◌≡◌, ℕ, zero, suc, ◌+◌, ◌<◌, ◌�
 use Rattle.std.specs.Prelude.{All, unwrap_or, Result, Ok, Err, OnOk, OnErr}
 use Rattle.std.specs.List.{AllZip, zip, fold, range_with_len}
 use Rattle.std.proofs.lemmas.Bool.{cases_lt}
-use Rattle.std.proofs.lemmas.List.{append_assoc, take_more, length-map, length-replicate, get_or-replicate, take-append-le, get_or_append_left}
+use Rattle.std.proofs.lemmas.List.{append_assoc, take_more, length-replicate, get_or-replicate, take-append-le, get_or_append_left}
 use Rattle.std.proofs.lemmas.List.FromFn.{length-range_with_len}
 use Rattle.std.proofs.lemmas.Slice.Zip.{AllZip-long}
 use Rattle.std.proofs.Math.Seq.{take-append_seam, get_or-append_seam}
 use Rattle.std.proofs.lemmas.List.Sums.{fold-append, length-filter, count_by-le-length}
 use Rattle.std.proofs.lemmas.List.Elements.{All-append, All-head, All-tail}
 use Rattle.net_model.specs.Circuit.{Circuit, IsCircuit}
-use Rattle.net_model.specs.Answer.{bit_at}
-use Rattle.net_model.specs.FaultList.{faults, fault_count}
-use Rattle.net_model.specs.ClassTable.{ClassTable, first_table, refined_table, cuts_class, class_after, class_at, members, representative, SplitBy}
+use Rattle.net_model.specs.FaultList.{fault_count}
+use Rattle.net_model.specs.ClassTable.{ClassTable, first_table, refined_table, cuts_class, class_at, members, representative, SplitBy}
 use Rattle.net_model.specs.PatternRows.{IsAnswerRow, AreAnswerRows, IsTableOf, SplitsClass}
+use Rattle.net_model.proofs.Listed.{some_number}
+use Rattle.net_model.proofs.Elements.{get_or-replicate_anywhere}
 use Rattle.class_refine.specs.Fields.{IsWhole}
 use Rattle.class_refine.proofs.Pieces.{representative_lowest}
 use Rattle.class_refine.proofs.Refined.{sound_from, from_cuts, adds_split, whole-first, representative-member}
+use Rattle.class_refine.proofs.Names.{numbers_after}
 use Rattle.word_sim.specs.GoodSim.{GoodSim, vectors_of}
 use Rattle.fault_sim.specs.FaultyLanes.{vector_at}
 use Rattle.kept_vectors.specs.declared.notes.Note.{Note}
@@ -120,17 +122,9 @@ either_way (Err e) ok err by_ok by_err = by_err err
 
 -- ---- tables
 
-length-refined : (t : ClassTable) (row : List (List Bool)) → length (refined_table t row).class_of ≡ length t.class_of
-unfolding refined_table
-length-refined t row = length-map (range_with_len 0 (length t.class_of)) (class_after t row) ∙ length-range_with_len 0 (length t.class_of)
-
-length-fold : (rows : List (List (List Bool))) (t : ClassTable) → length (fold refined_table t rows).class_of ≡ length t.class_of
-length-fold [] t = refl
-length-fold (row ∷ rows) t = length-fold rows (refined_table t row) ∙ length-refined t row
-
 -- the table of a circuit has all its fault numbers
 pub table_numbers : {c : Circuit} {patterns : List (List Bool)} {t : ClassTable} → IsTableOf c patterns t → length t.class_of ≡ fault_count c
-table_numbers {c} {patterns} {t} is = ap (λ (u : ClassTable). length u.class_of) is.table ∙ length-fold is.rows (first_table (fault_count c)) ∙ length-replicate (fault_count c) 0
+table_numbers {c} {patterns} {t} is = ap (λ (u : ClassTable). length u.class_of) is.table ∙ numbers_after is.rows (first_table (fault_count c)) ∙ length-replicate (fault_count c) 0
 
 patterns-fold : (rows : List (List (List Bool))) (t : ClassTable) → (fold refined_table t rows).patterns ≡ t.patterns + length rows
 unfolding refined_table
@@ -159,11 +153,6 @@ split_more {c} {patterns} {v} so_far width one = record {
         rw (e, take-append_seam patterns (v ∷ []), get_or-append_seam patterns v [] []) one
   ];
 }
-
--- number 0 is always there
-pub some_number : (c : Circuit) → 0 < fault_count c
-unfolding faults
-some_number c = omega arith
 
 -- a row that cuts a class splits it
 cuts_split : (t : ClassTable) (row : List (List Bool)) → IsWhole t → IsTrue (cuts_class t row) → SplitBy t row
@@ -288,14 +277,9 @@ few_members t class =
     let numbers = range_with_len 0 (length t.class_of) in
     omega (arith, length-filter (λ n. eqb (class_at t n) class) numbers, count_by-le-length (λ n. eqb (class_at t n) class) numbers, length-range_with_len 0 (length t.class_of))
 
-no_bit : (width position : ℕ) → bit_at (replicate width false) position ≡ false
-no_bit zero position = refl
-no_bit (suc width) zero = refl
-no_bit (suc width) (suc position) = no_bit width position
-
 no_bit_in : (count width number position : ℕ) → bit_in (replicate count (replicate width false)) number position ≡ false
 no_bit_in zero width number position = refl
-no_bit_in (suc count) width zero position = no_bit width position
+no_bit_in (suc count) width zero position = get_or-replicate_anywhere width position false
 no_bit_in (suc count) width (suc number) position = no_bit_in count width number position
 
 -- a row of zeros is blank

@@ -1,10 +1,13 @@
 -- Tests of the elements of a list, and the elements that pass.
 use Rattle.std.proofs.Common.{◌≡◌, ◌∙◌, ℕ, zero, suc, ◌≤◌, ◌⊎◌, inl, inr, refl, sym, ap, arith, subst}
-use Rattle.std.specs.Prelude.{Bool, true, false, List, [], ◌∷◌, length, map, filter, flat_map, cond, None, get_or, replicate, slice_get, ◌||◌, Contains}
+use Rattle.std.specs.Prelude.{Bool, true, false, List, [], ◌∷◌, length, map, filter, flat_map, cond, None, get_or, replicate, slice_get, ◌||◌, Contains, All, Some, ◌++◌, find}
 use Rattle.std.specs.List.{list_all, list_any}
-use Rattle.std.proofs.lemmas.Bool.{and_from, and_parts}
-use Rattle.std.proofs.lemmas.List.Elements.{All-contains, All-contains_itself, All-filter, Contains-append_left, Contains-append_right, filter_passes}
+use Rattle.std.proofs.lemmas.Bool.{and_from, and_parts, cases_Bool}
+use Rattle.std.proofs.lemmas.List.Elements.{All-contains, All-contains_itself, All-filter, Contains-append_left, Contains-append_right, filter_passes, All-tail}
 use Rattle.std.proofs.lemmas.List.Folds.{list_any_at, Any-from_list_any}
+use Rattle.std.proofs.lemmas.List.{length-append, get_or_append_left}
+use Rattle.std.proofs.lemmas.List.Sums.{length-filter, count_by-le-length}
+use Rattle.std.proofs.lemmas.Option.{same_Some}
 use Rattle.net_model.proofs.Copies.{later}
 
 pub true_false : {P : Type 0} (b : Bool) → b ≡ true → b ≡ false → P
@@ -42,6 +45,15 @@ Contains-flat_map f (z ∷ zs) x y m n = elim (first_or_later z zs x m) [
   | inr more ↦ Contains-append_right (f z) (flat_map f zs) y (Contains-flat_map f zs x y more n)
 ]
 
+-- ---- what holds of all elements
+
+pub All-left : {X : Type 0} (P : X → Type 0) (xs ys : List X) → All P (xs ++ ys) → All P xs
+All-left P xs ys both k d below = rw (get_or_append_left xs ys d k below) at (both k d (omega (arith, below, length-append xs ys)))
+
+pub All-right : {X : Type 0} (P : X → Type 0) (xs ys : List X) → All P (xs ++ ys) → All P ys
+All-right P [] ys a = a
+All-right P (x ∷ xs) ys a = All-right P xs ys (All-tail P x (xs ++ ys) a)
+
 -- ---- whether all elements pass
 
 pub all_parts : {X : Type 0} (p : X → Bool) (xs : List X) → list_all p xs ≡ true → (x : X) → Contains xs x → p x ≡ true
@@ -67,6 +79,14 @@ pub same_any : {A : Type 0} (test other : A → Bool) (xs : List A) → ((x : A)
 same_any test other [] h = refl
 same_any test other (x ∷ xs) h = λ i. h x (0, omega arith, refl) i || same_any test other xs (λ y m. h y (later x xs y m)) i
 
+-- what is found passes
+pub found_passes : {X : Type 0} (p : X → Bool) (xs : List X) (x : X) → find p xs ≡ Some x → p x ≡ true
+found_passes p [] x e = absurd (cc)
+found_passes p (y ∷ ys) x e = elim (cases_Bool (p y)) [
+  | inl so ↦ subst (λ z. p z ≡ true) (same_Some y x (sym (ap (λ b. cond b (Some y) (find p ys)) so) ∙ e)) so
+  | inr not_so ↦ found_passes p ys x (sym (ap (λ b. cond b (Some y) (find p ys)) not_so) ∙ e)
+]
+
 -- ---- the elements that pass
 
 cond_later : {A : Type 0} (b : Bool) (y : A) (ys : List A) (x : A) → Contains ys x → Contains (cond b (y ∷ ys) ys) x
@@ -83,3 +103,7 @@ Contains-from_filter test xs x m = (
   All-contains (Contains xs) (filter test xs) x (All-filter test (Contains xs) xs (All-contains_itself xs)) m,
   All-contains (λ y. test y ≡ true) (filter test xs) x (filter_passes test xs) m,
 )
+
+-- no more pass than there are
+pub length-filter-le : {A : Type 0} (test : A → Bool) (xs : List A) → length (filter test xs) ≤ length xs
+length-filter-le test xs = omega (arith, length-filter test xs, count_by-le-length test xs)

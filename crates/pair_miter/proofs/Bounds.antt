@@ -1,13 +1,13 @@
 -- A miter has fewer than 2^30 clauses and fewer than 2^31 variables: each line has at most eight clauses for itself and
 -- for each pin of its gate, and there are not too many lines, pins and positions.
-use Rattle.std.proofs.Common.{◌≡◌, ◌∙◌, ℕ, zero, suc, ◌+◌, ◌-◌, ◌*◌, ◌<◌, ◌≤◌, ◌^◌, refl, sym, ap, arith, drop, get_or}
+use Rattle.std.proofs.Common.{◌≡◌, ◌∙◌, ℕ, zero, suc, ◌+◌, ◌-◌, ◌*◌, ◌<◌, ◌≤◌, ◌^◌, refl, ap, arith, drop, get_or}
 use Rattle.std.specs.Prelude.{Bool, true, false, not, List, [], ◌∷◌, ◌++◌, map, filter, flat_map, length, Option, None, Some, slice_get, nat_lt, is_none, ◌||◌, ◌&&◌, sum_by, if◌then◌else◌}
 use Rattle.std.specs.Option.{option_map_or}
 use Rattle.std.specs.List.{range_with_len, filter_map, cons_option}
 use Rattle.std.proofs.lemmas.List.FromFn.{length-range_with_len}
 use Rattle.std.proofs.lemmas.Bool.Decides.{nat_tests}
 use Rattle.std.proofs.lemmas.List.{length-append, length-map, drop_more, drop_all}
-use Rattle.std.proofs.lemmas.List.Sums.{sum_by-cons, sum_by-append, length-filter, count_by-le-length}
+use Rattle.std.proofs.lemmas.List.Sums.{sum_by-cons, sum_by-append, count_by-le-length}
 use Rattle.std.proofs.lemmas.Option.{get_or_from_slice_get}
 use Rattle.net_model.specs.declared.gate.Kind.{Kind}
 use Rattle.net_model.specs.declared.gate.Kind.TheVariants.{Xor}
@@ -22,7 +22,8 @@ use Rattle.net_model.specs.Circuit.{Circuit, IsCircuit, line_count, all_lines, p
 use Rattle.net_model.specs.Fault.{stuck_stem, stuck_pin, readings}
 use Rattle.net_model.specs.Scope.{is_split, is_relevant, is_reached, relevant_lines, reached_positions}
 use Rattle.net_model.proofs.QueueSteps.{source_pins}
-use Rattle.net_model.proofs.Elements.{slice_get-none}
+use Rattle.net_model.proofs.Elements.{slice_get-none, length-filter-le}
+use Rattle.net_model.proofs.Ranges.{range-append}
 use Rattle.clause_pool.specs.Literal.{Literal, pos_literal, opposite}
 use Rattle.clause_pool.specs.Clauses.{Clause}
 use Rattle.pair_miter.specs.Variables.{fault_of, is_parity, line_variables, variables_below, line_variable, free_pins, gate_helpers, copy_helpers, line_helpers, helpers_below, first_helper, difference_variable, variable_count}
@@ -62,9 +63,6 @@ sum_by-filter f test (x ∷ xs) = by (test x) (sum_by-filter f test xs)
 length-flat_map : {A B : Type 0} (h : A → List B) (xs : List A) → length (flat_map h xs) ≡ sum_by (λ x. length (h x)) xs
 length-flat_map h [] = refl
 length-flat_map h (x ∷ xs) = omega (arith, length-append (h x) (flat_map h xs), sum_by-cons (λ x. length (h x)) x xs, length-flat_map h xs)
-
-length-filter-le : {A : Type 0} (test : A → Bool) (xs : List A) → length (filter test xs) ≤ length xs
-length-filter-le test xs = omega (arith, length-filter test xs, count_by-le-length test xs)
 
 length-filter_map-le : {A B : Type 0} (h : A → Option B) (xs : List A) → length (filter_map h xs) ≤ length xs
 length-filter_map-le {A = A} {B = B} h [] = omega arith
@@ -181,16 +179,9 @@ module _ (c : Circuit) where
           let pins = ap (λ l. length (pins_of c l)) is ∙ ap length (pins_there k gate there) in
           omega (arith, sum_by-cons weight line (range_with_len (line + 1) many), gates, here, pins, rest)
 
-  range-split : (first a b : ℕ) → range_with_len first (a + b) ≡ range_with_len first a ++ range_with_len (first + a) b
-  range-split first zero b = let e : 0 + b ≡ b = omega arith in let s : first + 0 ≡ first = omega arith in ap (range_with_len first) e ∙ ap (λ n. range_with_len n b) (sym s)
-  range-split first (suc a) b =
-      let e : suc a + b ≡ suc (a + b) = omega arith in
-      let s : (first + 1) + a ≡ first + suc a = omega arith in
-      ap (range_with_len first) e ∙ ap (λ xs. first ∷ xs) (range-split (first + 1) a b ∙ ap (λ n. range_with_len (first + 1) a ++ range_with_len n b) s)
-
   all_weights : sum_by weight (all_lines c) ≡ line_count c + sum_by (λ gate. length gate.pins) c.gates
   all_weights =
-      let parts = ap (sum_by weight) (range-split 0 c.sources (length c.gates)) ∙ sum_by-append weight (range_with_len 0 c.sources) (range_with_len (0 + c.sources) (length c.gates)) in
+      let parts = ap (sum_by weight) (range-append 0 c.sources (length c.gates)) ∙ sum_by-append weight (range_with_len 0 c.sources) (range_with_len (0 + c.sources) (length c.gates)) in
       omega (arith, parts, source_weights 0 c.sources (omega arith), gate_weights (length c.gates) 0 (0 + c.sources) (omega arith) (omega arith))
 
   module _ (f g : Fault) where

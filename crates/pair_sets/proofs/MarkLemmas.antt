@@ -1,10 +1,10 @@
 -- Marks of lines with a list of the marked ones, and of positions in ascending order.
-use Rattle.std.proofs.Common.{◌≡◌, ℕ, zero, suc, ◌+◌, ◌-◌, ◌<◌, ◌≤◌, List, [], ◌∷◌, ◌++◌, length, drop, get_or, replicate, set, refl, sym, ◌∙◌, ap, subst, arith, inl, inr}
+use Rattle.std.proofs.Common.{◌≡◌, ℕ, zero, suc, ◌+◌, ◌-◌, ◌<◌, ◌≤◌, List, [], ◌∷◌, ◌++◌, length, drop, get_or, set, refl, sym, ◌∙◌, ap, subst, arith, inl, inr}
 use Rattle.std.specs.Prelude.{Bool, Some, true, false, not, cond, count_by, filter, find, Contains}
 use Rattle.std.specs.List.{range_with_len}
-use Rattle.std.proofs.lemmas.Bool.{cases_eq, cases_lt}
+use Rattle.std.proofs.lemmas.Bool.{cases_eq}
 use Rattle.std.proofs.Math.Seq.{drop-cons}
-use Rattle.std.proofs.lemmas.List.{append-nil, get_or-replicate, get_or-set_same, get_or-set_other, get_or_past, length-replicate}
+use Rattle.std.proofs.lemmas.List.{append-nil, get_or-set_same, get_or-set_other}
 use Rattle.std.proofs.lemmas.List.Elements.{Contains-append_left, Contains-push, Contains-push_cases, filter-append}
 use Rattle.std.proofs.lemmas.List.Sums.{sum_by-set}
 use Rattle.net_model.specs.Answer.{bit_at}
@@ -77,15 +77,6 @@ module _ (test : ℕ → Bool) where
       ∙ filter-append test (range_with_len 0 at) (at ∷ [])
       ∙ ap (λ b. filter test (range_with_len 0 at) ++ cond b (at ∷ []) []) passes
       ∙ ap (λ xs. xs ++ at ∷ []) (filter_gap gap from at (omega arith) none)
-
--- ---- marks that are all off
-
-pub unmarked_everywhere : (n line : ℕ) → bit_at (replicate n false) line ≡ false
-unmarked_everywhere n line =
-    elim (cases_lt line n) [
-      | inl h ↦ get_or-replicate n line false false h
-      | inr h ↦ get_or_past (replicate n false) line false (omega (arith, h, length-replicate n false))
-    ]
 
 -- ---- the first that passes a test
 

@@ -14,7 +14,7 @@ use Rattle.refute_check.specs.declared.refusal.RefusalKind.TheVariants.{NoSuchCl
 use Rattle.refute_check.specs.LogRefusal.{ChainStops, no_start, no_clause, no_pivot, chain_before}
 use Rattle.refute_check.proofs.Steps.{step_more, end_more, resolved_end}
 
-none_some : {A P : Type 0} {x : A} → ◌≡◌ {A = Option A} None (Some x) → P
+pub none_some : {A P : Type 0} {x : A} → ◌≡◌ {A = Option A} None (Some x) → P
 none_some e = cc
 
 module _ (clauses : List Clause) (chain : ChainView) where

@@ -12,8 +12,8 @@ use Rattle.net_model.proofs.Elements.{none_in, first_or_later}
 use Rattle.pair_miter.specs.Fresh.{IsFresh}
 use Rattle.refute_check.specs.Held.{IsTrueAt, IsFalseAt, IsOpenAt, IsQuietAt, satisfied, two_open, IsUnitAt}
 use Rattle.refute_check.specs.Closure.{IsClosure, IsStep, HoldsOthers, AreOthersFalse}
-use Rattle.refute_check.proofs.HeldLemmas.{same_literals, same_or_opposite, true_is, is_true, opposite_true, opposite_false, opposite_open, open_not_true, open_not_false, true_not_false, hold, hold_open, hold_holds, hold_kept, hold_kept_false, hold_cases}
-use Rattle.clause_pool.proofs.Literals.{opposite_opposite, literal_cases}
+use Rattle.refute_check.proofs.HeldLemmas.{true_is, is_true, opposite_true, opposite_false, opposite_open, open_not_true, open_not_false, true_not_false, hold, hold_open, hold_holds, hold_kept, hold_kept_false, hold_cases}
+use Rattle.clause_pool.proofs.Literals.{opposite_opposite, literal_cases, same_literals, same_or_opposite}
 
 -- ---- steps
 

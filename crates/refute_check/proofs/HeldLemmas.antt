@@ -1,6 +1,6 @@
 -- What an assignment holds, and what is found at a clause.
-use Rattle.std.proofs.Common.{◌≡◌, ◌≢◌, ◌∙◌, ℕ, ◌<◌, ◌+◌, ◌*◌, ◌⊎◌, inl, inr, refl, sym, ap, arith, subst, get_or, eqb-true}
-use Rattle.std.specs.Prelude.{Bool, true, false, not, List, length, set, Option, None, Some, option_map, eqb, Contains, if◌then◌else◌}
+use Rattle.std.proofs.Common.{◌≡◌, ◌≢◌, ◌∙◌, ℕ, ◌<◌, ◌⊎◌, inl, inr, refl, sym, ap, subst, get_or, eqb-true}
+use Rattle.std.specs.Prelude.{Bool, true, false, not, List, length, set, Option, None, Some, option_map, eqb, Contains}
 use Rattle.std.specs.Bool.{beq}
 use Rattle.std.specs.List.{HoldsAt, IsAnyAnswer}
 use Rattle.std.specs.Option.{option_eq}
@@ -9,33 +9,8 @@ use Rattle.std.proofs.lemmas.List.{get_or-set_same, get_or-set_other}
 use Rattle.clause_pool.specs.Literal.{Literal, opposite}
 use Rattle.clause_pool.specs.LiteralCode.{code_of}
 use Rattle.clause_pool.specs.Clauses.{Clause}
+use Rattle.clause_pool.proofs.Literals.{same_literals, same_or_opposite, same_by_code}
 use Rattle.refute_check.specs.Held.{IsTrueAt, IsFalseAt, IsOpenAt}
-
--- ---- literals
-
-pub same_literals : (l m : Literal) → l.variable ≡ m.variable → l.positive ≡ m.positive → l ≡ m
-same_literals l m v p = λ i. record { variable = v i; positive = p i }
-
-sign_cases : (p q : Bool) → (p ≡ q) ⊎ ((p ≡ not q) × (p ≢ q))
-sign_cases true true = inl refl
-sign_cases true false = inr (refl, λ e. cc)
-sign_cases false true = inr (refl, λ e. cc)
-sign_cases false false = inl refl
-
-pub same_or_opposite : (l m : Literal) → l.variable ≡ m.variable → (l ≡ m) ⊎ ((l ≡ opposite m) × (l ≢ m))
-same_or_opposite l m v = elim (sign_cases l.positive m.positive) [
-  | inl p ↦ inl (same_literals l m v p)
-  | inr w ↦ inr (same_literals l (opposite m) v w.0, λ e. w.1 (ap (λ (x : Literal). x.positive) e))
-]
-
-by_signs : (l m : Literal) (p q : Bool) → l.positive ≡ p → m.positive ≡ q → 2 * l.variable + (if p then 1 else 0) ≡ 2 * m.variable + (if q then 1 else 0) → l ≡ m
-by_signs l m true true p q e = same_literals l m (omega (arith, e)) (p ∙ sym q)
-by_signs l m true false p q e = absurd (omega (arith, e))
-by_signs l m false true p q e = absurd (omega (arith, e))
-by_signs l m false false p q e = same_literals l m (omega (arith, e)) (p ∙ sym q)
-
-pub same_by_code : (l m : Literal) → code_of l ≡ code_of m → l ≡ m
-same_by_code l m e = by_signs l m l.positive m.positive refl refl e
 
 -- a literal whose number is found in the clause stands there
 pub contained : (clause : Clause) (at : Literal) (found : Bool) → IsAnyAnswer (λ l t. eqb (code_of l) (code_of at) ≡ t) clause found → found ≡ true → Contains clause at

@@ -1,6 +1,6 @@
 -- A log is refused only where it isn't right, and in one way.
 use Rattle.std.proofs.Common.{◌≡◌, ◌≢◌, ◌∙◌, ℕ, ◌<◌, ◌≤◌, ◌+◌, ◌⊎◌, inl, inr, true, false, List, [], ◌∷◌, ◌++◌, length, take, get_or, refl, sym, ap, subst, arith}
-use Rattle.std.specs.Prelude.{Bool, Option, None, Some, slice_get}
+use Rattle.std.specs.Prelude.{Bool, Option, Some, slice_get}
 use Rattle.std.proofs.lemmas.Bool.{cases_lt, eqb-true, eq-eqb}
 use Rattle.std.proofs.lemmas.List.{length-append, length-take-le, take-take, take_all, get_or-take, get_or_append_left}
 use Rattle.std.proofs.lemmas.Option.{slice_get_within, slice_get-get_or, get_or_from_slice_get}
@@ -15,13 +15,10 @@ use Rattle.refute_check.specs.declared.refusal.EvidenceKind.TheVariants.{Covered
 use Rattle.refute_check.specs.declared.refusal.Refusal.{Refusal}
 use Rattle.refute_check.specs.declared.refusal.RefusalKind.{RefusalKind}
 use Rattle.refute_check.specs.LogRefusal.{ChainStops, IsRightEnd, IsRightLog, HasRightLength, AreRightBefore, StopsAt, EndsWrong, LogRefused, wrong_count, at_step, at_end, end_refusal, is_last}
-use Rattle.refute_check.proofs.ChainLaws.{stopped_has_no_end, stops_once}
+use Rattle.refute_check.proofs.ChainLaws.{stopped_has_no_end, stops_once, none_some}
 
 same_some : {A : Type 0} {x y : A} → ◌≡◌ {A = Option A} (Some x) (Some y) → x ≡ y
 same_some e = cc
-
-none_some : {A P : Type 0} {x : A} → ◌≡◌ {A = Option A} None (Some x) → P
-none_some e = cc
 
 module _ (kind : EvidenceKind) (clauses : List Clause) (log : List ChainView) where
   -- what is right before a place has the ends of the chains before each earlier place, and the end there

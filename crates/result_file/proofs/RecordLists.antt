@@ -4,7 +4,9 @@ use Rattle.std.specs.List.{filter_map, count_by}
 use Rattle.std.proofs.lemmas.List.{append-nil}
 use Rattle.std.proofs.lemmas.List.Elements.{filter_map-append}
 use Rattle.std.proofs.lemmas.List.Sums.{sum_by-cons, sum_by-append}
+use Rattle.std.proofs.lemmas.List.Concat.{flat_map-append}
 use Rattle.result_file.specs.declared.record.Record.{Record}
+use Rattle.result_file.specs.Spelling.{spelling, text_of}
 
 module _ {X : Type 0} (f : X → Record) where
   -- records that a test refuses, and that it takes
@@ -43,3 +45,7 @@ module _ {X : Type 0} (f : X → Record) where
 
     pub read_more : {Y : Type 0} (h : Record → Option Y) (g : X → Y) → ((x : X) → h (f x) ≡ Some (g x)) → (xs : List X) → filter_map h (before ++ map f xs) ≡ filter_map h before ++ map g xs
     read_more {Y} h g taken xs = filter_map-append h before (map f xs) ∙ ap (λ (ys : List Y). filter_map h before ++ ys) (read_all h g taken xs)
+
+-- the text of records behind others
+pub text-append : (xs ys : List Record) → text_of (xs ++ ys) ≡ text_of xs ++ text_of ys
+text-append xs ys = flat_map-append (λ r. spelling r ++ 10 ∷ []) xs ys

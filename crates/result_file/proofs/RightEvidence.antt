@@ -1,5 +1,5 @@
 -- What right lines say of their evidence.
-use Rattle.std.proofs.Common.{◌≡◌, ◌∙◌, ℕ, zero, suc, Bool, true, false, cond, List, [], ◌∷◌, take, Option, Some, None, refl, sym, ap, subst}
+use Rattle.std.proofs.Common.{◌≡◌, ℕ, zero, suc, Bool, true, false, List, [], ◌∷◌, take, Option, Some, None, refl, ap, subst}
 use Rattle.std.specs.Prelude.{◌==◌, ◌⊎◌, if◌then◌else◌}
 use Rattle.std.specs.Option.{option_map}
 use Rattle.std.specs.List.{find, slice_get}
@@ -9,6 +9,7 @@ use Rattle.std.proofs.lemmas.Option.{same_Some, get_or_from_slice_get, slice_get
 use Rattle.net_model.specs.Circuit.{Circuit}
 use Rattle.net_model.specs.FaultList.{fault_numbered}
 use Rattle.net_model.specs.ClassTable.{ClassTable, class_at, representative}
+use Rattle.net_model.proofs.Elements.{found_passes}
 use Rattle.result_file.specs.declared.record.Budgets.{Budgets}
 use Rattle.result_file.specs.declared.record.Mark.{Mark}
 use Rattle.result_file.specs.declared.record.Mark.TheVariants as mark
@@ -56,14 +57,6 @@ module _ (c : Circuit) (budgets : Budgets) (sources positions numbers : ℕ) (re
   all_right right k e there = let line = evidence_line lines k e there in evidence_right right line.0 e line.1
 
 -- ---- marks
-
-find_by : {X : Type 0} (p : X → Bool) (b : Bool) (y : X) (rest : Option X) (x : X) → p y ≡ b → cond b (Some y) rest ≡ Some x → (rest ≡ Some x → p x ≡ true) → p x ≡ true
-find_by p true y rest x is found later = ap p (sym (same_Some y x found)) ∙ is
-find_by p false y rest x is found later = later found
-
-pub found_passes : {X : Type 0} (p : X → Bool) (xs : List X) (x : X) → find p xs ≡ Some x → p x ≡ true
-found_passes p [] x found = absurd (cc)
-found_passes p (y ∷ xs) x found = find_by p (p y) y (find p xs) x refl found (found_passes p xs x)
 
 -- Some evidence names the number with its representative, and gives this mark.
 pub record IsMarkedBy (t : ClassTable) (evidence : List Evidence) (n : ℕ) (m : Mark) : Type 0 where

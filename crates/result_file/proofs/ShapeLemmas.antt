@@ -25,6 +25,7 @@ use Rattle.result_file.proofs.FileLemmas.{next_right}
 use Rattle.result_file.proofs.RecordLists.{count_kept, count_more, read_kept}
 use Rattle.result_file.proofs.RightLines.{IsNextLine, AreMembers}
 use Rattle.net_model.proofs.OneAnswer.{one_table}
+use Rattle.net_model.proofs.Elements.{All-left}
 
 -- ---- lists that grow at their end
 
@@ -44,9 +45,6 @@ records_more {X} f xs x = ap (map f) (numbered_more 0 xs x) ∙ mapped_more f (e
 
 take_next : {X : Type 0} (xs : List X) (k : ℕ) (x : X) → slice_get xs k ≡ Some x → take (k + 1) xs ≡ take k xs ++ x ∷ []
 take_next {X} xs k x there = take_more xs k x (slice_get_within xs k x there) ∙ ap (λ (z : X). take k xs ++ z ∷ []) (get_or_from_slice_get xs k x x there)
-
-All-left : {X : Type 0} (P : X → Type 0) (xs ys : List X) → All P (xs ++ ys) → All P xs
-All-left P xs ys both k d below = rw (get_or_append_left xs ys d k below) at (both k d (omega (arith, below, length-append xs ys)))
 
 -- ---- the records of a body
 

@@ -125,10 +125,6 @@ pub parts_of : (fresh : Bool) (texts : List Text) (n : ℕ) → IsChainEnd texts
 parts_of fresh texts n is tree log spelled all e =
     cut_chain (map token_field tree) (take n texts) (log_fields log) (drop n texts) (tree_unmarked tree spelled.each) is.before (begins_chain log) (begins_rest texts n is) (e ∙ sym (take-append-drop n texts))
 
-pub none_left : {X : Type 0} (xs : List X) → length xs ≡ 0 → xs ≡ []
-none_left [] none = refl
-none_left (x ∷ xs) none = absurd (omega (arith, none))
-
 -- ---- steps
 
 abbrev pub SomeSteps : List Text → Type 0

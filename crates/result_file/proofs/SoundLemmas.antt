@@ -7,13 +7,14 @@ use Rattle.std.proofs.lemmas.Option.{slice_get-get_or}
 use Rattle.std.proofs.lemmas.Slice.Zip.{AllZip-long}
 use Rattle.net_model.specs.declared.fault.Fault.TheVariants.{Free}
 use Rattle.net_model.specs.Circuit.{Circuit, IsCircuit}
-use Rattle.net_model.specs.FaultList.{faults, fault_count, fault_numbered}
+use Rattle.net_model.specs.FaultList.{fault_count, fault_numbered}
 use Rattle.net_model.specs.ClassTable.{ClassTable, first_table, refined_table, class_at, class_count}
 use Rattle.net_model.specs.PatternRows.{IsAnswerRow}
-use Rattle.net_model.proofs.Listed.{listed as all_stand}
+use Rattle.net_model.proofs.Listed.{listed as all_stand, some_number}
 use Rattle.class_refine.specs.Laws.{NamedSeparatesFaults}
 use Rattle.class_refine.proofs.Pieces.{IsSound, representative_lowest}
-use Rattle.class_refine.proofs.Refined.{numbers-refined, sound-refined, sound-first}
+use Rattle.class_refine.proofs.Refined.{sound-refined, sound-first}
+use Rattle.class_refine.proofs.Names.{numbers_after}
 use Rattle.fault_collapse.specs.Laws.{SameRootEqual}
 use Rattle.pair_sets.specs.Laws.{CoveringEqual, LeavesClosed, SpendingBounded}
 use Rattle.result_file.proofs.Truth.{AreSound}
@@ -35,10 +36,6 @@ sound_after : (t : ClassTable) (rows : List (List (List Bool))) → IsSound t �
 sound_after t [] is = is
 sound_after t (row ∷ rows) is = sound_after (refined_table t row) rows (sound-refined t row is)
 
-numbers_after : (t : ClassTable) (rows : List (List (List Bool))) → length (fold refined_table t rows).class_of ≡ length t.class_of
-numbers_after t [] = refl
-numbers_after t (row ∷ rows) = numbers_after (refined_table t row) rows ∙ numbers-refined t row
-
 patterns_after : (t : ClassTable) (rows : List (List (List Bool))) → (fold refined_table t rows).patterns ≡ t.patterns + length rows
 unfolding refined_table
 patterns_after t [] = omega arith
@@ -54,19 +51,15 @@ pub later_by : (o : Option (ℕ × ℕ)) (k count : ℕ) → MatchOption o (k �
 later_by None k count known some = absurd (omega (arith, known))
 later_by (Some birth) k count known some = (birth, refl, known.0, known.1)
 
-some_fault : (c : Circuit) → 0 < fault_count c
-unfolding faults
-some_fault c = omega arith
-
 module _ (c : Circuit) (law : NamedSeparatesFaults) where
   pub sound_tables : AreSoundTables c
   sound_tables patterns t widths table =
       let sound : IsSound t = subst IsSound (sym table.table) (sound_after (first_table (fault_count c)) table.rows (sound-first (fault_count c))) in
       let numbers : length t.class_of ≡ fault_count c =
-      ap (λ (u : ClassTable). length u.class_of) table.table ∙ (numbers_after (first_table (fault_count c)) table.rows ∙ length-replicate {A = ℕ} (fault_count c) 0) in
+      ap (λ (u : ClassTable). length u.class_of) table.table ∙ (numbers_after table.rows (first_table (fault_count c)) ∙ length-replicate {A = ℕ} (fault_count c) 0) in
       let counted : t.patterns ≡ 0 + length table.rows = ap (λ (u : ClassTable). u.patterns) table.table ∙ patterns_after (first_table (fault_count c)) table.rows in
       let long = AllZip-long (IsAnswerRow c) patterns table.rows table.answers in
-      let some = some_fault c in
+      let some = some_number c in
       let births : 0 < class_count t = omega (arith, sound.classes 0 (omega (arith, numbers, some))) in
       record {
         numbers = numbers;

@@ -1,22 +1,14 @@
 -- The third step ends, and no step loses pairs.
-use Rattle.std.proofs.Common.{◌≡◌, ◌∙◌, ℕ, zero, suc, ◌+◌, ◌*◌, ◌<◌, ◌≤◌, Bool, true, cond, ltb, List, [], ◌∷◌, find, Option, Some, None, refl, sym, ap, subst, arith, inl, inr}
+use Rattle.std.proofs.Common.{◌≡◌, ℕ, zero, suc, ◌+◌, ◌*◌, ◌<◌, ◌≤◌, Bool, ltb, List, Option, Some, None, refl, sym, arith, inl, inr}
 use Rattle.std.specs.Option.{option_map_or}
 use Rattle.std.proofs.lemmas.Bool.{cases_Bool, ltb-true, ltb-false}
-use Rattle.std.proofs.lemmas.Option.{same_Some}
 use Rattle.net_model.specs.ClassTable.{ClassTable, class_count}
+use Rattle.net_model.proofs.Elements.{found_passes}
 use Rattle.table_dicts.specs.Entries.{same_diff_entry, free_baselines}
 use Rattle.table_dicts.specs.Apart.{has_apart, apart_count}
 use Rattle.samediff_dict.specs.Chosen.{pairs_apart, greedy_baselines, better_baselines, replacements, improvement, improved_baselines, chosen_baselines}
 use Rattle.samediff_dict.specs.Laws.{NoneIsLeft, KeepsAsMany}
 use Rattle.samediff_dict.proofs.PairLemmas.{pairs_to, pairs_are, pairs-few}
-
--- what is found passes, and where nothing is found nothing passes
-pub found_passes : {X : Type 0} (p : X → Bool) (xs : List X) (x : X) → find p xs ≡ Some x → p x ≡ true
-found_passes p [] x e = absurd (cc)
-found_passes p (y ∷ ys) x e = elim (cases_Bool (p y)) [
-  | inl so ↦ subst (λ z. p z ≡ true) (same_Some y x (sym (ap (λ b. cond b (Some y) (find p ys)) so) ∙ e)) so
-  | inr not_so ↦ found_passes p ys x (sym (ap (λ b. cond b (Some y) (find p ys)) not_so) ∙ e)
-]
 
 pub pairs_apart_are : (t : ClassTable) (rows : List (List (List Bool))) (baselines : List (List Bool)) → pairs_apart t rows baselines ≡ pairs_to (class_count t) (has_apart t (same_diff_entry rows baselines))
 unfolding pairs_apart apart_count

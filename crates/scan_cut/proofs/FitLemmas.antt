@@ -7,12 +7,12 @@ use Rattle.std.proofs.lemmas.List.Sums.{sum_by-cons}
 use Rattle.net_model.specs.Gate.{takes_pins}
 use Rattle.net_model.specs.declared.gate.Gate.{Gate}
 use Rattle.net_model.specs.Circuit.{FitsTogether, line_count}
+use Rattle.net_model.proofs.Elements.{All-left, All-right}
 use Rattle.bench_reader.specs.declared.statement.Word.{Word}
 use Rattle.bench_reader.specs.declared.statement.Statement.{Statement}
 use Rattle.bench_reader.specs.declared.statement.Statement.TheVariants.{Input, Output, Drive, Flop}
 use Rattle.bench_reader.specs.Netlist.{Netlist}
 use Rattle.bench_reader.specs.Driven.{driven_numbers, used_numbers, takes_its_pins, statement_size, IsDriven}
-use Rattle.bench_reader.proofs.AllLemmas.{All-left, All-right}
 use Rattle.scan_cut.specs.Cut.{input_of, output_of, flop_output, flop_data, source_names, gate_words, line_names, line_of_name, gate_of, position_names, cut_circuit, cut_design}
 use Rattle.scan_cut.proofs.NameLemmas.{line_from_driven, line_is}
 

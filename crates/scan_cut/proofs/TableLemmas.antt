@@ -2,12 +2,13 @@
 use Rattle.std.proofs.Common.{◌≡◌, ◌∙◌, ℕ, ◌<◌, List, [], ◌∷◌, ◌++◌, length, get_or, refl, sym, ap}
 use Rattle.std.specs.Prelude.{map, filter_map, flat_map, All, Contains}
 use Rattle.std.proofs.lemmas.List.Elements.{All-head, All-tail, All-weaker, All-contains}
+use Rattle.net_model.proofs.Elements.{All-left, All-right}
 use Rattle.bench_reader.specs.declared.statement.Word.{Word}
 use Rattle.bench_reader.specs.declared.statement.Statement.{Statement}
 use Rattle.bench_reader.specs.declared.statement.Statement.TheVariants.{Input, Output, Drive, Flop}
 use Rattle.bench_reader.specs.Netlist.{Netlist}
 use Rattle.bench_reader.specs.Driven.{driven_numbers, used_numbers, IsDriven}
-use Rattle.bench_reader.proofs.AllLemmas.{All-left, All-right, All-parts}
+use Rattle.bench_reader.proofs.AllLemmas.{All-parts}
 use Rattle.scan_cut.specs.Cut.{source_names, gate_words, line_names, line_of_name, gate_of, position_names}
 use Rattle.scan_cut.specs.Lines.{AreLines, looked_up_gate}
 use Rattle.scan_cut.proofs.NameLemmas.{line_is}

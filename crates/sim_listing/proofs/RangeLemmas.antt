@@ -1,14 +1,7 @@
 -- A block of a list's vectors, and the rows of its answers.
-use Rattle.std.proofs.Common.{◌≡◌, ◌-◌, ◌<◌, ℕ, Bool, List, length, drop, arith, All}
+use Rattle.std.proofs.Common.{◌≡◌, ◌-◌, ℕ, Bool, List, length, drop, All}
 use Rattle.std.specs.Prelude.{slice_range}
 use Rattle.std.proofs.lemmas.List.Elements.{All-take, All-drop}
-use Rattle.net_model.specs.Circuit.{Circuit}
-use Rattle.net_model.specs.FaultList.{faults, fault_count}
-
--- number 0 is always there
-pub some_number : (c : Circuit) → 0 < fault_count c
-unfolding faults
-some_number c = omega arith
 
 pub block_wide : (sources : ℕ) (vectors : List (List Bool)) (first end : ℕ) → All (λ v. length v ≡ sources) vectors → All (λ v. length v ≡ sources) (slice_range vectors first end)
 block_wide sources vectors first end wide = All-take (λ v. length v ≡ sources) (end - first) (drop first vectors) (All-drop (λ v. length v ≡ sources) first vectors wide)

@@ -1,6 +1,6 @@
 -- Blocks of patterns: what is written of them, and that it is right.
 use Rattle.std.proofs.Common.{◌≡◌, ◌≢◌, ◌∙◌, ℕ, ◌+◌, ◌-◌, ◌<◌, ◌≤◌, ◌↔◌, Bool, true, false, not, cond, List, [], ◌∷◌, ◌++◌, length, get_or, take, drop, refl, sym, ap, subst, arith, inl, inr, IsTrue}
-use Rattle.std.specs.Prelude.{slice_get, slice_range, Option, Some, unwrap_or}
+use Rattle.std.specs.Prelude.{slice_get, slice_range, Some}
 use Rattle.std.proofs.lemmas.Bool.{cases_lt, cases_eq, false≢true, false_from_ne_true}
 use Rattle.std.proofs.lemmas.List.{ext_get_or, take_more, get_or-take, get_or-drop, length-drop, length-take-le}
 use Rattle.std.proofs.lemmas.Slice.Zip.{AllZip-long}
@@ -16,7 +16,6 @@ use Rattle.net_model.specs.ClassTable.{same_bits}
 use Rattle.net_model.proofs.Copies.{same_bits_same_list}
 use Rattle.net_model.proofs.Listed.{listed}
 use Rattle.class_refine.proofs.Ranges.{zip_at}
-use Rattle.word_sim.specs.GoodSim.{GoodSim, vectors_of}
 use Rattle.fault_sim.proofs.FaultyLemmas.{seen_at}
 use Rattle.kept_vectors.proofs.AnswerLemmas.{answer_exists, answer_width, answer_in_row}
 use Rattle.kept_vectors.proofs.KeepLemmas.{rows_exist}
@@ -167,10 +166,6 @@ pub listed_stands : (c : Circuit) (all : List Fault) (number : ℕ) (fault : Fau
 listed_stands c all number fault same got =
     let there : slice_get (faults c) number ≡ Some fault = ap (λ (fs : List Fault). slice_get fs number) (sym same) ∙ got in
     subst (λ f. IsFaultOf c f) (get_or_from_slice_get (faults c) number fault Free there) (listed c number Free (slice_get_within (faults c) number fault there))
-
--- the vectors that were run
-pub ran_block : (good : GoodSim) (vectors : List (List Bool)) → good.ran ≡ Some vectors → vectors_of good ≡ vectors
-ran_block good vectors ran = ap (λ (o : Option (List (List Bool))). unwrap_or o []) ran
 
 pub range_none : (patterns : List (List Bool)) (first : ℕ) → slice_range patterns first first ≡ []
 range_none patterns first = let none : first - first ≡ 0 = omega arith in ap (λ n. take n (drop first patterns)) none

@@ -12,9 +12,9 @@ use Rattle.net_model.specs.FaultList.{faults, fault_count, fault_numbered}
 use Rattle.net_model.specs.ClassTable.{same_bits}
 use Rattle.net_model.specs.PatternRows.{IsAnswerRow}
 use Rattle.net_model.proofs.Copies.{same_bits_same_list}
+use Rattle.net_model.proofs.Listed.{some_number}
 use Rattle.class_refine.proofs.Ranges.{zip_at}
 use Rattle.kept_vectors.proofs.AnswerLemmas.{answer_width, answer_in_row}
-use Rattle.kept_vectors.proofs.KeepLemmas.{some_number}
 use Rattle.table_dicts.specs.AnswerTable.{Answers, answer_in, answer_to, answer_bit, IsTable, AreAnswers}
 use Rattle.table_dicts.specs.Entries.{answers_of, full_entry, free_baselines, pass_fail_entry}
 use Rattle.table_dicts.specs.Blocks.{IsListedBit, AreRightTo}

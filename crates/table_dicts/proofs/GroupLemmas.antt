@@ -1,22 +1,17 @@
 -- Rows in groups, one row after another.
-use Rattle.std.proofs.Common.{◌≡◌, ◌≢◌, ◌∙◌, ℕ, zero, suc, ◌+◌, ◌<◌, ◌≤◌, Bool, cond, eqb, ◌&&◌, List, [], ◌∷◌, ◌++◌, length, get_or, map, take, unwrap_or, refl, sym, ap, subst, arith, inl, inr, ◌⊎◌, Option, None, Some, MatchOption, All, Contains}
+use Rattle.std.proofs.Common.{◌≡◌, ◌≢◌, ◌∙◌, ℕ, zero, suc, ◌+◌, ◌<◌, ◌≤◌, Bool, cond, eqb, ◌&&◌, List, [], ◌∷◌, ◌++◌, length, get_or, map, take, unwrap_or, refl, sym, ap, subst, arith, inl, inr, ◌⊎◌, Option, None, Some, All, Contains}
 use Rattle.std.specs.Borrow.{Bor}
 use Rattle.std.specs.Option.{is_none}
 use Rattle.std.specs.Ordering.{is_eq}
 use Rattle.std.proofs.lemmas.Bool.{cases_lt, cases_Bool, eq-eqb, ne_eqb}
 use Rattle.std.proofs.Math.Seq.{take-suc}
-use Rattle.std.proofs.lemmas.Bool.Decides.{Decides-at}
-use Rattle.std.proofs.lemmas.Map.Text.{is_eq-slice_cmp}
-use Rattle.std.proofs.lemmas.Slice.Eq.{bytes_eq-Decides}
-use Rattle.std.specs.Bool.{Decides}
-use Rattle.std.specs.Str.{bytes_eq}
 use Rattle.std.proofs.lemmas.List.{length_push, get_or_append_left, get_or_push, take-append-le, take_all, get_or-take, get_or-map, length-map, length-take-le}
 use Rattle.std.proofs.lemmas.List.Elements.{All-push, Contains-get_or, Contains-push, Contains-push_cases, Contains-append_left}
 use Rattle.net_model.specs.Rows.{IsPacked}
 use Rattle.net_model.proofs.Elements.{true_false, none_in}
 use Rattle.net_model.proofs.RowLemmas.{packed_once, unpacked_once}
 use Rattle.class_refine.specs.Steps.{words_order}
-use Rattle.class_refine.proofs.Leaving.{AreNoted}
+use Rattle.class_refine.proofs.Leaving.{AreNoted, same_words, in_either}
 use Rattle.table_dicts.specs.Grouped.{IsLeastUnused, AreGroupNumbers, AreDifferent, IsGrouped, AreFirstsOf, AreGroupsOf, IsFirstRepeat}
 
 -- ---- group numbers, one more
@@ -67,13 +62,6 @@ pub few_firsts : {rows : List (List Bool)} {count : ℕ} {groups firsts : List �
 few_firsts {rows} {count} {groups} {firsts} are = omega (arith, few groups (length firsts) are.numbered (λ group h. (are.used group).1 h), are.one_each)
 
 -- ---- one row more
-
-same_words : (a b : Bor (List ℕ)) → Decides (is_eq (words_order a b)) (a.now ≡ b.now)
-same_words a b = Decides-at (is_eq (words_order a b)) (bytes_eq a.now b.now) (is_eq-slice_cmp a.now b.now) (bytes_eq-Decides a.now b.now)
-
-in_either : {P R : Type 0} {Q S : ℕ → Type 0} (o : Option ℕ) → (P → R) → ((k : ℕ) → Q k → S k) → MatchOption o P Q → MatchOption o R S
-in_either None f g m = f m
-in_either (Some k) f g m = g k m
 
 -- the first rows, after a row came into a group
 abbrev pub firsts_with : List ℕ → ℕ → ℕ → List ℕ

@@ -34,7 +34,7 @@ below_unused {groups} are n h least is group has = elim (cases_lt group least) [
 ]
 
 -- what is among the first of a list is at one of their places
-place_in : (xs : List ℕ) (n x : ℕ) → n ≤ length xs → Contains (take n xs) x → (k : ℕ) × (k < n) × (get_or xs k 0 ≡ x)
+pub place_in : (xs : List ℕ) (n x : ℕ) → n ≤ length xs → Contains (take n xs) x → (k : ℕ) × (k < n) × (get_or xs k 0 ≡ x)
 place_in xs n x h (k, below, is) =
     let low : k < n = omega (arith, below, length-take-le n xs h) in
     (k, low, sym (get_or-take n xs k 0 low) ∙ (sym (get_or_default (take n xs) k x 0 below) ∙ is))

@@ -1,11 +1,12 @@
 -- The vectors of the first block count; and blocks follow one another.
-use Rattle.std.proofs.Common.{◌≡◌, ℕ, zero, suc, ◌+◌, ◌*◌, ◌/◌, ◌%◌, ◌^◌, ◌<◌, ◌≤◌, List, [], ◌∷◌, ◌++◌, length, map, refl, sym, ◌∙◌, ap, subst, arith, pow_mono}
+use Rattle.std.proofs.Common.{◌≡◌, ℕ, suc, ◌+◌, ◌*◌, ◌/◌, ◌%◌, ◌^◌, ◌<◌, ◌≤◌, List, [], ◌∷◌, ◌++◌, length, map, refl, sym, ◌∙◌, ap, subst, arith, pow_mono}
 use Rattle.std.specs.Prelude.{Bool, true, false, Contains, ◌==◌, nat_lt, if◌then◌else◌}
 use Rattle.std.specs.List.{range_with_len}
 use Rattle.std.proofs.lemmas.Bool.Decides.{nat_tests}
 use Rattle.std.proofs.lemmas.List.{ext_get_or, map-append}
 use Rattle.std.proofs.lemmas.List.FromFn.{length-map-range_with_len, get_or-map-range_with_len}
 use Rattle.net_model.specs.Answer.{bit_at}
+use Rattle.net_model.proofs.Ranges.{range-append}
 use Rattle.word_sim.specs.Stream.{has_digit, stream_word, word_number, stream_bit, stream_vector, stream}
 use Rattle.word_sim.specs.Lanes.{low_digits, word_of}
 use Rattle.word_sim.proofs.Digits.{low_digit}
@@ -68,19 +69,6 @@ counted_in sources v few width =
       omega (arith, small, length-map-range_with_len (stream_vector sources) 0 (64 * 1)),
       get_or-map-range_with_len (stream_vector sources) 0 (64 * 1) n n v (omega arith) (omega arith) ∙ counted_vector sources v few width small,
     )
-
-range-append : (start a b : ℕ) → range_with_len start (a + b) ≡ range_with_len start a ++ range_with_len (start + a) b
-range-append start zero b = (λ i. range_with_len (here i) (none i))
-  where
-    here : start ≡ start + 0
-    here = omega arith
-
-    none : 0 + b ≡ b
-    none = omega arith
-range-append start (suc a) b =
-    let more : suc a + b ≡ suc (a + b) = omega arith in
-    let on : start + 1 + a ≡ start + suc a = omega arith in
-    ap (range_with_len start) more ∙ ap (λ xs. start ∷ xs) (range-append (start + 1) a b ∙ ap (λ n. range_with_len (start + 1) a ++ range_with_len n b) on)
 
 pub stream-append : (sources done count : ℕ) → stream sources (done + count) ≡ stream sources done ++ map (stream_vector sources) (range_with_len (64 * done) (64 * count))
 stream-append sources done count =

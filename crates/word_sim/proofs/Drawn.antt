@@ -3,7 +3,7 @@ use Rattle.std.proofs.Common.{◌≡◌, ◌≢◌, ℕ, zero, suc, ◌+◌, ◌
 use Rattle.std.specs.Prelude.{Bool, true, false, ◌&&◌, ◌==◌, nat_lt, slice_index, map, if◌then◌else◌}
 use Rattle.std.specs.Int.{bit_at as digit_at}
 use Rattle.std.specs.List.{range_with_len}
-use Rattle.std.proofs.lemmas.Bool.{cases_eq}
+use Rattle.std.proofs.lemmas.Bool.{cases_eq, and_parts}
 use Rattle.std.proofs.lemmas.Bool.Decides.{nat_tests}
 use Rattle.std.proofs.lemmas.List.FromFn.{length-map-range_with_len, get_or-map-range_with_len}
 use Rattle.rand_xoshiro.specs.SplitMix64.{next_state, mix_u64}
@@ -22,14 +22,10 @@ abbrev all_below : (ℕ → Bool) → ℕ → Bool
 all_below test zero = true
 all_below test (suc n) = test n && all_below test n
 
-both_true : (a b : Bool) → (a && b) ≡ true → (a ≡ true) × (b ≡ true)
-both_true true b e = (refl, e)
-both_true false b e = cc
-
 each_below : (test : ℕ → Bool) (n : ℕ) → all_below test n ≡ true → (k : ℕ) → k < n → test k ≡ true
 each_below test zero e k h = absurd (omega arith)
 each_below test (suc n) e k h =
-    let both = both_true (test n) (all_below test n) e in
+    let both = and_parts (test n) (all_below test n) e in
     elim (cases_eq k n) [
       | inl same ↦ ap test same ∙ both.0
       | inr ne ↦ each_below test n both.1 k (omega arith)
@@ -54,7 +50,7 @@ counting_digit (suc (suc (suc (suc (suc (suc source)))))) lane h k = absurd (ome
 -- ---- one word
 
 count_test : (done source : ℕ) → (done == 0 && nat_lt source 6) ≡ true → source < 6
-count_test done source e = let both = both_true (done == 0) (nat_lt source 6) e in grind (arith, nat_tests)
+count_test done source e = let both = and_parts (done == 0) (nat_lt source 6) e in grind (arith, nat_tests)
 
 word_digit_by : (b : Bool) (sources done source lane rng : ℕ) → (done == 0 && nat_lt source 6) ≡ b → rng ≡ state_after (word_number sources done source) → lane < 64
     → has_digit (if b then slice_index COUNTING source else (mix_u64 rng).0) lane ≡ (if b then has_digit lane source else has_digit (stream_word (word_number sources done source)) lane)
@@ -70,7 +66,7 @@ word_digit sources done source lane rng is h = word_digit_by (done == 0 && nat_l
 
 none_taken : (sources done source : ℕ) → source < sources → (done == 0 && nat_lt source 6) ≡ true → word_number sources done source ≡ word_number sources done (source + 1)
 none_taken sources zero source h e = let few : source < 6 = count_test 0 source e in omega arith
-none_taken sources (suc done) source h e = absurd (let both = both_true (suc done == 0) (nat_lt source 6) e in omega (arith, same_digit (suc done) 0 both.0))
+none_taken sources (suc done) source h e = absurd (let both = and_parts (suc done == 0) (nat_lt source 6) e in omega (arith, same_digit (suc done) 0 both.0))
 
 one_taken : (sources done source : ℕ) → source < sources → (done == 0 && nat_lt source 6) ≡ false → suc (word_number sources done source) ≡ word_number sources done (source + 1)
 one_taken sources zero source h e = let many : 6 ≤ source = grind (arith, nat_tests) in omega arith

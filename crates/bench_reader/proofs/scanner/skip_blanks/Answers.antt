@@ -2,13 +2,14 @@ use Rattle.std.proofs.Common.{◌≡◌, ◌∙◌, ◌+◌, ◌||◌, true, fal
 use Rattle.bench_reader.specs.Bytes.{is_skipped}
 use Rattle.bench_reader.specs.Scanning.{tokens_in}
 use Rattle.std.proofs.Math.Seq.{drop-length}
-use Rattle.bench_reader.proofs.ScanLemmas.{or_none, skip_byte, no_tokens, next_place, byte_front}
+use Rattle.std.proofs.lemmas.Bool.{or_parts}
+use Rattle.bench_reader.proofs.ScanLemmas.{skip_byte, no_tokens, next_place, byte_front}
 use Rattle.bench_reader.proofs.scanner.skip_blanks.Goals as goal
 
 pub returns-then-not-is_skipped : goal.returns-then-not-is_skipped
 returns-then-not-is_skipped c =
     let at = c.bytes.place.byte in
-    let stops = or_none c.bytes.inside (is_skipped (get_or c.args.bytes.now at 0)) (sym c.is_skipped.ensures ∙ c.if-not-is_skipped.true) in
+    let stops = or_parts c.bytes.inside (is_skipped (get_or c.args.bytes.now at 0)) (sym c.is_skipped.ensures ∙ c.if-not-is_skipped.true) in
     record {
       tokens = rw stops.0 at c.bytes.invariant.tokens;
       place = c.bytes.invariant.place;

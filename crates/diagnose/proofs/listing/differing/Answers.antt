@@ -1,6 +1,7 @@
 use Rattle.std.proofs.Common.{◌∙◌, ℕ, false, replicate, ap, arith}
 use Rattle.table_dicts.specs.Entries.{differences}
-use Rattle.diagnose.proofs.ListingLemmas.{entry_none, entry_size, entry_more, entry_all, length-differences}
+use Rattle.table_dicts.proofs.EntryLemmas.{length-differences}
+use Rattle.diagnose.proofs.ListingLemmas.{entry_none, entry_size, entry_more, entry_all}
 use Rattle.diagnose.proofs.listing.differing.Goals as goal
 
 pub loop-word-init : goal.loop-word-init

@@ -1,5 +1,6 @@
 use Rattle.std.proofs.Common.{◌∙◌, ◌+◌, ◌*◌, not, sym, ap, arith}
-use Rattle.diagnose.proofs.ListingLemmas.{word_none, word_all, word_bit_more, difference_at, length-differences}
+use Rattle.table_dicts.proofs.EntryLemmas.{length-differences}
+use Rattle.diagnose.proofs.ListingLemmas.{word_none, word_all, word_bit_more, difference_at}
 use Rattle.diagnose.proofs.listing.differing_word.Goals as goal
 
 pub loop-at-init : goal.loop-at-init

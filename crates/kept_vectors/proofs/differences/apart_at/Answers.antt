@@ -1,14 +1,10 @@
 use Rattle.std.proofs.Common.{◌≡◌, ◌∙◌, get_or, true, false, refl, sym, subst, arith, inl, inr}
-use Rattle.std.specs.Prelude.{Bool, not, ◌||◌, if◌then◌else◌}
-use Rattle.std.proofs.lemmas.Bool.{cases_eq}
+use Rattle.std.specs.Prelude.{Bool, not, if◌then◌else◌}
+use Rattle.std.proofs.lemmas.Bool.{cases_eq, or_parts}
 use Rattle.std.proofs.lemmas.List.{get_or_read}
 use Rattle.net_model.specs.Answer.{bit_at}
 use Rattle.fault_sim.specs.FaultSim.{row_at}
 use Rattle.kept_vectors.proofs.differences.apart_at.Goals as goal
-
-both_false : (a b : Bool) → (a || b) ≡ false → (a ≡ false) × (b ≡ false)
-both_false false b e = (refl, e)
-both_false true b e = cc
 
 same_bit : (a b : Bool) → (if a then not b else b) ≡ false → a ≡ b
 same_bit true true e = refl
@@ -23,7 +19,7 @@ loop-position-preserved c = λ k h lane l none.
     let items = c.args.positions.now in
     let i = c.loop-position.position-index in
     let at = get_or items i 0 in
-    let both = both_false (bit_at c.loop-position.lanes lane) (bit_at c.xor.result lane) (sym (c.or-lanes.ensures lane l) ∙ none) in
+    let both = or_parts (bit_at c.loop-position.lanes lane) (bit_at c.xor.result lane) (sym (c.or-lanes.ensures lane l) ∙ none) in
     elim (cases_eq k i) [
       | inl same ↦
           let bits = c.xor.ensures lane l ∙ (λ j. if bit_at (c.differs.ensures j) lane then not (bit_at (c.differs-in-loop-position.ensures j) lane) else bit_at (c.differs-in-loop-position.ensures j) lane) in

@@ -3,10 +3,11 @@ use Rattle.std.specs.Prelude.{Bool, Some, true, false, not}
 use Rattle.std.proofs.lemmas.List.{length-set}
 use Rattle.clause_pool.specs.Literal.{Literal, opposite}
 use Rattle.clause_pool.specs.LiteralCode.{code_of}
+use Rattle.clause_pool.proofs.Literals.{same_by_code}
 use Rattle.refute_check.specs.declared.assignment.Assignment.{Assignment}
 use Rattle.refute_check.specs.Assignment.{IsAssignment}
 use Rattle.refute_check.specs.Held.{IsTrueAt, IsFalseAt, IsOpenAt}
-use Rattle.refute_check.proofs.HeldLemmas.{same_by_code, hold, open_not_true, opposite_open}
+use Rattle.refute_check.proofs.HeldLemmas.{hold, open_not_true, opposite_open}
 use Rattle.refute_check.proofs.ClosureLemmas.{AreOthersFalseBefore, not_of_at, not_true, others_more, others_same}
 use Rattle.refute_check.proofs.freshness.hold_others.Goals as goal
 use Rattle.refute_check.proofs.freshness.hold_others.Goals.{in-Some-false, in-None}

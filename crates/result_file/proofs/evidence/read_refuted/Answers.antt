@@ -2,9 +2,9 @@ use Rattle.std.proofs.Common.{◌≡◌, ◌∙◌, [], ◌∷◌, false, map, l
 use Rattle.std.specs.Prelude.{codes}
 use Rattle.std.proofs.lemmas.Result.{err_from_is_err_and}
 use Rattle.std.proofs.lemmas.Bool.{eqb-true}
+use Rattle.std.proofs.lemmas.List.{nil_from_length}
 use Rattle.result_file.proofs.OnceLemmas.{evidence_once}
 use Rattle.result_file.proofs.ReadLemmas.{refuses_refuted}
-use Rattle.result_file.proofs.SoFarLemmas.{none_left}
 use Rattle.result_file.proofs.AnswerLemmas.{unread}
 use Rattle.result_file.proofs.evidence.read_refuted.Goals as goal
 
@@ -19,7 +19,7 @@ pub returns-then-is_empty : goal.returns-then-is_empty
 returns-then-is_empty c =
     let texts = map (λ f. f.now) c.args.fields.now in
     let read = c.in_ok-tree.ensures in
-    let none : c.in_ok-tree.log ≡ [] = none_left c.in_ok-tree.log (sym (ap length c.as_slice.ensures) ∙ eqb-true (length c.as_slice.result.now) 0 (sym c.if-is_empty.ensures)) in
+    let none : c.in_ok-tree.log ≡ [] = nil_from_length c.in_ok-tree.log (sym (ap length c.as_slice.ensures) ∙ eqb-true (length c.as_slice.result.now) 0 (sym c.if-is_empty.ensures)) in
     refuses_refuted texts (λ tree log spelled refutation e.
     let same = evidence_once false tree c.in_ok-tree.tree log c.in_ok-tree.log spelled read.0.0 refutation.1 read.0.1 (e ∙ sym read.1) in
     refutation.0 (same.1 ∙ none))

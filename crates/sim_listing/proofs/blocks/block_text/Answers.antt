@@ -2,8 +2,9 @@ use Rattle.std.proofs.Common.{◌≡◌, ◌∙◌, ◌+◌, List, Bool, length,
 use Rattle.std.specs.Prelude.{slice_range, min}
 use Rattle.std.proofs.lemmas.Slice.Zip.{AllZip-long}
 use Rattle.net_model.specs.PatternRows.{IsAnswerRow, AreAnswerRows}
+use Rattle.net_model.proofs.Listed.{some_number}
 use Rattle.table_dicts.proofs.BlockLemmas.{block_length}
-use Rattle.sim_listing.proofs.RangeLemmas.{some_number, block_wide}
+use Rattle.sim_listing.proofs.RangeLemmas.{block_wide}
 use Rattle.sim_listing.proofs.blocks.block_text.Goals as goal
 use Rattle.word_sim.specs.declared.lanes.TheConstants.{LANES}
 

@@ -1,6 +1,6 @@
 use Rattle.std.proofs.Common.{◌≡◌, ◌∙◌, List, Bool, [], ◌∷◌, length, sym, subst, arith}
 use Rattle.std.proofs.lemmas.Result.{IfOk-weaker}
-use Rattle.kept_vectors.proofs.KeepLemmas.{some_number}
+use Rattle.net_model.proofs.Listed.{some_number}
 use Rattle.table_dicts.specs.declared.simulating.Kept.TheVariants.{Bits}
 use Rattle.table_dicts.specs.AnswerTable.{Answers, AreAnswerable, AreAnswers}
 use Rattle.table_dicts.specs.Blocks.{IsListedBit, AreRightTo}

@@ -1,8 +1,8 @@
 use Rattle.std.proofs.Common.{length, sym, ap, arith}
 use Rattle.std.proofs.lemmas.Bool.{eqb-true}
 use Rattle.std.proofs.lemmas.Result.{err_from_is_err_and}
+use Rattle.std.proofs.lemmas.List.{nil_from_length}
 use Rattle.dia_check.proofs.CheckLemmas.{few_lines, has_after, some_by}
-use Rattle.dia_check.proofs.TakenLemmas.{empty_of}
 use Rattle.dia_check.proofs.EndLemmas.{ends_stopped, end_syntax, end_order}
 use Rattle.dia_check.proofs.checker.Checker.end.Goals as goal
 
@@ -25,7 +25,7 @@ pub returns-then-not-self : goal.returns-then-not-self
 returns-then-not-self c = rw c.refused-then-not-self.ensures (record {
   judged = λ text is short.
       end_order (c.in_ok-flush.ensures.judged.judged text is) c.in_ok-flush.ensures.none c.args.rest.now
-      (empty_of c.args.rest.now (eqb-true (length c.args.rest.now) 0 (sym c.if-not-is_empty.ensures))) c.if-not-self.true;
+      (nil_from_length c.args.rest.now (eqb-true (length c.args.rest.now) 0 (sym c.if-not-is_empty.ensures))) c.if-not-self.true;
 })
 
 pub refused-requires : goal.refused-requires
@@ -34,7 +34,7 @@ refused-requires c = few_lines (has_after c.requires.check c.in_ok-flush.ensures
 pub returns : goal.returns
 returns c = record {
   judged = λ text is short. (
-    empty_of c.args.rest.now (eqb-true (length c.args.rest.now) 0 (sym c.if-not-is_empty.ensures)),
+    nil_from_length c.args.rest.now (eqb-true (length c.args.rest.now) 0 (sym c.if-not-is_empty.ensures)),
     record { is = c.in_ok-flush.ensures.judged.judged text is; none = c.in_ok-flush.ensures.none; ended = c.if-not-self.false },
   );
 }

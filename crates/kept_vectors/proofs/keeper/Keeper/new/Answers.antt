@@ -2,10 +2,11 @@ use Rattle.std.proofs.Common.{◌≡◌, ◌∙◌, length, sym, ap, subst}
 use Rattle.net_model.specs.Circuit.{Circuit}
 use Rattle.net_model.specs.ClassTable.{first_table}
 use Rattle.net_model.specs.FaultList.{fault_count}
+use Rattle.net_model.proofs.Listed.{some_number}
 use Rattle.word_sim.specs.StreamState.{stream_at}
 use Rattle.kept_vectors.specs.Keeper.{keeper_with, IsKeeper}
 use Rattle.kept_vectors.specs.Kept.{nothing_kept}
-use Rattle.kept_vectors.proofs.KeepLemmas.{keeper_first, some_number}
+use Rattle.kept_vectors.proofs.KeepLemmas.{keeper_first}
 use Rattle.kept_vectors.proofs.keeper.Keeper.new.Goals as goal
 
 pub new-requires : goal.new-requires

@@ -1,14 +1,9 @@
-use Rattle.std.proofs.Common.{◌≡◌, ◌∙◌, List, [], ◌∷◌, None, length, refl, sym, subst, arith}
+use Rattle.std.proofs.Common.{◌≡◌, ◌∙◌, [], None, refl, sym, subst, arith}
 use Rattle.std.specs.Prelude.{Contains, set}
-use Rattle.std.proofs.lemmas.List.{length-set}
+use Rattle.std.proofs.lemmas.List.{length-set, nil_from_length}
 use Rattle.net_model.proofs.Elements.{none_in}
-use Rattle.clause_pool.specs.Literal.{Literal}
 use Rattle.refute_check.proofs.AssignmentLemmas.{IsListed, listed_from, last_within, one_less, none_true, empty_assignment}
 use Rattle.refute_check.proofs.assignment.Assignment.clear.Goals as goal
-
-nil_of : (xs : List Literal) → length xs ≡ 0 → xs ≡ []
-nil_of [] e = refl
-nil_of (x ∷ xs) e = absurd (omega (arith, e))
 
 pub loop-lit-init : goal.loop-lit-init
 loop-lit-init c = record { listed = listed_from c.args.self.now c.requires; size = refl; room = c.requires.room }
@@ -29,10 +24,10 @@ loop-lit-preserved c =
 
 pub returns-clause-empty : goal.returns-clause-empty
 returns-clause-empty c =
-    let none : c.loop-lit.self.trail.items ≡ [] = nil_of c.loop-lit.self.trail.items (omega (arith, c.in_default.ensures.cases, c.loop-lit.self.trail.ok.0)) in
+    let none : c.loop-lit.self.trail.items ≡ [] = nil_from_length c.loop-lit.self.trail.items (omega (arith, c.in_default.ensures.cases, c.loop-lit.self.trail.ok.0)) in
     none_true c.loop-lit.self.values.items (λ l t. none_in l (subst (λ xs. Contains xs l) none (c.loop-lit.invariant.listed.listed l t)))
 
 pub returns-clause-assignment : goal.returns-clause-assignment
 returns-clause-assignment c =
-    let none : c.pop.new.self.items ≡ [] = nil_of c.pop.new.self.items (omega (arith, c.in_default.ensures.cases, c.pop.new.self.ok.0)) in
+    let none : c.pop.new.self.items ≡ [] = nil_from_length c.pop.new.self.items (omega (arith, c.in_default.ensures.cases, c.pop.new.self.ok.0)) in
     empty_assignment (record { values = c.loop-lit.self.values; trail = c.pop.new.self }) (returns-clause-empty c) none (omega (arith, c.loop-lit.invariant.size, c.loop-lit.invariant.room, c.in_default.ensures.capacity))

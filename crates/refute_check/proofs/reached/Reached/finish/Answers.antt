@@ -1,14 +1,9 @@
-use Rattle.std.proofs.Common.{◌≡◌, ◌∙◌, List, [], ◌∷◌, length, refl, sym, ap, subst, arith}
-use Rattle.std.proofs.lemmas.List.{length_push}
+use Rattle.std.proofs.Common.{◌≡◌, ◌∙◌, [], length, refl, sym, ap, subst, arith}
+use Rattle.std.proofs.lemmas.List.{length_push, nil_from_length}
 use Rattle.net_model.proofs.Elements.{none_in}
-use Rattle.clause_pool.specs.Literal.{Literal}
 use Rattle.pair_miter.proofs.SameLiterals.{same_trans}
 use Rattle.refute_check.proofs.ReachedLemmas.{IsTaken, taken_none, taken_skip, taken_kept, taken_all, taken_empty}
 use Rattle.refute_check.proofs.reached.Reached.finish.Goals as goal
-
-nil_of : (xs : List Literal) → length xs ≡ 0 → xs ≡ []
-nil_of [] e = refl
-nil_of (x ∷ xs) e = absurd (omega (arith, e))
 
 pub loop-lit-init : goal.loop-lit-init
 loop-lit-init c = λ clause is. subst (IsTaken clause c.args.self.now) (sym c.new-kept.ensures.items) (taken_none clause c.args.self.now is)
@@ -23,12 +18,12 @@ loop-lit-preserved c = λ clause is.
 
 pub returns-clause-ended : goal.returns-clause-ended
 returns-clause-ended c = λ clause is.
-    let none : c.loop-lit.self.listed.items ≡ [] = nil_of c.loop-lit.self.listed.items (omega (arith, c.in_default.ensures.cases, c.loop-lit.self.listed.ok.0)) in
+    let none : c.loop-lit.self.listed.items ≡ [] = nil_from_length c.loop-lit.self.listed.items (omega (arith, c.in_default.ensures.cases, c.loop-lit.self.listed.ok.0)) in
     same_trans c.of.result.literals c.loop-lit.kept.items clause c.of.ensures.literals (taken_all clause c.loop-lit.self c.loop-lit.kept.items (c.loop-lit.invariant clause is) none)
 
 pub returns-clause-empty : goal.returns-clause-empty
 returns-clause-empty c = λ clause is.
-    let none : c.loop-lit.self.listed.items ≡ [] = nil_of c.loop-lit.self.listed.items (omega (arith, c.in_default.ensures.cases, c.loop-lit.self.listed.ok.0)) in
+    let none : c.loop-lit.self.listed.items ≡ [] = nil_from_length c.loop-lit.self.listed.items (omega (arith, c.in_default.ensures.cases, c.loop-lit.self.listed.ok.0)) in
     let left = taken_empty clause c.loop-lit.self c.loop-lit.kept.items (c.loop-lit.invariant clause is) none in
     record { marked = left.marked; only = left.only; listed = λ l m. absurd (none_in l m) }
 

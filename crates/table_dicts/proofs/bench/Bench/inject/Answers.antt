@@ -1,11 +1,12 @@
 use Rattle.std.proofs.Common.{◌∙◌, List, Bool, sym, subst}
+use Rattle.kept_vectors.proofs.KeepLemmas.{ran_vectors}
 use Rattle.net_model.specs.Circuit.{Circuit}
 use Rattle.net_model.specs.Fault.{IsFaultOf}
 use Rattle.net_model.specs.declared.fault.Fault.{Fault}
 use Rattle.net_model.specs.FaultList.{fault_numbered}
 use Rattle.word_sim.specs.GoodSim.{vectors_of}
 use Rattle.fault_sim.specs.FaultSim.{AreDifferences}
-use Rattle.table_dicts.proofs.BlockLemmas.{ran_block, listed_fault, listed_stands}
+use Rattle.table_dicts.proofs.BlockLemmas.{listed_fault, listed_stands}
 use Rattle.table_dicts.proofs.bench.Bench.inject.Goals as goal
 
 pub inject-requires-clause-fault : goal.inject-requires-clause-fault
@@ -20,7 +21,7 @@ returns-clause-differ c =
     let rows = c.inject.new.self.differences in
     let of = subst (λ (k : Circuit). AreDifferences k c.get.result (vectors_of good) rows) (c.inject.ensures.circuit ∙ run.bench.sim) c.inject.ensures.differences in
     let fault = subst (λ (f : Fault). AreDifferences good.circuit f (vectors_of good) rows) (listed_fault good.circuit c.args.self.now.faults.now c.args.number c.get.result run.bench.faults_are c.get.ensures.value) of in
-    subst (λ (vs : List (List Bool)). AreDifferences good.circuit (fault_numbered good.circuit c.args.number) vs rows) (ran_block good c.args.self.now.block.vectors run.ran) fault
+    subst (λ (vs : List (List Bool)). AreDifferences good.circuit (fault_numbered good.circuit c.args.number) vs rows) (ran_vectors good c.args.self.now.block.vectors run.ran) fault
 
 pub returns-clause-run : goal.returns-clause-run
 returns-clause-run c =

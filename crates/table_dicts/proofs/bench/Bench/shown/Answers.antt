@@ -1,10 +1,11 @@
 use Rattle.std.proofs.Common.{◌≡◌, ◌∙◌, ◌<◌, List, Bool, [], length, get_or, sym, ap, subst, arith, not, cond}
+use Rattle.kept_vectors.proofs.KeepLemmas.{ran_vectors}
 use Rattle.net_model.specs.declared.fault.Fault.TheVariants.{Free}
 use Rattle.net_model.specs.Circuit.{Circuit}
 use Rattle.net_model.specs.Answer.{bit_at, Agrees}
 use Rattle.net_model.specs.FaultList.{fault_numbered}
 use Rattle.word_sim.specs.GoodSim.{vectors_of}
-use Rattle.table_dicts.proofs.BlockLemmas.{ran_block, shown_bit}
+use Rattle.table_dicts.proofs.BlockLemmas.{shown_bit}
 use Rattle.table_dicts.proofs.bench.Bench.shown.Goals as goal
 
 pub returns : goal.returns
@@ -13,7 +14,7 @@ returns c = λ lane live answer of.
     let good = bench.good in
     let vectors = bench.block.vectors in
     let position = c.args.position in
-    let ran = ran_block good vectors c.requires.run.ran in
+    let ran = ran_vectors good vectors c.requires.run.ran in
     let bit = bit_at c.lanes.result lane in
     let line = get_or c.positions.result.now position 0 in
     let at : line ≡ get_or good.circuit.positions position 0 = ap (λ ps. get_or ps position 0) (c.positions.ensures.value ∙ ap (λ (k : Circuit). k.positions) c.circuit.ensures) in

@@ -2,7 +2,7 @@ use Rattle.std.proofs.Common.{◌≡◌, ◌∙◌, ◌+◌, ◌<◌, List, Bool
 use Rattle.std.specs.Prelude.{slice_index_or}
 use Rattle.std.proofs.lemmas.Result.{IfOk-from_err}
 use Rattle.net_model.specs.Answer.{bit_at}
-use Rattle.kept_vectors.proofs.KeepLemmas.{some_number}
+use Rattle.net_model.proofs.Listed.{some_number}
 use Rattle.table_dicts.specs.declared.bench.Bench.{Bench}
 use Rattle.table_dicts.specs.AnswerTable.{answer_bit}
 use Rattle.table_dicts.specs.Blocks.{kept_width}
