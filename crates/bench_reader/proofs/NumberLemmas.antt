@@ -7,7 +7,7 @@ use Rattle.std.proofs.lemmas.List.{take_more, take-append-drop, append-nil, map-
 use Rattle.std.proofs.lemmas.List.Elements.{All-nil, All-cons, All-head, All-tail, All-map, All-weaker}
 use Rattle.std.proofs.lemmas.List.Folds.{find-append, list_any_at}
 use Rattle.std.proofs.lemmas.Grind.{flat_map-append}
-use Rattle.std.proofs.lemmas.Bool.{cases_Bool, eq-eqb, eqb-true, or_cases}
+use Rattle.std.proofs.lemmas.Bool.{cases_Bool, eq-eqb, eqb-true, not-false, or_cases}
 use Rattle.net_model.proofs.Copies.{later}
 use Rattle.net_model.proofs.Listed.{All-flat_map}
 use Rattle.net_model.proofs.Elements.{true_false}
@@ -152,10 +152,6 @@ none_passes p (w ∷ ws) none =
       | inr off ↦ All-cons (λ (word : Word). p word ≡ false) w ws off (none_passes p ws (let here : find p (w ∷ ws) ≡ find p ws = rw off refl in sym here ∙ none))
     ]
 
-was_true : (b : Bool) → not b ≡ false → b ≡ true
-was_true true e = refl
-was_true false e = absurd (let f : ◌≡◌ {A = Bool} true false = e in cc)
-
 module _ (ss : List Statement) where
   pub drivers_once : second_driver ss ≡ None → AllPairs (λ a b. a ≢ b) (driven_numbers ss)
   drivers_once none = rw (numbers_driven ss) (numbers_differ (filter_map driven_word ss) none)
@@ -170,4 +166,4 @@ module _ (ss : List Statement) where
       rw (numbers_used ss, numbers_driven ss)
       (All-map (Contains (map (λ word. word.name) (filter_map driven_word ss))) (λ (word : Word). word.name) (flat_map used_words ss)
       (All-weaker (λ (word : Word). not (has_number (filter_map driven_word ss) word.name) ≡ false) (λ (word : Word). Contains (map (λ w. w.name) (filter_map driven_word ss)) word.name)
-      (λ word off. has_named (filter_map driven_word ss) word.name (was_true (has_number (filter_map driven_word ss) word.name) off)) (flat_map used_words ss) each))
+      (λ word off. has_named (filter_map driven_word ss) word.name (not-false (has_number (filter_map driven_word ss) word.name) off)) (flat_map used_words ss) each))

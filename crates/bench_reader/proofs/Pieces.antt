@@ -4,6 +4,7 @@ use Rattle.std.specs.Prelude.{nat_le, not, ◌&&◌, ◌||◌, ◌==◌, if◌th
 use Rattle.std.specs.List.{prefix_len}
 use Rattle.std.proofs.lemmas.Bool.Decides.{nat_tests}
 use Rattle.std.proofs.lemmas.List.Sums.{prefix_len-le-length}
+use Rattle.std.proofs.lemmas.Bool.{and_parts}
 use Rattle.bench_reader.specs.Tokens.{Text, is_blank, is_name_byte, Piece, blank_piece, open_bracket, close_bracket, comma_mark, equals_mark, name_run, bad_byte, join_name, with_byte, pieces}
 
 abbrev pub begins_with_name : List Piece → Bool
@@ -47,14 +48,10 @@ names_join b ps false false true t4 t5 t6 t7 true true e f = cc
 names_join b ps false false false true t5 t6 t7 true true e f = cc
 names_join b ps false false false false true t6 t7 true true e f = cc
 
-and_left : (x y : Bool) → (x && y) ≡ true → x ≡ true
-and_left true y e = refl
-and_left false y e = cc
-
 name_joins : (b : ℕ) (ps : List Piece) → is_name_byte b ≡ true → with_byte b ps ≡ join_name b ps
 unfolding is_name_byte
 name_joins b ps e =
-    let low : nat_le 33 b ≡ true = and_left _ _ (and_left _ _ e) in
+    let low : nat_le 33 b ≡ true = (and_parts _ _ (and_parts _ _ e).0).0 in
     let blank : is_blank b ≡ false = rw (apart b 32 low (omega arith), apart b 9 low (omega arith), apart b 10 low (omega arith), apart b 13 low (omega arith)) refl in
     names_join b ps (is_blank b) (b == 40) (b == 41) (b == 44) (b == 61) (nat_le 33 b && nat_le b 126 && not (b == 40 || b == 41 || b == 44 || b == 61 || b == 35)) (b == 35) (nat_le 33 b) (nat_le b 126) e blank ∙ rw e refl
 

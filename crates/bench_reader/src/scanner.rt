@@ -1,8 +1,8 @@
 //! Tokens, one after another, each with its place.
-ghost use Rattle.std.specs.Prelude.{◌≡◌, ◌+◌, ◌≤◌, ◌<◌, ◌^◌, ◌&&◌, ◌||◌, ◌==◌, not, length, drop, if◌then◌else◌};
+ghost use Rattle.std.specs.Prelude.{◌≡◌, ◌+◌, ◌≤◌, ◌<◌, ◌^◌, ◌&&◌, ◌||◌, ◌==◌, not, length, if◌then◌else◌};
 ghost use Rattle.std.specs.List.{prefix_len};
-ghost use Rattle.bench_reader.specs.Tokens.{is_blank, is_name_byte, line_of};
-ghost use Rattle.bench_reader.specs.Scanning.{tokens_at, IsPlace, text_in, IsLexeme, IsNext};
+ghost use Rattle.bench_reader.specs.Tokens.{is_blank, is_name_byte};
+ghost use Rattle.bench_reader.specs.Scanning.{IsPlace, text_in, IsLexeme, IsNext};
 ghost use Rattle.bench_reader.specs.Bytes.{kind_at, length_at, is_skipped, inside_behind, IsSkipped};
 
 use crate::fault::Place;

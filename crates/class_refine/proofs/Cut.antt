@@ -7,11 +7,12 @@ use Rattle.std.proofs.lemmas.List.{length-append, length-map, length-replicate, 
 use Rattle.std.proofs.lemmas.List.Elements.{All-map}
 use Rattle.std.proofs.lemmas.Option.{slice_get-get_or}
 use Rattle.std.proofs.lemmas.Simd.{map-map}
+use Rattle.std.specs.Cmp.Derive.{one_truth}
 use Rattle.net_model.specs.ClassTable.{ClassTable, first_table, class_count, class_at, members, representative, piece_lowest, new_lowest, class_after, refined_table, cuts_class, SplitBy}
 use Rattle.net_model.proofs.Elements.{true_false}
 use Rattle.class_refine.specs.Fields.{IsWhole, IsKept, table_with}
 use Rattle.class_refine.specs.Steps.{is_in, piece_of, ArePieces, staying, IsMove}
-use Rattle.class_refine.proofs.Ranges.{same_tests, filter_all, range_below, position_cases}
+use Rattle.class_refine.proofs.Ranges.{filter_all, range_below, position_cases}
 use Rattle.class_refine.proofs.Pieces.{IsSound, representative_lowest, members-All, members-contains, piece_is, new_lowest-All, after_cases, moves_into, moved_from}
 use Rattle.class_refine.proofs.Refined.{sound_from, representative-member, split_adds, adds_split, cuts_from, from_cuts, whole-first, few_classes, whole-refined, count-refined, numbers-refined, class-refined, class_old, part_members}
 
@@ -41,7 +42,7 @@ module _ (t : ClassTable) (row : List (List Bool)) (sound : IsSound t) where
       let was = eqb (class_at t n) (class_at t low) in
       let own = eqb (piece_lowest t row n) low in
       let after = class-refined t row n inside in
-      same_tests (was && own) (eqb (class_at (refined_table t row) n) (class_count t + k)) (λ e. grind (arith, nat_tests, and_parts was own e, after, moves_into t row sound k n h inside))
+      one_truth (was && own) (eqb (class_at (refined_table t row) n) (class_count t + k)) (λ e. grind (arith, nat_tests, and_parts was own e, after, moves_into t row sound k n h inside))
       (λ e. grind (arith, nat_tests, and_from was own, after, moved_from t row sound k n inside, (piece_is t row n inside).class, e)))
 
   joined_by : (groups pieces : List (List ℕ)) (parents : List ℕ) → IsKept t groups → ArePieces t row (new_lowest t row) pieces parents → AreJoined t row (groups ++ pieces)
@@ -120,7 +121,7 @@ module _ (t : ClassTable) (row : List (List Bool)) (groups : List (List ℕ)) (a
             (λ n inside.
             let is = is_in-inside now class n (omega (arith, inside, numbers-refined t row)) in
             rw is
-            (same_tests (eqb (class_at t n) class && eqb (get_or now n 0) class) (eqb (get_or now n 0) class) (λ e. (and_parts (eqb (class_at t n) class) (eqb (get_or now n 0) class) e).1)
+            (one_truth (eqb (class_at t n) class && eqb (get_or now n 0) class) (eqb (get_or now n 0) class) (λ e. (and_parts (eqb (class_at t n) class) (eqb (get_or now n 0) class) e).1)
             (λ e. grind (arith, nat_tests, and_from (eqb (class_at t n) class) (eqb (get_or now n 0) class), class_old t row sound n inside, class-refined t row n inside, e)))))
       ]
 

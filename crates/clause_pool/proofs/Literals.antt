@@ -4,6 +4,7 @@ use Rattle.std.specs.Prelude.{Bool, true, false, not, ◌==◌, if◌then◌else
 use Rattle.std.specs.Bool.{beq}
 use Rattle.std.specs.Cmp.{booleans_Decides}
 use Rattle.std.proofs.lemmas.Bool.{and_parts}
+use Rattle.std.proofs.Math.Bool.{not-not}
 use Rattle.clause_pool.specs.Literal.{Literal, opposite, same_literal}
 use Rattle.clause_pool.specs.LiteralCode.{code_of}
 
@@ -25,12 +26,8 @@ literal_cases l m = by (same_literal l m) refl
     by true e = inl (same_is l m e)
     by false e = inr (λ same. let t = same_literal-same l m same in let wrong : ◌≡◌ {A = Bool} true false = sym t ∙ e in cc)
 
-not_not : (b : Bool) → not (not b) ≡ b
-not_not true = refl
-not_not false = refl
-
 pub opposite_opposite : (l : Literal) → opposite (opposite l) ≡ l
-opposite_opposite l = λ i. record { variable = l.variable; positive = not_not l.positive i }
+opposite_opposite l = λ i. record { variable = l.variable; positive = not-not l.positive i }
 
 sign_cases : (p q : Bool) → (p ≡ q) ⊎ ((p ≡ not q) × (p ≢ q))
 sign_cases true true = inl refl

@@ -2,6 +2,7 @@
 
 ghost use Rattle.std.specs.Prelude.{◌≡◌, ◌<◌, ◌≤◌, ◌^◌};
 ghost use Rattle.clause_pool.specs.Literal.{opposite};
+ghost use Rattle.clause_pool.specs.LiteralCode.{code_of};
 
 use std::marker::Model;
 
@@ -16,7 +17,6 @@ impl Model for Lit {
     ghost use Rattle.clause_pool.specs.Literal.{Literal};
     ghost use Rattle.clause_pool.specs.LiteralCode.{code_of, literal_of, code_of-literal_of};
     ghost use Rattle.std.specs.Prelude.{◌<◌, ◌≤◌, ◌^◌};
-    ghost use Rattle.std.proofs.Common.{ap};
 
     ghost Value = { Literal };
 
@@ -54,6 +54,13 @@ impl Lit {
         ensures { result ≡ self.positive }
     {
         self.code % 2 == 1
+    }
+
+    /// The literal as a number: twice its variable, and one more where it is positive.
+    pub fn code(self) -> usize
+        ensures { result ≡ code_of self }
+    {
+        self.code as usize
     }
 
     /// The negation of the literal.

@@ -94,6 +94,22 @@ impl Pool {
         Ok(self.ends.len() as u32)
     }
 
+    /// Adds a clause, for which the pool grows where it lacks room, and answers its number.
+    pub fn add(&mut self, clause: &[Lit]) -> Result<u32, AllocError>
+        requires { length self.old.clauses + 1 < 2 ^ 32 }
+        ensures clauses { OnOk result (self.new.clauses ≡ self.old.clauses ++ clause.now ∷ []) }
+        ensures spare_clauses { OnOk result (self.new.spare_clauses + 1 ≡ max self.old.spare_clauses 1) }
+        ensures spare_literals { OnOk result (self.new.spare_literals + length clause.now ≡ max self.old.spare_literals (length clause.now)) }
+        ensures number { IfOk result (λ number. number ≡ length self.new.clauses) }
+        ensures err { OnErr result (self.new ≡ self.old) }
+    {
+        self.grow(1, clause.len())?;
+        match self.push(clause) {
+            Ok(number) => Ok(number),
+            Err(Full) => unreachable!(),
+        }
+    }
+
     /// How many clauses there are.
     pub fn len(&self) -> u32
         ensures { result ≡ length self.now.clauses }

@@ -136,10 +136,6 @@ stopped_by c mid new text line stop.NoMemory is = tt
 pub stopped : {c : Circuit} {old mid new : Checker} {line : Text} (s : Stop) → JudgesWaiting c old mid (Err s) → Judges c old new line (Err s)
 stopped {c} {old} {mid} {new} {line} s first = record { judged = λ text is short. stopped_by c mid new text line s (first.judged text is) }
 
--- what waits is judged, and then a line
-pub judged_after : {c : Circuit} {old mid new : Checker} {line : Text} {x : Unit {0}} {result : Result (Unit {0}) Stop} → JudgesWaiting c old mid (Ok x) → Judges c mid new line result → Judges c old new line result
-judged_after first then = record { judged = λ text is short. then.judged text (first.judged text is) short }
-
 pub has_after : {c : Circuit} {old new : Checker} {x : Unit {0}} → HasCheck c old → JudgesWaiting c old new (Ok x) → HasCheck c new
 has_after has first = record { text = has.text; is = first.judged has.text has.is }
 

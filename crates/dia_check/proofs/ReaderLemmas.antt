@@ -1,6 +1,6 @@
 -- Bytes that are read: lines among them, the limit, and the end.
-use Rattle.std.proofs.Common.{◌≡◌, ◌∙◌, ℕ, suc, ◌-◌, ◌<◌, ◌≤◌, ◌^◌, Bool, true, false, [], ◌∷◌, ◌++◌, length, length-append, length-take, take, Option, None, Some, Ok, Err, refl, sym, ap, subst, append_assoc, arith}
-use Rattle.std.specs.Prelude.{Contains, not, ◌==◌, min, drop, is_some}
+use Rattle.std.proofs.Common.{◌≡◌, ◌∙◌, ℕ, suc, ◌-◌, ◌<◌, ◌≤◌, ◌^◌, true, false, [], ◌∷◌, ◌++◌, length, length-append, length-take, take, Option, None, Some, Ok, Err, refl, sym, ap, subst, append_assoc, arith}
+use Rattle.std.specs.Prelude.{Contains, not, min, drop, is_some}
 use Rattle.std.specs.List.{prefix_len}
 use Rattle.std.proofs.lemmas.Bool.{ne_eqb}
 use Rattle.std.proofs.lemmas.List.{append-nil, take_all, take-append-drop, length-drop}
@@ -11,6 +11,7 @@ use Rattle.result_file.specs.Spelling.{Text, text_of}
 use Rattle.result_file.specs.Held.{IsFirstLine}
 use Rattle.result_file.specs.Refusal.{line_length, FileRefused}
 use Rattle.result_file.specs.Refusal.FileRefused.{too_long}
+use Rattle.result_file.proofs.FirstLine.{is_inside}
 use Rattle.dia_check.specs.declared.checker.Checker.{Checker}
 use Rattle.dia_check.specs.declared.reader.Reader.{Reader}
 use Rattle.dia_check.specs.declared.stop.Stop.{Stop}
@@ -62,9 +63,6 @@ held_more {c} {fed} {r} h piece r' checker_is lines_is = record {
 }
 
 -- ---- beyond the limit
-
-abbrev is_inside : ℕ → Bool
-is_inside byte = not (byte == 10)
 
 held_size : (held more : Text) → ¬ Contains held 10 → length held ≤ prefix_len is_inside (held ++ more)
 held_size [] more one = omega arith

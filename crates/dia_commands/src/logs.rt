@@ -2,7 +2,7 @@
 
 ghost use Rattle.std.specs.Prelude.{IfErr, IfOk};
 ghost use Rattle.table_dicts.specs.Rows.{AreRows};
-ghost use Rattle.diagnose.specs.Lines.{AreWide};
+ghost use Rattle.net_model.specs.Rows.{AreWide};
 ghost use Rattle.dia_commands.specs.Logs.{IsLogFor, IsRefusedLog, IsListFor, IsRefusedList};
 ghost use Rattle.dia_commands.specs.Outcome.{said, IsPartOf};
 ghost use Rattle.dia_commands.specs.Ran.{Ends};

@@ -106,8 +106,10 @@ module _ (c : Circuit) (budgets : Budgets) (kept : List (List Bool)) (later : Li
         let item = λ (n : ℕ) (below : n < length (map (member_for t given) (number_range t))). get_or-map-range_with_len (member_for t given) 0 (length t.class_of) n n (0, Rep) (omega arith) (omega arith) in
         record {
           count = count;
-          classes = λ n below. rw (item n below) refl;
-          marks = λ n below. rw (item n below, is) (are.marks n (omega arith) ∙ some_mark (given_mark t given n) (all n (omega arith)));
+          each = record {
+            classes = λ n below. rw (item n below) refl;
+            marks = λ n below. rw (item n below, is) (are.marks n (omega arith) ∙ some_mark (given_mark t given n) (all n (omega arith)));
+          };
         }
 
     pub result_right : AreRightLines c (stated_records c stated)

@@ -41,15 +41,9 @@ pub fn generate<S: Shelf>(
     ensures err { OnErr result (Told (S.state shelf.old) (S.state shelf.new) (λ old new. (part : List ℕ) × IsCutFile circuit.now part × Writes part old new)) }
     ensures never { IsTrue (S.state shelf.old).sure → ¬ (IsErrOf result ShelfFault.Failed) }
 {
-    let Ok(listed) = list(alloc, circuit) else {
-        return Err(ShelfFault::NoMemory);
-    };
-    let Ok(forest) = collapse(alloc, circuit, &listed) else {
-        return Err(ShelfFault::NoMemory);
-    };
-    let Ok(levels) = Levels::new(alloc, circuit) else {
-        return Err(ShelfFault::NoMemory);
-    };
+    let listed = list(alloc, circuit)?;
+    let forest = collapse(alloc, circuit, &listed)?;
+    let levels = Levels::new(alloc, circuit)?;
     let subject = Subject::new(circuit, &listed, &forest);
     let setting = Setting::new(subject, &levels, budgets);
     write_result(alloc, &setting, shelf)

@@ -1,9 +1,9 @@
 //! What becomes of a number and its representative.
 
-ghost use Rattle.std.specs.Prelude.{◌≡◌, ◌≢◌, ◌<◌, ◌∷◌, [], IfOk, OnOk, length};
+ghost use Rattle.std.specs.Prelude.{◌≡◌, ◌≢◌, ◌<◌, [], IfOk, OnOk, length};
 ghost use Rattle.net_model.specs.Circuit.{IsCircuit};
 ghost use Rattle.net_model.specs.Fault.{IsFaultOf};
-ghost use Rattle.net_model.specs.FaultList.{fault_count, fault_numbered};
+ghost use Rattle.net_model.specs.FaultList.{fault_count};
 ghost use Rattle.dia_gen.specs.Settled.{HasRelevant, IsSettledFor, IsSearched, IsOpenFor, IsSolvedFor, IsSettledBy};
 
 use crate::setting::Setting;

@@ -237,18 +237,15 @@ module _ (once : FilesAreJudgedOnce) where
       (λ Done Cut zero none left. absurd none)
       (plan_of (Some request)) (once request) refused may
 
-  decided : (asked : Option Request) {status : ℕ} {old new : World} → IsDone (plan_of asked) status old new → DecidedByFiles asked status old new
-  decided None done some = absurd (some refl)
-  decided (Some request) {status} {old} {new} done some = record {
+  pub decided_by_files : {asked : Option Request} {status : ℕ} {old new : World} → IsDone (plan_of asked) status old new → DecidedByFiles asked status old new
+  decided_by_files {asked = None} done some = absurd (some refl)
+  decided_by_files {asked = Some request} {status} {old} {new} done some = record {
     only = λ above below.
         let d = done below in
         (d.0.console, subst (λ s. IsRefusedWith old.files (plan_of (Some request)) s d.0.console) d.2 (refused_so request old.files d.0 d.1 (omega (arith, above, d.2))), d.3.console);
     refused = λ s console refused below. let d = done below in sym d.2 ∙ status_by request old.files d.0 d.1 s console refused;
     accepted = λ all below. let d = done below in sym d.2 ∙ zero_by request old.files d.0 d.1 all;
   }
-
-  pub decided_by_files : {asked : Option Request} {status : ℕ} {old new : World} → IsDone (plan_of asked) status old new → DecidedByFiles asked status old new
-  decided_by_files {asked} {status} {old} {new} done = decided asked done
 
   -- ---- no file where something is refused
 
@@ -279,7 +276,7 @@ module _ (once : FilesAreJudgedOnce) where
   pub is_complete : {asked : Option Request} {status : ℕ} {a b : State} → Ran asked status a b → IsComplete asked status a b
   is_complete {asked} {status} {a} {b} r some told accepted reads writes =
       elim (cases_lt status 7) [
-        | inl low ↦ inl ((decided asked (r.done told) some).accepted accepted low)
+        | inl low ↦ inl ((decided_by_files (r.done told) some).accepted accepted low)
         | inr high ↦ elim (cases_lt status 9) [
           | inl below ↦ elim (cases_lt status 8) [
             | inl seven ↦ absurd (reads (r.causes.read_fault (omega arith)))

@@ -1,6 +1,7 @@
 -- What follows from a run's record for `dict`, `convert` and `diagnose`.
 use Rattle.std.proofs.Common.{◌≡◌, ℕ, List, [], ◌∷◌, ◌++◌, Option, Some, refl, sym, ap, subst, ◌∙◌, arith}
 use Rattle.std.specs.FinMap.{get}
+use Rattle.std.proofs.lemmas.Option.{same_Some}
 use Rattle.diag_shelf.specs.World.{Files, World}
 use Rattle.diag_shelf.proofs.FileMaps.{get_at_insert}
 use Rattle.result_file.specs.Laws.{ValidIsTrue}
@@ -16,7 +17,6 @@ use Rattle.dia_commands.specs.Plan.{Plan, refused_file, accepted_file, CallsFor}
 use Rattle.dia_commands.specs.Plans.{with_dictionary, with_log, says, plan_of}
 use Rattle.dia_commands.specs.Ran.{IsDone}
 use Rattle.dia_runs.specs.DictionaryRuns.{MakesDictionary, ConvertsDictionary, PrintsDiagnosis, DiagnosesAlike}
-use Rattle.dia_runs.proofs.PlanLemmas.{some_same}
 use Rattle.dia_runs.proofs.Clauses.{accepted_by, true_result, done_for}
 
 -- the file that was made, and the text that was printed
@@ -69,9 +69,9 @@ module _ (wrong : RefusedIsWrong) (one : OneDictionary) (files : Files) (d : Dic
   -- what is called for with the one is called for with the other
   moved : (name other bytes whole : Text) → get files name ≡ Some bytes → IsFileOf d bytes → get files other ≡ Some whole → IsFileOf d whole → (o : Outcome) → CallsFor files (with_dictionary name next) o → CallsFor files (with_dictionary other next) o
   moved name other bytes whole held is there also o (refused_file read console found refused at) =
-      absurd (wrong bytes d refused.fault (subst (λ (b : Text). IsRefusedBy b refused.fault) (some_same (sym found ∙ held)) refused.refused) is)
+      absurd (wrong bytes d refused.fault (subst (λ (b : Text). IsRefusedBy b refused.fault) (same_Some read bytes (sym found ∙ held)) refused.refused) is)
   moved name other bytes whole held is there also o (accepted_file read x found accepted then) =
-      let same : x ≡ d = (one bytes _ _ x d (subst (IsFileOf x) (some_same (sym found ∙ held)) accepted).1 is.1).1 in
+      let same : x ≡ d = (one bytes _ _ x d (subst (IsFileOf x) (same_Some read bytes (sym found ∙ held)) accepted).1 is.1).1 in
       accepted_file whole d there also (subst (λ (e : Dict). CallsFor files (next e) o) same then)
 
 pub diagnoses_alike : RefusedIsWrong → OneDictionary → DiagnosesAlike

@@ -1,12 +1,10 @@
 -- A plan of which no file is both refused and accepted ends in one way.
-use Rattle.std.proofs.Common.{◌≡◌, ℕ, ◌<◌, List, Some, sym, subst, ◌∙◌}
+use Rattle.std.proofs.Common.{◌≡◌, ℕ, ◌<◌, List, sym, subst, ◌∙◌}
+use Rattle.std.proofs.lemmas.Option.{same_Some}
 use Rattle.diag_shelf.specs.World.{Files}
 use Rattle.request_words.specs.Request.{Text}
 use Rattle.dia_commands.specs.Outcome.{Outcome}
 use Rattle.dia_commands.specs.Plan.{Plan, finish, judged, refused_file, accepted_file, IsClear, EndsIn}
-
-pub some_same : {X : Type 0} {x y : X} → Some x ≡ Some y → x ≡ y
-some_same e = cc
 
 module _ (files : Files) where
   -- what follows of two facts of where a plan ends
@@ -16,11 +14,11 @@ module _ (files : Files) where
     both_end (finish Done Cut) clear first second = at_end Done Cut clear first second
     both_end (judged name status X Refused Accepted next) clear (refused_file bytes text held refused is) (refused_file bytes' text' held' refused' is') = at_refusal status text text' clear.0.above is is'
     both_end (judged name status X Refused Accepted next) clear (refused_file bytes text held refused is) (accepted_file bytes' x held' accepted ends) =
-        absurd (clear.0.apart bytes' text x accepted (subst (λ (b : Text). Refused b text) (some_same (sym held ∙ held')) refused))
+        absurd (clear.0.apart bytes' text x accepted (subst (λ (b : Text). Refused b text) (same_Some bytes bytes' (sym held ∙ held')) refused))
     both_end (judged name status X Refused Accepted next) clear (accepted_file bytes x held accepted ends) (refused_file bytes' text' held' refused' is') =
-        absurd (clear.0.apart bytes text' x accepted (subst (λ (b : Text). Refused b text') (some_same (sym held' ∙ held)) refused'))
+        absurd (clear.0.apart bytes text' x accepted (subst (λ (b : Text). Refused b text') (same_Some bytes' bytes (sym held' ∙ held)) refused'))
     both_end (judged name status X Refused Accepted next) clear (accepted_file bytes x held accepted ends) (accepted_file bytes' y held' accepted' ends') =
-        let one : x ≡ y = clear.0.once bytes x y accepted (subst (λ (b : Text). Accepted b y) (some_same (sym held' ∙ held)) accepted') in
+        let one : x ≡ y = clear.0.once bytes x y accepted (subst (λ (b : Text). Accepted b y) (same_Some bytes' bytes (sym held' ∙ held)) accepted') in
         both_end (next y) (clear.1 bytes' y accepted') (subst (λ (z : X). EndsIn files R E (next z)) one ends) ends'
 
   -- a fact of where a plan ends is another

@@ -3,8 +3,9 @@ use Rattle.std.proofs.Common.{◌≡◌, ◌∙◌, ℕ, ◌+◌, ◌<◌, ◌�
 use Rattle.std.specs.Prelude.{◌⊎◌}
 use Rattle.std.proofs.lemmas.List.{append-nil}
 use Rattle.std.proofs.lemmas.List.Elements.{All-head, All-tail}
+use Rattle.net_model.specs.Rows.{AreWide}
 use Rattle.diagnose.specs.declared.fault.LogKind.{LogKind}
-use Rattle.diagnose.specs.Lines.{Text, text_limit, LineForm, lines_from, AreWide, RestRule, TextRefused, too_long, at_line}
+use Rattle.diagnose.specs.Lines.{Text, text_limit, LineForm, lines_from, RestRule, TextRefused, too_long, at_line}
 use Rattle.diagnose.proofs.Cuts.{not_empty}
 
 -- a row more

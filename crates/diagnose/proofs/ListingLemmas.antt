@@ -6,9 +6,11 @@ use Rattle.std.specs.List.{range_with_len}
 use Rattle.std.proofs.lemmas.Bool.{eq-eqb, eqb-true, ne_eqb, cases_eq, cases_lt, false_from_ne_true}
 use Rattle.std.proofs.lemmas.Slice.Zip.{length-zip, get_or-zip}
 use Rattle.std.proofs.lemmas.List.{get_or-map, length-append, length-replicate, append-nil, get_or_append_left, get_or-append-add, get_or_past}
-use Rattle.std.proofs.lemmas.List.Elements.{All-head, All-tail, filter-append}
+use Rattle.std.proofs.lemmas.List.Elements.{All-head, All-tail}
 use Rattle.std.proofs.lemmas.Nat.Bits.{bit_at-zero}
+use Rattle.std.proofs.lemmas.Bool.Decides.{same_from_decides}
 use Rattle.net_model.specs.ClassTable.{same_bits}
+use Rattle.net_model.proofs.Ranges.{filter-range_more}
 use Rattle.table_dicts.specs.declared.dict.Dict.{Dict}
 use Rattle.table_dicts.specs.declared.dict.DictKind.{DictKind}
 use Rattle.table_dicts.specs.declared.dict.DictKind.TheVariants.{PassFail, Full, SameDiff}
@@ -25,12 +27,6 @@ use Rattle.diagnose.proofs.WordLemmas.{packed_bit, first_word_bit}
 
 -- ---- equal rows
 
-same_answer : {P : Type 0} (r s : Bool) → Decides r P → Decides s P → r ≡ s
-same_answer true true one other = refl
-same_answer true false one other = sym (other.1 (one.0 refl))
-same_answer false true one other = one.1 (other.0 refl)
-same_answer false false one other = refl
-
 -- what a test of two rows has told
 pub told_same : (a b : List Bool) → true ≡ same_bits a b → a ≡ b
 told_same a b e = (same_bits-Decides a b).0 (sym e)
@@ -39,7 +35,7 @@ pub told_other : (a b : List Bool) → false ≡ same_bits a b → a ≡ b → �
 told_other a b e same = let clash : ◌≡◌ {A = Bool} false true = e ∙ (same_bits-Decides a b).1 same in absurd (cc)
 
 pub by_same : (a b : List Bool) (r : Bool) → Decides r (a ≡ b) → r ≡ same_bits a b
-by_same a b r decides = same_answer r (same_bits a b) decides (same_bits-Decides a b)
+by_same a b r decides = same_from_decides r (same_bits a b) decides (same_bits-Decides a b)
 
 -- ---- an entry that is written word by word
 
@@ -149,22 +145,12 @@ word_bit_more {entry} {first} {filled} {old} {new} bit so_far is own = record {
 
 -- ---- numbers
 
-range_more : (a n : ℕ) → range_with_len a (n + 1) ≡ range_with_len a n ++ (a + n) ∷ []
-range_more a zero = ap (λ (k : ℕ). k ∷ []) (omega arith)
-range_more a (suc n) =
-    let step : suc n + 1 ≡ suc (n + 1) = omega arith in
-    ap (λ (k : ℕ). range_with_len a k) step ∙ ap (λ (xs : List ℕ). a ∷ xs) (range_more (a + 1) n ∙ ap (λ (k : ℕ). range_with_len (a + 1) n ++ k ∷ []) (omega arith))
-
 kept_by : (b : Bool) (n : ℕ) (xs : List ℕ) → cond b (xs ++ n ∷ []) xs ≡ xs ++ cond b (n ∷ []) []
 kept_by true n xs = refl
 kept_by false n xs = sym (append-nil xs)
 
-pub filter_range_more : (p : ℕ → Bool) (n : ℕ) → filter p (range_with_len 0 (n + 1)) ≡ filter p (range_with_len 0 n) ++ cond (p n) (n ∷ []) []
-filter_range_more p n =
-    ap (filter p) (range_more 0 n) ∙ filter-append p (range_with_len 0 n) ((0 + n) ∷ []) ∙ ap (λ (k : ℕ). filter p (range_with_len 0 n) ++ cond (p k) (k ∷ []) []) (omega arith)
-
 pub kept_more : (p : ℕ → Bool) (n : ℕ) (before after : List ℕ) → before ≡ filter p (range_with_len 0 n) → after ≡ cond (p n) (before ++ n ∷ []) before → after ≡ filter p (range_with_len 0 (n + 1))
-kept_more p n before after is next = next ∙ kept_by (p n) n before ∙ ap (λ (xs : List ℕ). xs ++ cond (p n) (n ∷ []) []) is ∙ sym (filter_range_more p n)
+kept_more p n before after is next = next ∙ kept_by (p n) n before ∙ ap (λ (xs : List ℕ). xs ++ cond (p n) (n ∷ []) []) is ∙ sym (filter-range_more p n)
 
 filter_range_agree : (p q : ℕ → Bool) (a n : ℕ) → ((k : ℕ) → a ≤ k → k < a + n → p k ≡ q k) → filter p (range_with_len a n) ≡ filter q (range_with_len a n)
 filter_range_agree p q a zero agree = refl
@@ -193,7 +179,7 @@ module _ (d : Dict) (observed : List (List Bool)) (grouped : IsGrouped d.numbers
   listed_group group inside is =
       filter_range_agree (λ n. eqb (get_or d.groups n 0) group) (λ n. same_bits (entry_of d n) entry) 0 d.numbers
       (λ n low high. let below : n < d.numbers = omega (arith, high) in
-      same_answer {P = get_or d.groups n 0 ≡ group} (eqb (get_or d.groups n 0) group) (same_bits (entry_of d n) entry)
+      same_from_decides {P = get_or d.groups n 0 ≡ group} (eqb (get_or d.groups n 0) group) (same_bits (entry_of d n) entry)
       (eqb-true (get_or d.groups n 0) group, eq-eqb (get_or d.groups n 0) group) (
         (λ same. grouped.different.apart (get_or d.groups n 0) group (group_in n below) inside ((same_bits-Decides (entry_of d n) entry).0 same ∙ sym is)),
         (λ e. (same_bits-Decides (entry_of d n) entry).1 (ap (λ (g : ℕ). get_or d.entries g []) e ∙ is)),

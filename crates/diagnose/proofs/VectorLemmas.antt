@@ -4,9 +4,10 @@ use Rattle.std.specs.Prelude.{Contains}
 use Rattle.std.proofs.lemmas.List.{append-nil, length-append, length-map}
 use Rattle.std.proofs.lemmas.List.Elements.{All-push, Contains-append_right}
 use Rattle.net_model.specs.BitText.{bits_text}
+use Rattle.net_model.specs.Rows.{AreWide}
 use Rattle.diagnose.specs.declared.fault.LogKind.{LogKind}
 use Rattle.diagnose.specs.declared.fault.LogKind.TheVariants.{Syntax, Width}
-use Rattle.diagnose.specs.Lines.{Text, text_limit, lines_from, digit_bits, AreWide, IsCutAt, at_line}
+use Rattle.diagnose.specs.Lines.{Text, text_limit, lines_from, digit_bits, IsCutAt, at_line}
 use Rattle.diagnose.specs.VectorText.{vector_line, IsVectorList, HasNoVector, VectorRestRefused, no_vector, wrong_width, VectorsRefused, IsRightVector}
 use Rattle.diagnose.proofs.Cuts.{cut_once, not_empty}
 use Rattle.result_file.proofs.BitLemmas.{bits_once}

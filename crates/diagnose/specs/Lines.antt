@@ -1,6 +1,7 @@
 -- Texts of lines, each with a row of bits.
-use Rattle.std.specs.Prelude.{◌≡◌, ℕ, ◌+◌, ◌<◌, ◌≤◌, ◌^◌, ◌⊎◌, Bool, List, [], ◌∷◌, ◌++◌, length, map, take, count_by, ◌==◌, ⊤, All, Contains}
+use Rattle.std.specs.Prelude.{◌≡◌, ℕ, ◌+◌, ◌<◌, ◌≤◌, ◌^◌, ◌⊎◌, Bool, List, [], ◌∷◌, ◌++◌, length, map, take, count_by, ◌==◌, ⊤, Contains}
 use Rattle.net_model.specs.BitText.{bits_text}
+use Rattle.net_model.specs.Rows.{AreWide}
 use Rattle.diagnose.specs.declared.fault.LogKind.{LogKind}
 use Rattle.diagnose.specs.declared.fault.LogKind.TheVariants.{TooLong}
 use Rattle.diagnose.specs.declared.fault.LogFault.{LogFault}
@@ -42,10 +43,6 @@ LineForm = ℕ → List Bool → Text
 abbrev pub lines_from : LineForm → ℕ → List (List Bool) → Text
 lines_from line n [] = []
 lines_from line n (row ∷ rows) = line n row ++ 10 ∷ lines_from line (n + 1) rows
-
--- Each row is of this width.
-abbrev pub AreWide : ℕ → List (List Bool) → Type 0
-AreWide width rows = All (λ row. length row ≡ width) rows
 
 -- Why what stands behind so many right lines is refused.
 abbrev pub RestRule : Type 1

@@ -1,9 +1,10 @@
 -- Lists of vectors: a line of bits for each.
 use Rattle.std.specs.Prelude.{◌≡◌, ◌≢◌, ℕ, ◌≤◌, Bool, List, [], ◌∷◌, ◌++◌, length}
 use Rattle.net_model.specs.BitText.{bits_text}
+use Rattle.net_model.specs.Rows.{AreWide}
 use Rattle.diagnose.specs.declared.fault.LogKind.{LogKind}
 use Rattle.diagnose.specs.declared.fault.LogKind.TheVariants.{Syntax, Width}
-use Rattle.diagnose.specs.Lines.{Text, text_limit, digit_bits, lines_from, AreWide, TextRefused}
+use Rattle.diagnose.specs.Lines.{Text, text_limit, digit_bits, lines_from, TextRefused}
 
 -- a line of a list, without its LF; its number isn't written
 abbrev pub vector_line : ℕ → List Bool → Text

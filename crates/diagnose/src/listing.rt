@@ -1,6 +1,6 @@
 //! The fault numbers that observed answers point to.
 
-ghost use Rattle.std.specs.Prelude.{◌≡◌, ◌≢◌, ◌<◌, ◌+◌, ◌*◌, ◌^◌, ◌==◌, ℕ, Bool, List, [], ◌∷◌, ◌++◌, length, flat_map, filter, All, slice_index, slice_index_or, if◌then◌else◌, IfOk, OnOk, MatchOption};
+ghost use Rattle.std.specs.Prelude.{◌≡◌, ◌≢◌, ◌<◌, ◌+◌, ◌*◌, ◌^◌, ◌==◌, ℕ, [], ◌∷◌, ◌++◌, length, flat_map, filter, All, slice_index, slice_index_or, if◌then◌else◌, IfOk, OnOk, MatchOption};
 ghost use Rattle.std.specs.List.{range_with_len};
 ghost use Rattle.net_model.specs.ClassTable.{same_bits};
 ghost use Rattle.table_dicts.specs.Rows.{AreRows, IsWordOf};

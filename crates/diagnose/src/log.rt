@@ -1,6 +1,6 @@
 //! Tester logs.
 
-ghost use Rattle.std.specs.Prelude.{◌≡◌, ◌≢◌, ◌<◌, ◌≤◌, ◌*◌, ◌^◌, ℕ, Bool, false, List, [], length, replicate, slice_index_or, slice_set, IfOk, IfErr, MatchOption, MatchResult};
+ghost use Rattle.std.specs.Prelude.{◌≡◌, ◌≢◌, ◌<◌, ◌≤◌, ◌*◌, ◌^◌, ℕ, Bool, List, [], length, slice_index_or, slice_set, IfOk, IfErr, MatchOption, MatchResult};
 ghost use Rattle.table_dicts.specs.Rows.{IsWordOf};
 ghost use Rattle.diagnose.specs.declared.fault.LogKind.TheVariants as log_kind;
 ghost use Rattle.diagnose.specs.Lines.{digit_bits, Tells};

@@ -52,7 +52,6 @@ fn taken(answer: io::Result<usize>, offered: usize) -> Option<usize>
 }
 
 impl<'a, R: Files + Print> Shelf for RealShelf<'a, R> {
-    ghost use Rattle.std.specs.Prelude.{refl};
     ghost use Rattle.diatest.specs.Real.{silent};
 
     ghost state = { λ s. silent s.read_faults s.write_faults };

@@ -2,6 +2,7 @@
 use Rattle.std.proofs.Common.{◌≡◌, ◌∙◌, ℕ, ◌<◌, ◌≤◌, Bool, List, [], length, get_or, refl, sym, ap, subst, arith}
 use Rattle.std.proofs.lemmas.List.{get_or_default}
 use Rattle.std.proofs.lemmas.List.FromFn.{fill_by_all}
+use Rattle.net_model.specs.Rows.{AreWide}
 use Rattle.table_dicts.specs.Grouped.{IsGrouped, AreGroupsOf}
 use Rattle.table_dicts.specs.Dictionary.{entry_of}
 use Rattle.dict_file.specs.declared.fault.DictVersion.{DictVersion}
@@ -13,7 +14,6 @@ use Rattle.dict_file.specs.Spelling.{version_number, entry_rows, Spells}
 use Rattle.dict_file.specs.Reading as reading
 use Rattle.dict_file.specs.Reading.{row_part, new_row_part, baselines_at, entries_one, entries_two, groups_before, group_count_part, groups_part}
 use Rattle.dict_file.specs.Places.{AreRead, rows_of}
-use Rattle.dict_file.proofs.ManyRows.{AreWide}
 use Rattle.dict_file.proofs.FieldLemmas.{AreBytes, AreFields, length-rows_of, wide_rows_of}
 use Rattle.dict_file.proofs.VersionOne.{spells_one}
 use Rattle.dict_file.proofs.VersionTwo.{spells_two}

@@ -2,6 +2,7 @@
 use Rattle.std.proofs.Common.{◌≡◌, ◌∙◌, ℕ, ◌+◌, ◌*◌, ◌<◌, ◌≤◌, ◌^◌, ◌⊎◌, Bool, cond, eqb, List, [], ◌∷◌, ◌++◌, length, get_or, refl, sym, ap, subst, arith, inl, inr, lit<}
 use Rattle.std.specs.Prelude.{codes}
 use Rattle.std.proofs.lemmas.List.FromFn.{length-map-range_with_len, get_or-map-range_with_len, fill_by_all}
+use Rattle.net_model.specs.Rows.{AreWide}
 use Rattle.byteorder.specs.Endian.{big_bytes}
 use Rattle.table_dicts.specs.declared.dict.Dict.{Dict}
 use Rattle.table_dicts.specs.declared.dict.DictKind.{DictKind}
@@ -18,7 +19,7 @@ use Rattle.dict_file.specs.Reading.{row_start, rows_end, row_of, row_part, head_
 use Rattle.dict_file.specs.Places.{rows_of}
 use Rattle.dict_file.proofs.Standing.{IsAt, at_first, at_second, at_both, at_cut, cut_at}
 use Rattle.dict_file.proofs.BitLemmas.{IsRowAt}
-use Rattle.dict_file.proofs.ManyRows.{AreWide, length-packed_rows, rows_stand, stand_rows, length-row_in, row_at_in, row_in_at, padding_at, number_stands, four_stand, two_stand}
+use Rattle.dict_file.proofs.ManyRows.{length-packed_rows, rows_stand, stand_rows, length-row_in, row_at_in, row_in_at, padding_at, number_stands, four_stand, two_stand}
 
 abbrev pub AreBytes : List ℕ → Type 0
 AreBytes bytes = (i : ℕ) → get_or bytes i 0 < 256

@@ -1,5 +1,5 @@
 -- Rows of one width that stand in bytes one after another, and numbers of four bytes.
-use Rattle.std.proofs.Common.{◌≡◌, ◌∙◌, ℕ, zero, suc, ◌+◌, ◌*◌, ◌<◌, ◌≤◌, ◌^◌, Bool, false, List, [], ◌∷◌, length, get_or, take, drop, sym, ap, subst, arith, inl, inr, All}
+use Rattle.std.proofs.Common.{◌≡◌, ◌∙◌, ℕ, zero, suc, ◌+◌, ◌*◌, ◌<◌, ◌≤◌, ◌^◌, Bool, false, List, [], ◌∷◌, length, get_or, take, drop, sym, ap, subst, arith, inl, inr}
 use Rattle.std.specs.Prelude.{flat_map}
 use Rattle.std.specs.Int.{w16, w32, from_be_bytes}
 use Rattle.std.proofs.lemmas.Bool.{cases_lt}
@@ -10,6 +10,7 @@ use Rattle.std.proofs.lemmas.Nat.{be_bytes_2, be_bytes_4}
 use Rattle.byteorder.specs.Endian.{big_bytes, big_number, big_from}
 use Rattle.byteorder.specs.Numbers.{big_from-take, big_number-reads_back, length-bytes_high_first}
 use Rattle.net_model.specs.Answer.{bit_at}
+use Rattle.net_model.specs.Rows.{AreWide}
 use Rattle.dict_file.specs.Packing.{byte_count, packed_row, file_bit, row_in, HasZeroPadding}
 use Rattle.dict_file.specs.Spelling.{packed_rows}
 use Rattle.dict_file.specs.Reading.{number_at}
@@ -26,9 +27,6 @@ place_next from k size long e = omega (arith, e)
 
 one_row_more : (first rest rows size : ℕ) → first ≡ size → rest ≡ rows * size → first + rest ≡ suc rows * size
 one_row_more first rest rows size e f = omega (arith, e, f)
-
-abbrev pub AreWide : ℕ → List (List Bool) → Type 0
-AreWide width rows = All (λ row. length row ≡ width) rows
 
 -- ---- rows
 

@@ -3,6 +3,7 @@ use Rattle.std.proofs.Common.{◌≡◌, ◌∙◌, ℕ, ◌+◌, ◌<◌, ◌�
 use Rattle.std.proofs.lemmas.List.{length-append}
 use Rattle.std.proofs.lemmas.List.Elements.{Contains-get_or}
 use Rattle.std.proofs.lemmas.List.FromFn.{length-map-range_with_len, get_or-map-range_with_len}
+use Rattle.net_model.specs.Rows.{AreWide}
 use Rattle.table_dicts.specs.declared.dict.Dict.{Dict}
 use Rattle.table_dicts.specs.Dictionary as dictionary
 use Rattle.table_dicts.specs.Dictionary.{IsShaped, IsGroupedDict, entry_of}
@@ -13,7 +14,6 @@ use Rattle.dict_file.specs.Reading as reading
 use Rattle.dict_file.specs.Reading.{rows_end, row_part, head_part, part_one, baselines_at, entries_one, end_part}
 use Rattle.dict_file.specs.Places.{rows_of}
 use Rattle.dict_file.proofs.Standing.{IsAt, at_itself, at_first, at_second, at_both, at_whole}
-use Rattle.dict_file.proofs.ManyRows.{AreWide}
 use Rattle.dict_file.proofs.FieldLemmas.{AreBytes, AreRowsOf, rows_read, rows_written, length-rows_of, wide_rows_of, AreFields, HasHead, head_stands, fields_stand, baselines_counted, entries_measured}
 
 -- ---- the entries of a grouped dictionary

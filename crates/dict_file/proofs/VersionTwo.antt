@@ -4,6 +4,7 @@ use Rattle.std.specs.Prelude.{flat_map}
 use Rattle.std.proofs.lemmas.Bool.{cases_lt}
 use Rattle.std.proofs.lemmas.List.{length-append, length-take-le, get_or-take, take_all, nil_from_length}
 use Rattle.std.proofs.lemmas.List.FromFn.{length-map-range_with_len, get_or-map-range_with_len, fill_by_all}
+use Rattle.net_model.specs.Rows.{AreWide}
 use Rattle.byteorder.specs.Endian.{big_bytes}
 use Rattle.table_dicts.specs.declared.dict.Dict.{Dict}
 use Rattle.table_dicts.specs.Grouped.{IsLeastUnused}
@@ -16,7 +17,7 @@ use Rattle.dict_file.specs.Reading as reading
 use Rattle.dict_file.specs.Reading.{row_start, rows_end, row_of, row_part, new_row_part, IsNewRow, number_at, part_two, baselines_at, groups_from, group_at, groups_before, group_part, groups_part, IsGroupCount, IsGroupNumber, group_count_part, AreUsed, entries_two, end_part}
 use Rattle.dict_file.specs.Places.{rows_of}
 use Rattle.dict_file.proofs.Standing.{IsAt, at_itself, at_first, at_second, at_both, at_whole}
-use Rattle.dict_file.proofs.ManyRows.{AreWide, length-numbers, numbers_stand, stand_numbers, number_stands, four_stand}
+use Rattle.dict_file.proofs.ManyRows.{length-numbers, numbers_stand, stand_numbers, number_stands, four_stand}
 use Rattle.dict_file.proofs.FieldLemmas.{AreBytes, AreRowsOf, rows_read, rows_written, length-rows_of, get_or-rows_of, HasHead, head_stands, fields_stand, entries_measured, count_small}
 use Rattle.dict_file.proofs.VersionOne.{group_known, baselines_read, IsReadAs, spelling_of, baselines_stand}
 

@@ -1,6 +1,6 @@
 //! Words of bits as packed bytes.
 
-ghost use Rattle.std.specs.Prelude.{◌≡◌, ◌≤◌, ◌<◌, ◌+◌, ◌*◌, ◌^◌, ◌/◌, ℕ, Bool, List, slice_index, length};
+ghost use Rattle.std.specs.Prelude.{◌≡◌, ◌<◌, ◌+◌, ◌*◌, ◌^◌, ◌/◌, ℕ, Bool, List, slice_index, length};
 ghost use Rattle.net_model.specs.Rows.{IsPacked};
 ghost use Rattle.dict_file.specs.Packing.{byte_of};
 ghost use Rattle.dict_file.specs.Words.{IsWordAt};

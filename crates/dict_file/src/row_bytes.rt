@@ -1,6 +1,6 @@
 //! Rows of bits that stand in a file.
 
-ghost use Rattle.std.specs.Prelude.{◌≡◌, ◌≢◌, ◌↔◌, ◌<◌, ◌≤◌, ◌+◌, ◌-◌, ◌*◌, ◌^◌, ◌++◌, ℕ, false, [], length, slice_index_or, IsTrue, IfOk, IfErr, OnOk};
+ghost use Rattle.std.specs.Prelude.{◌≡◌, ◌↔◌, ◌<◌, ◌≤◌, ◌+◌, ◌-◌, ◌*◌, ◌^◌, ◌++◌, ℕ, false, length, IfOk, IfErr, OnOk};
 ghost use Rattle.net_model.specs.Rows.{bit_of, row_at};
 ghost use Rattle.table_dicts.specs.Grouped.{AreDifferent};
 ghost use Rattle.table_dicts.specs.Rows.{IsRowSet};

@@ -5,6 +5,7 @@ use Rattle.std.proofs.Math.Nat.{one-le-pow, two-pow-succ}
 use Rattle.std.proofs.lemmas.Bool.{cases_eq, ne_eqb}
 use Rattle.std.proofs.lemmas.List.{take-append-drop, take_more, reverse-append, map-append, length-map, get_or-set_same, get_or-set_other}
 use Rattle.std.proofs.lemmas.List.Sums.{sum_by-cons, sum_by-append}
+use Rattle.std.proofs.Math.Bool.{not-not}
 use Rattle.net_model.specs.declared.fault.Fault.{Fault}
 use Rattle.net_model.specs.Circuit.{Circuit}
 use Rattle.net_model.specs.Answer.{bit_at}
@@ -131,16 +132,12 @@ module _ (c : Circuit) (f g : Fault) where
 
   -- ---- halves
 
-  not_not : (bit : Bool) → not (not bit) ≡ bit
-  not_not true = refl
-  not_not false = refl
-
   module _ (frames : List Frame) (source : ℕ) (bit : Bool) (place : ℕ) (tree : List Token) (right : IsRightAt c f g (Split source) (cube_of frames)) (here : IsSubtree c f g ((source, bit) ∷ cube_of frames) tree) (are : AreFrames c f g frames) where
     -- the first half of a split is finished, and the second one begins
     pub half_more : (sim new : PairSim) → sim ≡ pair_sim c f g (cube_of frames) → new ≡ with_cube sim ((source, not bit) ∷ sim.cube) → IsUnderWay c f g new (frame_with source (not bit) (Some tree) place ∷ frames)
     half_more sim new stands e = record {
       stands = e ∙ ap (λ (s : PairSim). with_cube s ((source, not bit) ∷ s.cube)) stands;
-      right = (right, subst (λ b. IsSubtree c f g ((source, b) ∷ cube_of frames) tree) (sym (not_not bit)) here, are);
+      right = (right, subst (λ b. IsSubtree c f g ((source, b) ∷ cube_of frames) tree) (sym (not-not bit)) here, are);
     }
 
     -- both halves are finished

@@ -1,6 +1,6 @@
 //! From a reached position that is undecided back to a free source that can still decide it.
 
-ghost use Rattle.std.specs.Prelude.{◌≡◌, ◌≤◌, MatchOption, length};
+ghost use Rattle.std.specs.Prelude.{◌≤◌, MatchOption, length};
 ghost use Rattle.distinguish_search.specs.Open.{IsOpenAt, AreDecided};
 ghost use Rattle.net_model.specs.Scope.{reached_positions};
 ghost use Rattle.pair_sets.specs.CubeState.{IsState};

@@ -1,5 +1,5 @@
 -- Sets of numbers below a count, as a mark for each number.
-use Rattle.std.specs.Prelude.{◌≡◌, ℕ, ◌<◌, Bool, true, false, List, slice_index_or}
+use Rattle.std.specs.Prelude.{◌≡◌, ℕ, ◌<◌, Bool, true, false, List, length, slice_index, slice_index_or}
 
 -- whether a number waits
 abbrev pub is_pending : List Bool → ℕ → Bool
@@ -8,6 +8,10 @@ is_pending marks n = slice_index_or marks n false
 -- No number waits.
 abbrev pub IsEmpty : List Bool → Type 0
 IsEmpty marks = (n : ℕ) → is_pending marks n ≡ false
+
+-- The line doesn't wait: none of its places in the order of the lines does.
+abbrev pub IsIdle : List ℕ → List Bool → ℕ → Type 0
+IsIdle order marks line = (place : ℕ) → place < length order → slice_index order place ≡ line → is_pending marks place ≡ false
 
 -- The number is the lowest that waited, and all others wait as before.
 pub record IsLowest (old new : List Bool) (lowest : ℕ) : Type 0 where

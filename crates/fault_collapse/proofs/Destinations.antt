@@ -16,7 +16,7 @@ use Rattle.net_model.proofs.Copies.{later}
 use Rattle.net_model.proofs.Listed.{All-flat_map, All-range_with_len}
 use Rattle.net_model.proofs.Orders.{Contains-range}
 use Rattle.net_model.proofs.Elements.{Contains-map, Contains-flat_map}
-use Rattle.fault_list.proofs.OnePlace.{All-places}
+use Rattle.fault_list.proofs.OnePlace.{All-places, pins_at}
 use Rattle.fault_list.proofs.Places.{places_from}
 use Rattle.fault_collapse.proofs.Members.{Contains-head}
 
@@ -78,29 +78,26 @@ module _ (c : Circuit) where
   ReadsLine line (Pin gate pin) = slice_get (pins_of c gate) pin ≡ Some line
   ReadsLine line (Position at) = slice_get c.positions at ≡ Some line
 
-  pins_reading : ℕ → ℕ → List Site
-  pins_reading line gate = map (Pin gate) (places_of line (pins_of c gate))
-
   pub destinations_read : (line : ℕ) → All (ReadsLine line) (destinations c line)
-  unfolding destinations pins_reading
+  unfolding destinations pins_at
   destinations_read line =
-      All-append (ReadsLine line) (flat_map (pins_reading line) (gate_lines c)) (map Position (places_of line c.positions))
-      (All-flat_map (ReadsLine line) (pins_reading line) (gate_lines c)
-      (All-range_with_len (λ gate. All (ReadsLine line) (pins_reading line gate)) c.sources (length c.gates)
+      All-append (ReadsLine line) (flat_map (pins_at c line) (gate_lines c)) (map Position (places_of line c.positions))
+      (All-flat_map (ReadsLine line) (pins_at c line) (gate_lines c)
+      (All-range_with_len (λ gate. All (ReadsLine line) (pins_at c line gate)) c.sources (length c.gates)
       (λ gate low high. All-map (ReadsLine line) (Pin gate) (places_of line (pins_of c gate)) (All-places_of line (pins_of c gate)))))
       (All-map (ReadsLine line) Position (places_of line c.positions) (All-places_of line c.positions))
 
   pub pin_is_destination : (line gate pin : ℕ) → slice_get (pins_of c gate) pin ≡ Some line → Contains (destinations c line) (Pin gate pin)
-  unfolding destinations pins_reading
+  unfolding destinations pins_at
   pin_is_destination line gate pin e =
       let g = gate_with c gate pin line e in
       let at = driven c gate g.0 g.1 in
-      Contains-append_left (flat_map (pins_reading line) (gate_lines c)) (map Position (places_of line c.positions)) (Pin gate pin)
-      (Contains-flat_map (pins_reading line) (gate_lines c) gate (Pin gate pin) (Contains-range c.sources (length c.gates) gate at.0 at.1)
+      Contains-append_left (flat_map (pins_at c line) (gate_lines c)) (map Position (places_of line c.positions)) (Pin gate pin)
+      (Contains-flat_map (pins_at c line) (gate_lines c) gate (Pin gate pin) (Contains-range c.sources (length c.gates) gate at.0 at.1)
       (Contains-map (Pin gate) (places_of line (pins_of c gate)) pin (Contains-places_of line pin (pins_of c gate) e)))
 
   pub position_is_destination : (line at : ℕ) → slice_get c.positions at ≡ Some line → Contains (destinations c line) (Position at)
-  unfolding destinations pins_reading
+  unfolding destinations pins_at
   position_is_destination line at e =
-      Contains-append_right (flat_map (pins_reading line) (gate_lines c)) (map Position (places_of line c.positions)) (Position at)
+      Contains-append_right (flat_map (pins_at c line) (gate_lines c)) (map Position (places_of line c.positions)) (Position at)
       (Contains-map Position (places_of line c.positions) at (Contains-places_of line at c.positions e))

@@ -1,6 +1,6 @@
 //! The forest of a circuit's faults, in which each fault leads to one that is equal to it.
 
-ghost use Rattle.std.specs.Prelude.{◌≡◌, ◌<◌, ◌↔◌, ◌==◌, ℕ, IfOk, IsTrue, length};
+ghost use Rattle.std.specs.Prelude.{◌≡◌, ◌<◌, ◌↔◌, ◌==◌, IfOk, IsTrue, length};
 ghost use Rattle.net_model.specs.Answer.{AreEqual};
 ghost use Rattle.net_model.specs.Circuit.{Circuit};
 ghost use Rattle.net_model.specs.FaultList.{faults as faults_of, fault_numbered};

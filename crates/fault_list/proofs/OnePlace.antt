@@ -98,7 +98,7 @@ module _ (c : Circuit) where
   gate_of (Pin gate pin) = gate
   gate_of (Position at) = 0
 
-  pins_at : ℕ → ℕ → List Site
+  unfoldable pub pins_at : ℕ → ℕ → List Site
   pins_at line gate = map (Pin gate) (places_of line (pins_of c gate))
 
   pins_of_line : ℕ → List Site

@@ -1,6 +1,6 @@
 -- Two numbers, or two faults, of one circuit.
 use Rattle.std.proofs.Common.{◌≡◌, ◌∙◌, ℕ, zero, suc, ◌+◌, ◌<◌, Bool, true, false, List, length, get_or, refl, sym, ap, arith}
-use Rattle.std.specs.Prelude.{Option, None, Some, unwrap_or, slice_get, flat_map, is_some, ◌||◌}
+use Rattle.std.specs.Prelude.{Some, unwrap_or, slice_get, flat_map, is_some, ◌||◌}
 use Rattle.std.specs.List.{enumerate_from}
 use Rattle.std.proofs.lemmas.List.{get_or-map}
 use Rattle.std.proofs.lemmas.List.FromFn.{length-enumerate_from, get_or-enumerate_from}
@@ -11,6 +11,7 @@ use Rattle.net_model.specs.Fault.{stuck_position, readings}
 use Rattle.net_model.specs.Answer.{Agrees, bit_at, shown_bits}
 use Rattle.net_model.specs.FaultList.{sites_of_line, faults}
 use Rattle.net_model.specs.Scope.{is_split, is_reached}
+use Rattle.net_model.proofs.Elements.{none_is}
 use Rattle.net_model.proofs.ScopeLaws.{same_unsplit}
 use Rattle.fault_list.proofs.OnePlace.{one_place, Apart-sites}
 use Rattle.fault_list.proofs.Stuck.{site_of, never_free}
@@ -41,10 +42,6 @@ or_none : (a b d : Bool) → ((a || b) || d) ≡ false → (a ≡ false) × (b �
 or_none true b d e = cc
 or_none false true d e = cc
 or_none false false d e = (refl, refl, e)
-
-none_is : (o : Option Bool) → is_some o ≡ false → o ≡ None
-none_is None e = refl
-none_is (Some b) e = cc
 
 -- A position that isn't reached shows the same under both faults.
 pub same_unreached : (c : Circuit) (w : IsCircuit c) (f g : Fault) (v x y : List Bool) → Agrees c f v x → Agrees c g v y → (at : ℕ) → at < length c.positions → is_reached c f g at ≡ false

@@ -6,6 +6,7 @@ use Rattle.std.specs.List.{list_any}
 use Rattle.std.proofs.lemmas.Bool.{cases_eq, cases_lt}
 use Rattle.std.proofs.lemmas.List.{get_or-set_same, get_or-set_other, length-set, take_more, take_all}
 use Rattle.std.proofs.lemmas.List.Elements.{Contains-push_cases}
+use Rattle.std.proofs.Math.Bool.{or-false}
 use Rattle.net_model.specs.declared.fault.Fault.{Fault}
 use Rattle.net_model.specs.Circuit.{Circuit, IsCircuit, IsAcyclic, line_count, pins_of, Feeds}
 use Rattle.net_model.specs.Order.{IsOrder}
@@ -63,17 +64,13 @@ pub record SplitSoFar (c : Circuit) (f g : Fault) (order : List ℕ) (i : ℕ) (
   pub sources : (line : ℕ) → line < c.sources → bit_at marks line ≡ is_split c f g line
   pub gates : (line : ℕ) → Contains (take i order) line → bit_at marks line ≡ is_split c f g line
 
-or_false : (b : Bool) → b ≡ (b || false)
-or_false true = refl
-or_false false = refl
-
 module _ (c : Circuit) (w : IsCircuit c) (f g : Fault) (order : List ℕ) (is : IsOrder c order) where
   pub split_none : (marks : List Bool) → AreMarks (begins_at f g) (line_count c) marks → SplitSoFar c f g order 0 marks
   split_none marks first = record {
     whole = first.whole;
     sources = λ line h.
         first.each line (omega arith)
-        ∙ (or_false (begins_at f g line)
+        ∙ (sym (or-false (begins_at f g line))
         ∙ (ap (λ pins. begins_at f g line || list_any (is_split c f g) pins) (sym (no_pins c line h)) ∙ sym (split_step c w.acyclic f g line)));
     gates = λ line m. absurd (omega (arith, m.1));
   }

@@ -1,10 +1,9 @@
 //! The names of faults.
 
-ghost use Rattle.std.specs.Prelude.{◌≡◌, ◌<◌, ◌++◌, ◌∷◌, IfOk, OnOk, decimal, false, length, slice_index, slice_index_or};
+ghost use Rattle.std.specs.Prelude.{◌≡◌, ◌<◌, ◌++◌, ◌∷◌, IfOk, OnOk, decimal, false, length, slice_index};
 ghost use Rattle.std.specs.List.{join_with_byte};
 ghost use Rattle.net_model.specs.Circuit.{line_count, pins_of};
 ghost use Rattle.net_model.specs.Fault.{IsFaultOf};
-ghost use Rattle.net_model.specs.BitText.{bit_digit};
 ghost use Rattle.fault_list.specs.Names.{fault_name, site_fields};
 
 use net_model::{Circuit, Design, Fault, Site};

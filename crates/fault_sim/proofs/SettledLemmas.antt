@@ -16,12 +16,12 @@ use Rattle.net_model.proofs.Elements.{true_false, none_in}
 use Rattle.net_model.proofs.FirstChanged.{stem_elsewhere, pin_elsewhere}
 use Rattle.word_sim.specs.declared.lanes.TheConstants.{LANES}
 use Rattle.word_sim.specs.GoodSim.{GoodSim}
-use Rattle.event_queue.specs.Pending.{is_pending}
+use Rattle.event_queue.specs.Pending.{is_pending, IsIdle}
 use Rattle.fault_sim.specs.Rows.{IsFalse, AreFalseBut}
 use Rattle.net_model.specs.Wiring.{Wiring, IsWiring}
 use Rattle.net_model.specs.Gate.{inverted}
 use Rattle.fault_sim.specs.FaultyLanes.{faulty_bits, vector_at, IsFreeLane, IsFalsePast, IsSettledLine}
-use Rattle.fault_sim.specs.Events.{IsIdle, AreSettled, AreIdleSettled, AreIdleSettledBut, AreFalsePast}
+use Rattle.fault_sim.specs.Events.{AreSettled, AreIdleSettled, AreIdleSettledBut, AreFalsePast}
 use Rattle.fault_sim.proofs.FaultyLemmas.{length-faulty, faulty_at}
 
 -- ---- bits

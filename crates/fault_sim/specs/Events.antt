@@ -1,5 +1,5 @@
 -- A fault under way: the gates that wait, and the lines that are settled.
-use Rattle.std.specs.Prelude.{◌≡◌, ◌≢◌, ℕ, ◌<◌, ◌≤◌, Bool, false, List, [], length, slice_index, slice_index_or, Option, None, Some, unwrap_or}
+use Rattle.std.specs.Prelude.{◌≡◌, ◌≢◌, ℕ, ◌<◌, ◌≤◌, Bool, List, [], length, slice_index, slice_index_or, Option, None, Some, unwrap_or}
 use Rattle.net_model.specs.declared.fault.Site.TheVariants.{Stem, Pin, Position}
 use Rattle.net_model.specs.declared.fault.Fault.{Fault}
 use Rattle.net_model.specs.declared.fault.Fault.TheVariants.{Free, Stuck}
@@ -7,14 +7,10 @@ use Rattle.net_model.specs.Gate.{inverted}
 use Rattle.net_model.specs.Fault.{stuck_position}
 use Rattle.net_model.specs.Circuit.{Circuit, line_count}
 use Rattle.net_model.specs.Answer.{bit_at}
-use Rattle.event_queue.specs.Pending.{is_pending}
+use Rattle.event_queue.specs.Pending.{IsIdle}
 use Rattle.word_sim.specs.GoodSim.{GoodSim}
 use Rattle.fault_sim.specs.Rows.{IsFalse}
 use Rattle.fault_sim.specs.FaultyLanes.{faulty_bits, IsFreeLane, IsFalsePast, IsSettledLine}
-
--- The gate of the line doesn't wait.
-abbrev pub IsIdle : List ℕ → List Bool → ℕ → Type 0
-IsIdle order queue line = (place : ℕ) → place < length order → slice_index order place ≡ line → is_pending queue place ≡ false
 
 module _ (good : GoodSim) (f : Fault) where
   -- Each line has the bit that its gate and the fault give it, in every live lane.

@@ -7,6 +7,7 @@ use Rattle.std.proofs.lemmas.List.{append_assoc, map-append, drop-append-le, get
 use Rattle.std.proofs.lemmas.List.Folds.{list_any-append}
 use Rattle.std.proofs.lemmas.List.Elements.{All-append, All-map, All-head, All-tail}
 use Rattle.std.proofs.lemmas.Option.{get_or_from_slice_get, slice_get_within}
+use Rattle.std.specs.Cmp.Derive.{one_truth}
 use Rattle.net_model.specs.declared.fault.Fault.{Fault}
 use Rattle.net_model.specs.declared.fault.Fault.TheVariants.{Free}
 use Rattle.net_model.specs.Circuit.{Circuit, IsCircuit}
@@ -14,7 +15,6 @@ use Rattle.net_model.specs.Fault.{IsFaultOf}
 use Rattle.net_model.specs.FaultList.{faults, fault_count, fault_numbered}
 use Rattle.net_model.specs.Answer.{bit_at, IsAnswer, AreEqual}
 use Rattle.net_model.proofs.Listed.{listed as all_stand}
-use Rattle.class_refine.proofs.Ranges.{same_tests}
 use Rattle.word_sim.specs.declared.lanes.TheConstants.{LANES}
 use Rattle.word_sim.specs.GoodSim.{GoodSim, vectors_of}
 use Rattle.fault_sim.specs.FaultyLanes.{vector_at}
@@ -60,7 +60,7 @@ notes_of sim number listed within exactly = record {
   numbers = All-map (λ (note : Note). note.number ≡ number) (note_at sim number) listed (λ k d h. refl);
   positions = All-map (λ (note : Note). note.position < length sim.circuit.positions) (note_at sim number) listed within;
   noted = λ position lane h few.
-      same_tests (is_noted (map (note_at sim number) listed) lane number position) (bit_at (row_at sim position) lane) (any_row sim number lane position listed)
+      one_truth (is_noted (map (note_at sim number) listed) lane number position) (bit_at (row_at sim position) lane) (any_row sim number lane position listed)
       (λ e. row_any sim number lane position listed ((exactly position h).1 (lane, few, e)) e);
 }
 

@@ -4,9 +4,10 @@ use Rattle.std.specs.Prelude.{Option, Some, filter, find, position, unwrap_or, A
 use Rattle.std.specs.Option.{option_map_or}
 use Rattle.std.specs.List.{flat_map, range_with_len}
 use Rattle.std.proofs.lemmas.List.Elements.{All-head, All-tail}
+use Rattle.std.specs.Cmp.Derive.{one_truth}
 use Rattle.net_model.specs.ClassTable.{ClassTable, number_range, class_count, class_at, members, representative, answer_at, stay_together, piece_lowest, begins_class, new_lowest, class_after, refined_table, cuts_class}
 use Rattle.class_refine.specs.Fields.{IsWhole}
-use Rattle.class_refine.proofs.Ranges.{same_tests, filter_where, map_where, range_below}
+use Rattle.class_refine.proofs.Ranges.{filter_where, map_where, range_below}
 use Rattle.class_refine.proofs.Pieces.{stays, staying, members-All}
 use Rattle.class_refine.proofs.Refined.{sound_from, numbers-refined, class-refined, same_after, from_cuts, whole-refined}
 use Rattle.class_refine.proofs.Cut.{none_added}
@@ -29,7 +30,7 @@ TellSame t row other = (m n : ℕ) → m < length t.class_of → n < length t.cl
 module _ (t : ClassTable) (row other : List (List Bool)) (same : TellSame t row other) where
   same_stay : (m n : ℕ) → m < length t.class_of → n < length t.class_of → stay_together t row m n ≡ stay_together t other m n
   same_stay m n hm hn =
-      same_tests (stay_together t row m n) (stay_together t other m n)
+      one_truth (stay_together t row m n) (stay_together t other m n)
       (λ e. let parts = stays t row m n e in staying t other m n parts.0 ((same m n hm hn parts.0).0 parts.1))
       (λ e. let parts = stays t other m n e in staying t row m n parts.0 ((same m n hm hn parts.0).1 parts.1))
 

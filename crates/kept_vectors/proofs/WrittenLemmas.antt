@@ -3,6 +3,7 @@ use Rattle.std.proofs.Common.{◌≡◌, ◌≢◌, ◌∙◌, ℕ, ◌<◌, ◌
 use Rattle.std.proofs.lemmas.Bool.{cases_eq, eq-eqb, ne_eqb}
 use Rattle.std.proofs.lemmas.List.{length-set, get_or-set_same, get_or-set_other}
 use Rattle.std.proofs.lemmas.List.Folds.{list_any_more}
+use Rattle.std.proofs.Math.Bool.{and-true, and-false}
 use Rattle.net_model.specs.Answer.{bit_at}
 use Rattle.kept_vectors.specs.declared.notes.Note.{Note}
 use Rattle.kept_vectors.specs.Notes.{has_lane, is_noted, bit_in, AreWithin, HaveSamePlaces}
@@ -11,14 +12,6 @@ use Rattle.kept_vectors.specs.Notes.{has_lane, is_noted, bit_in, AreWithin, Have
 pub record IsWritten (note : Note) (lane : ℕ) (bit : Bool) (row new : List (List Bool)) : Type 0 where
   pub places : HaveSamePlaces row new
   pub bits : (number position : ℕ) → bit_in new number position ≡ cond (has_lane lane number position note) bit (bit_in row number position)
-
-and_on : (x : Bool) → x ≡ (x && true)
-and_on true = refl
-and_on false = refl
-
-and_off : (x : Bool) → (x && false) ≡ false
-and_off true = refl
-and_off false = refl
 
 module _ (note : Note) (lane : ℕ) (bit : Bool) (row new : List (List Bool)) where
   abbrev number : ℕ
@@ -65,13 +58,13 @@ module _ (note : Note) (lane : ℕ) (bit : Bool) (row new : List (List Bool)) wh
           | inr ne ↦ ap length (row_other n ne)
         ];
       };
-      bits = λ n p. bit_written n p ∙ ap (λ b. cond b bit (bit_in row n p)) (and_on (eqb number n && eqb position p) ∙ ap (λ l. eqb number n && eqb position p && l) on);
+      bits = λ n p. bit_written n p ∙ ap (λ b. cond b bit (bit_in row n p)) (sym (and-true (eqb number n && eqb position p)) ∙ ap (λ l. eqb number n && eqb position p && l) on);
     })
 
   pub note_left : false ≡ bit_at note.lanes lane → new ≡ row → IsWritten note lane bit row new
   note_left off is = subst (IsWritten note lane bit row) (sym is) (record {
     places = record { count = refl; widths = λ n. refl };
-    bits = λ n p. sym (ap (λ b. cond b bit (bit_in row n p)) (ap (λ l. eqb number n && eqb position p && l) (sym off) ∙ and_off (eqb number n && eqb position p)));
+    bits = λ n p. sym (ap (λ b. cond b bit (bit_in row n p)) (ap (λ l. eqb number n && eqb position p && l) (sym off) ∙ and-false (eqb number n && eqb position p)));
   })
 
 module _ (notes : List Note) (i : ℕ) (note : Note) (h : i < length notes) (is : note ≡ get_or notes i note) where

@@ -1,6 +1,6 @@
 //! The vectors of a cube: some sources have a bit, and the others are free.
 
-ghost use Rattle.std.specs.Prelude.{◌≡◌, ◌<◌, ℕ, List, Bool, [], ◌∷◌, All, Contains, OnOk, OnErr, length};
+ghost use Rattle.std.specs.Prelude.{◌≡◌, ◌<◌, List, Bool, [], ◌∷◌, All, Contains, OnOk, OnErr, length};
 ghost use Rattle.net_model.specs.FaultList.{fault_count};
 ghost use Rattle.class_refine.specs.Fields.{IsWhole};
 ghost use Rattle.kept_vectors.specs.Cube.{IsOfCube};

@@ -2,7 +2,7 @@
 
 ghost use Rattle.kept_vectors.specs.Spans.{lane_notes, ArePartsOf};
 ghost use Rattle.net_model.specs.Answer.{bit_at};
-ghost use Rattle.std.specs.Prelude.{◌≡◌, ◌≤◌, ◌<◌, ◌++◌, [], ◌∷◌, if◌then◌else◌, nat_lt, filter, IfOk, OnOk};
+ghost use Rattle.std.specs.Prelude.{◌≡◌, ◌<◌, ◌++◌, [], ◌∷◌, if◌then◌else◌, nat_lt, filter, IfOk, OnOk};
 
 use crate::notes::Note;
 use std::alloc::{AllocError, Global};

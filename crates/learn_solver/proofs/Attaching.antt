@@ -12,12 +12,12 @@ use Rattle.clause_pool.specs.Partial.{IsQuiet, IsSatisfied}
 use Rattle.clause_pool.specs.Proper.{IsProper}
 use Rattle.clause_pool.proofs.Literals.{same_or_opposite}
 use Rattle.pair_miter.specs.Miter.{literal_bit, is_satisfied_by, is_model}
-use Rattle.solver_trail.specs.Assignment.{Assignment, IsTrail, held}
+use Rattle.solver_trail.specs.Assignment.{Assignment, IsTrail, held, no_literal}
 use Rattle.solver_trail.specs.Trail.{TrailState, Fits, Attaches, empty_trail, attached_numbers}
+use Rattle.solver_trail.proofs.Held.{held_at}
 use Rattle.learn_solver.specs.Decisions.{IsWhole}
 use Rattle.learn_solver.specs.Ready.{IsReady}
 use Rattle.learn_solver.proofs.Levels.{member_at}
-use Rattle.learn_solver.proofs.Falsity.{held_at}
 
 -- the first clauses are attached, and no literal is set
 pub record IsAttaching (trail : TrailState) (clauses : List Clause) (variables at : ℕ) : Type 0 where
@@ -56,8 +56,8 @@ quiet_satisfied a trail all clause inside (inr t) =
     let set = all t.first.variable b.0 b.1 in
     let p = member_at a trail set.0 set.1 in
     elim (same_or_opposite set.0.literal t.first set.2) [
-      | inl same ↦ absurd (t.first_undetermined.not_held (held_at a p.0 t.first p.1 (ap (λ s. s.literal) p.2 ∙ same)))
-      | inr other ↦ absurd (t.first_undetermined.opposite_not_held (held_at a p.0 (opposite t.first) p.1 (ap (λ s. s.literal) p.2 ∙ other.0)))
+      | inl same ↦ absurd (t.first_undetermined.not_held (held_at a.literals p.0 no_literal t.first p.1 (ap (λ s. s.literal) p.2 ∙ same)))
+      | inr other ↦ absurd (t.first_undetermined.opposite_not_held (held_at a.literals p.0 no_literal (opposite t.first) p.1 (ap (λ s. s.literal) p.2 ∙ other.0)))
     ]
 
 pub all_satisfied : (a : Assignment) → IsTrail a → IsWhole a → (clauses : List Clause) → All (IsProper a.variables) clauses → All (IsQuiet (held a)) clauses → All (IsSatisfied (held a)) clauses

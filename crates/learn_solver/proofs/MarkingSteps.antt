@@ -7,8 +7,8 @@ use Rattle.std.proofs.lemmas.List.Elements.{Contains-get_or}
 use Rattle.net_model.specs.Answer.{bit_at}
 use Rattle.clause_pool.specs.Literal.{Literal}
 use Rattle.clause_pool.specs.Clauses.{Clause}
-use Rattle.solver_trail.specs.Assignment.{Assignment, IsTrail}
-use Rattle.learn_solver.specs.Places.{no_literal, set_at}
+use Rattle.solver_trail.specs.Assignment.{Assignment, IsTrail, no_literal}
+use Rattle.learn_solver.specs.Places.{set_at}
 use Rattle.learn_solver.specs.Marks.{MarksClause}
 use Rattle.learn_solver.specs.Walk.{open_count, IsSetBefore, HasVariable}
 use Rattle.learn_solver.proofs.Counts.{one_if, open_one}

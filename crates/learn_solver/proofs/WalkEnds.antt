@@ -11,8 +11,9 @@ use Rattle.clause_pool.specs.Clauses.{Clause}
 use Rattle.clause_pool.specs.Partial.{IsQuiet}
 use Rattle.clause_pool.proofs.Numbered.{all_at_number}
 use Rattle.pair_miter.specs.ChainView.{ChainView}
-use Rattle.solver_trail.specs.Assignment.{Assignment, IsTrail, held}
+use Rattle.solver_trail.specs.Assignment.{Assignment, IsTrail, held, no_literal}
 use Rattle.solver_trail.specs.Trail.{TrailState}
+use Rattle.solver_trail.proofs.Held.{held_at}
 use Rattle.learn_solver.specs.Places.{set_at, IsFalseAt, IsFalseOf, up_to}
 use Rattle.learn_solver.specs.Ready.{IsReady, IsConflict}
 use Rattle.learn_solver.specs.Walk.{AreClear, open_count, IsSetBefore, IsLeft, IsKept, IsWalk, HasVariable}
@@ -21,7 +22,7 @@ use Rattle.learn_solver.specs.Learned.{IsLower, IsAsserting, IsLearned}
 use Rattle.learn_solver.proofs.Levels.{same_place, level_at, levels_rise}
 use Rattle.learn_solver.proofs.Counts.{open_some, open_has}
 use Rattle.learn_solver.proofs.Clearing.{false_at}
-use Rattle.learn_solver.proofs.Falsity.{false_somewhere, place_up_to, same_false, consistent_held, held_at, up_to_place}
+use Rattle.learn_solver.proofs.Falsity.{false_somewhere, place_up_to, same_false, consistent_held, up_to_place}
 use Rattle.learn_solver.proofs.Resolvents.{chain_start}
 
 module _ (trail : TrailState) (clauses : List Clause) (ready : IsReady trail clauses) (number : ℕ) (c : IsConflict trail clauses number) where
@@ -36,7 +37,7 @@ module _ (trail : TrailState) (clauses : List Clause) (ready : IsReady trail cla
       by : IsQuiet (up_to trail.assignment.literals (trail.assignment.level - 1)) c.clause → (l : Literal) × Contains c.clause l × IsFalseOf trail.assignment trail.assignment.level l
       by (inl s) =
           let p = up_to_place trail.assignment (trail.assignment.level - 1) s.literal s.is_held in
-          absurd (consistent_held trail.assignment ready.is_trail s.literal (held_at trail.assignment p.0 s.literal p.1 p.2) (All-contains (λ (m : Literal). Contains (held trail.assignment) (opposite m)) c.clause s.literal c.false_clause s.inside))
+          absurd (consistent_held trail.assignment ready.is_trail s.literal (held_at trail.assignment.literals p.0 no_literal s.literal p.1 p.2) (All-contains (λ (m : Literal). Contains (held trail.assignment) (opposite m)) c.clause s.literal c.false_clause s.inside))
       by (inr t) =
           let f = false_literal t.first t.first_inside in (
             t.first,

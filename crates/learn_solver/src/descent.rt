@@ -1,6 +1,6 @@
 //! Down by decisions and propagation.
 
-ghost use Rattle.std.specs.Prelude.{◌≡◌, ◌<◌, ◌≤◌, All, MatchOption, length};
+ghost use Rattle.std.specs.Prelude.{◌≡◌, ◌<◌, All, MatchOption};
 ghost use Rattle.clause_pool.specs.Partial.{IsQuiet};
 ghost use Rattle.solver_trail.specs.Assignment.{IsTrail, held};
 ghost use Rattle.learn_solver.specs.declared.aim.Aim.TheVariants as Aim;

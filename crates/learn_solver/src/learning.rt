@@ -1,6 +1,6 @@
 //! What is learned is added to the pool, and propagation goes over it from the back-jump level on.
 
-ghost use Rattle.std.specs.Prelude.{◌≡◌, ◌+◌, ◌<◌, ◌^◌, ◌∷◌, ◌++◌, [], IfOk, OnOk, OnErr, length};
+ghost use Rattle.std.specs.Prelude.{◌≡◌, ◌+◌, ◌<◌, ◌^◌, ◌∷◌, ◌++◌, [], OnOk, length};
 ghost use Rattle.clause_pool.specs.Clauses.{BeginsWith};
 ghost use Rattle.clause_pool.specs.Proper.{HasNoVariableTwice};
 ghost use Rattle.learn_solver.specs.Ready.{IsReady};
@@ -26,24 +26,8 @@ pub(crate) fn learn(
     ensures variables { trail.new.assignment.variables ≡ trail.old.assignment.variables }
     ensures begins { BeginsWith pool.new.clauses pool.old.clauses }
 {
-    let number = add(pool, clause)?;
+    let number = pool.add(clause)?;
     longer_pool_fits();
     trail.back_to(back);
     trail.attach(pool, number)
-}
-
-// Adds a clause to the pool, which grows where it has no room.
-fn add(pool: &mut Pool, clause: &[Lit]) -> Result<u32, AllocError>
-    requires { length pool.old.clauses + 1 < 2 ^ 32 }
-    ensures ok { OnOk result (pool.new.clauses ≡ pool.old.clauses ++ clause.now ∷ []) }
-    ensures number { IfOk result (λ number. number ≡ length pool.new.clauses) }
-    ensures err { OnErr result (pool.new.clauses ≡ pool.old.clauses) }
-{
-    if pool.spare_clauses() == 0 || pool.spare_literals() < clause.len() {
-        pool.grow(1, clause.len())?;
-    }
-    match pool.push(clause) {
-        Ok(number) => Ok(number),
-        Err(_full) => unreachable!(),
-    }
 }

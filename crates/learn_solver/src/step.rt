@@ -1,6 +1,6 @@
 //! One step of a search: a descent, and what it teaches.
 
-ghost use Rattle.std.specs.Prelude.{◌≡◌, ◌+◌, ◌<◌, ◌^◌, IfOk, length};
+ghost use Rattle.std.specs.Prelude.{◌+◌, ◌<◌, ◌^◌, IfOk, length};
 ghost use Rattle.clause_pool.specs.Clauses.{BeginsWith};
 ghost use Rattle.pair_miter.specs.Variables.{variable_count};
 ghost use Rattle.learn_solver.specs.Decisions.{IsAim};

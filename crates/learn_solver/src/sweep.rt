@@ -1,7 +1,7 @@
 //! A sweep from the faults outward: whether the two copies of a line can differ, line by line. Where they can't, the clauses
 //! that are learned say so, and what stands on them later is short.
 
-ghost use Rattle.std.specs.Prelude.{◌≡◌, ◌+◌, ◌<◌, ◌^◌, All, IfOk, length};
+ghost use Rattle.std.specs.Prelude.{◌+◌, ◌<◌, ◌^◌, All, IfOk, length};
 ghost use Rattle.clause_pool.specs.Clauses.{BeginsWith};
 ghost use Rattle.pair_miter.specs.SplitLines.{AreVariables};
 ghost use Rattle.pair_miter.specs.Variables.{variable_count};

@@ -1,6 +1,6 @@
 -- The marks that are given: with evidence for one number more, and after one pattern more.
 use Rattle.std.proofs.Common.{◌≡◌, ℕ, ◌<◌, ◌≤◌, Bool, true, false, cond, List, [], ◌∷◌, ◌++◌, length, get_or, set, replicate, Option, Some, None, refl, sym, ap, ap₂, subst, ◌∙◌, inl, inr, arith}
-use Rattle.std.specs.Prelude.{◌==◌, ◌&&◌, is_none, is_some, option_and_then, All, IsSome, MatchOption, if◌then◌else◌}
+use Rattle.std.specs.Prelude.{◌==◌, ◌&&◌, is_none, option_and_then, All, IsSome, MatchOption, if◌then◌else◌}
 use Rattle.std.specs.Option.{option_map, option_or}
 use Rattle.std.specs.List.{find}
 use Rattle.std.proofs.lemmas.Bool.{cases_eq, cases_lt, eqb-true, eq-eqb, ne_eqb}
@@ -24,10 +24,6 @@ use Rattle.member_marks.specs.Given.{given_to, given_mark, AreGiven, AreAllMarke
 some_is : {X : Type 0} (o : Option X) → IsSome o → is_none o ≡ false
 some_is None some = absurd (cc)
 some_is (Some x) some = refl
-
-pub none_is : {X : Type 0} (o : Option X) → is_some o ≡ false → o ≡ None
-none_is None none = refl
-none_is (Some x) none = absurd (cc)
 
 no_some : {X : Type 0} (o : Option X) → IsSome o → o ≡ None → ⊥
 no_some None some none = cc

@@ -1,6 +1,6 @@
 -- Tests of the elements of a list, and the elements that pass.
 use Rattle.std.proofs.Common.{◌≡◌, ◌∙◌, ℕ, zero, suc, ◌≤◌, ◌⊎◌, inl, inr, refl, sym, ap, arith, subst}
-use Rattle.std.specs.Prelude.{Bool, true, false, List, [], ◌∷◌, length, map, filter, flat_map, cond, None, get_or, replicate, slice_get, ◌||◌, Contains, All, Some, ◌++◌, find}
+use Rattle.std.specs.Prelude.{Bool, true, false, Option, List, [], ◌∷◌, length, map, filter, flat_map, cond, None, is_some, get_or, replicate, slice_get, ◌||◌, Contains, All, Some, ◌++◌, find}
 use Rattle.std.specs.List.{list_all, list_any}
 use Rattle.std.proofs.lemmas.Bool.{and_from, and_parts, cases_Bool}
 use Rattle.std.proofs.lemmas.List.Elements.{All-contains, All-contains_itself, All-filter, Contains-append_left, Contains-append_right, filter_passes, All-tail}
@@ -8,10 +8,15 @@ use Rattle.std.proofs.lemmas.List.Folds.{list_any_at, Any-from_list_any}
 use Rattle.std.proofs.lemmas.List.{length-append, get_or_append_left}
 use Rattle.std.proofs.lemmas.List.Sums.{length-filter, count_by-le-length}
 use Rattle.std.proofs.lemmas.Option.{same_Some}
+use Rattle.net_model.specs.Gate.{odd_ones}
 use Rattle.net_model.proofs.Copies.{later}
 
 pub true_false : {P : Type 0} (b : Bool) → b ≡ true → b ≡ false → P
 true_false b t f = absurd (let e : ◌≡◌ {A = Bool} true false = sym t ∙ f in cc)
+
+pub none_is : {A : Type 0} (o : Option A) → is_some o ≡ false → o ≡ None
+none_is None none = refl
+none_is (Some x) none = cc
 
 -- ---- elements
 
@@ -44,6 +49,10 @@ Contains-flat_map f (z ∷ zs) x y m n = elim (first_or_later z zs x m) [
   | inl here ↦ Contains-append_left (f z) (flat_map f zs) y (subst (λ k. Contains (f k) y) (sym here) n)
   | inr more ↦ Contains-append_right (f z) (flat_map f zs) y (Contains-flat_map f zs x y more n)
 ]
+
+pub odd_one : (bit : Bool) → odd_ones (bit ∷ []) ≡ bit
+odd_one true = refl
+odd_one false = refl
 
 -- ---- what holds of all elements
 

@@ -3,7 +3,7 @@ use Rattle.std.proofs.Common.{◌≡◌, ◌≢◌, ◌∙◌, ℕ, zero, suc, �
 use Rattle.std.specs.Prelude.{Contains, IsPermutation, nat_lt}
 use Rattle.std.specs.List.{list_all}
 use Rattle.std.proofs.lemmas.Bool.{cases_lt, cases_Bool, lt-ltb, le-ltb, ltb-true, eqb-true, eq-eqb, or_cases, false_from_ne_true, or_left, or_right}
-use Rattle.std.proofs.lemmas.List.{get_or_default, append-nil}
+use Rattle.std.proofs.lemmas.List.{get_or_default, append-nil, nil_from_length}
 use Rattle.std.proofs.lemmas.List.Elements.{Contains-append_cases}
 use Rattle.std.proofs.lemmas.List.FromFn.{length-range_with_len}
 use Rattle.std.proofs.lemmas.List.Sorted.{IsPermutation-refl, IsPermutation-trans, IsPermutation-sym, IsPermutation-middle, Contains-permutation, length_permutation}
@@ -146,14 +146,10 @@ module _ (c : Circuit) (fits : FitsTogether c) (waits order : List ℕ) (is : Is
 
 -- ---- the order, where no gate is left
 
-no_more : (xs : List ℕ) → length xs ≡ 0 → xs ≡ []
-no_more [] e = refl
-no_more (x ∷ xs) e = absurd (omega arith)
-
 pub whole_order : (c : Circuit) (waits order : List ℕ) → IsQueue c order waits order → length c.gates ≤ length order → IsOrder c order
 whole_order c waits order is long =
     let all = completed order (gate_lines c) is.ready.distinct (λ line m. Contains-range c.sources (length c.gates) line (is.gates line m).0 (is.gates line m).1) in
-    let none : all.0 ≡ [] = no_more all.0 (omega (arith, long, length_permutation (gate_lines c) (order ++ all.0) all.1, length-append order all.0, length-range_with_len c.sources (length c.gates))) in
+    let none : all.0 ≡ [] = nil_from_length all.0 (omega (arith, long, length_permutation (gate_lines c) (order ++ all.0) all.1, length-append order all.0, length-range_with_len c.sources (length c.gates))) in
     let gates : IsPermutation (gate_lines c) order = subst (IsPermutation (gate_lines c)) (ap (λ xs. order ++ xs) none ∙ append-nil order) all.1 in
     record {
       whole = IsPermutation-sym (gate_lines c) order gates;

@@ -1,6 +1,6 @@
 //! The users of each line, one after another.
 
-ghost use Rattle.std.specs.Prelude.{◌≡◌, ◌<◌, ◌^◌, ◌∷◌, [], ◌++◌, All, IfOk, OnOk, length, map, replicate, slice_index, slice_index_or, slice_set};
+ghost use Rattle.std.specs.Prelude.{◌≡◌, ◌<◌, ◌^◌, ◌∷◌, [], ◌++◌, All, IfOk, OnOk, length, map, replicate, slice_index, slice_set};
 ghost use Rattle.net_model.specs.Topological.{users_at, AddsUser};
 
 use std::alloc::{AllocError, Global};

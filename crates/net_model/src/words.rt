@@ -24,6 +24,7 @@ fn word_or_zero(words: &[u64], place: usize) -> u64
 }
 
 /// The lowest bits of a word, so many, and 0 in place of the others.
+#[inline]
 pub fn low_bits(word: u64, count: usize) -> u64
     ensures { (k : ℕ) → k < 64 → bit_of result k ≡ (nat_lt k count && bit_of word k) }
 {
@@ -35,6 +36,7 @@ pub fn low_bits(word: u64, count: usize) -> u64
 }
 
 /// A word with one bit set or cleared.
+#[inline]
 pub fn with_bit(word: u64, at: usize, bit: bool) -> u64
     requires { at < 64 }
     ensures { (k : ℕ) → k < 64 → bit_of result k ≡ (if k == at then bit else bit_of word k) }

@@ -13,13 +13,13 @@ use Rattle.net_model.specs.Fault.{stuck_stem, stuck_pin, readings}
 use Rattle.net_model.specs.Answer.{bit_at, shown_bits}
 use Rattle.net_model.specs.Scope.{is_split, is_relevant, is_reached, reached_positions}
 use Rattle.net_model.proofs.Copies.{later}
+use Rattle.net_model.specs.Gate.{inverted}
 use Rattle.pair_miter.specs.Variables.{fault_of, is_parity, line_variables, variables_below, line_variable, free_pins, gate_helpers, copy_helpers, line_helpers, helpers_below, first_helper, difference_variable, variable_count}
 use Rattle.pair_miter.specs.declared.side.Side.TheVariants.{First, Second}
 use Rattle.pair_miter.specs.declared.side.Side.{Side}
 use Rattle.pair_miter.specs.Rows.{variables}
 use Rattle.pair_miter.specs.Operand.{variable_of}
 use Rattle.pair_miter.specs.Miter.{operand_of, gate_operands, copy_bit}
-use Rattle.pair_miter.proofs.Bits.{flip}
 use Rattle.pair_miter.proofs.GateRows.{Carry, variable_bits, helper_bits, length-helper_bits}
 use Rattle.pair_miter.proofs.Places.{length-flat, bits_at}
 
@@ -120,13 +120,13 @@ module _ (c : Circuit) (f g : Fault) (x y : List Bool) where
       by false s = refl
 
   difference_values : ℕ → List Bool
-  difference_values at = if is_reached c f g at then flip (bit_at (shown_bits c f x) at) (bit_at (shown_bits c g y) at) ∷ [] else []
+  difference_values at = if is_reached c f g at then inverted (bit_at (shown_bits c f x) at) (bit_at (shown_bits c g y) at) ∷ [] else []
 
   length-difference_values : (at : ℕ) → length (difference_values at) ≡ (if is_reached c f g at then 1 else 0)
   unfolding difference_values
   length-difference_values at = by (is_reached c f g at)
     where
-      by : (b : Bool) → length (if b then flip (bit_at (shown_bits c f x) at) (bit_at (shown_bits c g y) at) ∷ [] else []) ≡ (if b then 1 else 0)
+      by : (b : Bool) → length (if b then inverted (bit_at (shown_bits c f x) at) (bit_at (shown_bits c g y) at) ∷ [] else []) ≡ (if b then 1 else 0)
       by true = refl
       by false = refl
 
@@ -238,7 +238,7 @@ module _ (c : Circuit) (f g : Fault) (x y : List Bool) where
 
   -- a difference variable carries the difference
   pub difference_at : (at : ℕ) → at < length c.positions → is_reached c f g at ≡ true
-      → bit_at assignment (difference_variable c f g at - 1) ≡ flip (bit_at (shown_bits c f x) at) (bit_at (shown_bits c g y) at)
+      → bit_at assignment (difference_variable c f g at - 1) ≡ inverted (bit_at (shown_bits c f x) at) (bit_at (shown_bits c g y) at)
   unfolding assignment all_differences difference_variable difference_values
   difference_at at h reached =
       let lines = variables_below c f g (line_count c) in
@@ -247,7 +247,7 @@ module _ (c : Circuit) (f g : Fault) (x y : List Bool) where
       let place : 1 + lines + helpers + below - 1 ≡ lines + (helpers + (below + 0)) = omega arith in
       let past_lines : lines + (helpers + (below + 0)) - lines ≡ helpers + (below + 0) = omega arith in
       let past_helpers : helpers + (below + 0) - helpers ≡ below + 0 = omega arith in
-      let here = ap (λ b. if b then flip (bit_at (shown_bits c f x) at) (bit_at (shown_bits c g y) at) ∷ [] else []) reached in
+      let here = ap (λ b. if b then inverted (bit_at (shown_bits c f x) at) (bit_at (shown_bits c g y) at) ∷ [] else []) reached in
       let same : 0 + at ≡ at = omega arith in
       let long = ap (λ n. length (difference_values n)) same ∙ ap length here in
       ap (bit_at (all_values ++ (all_parts ++ all_differences))) place

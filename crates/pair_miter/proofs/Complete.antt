@@ -6,7 +6,7 @@ use Rattle.std.proofs.lemmas.Bool.{and_from}
 use Rattle.net_model.specs.declared.gate.Gate.{Gate}
 use Rattle.net_model.specs.declared.gate.Kind.TheVariants.{Xor}
 use Rattle.net_model.specs.declared.fault.Fault.{Fault}
-use Rattle.net_model.specs.Gate.{odd_ones}
+use Rattle.net_model.specs.Gate.{odd_ones, inverted}
 use Rattle.net_model.specs.Circuit.{Circuit, IsCircuit, line_count, gate_at, Feeds}
 use Rattle.net_model.specs.Fault.{stuck_stem, stuck_pin, stuck_position}
 use Rattle.net_model.specs.Answer.{bit_at, Agrees, Separates, shown_bits}
@@ -26,7 +26,6 @@ use Rattle.pair_miter.specs.Rows.{variables}
 use Rattle.pair_miter.specs.Miter.{copy_clauses, line_clauses, shown_operand, difference_clauses, lines_part, differences_part, raw_clauses, miter, literal_bit, is_satisfied_by, is_model, copy_bit}
 use Rattle.pair_miter.specs.Laws.{HasModel}
 use Rattle.pair_miter.proofs.TidyAndFresh.{is_model-tidy}
-use Rattle.pair_miter.proofs.Bits.{flip}
 use Rattle.pair_miter.proofs.Clauses.{model_both, model_all, any_mapped}
 use Rattle.pair_miter.proofs.GateRows.{Carry, variable_bits, helper_bits, gate_rows-complete}
 use Rattle.pair_miter.proofs.CopyClauses.{operand_carries, copy_complete}
@@ -45,7 +44,7 @@ differing_place (false ∷ xs) (false ∷ ys) long differ = let rest = differing
 differing_place (true ∷ xs) (false ∷ ys) long differ = (0, omega arith, λ e. cc)
 differing_place (false ∷ xs) (true ∷ ys) long differ = (0, omega arith, λ e. cc)
 
-differ_flips : (a b : Bool) → a ≢ b → flip a b ≡ true
+differ_flips : (a b : Bool) → a ≢ b → inverted a b ≡ true
 differ_flips true true n = absurd (n refl)
 differ_flips true false n = refl
 differ_flips false true n = refl
@@ -133,7 +132,7 @@ module _ (c : Circuit) (w : IsCircuit c) (f g : Fault) (v x y : List Bool) (a : 
       gate_rows-complete bits Xor (difference_variable c f g at) 0 (shown_operand c f g at First ∷ shown_operand c f g at Second ∷ [])
       (λ parity. no_helpers bits (shown_operand c f g at First) (shown_operand c f g at Second))
       (difference_at c f g x y at h reached
-      ∙ ((λ i. flip (sym first i) (sym second i))
+      ∙ ((λ i. inverted (sym first i) (sym second i))
       ∙ (sym (odd_two (unwrap_or (stuck_position f at) (copy_bit c f g bits First line)) (unwrap_or (stuck_position g at) (copy_bit c f g bits Second line)))
       ∙ (λ i. odd_ones (sym (operand_carries c f g bits First (stuck_position f at) line) i ∷ sym (operand_carries c f g bits Second (stuck_position g at) line) i ∷ [])))))
 

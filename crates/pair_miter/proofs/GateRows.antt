@@ -12,15 +12,16 @@ use Rattle.net_model.specs.declared.operation.Fold.{Fold}
 use Rattle.net_model.specs.declared.operation.Fold.TheVariants.{AllOf, AnyOf, OddOf}
 use Rattle.net_model.specs.declared.operation.Operation.{Operation}
 use Rattle.net_model.specs.declared.operation.Operation.TheVariants.{Folded, Chosen}
-use Rattle.net_model.specs.Gate.{all_ones, some_one, odd_ones, chosen_bit, folded_bit, operation_value, operation_of, inverts, gate_value}
+use Rattle.net_model.specs.Gate.{all_ones, some_one, odd_ones, chosen_bit, folded_bit, operation_value, operation_of, inverts, gate_value, inverted}
 use Rattle.net_model.specs.Answer.{bit_at}
+use Rattle.net_model.proofs.Elements.{odd_one}
 use Rattle.clause_pool.specs.Literal.{Literal, pos_literal, opposite}
 use Rattle.pair_miter.specs.Variables.{is_parity, is_parity_fold, is_parity_operation}
 use Rattle.pair_miter.specs.Operand.{Operand, constant, variable, is_constant}
 use Rattle.pair_miter.specs.Rows.{variables, has_constant, has_odd_constants, signed_literal, with_each, decided_of, decided_rows, same_value, xor_of_two, xor_onward, xor_of, odd_rows, operand_literals, case_clause, case_rows, operand_at, chosen_rows, folded_rows, operation_rows, output_literal, gate_rows}
 use Rattle.pair_miter.specs.Miter.{literal_bit, is_satisfied_by, is_model}
 use Rattle.pair_miter.proofs.TidyAndFresh.{opposite_bit}
-use Rattle.pair_miter.proofs.Bits.{holds, holds-is, is-holds, flip, flip-false, flip-assoc, flip-inner, flip_back, flip_on, odd_count-cons, odd_ones-cons}
+use Rattle.pair_miter.proofs.Bits.{holds, holds-is, is-holds, inverted-assoc, inverted-inner, inverted_back, inverted_on, odd_count-cons, odd_ones-cons}
 
 -- what an operand carries
 abbrev pub operand_value : List Bool → Operand → Bool
@@ -33,7 +34,7 @@ operand_value bits (variable x) = bit_at bits (x - 1)
 abbrev pub parts : Bool → List Bool → List Bool
 parts b [] = []
 parts b (v ∷ []) = []
-parts b (v ∷ v' ∷ vs) = flip b v ∷ parts (flip b v) (v' ∷ vs)
+parts b (v ∷ v' ∷ vs) = inverted b v ∷ parts (inverted b v) (v' ∷ vs)
 
 -- what the helpers of an exclusive or of these bits carry
 abbrev pub helper_bits : List Bool → List Bool
@@ -42,7 +43,7 @@ helper_bits (v ∷ vs) = parts v vs
 
 length-parts : (b v : Bool) (vs : List Bool) → length (parts b (v ∷ vs)) ≡ length vs
 length-parts b v [] = refl
-length-parts b v (v' ∷ vs) = ap suc (length-parts (flip b v) v' vs)
+length-parts b v (v' ∷ vs) = ap suc (length-parts (inverted b v) v' vs)
 
 pub length-helper_bits : (vs : List Bool) → length (helper_bits vs) ≡ length vs - 2
 length-helper_bits [] = refl
@@ -182,14 +183,14 @@ module _ (bits : List Bool) where
   lone true = refl
   lone false = refl
 
-  two_table : (a b c : Bool) → ((not a || (b || (c || false))) && ((not a || (not b || (not c || false))) && ((a || (not b || (c || false))) && ((a || (b || (not c || false))) && true)))) ≡ holds a (flip b c)
+  two_table : (a b c : Bool) → ((not a || (b || (c || false))) && ((not a || (not b || (not c || false))) && ((a || (not b || (c || false))) && ((a || (b || (not c || false))) && true)))) ≡ holds a (inverted b c)
   two_table true true c = lone (not c)
   two_table true false c = lone c
   two_table false true true = refl
   two_table false true false = refl
   two_table false false c = lone (not c)
 
-  xor_of_two-holds : (a b c : Literal) → is_model bits (xor_of_two a b c) ≡ holds (literal_bit bits a) (flip (literal_bit bits b) (literal_bit bits c))
+  xor_of_two-holds : (a b c : Literal) → is_model bits (xor_of_two a b c) ≡ holds (literal_bit bits a) (inverted (literal_bit bits b) (literal_bit bits c))
   xor_of_two-holds a b c =
       (λ i. (opposite_bit bits a i || (literal_bit bits b || (literal_bit bits c || false)))
       && ((opposite_bit bits a i || (opposite_bit bits b i || (opposite_bit bits c i || false)))
@@ -197,14 +198,11 @@ module _ (bits : List Bool) where
       && ((literal_bit bits a || (literal_bit bits b || (opposite_bit bits c i || false))) && true))))
       ∙ two_table (literal_bit bits a) (literal_bit bits b) (literal_bit bits c)
 
-  one_odd : (v : Bool) → odd_ones (v ∷ []) ≡ v
-  one_odd v = odd_ones-cons v [] ∙ flip-false v
-
   xor_onward-sound : (y : Literal) (helper : ℕ) (before : Literal) (x : ℕ) (xs : List ℕ) → is_model bits (xor_onward y helper before (x ∷ xs)) ≡ true
-      → literal_bit bits y ≡ flip (literal_bit bits before) (odd_ones (variable_bits (x ∷ xs)))
+      → literal_bit bits y ≡ inverted (literal_bit bits before) (odd_ones (variable_bits (x ∷ xs)))
   xor_onward-sound y helper before x [] e =
-      holds-is (literal_bit bits y) (flip (literal_bit bits before) (bit_at bits (x - 1))) (sym (xor_of_two-holds y before (pos_literal x)) ∙ e)
-      ∙ ap (flip (literal_bit bits before)) (sym (one_odd (bit_at bits (x - 1))))
+      holds-is (literal_bit bits y) (inverted (literal_bit bits before) (bit_at bits (x - 1))) (sym (xor_of_two-holds y before (pos_literal x)) ∙ e)
+      ∙ ap (inverted (literal_bit bits before)) (sym (odd_one (bit_at bits (x - 1))))
   xor_onward-sound y helper before x (x' ∷ xs) e =
       let two = xor_of_two (pos_literal helper) before (pos_literal x) in
       let rest = xor_onward y (helper + 1) (pos_literal helper) (x' ∷ xs) in
@@ -212,65 +210,65 @@ module _ (bits : List Bool) where
       let b = literal_bit bits before in
       let v = bit_at bits (x - 1) in
       let odd = odd_ones (variable_bits (x' ∷ xs)) in
-      let part : bit_at bits (helper - 1) ≡ flip b v = holds-is (bit_at bits (helper - 1)) (flip b v) (sym (xor_of_two-holds (pos_literal helper) before (pos_literal x)) ∙ both.0) in
+      let part : bit_at bits (helper - 1) ≡ inverted b v = holds-is (bit_at bits (helper - 1)) (inverted b v) (sym (xor_of_two-holds (pos_literal helper) before (pos_literal x)) ∙ both.0) in
       xor_onward-sound y (helper + 1) (pos_literal helper) x' xs both.1
-      ∙ (ap (λ h. flip h odd) part
-      ∙ (flip-assoc b v odd
-      ∙ ap (flip b) (sym (odd_ones-cons v (variable_bits (x' ∷ xs))))))
+      ∙ (ap (λ h. inverted h odd) part
+      ∙ (inverted-assoc b v odd
+      ∙ ap (inverted b) (sym (odd_ones-cons v (variable_bits (x' ∷ xs))))))
 
   carry_rest : (helper : ℕ) (b : Bool) (rest : List Bool) → Carry helper (b ∷ rest) → Carry (helper + 1) rest
   carry_rest helper b rest h k below = ap (bit_at bits) (let e : (helper + 1) + k - 1 ≡ helper + suc k - 1 = omega arith in e) ∙ h (suc k) (omega arith)
 
   xor_onward-complete : (y : Literal) (helper : ℕ) (before : Literal) (x : ℕ) (xs : List ℕ) → Carry helper (parts (literal_bit bits before) (variable_bits (x ∷ xs)))
-      → literal_bit bits y ≡ flip (literal_bit bits before) (odd_ones (variable_bits (x ∷ xs))) → is_model bits (xor_onward y helper before (x ∷ xs)) ≡ true
+      → literal_bit bits y ≡ inverted (literal_bit bits before) (odd_ones (variable_bits (x ∷ xs))) → is_model bits (xor_onward y helper before (x ∷ xs)) ≡ true
   xor_onward-complete y helper before x [] carry e =
       xor_of_two-holds y before (pos_literal x)
-      ∙ is-holds (literal_bit bits y) (flip (literal_bit bits before) (bit_at bits (x - 1))) (e ∙ ap (flip (literal_bit bits before)) (one_odd (bit_at bits (x - 1))))
+      ∙ is-holds (literal_bit bits y) (inverted (literal_bit bits before) (bit_at bits (x - 1))) (e ∙ ap (inverted (literal_bit bits before)) (odd_one (bit_at bits (x - 1))))
   xor_onward-complete y helper before x (x' ∷ xs) carry e =
       let two = xor_of_two (pos_literal helper) before (pos_literal x) in
       let rest = xor_onward y (helper + 1) (pos_literal helper) (x' ∷ xs) in
       let b = literal_bit bits before in
       let v = bit_at bits (x - 1) in
       let odd = odd_ones (variable_bits (x' ∷ xs)) in
-      let part : bit_at bits (helper - 1) ≡ flip b v = ap (bit_at bits) (let e : helper - 1 ≡ helper + 0 - 1 = omega arith in e) ∙ carry 0 (omega arith) in
+      let part : bit_at bits (helper - 1) ≡ inverted b v = ap (bit_at bits) (let e : helper - 1 ≡ helper + 0 - 1 = omega arith in e) ∙ carry 0 (omega arith) in
       list_all-append (is_satisfied_by bits) two rest
       ∙ and_from (is_model bits two) (is_model bits rest)
-      (xor_of_two-holds (pos_literal helper) before (pos_literal x) ∙ is-holds (bit_at bits (helper - 1)) (flip b v) part)
+      (xor_of_two-holds (pos_literal helper) before (pos_literal x) ∙ is-holds (bit_at bits (helper - 1)) (inverted b v) part)
       (xor_onward-complete y (helper + 1) (pos_literal helper) x' xs
-      (subst (λ h. Carry (helper + 1) (parts h (variable_bits (x' ∷ xs)))) (sym part) (carry_rest helper (flip b v) (parts (flip b v) (variable_bits (x' ∷ xs))) carry))
-      (e ∙ (ap (flip b) (odd_ones-cons v (variable_bits (x' ∷ xs))) ∙ (sym (flip-assoc b v odd) ∙ ap (λ h. flip h odd) (sym part)))))
+      (subst (λ h. Carry (helper + 1) (parts h (variable_bits (x' ∷ xs)))) (sym part) (carry_rest helper (inverted b v) (parts (inverted b v) (variable_bits (x' ∷ xs))) carry))
+      (e ∙ (ap (inverted b) (odd_ones-cons v (variable_bits (x' ∷ xs))) ∙ (sym (inverted-assoc b v odd) ∙ ap (λ h. inverted h odd) (sym part)))))
 
   xor_of-sound : (y : Literal) (helper : ℕ) (xs : List ℕ) → is_model bits (xor_of y helper xs) ≡ true → literal_bit bits y ≡ odd_ones (variable_bits xs)
   xor_of-sound y helper [] e = holds-is (literal_bit bits y) false (sym (unit_false y) ∙ e)
-  xor_of-sound y helper (x ∷ []) e = holds-is (literal_bit bits y) (bit_at bits (x - 1)) (sym (same_value-holds y x) ∙ e) ∙ sym (one_odd (bit_at bits (x - 1)))
+  xor_of-sound y helper (x ∷ []) e = holds-is (literal_bit bits y) (bit_at bits (x - 1)) (sym (same_value-holds y x) ∙ e) ∙ sym (odd_one (bit_at bits (x - 1)))
   xor_of-sound y helper (x ∷ x' ∷ xs) e =
       xor_onward-sound y helper (pos_literal x) x' xs e ∙ sym (odd_ones-cons (bit_at bits (x - 1)) (variable_bits (x' ∷ xs)))
 
   xor_of-complete : (y : Literal) (helper : ℕ) (xs : List ℕ) → Carry helper (helper_bits (variable_bits xs)) → literal_bit bits y ≡ odd_ones (variable_bits xs)
       → is_model bits (xor_of y helper xs) ≡ true
   xor_of-complete y helper [] carry e = unit_false y ∙ is-holds (literal_bit bits y) false e
-  xor_of-complete y helper (x ∷ []) carry e = same_value-holds y x ∙ is-holds (literal_bit bits y) (bit_at bits (x - 1)) (e ∙ one_odd (bit_at bits (x - 1)))
+  xor_of-complete y helper (x ∷ []) carry e = same_value-holds y x ∙ is-holds (literal_bit bits y) (bit_at bits (x - 1)) (e ∙ odd_one (bit_at bits (x - 1)))
   xor_of-complete y helper (x ∷ x' ∷ xs) carry e =
       xor_onward-complete y helper (pos_literal x) x' xs carry (e ∙ odd_ones-cons (bit_at bits (x - 1)) (variable_bits (x' ∷ xs)))
 
-  odd_of_operands : (operands : List Operand) → odd_ones (map (operand_value bits) operands) ≡ flip (has_odd_constants operands) (odd_ones (variable_bits (variables operands)))
+  odd_of_operands : (operands : List Operand) → odd_ones (map (operand_value bits) operands) ≡ inverted (has_odd_constants operands) (odd_ones (variable_bits (variables operands)))
   odd_of_operands [] = refl
   odd_of_operands (constant b ∷ operands) =
       odd_ones-cons b (map (operand_value bits) operands)
-      ∙ (ap (flip b) (odd_of_operands operands)
-      ∙ (sym (flip-assoc b (has_odd_constants operands) (odd_ones (variable_bits (variables operands))))
-      ∙ ap (λ o. flip o (odd_ones (variable_bits (variables operands)))) (ap (λ t. flip t (has_odd_constants operands)) (sym (is_one b)) ∙ sym (odd_count-cons (is_constant true) (constant b) operands))))
+      ∙ (ap (inverted b) (odd_of_operands operands)
+      ∙ (sym (inverted-assoc b (has_odd_constants operands) (odd_ones (variable_bits (variables operands))))
+      ∙ ap (λ o. inverted o (odd_ones (variable_bits (variables operands)))) (ap (λ t. inverted t (has_odd_constants operands)) (sym (is_one b)) ∙ sym (odd_count-cons (is_constant true) (constant b) operands))))
     where
       is_one : (b : Bool) → beq b true ≡ b
       is_one true = refl
       is_one false = refl
   odd_of_operands (variable x ∷ operands) =
       odd_ones-cons (bit_at bits (x - 1)) (map (operand_value bits) operands)
-      ∙ (ap (flip (bit_at bits (x - 1))) (odd_of_operands operands)
-      ∙ (flip-inner (bit_at bits (x - 1)) (has_odd_constants operands) (odd_ones (variable_bits (variables operands)))
-      ∙ ((λ i. flip (sym (odd_count-cons (is_constant true) (variable x) operands) i) (sym (odd_ones-cons (bit_at bits (x - 1)) (variable_bits (variables operands))) i)))))
+      ∙ (ap (inverted (bit_at bits (x - 1))) (odd_of_operands operands)
+      ∙ (inverted-inner (bit_at bits (x - 1)) (has_odd_constants operands) (odd_ones (variable_bits (variables operands)))
+      ∙ ((λ i. inverted (sym (odd_count-cons (is_constant true) (variable x) operands) i) (sym (odd_ones-cons (bit_at bits (x - 1)) (variable_bits (variables operands))) i)))))
 
-  turned_bit : (turned : Bool) (y : Literal) → literal_bit bits (if turned then opposite y else y) ≡ flip turned (literal_bit bits y)
+  turned_bit : (turned : Bool) (y : Literal) → literal_bit bits (if turned then opposite y else y) ≡ inverted turned (literal_bit bits y)
   turned_bit true y = opposite_bit bits y
   turned_bit false y = refl
 
@@ -278,14 +276,14 @@ module _ (bits : List Bool) where
   odd_rows-sound y helper operands e =
       let p = has_odd_constants operands in
       let out : Literal = if p then opposite y else y in
-      flip_back p (literal_bit bits y) (odd_ones (variable_bits (variables operands))) (sym (turned_bit p y) ∙ xor_of-sound out helper (variables operands) e) ∙ sym (odd_of_operands operands)
+      inverted_back p (literal_bit bits y) (odd_ones (variable_bits (variables operands))) (sym (turned_bit p y) ∙ xor_of-sound out helper (variables operands) e) ∙ sym (odd_of_operands operands)
 
   odd_rows-complete : (y : Literal) (helper : ℕ) (operands : List Operand) → Carry helper (helper_bits (variable_bits (variables operands)))
       → literal_bit bits y ≡ odd_ones (map (operand_value bits) operands) → is_model bits (odd_rows y helper operands) ≡ true
   odd_rows-complete y helper operands carry e =
       let p = has_odd_constants operands in
       let out : Literal = if p then opposite y else y in
-      xor_of-complete out helper (variables operands) carry (turned_bit p y ∙ flip_on p (literal_bit bits y) (odd_ones (variable_bits (variables operands))) (e ∙ odd_of_operands operands))
+      xor_of-complete out helper (variables operands) carry (turned_bit p y ∙ inverted_on p (literal_bit bits y) (odd_ones (variable_bits (variables operands))) (e ∙ odd_of_operands operands))
 
   -- ---- a choice
 
@@ -360,14 +358,14 @@ module _ (bits : List Bool) where
   operation_rows-sound (Folded fold) y helper operands e = folded_rows-sound fold y helper operands e
   operation_rows-sound Chosen y helper operands e = holds-is (literal_bit bits y) (chosen_bit (map (operand_value bits) operands)) (sym (chosen_rows-holds y operands) ∙ e)
 
-  output_bit : (complemented : Bool) (y : ℕ) → literal_bit bits (output_literal complemented y) ≡ flip complemented (bit_at bits (y - 1))
+  output_bit : (complemented : Bool) (y : ℕ) → literal_bit bits (output_literal complemented y) ≡ inverted complemented (bit_at bits (y - 1))
   output_bit true y = refl
   output_bit false y = refl
 
   pub gate_rows-sound : (kind : Kind) (y helper : ℕ) (operands : List Operand) → is_model bits (gate_rows kind y helper operands) ≡ true → bit_at bits (y - 1) ≡ gate_value kind (map (operand_value bits) operands)
   unfolding gate_rows
   gate_rows-sound kind y helper operands e =
-      flip_back (inverts kind) (bit_at bits (y - 1)) (operation_value (operation_of kind) (map (operand_value bits) operands))
+      inverted_back (inverts kind) (bit_at bits (y - 1)) (operation_value (operation_of kind) (map (operand_value bits) operands))
       (sym (output_bit (inverts kind) y) ∙ operation_rows-sound (operation_of kind) (output_literal (inverts kind) y) helper operands e)
 
   folded_rows-complete : (fold : Fold) (y : Literal) (helper : ℕ) (operands : List Operand) → (is_parity_fold fold ≡ true → Carry helper (helper_bits (variable_bits (variables operands))))
@@ -386,4 +384,4 @@ module _ (bits : List Bool) where
   unfolding gate_rows
   gate_rows-complete kind y helper operands carry e =
       operation_rows-complete (operation_of kind) (output_literal (inverts kind) y) helper operands carry
-      (output_bit (inverts kind) y ∙ flip_on (inverts kind) (bit_at bits (y - 1)) (operation_value (operation_of kind) (map (operand_value bits) operands)) e)
+      (output_bit (inverts kind) y ∙ inverted_on (inverts kind) (bit_at bits (y - 1)) (operation_value (operation_of kind) (map (operand_value bits) operands)) e)

@@ -8,7 +8,7 @@ use Rattle.std.specs.List.{range_with_len}
 use Rattle.std.proofs.lemmas.Bool.{and_parts, or_cases}
 use Rattle.net_model.specs.declared.gate.Kind.TheVariants.{Xor}
 use Rattle.net_model.specs.declared.fault.Fault.{Fault}
-use Rattle.net_model.specs.Gate.{odd_ones}
+use Rattle.net_model.specs.Gate.{odd_ones, inverted}
 use Rattle.net_model.specs.Circuit.{Circuit, IsCircuit, line_count, Feeds}
 use Rattle.net_model.specs.Fault.{stuck_stem, stuck_position, IsFaultOf}
 use Rattle.net_model.specs.Answer.{bit_at, Agrees, Separates, shown_bits}
@@ -26,7 +26,7 @@ use Rattle.pair_miter.specs.Variables.{line_variable, difference_variable, varia
 use Rattle.pair_miter.specs.declared.side.Side.TheVariants.{First, Second}
 use Rattle.pair_miter.specs.Miter.{copy_clauses, line_clauses, shown_operand, difference_clauses, lines_part, differences_part, raw_clauses, miter, literal_bit, is_satisfied_by, is_model, copy_bit, split_source_bit, source_bit, vector_of}
 use Rattle.pair_miter.proofs.TidyAndFresh.{is_model-tidy}
-use Rattle.pair_miter.proofs.Bits.{flip, flip-false, odd_ones-cons}
+use Rattle.pair_miter.proofs.Bits.{inverted-false, odd_ones-cons}
 use Rattle.pair_miter.proofs.Clauses.{model_parts, model_each, any_mapped}
 use Rattle.pair_miter.proofs.Sources.{reached_source}
 use Rattle.pair_miter.proofs.GateRows.{gate_rows-sound}
@@ -38,10 +38,10 @@ unfolding line_variable
 one_variable c f g line e = ap (λ b. 1 + variables_below c f g line + (if b then 1 else 0)) (sym e)
 
 -- what two bits show together
-pub odd_two : (a b : Bool) → odd_ones (a ∷ b ∷ []) ≡ flip a b
-odd_two a b = odd_ones-cons a (b ∷ []) ∙ ap (flip a) (odd_ones-cons b [] ∙ flip-false b)
+pub odd_two : (a b : Bool) → odd_ones (a ∷ b ∷ []) ≡ inverted a b
+odd_two a b = odd_ones-cons a (b ∷ []) ∙ ap (inverted a) (odd_ones-cons b [] ∙ inverted-false b)
 
-pub flip_differs : (a b : Bool) → flip a b ≡ true → a ≢ b
+pub flip_differs : (a b : Bool) → inverted a b ≡ true → a ≢ b
 flip_differs true true e same = cc
 flip_differs true false e same = cc
 flip_differs false true e same = cc
@@ -154,7 +154,7 @@ module _ (c : Circuit) (w : IsCircuit c) (f g : Fault) (ff : IsFaultOf c f) (gg 
     -- ---- a position that shows a difference
 
     difference_carries : (at : ℕ) → at < length c.positions → is_reached c f g at ≡ true
-        → bit_at bits (difference_variable c f g at - 1) ≡ flip (bit_at (shown_bits c f x) at) (bit_at (shown_bits c g y) at)
+        → bit_at bits (difference_variable c f g at - 1) ≡ inverted (bit_at (shown_bits c f x) at) (bit_at (shown_bits c g y) at)
     unfolding difference_clauses
     difference_carries at h reached =
         let line = get_or c.positions at 0 in
@@ -166,7 +166,7 @@ module _ (c : Circuit) (w : IsCircuit c) (f g : Fault) (ff : IsFaultOf c f) (gg 
         gate_rows-sound bits Xor (difference_variable c f g at) 0 (shown_operand c f g at First ∷ shown_operand c f g at Second ∷ []) rows
         ∙ ((λ i. odd_ones (operand_carries c f g bits First (stuck_position f at) line i ∷ operand_carries c f g bits Second (stuck_position g at) line i ∷ []))
         ∙ (odd_two (unwrap_or (stuck_position f at) (copy_bit c f g bits First line)) (unwrap_or (stuck_position g at) (copy_bit c f g bits Second line))
-        ∙ (λ i. flip (sym first i) (sym second i))))
+        ∙ (λ i. inverted (sym first i) (sym second i))))
 
     answers_differ : shown_bits c f x ≢ shown_bits c g y
     answers_differ same =

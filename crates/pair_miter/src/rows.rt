@@ -1,6 +1,6 @@
 //! The rows of a gate, written into a pool.
 
-ghost use Rattle.std.specs.Prelude.{◌≡◌, ◌+◌, ◌<◌, ◌≤◌, ◌^◌, true, not, [], ◌∷◌, length, All, IsTrue, MatchOption, OnOk, OnErr};
+ghost use Rattle.std.specs.Prelude.{◌≡◌, ◌+◌, ◌<◌, ◌≤◌, ◌^◌, true, [], ◌∷◌, length, All, IsTrue, MatchOption};
 ghost use Rattle.net_model.specs.Gate.{takes_pins};
 ghost use Rattle.clause_pool.specs.Literal.{Literal, opposite, pos_literal};
 ghost use Rattle.clause_pool.specs.Proper.{IsVariable};

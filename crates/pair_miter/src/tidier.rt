@@ -1,7 +1,6 @@
 //! A writer that tidies each clause: a repeated literal is kept once, and a clause with opposite literals is left out.
 
-ghost use Rattle.std.specs.Prelude.{◌≡◌, ◌+◌, ◌-◌, ◌<◌, ◌≤◌, ◌^◌, [], ◌∷◌, ◌++◌, length, All, vec_capacity, IfOk, OnOk, OnErr};
-ghost use Rattle.clause_pool.specs.LiteralCode.{code_of};
+ghost use Rattle.std.specs.Prelude.{◌≡◌, ◌+◌, ◌-◌, ◌<◌, ◌≤◌, ◌^◌, [], ◌∷◌, ◌++◌, length, All, vec_capacity, IfOk, OnOk};
 ghost use Rattle.clause_pool.specs.Proper.{IsVariable};
 ghost use Rattle.pair_miter.specs.Adds.{Writes};
 ghost use Rattle.pair_miter.specs.Marks.{AreMarks, HavePlaces, IsOperand};
@@ -9,7 +8,7 @@ ghost use Rattle.pair_miter.specs.Miter.{tidy, without_repeats, is_tautology};
 ghost use Rattle.pair_miter.specs.Rows.{variables, operand_literals, case_clause, with_all};
 
 use crate::operand::Operand;
-use clause_pool::{Full, Lit, Pool};
+use clause_pool::{Lit, Pool};
 use std::alloc::{AllocError, Global};
 use std::marker::Model;
 
@@ -197,12 +196,12 @@ fn keep_once(marks: &mut Vec<bool>, kept: &mut Vec<Lit>, clause: &[Lit]) -> bool
 {
     let mut opposites = false;
     for lit in clause {
-        let at = place(*lit);
+        let at = lit.code();
         if !marks[at] {
             marks[at] = true;
             kept.push_reserved(*lit);
         }
-        opposites |= marks[place(lit.opposite())];
+        opposites |= marks[lit.opposite().code()];
     }
     opposites
 }
@@ -215,16 +214,8 @@ fn clear_marks(marks: &mut Vec<bool>, clause: &[Lit])
     ensures clear { AreMarks marks.new.items [] }
 {
     for lit in clause {
-        marks[place(*lit)] = false;
+        marks[lit.code()] = false;
     }
-}
-
-// The place of a literal's mark.
-fn place(lit: Lit) -> usize
-    ensures { result ≡ code_of lit }
-{
-    let sign = if lit.positive() { 1 } else { 0 };
-    2 * lit.variable() as usize + sign
 }
 
 // Adds a clause to a pool, which grows only where it lacks room.
@@ -232,22 +223,6 @@ fn push(pool: &mut Pool, clause: &[Lit]) -> Result<(), AllocError>
     requires { length pool.old.clauses < 2 ^ 30 }
     ensures written { Writes result pool.old pool.new (clause.now ∷ []) }
 {
-    match pool.push(clause) {
-        Ok(_) => Ok(()),
-        Err(Full) => push_grown(pool, clause),
-    }
-}
-
-// Adds a clause to a pool that lacks room for it. The room at least doubles.
-fn push_grown(pool: &mut Pool, clause: &[Lit]) -> Result<(), AllocError>
-    requires { length pool.old.clauses < 2 ^ 30 }
-    ensures ok { OnOk result (pool.new.clauses ≡ pool.old.clauses ++ clause.now ∷ []) }
-    ensures err { OnErr result (pool.new ≡ pool.old) }
-{
-    let used = pool.mark();
-    pool.grow(used.clauses + 1, used.literals.max(clause.len()))?;
-    match pool.push(clause) {
-        Ok(_) => Ok(()),
-        Err(Full) => unreachable!(),
-    }
+    pool.add(clause)?;
+    Ok(())
 }

@@ -1,13 +1,13 @@
 //! The clauses of lines and positions, written into a pool.
 
-ghost use Rattle.std.specs.Prelude.{◌≡◌, ◌+◌, ◌<◌, ◌≤◌, ◌^◌, true, None, IfOk, OnOk, OnErr, length};
+ghost use Rattle.std.specs.Prelude.{◌≡◌, ◌+◌, ◌<◌, ◌^◌, true, IfOk, OnOk, length};
 ghost use Rattle.net_model.specs.Circuit.{line_count};
 ghost use Rattle.net_model.specs.Fault.{stuck_stem};
 ghost use Rattle.net_model.specs.Scope.{is_relevant, is_reached};
 ghost use Rattle.pair_miter.specs.Adds.{Writes};
 ghost use Rattle.pair_miter.specs.Miter.{copy_clauses, line_clauses, difference_clauses, tidy};
 ghost use Rattle.pair_miter.specs.Numbering.{HasCopy};
-ghost use Rattle.pair_miter.specs.Variables.{fault_of, first_helper, copy_helpers, line_helpers, difference_variable, variable_count};
+ghost use Rattle.pair_miter.specs.Variables.{first_helper, copy_helpers, line_helpers, difference_variable, variable_count};
 
 use crate::helpers::copy_helpers;
 use crate::numbering::Numbering;

@@ -12,10 +12,10 @@ use Rattle.net_model.proofs.Places.{later_place}
 use Rattle.net_model.proofs.Elements.{true_false}
 use Rattle.pair_sets.specs.PairSet.{PairSet, free_pairs, IsWithin}
 use Rattle.pair_sets.specs.CubeState.{set_at}
-use Rattle.event_queue.specs.Pending.{is_pending, IsLowest}
+use Rattle.event_queue.specs.Pending.{is_pending, IsLowest, IsIdle}
 use Rattle.event_queue.proofs.Marks.{lowest_left, pending_within}
 use Rattle.net_model.specs.Wiring.{Wiring, IsWiring}
-use Rattle.pair_sets.specs.Events.{IsIdle, gate_line_pairs, AreSettled, AreLoose, ReadersWait, WakesOnly, AreWoken, WakesReaders}
+use Rattle.pair_sets.specs.Events.{gate_line_pairs, AreSettled, AreLoose, ReadersWait, WakesOnly, AreWoken, WakesReaders}
 use Rattle.pair_sets.proofs.PairLemmas.{within_same, within_more}
 use Rattle.pair_sets.proofs.SeenLemmas.{same_line_pairs, fewer_line_pairs}
 

@@ -14,6 +14,7 @@ use Rattle.net_model.specs.declared.operation.Fold.{Fold}
 use Rattle.net_model.specs.declared.operation.Fold.TheVariants.{AllOf, AnyOf, OddOf}
 use Rattle.net_model.specs.declared.operation.Operation.TheVariants.{Folded, Chosen}
 use Rattle.net_model.specs.Gate.{gate_value, operation_value, odd_ones, folded_bit, inverted, inverts, operation_of}
+use Rattle.net_model.proofs.Elements.{odd_one}
 use Rattle.pair_sets.specs.PairSet.{PairSet, Pair, meets, second_turned, forced_pairs, value_pairs, gate_pairs, operation_pairs, fixed_pairs, some_pair, has_pair, has_first, has_second, IsWithin}
 use Rattle.pair_sets.specs.Trail.{pair_count}
 use Rattle.pair_sets.proofs.PairLemmas.{Has, same_set, value_pair, values_from, values_are}
@@ -54,10 +55,6 @@ next_odd n = grind (arith, nat_tests)
 odd_more : (b : Bool) (bits : List Bool) → odd_ones (b ∷ bits) ≡ (if b then not (odd_ones bits) else odd_ones bits)
 odd_more true bits = ap (λ n. n % 2 == 1) (sum_by-cons (λ b. cond b 1 0) true bits ∙ (let e : 1 + count_by (λ b. b) bits ≡ count_by (λ b. b) bits + 1 = omega arith in e)) ∙ next_odd (count_by (λ b. b) bits)
 odd_more false bits = ap (λ n. n % 2 == 1) (sum_by-cons (λ b. cond b 1 0) false bits ∙ (let e : 0 + count_by (λ b. b) bits ≡ count_by (λ b. b) bits = omega arith in e))
-
-odd_one : (b : Bool) → odd_ones (b ∷ []) ≡ b
-odd_one true = refl
-odd_one false = refl
 
 pub fold_more : (fold : Fold) (s : PairSet) (sets : List PairSet) → operation_pairs (Folded fold) (s ∷ sets) ≡ operation_pairs (Folded fold) (s ∷ operation_pairs (Folded fold) sets ∷ [])
 fold_more AllOf = pin_by_pin (folded_bit AllOf) (λ a b. a && b) (λ b bits. refl) and-true

@@ -19,11 +19,11 @@ use Rattle.net_model.proofs.Elements.{passing, true_false}
 use Rattle.net_model.proofs.FirstChanged.{stem_elsewhere, pin_elsewhere}
 use Rattle.net_model.proofs.ScopeLaws.{leads_here, split_is_closed}
 use Rattle.fault_list.specs.Scope.{AreMarks, is_first_changed, begins_at}
-use Rattle.event_queue.specs.Pending.{is_pending, IsEmpty, IsLowest}
+use Rattle.event_queue.specs.Pending.{is_pending, IsEmpty, IsLowest, IsIdle}
 use Rattle.event_queue.proofs.Marks.{lowest_left}
 use Rattle.pair_sets.specs.PairSet.{PairSet, forced_pairs, gate_pairs}
 use Rattle.pair_sets.specs.CubeState.{set_at, source_pairs, seen_pairs, line_pairs, ArePairSets}
-use Rattle.pair_sets.specs.Events.{IsIdle, AreWoken, WakesReaders}
+use Rattle.pair_sets.specs.Events.{AreWoken, WakesReaders}
 use Rattle.pair_sets.specs.Spread.{IsSpread}
 use Rattle.pair_sets.proofs.EventLemmas.{woken_waits, idle_before, settled_line}
 use Rattle.pair_sets.proofs.SeenLemmas.{pin_set, same_line_pairs}

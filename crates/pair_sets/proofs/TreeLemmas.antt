@@ -243,7 +243,8 @@ module _ (c : Circuit) where
 module _ (c : Circuit) (f g : Fault) where
   -- ---- trees of a cube
 
-  free_token : (token : Token) (cube : Cube) → IsRightAt c f g token cube → SplitsFree c token cube
+  -- a right token splits a free source
+  pub free_token : (token : Token) (cube : Cube) → IsRightAt c f g token cube → SplitsFree c token cube
   free_token (Split source) cube right = (right.0, right.2)
   free_token Closed cube right = tt
   free_token Rest cube right = tt

@@ -1,14 +1,10 @@
 -- Changes under way: the gates that wait, and the lines that are settled.
-use Rattle.std.specs.Prelude.{◌≡◌, ℕ, ◌<◌, ◌≤◌, ◌⊎◌, Bool, true, false, List, [], length, slice_index}
+use Rattle.std.specs.Prelude.{◌≡◌, ℕ, ◌<◌, ◌≤◌, ◌⊎◌, Bool, true, List, [], length, slice_index}
 use Rattle.net_model.specs.declared.fault.Fault.{Fault}
 use Rattle.net_model.specs.Circuit.{Circuit, line_count, Feeds}
-use Rattle.event_queue.specs.Pending.{is_pending}
+use Rattle.event_queue.specs.Pending.{is_pending, IsIdle}
 use Rattle.pair_sets.specs.PairSet.{PairSet, IsWithin}
 use Rattle.pair_sets.specs.CubeState.{set_at, line_pairs}
-
--- The gate of the line doesn't wait.
-abbrev pub IsIdle : List ℕ → List Bool → ℕ → Type 0
-IsIdle order queue line = (place : ℕ) → place < length order → slice_index order place ≡ line → is_pending queue place ≡ false
 
 -- the pairs that the gate of a line gives it
 abbrev pub gate_line_pairs : Circuit → Fault → Fault → List PairSet → ℕ → PairSet

@@ -5,10 +5,9 @@ use Rattle.net_model.specs.Circuit.{Circuit, line_count, Feeds}
 use Rattle.net_model.specs.Answer.{bit_at}
 use Rattle.net_model.specs.Scope.{is_split}
 use Rattle.fault_list.specs.Scope.{begins_at}
-use Rattle.event_queue.specs.Pending.{is_pending}
+use Rattle.event_queue.specs.Pending.{is_pending, IsIdle}
 use Rattle.pair_sets.specs.PairSet.{PairSet}
 use Rattle.pair_sets.specs.CubeState.{set_at, line_pairs}
-use Rattle.pair_sets.specs.Events.{IsIdle}
 
 -- There is a place to wait for each gate of the order, and a mark and a set of pairs for each line.
 pub record HasWidth (c : Circuit) (order : List ℕ) (pending cone : List Bool) (pairs : List PairSet) : Type 0 where

@@ -4,7 +4,7 @@ use Rattle.std.specs.Prelude.{Bool, true, false, List, Option, None, Some, slice
 use Rattle.std.specs.Option.{option_map_or}
 use Rattle.std.proofs.lemmas.Bool.{cases_lt}
 use Rattle.std.proofs.lemmas.List.{take_all, get_or_default}
-use Rattle.std.proofs.lemmas.Option.{slice_get-get_or, slice_get_within, get_or_from_slice_get}
+use Rattle.std.proofs.lemmas.Option.{none-some, slice_get-get_or, slice_get_within, get_or_from_slice_get}
 use Rattle.clause_pool.specs.Literal.{Literal, pos_literal}
 use Rattle.clause_pool.specs.Clauses.{Clause, numbered_clause}
 use Rattle.pair_miter.specs.ChainView.{ChainView}
@@ -13,9 +13,6 @@ use Rattle.refute_check.specs.declared.refusal.RefusalKind.{RefusalKind}
 use Rattle.refute_check.specs.declared.refusal.RefusalKind.TheVariants.{NoSuchClause, NoPivot}
 use Rattle.refute_check.specs.LogRefusal.{ChainStops, no_start, no_clause, no_pivot, chain_before}
 use Rattle.refute_check.proofs.Steps.{step_more, end_more, resolved_end}
-
-pub none_some : {A P : Type 0} {x : A} → ◌≡◌ {A = Option A} None (Some x) → P
-none_some e = cc
 
 module _ (clauses : List Clause) (chain : ChainView) where
   -- the end of the first steps
@@ -67,7 +64,7 @@ module _ (clauses : List Clause) (chain : ChainView) where
   stop_after kind at clause some none rule = record {
     place = suc at;
     none = let e : suc at ≡ at + 1 = omega arith in ap so_far e ∙ none;
-    before = λ k lower absent. none_some (sym (stays_none_at k at (omega (arith, lower)) absent) ∙ some);
+    before = λ k lower absent. none-some clause (sym (stays_none_at k at (omega (arith, lower)) absent) ∙ some);
     rule = rule;
   }
 

@@ -1,9 +1,9 @@
 -- A log is refused only where it isn't right, and in one way.
 use Rattle.std.proofs.Common.{◌≡◌, ◌≢◌, ◌∙◌, ℕ, ◌<◌, ◌≤◌, ◌+◌, ◌⊎◌, inl, inr, true, false, List, [], ◌∷◌, ◌++◌, length, take, get_or, refl, sym, ap, subst, arith}
-use Rattle.std.specs.Prelude.{Bool, Option, Some, slice_get}
+use Rattle.std.specs.Prelude.{Bool, Some, slice_get}
 use Rattle.std.proofs.lemmas.Bool.{cases_lt, eqb-true, eq-eqb}
 use Rattle.std.proofs.lemmas.List.{length-append, length-take-le, take-take, take_all, get_or-take, get_or_append_left}
-use Rattle.std.proofs.lemmas.Option.{slice_get_within, slice_get-get_or, get_or_from_slice_get}
+use Rattle.std.proofs.lemmas.Option.{none-some, same_Some, slice_get_within, slice_get-get_or, get_or_from_slice_get}
 use Rattle.std.proofs.Math.Seq.{get_or-append_seam}
 use Rattle.clause_pool.specs.Clauses.{Clause}
 use Rattle.pair_miter.specs.ChainView.{ChainView}
@@ -15,10 +15,7 @@ use Rattle.refute_check.specs.declared.refusal.EvidenceKind.TheVariants.{Covered
 use Rattle.refute_check.specs.declared.refusal.Refusal.{Refusal}
 use Rattle.refute_check.specs.declared.refusal.RefusalKind.{RefusalKind}
 use Rattle.refute_check.specs.LogRefusal.{ChainStops, IsRightEnd, IsRightLog, HasRightLength, AreRightBefore, StopsAt, EndsWrong, LogRefused, wrong_count, at_step, at_end, end_refusal, is_last}
-use Rattle.refute_check.proofs.ChainLaws.{stopped_has_no_end, stops_once, none_some}
-
-same_some : {A : Type 0} {x y : A} → ◌≡◌ {A = Option A} (Some x) (Some y) → x ≡ y
-same_some e = cc
+use Rattle.refute_check.proofs.ChainLaws.{stopped_has_no_end, stops_once}
 
 module _ (kind : EvidenceKind) (clauses : List Clause) (log : List ChainView) where
   -- what is right before a place has the ends of the chains before each earlier place, and the end there
@@ -40,7 +37,7 @@ module _ (kind : EvidenceKind) (clauses : List Clause) (log : List ChainView) wh
 
   -- the ends before a place are the same
   same_before : (at : ℕ) (ends others : List Clause) → log_ends clauses (take at log) ≡ Some ends → log_ends clauses (take at log) ≡ Some others → ends ≡ others
-  same_before at ends others are is = same_some (sym are ∙ is)
+  same_before at ends others are is = same_Some ends others (sym are ∙ is)
 
   not_stopped : (at later : ℕ) (rule : RefusalKind) → StopsAt kind clauses log at rule → AreRightBefore kind clauses log later → at < later → ⊥
   not_stopped at later rule s b lower =
@@ -48,7 +45,7 @@ module _ (kind : EvidenceKind) (clauses : List Clause) (log : List ChainView) wh
       let same = same_before at s.before.ends (take at b.ends) s.before.are part.0 in
       let none = stopped_has_no_end (clauses ++ s.before.ends) s.chain rule s.stops in
       let end = slice_get-get_or b.ends at [] part.2 in
-      none_some (sym none ∙ (ap (λ ends. chain_end (clauses ++ ends) s.chain) same ∙ (part.1 ∙ end)))
+      none-some (get_or b.ends at []) (sym none ∙ (ap (λ ends. chain_end (clauses ++ ends) s.chain) same ∙ (part.1 ∙ end)))
 
   not_wrong : (at later : ℕ) (end : Clause) → EndsWrong kind clauses log at end → AreRightBefore kind clauses log later → at < later → ⊥
   not_wrong at later end e b lower =
@@ -60,20 +57,20 @@ module _ (kind : EvidenceKind) (clauses : List Clause) (log : List ChainView) wh
   -- two chains at one place are one, over the same clauses
   same_end : (at : ℕ) (chain other : ChainView) (b d : AreRightBefore kind clauses log at) → slice_get log at ≡ Some chain → slice_get log at ≡ Some other
       → chain_end (clauses ++ b.ends) chain ≡ chain_end (clauses ++ d.ends) other
-  same_end at chain other b d is too = let chains = same_some (sym is ∙ too) in let ends = same_before at b.ends d.ends b.are d.are in (λ i. chain_end (clauses ++ ends i) (chains i))
+  same_end at chain other b d is too = let chains = same_Some chain other (sym is ∙ too) in let ends = same_before at b.ends d.ends b.are d.are in (λ i. chain_end (clauses ++ ends i) (chains i))
 
   one_stop : (at : ℕ) (rule other : RefusalKind) → StopsAt kind clauses log at rule → StopsAt kind clauses log at other → rule ≡ other
   one_stop at rule other s t =
-      let chains = same_some (sym s.chain_is ∙ t.chain_is) in
+      let chains = same_Some s.chain t.chain (sym s.chain_is ∙ t.chain_is) in
       let ends = same_before at s.before.ends t.before.ends s.before.are t.before.are in
       stops_once (clauses ++ t.before.ends) t.chain rule other (subst (λ (p : List Clause × ChainView). ChainStops (clauses ++ p.0) p.1 rule) (λ i. (ends i, chains i)) s.stops) t.stops
 
   stop_or_end : (at : ℕ) (rule : RefusalKind) (end : Clause) → StopsAt kind clauses log at rule → EndsWrong kind clauses log at end → ⊥
   stop_or_end at rule end s e =
-      none_some (sym (stopped_has_no_end (clauses ++ s.before.ends) s.chain rule s.stops) ∙ (same_end at s.chain e.chain s.before e.before s.chain_is e.chain_is ∙ e.end_is))
+      none-some end (sym (stopped_has_no_end (clauses ++ s.before.ends) s.chain rule s.stops) ∙ (same_end at s.chain e.chain s.before e.before s.chain_is e.chain_is ∙ e.end_is))
 
   one_end : (at : ℕ) (end other : Clause) → EndsWrong kind clauses log at end → EndsWrong kind clauses log at other → end ≡ other
-  one_end at end other e d = same_some (sym e.end_is ∙ (same_end at e.chain d.chain e.before d.before e.chain_is d.chain_is ∙ d.end_is))
+  one_end at end other e d = same_Some end other (sym e.end_is ∙ (same_end at e.chain d.chain e.before d.before e.chain_is d.chain_is ∙ d.end_is))
 
   -- two places of which neither is before the other
   same_place : (at other : ℕ) → (at < other → ⊥) → (other < at → ⊥) → at ≡ other

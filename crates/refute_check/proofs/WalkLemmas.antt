@@ -10,6 +10,7 @@ use Rattle.net_model.specs.declared.fault.Fault.{Fault}
 use Rattle.net_model.specs.Circuit.{Circuit}
 use Rattle.net_model.specs.Answer.{bit_at}
 use Rattle.net_model.specs.Scope.{is_relevant}
+use Rattle.net_model.proofs.Elements.{none_is}
 use Rattle.pair_sets.specs.declared.state.PairState.{PairState}
 use Rattle.pair_sets.specs.declared.state.PairState.TheVariants.{AllSame, Undecided}
 use Rattle.pair_sets.specs.declared.tree.Token.{Token}
@@ -17,8 +18,9 @@ use Rattle.pair_sets.specs.declared.tree.Token.TheVariants.{Split, Closed, Rest}
 use Rattle.pair_sets.specs.Cube.{Cube, FixesOnce, fixed_bit}
 use Rattle.pair_sets.specs.CubeState.{IsState}
 use Rattle.pair_sets.specs.PairSim.{PairSim, pair_sim, with_cube}
-use Rattle.pair_sets.specs.Tree.{SplitsFree, IsRightAt, IsTree, after_token, waiting_after, cube_at, token_at}
+use Rattle.pair_sets.specs.Tree.{IsRightAt, IsTree, after_token, waiting_after, cube_at, token_at}
 use Rattle.pair_sets.proofs.DecidedLemmas.{one_state}
+use Rattle.pair_sets.proofs.TreeLemmas.{free_token}
 use Rattle.refute_check.specs.declared.refusal.EvidenceKind.{EvidenceKind}
 use Rattle.refute_check.specs.declared.refusal.EvidenceKind.TheVariants.{Covered, Refuted, Spent}
 use Rattle.refute_check.specs.declared.refusal.RefusalKind.{RefusalKind}
@@ -39,10 +41,6 @@ any_fixed (fixed ∷ cube) source = by (fixed.0 == source) (any_fixed cube sourc
 
 on_path : (path : Cube) (source : ℕ) → list_any (λ half. half.0 == source) path ≡ is_some (fixed_bit (reverse path) source)
 on_path path source = list_any-IsPermutation (λ half. half.0 == source) path (reverse path) (IsPermutation-reverse path) ∙ any_fixed (reverse path) source
-
-none_from : {A : Type 0} (o : Option A) → is_some o ≡ false → o ≡ None
-none_from None e = refl
-none_from (Some x) e = cc
 
 -- ---- the rules of the tokens
 
@@ -78,7 +76,7 @@ module _ (walk : Walk) (w : IsWalk walk) where
   split_right source free undecided = (
     omega (arith, free.inside, w.sources),
     sym (relevant_is source free.inside) ∙ free.relevant,
-    none_from (fixed_bit walk.sim.cube source) (sym (path_free source) ∙ free.free),
+    none_is (fixed_bit walk.sim.cube source) (sym (path_free source) ∙ free.free),
     undecided,
   )
 
@@ -198,17 +196,11 @@ module _ (c : Circuit) (f g : Fault) (tokens : List Token) where
     end_refused inside = too_short right_all
         (λ none. let e : ◌≡◌ {A = List Cube} (walk.sim.cube ∷ second_halves walk.sim.cube) [] = sym (waiting_is walk walk.sim.cube inside (sym come.walk_is.stands)) ∙ waiting_all ∙ none in cc) refl
 
-    -- a right token splits a free source
-    splits_free : (token : Token) (cube : Cube) → IsRightAt c f g token cube → SplitsFree c token cube
-    splits_free (Split source) cube right = (right.0, right.2)
-    splits_free Closed cube right = tt
-    splits_free Rest cube right = tt
-
     tree_is : walk.whole ≡ true → IsTree c f g tokens
     tree_is whole = record {
       shape = record {
         whole = sym waiting_all ∙ (λ i. if whole i then [] else (reverse walk.path.items ∷ second_halves (reverse walk.path.items)));
-        free = λ at h. let right = right_all at h in (right.0, right.1, splits_free (token_at tokens at) right.0 right.2);
+        free = λ at h. let right = right_all at h in (right.0, right.1, free_token c f g (token_at tokens at) right.0 right.2);
       };
       each = right_all;
     }

@@ -1,6 +1,6 @@
 //! The clauses of a pool by their literals.
 
-ghost use Rattle.std.specs.Prelude.{◌≡◌, ◌+◌, ◌*◌, ◌<◌, [], ◌∷◌, ◌++◌, List, ℕ, All, IfOk, OnOk, IsTrue, IsFalse, length, map, replicate, slice_set};
+ghost use Rattle.std.specs.Prelude.{◌≡◌, ◌+◌, ◌*◌, ◌<◌, [], ◌∷◌, ◌++◌, List, ℕ, All, IfOk, OnOk, IsTrue, length, map, replicate, slice_set};
 ghost use Rattle.refute_check.specs.Index.{HasTwo, IsIndexOf, list_at};
 ghost use Rattle.clause_pool.specs.Clauses.{Clause};
 ghost use Rattle.clause_pool.specs.LiteralCode.{code_of};
@@ -49,7 +49,7 @@ impl Lists {
         requires { code_of lit < length self.old }
         ensures { OnOk result (self.new ≡ slice_set self.old (code_of lit) (list_at self.old (code_of lit) ++ number ∷ [])) }
     {
-        self.lists[place(lit)].push(number)?;
+        self.lists[lit.code()].push(number)?;
         Ok(())
     }
 
@@ -58,7 +58,7 @@ impl Lists {
         requires { code_of lit < length self.now }
         ensures { result.now ≡ list_at self.now (code_of lit) }
     {
-        self.lists[place(lit)].as_slice()
+        self.lists[lit.code()].as_slice()
     }
 }
 
@@ -108,12 +108,4 @@ fn has_two(clause: &[Lit]) -> bool
         None => false,
         Some(first) => clause.iter().any(|lit| *lit != *first),
     }
-}
-
-/// The place of what is kept of a literal.
-pub(crate) fn place(lit: Lit) -> usize
-    ensures { result ≡ code_of lit }
-{
-    let sign = if lit.positive() { 1 } else { 0 };
-    2 * lit.variable() as usize + sign
 }

@@ -1,6 +1,6 @@
 //! The check of a log of resolutions.
 
-ghost use Rattle.std.specs.Prelude.{◌≡◌, ◌≢◌, ◌↔◌, ◌+◌, ◌<◌, ◌≤◌, ◌^◌, [], ◌∷◌, ◌++◌, All, IfOk, IsTrue, OnOk, OnErr, IsErrOf, ℕ, List, length};
+ghost use Rattle.std.specs.Prelude.{◌≡◌, ◌≢◌, ◌↔◌, ◌+◌, ◌<◌, ◌≤◌, ◌^◌, [], ◌∷◌, ◌++◌, All, IfOk, IsTrue, OnOk, IsErrOf, ℕ, List, length};
 ghost use Rattle.clause_pool.specs.Clauses.{BeginsWith, Clause as PoolClause};
 ghost use Rattle.clause_pool.specs.LiteralCode.{code_of};
 ghost use Rattle.clause_pool.specs.Proper.{HasVariablesUpTo};
@@ -83,7 +83,7 @@ fn check_chains(
             return Err(refused(rule, at));
         }
         if !last {
-            add(pool, end.as_slice())?;
+            pool.add(end.as_slice())?;
             take_in(propagator, kind, end.as_slice(), pool.len())?;
         }
     }
@@ -213,18 +213,4 @@ fn ends_fresh(
         return false;
     }
     propagator.fresh(pool, variables, end, at)
-}
-
-// Adds a clause to the pool, which grows where it has no room.
-fn add(pool: &mut Pool, clause: &[Lit]) -> Result<(), AllocError>
-    requires { length pool.old.clauses + 1 < 2 ^ 32 }
-    ensures ok { OnOk result (pool.new.clauses ≡ pool.old.clauses ++ clause.now ∷ []) }
-    ensures err { OnErr result (pool.new.clauses ≡ pool.old.clauses) }
-{
-    if pool.spare_clauses() == 0 || pool.spare_literals() < clause.len() {
-        pool.grow(1, clause.len())?;
-    }
-    let pushed = pool.push(clause);
-    prove!(pushed.is_ok());
-    Ok(())
 }

@@ -1,13 +1,12 @@
 //! The clause that a chain has reached, while the chain is followed.
 
-ghost use Rattle.std.specs.Prelude.{◌≡◌, ◌+◌, ◌<◌, ◌≤◌, ◌++◌, ◌∷◌, [], true, false, IfOk, OnOk, IsErrOf, length, slice_set};
+ghost use Rattle.std.specs.Prelude.{◌≡◌, ◌+◌, ◌<◌, ◌++◌, ◌∷◌, [], true, false, IfOk, OnOk, IsErrOf, length, slice_set};
 ghost use Rattle.net_model.specs.Answer.{bit_at};
 ghost use Rattle.clause_pool.specs.Clauses.{Clause};
 ghost use Rattle.clause_pool.specs.LiteralCode.{code_of};
 ghost use Rattle.pair_miter.specs.Resolution.{can_resolve, resolvent, SameLiterals};
 ghost use Rattle.refute_check.specs.Reached.{IsReached};
 
-use crate::index::place;
 use crate::refusal::ChainFault;
 use clause_pool::Lit;
 use literal_sets::Clause as Ordered;
@@ -88,7 +87,7 @@ impl Reached {
     pub(crate) fn has(&self, lit: Lit) -> bool
         ensures { result ≡ bit_at self.now.marks.items (code_of lit) }
     {
-        let at = place(lit);
+        let at = lit.code();
         at < self.marks.len() && self.marks[at]
     }
 
@@ -100,7 +99,7 @@ impl Reached {
             return Ok(());
         }
         self.make_place(lit)?;
-        self.marks[place(lit)] = true;
+        self.marks[lit.code()] = true;
         self.listed.push(lit)?;
         Ok(())
     }
@@ -110,7 +109,7 @@ impl Reached {
         ensures place { OnOk result (code_of lit < length self.new.marks.items) }
         ensures kept { OnOk result ((clause : Clause) → IsReached self.old clause → IsReached self.new clause) }
     {
-        while self.marks.len() <= place(lit) {
+        while self.marks.len() <= lit.code() {
             self.marks.push(false)?;
         }
         Ok(())
@@ -121,7 +120,7 @@ impl Reached {
         ensures marks { self.new.marks.items ≡ slice_set self.old.marks.items (code_of lit) false }
         ensures listed { self.new.listed.items ≡ self.old.listed.items }
     {
-        let at = place(lit);
+        let at = lit.code();
         if at < self.marks.len() {
             self.marks[at] = false;
         }

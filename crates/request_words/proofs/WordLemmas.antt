@@ -1,6 +1,6 @@
 -- What a command's words ask for, by the definition of the command.
 use Rattle.std.proofs.Common.{◌≡◌, ◌≢◌, Bool, true, false, List, [], ◌∷◌, Option, Some, None, Result, Ok, Err, inl, inr, refl, sym, ap, ap₂, ◌∙◌, ◌==◌, length, arith, if◌then◌else◌}
-use Rattle.std.proofs.lemmas.Bool.{eqb-true}
+use Rattle.std.proofs.lemmas.Bool.{eqb-true, false_from_ne_true}
 use Rattle.clap.specs.Words.{App, Rule, Row, app_of, rule_of, with_rule, fault_of, matches_of, is_simple_and_free, HasKind, Kinds, kind_of}
 use Rattle.clap.specs.declared.error.Error.{Error}
 use Rattle.clap.specs.declared.error.ErrorKind.TheVariants.{OutOfMemory}
@@ -51,13 +51,9 @@ named_more old first second r is = more_rules old (λ (a : App). with_rule (with
 
 -- ---- words that are taken, and words that aren't
 
-none_true : (b : Bool) → ¬ (b ≡ true) → b ≡ false
-none_true true off = absurd (off refl)
-none_true false off = refl
-
 some_fault : {A : Type 0} (kinds : List A) → kinds ≢ [] → is_empty kinds ≡ false
 some_fault [] some = absurd (some refl)
-some_fault (k ∷ kinds) some = none_true (length (k ∷ kinds) == 0) (λ e. absurd (omega (arith, eqb-true (length (k ∷ kinds)) 0 e)))
+some_fault (k ∷ kinds) some = false_from_ne_true (length (k ∷ kinds) == 0) (λ e. absurd (omega (arith, eqb-true (length (k ∷ kinds)) 0 e)))
 
 module _ (verb : Verb) (words : List Text) where
   abbrev asked_where : Bool → Option Request

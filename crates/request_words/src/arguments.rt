@@ -1,6 +1,6 @@
 //! Words by the definition of a simple command of `clap`, and what its matches hold.
 
-ghost use Rattle.std.specs.Prelude.{◌≡◌, ◌≢◌, ◌≤◌, ◌<◌, ◌^◌, [], IfOk, OnOk, Err, map, pos, string_bytes, true, false};
+ghost use Rattle.std.specs.Prelude.{◌≡◌, ◌≢◌, ◌≤◌, ◌<◌, [], IfOk, OnOk, Err, map, pos, string_bytes, true, false};
 ghost use Rattle.clap.specs.Words.{rule_of, app_of, found_of, rows_of, matches_of, fault_of, kind_of, is_simple_and_free, with_rule};
 ghost use Rattle.clap.specs.declared.error.ErrorKind.TheVariants.{OutOfMemory};
 ghost use Rattle.clap.specs.declared.builder.value_parser.ValueParser.TheVariants as value_parsers;

@@ -17,7 +17,7 @@ syntax_line line more one never r rest spelled e = never r spelled (sym (line_on
 pub unended : (rest : Text) → ¬ Contains rest 10 → IsNoRecord rest
 unended rest one r more spelled e = no_line_in rest (spelling r) more one e
 
-abbrev is_inside : ℕ → Bool
+abbrev pub is_inside : ℕ → Bool
 is_inside byte = not (byte == 10)
 
 is_other : (b : ℕ) → (b ≡ 10 → ⊥) → is_inside b ≡ true

@@ -130,11 +130,15 @@ right_classes {c} {t} {before} body small = right_more (class_records t.births) 
     rw (take-map f k births, get_or-map f births k (0, None) End below, item)
     (right_class body small k inside (take k births) (omega (arith, length-take k births))))
 
+-- The first numbers with their classes and marks.
+pub record AreMembersSoFar (t : ClassTable) (evidence : List Evidence) (members : List (ℕ × Mark)) : Type 0 where
+  pub classes : (n : ℕ) → n < length members → (get_or members n (0, mark.Rep)).0 ≡ class_at t n
+  pub marks : (n : ℕ) → n < length members → number_mark t evidence n ≡ Some (get_or members n (0, mark.Rep)).1
+
 -- All numbers with their classes and marks.
 pub record AreMembers (t : ClassTable) (evidence : List Evidence) (members : List (ℕ × Mark)) : Type 0 where
   pub count : length members ≡ length t.class_of
-  pub classes : (n : ℕ) → n < length members → (get_or members n (0, mark.Rep)).0 ≡ class_at t n
-  pub marks : (n : ℕ) → n < length members → number_mark t evidence n ≡ Some (get_or members n (0, mark.Rep)).1
+  pub each : AreMembersSoFar t evidence members
 
 -- The lines behind which member lines stand.
 record AreClassed (c : Circuit) (t : ClassTable) (evidence : List Evidence) (lines : List Record) : Type 0 where
@@ -164,7 +168,7 @@ right_member : {c : Circuit} {t : ClassTable} {evidence : List Evidence} {lines 
 right_member {c} {t} {evidence} {lines} {members} classed small are k below ys count =
     let f : ℕ × (ℕ × Mark) → Record = λ x. Member x.0 x.1.0 x.1.1 in
     record {
-      spelled = (omega (arith, small.numbers, are.count), omega (arith, are.classes k below, small.classes k (omega (arith, are.count))));
+      spelled = (omega (arith, small.numbers, are.count), omega (arith, are.each.classes k below, small.classes k (omega (arith, are.count))));
       right = record {
         t = t;
         table = rw (read_kept f lines pattern_of (λ x. refl) ys) classed.table;
@@ -172,8 +176,8 @@ right_member {c} {t} {evidence} {lines} {members} classed small are k below ys c
         content = record {
           next = omega (arith, count_more f lines is_member (λ x. refl) ys, classed.no_member);
           inside = omega (arith, are.count);
-          class_is = are.classes k below;
-          mark_is = rw (read_kept f lines evidence_of (λ x. refl) ys, classed.evidence_is) (are.marks k below);
+          class_is = are.each.classes k below;
+          mark_is = rw (read_kept f lines evidence_of (λ x. refl) ys, classed.evidence_is) (are.each.marks k below);
         };
       };
     }

@@ -23,7 +23,7 @@ use Rattle.result_file.specs.Valid.{AreRightLines}
 use Rattle.result_file.specs.Meaning.{class_records, member_records, is_body_record}
 use Rattle.result_file.proofs.FileLemmas.{next_right}
 use Rattle.result_file.proofs.RecordLists.{count_kept, count_more, read_kept}
-use Rattle.result_file.proofs.RightLines.{IsNextLine, AreMembers}
+use Rattle.result_file.proofs.RightLines.{IsNextLine, AreMembers, AreMembersSoFar}
 use Rattle.net_model.proofs.OneAnswer.{one_table}
 use Rattle.net_model.proofs.Elements.{All-left}
 
@@ -82,10 +82,6 @@ heads_none p sources positions numbers b body first second none =
     omega (arith, one, two, none, sum_by-cons (λ r. cond (p r) 1 0) head (Budget b ∷ body), sum_by-cons (λ r. cond (p r) 1 0) (Budget b) body)
 
 -- ---- the members so far
-
-record AreMembersSoFar (t : ClassTable) (evidence : List Evidence) (members : List (ℕ × Mark)) : Type 0 where
-  classes : (n : ℕ) → n < length members → (get_or members n (0, mark.Rep)).0 ≡ class_at t n
-  marks : (n : ℕ) → n < length members → number_mark t evidence n ≡ Some (get_or members n (0, mark.Rep)).1
 
 member_more : {t : ClassTable} {evidence : List Evidence} (members : List (ℕ × Mark)) (class : ℕ) (m : Mark) → AreMembersSoFar t evidence members
     → class ≡ class_at t (length members) → number_mark t evidence (length members) ≡ Some m → AreMembersSoFar t evidence (members ++ (class, m) ∷ [])
@@ -247,7 +243,7 @@ module _ (c : Circuit) (circuit : IsCircuit c) (sources positions numbers : ℕ)
         let next = next_right (listed members) End rest right e in
         let same = same_table (listed members) next.right.t (listed_patterns members) next.right.table in
         let count : length members ≡ length t.class_of = sym (listed_members members) ∙ next.right.place.1 ∙ ap (λ (u : ClassTable). length u.class_of) same in
-        record { body = body; t = t; members = members; inside = inside; widths = widths; table = table; are = record { count = count; classes = so_far.classes; marks = so_far.marks }; whole = ended members rest many e }
+        record { body = body; t = t; members = members; inside = inside; widths = widths; table = table; are = record { count = count; each = so_far }; whole = ended members rest many e }
 
     not_behind_members : (members : List (ℕ × Mark)) (u : ClassTable) (r : Record) → 0 < length members → (is_member r ≡ false) → (is_end r ≡ false) → IsInPlace u (listed members) r → ⊥
     not_behind_members members u (Head s p n) many other later place = omega (arith, ap length place, length-append (heads ++ class_records t.births) (member_records members), long (class_records t.births))

@@ -147,7 +147,7 @@ module _ (c : Circuit) (budgets : Budgets) (body : List Record) (t : ClassTable)
   module _ (sound : AreSound c) (right : AreRightLines c (stated_records c stated)) (isbody : All (λ r. IsTrue (is_body_record r)) body)
       (table : IsSoundTable c (patterns_in body) t) (are : AreMembers t (evidence_in body) members) where
     class_is : (n : ℕ) → n < length t.class_of → stated_class stated n ≡ class_at t n
-    class_is n below = are.classes n (omega (arith, are.count))
+    class_is n below = are.each.classes n (omega (arith, are.count))
 
     mate_is : (n : ℕ) → n < length t.class_of → lowest_mate stated n ≡ representative t (class_at t n)
     unfolding representative
@@ -164,7 +164,7 @@ module _ (c : Circuit) (budgets : Budgets) (body : List Record) (t : ClassTable)
 
     -- the evidence that gives a number's mark
     given : (n : ℕ) (m : Mark) → n < length t.class_of → stated_mark stated n ≡ m → ((representative t (class_at t n) ≡ n) × (mark.Rep ≡ m)) ⊎ IsMarkedBy t (evidence_in body) n m
-    given n m below is = mark_cases t (evidence_in body) n m (are.marks n (omega (arith, are.count)) ∙ ap Some is)
+    given n m below is = mark_cases t (evidence_in body) n m (are.each.marks n (omega (arith, are.count)) ∙ ap Some is)
 
     -- and that it is right for the number and its representative
     right_for : (n : ℕ) (m : Mark) → IsMarkedBy t (evidence_in body) n m → (p : Proof) × (mark_of p ≡ m) × HasRightRoots c (fault_numbered c (representative t (class_at t n))) (fault_numbered c n) p
@@ -223,7 +223,7 @@ module _ (c : Circuit) (budgets : Budgets) (body : List Record) (t : ClassTable)
       body = isbody;
       births = record { first = table.first; later = table.later };
       numbers = are.count ∙ table.numbers;
-      classes = All-from_get_or (λ member. member.0 < length t.births) members (0, mark.Rep) (λ n below. let e = are.classes n below in omega (arith, table.classes n (omega (arith, are.count))));
+      classes = All-from_get_or (λ member. member.0 < length t.births) members (0, mark.Rep) (λ n below. let e = are.each.classes n below in omega (arith, table.classes n (omega (arith, are.count))));
       apart = λ m n low high differ.
           let i = class_is m (omega (arith, table.numbers)) in
           let j = class_is n (omega (arith, table.numbers)) in

@@ -1,6 +1,6 @@
 //! Logs as fields of a line.
 
-ghost use Rattle.std.specs.Prelude.{◌≡◌, ◌++◌, ◌∷◌, List, ℕ, OnOk, Option, codes, decimal, flat_map, map};
+ghost use Rattle.std.specs.Prelude.{◌≡◌, ◌++◌, ◌∷◌, OnOk, Option, codes, decimal, flat_map, map};
 ghost use Rattle.std.specs.Option.{option_to_list};
 ghost use Rattle.std.specs.String.{string_bytes};
 ghost use Rattle.result_file.specs.Spelling.{behind_blanks, chain_fields, literal_field};

@@ -4,8 +4,8 @@ use Rattle.std.proofs.lemmas.Bool.{cases_lt, cases_eq, eqb-true, eq-eqb}
 use Rattle.std.proofs.lemmas.List.{ext_get_or, length_push, length-set, get_or_append_left, get_or_push, get_or-set_same, get_or-set_other, get_or_default}
 use Rattle.std.proofs.lemmas.List.Elements.{Contains-get_or}
 use Rattle.std.proofs.lemmas.List.FromFn.{get_or-map-range_with_len, length-map-range_with_len}
+use Rattle.std.specs.Cmp.Derive.{one_truth}
 use Rattle.net_model.specs.ClassTable.{ClassTable, class_count, representative, same_bits}
-use Rattle.class_refine.proofs.Ranges.{same_tests}
 use Rattle.table_dicts.specs.AnswerTable.{answer_in}
 use Rattle.table_dicts.specs.Grouped.{AreGroupsOf, AreDifferent}
 use Rattle.table_dicts.proofs.EntryLemmas.{same_bits-Decides}
@@ -85,7 +85,7 @@ code_is t row c are class answer h ha =
     let code = get_or c.numbers class 0 in
     let own = answer_in row (representative t class) in
     let test = same_bits-Decides own (get_or (candidates t row) answer []) in
-    same_tests (eqb code answer) (same_bits own (get_or (candidates t row) answer []))
+    one_truth (eqb code answer) (same_bits own (get_or (candidates t row) answer []))
     (λ so. test.1 (sym (are.own class h) ∙ ap (λ k. get_or (candidates t row) k []) (eqb-true code answer so)))
     (λ so. eq-eqb code answer (are.different.apart code answer (are.within class h) ha (are.own class h ∙ test.0 so)))
 

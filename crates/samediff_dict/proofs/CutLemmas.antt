@@ -7,7 +7,8 @@ use Rattle.std.proofs.Math.Bool.{and_comm}
 use Rattle.std.proofs.lemmas.Bool.{eqb-true, eq-eqb, and_parts, and_from}
 use Rattle.std.proofs.lemmas.List.{get_or_default, get_or-replicate, length-replicate}
 use Rattle.std.proofs.lemmas.List.FromFn.{get_or-range_with_len, length-range_with_len}
-use Rattle.class_refine.proofs.Ranges.{same_tests, range_ascends}
+use Rattle.std.specs.Cmp.Derive.{one_truth}
+use Rattle.class_refine.proofs.Ranges.{range_ascends}
 use Rattle.samediff_dict.specs.declared.partition.Partition.{Partition}
 use Rattle.samediff_dict.specs.Groups.{AreWithin, AreGroups, InBoth, InBothAt, in_one, is_shared, gain_at, pairs_where, tells_apart, IsFoundAbove}
 use Rattle.samediff_dict.specs.Partition.{group_in, are_together, together_in_both, TogetherAt, TogetherInBoth, AreMatched, IsListed, IsPartition, pairs_between}
@@ -209,7 +210,7 @@ unfolding gain_at
 gain_met p q {r} answers is answer =
     let n = length answers in
     let same : (low high : ℕ) → low < length answers → high < length answers → are_together r low high ≡ together_in_both p q low high = λ low high hl hh.
-    same_tests (are_together r low high) (together_in_both p q low high)
+    one_truth (are_together r low high) (together_in_both p q low high)
     (λ so. let both = is.together_are low high hl hh (eqb-true (group_in r low) (group_in r high) so) in and_from (are_together p low high) (are_together q low high) (eq-eqb (group_in p low) (group_in p high) both.0) (eq-eqb (group_in q low) (group_in q high) both.1))
     (λ so.
     let both = and_parts (are_together p low high) (are_together q low high) so in

@@ -2,7 +2,7 @@
 use Rattle.std.proofs.Common.{◌≡◌, ◌∙◌, ℕ, ◌+◌, ◌<◌, ◌≤◌, Bool, true, false, not, cond, eqb, ◌&&◌, List, length, get_or, slice_index, set, refl, sym, ap, subst, arith, inl, inr}
 use Rattle.std.proofs.lemmas.Bool.{cases_eq, eqb-true, eq-eqb, ne_eqb, and_parts, and_from}
 use Rattle.std.proofs.lemmas.List.{get_or-set_same, get_or-set_other}
-use Rattle.class_refine.proofs.Ranges.{same_tests}
+use Rattle.std.specs.Cmp.Derive.{one_truth}
 use Rattle.samediff_dict.specs.Groups.{AreGroups, InBoth, IsTallyOf, AreGains, IsFirstMost, gain_at, in_one, size_to, pairs_where, tells_apart}
 use Rattle.samediff_dict.proofs.PairLemmas.{sum_to, sum_to_more, sum_to_where, sum_to_both, sum_to-few, sum_by-range, one_if, one_if-one, pairs_are, others_of, gain_by_place}
 
@@ -25,7 +25,7 @@ module _ (groups answers cells : List ℕ) (count cell_count : ℕ) (sizes alike
   same_cell other place ho hc =
       let g = eqb (get_or groups other 0) (get_or groups place 0) in
       let k = eqb (get_or answers other 0) (get_or answers place 0) in
-      same_tests (eqb (get_or cells other 0) (get_or cells place 0)) (g && k)
+      one_truth (eqb (get_or cells other 0) (get_or cells place 0)) (g && k)
       (λ so. let both = is.together_are other place ho hc (eqb-true (get_or cells other 0) (get_or cells place 0) so) in and_from g k (eq-eqb (get_or groups other 0) (get_or groups place 0) both.0) (eq-eqb (get_or answers other 0) (get_or answers place 0) both.1))
       (λ so. let both = and_parts g k so in eq-eqb (get_or cells other 0) (get_or cells place 0) (is.same other place ho hc (eqb-true (get_or groups other 0) (get_or groups place 0) both.0, eqb-true (get_or answers other 0) (get_or answers place 0) both.1)))
 

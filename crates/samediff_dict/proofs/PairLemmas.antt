@@ -5,7 +5,8 @@ use Rattle.std.specs.Bool.{beq}
 use Rattle.std.specs.List.{range_with_len}
 use Rattle.std.proofs.lemmas.Bool.{cases_Bool, eqb-true, eq-eqb}
 use Rattle.std.proofs.lemmas.List.Sums.{sum_by_push}
-use Rattle.class_refine.proofs.Ranges.{range_more, same_tests}
+use Rattle.std.specs.Cmp.Derive.{one_truth}
+use Rattle.net_model.proofs.Ranges.{range_more}
 use Rattle.samediff_dict.specs.Groups.{pairs_where, in_one, tells_apart}
 
 -- the sum of the values at the numbers below a limit
@@ -121,7 +122,7 @@ none_itself true false = refl
 none_itself false g = refl
 
 eqb_back : (a b : ℕ) → eqb a b ≡ eqb b a
-eqb_back a b = same_tests (eqb a b) (eqb b a) (λ e. eq-eqb b a (sym (eqb-true a b e))) (λ e. eq-eqb a b (sym (eqb-true b a e)))
+eqb_back a b = one_truth (eqb a b) (eqb b a) (λ e. eq-eqb b a (sym (eqb-true a b e))) (λ e. eq-eqb a b (sym (eqb-true b a e)))
 
 module _ (group_of answers : List ℕ) (n : ℕ) where
   -- how many places of its group answer otherwise than a place

@@ -5,24 +5,22 @@ use Rattle.std.specs.List.{range_with_len}
 use Rattle.std.proofs.lemmas.Bool.{cases_eq, cases_order, eq-eqb}
 use Rattle.std.proofs.lemmas.Bool.Decides.{nat_tests}
 use Rattle.std.proofs.lemmas.List.{append-nil}
-use Rattle.std.proofs.lemmas.List.Elements.{filter-append, All-filter}
+use Rattle.std.proofs.lemmas.List.Elements.{All-filter}
 use Rattle.std.proofs.lemmas.List.Kept.{AllPairs-filter}
 use Rattle.net_model.proofs.Elements.{Contains-filter}
-use Rattle.class_refine.proofs.Ranges.{range_more, range_ascends, range_below, range-contains}
+use Rattle.net_model.proofs.Ranges.{filter-range_more}
+use Rattle.class_refine.proofs.Ranges.{range_ascends, range_below, range-contains}
 use Rattle.samediff_dict.specs.Groups.{is_shared, size_to}
 use Rattle.samediff_dict.proofs.PairLemmas.{sum_to, one_if}
 use Rattle.samediff_dict.proofs.GainLemmas.{size_is}
 
 -- ---- the first numbers that pass a test
 
-filter_more : (test : ℕ → Bool) (n : ℕ) → filter test (range_with_len 0 (n + 1)) ≡ filter test (range_with_len 0 n) ++ cond (test n) (n ∷ []) []
-filter_more test n = ap (filter test) (range_more n) ∙ filter-append test (range_with_len 0 n) (n ∷ [])
-
 pub filter_with : (test : ℕ → Bool) (n : ℕ) → test n ≡ true → filter test (range_with_len 0 (n + 1)) ≡ filter test (range_with_len 0 n) ++ n ∷ []
-filter_with test n so = filter_more test n ∙ ap (λ b. filter test (range_with_len 0 n) ++ cond b (n ∷ []) []) so
+filter_with test n so = filter-range_more test n ∙ ap (λ b. filter test (range_with_len 0 n) ++ cond b (n ∷ []) []) so
 
 pub filter_without : (test : ℕ → Bool) (n : ℕ) → test n ≡ false → filter test (range_with_len 0 (n + 1)) ≡ filter test (range_with_len 0 n)
-filter_without test n not_so = filter_more test n ∙ (ap (λ b. filter test (range_with_len 0 n) ++ cond b (n ∷ []) []) not_so ∙ append-nil (filter test (range_with_len 0 n)))
+filter_without test n not_so = filter-range_more test n ∙ (ap (λ b. filter test (range_with_len 0 n) ++ cond b (n ∷ []) []) not_so ∙ append-nil (filter test (range_with_len 0 n)))
 
 pub filter_ascends : (test : ℕ → Bool) (n : ℕ) → AllPairs (λ low high. low < high) (filter test (range_with_len 0 n))
 filter_ascends test n = AllPairs-filter (λ (low high : ℕ). low < high) test (range_with_len 0 n) (range_ascends n)

@@ -1,6 +1,6 @@
 //! The rows of the chosen baselines, copied out of a table of answers.
 
-ghost use Rattle.std.specs.Prelude.{◌≡◌, ◌+◌, ◌<◌, ◌≤◌, ◌^◌, ℕ, Bool, List, length, slice_index, All, Contains, IfOk};
+ghost use Rattle.std.specs.Prelude.{◌≡◌, ◌+◌, ◌<◌, ◌≤◌, ℕ, Bool, List, length, slice_index, All, Contains, IfOk};
 ghost use Rattle.net_model.specs.ClassTable.{class_count};
 ghost use Rattle.table_dicts.specs.Rows.{AreRows, AreRowsBegun};
 ghost use Rattle.samediff_dict.specs.Chosen.{chosen_baselines};

@@ -1,6 +1,6 @@
 //! Circuits from tables of gates.
 
-ghost use Rattle.std.specs.Prelude.{◌≡◌, ◌<◌, ◌↔◌, ℕ, List, Err, length, map, All, IfOk, IsErrOf, IsTrue};
+ghost use Rattle.std.specs.Prelude.{◌≡◌, ◌<◌, ◌↔◌, ℕ, List, Err, map, All, IfOk, IsErrOf, IsTrue};
 ghost use Rattle.net_model.specs.Gate.{takes_pins};
 ghost use Rattle.net_model.specs.Circuit.{FitsTogether, IsCircuit, circuit_with};
 ghost use Rattle.net_model.specs.LoopWalk.{IsLoopWalk};

@@ -3,7 +3,6 @@
 ghost use Rattle.std.specs.Prelude.{◌≡◌, ◌+◌, ◌<◌, ◌≤◌, ◌^◌, All, IfOk, length, min, slice_range};
 ghost use Rattle.std.specs.String.{string_bytes};
 ghost use Rattle.net_model.specs.FaultList.{faults as faults_of};
-ghost use Rattle.table_dicts.specs.AnswerTable.{AreAnswers};
 ghost use Rattle.sim_listing.specs.SimText.{texts_from, IsSimTextFrom};
 
 use crate::lines::Row;

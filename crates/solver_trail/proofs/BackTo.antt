@@ -7,9 +7,8 @@ use Rattle.std.proofs.lemmas.List.Elements.{All-cons, All-nil}
 use Rattle.clause_pool.specs.Literal.{Literal}
 use Rattle.solver_trail.specs.declared.set_literals.SetLiteral.{SetLiteral}
 use Rattle.solver_trail.specs.declared.set_literals.Slot.{Slot}
-use Rattle.solver_trail.specs.Assignment.{literals_of, AreLevels}
+use Rattle.solver_trail.specs.Assignment.{literals_of, AreLevels, no_literal}
 use Rattle.solver_trail.specs.StackFields.{ArePlaced}
-use Rattle.solver_trail.proofs.Held.{no_literal}
 use Rattle.solver_trail.proofs.Levels.{AreLevels-pop, follows_bounds, level_between}
 use Rattle.solver_trail.proofs.Placed.{placed_pop}
 

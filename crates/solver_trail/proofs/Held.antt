@@ -1,15 +1,11 @@
 -- The literals of a list of set literals.
-use Rattle.std.proofs.Common.{◌≡◌, ◌∙◌, inl, inr, ℕ, ◌<◌, List, [], ◌∷◌, ◌++◌, length, get_or, None, sym, ap, arith}
+use Rattle.std.proofs.Common.{◌≡◌, ◌∙◌, inl, inr, ℕ, ◌<◌, List, [], ◌∷◌, ◌++◌, length, get_or, sym, ap, arith}
 use Rattle.std.specs.Prelude.{Bool, true, false, not, Contains}
 use Rattle.std.proofs.lemmas.Bool.{cases_eq, cases_lt}
 use Rattle.std.proofs.lemmas.List.{length-map, get_or-map, get_or_append_left, get_or_push}
 use Rattle.clause_pool.specs.Literal.{Literal, opposite}
 use Rattle.solver_trail.specs.declared.set_literals.SetLiteral.{SetLiteral}
-use Rattle.solver_trail.specs.Assignment.{Assignment, IsTrail, held, literals_of}
-
--- any set literal, for places past the end
-pub no_literal : SetLiteral
-no_literal = record { literal = record { variable = 0; positive = false }; level = 0; reason = None }
+use Rattle.solver_trail.specs.Assignment.{Assignment, IsTrail, held, literals_of, no_literal}
 
 pub literal_at : (entries : List SetLiteral) (k : ℕ) (d : SetLiteral) (e : Literal) → k < length entries
     → get_or (literals_of entries) k e ≡ (get_or entries k d).literal

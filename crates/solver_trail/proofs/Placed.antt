@@ -11,9 +11,9 @@ use Rattle.clause_pool.specs.Literal.{Literal, opposite}
 use Rattle.clause_pool.specs.Partial.{IsUndetermined}
 use Rattle.solver_trail.specs.declared.set_literals.SetLiteral.{SetLiteral}
 use Rattle.solver_trail.specs.declared.set_literals.Slot.{Slot}
-use Rattle.solver_trail.specs.Assignment.{literals_of, AreLevels, IsInside, IsTrail, IsValueOf}
+use Rattle.solver_trail.specs.Assignment.{literals_of, AreLevels, IsInside, IsTrail, IsValueOf, no_literal}
 use Rattle.solver_trail.specs.StackFields.{slot_of, ArePlaced}
-use Rattle.solver_trail.proofs.Held.{no_literal, place_of, held_at, at_push_before, at_push_end}
+use Rattle.solver_trail.proofs.Held.{place_of, held_at, at_push_before, at_push_end}
 
 -- ---- counts of open slots
 

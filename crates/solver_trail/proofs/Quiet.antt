@@ -7,10 +7,10 @@ use Rattle.clause_pool.specs.Literal.{Literal, opposite}
 use Rattle.clause_pool.specs.Clauses.{Clause, numbered_clause}
 use Rattle.clause_pool.specs.Partial.{IsQuiet}
 use Rattle.clause_pool.proofs.PartialLemmas.{literal_status}
-use Rattle.solver_trail.specs.Assignment.{Assignment, held}
+use Rattle.solver_trail.specs.Assignment.{Assignment, held, no_literal}
 use Rattle.solver_trail.specs.Watches.{partner, watched, AreWatched, AreWatching, AreKept}
 use Rattle.solver_trail.specs.Propagation.{AreSatisfied}
-use Rattle.solver_trail.proofs.Held.{no_literal, place_of, held_at}
+use Rattle.solver_trail.proofs.Held.{place_of, held_at}
 use Rattle.solver_trail.proofs.Pairs.{partner_back, partner_within}
 
 -- a clause with two literals of which one is true where the other is false

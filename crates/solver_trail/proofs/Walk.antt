@@ -234,4 +234,4 @@ pub walk_kept : {attached : Attached} {clauses : List Clause} {lit : Literal} {a
     → AreKept a.literals visited place w.literals.items
     → AreKept a.literals visited (if is_none found then place + 1 else place) w.literals.items
 walk_kept h None done place visited at_place le k = walk_end h (done refl) place visited at_place le k
-walk_kept h (Some number) done place visited at_place le k = k
+walk_kept h (Some clause) done place visited at_place le k = k

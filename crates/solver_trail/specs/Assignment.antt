@@ -10,6 +10,10 @@ pub record Assignment : Type 0 where
   pub literals : List SetLiteral
   pub level : ℕ
 
+-- any set literal, for places past the end
+abbrev pub no_literal : SetLiteral
+no_literal = record { literal = record { variable = 0; positive = false }; level = 0; reason = None }
+
 -- the assignment with one more literal, whose level is the present one from then on
 abbrev pub with_literal : Assignment → SetLiteral → Assignment
 with_literal a s = record { variables = a.variables; literals = a.literals ++ s ∷ []; level = s.level }

@@ -1,6 +1,6 @@
 //! Which literals a clause watches when it is attached.
 
-ghost use Rattle.std.specs.Prelude.{◌≡◌, ◌≢◌, ◌≤◌, ◌<◌, length, MatchOption};
+ghost use Rattle.std.specs.Prelude.{◌≢◌, ◌≤◌, ◌<◌, length, MatchOption};
 ghost use Rattle.clause_pool.specs.Proper.{IsProper};
 ghost use Rattle.solver_trail.specs.Watches.{AreWatched};
 

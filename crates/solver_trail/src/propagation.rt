@@ -1,7 +1,7 @@
 //! Unit propagation. Clauses of one literal come first. Then the set literals are gone through in order: each clause that watches
 //! the opposite of one, which is false now, watches another literal instead, or has its other watched literal set.
 
-ghost use Rattle.std.specs.Prelude.{◌≡◌, ◌≢◌, ℕ, ◌+◌, ◌<◌, ◌≤◌, [], ◌++◌, None, Some, Contains, IsNone, IfSome, MatchOption, is_none, if◌then◌else◌, length};
+ghost use Rattle.std.specs.Prelude.{◌≡◌, ℕ, ◌+◌, ◌<◌, ◌≤◌, [], None, Some, Contains, IsNone, IfSome, MatchOption, is_none, if◌then◌else◌, length};
 ghost use Rattle.clause_pool.specs.Literal.{opposite};
 ghost use Rattle.clause_pool.specs.Clauses.{Clause, numbered_clause};
 ghost use Rattle.clause_pool.specs.Proper.{IsProper};

@@ -1,6 +1,6 @@
 //! The literals that are set, in order, with their levels and reasons.
 
-ghost use Rattle.std.specs.Prelude.{◌≡◌, ◌<◌, ◌≤◌, ◌+◌, ◌-◌, [], ◌∷◌, ◌++◌, None, Some, IsTrue, IsFalse, IfOk, length, take, vec_capacity};
+ghost use Rattle.std.specs.Prelude.{◌≡◌, ◌<◌, ◌≤◌, ◌+◌, ◌-◌, [], None, Some, IsTrue, IsFalse, IfOk, length, take, vec_capacity};
 ghost use Rattle.std.specs.List.{HoldsAt};
 ghost use Rattle.solver_trail.specs.Assignment.{IsUnset, IsSetAt, IsValueOf, IsTrail, FollowsLevel, CutsAbove, IsSteady, IsNotFalseBefore, with_literal, decision, held};
 ghost use Rattle.solver_trail.specs.declared.set_literals.SetLiteral.{SetLiteral};

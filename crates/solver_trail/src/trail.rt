@@ -1,6 +1,6 @@
 //! The trail.
 
-ghost use Rattle.std.specs.Prelude.{◌≡◌, ◌≤◌, ◌<◌, ◌+◌, ◌⊎◌, [], ◌∷◌, ◌++◌, List, None, Some, IfOk, OnOk, OnErr, MatchOption, length};
+ghost use Rattle.std.specs.Prelude.{◌≡◌, ◌≤◌, ◌<◌, ◌⊎◌, List, None, Some, IfOk, OnOk, OnErr, MatchOption, length};
 ghost use Rattle.clause_pool.specs.Clauses.{Clause, numbered_clause};
 ghost use Rattle.clause_pool.specs.Proper.{IsProper};
 ghost use Rattle.solver_trail.specs.Assignment.{IsUnset, IsTrail, Propagates, CutsAbove, with_literal, decision, held};

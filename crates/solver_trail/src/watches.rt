@@ -1,6 +1,6 @@
 //! The literals that attached clauses watch, and for each literal the list of its watches (Moskewicz et al. 2001).
 
-ghost use Rattle.std.specs.Prelude.{◌≡◌, ◌+◌, ◌*◌, ◌<◌, ◌≤◌, ◌^◌, [], ◌∷◌, ◌++◌, None, Some, IfOk, is_ok, if◌then◌else◌, length, vec_len, vec_capacity, replicate, slice_set, slice_index_or};
+ghost use Rattle.std.specs.Prelude.{◌≡◌, ◌+◌, ◌*◌, ◌<◌, ◌^◌, [], ◌∷◌, ◌++◌, None, Some, IfOk, is_ok, if◌then◌else◌, length, vec_len, vec_capacity, replicate, slice_set, slice_index_or};
 ghost use Rattle.clause_pool.specs.LiteralCode.{code_of};
 ghost use Rattle.solver_trail.specs.Watches as spec;
 ghost use Rattle.solver_trail.specs.Watches.{AreInLists, IsAhead, IsRewatched, head_of};
@@ -78,7 +78,7 @@ impl Watches {
         ensures nexts { self.new.nexts ≡ self.old.nexts }
         ensures literals { self.new.literals ≡ self.old.literals }
     {
-        let code = code(lit);
+        let code = lit.code();
         let first = self.firsts[code];
         self.firsts[code] = None;
         first
@@ -95,7 +95,7 @@ impl Watches {
         ensures literal_room { vec_capacity self.new.literals ≡ vec_capacity self.old.literals }
         ensures next_room { vec_capacity self.new.nexts ≡ vec_capacity self.old.nexts }
     {
-        let code = code(lit);
+        let code = lit.code();
         let followed = self.nexts[at];
         self.literals[at] = lit;
         self.nexts[at] = self.firsts[code];
@@ -127,12 +127,4 @@ pub(crate) fn partner(watch: usize) -> usize
     ensures { result ≡ spec.partner watch }
 {
     if watch % 2 == 0 { watch + 1 } else { watch - 1 }
-}
-
-// The number of a literal: twice its variable, and one more where it is positive.
-fn code(lit: Lit) -> usize
-    ensures { result ≡ code_of lit }
-{
-    let sign = if lit.positive() { 1 } else { 0 };
-    2 * lit.variable() as usize + sign
 }

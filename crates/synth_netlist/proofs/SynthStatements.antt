@@ -155,7 +155,7 @@ decimal_run =
     (λ k ds h all. list_all-append is_name_byte ds ((48 + k % 10) ∷ []) ∙ rw (all, digit_run (k % 10) (omega arith)) refl)
 
 letter_run : (place : ℕ) → is_name_byte (letter place) ≡ true
-unfolding is_name_byte letter
+unfolding is_name_byte
 letter_run zero = refl
 letter_run (suc zero) = refl
 letter_run (suc (suc zero)) = refl

@@ -7,10 +7,11 @@ use Rattle.std.proofs.lemmas.List.{get_or-set_same, get_or-set_other}
 use Rattle.std.proofs.lemmas.List.Elements.{All-head, All-tail, Contains-get_or}
 use Rattle.std.proofs.lemmas.List.Sums.{sum_by-cons, sum_by_push, count_by-le-length}
 use Rattle.std.proofs.lemmas.List.FromFn.{length-range_with_len}
+use Rattle.std.specs.Cmp.Derive.{one_truth}
 use Rattle.net_model.proofs.Listed.{All-range_with_len}
 use Rattle.net_model.specs.ClassTable.{ClassTable, class_count, representative, same_bits}
 use Rattle.class_refine.specs.Fields.{IsWhole}
-use Rattle.class_refine.proofs.Ranges.{same_tests, range_more}
+use Rattle.net_model.proofs.Ranges.{range_more}
 use Rattle.class_refine.proofs.Refined.{representative-member}
 use Rattle.table_dicts.specs.Grouped.{IsGrouped, group_row}
 use Rattle.table_dicts.specs.Apart.{has_apart, apart_count}
@@ -70,7 +71,7 @@ module _ (t : ClassTable) (whole : IsWhole t) (numbers : ℕ) (groups : List ℕ
       let a = group_row groups entries (representative t low) in
       let b = group_row groups entries (representative t class) in
       let test = same_bits-Decides a b in
-      same_tests (same_bits a b) (eqb (group_at low) (group_at class))
+      one_truth (same_bits a b) (eqb (group_at low) (group_at class))
       (λ yes. eq-eqb (group_at low) (group_at class) (is.different.apart (group_at low) (group_at class) (group_known low l) (group_known class h) (test.0 yes)))
       (λ yes. test.1 (ap (λ g. get_or entries g []) (eqb-true (group_at low) (group_at class) yes)))
 

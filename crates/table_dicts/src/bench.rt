@@ -1,10 +1,9 @@
 //! A circuit with its faults, run on patterns as many at once as there are lanes.
 
-ghost use Rattle.std.specs.Prelude.{◌≡◌, ◌+◌, ◌<◌, ◌≤◌, ℕ, Bool, List, [], length, min, All, IsSome, IfOk, slice_range, slice_index_or};
+ghost use Rattle.std.specs.Prelude.{◌≡◌, ◌+◌, ◌<◌, ◌≤◌, ℕ, length, min, All, IfOk, slice_range};
 ghost use Rattle.net_model.specs.Circuit.{Circuit};
 ghost use Rattle.net_model.specs.FaultList.{faults as faults_of, fault_count, fault_numbered};
-ghost use Rattle.net_model.specs.Answer.{bit_at, IsAnswer};
-ghost use Rattle.word_sim.specs.GoodSim.{vectors_of};
+ghost use Rattle.net_model.specs.Answer.{bit_at};
 ghost use Rattle.fault_sim.specs.FaultSim.{AreDifferences};
 ghost use Rattle.table_dicts.specs.Blocks.{IsBench, HasRun, IsAnswerBit, IsFailBit, IsKeptBit, kept_width};
 

@@ -1,6 +1,6 @@
 //! Where bits of rows are written and copied.
 
-ghost use Rattle.std.specs.Prelude.{◌≡◌, ◌+◌, ◌*◌, ◌^◌, ◌<◌, ◌≤◌, ℕ, [], length, map, All, IfOk, slice_index, slice_index_or};
+ghost use Rattle.std.specs.Prelude.{◌≡◌, ◌+◌, ◌*◌, ◌^◌, ◌<◌, length, map, All, IfOk};
 ghost use Rattle.net_model.specs.Rows.{row_at, row_bit};
 ghost use Rattle.table_dicts.specs.BlockWords.{AreBitsSet};
 ghost use Rattle.table_dicts.specs.Rows.{IsBitSet, IsRowSet};

@@ -1,6 +1,6 @@
 //! Numbers in groups by their classes, and dictionaries of the entries of classes.
 
-ghost use Rattle.std.specs.Prelude.{◌≡◌, ◌≢◌, ◌<◌, ◌==◌, ◌^◌, ℕ, Bool, List, length, map, slice_index, slice_set, if◌then◌else◌, All, IfOk};
+ghost use Rattle.std.specs.Prelude.{◌≡◌, ◌≢◌, ◌<◌, ◌==◌, ◌^◌, Bool, List, length, map, slice_index, slice_set, if◌then◌else◌, All, IfOk};
 ghost use Rattle.std.specs.List.{range_with_len};
 ghost use Rattle.class_refine.specs.Fields.{IsWhole};
 ghost use Rattle.net_model.specs.ClassTable.{class_count, class_at, representative};

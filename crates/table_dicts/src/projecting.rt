@@ -3,7 +3,7 @@
 ghost use Rattle.net_model.specs.ClassTable.{same_bits};
 ghost use Rattle.net_model.specs.Rows.{row_at};
 ghost use Rattle.std.specs.List.{range_with_len};
-ghost use Rattle.std.specs.Prelude.{◌≡◌, ◌*◌, ◌<◌, ◌≢◌, [], length, map, not, IfOk};
+ghost use Rattle.std.specs.Prelude.{◌≡◌, ◌*◌, ◌<◌, ◌≢◌, length, map, not, IfOk};
 ghost use Rattle.table_dicts.specs.AnswerTable.{answer_to};
 ghost use Rattle.table_dicts.specs.Dictionary.{IsFull, IsPassFail, IsSameDiff, IsDictionary};
 ghost use Rattle.table_dicts.specs.Entries.{answers_of, same_diff_entry};

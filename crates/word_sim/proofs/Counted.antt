@@ -7,7 +7,8 @@ use Rattle.std.proofs.lemmas.List.{ext_get_or, map-append}
 use Rattle.std.proofs.lemmas.List.FromFn.{length-map-range_with_len, get_or-map-range_with_len}
 use Rattle.net_model.specs.Answer.{bit_at}
 use Rattle.net_model.proofs.Ranges.{range-append}
-use Rattle.word_sim.specs.Stream.{has_digit, stream_word, word_number, stream_bit, stream_vector, stream}
+use Rattle.net_model.specs.Rows.{bit_of}
+use Rattle.word_sim.specs.Stream.{stream_word, word_number, stream_bit, stream_vector, stream}
 use Rattle.word_sim.specs.Lanes.{low_digits, word_of}
 use Rattle.word_sim.proofs.Digits.{low_digit}
 
@@ -34,11 +35,11 @@ low_digits-word_of [] = refl
 low_digits-word_of (bit ∷ bits) = λ i. bit_digit bit (word_of bits) i ∷ (ap (low_digits (length bits)) (bit_half bit (word_of bits)) ∙ low_digits-word_of bits) i
 
 -- a source's bit in the first block is a digit of the vector's place
-counted_by : (b : Bool) (lane source word : ℕ) → b ≡ true → (if b then has_digit lane source else has_digit (stream_word word) lane) ≡ has_digit lane source
+counted_by : (b : Bool) (lane source word : ℕ) → b ≡ true → (if b then bit_of lane source else bit_of (stream_word word) lane) ≡ bit_of lane source
 counted_by true lane source word e = refl
 counted_by false lane source word e = cc
 
-counted_bit : (sources lane source : ℕ) → source < 6 → stream_bit sources 0 lane source ≡ has_digit lane source
+counted_bit : (sources lane source : ℕ) → source < 6 → stream_bit sources 0 lane source ≡ bit_of lane source
 unfolding stream_bit
 counted_bit sources lane source h =
     let test : nat_lt source 6 ≡ true = grind (arith, nat_tests) in

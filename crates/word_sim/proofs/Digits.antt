@@ -1,6 +1,6 @@
 -- The binary digits of words, as bits by lane.
 use Rattle.std.proofs.Common.{◌≡◌, ◌≢◌, ℕ, zero, suc, ◌+◌, ◌-◌, ◌/◌, ◌%◌, ◌^◌, ◌<◌, ◌≤◌, ◌⊎◌, ◌*◌, List, [], ◌∷◌, ◌++◌, length, get_or, set, map, replicate, min, max, refl, sym, ◌∙◌, ap, subst, arith, w64, inl, inr, ◌↔◌, IsTrue}
-use Rattle.std.specs.Prelude.{Bool, true, false, not, ◌&&◌, ◌||◌, ◌==◌, bit_and, bit_or, bit_xor, nat_lt, if◌then◌else◌}
+use Rattle.std.specs.Prelude.{Bool, true, false, not, ◌&&◌, ◌||◌, ◌==◌, bit_and, bit_or, bit_xor, if◌then◌else◌}
 use Rattle.std.specs.Int.{bit_at as digit_at, bit_not, trailing_zeros}
 use Rattle.std.proofs.lemmas.Bool.{cases_eq, cases_lt, false≢true}
 use Rattle.std.proofs.lemmas.Bool.Decides.{nat_tests}
@@ -8,20 +8,20 @@ use Rattle.std.specs.Simd.Lanes.{zip2, fold_l}
 use Rattle.std.proofs.lemmas.List.{length-append, get_or_append_left, get_or-append-add, length-map, get_or-map, length-replicate, get_or-replicate, length-set, get_or-set_same, get_or-set_other}
 use Rattle.std.proofs.lemmas.Simd.{length-zip2, get_or-zip2}
 use Rattle.std.proofs.lemmas.Nat.{le_or_l, le_or_r}
-use Rattle.std.proofs.lemmas.Nat.Bits.{bit_at_lowest, bit_at-suc, bit_at-lt, bit_at-zero, bit_at_and, bit_at_or, bit_at_xor, bit_at_not, bit_at_ones, bit_at_ones_above, bit_at-trailing_zeros}
+use Rattle.std.proofs.lemmas.Nat.Bits.{bit_at_lowest, bit_at-suc, bit_at-lt, bit_at-zero, bit_at_and, bit_at_or, bit_at_xor, bit_at_not, bit_at_ones, bit_at-trailing_zeros}
 use Rattle.net_model.specs.Answer.{bit_at}
-use Rattle.word_sim.specs.Stream.{has_digit}
+use Rattle.net_model.specs.Rows.{bit_of}
 use Rattle.word_sim.specs.Lanes.{low_digits, lanes_of}
 use Rattle.word_sim.specs.LanesFields.{AreWords, length-low_digits}
 use Rattle.word_sim.specs.declared.lanes.TheConstants.{LANES}
 
-pub low_digit : (n word lane : ℕ) → lane < n → bit_at (low_digits n word) lane ≡ has_digit word lane
+pub low_digit : (n word lane : ℕ) → lane < n → bit_at (low_digits n word) lane ≡ bit_of word lane
 low_digit zero word lane h = absurd (omega arith)
 low_digit (suc n) word zero h = ap (λ d. d == 1) (sym (bit_at_lowest word))
 low_digit (suc n) word (suc lane) h = low_digit n (word / 2) lane (omega arith) ∙ ap (λ d. d == 1) (sym (bit_at-suc word lane))
 
 -- the bit of a lane is a digit of its word
-pub lane_digit : (words : List ℕ) (lane : ℕ) → lane < 64 * length words → bit_at (lanes_of words) lane ≡ has_digit (get_or words (lane / 64) 0) (lane % 64)
+pub lane_digit : (words : List ℕ) (lane : ℕ) → lane < 64 * length words → bit_at (lanes_of words) lane ≡ bit_of (get_or words (lane / 64) 0) (lane % 64)
 unfolding lanes_of
 lane_digit [] lane h = absurd (omega arith)
 lane_digit (word ∷ words) lane h =
@@ -31,13 +31,13 @@ lane_digit (word ∷ words) lane h =
       | inl first ↦
           let place : 0 ≡ lane / 64 = omega arith in
           let at : lane ≡ lane % 64 = omega arith in
-          get_or_append_left digits (lanes_of words) false lane (omega arith) ∙ low_digit 64 word lane first ∙ (λ i. has_digit (get_or (word ∷ words) (place i) 0) (at i))
+          get_or_append_left digits (lanes_of words) false lane (omega arith) ∙ low_digit 64 word lane first ∙ (λ i. bit_of (get_or (word ∷ words) (place i) 0) (at i))
       | inr later ↦
           let on : lane ≡ length digits + (lane - 64) = omega arith in
           let place : suc ((lane - 64) / 64) ≡ lane / 64 = omega arith in
           let at : (lane - 64) % 64 ≡ lane % 64 = omega arith in
           ap (λ n. bit_at (digits ++ lanes_of words) n) on ∙ get_or-append-add digits (lanes_of words) (lane - 64) false
-          ∙ lane_digit words (lane - 64) (omega arith) ∙ (λ i. has_digit (get_or (word ∷ words) (place i) 0) (at i))
+          ∙ lane_digit words (lane - 64) (omega arith) ∙ (λ i. bit_of (get_or (word ∷ words) (place i) 0) (at i))
     ]
 
 pub length-lanes_of : (words : List ℕ) → length (lanes_of words) ≡ 64 * length words
@@ -72,23 +72,23 @@ not_test (suc (suc m)) h = absurd (omega arith)
 
 -- ---- the digits of what words give
 
-pub digit_and : (a b lane : ℕ) → has_digit (bit_and a b) lane ≡ (has_digit a lane && has_digit b lane)
+pub digit_and : (a b lane : ℕ) → bit_of (bit_and a b) lane ≡ (bit_of a lane && bit_of b lane)
 digit_and a b lane = ap (λ d. d == 1) (bit_at_and a b lane) ∙ min_test (digit_at a lane) (digit_at b lane) (bit_at-lt a lane) (bit_at-lt b lane)
 
-pub digit_or : (a b lane : ℕ) → has_digit (bit_or a b) lane ≡ (has_digit a lane || has_digit b lane)
+pub digit_or : (a b lane : ℕ) → bit_of (bit_or a b) lane ≡ (bit_of a lane || bit_of b lane)
 digit_or a b lane = ap (λ d. d == 1) (bit_at_or a b lane) ∙ max_test (digit_at a lane) (digit_at b lane) (bit_at-lt a lane) (bit_at-lt b lane)
 
-pub digit_xor : (a b lane : ℕ) → has_digit (bit_xor a b) lane ≡ (if has_digit a lane then not (has_digit b lane) else has_digit b lane)
+pub digit_xor : (a b lane : ℕ) → bit_of (bit_xor a b) lane ≡ (if bit_of a lane then not (bit_of b lane) else bit_of b lane)
 digit_xor a b lane = ap (λ d. d == 1) (bit_at_xor a b lane) ∙ odd_test (digit_at a lane) (digit_at b lane) (bit_at-lt a lane) (bit_at-lt b lane)
 
 -- words put together digit by digit are so lane by lane
-pub both_lanes : (op : ℕ → ℕ → ℕ) (test : Bool → Bool → Bool) → ((a b lane : ℕ) → has_digit (op a b) lane ≡ test (has_digit a lane) (has_digit b lane))
+pub both_lanes : (op : ℕ → ℕ → ℕ) (test : Bool → Bool → Bool) → ((a b lane : ℕ) → bit_of (op a b) lane ≡ test (bit_of a lane) (bit_of b lane))
     → (a b : List ℕ) → AreWords a → AreWords b → (lane : ℕ) → lane < LANES → bit_at (lanes_of (zip2 op a b)) lane ≡ test (bit_at (lanes_of a) lane) (bit_at (lanes_of b) lane)
 both_lanes op test digits a b first second lane h =
     let long : length (zip2 op a b) ≡ 4 = omega (arith, length-zip2 op a b (first.four ∙ sym second.four), first.four) in
     let word : get_or (zip2 op a b) (lane / 64) 0 ≡ op (get_or a (lane / 64) 0) (get_or b (lane / 64) 0) =
     get_or-zip2 op a b (lane / 64) 0 0 0 (omega (arith, h, first.four)) (omega (arith, h, second.four)) in
-    lane_digit (zip2 op a b) lane (omega arith) ∙ ap (λ w. has_digit w (lane % 64)) word ∙ digits (get_or a (lane / 64) 0) (get_or b (lane / 64) 0) (lane % 64)
+    lane_digit (zip2 op a b) lane (omega arith) ∙ ap (λ w. bit_of w (lane % 64)) word ∙ digits (get_or a (lane / 64) 0) (get_or b (lane / 64) 0) (lane % 64)
     ∙ sym (λ i. test (lane_digit a lane (omega (arith, h, first.four)) i) (lane_digit b lane (omega (arith, h, second.four)) i))
 
 pub both_words : (op : ℕ → ℕ → ℕ) → ((a b : ℕ) → a < 2 ^ 64 → b < 2 ^ 64 → op a b < 2 ^ 64) → (a b : List ℕ) → AreWords a → AreWords b → AreWords (zip2 op a b)
@@ -101,7 +101,7 @@ both_words op keeps a b first second = record {
       subst (λ n. n < 2 ^ 64) (sym (get_or-zip2 op a b at 0 0 0 in_first in_second)) (keeps (get_or a at 0) (get_or b at 0) (first.small at in_first) (second.small at in_second));
 }
 
-pub digit_not : (a lane : ℕ) → a < 2 ^ 64 → lane < 64 → has_digit (bit_not w64 a) lane ≡ not (has_digit a lane)
+pub digit_not : (a lane : ℕ) → a < 2 ^ 64 → lane < 64 → bit_of (bit_not w64 a) lane ≡ not (bit_of a lane)
 digit_not a lane h k = ap (λ d. d == 1) (bit_at_not w64 a lane h k) ∙ not_test (digit_at a lane) (bit_at-lt a lane)
 
 pub not_words : (words : List ℕ) → AreWords words → AreWords (map (bit_not w64) words)
@@ -117,7 +117,7 @@ pub not_lane : (words : List ℕ) → AreWords words → (lane : ℕ) → lane <
 not_lane words is lane h =
     let inside : lane / 64 < length words = omega (arith, h, is.four) in
     lane_digit (map (bit_not w64) words) lane (omega (arith, h, is.four, length-map words (bit_not w64)))
-    ∙ ap (λ w. has_digit w (lane % 64)) (get_or-map (bit_not w64) words (lane / 64) 0 0 inside)
+    ∙ ap (λ w. bit_of w (lane % 64)) (get_or-map (bit_not w64) words (lane / 64) 0 0 inside)
     ∙ digit_not (get_or words (lane / 64) 0) (lane % 64) (is.small (lane / 64) inside) (omega arith)
     ∙ sym (ap not (lane_digit words lane (omega (arith, h, is.four))))
 
@@ -129,21 +129,21 @@ splat_words word h = record {
   small = λ at l. subst (λ n. n < 2 ^ 64) (sym (get_or-replicate 4 at word 0 (omega (arith, l, length-replicate 4 word)))) h;
 }
 
-pub splat_lane : (word lane : ℕ) → lane < LANES → bit_at (lanes_of (replicate 4 word)) lane ≡ has_digit word (lane % 64)
+pub splat_lane : (word lane : ℕ) → lane < LANES → bit_at (lanes_of (replicate 4 word)) lane ≡ bit_of word (lane % 64)
 splat_lane word lane h =
-    lane_digit (replicate 4 word) lane (omega (arith, h, length-replicate 4 word)) ∙ ap (λ w. has_digit w (lane % 64)) (get_or-replicate 4 (lane / 64) word 0 (omega arith))
+    lane_digit (replicate 4 word) lane (omega (arith, h, length-replicate 4 word)) ∙ ap (λ w. bit_of w (lane % 64)) (get_or-replicate 4 (lane / 64) word 0 (omega arith))
 
-four_digits : (bit : ℕ → Bool) (a b c d : ℕ) → ((at : ℕ) → at < 64 → has_digit a at ≡ bit (0 + at)) → ((at : ℕ) → at < 64 → has_digit b at ≡ bit (64 + at))
-    → ((at : ℕ) → at < 64 → has_digit c at ≡ bit (128 + at)) → ((at : ℕ) → at < 64 → has_digit d at ≡ bit (192 + at))
-    → (k at : ℕ) → k < 4 → at < 64 → has_digit (get_or (a ∷ b ∷ c ∷ d ∷ []) k 0) at ≡ bit (64 * k + at)
+four_digits : (bit : ℕ → Bool) (a b c d : ℕ) → ((at : ℕ) → at < 64 → bit_of a at ≡ bit (0 + at)) → ((at : ℕ) → at < 64 → bit_of b at ≡ bit (64 + at))
+    → ((at : ℕ) → at < 64 → bit_of c at ≡ bit (128 + at)) → ((at : ℕ) → at < 64 → bit_of d at ≡ bit (192 + at))
+    → (k at : ℕ) → k < 4 → at < 64 → bit_of (get_or (a ∷ b ∷ c ∷ d ∷ []) k 0) at ≡ bit (64 * k + at)
 four_digits bit a b c d first second third fourth zero at h l = first at l
 four_digits bit a b c d first second third fourth (suc zero) at h l = second at l
 four_digits bit a b c d first second third fourth (suc (suc zero)) at h l = third at l
 four_digits bit a b c d first second third fourth (suc (suc (suc zero))) at h l = fourth at l
 four_digits bit a b c d first second third fourth (suc (suc (suc (suc k)))) at h l = absurd (omega arith)
 
-pub four_lanes : (bit : ℕ → Bool) (a b c d : ℕ) → ((at : ℕ) → at < 64 → has_digit a at ≡ bit (0 + at)) → ((at : ℕ) → at < 64 → has_digit b at ≡ bit (64 + at))
-    → ((at : ℕ) → at < 64 → has_digit c at ≡ bit (128 + at)) → ((at : ℕ) → at < 64 → has_digit d at ≡ bit (192 + at))
+pub four_lanes : (bit : ℕ → Bool) (a b c d : ℕ) → ((at : ℕ) → at < 64 → bit_of a at ≡ bit (0 + at)) → ((at : ℕ) → at < 64 → bit_of b at ≡ bit (64 + at))
+    → ((at : ℕ) → at < 64 → bit_of c at ≡ bit (128 + at)) → ((at : ℕ) → at < 64 → bit_of d at ≡ bit (192 + at))
     → (lane : ℕ) → lane < LANES → bit_at (lanes_of (a ∷ b ∷ c ∷ d ∷ [])) lane ≡ bit lane
 four_lanes bit a b c d first second third fourth lane h =
     let place : 64 * (lane / 64) + lane % 64 ≡ lane = omega arith in
@@ -170,38 +170,29 @@ set_words words at word is h = record {
       ];
 }
 
-pub set_here : (words : List ℕ) (at word : ℕ) → AreWords words → (lane : ℕ) → lane < LANES → lane / 64 ≡ at → bit_at (lanes_of (set words at word)) lane ≡ has_digit word (lane % 64)
+pub set_here : (words : List ℕ) (at word : ℕ) → AreWords words → (lane : ℕ) → lane < LANES → lane / 64 ≡ at → bit_at (lanes_of (set words at word)) lane ≡ bit_of word (lane % 64)
 set_here words at word is lane h e =
     lane_digit (set words at word) lane (omega (arith, h, is.four, length-set words at word))
-    ∙ ap (λ k. has_digit (get_or (set words at word) k 0) (lane % 64)) e
-    ∙ ap (λ w. has_digit w (lane % 64)) (get_or-set_same words at word 0 (omega (arith, h, e, is.four)))
+    ∙ ap (λ k. bit_of (get_or (set words at word) k 0) (lane % 64)) e
+    ∙ ap (λ w. bit_of w (lane % 64)) (get_or-set_same words at word 0 (omega (arith, h, e, is.four)))
 
 pub set_beside : (words : List ℕ) (at word : ℕ) → AreWords words → (lane : ℕ) → lane < LANES → lane / 64 ≢ at → bit_at (lanes_of (set words at word)) lane ≡ bit_at (lanes_of words) lane
 set_beside words at word is lane h ne =
     lane_digit (set words at word) lane (omega (arith, h, is.four, length-set words at word))
-    ∙ ap (λ w. has_digit w (lane % 64)) (get_or-set_other words at (lane / 64) word 0 ne)
+    ∙ ap (λ w. bit_of w (lane % 64)) (get_or-set_other words at (lane / 64) word 0 ne)
     ∙ sym (lane_digit words lane (omega (arith, h, is.four)))
 
-pub digit_zero : (lane : ℕ) → has_digit 0 lane ≡ false
+pub digit_zero : (lane : ℕ) → bit_of 0 lane ≡ false
 digit_zero lane = ap (λ d. d == 1) (bit_at-zero lane)
 
-pub digit_ones : (k lane : ℕ) → lane < k → has_digit (2 ^ k - 1) lane ≡ true
+pub digit_ones : (k lane : ℕ) → lane < k → bit_of (2 ^ k - 1) lane ≡ true
 digit_ones k lane h = ap (λ d. d == 1) (bit_at_ones k lane h)
 
-pub digit_ones_above : (k lane : ℕ) → k ≤ lane → has_digit (2 ^ k - 1) lane ≡ false
-digit_ones_above k lane h = ap (λ d. d == 1) (bit_at_ones_above k lane h)
-
 -- a word other than 0 has a 1 somewhere
-pub some_digit : (word : ℕ) → 0 < word → word < 2 ^ 64 → (lane : ℕ) × (lane < 64) × (has_digit word lane ≡ true)
+pub some_digit : (word : ℕ) → 0 < word → word < 2 ^ 64 → (lane : ℕ) × (lane < 64) × (bit_of word lane ≡ true)
 some_digit word h k =
     let last = bit_at-trailing_zeros w64 word h k in
     (trailing_zeros w64 word, last.0, ap (λ d. d == 1) last.1)
-
-pub digit_low_ones : (live lane : ℕ) → has_digit (2 ^ live - 1) lane ≡ nat_lt lane live
-digit_low_ones live lane = elim (cases_lt lane live) [
-  | inl below ↦ digit_ones live lane below ∙ (let test : true ≡ nat_lt lane live = grind (arith, nat_tests) in test)
-  | inr above ↦ digit_ones_above live lane above ∙ (let test : false ≡ nat_lt lane live = grind (arith, nat_tests) in test)
-]
 
 test_of_zero : (word : ℕ) → word ≡ 0 → (not (word == 0)) ≡ false
 test_of_zero word e = grind (arith, nat_tests)
@@ -246,7 +237,7 @@ some_lane words is = elim (some_or_none words) [
   | inr none ↦ (
     λ t. absurd (false≢true (subst IsTrue (test_of_zero (fold_l bit_or 0 words) (fold_none 0 words refl none)) t)),
     λ (lane, h, t). absurd (false≢true (subst IsTrue
-        (lane_digit words lane (omega (arith, h, is.four)) ∙ ap (λ w. has_digit w (lane % 64)) (none (lane / 64) (omega (arith, h, is.four))) ∙ digit_zero (lane % 64)) t)),
+        (lane_digit words lane (omega (arith, h, is.four)) ∙ ap (λ w. bit_of w (lane % 64)) (none (lane / 64) (omega (arith, h, is.four))) ∙ digit_zero (lane % 64)) t)),
   )
   | inl (at, h, more) ↦ (
     λ t.
@@ -255,7 +246,7 @@ some_lane words is = elim (some_or_none words) [
         let within : digit ≡ (64 * at + digit) % 64 = omega arith in (
           64 * at + digit,
           omega (arith, h, below, is.four),
-          lane_digit words (64 * at + digit) (omega (arith, h, below)) ∙ sym (λ i. has_digit (get_or words (place i) 0) (within i)) ∙ one,
+          lane_digit words (64 * at + digit) (omega (arith, h, below)) ∙ sym (λ i. bit_of (get_or words (place i) 0) (within i)) ∙ one,
         ),
     λ t. test_of_more (fold_l bit_or 0 words) (omega (arith, more, fold_has 0 words at h)),
   )

@@ -8,9 +8,10 @@ use Rattle.std.proofs.lemmas.Bool.Decides.{nat_tests}
 use Rattle.std.proofs.lemmas.List.FromFn.{length-map-range_with_len, get_or-map-range_with_len}
 use Rattle.rand_xoshiro.specs.SplitMix64.{next_state, mix_u64}
 use Rattle.word_sim.specs.declared.stream.TheConstants.{COUNTING}
-use Rattle.word_sim.specs.Stream.{has_digit, state_after, stream_word, word_number, stream_bit, stream_vector}
+use Rattle.word_sim.specs.Stream.{state_after, stream_word, word_number, stream_bit, stream_vector}
 use Rattle.word_sim.specs.StreamState.{StreamState, stream_with, stream_at, IsAfter}
 use Rattle.net_model.specs.Answer.{bit_at}
+use Rattle.net_model.specs.Rows.{bit_of}
 use Rattle.word_sim.specs.declared.lanes.TheConstants.{LANES}
 use Rattle.word_sim.specs.BlockFields.{column, columns}
 use Rattle.word_sim.proofs.Columns.{column_is, columns_is}
@@ -34,11 +35,11 @@ each_below test (suc n) e k h =
 same_digit : (m n : ℕ) → (m == n) ≡ true → m ≡ n
 same_digit m n e = grind (arith, nat_tests)
 
-counts_by : (word source : ℕ) → all_below (λ lane. digit_at word lane == digit_at lane source) 64 ≡ true → (lane : ℕ) → lane < 64 → has_digit word lane ≡ has_digit lane source
+counts_by : (word source : ℕ) → all_below (λ lane. digit_at word lane == digit_at lane source) 64 ≡ true → (lane : ℕ) → lane < 64 → bit_of word lane ≡ bit_of lane source
 counts_by word source e lane h =
     ap (λ d. d == 1) (same_digit (digit_at word lane) (digit_at lane source) (each_below (λ t. digit_at word t == digit_at t source) 64 e lane h))
 
-counting_digit : (source lane : ℕ) → source < 6 → lane < 64 → has_digit (slice_index COUNTING source) lane ≡ has_digit lane source
+counting_digit : (source lane : ℕ) → source < 6 → lane < 64 → bit_of (slice_index COUNTING source) lane ≡ bit_of lane source
 counting_digit zero lane h k = counts_by 0xaaaaaaaaaaaaaaaa 0 refl lane k
 counting_digit (suc zero) lane h k = counts_by 0xcccccccccccccccc 1 refl lane k
 counting_digit (suc (suc zero)) lane h k = counts_by 0xf0f0f0f0f0f0f0f0 2 refl lane k
@@ -53,14 +54,14 @@ count_test : (done source : ℕ) → (done == 0 && nat_lt source 6) ≡ true →
 count_test done source e = let both = and_parts (done == 0) (nat_lt source 6) e in grind (arith, nat_tests)
 
 word_digit_by : (b : Bool) (sources done source lane rng : ℕ) → (done == 0 && nat_lt source 6) ≡ b → rng ≡ state_after (word_number sources done source) → lane < 64
-    → has_digit (if b then slice_index COUNTING source else (mix_u64 rng).0) lane ≡ (if b then has_digit lane source else has_digit (stream_word (word_number sources done source)) lane)
+    → bit_of (if b then slice_index COUNTING source else (mix_u64 rng).0) lane ≡ (if b then bit_of lane source else bit_of (stream_word (word_number sources done source)) lane)
 unfolding stream_word
 word_digit_by true sources done source lane rng e is h = counting_digit source lane (count_test done source e) h
-word_digit_by false sources done source lane rng e is h = ap (λ state. has_digit (mix_u64 state).0 lane) is
+word_digit_by false sources done source lane rng e is h = ap (λ state. bit_of (mix_u64 state).0 lane) is
 
 -- the word of a source has the stream's bits
 pub word_digit : (sources done source lane rng : ℕ) → rng ≡ state_after (word_number sources done source) → lane < 64
-    → has_digit (if done == 0 && nat_lt source 6 then slice_index COUNTING source else (mix_u64 rng).0) lane ≡ stream_bit sources done lane source
+    → bit_of (if done == 0 && nat_lt source 6 then slice_index COUNTING source else (mix_u64 rng).0) lane ≡ stream_bit sources done lane source
 unfolding stream_bit
 word_digit sources done source lane rng is h = word_digit_by (done == 0 && nat_lt source 6) sources done source lane rng refl is h
 

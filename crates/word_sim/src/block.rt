@@ -1,6 +1,6 @@
 //! Blocks of vectors, a lane for each.
 
-ghost use Rattle.std.specs.Prelude.{◌≡◌, ◌≢◌, ℕ, ◌<◌, List, [], ◌∷◌, ◌++◌, length, slice_index_or, IfOk};
+ghost use Rattle.std.specs.Prelude.{◌≡◌, ◌≢◌, ℕ, ◌<◌, [], ◌∷◌, ◌++◌, length, slice_index_or, IfOk};
 ghost use Rattle.net_model.specs.Answer.{bit_at};
 ghost use Rattle.word_sim.specs.Block.{IsBlock, block_with};
 ghost use Rattle.word_sim.specs.BlockFields.{column};

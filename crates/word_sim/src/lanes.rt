@@ -3,9 +3,9 @@
 ghost use Rattle.std.specs.Prelude.{◌≡◌, ℕ, ◌+◌, ◌/◌, ◌%◌, ◌<◌, ◌≤◌, ◌≢◌, Bool, List, [], ◌∷◌, ◌++◌, length, true, not, ◌&&◌, ◌||◌, nat_lt, IsTrue, ◌↔◌, if◌then◌else◌};
 ghost use Rattle.net_model.specs.Gate.{folded_bit, inverted};
 ghost use Rattle.net_model.specs.Answer.{bit_at};
-ghost use Rattle.word_sim.specs.Stream.{has_digit};
+ghost use Rattle.net_model.specs.Rows.{bit_of};
 
-use net_model::Fold;
+use net_model::{Fold, low_bits, with_bit};
 use std::marker::Model;
 use std::simd::u64x4;
 
@@ -150,7 +150,7 @@ impl Lanes {
         ensures others { (other : ℕ) → other < LANES → other ≢ lane → bit_at result other ≡ bit_at self other }
     {
         let at = lane / 64;
-        self.with_word(at, digit_put(self.word(at), lane % 64, bit))
+        self.with_word(at, with_bit(self.word(at), (lane % 64) as usize, bit))
     }
 
     // 1 in the first lanes, this many.
@@ -173,7 +173,7 @@ impl Lanes {
     #[inline]
     pub fn word(self, at: u32) -> u64
         requires { at < LANES / 64 }
-        ensures { (lane : ℕ) → lane < LANES → lane / 64 ≡ at → has_digit result (lane % 64) ≡ bit_at self lane }
+        ensures { (lane : ℕ) → lane < LANES → lane / 64 ≡ at → bit_of result (lane % 64) ≡ bit_at self lane }
     {
         self.words.to_array()[at as usize]
     }
@@ -182,7 +182,7 @@ impl Lanes {
     #[inline]
     pub(crate) fn with_word(self, at: u32, word: u64) -> Lanes
         requires { at < LANES / 64 }
-        ensures here { (lane : ℕ) → lane < LANES → lane / 64 ≡ at → bit_at result lane ≡ has_digit word (lane % 64) }
+        ensures here { (lane : ℕ) → lane < LANES → lane / 64 ≡ at → bit_at result lane ≡ bit_of word (lane % 64) }
         ensures others { (lane : ℕ) → lane < LANES → lane / 64 ≢ at → bit_at result lane ≡ bit_at self lane }
     {
         let mut words = self.words.to_array();
@@ -193,22 +193,10 @@ impl Lanes {
     }
 }
 
-// The same binary digits but for one, which is this bit.
-#[inline]
-fn digit_put(word: u64, at: u32, bit: bool) -> u64
-    requires { at < 64 }
-    ensures same { has_digit result at ≡ bit }
-    ensures others { (other : ℕ) → other < 64 → other ≢ at → has_digit result other ≡ has_digit word other }
-{
-    let mask = 1 << at;
-    if bit { word | mask } else { word & !mask }
-}
-
 // The word of the lanes from `start` on that has 1 in the lanes below `live`.
 #[inline]
 fn first_word(live: u32, start: u32) -> u64
-    ensures { (at : ℕ) → at < 64 → has_digit result at ≡ nat_lt (start + at) live }
+    ensures { (at : ℕ) → at < 64 → bit_of result at ≡ nat_lt (start + at) live }
 {
-    let here = live.saturating_sub(start);
-    if here < 64 { (1 << here) - 1 } else { u64::MAX }
+    low_bits(u64::MAX, live.saturating_sub(start) as usize)
 }

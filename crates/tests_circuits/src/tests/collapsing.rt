@@ -1,6 +1,6 @@
 //! Successors and roots of small circuits' faults.
 
-ghost use Rattle.std.specs.Prelude.{◌≡◌, length};
+ghost use Rattle.std.specs.Prelude.{◌≡◌};
 ghost use Rattle.net_model.specs.FaultList.{faults as faults_of};
 ghost use Rattle.fault_collapse.specs.Forest.{number_count};
 

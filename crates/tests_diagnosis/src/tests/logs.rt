@@ -1,6 +1,6 @@
 //! Which fault numbers of an AND of two sources a log lists.
 
-ghost use Rattle.std.specs.Prelude.{◌≡◌, ◌<◌, IfOk, OnOk};
+ghost use Rattle.std.specs.Prelude.{◌<◌, IfOk, OnOk};
 ghost use Rattle.table_dicts.specs.Dictionary.{IsGroupedDict, IsShaped};
 ghost use Rattle.table_dicts.specs.Rows.{AreRows};
 

@@ -4,7 +4,8 @@ ghost use Rattle.std.specs.Prelude.{◌≡◌, ◌<◌, length, IfOk};
 ghost use Rattle.table_dicts.specs.Rows.{AreRows};
 
 use crate::tests::agreeing::alike;
-use crate::tests::made::{Given, are_spelled, classes_of, table_of};
+use crate::tests::made::{Given, classes_of, table_of};
+use crate::tests::spelled::are_spelled;
 use class_refine::Classes;
 use net_model::AnswerRows;
 use samediff_dict::choose;

@@ -2,9 +2,10 @@
 
 ghost use Rattle.std.specs.Prelude.{◌≡◌, ◌<◌, length, IfOk};
 
+use crate::tests::spelled::enter_row;
 use class_refine::Classes;
 use net_model::AnswerRows;
-use std::alloc::{AllocError, Global};
+use std::alloc::Global;
 use std::test::Fail;
 use table_dicts::AnswerTable;
 
@@ -25,7 +26,7 @@ pub(crate) fn table_of(
     };
     let mut table = AnswerTable::zeros(alloc, patterns, numbers, positions)?;
     for (pattern, text) in answers.iter().enumerate() {
-        enter_row(&mut table, pattern, text.as_bytes())?;
+        enter_answers(&mut table, pattern, text.as_bytes())?;
     }
     if table.numbers() != numbers {
         return Err(Fail::new("there is another number of numbers"));
@@ -34,7 +35,7 @@ pub(crate) fn table_of(
 }
 
 // Enters the answers to a pattern.
-fn enter_row(table: &mut AnswerTable, pattern: usize, text: &[u8]) -> Result<(), Fail> {
+fn enter_answers(table: &mut AnswerTable, pattern: usize, text: &[u8]) -> Result<(), Fail> {
     for (number, digits) in text.split(|byte| *byte == b' ').enumerate() {
         for (position, digit) in digits.iter().enumerate() {
             set_answer(table, pattern, number, position, *digit == b'1')?;
@@ -120,44 +121,13 @@ fn refine(classes: &mut Classes, numbers: u32, answers: &AnswerRows) -> Result<(
 // Rows of the digits of a text, with a blank between two rows.
 fn rows_of(alloc: Global, count: usize, width: usize, text: &[u8]) -> Result<AnswerRows, Fail> {
     let mut rows = AnswerRows::zeros(alloc, count, width)?;
-    set_bits(&mut rows, text)?;
+    enter_rows(&mut rows, text)?;
     Ok(rows)
 }
 
-fn set_bit(rows: &mut AnswerRows, row: usize, at: usize, bit: bool) -> Result<(), Fail> {
-    if row >= rows.rows() || at >= rows.width() {
-        return Err(Fail::new("there is no such bit"));
-    }
-    rows.set(row, at, bit);
-    Ok(())
-}
-
-fn set_bits(rows: &mut AnswerRows, text: &[u8]) -> Result<(), Fail> {
+fn enter_rows(rows: &mut AnswerRows, text: &[u8]) -> Result<(), Fail> {
     for (row, digits) in text.split(|byte| *byte == b' ').enumerate() {
-        for (at, digit) in digits.iter().enumerate() {
-            set_bit(rows, row, at, *digit == b'1')?;
-        }
-    }
-    Ok(())
-}
-
-/// Whether these are the rows, each with a blank behind it.
-pub(crate) fn are_spelled(
-    alloc: Global,
-    rows: &AnswerRows,
-    wanted: &str,
-) -> Result<bool, AllocError> {
-    let mut text = String::new(alloc);
-    push_rows(&mut text, rows)?;
-    Ok(text.as_str() == wanted)
-}
-
-fn push_rows(text: &mut String, rows: &AnswerRows) -> Result<(), AllocError> {
-    for row in 0..rows.rows() {
-        for at in 0..rows.width() {
-            text.push_str(if rows.get(row, at) { "1" } else { "0" })?;
-        }
-        text.push_str(" ")?;
+        enter_row(rows, row, digits)?;
     }
     Ok(())
 }

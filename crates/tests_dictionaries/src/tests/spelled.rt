@@ -38,6 +38,17 @@ fn push_numbers(text: &mut String, numbers: &[u32]) -> Result<(), AllocError> {
     Ok(())
 }
 
+/// Whether these are the rows, each with a blank behind it.
+pub(crate) fn are_spelled(
+    alloc: Global,
+    rows: &AnswerRows,
+    wanted: &str,
+) -> Result<bool, AllocError> {
+    let mut text = String::new(alloc);
+    push_rows(&mut text, rows)?;
+    Ok(text.as_str() == wanted)
+}
+
 /// Adds the rows, each with a blank behind it.
 pub(crate) fn push_rows(text: &mut String, rows: &AnswerRows) -> Result<(), AllocError> {
     for row in 0..rows.rows() {
@@ -100,7 +111,8 @@ fn enter_rows(rows: &mut AnswerRows, texts: &[&str]) -> Result<(), Fail> {
     Ok(())
 }
 
-fn enter_row(rows: &mut AnswerRows, row: usize, digits: &[u8]) -> Result<(), Fail> {
+/// Enters the digits of a text into a row.
+pub(crate) fn enter_row(rows: &mut AnswerRows, row: usize, digits: &[u8]) -> Result<(), Fail> {
     for (at, digit) in digits.iter().enumerate() {
         set_bit(rows, row, at, *digit == b'1')?;
     }

@@ -1,10 +1,10 @@
 //! Dictionaries of tables that were made by hand.
 
-ghost use Rattle.std.specs.Prelude.{◌≡◌, ◌<◌, length, IfOk, OnOk};
+ghost use Rattle.std.specs.Prelude.{◌<◌, IfOk, OnOk};
 ghost use Rattle.table_dicts.specs.Dictionary.{IsGroupedDict};
 
+use crate::tests::made::classes_of;
 use crate::tests::spelled::{fit, is_dict, rows_of};
-use class_refine::Classes;
 use net_model::AnswerRows;
 use std::alloc::{AllocError, Global};
 use std::test::Fail;
@@ -181,42 +181,6 @@ fn long_entries(rt: HostRuntime) -> Result<(), Fail> {
     Ok(())
 }
 
-// The classes of the four numbers: number 2 is parted from number 1 at pattern 1.
-fn four_classes(alloc: Global) -> Result<Classes, Fail>
-    ensures { IfOk result (λ classes. length classes.class_of ≡ 4) }
-{
-    let mut classes = Classes::new(alloc, 4)?;
-    refine_twice(alloc, &mut classes)?;
-    Ok(classes)
-}
-
-fn refine_twice(alloc: Global, classes: &mut Classes) -> Result<(), Fail>
-    requires { length classes.old.class_of ≡ 4 }
-    ensures { length classes.new.class_of ≡ 4 }
-{
-    refine(alloc, classes, &["00", "01", "01", "10"])?;
-    refine(alloc, classes, &["00", "01", "10", "01"])
-}
-
-fn refine(alloc: Global, classes: &mut Classes, answers: &[&str]) -> Result<(), Fail>
-    requires { length classes.old.class_of ≡ 4 }
-    ensures { length classes.new.class_of ≡ 4 }
-{
-    let answers = rows_of(alloc, 2, answers)?;
-    refine_by(classes, &answers)
-}
-
-fn refine_by(classes: &mut Classes, answers: &AnswerRows) -> Result<(), Fail>
-    requires { length classes.old.class_of ≡ 4 }
-    ensures { length classes.new.class_of ≡ 4 }
-{
-    if answers.rows() != 4 {
-        return Err(Fail::new("there is another number of answers"));
-    }
-    classes.refine(answers)?;
-    Ok(())
-}
-
 fn projected(alloc: Global, table: &AnswerTable, rows: &AnswerRows) -> Result<Dict, Fail>
     requires { 0 < table.now.numbers }
     ensures { IfOk result IsGroupedDict }
@@ -239,7 +203,8 @@ fn four_projected(alloc: Global, rows: &AnswerRows) -> Result<Dict, Fail>
 fn parts(alloc: Global, dict: &Dict, pairs: u64) -> Result<bool, Fail>
     requires { IsGroupedDict dict.now }
 {
-    let classes = four_classes(alloc)?;
+    // Number 2 is parted from number 1 at pattern 1.
+    let classes = classes_of(alloc, &["00 01 01 10", "00 01 10 01"], 4, 2)?;
     if dict.numbers != 4 {
         return Err(Fail::new("there aren't four numbers"));
     }

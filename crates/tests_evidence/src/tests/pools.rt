@@ -45,6 +45,23 @@ fn room_for_two_clauses_and_three_literals(rt: HostRuntime) -> Result<(), Fail> 
     Ok(())
 }
 
+// Whether a pool without room grows for two clauses, and by no more than they need.
+fn grows_for_two(pool: &mut Pool) -> Result<bool, Fail>
+    requires { pool.old.clauses ≡ [] }
+{
+    let pair = [Lit::new(1, true), Lit::new(2, false)];
+    let last = [Lit::new(3, true)];
+    let numbers = (pool.add(&pair)?, pool.add(&last)?);
+    Ok(numbers == (1, 2) && has_two(pool, &pair, &last) && room(pool) == (2, 0, 0))
+}
+
+#[test]
+fn a_pool_grows_for_what_is_added(rt: HostRuntime) -> Result<(), Fail> {
+    let mut pool = Pool::with_room(rt.alloc(), 0, 0)?;
+    assert!(rt; grows_for_two(&mut pool)?);
+    Ok(())
+}
+
 #[test]
 fn a_full_pool_says_so(rt: HostRuntime) -> Result<(), Fail> {
     let text = format!(in rt.alloc(); "{Full}")?;

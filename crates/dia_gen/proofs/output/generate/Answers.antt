@@ -1,28 +1,38 @@
-use Rattle.std.proofs.Common.{[], Err, arith, refl}
+use Rattle.std.proofs.Common.{◌≡◌, ℕ, List, [], Result, Ok, Err, arith, refl}
+use Rattle.std.specs.Result.{IsErrAnd, OnErr}
+use Rattle.net_model.specs.Circuit.{Circuit}
 use Rattle.diag_shelf.specs.World.{State}
-use Rattle.diag_shelf.specs.Calls.{IsWriteCall}
+use Rattle.diag_shelf.specs.Calls.{IsWriteCall, Told, Writes}
+use Rattle.diag_shelf.specs.declared.shelf.ShelfFault.{ShelfFault}
 use Rattle.diag_shelf.specs.declared.shelf.ShelfFault.TheVariants.{NoMemory}
+use Rattle.dia_gen.specs.Made.{IsCutFile}
 use Rattle.dia_gen.proofs.Written.{nothing_cut, writes_none}
 use Rattle.dia_gen.proofs.output.generate.Goals as goal
 
--- memory was wanting before any call
-no_call : {T : Type 0} (a : State) → IsWriteCall {T = T} (Err NoMemory) a a
-no_call a = record { tells = refl; sure = refl; reads = refl; later = omega arith; ok = tt; failed = λ e. absurd (cc); memory = λ sure e. refl }
+-- ---- memory was wanting before any call
 
-pub returns-in_default-clause-call : goal.returns-in_default-clause-call
-returns-in_default-clause-call g c = no_call (g.S.Shelf.state c.args.shelf.now)
+no_call : {T : Type 0} (r : Result T ShelfFault) (a : State) → IsErrAnd r (λ fault. fault ≡ NoMemory) → IsWriteCall r a a
+no_call (Ok x) a is = absurd is
+no_call (Err fault) a is = record { tells = refl; sure = refl; reads = refl; later = omega arith; ok = tt; failed = λ e. absurd (cc); memory = λ sure e. refl }
 
-pub returns-in_default-collapse-clause-call : goal.returns-in_default-collapse-clause-call
-returns-in_default-collapse-clause-call g c = no_call (g.S.Shelf.state c.args.shelf.now)
+no_line : {T : Type 0} (r : Result T ShelfFault) (c : Circuit) (a : State) → IsErrAnd r (λ fault. fault ≡ NoMemory) → OnErr r (Told a a (λ old new. (part : List ℕ) × IsCutFile c part × Writes part old new))
+no_line (Ok x) c a is = absurd is
+no_line (Err fault) c a is = λ told. ([], nothing_cut, writes_none a.world)
 
-pub returns-in_default-new-clause-call : goal.returns-in_default-new-clause-call
-returns-in_default-new-clause-call g c = no_call (g.S.Shelf.state c.args.shelf.now)
+pub returns-in_err-listed-clause-call : goal.returns-in_err-listed-clause-call
+returns-in_err-listed-clause-call g c = no_call c.from_residual.result (g.S.Shelf.state c.args.shelf.now) c.from_residual.ensures.1
 
-pub returns-in_default-clause-err : goal.returns-in_default-clause-err
-returns-in_default-clause-err g c = λ told. ([], nothing_cut, writes_none (g.S.Shelf.state c.args.shelf.now).world)
+pub returns-in_err-listed-clause-err : goal.returns-in_err-listed-clause-err
+returns-in_err-listed-clause-err g c = no_line c.from_residual.result c.args.circuit.now (g.S.Shelf.state c.args.shelf.now) c.from_residual.ensures.1
 
-pub returns-in_default-collapse-clause-err : goal.returns-in_default-collapse-clause-err
-returns-in_default-collapse-clause-err g c = λ told. ([], nothing_cut, writes_none (g.S.Shelf.state c.args.shelf.now).world)
+pub returns-in_err-forest-clause-call : goal.returns-in_err-forest-clause-call
+returns-in_err-forest-clause-call g c = no_call c.from_residual-in_err-forest.result (g.S.Shelf.state c.args.shelf.now) c.from_residual-in_err-forest.ensures.1
 
-pub returns-in_default-new-clause-err : goal.returns-in_default-new-clause-err
-returns-in_default-new-clause-err g c = λ told. ([], nothing_cut, writes_none (g.S.Shelf.state c.args.shelf.now).world)
+pub returns-in_err-forest-clause-err : goal.returns-in_err-forest-clause-err
+returns-in_err-forest-clause-err g c = no_line c.from_residual-in_err-forest.result c.args.circuit.now (g.S.Shelf.state c.args.shelf.now) c.from_residual-in_err-forest.ensures.1
+
+pub returns-in_err-levels-clause-call : goal.returns-in_err-levels-clause-call
+returns-in_err-levels-clause-call g c = no_call c.from_residual-in_err-levels.result (g.S.Shelf.state c.args.shelf.now) c.from_residual-in_err-levels.ensures.1
+
+pub returns-in_err-levels-clause-err : goal.returns-in_err-levels-clause-err
+returns-in_err-levels-clause-err g c = no_line c.from_residual-in_err-levels.result c.args.circuit.now (g.S.Shelf.state c.args.shelf.now) c.from_residual-in_err-levels.ensures.1

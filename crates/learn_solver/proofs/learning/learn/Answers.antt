@@ -12,7 +12,7 @@ pub attach-requires-clause-fits : goal.attach-requires-clause-fits
 attach-requires-clause-fits c =
     let clauses = c.args.pool.now.clauses in
     let cut = c.back_to.new.self in
-    subst (Fits cut) (sym c.in_ok-number.ensures.ok)
+    subst (Fits cut) (sym c.in_ok-number.ensures.clauses)
     (c.longer_pool_fits.ensures cut (clauses ++ c.args.clause.now ∷ []) clauses (begins_appended clauses (c.args.clause.now ∷ [])) (c.back_to.ensures.fits clauses c.requires.ready.fits))
 
 pub attach-requires-clause-proper : goal.attach-requires-clause-proper
@@ -20,9 +20,9 @@ attach-requires-clause-proper c = λ other is.
     let clauses = c.args.pool.now.clauses in
     let old = c.args.trail.now.assignment in
     let clause = c.args.clause.now in
-    let added = c.in_ok-number.ensures.ok in
+    let added = c.in_ok-number.ensures.clauses in
     let there = ap (λ cs. numbered_clause cs c.in_ok-number.number) added ∙ numbered_last clauses clause c.in_ok-number.number (c.in_ok-number.ensures.number ∙ ap length added) in
-    let same = same_clause c.add.new.pool.clauses c.in_ok-number.number clause other there is in
+    let same = same_clause c.add.new.self.clauses c.in_ok-number.number clause other there is in
     let inside = variables_inside old c.requires.ready.is_trail clause c.args.back c.requires.asserting in
     subst (IsProper c.back_to.new.self.assignment.variables) same
     (subst (λ n. IsProper n clause) (sym c.back_to.ensures.assignment.variables) (record { inside = inside; once = c.requires.once }))
@@ -32,9 +32,9 @@ returns-clause-ready c =
     let old = c.args.trail.now in
     let a = c.attach.ensures in
     on_ok_weaker c.attach.result
-    (λ attached. ready_learned old c.back_to.new.self c.attach.new.self c.args.pool.now.clauses c.add.new.pool.clauses c.args.clause.now c.args.back c.in_ok-number.number c.requires.ready c.requires.asserting
-    c.in_ok-number.ensures.ok c.in_ok-number.ensures.number c.back_to.ensures.assignment c.back_to.ensures.attached attached a.assignment a.fits a.trail)
+    (λ attached. ready_learned old c.back_to.new.self c.attach.new.self c.args.pool.now.clauses c.add.new.self.clauses c.args.clause.now c.args.back c.in_ok-number.number c.requires.ready c.requires.asserting
+    c.in_ok-number.ensures.clauses c.in_ok-number.ensures.number c.back_to.ensures.assignment c.back_to.ensures.attached attached a.assignment a.fits a.trail)
     a.attached
 
 pub attach-requires-clause-from : goal.attach-requires-clause-from
-attach-requires-clause-from c = omega (arith, c.in_ok-number.ensures.number, ap length c.in_ok-number.ensures.ok, length_push c.args.pool.now.clauses c.args.clause.now)
+attach-requires-clause-from c = omega (arith, c.in_ok-number.ensures.number, ap length c.in_ok-number.ensures.clauses, length_push c.args.pool.now.clauses c.args.clause.now)

@@ -4,8 +4,9 @@ use Rattle.std.proofs.lemmas.Bool.{ne_eqb}
 use Rattle.std.proofs.lemmas.List.{get_or_read}
 use Rattle.net_model.specs.Answer.{bit_at}
 use Rattle.std.proofs.lemmas.List.Elements.{Contains-get_or}
+use Rattle.solver_trail.specs.Assignment.{no_literal}
 use Rattle.clause_pool.specs.Literal.{Literal}
-use Rattle.learn_solver.specs.Places.{no_literal, set_at}
+use Rattle.learn_solver.specs.Places.{set_at}
 use Rattle.learn_solver.proofs.Counts.{one_if}
 use Rattle.learn_solver.proofs.MarkingSteps.{IsMarking, marking_again, marking_now, marking_all}
 use Rattle.learn_solver.proofs.marking.mark_clause.Goals as goal

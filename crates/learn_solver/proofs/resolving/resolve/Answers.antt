@@ -3,9 +3,9 @@ use Rattle.std.specs.Prelude.{List, false, Some}
 use Rattle.std.proofs.lemmas.List.Elements.{All-contains}
 use Rattle.clause_pool.specs.Literal.{Literal, opposite}
 use Rattle.clause_pool.specs.Clauses.{Clause, numbered_clause}
-use Rattle.solver_trail.specs.Assignment.{held}
+use Rattle.solver_trail.specs.Assignment.{held, no_literal}
 use Rattle.solver_trail.specs.Trail.{TrailState, IsReason, attached_numbers}
-use Rattle.learn_solver.specs.Places.{no_literal, set_at}
+use Rattle.learn_solver.specs.Places.{set_at}
 use Rattle.learn_solver.specs.Ready.{IsReady}
 use Rattle.learn_solver.specs.Walk.{IsWalk}
 use Rattle.learn_solver.proofs.Resolvents.{with_step}

@@ -18,8 +18,8 @@ loop-lit-preserved c =
     let wide : 2 * m.variable + 1 < length c.args.marks.now.items = subst (λ (l : Literal). 2 * l.variable + 1 < length c.args.marks.now.items) (sym c.lit-item.is) (c.requires.places i m c.loop-lit-test.true) in
     let room = subst (λ n. code_of m < n) (sym h.places) (code_within m (length c.args.marks.now.items) wide) in
     record {
-      places = length-set marks c.place.result false ∙ h.places;
-      within = subst (λ n. AreWithin (set marks n false) rest) (sym c.place.ensures) (within_less marks m rest (subst (AreWithin marks) next h.within) room);
+      places = length-set marks c.code.result false ∙ h.places;
+      within = subst (λ n. AreWithin (set marks n false) rest) (sym c.code.ensures) (within_less marks m rest (subst (AreWithin marks) next h.within) room);
     }
 
 pub returns-clause-clear : goal.returns-clause-clear

@@ -18,12 +18,12 @@ index-requires-in-loop-lit c =
     let h = c.loop-lit.invariant in
     let places : length c.if-not-index.marks.items ≡ length c.args.marks.now.items =
     elim c.if-not-index.branch [
-      | then-not-index w ↦ ap (λ (v : Vec Bool Global). length v.items) w.marks-is ∙ (length-set marks c.place-at.result true ∙ h.places)
+      | then-not-index w ↦ ap (λ (v : Vec Bool Global). length v.items) w.marks-is ∙ (length-set marks c.code-at.result true ∙ h.places)
       | else-not-index w ↦ ap (λ (v : Vec Bool Global). length v.items) w.marks-is ∙ h.places
     ] in
     let wide : 2 * m.variable + 1 < length c.args.marks.now.items =
     subst (λ (l : Literal). 2 * l.variable + 1 < length c.args.marks.now.items) (sym c.lit-item.is) (c.requires.places c.loop-lit.lit-index m c.loop-lit-test.true) in
-    omega (arith, places, c.place.ensures ∙ ap code_of c.opposite.ensures, code_within (opposite m) (length c.args.marks.now.items) wide)
+    omega (arith, places, c.code.ensures ∙ ap code_of c.opposite.ensures, code_within (opposite m) (length c.args.marks.now.items) wide)
 
 pub loop-lit-preserved : goal.loop-lit-preserved
 loop-lit-preserved c =
@@ -36,9 +36,9 @@ loop-lit-preserved c =
     let more : take (i + 1) clause ≡ xs ++ m ∷ [] = take_more clause i m c.loop-lit-test.true ∙ ap (λ k. xs ++ k ∷ []) (sym c.lit-item.is) in
     let wide : 2 * m.variable + 1 < length c.args.marks.now.items = subst (λ (l : Literal). 2 * l.variable + 1 < length c.args.marks.now.items) (sym c.lit-item.is) (c.requires.places i m c.loop-lit-test.true) in
     let room : code_of m < length marks = omega (arith, h.places, code_within m (length c.args.marks.now.items) wide) in
-    let place = c.place-at.ensures in
-    let inside : c.place-at.result < length marks = omega (arith, room, place) in
-    let read : c.index.result.now ≡ bit_at marks (code_of m) = get_or_read marks c.place-at.result c.index.result.now inside c.index.ensures false ∙ ap (bit_at marks) place in
+    let place = c.code-at.ensures in
+    let inside : c.code-at.result < length marks = omega (arith, room, place) in
+    let read : c.index.result.now ≡ bit_at marks (code_of m) = get_or_read marks c.code-at.result c.index.result.now inside c.index.ensures false ∙ ap (bit_at marks) place in
     let both : (c.if-not-index.kept.items ≡ without_repeats (xs ++ m ∷ [])) × AreMarks c.if-not-index.marks.items (xs ++ m ∷ []) =
     elim c.if-not-index.branch [
       | then-not-index w ↦
@@ -50,10 +50,10 @@ loop-lit-preserved c =
           let kept = ap (λ (v : Vec Literal Global). v.items) w.kept-is in
           (kept ∙ keeps_old marks c.loop-lit.kept.items xs m h.marked h.kept (sym read ∙ w.if-not-index.false), subst (λ ms. AreMarks ms (xs ++ m ∷ [])) (sym there) (marks_again marks xs m h.marked (sym read ∙ w.if-not-index.false)))
     ] in
-    let other = c.place.ensures ∙ ap code_of c.opposite.ensures in
+    let other = c.code.ensures ∙ ap code_of c.opposite.ensures in
     let places : length c.if-not-index.marks.items ≡ length c.args.marks.now.items =
     elim c.if-not-index.branch [
-      | then-not-index w ↦ ap (λ (v : Vec Bool Global). length v.items) w.marks-is ∙ (length-set marks c.place-at.result true ∙ h.places)
+      | then-not-index w ↦ ap (λ (v : Vec Bool Global). length v.items) w.marks-is ∙ (length-set marks c.code-at.result true ∙ h.places)
       | else-not-index w ↦ ap (λ (v : Vec Bool Global). length v.items) w.marks-is ∙ h.places
     ] in
     let sizes : (vec_len c.if-not-index.kept ≤ i + 1) × (length clause ≤ vec_capacity c.if-not-index.kept) =
@@ -64,8 +64,8 @@ loop-lit-preserved c =
       )
       | else-not-index w ↦ (omega (arith, ap (λ (v : Vec Literal Global). vec_len v) w.kept-is, h.few), omega (arith, ap (λ (v : Vec Literal Global). vec_capacity v) w.kept-is, h.room))
     ] in
-    let others_inside : c.place.result < length c.if-not-index.marks.items = omega (arith, places, other, code_within (opposite m) (length c.args.marks.now.items) wide) in
-    let others_read : c.index-in-loop-lit.result.now ≡ bit_at c.if-not-index.marks.items (code_of (opposite m)) = get_or_read c.if-not-index.marks.items c.place.result c.index-in-loop-lit.result.now others_inside c.index-in-loop-lit.ensures false ∙ ap (bit_at c.if-not-index.marks.items) other in
+    let others_inside : c.code.result < length c.if-not-index.marks.items = omega (arith, places, other, code_within (opposite m) (length c.args.marks.now.items) wide) in
+    let others_read : c.index-in-loop-lit.result.now ≡ bit_at c.if-not-index.marks.items (code_of (opposite m)) = get_or_read c.if-not-index.marks.items c.code.result c.index-in-loop-lit.result.now others_inside c.index-in-loop-lit.ensures false ∙ ap (bit_at c.if-not-index.marks.items) other in
     record {
       kept = both.0 ∙ ap without_repeats (sym more);
       few = sizes.0;

@@ -1,11 +1,11 @@
 use Rattle.std.proofs.Common.{◌≡◌, ◌≢◌, ◌<◌, ◌≤◌, ◌∙◌, ℕ, [], length, get_or, sym, ap, subst, arith}
 use Rattle.std.proofs.lemmas.List.{get_or-set_other}
 use Rattle.net_model.specs.Circuit.{line_count}
-use Rattle.event_queue.specs.Pending.{IsLowest}
+use Rattle.event_queue.specs.Pending.{IsLowest, IsIdle}
 use Rattle.event_queue.proofs.Marks.{not_before, pending_within}
 use Rattle.pair_sets.specs.PairSet.{free_pairs, IsWithin}
 use Rattle.pair_sets.specs.CubeState.{set_at}
-use Rattle.pair_sets.specs.Events.{IsIdle, AreSettled, AreLoose, gate_line_pairs}
+use Rattle.pair_sets.specs.Events.{AreSettled, AreLoose, gate_line_pairs}
 use Rattle.pair_sets.proofs.EventLemmas.{loose_after, settled_after, ordered_line, none_before, waiting_line}
 use Rattle.net_model.proofs.Places.{few_places}
 use Rattle.pair_sets.proofs.TrailLemmas.{longer_more}

@@ -53,11 +53,11 @@ returns-in-Some-clause-refused c conflicts refusal long e =
     refused_end n c.in_ok-end.end.literals c.in_ok-end.ensures.ended conflicts refusal long c.in-Some.rule some.0 some.1 (sym is)
 
 pub returns-in_err-add-clause-begins : goal.returns-in_err-add-clause-begins
-returns-in_err-add-clause-begins c = subst (λ cs. BeginsWith cs c.args.pool.now.clauses) (sym c.in_err-add.ensures.err) c.loop-at.invariant.begins
+returns-in_err-add-clause-begins c = subst (λ (p : Clauses). BeginsWith p.clauses c.args.pool.now.clauses) (sym c.in_err-add.ensures.err) c.loop-at.invariant.begins
 
 pub returns-in_err-take_in-clause-begins : goal.returns-in_err-take_in-clause-begins
 returns-in_err-take_in-clause-begins c =
-    subst (λ cs. BeginsWith cs c.args.pool.now.clauses) (sym c.in_ok-add.ensures.ok) (begins_further c.loop-at.pool.clauses c.args.pool.now.clauses (c.as_slice.result.now ∷ []) c.loop-at.invariant.begins)
+    subst (λ cs. BeginsWith cs c.args.pool.now.clauses) (sym c.in_ok-add.ensures.clauses) (begins_further c.loop-at.pool.clauses c.args.pool.now.clauses (c.as_slice.result.now ∷ []) c.loop-at.invariant.begins)
 
 pub loop-at-preserved : goal.loop-at-preserved
 loop-at-preserved c =
@@ -69,7 +69,7 @@ loop-at-preserved c =
     let next = right_step n literals c.in_ok-end.ensures.ended right in
     elim c.if-not-last.branch [
       | then-not-last+in_ok-add+in_ok-take_in w ↦
-          let added : c.if-not-last.pool.clauses ≡ pool ++ literals ∷ [] = ap (λ (p : Clauses). p.clauses) w.pool-is ∙ (w.in_ok-add.ensures.ok ∙ ap (λ (l : Clause). pool ++ l ∷ []) w.as_slice.ensures.value) in
+          let added : c.if-not-last.pool.clauses ≡ pool ++ literals ∷ [] = ap (λ (p : Clauses). p.clauses) w.pool-is ∙ (w.in_ok-add.ensures.clauses ∙ ap (λ (l : Clause). pool ++ l ∷ []) w.as_slice.ensures.value) in
           let bound = end_within c.args.variables pool c.index-chains-at.result literals c.loop-at.invariant.within c.in_ok-end.ensures.ended in
           record {
             before = next;
@@ -81,7 +81,7 @@ loop-at-preserved c =
             few = omega (arith, ap length added, length-append pool (literals ∷ []), c.loop-at.invariant.few);
             empty = c.in_ok-end.ensures.empty;
             ready =
-                let next : length pool + 1 ≡ w.len.result = omega (arith, w.len.ensures, ap length w.in_ok-add.ensures.ok, length-append pool (w.as_slice.result.now ∷ [])) in
+                let next : length pool + 1 ≡ w.len.result = omega (arith, w.len.ensures, ap length w.in_ok-add.ensures.clauses, length-append pool (w.as_slice.result.now ∷ [])) in
                 let told = w.in_ok-take_in.ensures c.args.variables pool next c.wrong_end.ensures.ready in
                 subst (IsReadyFor c.args.kind c.args.variables c.if-not-last.pool.clauses) (sym w.propagator-is)
                 (subst (λ cs. IsReadyFor c.args.kind c.args.variables cs w.take_in.new.propagator) (ap (λ (l : Clause). pool ++ l ∷ []) w.as_slice-then-not-last.ensures.value ∙ sym added) told);

@@ -1,6 +1,6 @@
 use Rattle.std.proofs.Common.{◌∙◌, ◌++◌, ◌∷◌, [], List, ℕ, ap, sym, arith}
 use Rattle.std.specs.List.{range_with_len}
-use Rattle.class_refine.proofs.Ranges.{range_more}
+use Rattle.net_model.proofs.Ranges.{range_more}
 use Rattle.samediff_dict.proofs.partition.first_numbers.Goals as goal
 
 pub loop-number-init : goal.loop-number-init

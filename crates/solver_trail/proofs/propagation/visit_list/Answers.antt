@@ -6,10 +6,11 @@ use Rattle.clause_pool.specs.LiteralCode.{code_of}
 use Rattle.clause_pool.proofs.Literals.{code_within, opposite_opposite}
 use Rattle.solver_trail.specs.declared.set_literals.SetLiteral.{SetLiteral}
 use Rattle.solver_trail.specs.Watches.{AreKept, AreWatching}
-use Rattle.solver_trail.proofs.Held.{no_literal, literal_at, held_at, length-literals_of}
+use Rattle.solver_trail.proofs.Held.{literal_at, held_at, length-literals_of}
 use Rattle.solver_trail.proofs.Walk.{walk_start, walk_kept}
 use Rattle.solver_trail.proofs.propagation.visit_list.Goals as goal
 use Rattle.solver_trail.proofs.propagation.visit_list.Goals.{After-opposite-lit}
+use Rattle.solver_trail.specs.Assignment.{no_literal}
 
 -- the false literal, by the one at the place
 at_place : (c : After-opposite-lit) (d : SetLiteral) → (get_or c.args.set.now.literals c.args.place d).literal ≡ opposite c.opposite-lit.result

@@ -1,6 +1,6 @@
 use Rattle.std.proofs.Common.{◌∙◌, ◌++◌, ◌∷◌, [], sym, ap, arith}
 use Rattle.std.specs.List.{range_with_len}
-use Rattle.class_refine.proofs.Ranges.{range_more}
+use Rattle.net_model.proofs.Ranges.{range_more}
 use Rattle.class_refine.proofs.group.Group.below.Goals as goal
 
 pub loop-n-preserved : goal.loop-n-preserved

@@ -1,16 +1,14 @@
 use Rattle.std.proofs.lemmas.Grind.{common_steps}
-use Rattle.std.proofs.Common.{rules, ◌≡◌, ◌∙◌, ◌<◌, ℕ, Bool, true, false, not, length, refl, sym, ap, arith}
+use Rattle.std.proofs.Common.{rules, ◌≡◌, ◌∙◌, ◌<◌, ℕ, false, not, length, refl, sym, ap, arith}
 use Rattle.std.specs.Prelude.{Option, None, Some, IsTrue, is_some, slice_index_or}
 use Rattle.std.proofs.lemmas.Option.{slice_get-get_or, slice_get_within, get_or_from_slice_get}
+use Rattle.std.proofs.lemmas.Bool.{not-false}
 use Rattle.net_model.specs.ClassTable.{class_count}
+use Rattle.net_model.proofs.Elements.{none_is}
 use Rattle.result_file.specs.Marks.{evidence_in, next_member}
-use Rattle.member_marks.proofs.MarkLemmas.{open_is_next, none_is}
+use Rattle.member_marks.proofs.MarkLemmas.{open_is_next}
 use Rattle.dia_check.proofs.checker.Checker.is_next_class.Goals.{then-number-self-via-then-number-self, then-number-self-via-else-number-self+then-number-count}
 use Rattle.dia_check.proofs.checker.Checker.is_next_class.Goals as goal
-
-not_false : (b : Bool) → false ≡ not b → b ≡ true
-not_false true none = refl
-not_false false none = absurd (cc)
 
 never : ¬ IsTrue false
 never bad = cc
@@ -67,5 +65,5 @@ returns c = λ circuit seen is.
         birth_is = slice_get-get_or t.births c.args.number None below ∙ ap (λ (o : Option (ℕ × ℕ)). Some o) birth;
         complete = next ∙ none_is c.next_open.result (c.is_none.ensures ∙ ap not none);
       },
-      λ right. not_false c.is_none.result (sym (ap is_some (sym next ∙ right.complete)) ∙ c.is_none.ensures),
+      λ right. not-false c.is_none.result (sym c.is_none.ensures ∙ ap is_some (sym next ∙ right.complete)),
     )

@@ -1,5 +1,5 @@
 use Rattle.std.proofs.lemmas.Result.{err_from_is_err_and}
-use Rattle.dia_check.proofs.CheckLemmas.{stopped, has_after, judged_after}
+use Rattle.dia_check.proofs.CheckLemmas.{stopped, has_after, judged_then}
 use Rattle.dia_check.proofs.checker.Checker.judge.Goals as goal
 
 pub returns-in_err-make_way : goal.returns-in_err-make_way
@@ -11,4 +11,4 @@ pub judge_next-requires-clause-check : goal.judge_next-requires-clause-check
 judge_next-requires-clause-check c = has_after c.requires.check c.in_ok-make_way.ensures.judged
 
 pub returns : goal.returns
-returns c = judged_after c.in_ok-make_way.ensures.judged c.judge_next.ensures
+returns c = judged_then c.in_ok-make_way.ensures.judged c.judge_next.ensures

@@ -10,5 +10,5 @@ returns-then-has c = λ clause is. reached_again c.args.self.now clause c.args.l
 pub returns : goal.returns
 returns c = λ clause is.
     let placed = c.make_place.new.self in
-    reached_more placed (record { marks = with_item placed.marks c.place.result true; listed = c.push.new.self }) clause c.args.lit (c.in_ok-make_place.ensures.kept clause is) c.in_ok-make_place.ensures.place
-    (ap (λ k. set placed.marks.items k true) c.place.ensures) c.in_ok-push.ensures.items
+    reached_more placed (record { marks = with_item placed.marks c.code.result true; listed = c.push.new.self }) clause c.args.lit (c.in_ok-make_place.ensures.kept clause is) c.in_ok-make_place.ensures.place
+    (ap (λ k. set placed.marks.items k true) c.code.ensures) c.in_ok-push.ensures.items

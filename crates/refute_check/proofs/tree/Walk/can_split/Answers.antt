@@ -1,15 +1,12 @@
-use Rattle.std.proofs.Common.{◌≡◌, refl, sym, ◌∙◌, ap, arith}
-use Rattle.std.specs.Prelude.{Bool, true, false, not, ◌==◌}
+use Rattle.std.proofs.Common.{sym, ◌∙◌, ap, arith}
+use Rattle.std.specs.Prelude.{not, ◌==◌}
 use Rattle.std.specs.List.{list_any}
 use Rattle.std.proofs.lemmas.Bool.Decides.{nat_tests}
+use Rattle.std.proofs.lemmas.Bool.{not-true}
 use Rattle.net_model.proofs.Elements.{true_false}
 use Rattle.refute_check.proofs.WalkLemmas.{IsFree, split_right, split_free}
 use Rattle.refute_check.proofs.tree.Walk.can_split.Goals as goal
 use Rattle.refute_check.proofs.tree.Walk.can_split.Goals.{then-source-self, else-source-self, then-relevant, else-relevant}
-
-not_held : (b : Bool) → not b ≡ true → b ≡ false
-not_held true e = cc
-not_held false e = refl
 
 pub returns-then-not-is_on_path : goal.returns-then-not-is_on_path
 returns-then-not-is_on_path c =
@@ -22,7 +19,7 @@ returns-then-not-is_on_path c =
         | then-source-self v ↦ record {
           inside = v.if-source-self.true;
           relevant = sym v.relevant.ensures ∙ sym v.value-is ∙ w.if-relevant.true;
-          free = ap (list_any (λ half. half.0 == source)) (sym w.as_slice.ensures.value) ∙ sym w.is_on_path.ensures ∙ not_held w.is_on_path.result (sym w.value-is ∙ test);
+          free = ap (list_any (λ half. half.0 == source)) (sym w.as_slice.ensures.value) ∙ sym w.is_on_path.ensures ∙ not-true w.is_on_path.result (sym w.value-is ∙ test);
         }
         | else-source-self v ↦ absurd (grind (arith, nat_tests))
       ]

@@ -1,5 +1,5 @@
 use Rattle.std.proofs.Common.{◌%◌, ◌∙◌, sym, ap, arith}
-use Rattle.word_sim.specs.Stream.{has_digit}
+use Rattle.net_model.specs.Rows.{bit_of}
 use Rattle.word_sim.proofs.Digits.{splat_words, splat_lane, digit_zero, digit_ones}
 use Rattle.word_sim.proofs.lanes.Lanes.all.Goals as goal
 use Rattle.word_sim.proofs.lanes.Lanes.all.Goals.{then-bit, else-bit}
@@ -12,6 +12,6 @@ invariant_of-result c = splat_words c.if-bit.result (elim c.if-bit.branch [
 
 pub returns : goal.returns
 returns c = λ lane h. splat_lane c.if-bit.result lane h ∙ elim c.if-bit.branch [
-  | then-bit w ↦ ap (λ word. has_digit word (lane % 64)) w.result-is ∙ digit_ones 64 (lane % 64) (omega arith) ∙ sym w.if-bit.true
-  | else-bit w ↦ ap (λ word. has_digit word (lane % 64)) w.result-is ∙ digit_zero (lane % 64) ∙ sym w.if-bit.false
+  | then-bit w ↦ ap (λ word. bit_of word (lane % 64)) w.result-is ∙ digit_ones 64 (lane % 64) (omega arith) ∙ sym w.if-bit.true
+  | else-bit w ↦ ap (λ word. bit_of word (lane % 64)) w.result-is ∙ digit_zero (lane % 64) ∙ sym w.if-bit.false
 ]
