@@ -2,7 +2,7 @@
 use Rattle.std.proofs.Common.{◌≡◌, ℕ, true, false, List, [], ◌∷◌, ◌++◌, refl, ◌⊎◌, inl, inr, Option, None, Some}
 use Rattle.std.specs.Prelude.{Bool, option_map, codes, if◌then◌else◌}
 use Rattle.bench_reader.specs.Tokens.{Text, open_bracket, close_bracket, comma_mark, equals_mark, name_run, Token}
-use Rattle.bench_reader.specs.Grammar.{Named, Driver, driver_of, takes, is_word, Phrase, input_phrase, output_phrase, gate_phrase, pins_of, driver_pins, observed_phrase, driven_phrase, phrase_of, CanBegin}
+use Rattle.bench_reader.specs.Grammar.{Named, Driver, driver_of, takes, is_word, Phrase, input_phrase, output_phrase, gate_phrase, gate_pins, driver_pins, observed_phrase, driven_phrase, phrase_of, CanBegin}
 use Rattle.bench_reader.proofs.DriverPins.{name_first, no_pins, some_pins, pins_are}
 use Rattle.bench_reader.proofs.StopLemmas.{nothing_begins, one_begins, no_word, Observes, two_begins, three_begins, equals_begins, no_gate, gate_begins}
 
@@ -12,20 +12,20 @@ use Rattle.bench_reader.proofs.StopLemmas.{nothing_begins, one_begins, no_word, 
 abbrev pub Begins : (List Token → Option (List Named)) → List Token → Type 0
 Begins form tokens = (more : List Token) × (pins : List Named) × (form (tokens ++ more) ≡ Some pins)
 
-pins_begin : (tokens : List Token) → Dec (Begins pins_of tokens)
-unfolding pins_of
+pins_begin : (tokens : List Token) → Dec (Begins gate_pins tokens)
+unfolding gate_pins
 pins_begin [] = yes ((name_run [], 0) ∷ (close_bracket, 0) ∷ [], ([], 0) ∷ [], refl)
 pins_begin ((name_run t, m) ∷ []) = yes ((close_bracket, 0) ∷ [], (t, m) ∷ [], refl)
 pins_begin ((name_run t, m) ∷ (close_bracket, b) ∷ []) = yes ([], (t, m) ∷ [], refl)
-pins_begin ((name_run t, m) ∷ (comma_mark, b) ∷ tokens) = elim (pins_begin tokens) [ yes p ↦ yes (p.0, (t, m) ∷ p.1, rw p.2 refl) | no n ↦ no (λ p. n (by p.0 p.1 (pins_of (tokens ++ p.0)) refl p.2)) ]
+pins_begin ((name_run t, m) ∷ (comma_mark, b) ∷ tokens) = elim (pins_begin tokens) [ yes p ↦ yes (p.0, (t, m) ∷ p.1, rw p.2 refl) | no n ↦ no (λ p. n (by p.0 p.1 (gate_pins (tokens ++ p.0)) refl p.2)) ]
   where
-    by : (more : List Token) (all : List Named) (o : Option (List Named)) → pins_of (tokens ++ more) ≡ o → option_map (λ pins. (t, m) ∷ pins) o ≡ Some all → Begins pins_of tokens
+    by : (more : List Token) (all : List Named) (o : Option (List Named)) → gate_pins (tokens ++ more) ≡ o → option_map (λ pins. (t, m) ∷ pins) o ≡ Some all → Begins gate_pins tokens
     by more all None e f = cc
     by more all (Some pins) e f = (more, pins, e)
 pins_begin _ = no (λ p. let e = p.2 in cc)
 
 driver_begins : (driver : Driver) (tokens : List Token) → Dec (Begins (driver_pins driver) tokens)
-unfolding driver_pins pins_of
+unfolding driver_pins gate_pins
 driver_begins driver [] = yes ((name_run [], 0) ∷ (close_bracket, 0) ∷ [], ([], 0) ∷ [], refl)
 driver_begins driver ((name_run t, m) ∷ tokens) =
     elim (pins_begin ((name_run t, m) ∷ tokens)) [ yes p ↦ yes (p.0, p.1, rw name_first p.2) | no n ↦ no (λ p. n (p.0, p.1, rw name_first at p.2)) ]

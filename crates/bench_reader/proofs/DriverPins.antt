@@ -2,10 +2,10 @@
 use Rattle.std.proofs.Common.{◌≡◌, ℕ, [], ◌∷◌, List, refl, None, Some}
 use Rattle.std.specs.Prelude.{Bool, true, false, if◌then◌else◌}
 use Rattle.bench_reader.specs.Tokens.{Text, close_bracket, name_run, Token}
-use Rattle.bench_reader.specs.Grammar.{Named, Driver, takes, pins_of, driver_pins}
+use Rattle.bench_reader.specs.Grammar.{Named, Driver, takes, gate_pins, driver_pins}
 
 -- where a name comes first, any gate takes pins
-pub name_first : (driver : Driver) (t : Text) (m : ℕ) (more : List Token) → driver_pins driver ((name_run t, m) ∷ more) ≡ pins_of ((name_run t, m) ∷ more)
+pub name_first : (driver : Driver) (t : Text) (m : ℕ) (more : List Token) → driver_pins driver ((name_run t, m) ∷ more) ≡ gate_pins ((name_run t, m) ∷ more)
 unfolding driver_pins
 name_first driver t m [] = refl
 name_first driver t m (x ∷ more) = refl
@@ -13,10 +13,10 @@ name_first driver t m (x ∷ more) = refl
 -- Tokens that are a gate's pins are none, or pins that any gate takes.
 pub data Pins (driver : Driver) (tokens : List Token) (pins : List Named) : Type 0 where
   no_pins : (b : ℕ) → tokens ≡ (close_bracket, b) ∷ [] → pins ≡ [] → Pins driver tokens pins
-  some_pins : (t : Text) (m : ℕ) (more : List Token) → tokens ≡ (name_run t, m) ∷ more → pins_of tokens ≡ Some pins → Pins driver tokens pins
+  some_pins : (t : Text) (m : ℕ) (more : List Token) → tokens ≡ (name_run t, m) ∷ more → gate_pins tokens ≡ Some pins → Pins driver tokens pins
 
 pub pins_are : (driver : Driver) (tokens : List Token) (pins : List Named) → driver_pins driver tokens ≡ Some pins → Pins driver tokens pins
-unfolding driver_pins pins_of
+unfolding driver_pins gate_pins
 pins_are driver [] pins e = cc
 pins_are driver ((close_bracket, b) ∷ []) pins e = no_pins b refl (by (takes driver 0) e)
   where

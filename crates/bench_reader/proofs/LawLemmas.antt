@@ -4,7 +4,7 @@ use Rattle.std.specs.Prelude.{option_map, option_and_then, IsTrue}
 use Rattle.std.proofs.lemmas.List.{append-nil}
 use Rattle.bench_reader.specs.declared.fault.NetKind.{NetKind}
 use Rattle.bench_reader.specs.Tokens.{Text, Token, open_bracket, close_bracket, comma_mark, equals_mark, name_run, tokens_of}
-use Rattle.bench_reader.specs.Grammar.{Named, Driver, Phrase, gate_phrase, driver_of, driver_pins, pins_of, driven_phrase, phrase_of, has_right_pins, CanBegin}
+use Rattle.bench_reader.specs.Grammar.{Named, Driver, Phrase, gate_phrase, driver_of, driver_pins, gate_pins, driven_phrase, phrase_of, has_right_pins, CanBegin}
 use Rattle.bench_reader.specs.Reading.{joined_tokens, ArePhrases, IsText}
 use Rattle.bench_reader.specs.Refusal.{stop_of, StopsAt, at_token, at_end, at_pins}
 use Rattle.bench_reader.specs.Stops.{StopsIn, in_token, in_end, in_pins}
@@ -26,24 +26,24 @@ compare (x ∷ xs) ys (z ∷ zs) ws e =
 
 -- ---- no statement begins another
 
-pins_end : (tokens : List Token) (x : Token) (more : List Token) (pins : List Named) → pins_of tokens ≡ Some pins → pins_of (tokens ++ x ∷ more) ≡ None
-unfolding pins_of
+pins_end : (tokens : List Token) (x : Token) (more : List Token) (pins : List Named) → gate_pins tokens ≡ Some pins → gate_pins (tokens ++ x ∷ more) ≡ None
+unfolding gate_pins
 pins_end ((name_run text, at) ∷ (close_bracket, b) ∷ []) x more pins e = refl
-pins_end ((name_run text, at) ∷ (comma_mark, b) ∷ tokens) x more pins e = by (pins_of tokens) (λ ps f. pins_end tokens x more ps f) e
+pins_end ((name_run text, at) ∷ (comma_mark, b) ∷ tokens) x more pins e = by (gate_pins tokens) (λ ps f. pins_end tokens x more ps f) e
   where
-    by : (o : Option (List Named)) → ((ps : List Named) → o ≡ Some ps → pins_of (tokens ++ x ∷ more) ≡ None) → option_map (λ ps. (text, at) ∷ ps) o ≡ Some pins → option_map (λ ps. (text, at) ∷ ps) (pins_of (tokens ++ x ∷ more)) ≡ None
+    by : (o : Option (List Named)) → ((ps : List Named) → o ≡ Some ps → gate_pins (tokens ++ x ∷ more) ≡ None) → option_map (λ ps. (text, at) ∷ ps) o ≡ Some pins → option_map (λ ps. (text, at) ∷ ps) (gate_pins (tokens ++ x ∷ more)) ≡ None
     by None g e = cc
     by (Some ps) g e = rw (g ps refl) refl
 pins_end _ x more pins e = cc
 
 driver_end : (driver : Driver) (tokens : List Token) (x : Token) (more : List Token) (pins : List Named) → driver_pins driver tokens ≡ Some pins → driver_pins driver (tokens ++ x ∷ more) ≡ None
-unfolding driver_pins pins_of
+unfolding driver_pins gate_pins
 driver_end driver tokens x more pins e = by (pins_are driver tokens pins e)
   where
     by : Pins driver tokens pins → driver_pins driver (tokens ++ x ∷ more) ≡ None
     by (no_pins b e f) = rw e refl
     by (some_pins t m rest e f) =
-        let g : pins_of ((name_run t, m) ∷ (rest ++ x ∷ more)) ≡ None = rw e at (pins_end tokens x more pins f) in
+        let g : gate_pins ((name_run t, m) ∷ (rest ++ x ∷ more)) ≡ None = rw e at (pins_end tokens x more pins f) in
         rw e (name_first driver t m (rest ++ x ∷ more) ∙ g)
 
 driven_end : (n w : Named) (tokens : List Token) (x : Token) (more : List Token) (p : Phrase) → driven_phrase n w tokens ≡ Some p → driven_phrase n w (tokens ++ x ∷ more) ≡ None

@@ -16,7 +16,7 @@ use Rattle.bench_reader.specs.Scanning.{text_in, named_in}
 use Rattle.bench_reader.specs.Shapes.{port_phrase}
 use Rattle.bench_reader.specs.Tokens.{Text}
 use Rattle.bench_reader.specs.Grammar.{Named, Driver, gate_driver, flip_flop_driver, Phrase, input_phrase, output_phrase, gate_phrase, phrase_names}
-use Rattle.bench_reader.specs.Reading.{distinct_names, names_of, word_of, statement_with, statement_of}
+use Rattle.bench_reader.specs.Reading.{distinct_names, names_of, named_word, statement_with, statement_of}
 use Rattle.bench_reader.specs.Numbering.{is_one_of, with_name, with_names, port_statement, gate_statement}
 use Rattle.bench_reader.proofs.Positions.{placed, number_stays}
 
@@ -149,17 +149,17 @@ statement_same f g (gate_phrase n (gate_driver kind) word pins) h = rw (h.0, map
 statement_same f g (gate_phrase n flip_flop_driver word []) h = rw h.0 refl
 statement_same f g (gate_phrase n flip_flop_driver word (pin ∷ pins)) h = rw (h.0, h.1.0) refl
 
-stays : (text : Text) (names more : List Text) (ns : List Named) → AreAmong names (texts ns) → AllNamed (λ n. word_of text names n ≡ word_of text (names ++ more) n) ns
+stays : (text : Text) (names more : List Text) (ns : List Named) → AreAmong names (texts ns) → AllNamed (λ n. named_word text names n ≡ named_word text (names ++ more) n) ns
 stays text names more [] a = tt
 stays text names more (n ∷ ns) a =
     let s = number_stays (bytes_eq n.0) names more a.0 in
     let e : unwrap_or (position (bytes_eq n.0) names) 0 ≡ unwrap_or (position (bytes_eq n.0) (names ++ more)) 0 = (placed (bytes_eq n.0) names a.0).0 ∙ sym s.0 ∙ sym (placed (bytes_eq n.0) (names ++ more) s.1).0 in
     (rw e refl, stays text names more ns a.1)
 
-pub words_stay : (text : Text) (names more : List Text) (ns : List Named) → AreAmong names (texts ns) → map (word_of text names) ns ≡ map (word_of text (names ++ more)) ns
-words_stay text names more ns a = map_same (word_of text names) (word_of text (names ++ more)) ns (stays text names more ns a)
+pub words_stay : (text : Text) (names more : List Text) (ns : List Named) → AreAmong names (texts ns) → map (named_word text names) ns ≡ map (named_word text (names ++ more)) ns
+words_stay text names more ns a = map_same (named_word text names) (named_word text (names ++ more)) ns (stays text names more ns a)
 
-pub word_stays : (text : Text) (names more : List Text) (n : Named) → is_one_of names n.0 ≡ true → word_of text names n ≡ word_of text (names ++ more) n
+pub word_stays : (text : Text) (names more : List Text) (n : Named) → is_one_of names n.0 ≡ true → named_word text names n ≡ named_word text (names ++ more) n
 word_stays text names more n a = (stays text names more (n ∷ []) (a, tt)).0
 
 -- every name of these statements is among these
@@ -179,16 +179,16 @@ pub statements_stay : (text : Text) (names more : List Text) (ps : List Phrase) 
 unfolding statement_of
 statements_stay text names more [] a = refl
 statements_stay text names more (p ∷ ps) a =
-    rw (statement_same (word_of text names) (word_of text (names ++ more)) p (stays text names more (phrase_names p) a.0), statements_stay text names more ps a.1) refl
+    rw (statement_same (named_word text names) (named_word text (names ++ more)) p (stays text names more (phrase_names p) a.0), statements_stay text names more ps a.1) refl
 
 -- ---- statements by their words
 
-pub port_words : (text : Text) (names : List Text) (port : Port) (n : Named) → port_statement port (word_of text names n) ≡ statement_of text names (port_phrase port n)
+pub port_words : (text : Text) (names : List Text) (port : Port) (n : Named) → port_statement port (named_word text names n) ≡ statement_of text names (port_phrase port n)
 unfolding statement_of
 port_words text names says.Input n = refl
 port_words text names says.Output n = refl
 
-pub gate_words : (text : Text) (names : List Text) (driver : Driver) (n w : Named) (pins : List Named) → gate_statement driver (word_of text names n) (map (word_of text names) pins) ≡ statement_of text names (gate_phrase n driver w pins)
+pub gate_words : (text : Text) (names : List Text) (driver : Driver) (n w : Named) (pins : List Named) → gate_statement driver (named_word text names n) (map (named_word text names) pins) ≡ statement_of text names (gate_phrase n driver w pins)
 unfolding statement_of
 gate_words text names (gate_driver kind) n w pins = refl
 gate_words text names flip_flop_driver n w [] = refl
@@ -197,9 +197,9 @@ gate_words text names flip_flop_driver n w (pin ∷ pins) = refl
 -- ---- pins, one after another
 
 pub pins_push : (text : Text) (old names more : List Text) (pins : List Lexeme) (i : ℕ) (d : Lexeme) (words new : List Word) (word : Word) → i < length pins
-    → names ≡ with_names old (map (named_in text) (take i pins)) → words ≡ map (word_of text names) (map (named_in text) (take i pins))
-    → more ≡ with_name names (text_in text (get_or pins i d)) → word ≡ word_of text more (named_in text (get_or pins i d)) → new ≡ words ++ word ∷ []
-    → (more ≡ with_names old (map (named_in text) (take (i + 1) pins))) × (new ≡ map (word_of text more) (map (named_in text) (take (i + 1) pins)))
+    → names ≡ with_names old (map (named_in text) (take i pins)) → words ≡ map (named_word text names) (map (named_in text) (take i pins))
+    → more ≡ with_name names (text_in text (get_or pins i d)) → word ≡ named_word text more (named_in text (get_or pins i d)) → new ≡ words ++ word ∷ []
+    → (more ≡ with_names old (map (named_in text) (take (i + 1) pins))) × (new ≡ map (named_word text more) (map (named_in text) (take (i + 1) pins)))
 pins_push text old names more pins i d words new word h n w m is e =
     let done = map (named_in text) (take i pins) in
     let pin = named_in text (get_or pins i d) in
@@ -207,8 +207,8 @@ pins_push text old names more pins i d words new word h n w m is e =
     let grown = name_grows names pin.0 in
     let among : AreAmong names (texts done) = rw n (names_grow old done).2 in
     let longer : more ≡ names ++ grown.0 = m ∙ grown.1 in
-    let same : map (word_of text names) done ≡ map (word_of text more) done = rw longer (words_stay text names grown.0 done among) in
-    (rw all (m ∙ ap (λ ns. with_name ns pin.0) n ∙ sym (names_push old done pin)), rw all (e ∙ ap (λ ws. ws ++ word ∷ []) (w ∙ same) ∙ ap (λ x. map (word_of text more) done ++ x ∷ []) is ∙ sym (map-append (word_of text more) done (pin ∷ []))))
+    let same : map (named_word text names) done ≡ map (named_word text more) done = rw longer (words_stay text names grown.0 done among) in
+    (rw all (m ∙ ap (λ ns. with_name ns pin.0) n ∙ sym (names_push old done pin)), rw all (e ∙ ap (λ ws. ws ++ word ∷ []) (w ∙ same) ∙ ap (λ x. map (named_word text more) done ++ x ∷ []) is ∙ sym (map-append (named_word text more) done (pin ∷ []))))
 
 pub all_tail : (P : Lexeme → Type 0) (x : Lexeme) (xs : List Lexeme) → All P (x ∷ xs) → All P xs
 all_tail P x xs a k d h = a (suc k) d (omega arith)

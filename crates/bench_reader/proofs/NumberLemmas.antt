@@ -15,7 +15,7 @@ use Rattle.bench_reader.specs.declared.statement.Word.{Word}
 use Rattle.bench_reader.specs.declared.statement.Statement.{Statement}
 use Rattle.bench_reader.specs.declared.statement.Statement.TheVariants.{Input, Output, Drive, Flop}
 use Rattle.bench_reader.specs.Driven.{driven_numbers, used_numbers}
-use Rattle.bench_reader.specs.Drivers.{driven_word, used_words, has_number, repeated_word, second_driver, missing_driver, AreNumbered, AreMarks, unmarked}
+use Rattle.bench_reader.specs.Drivers.{driven_word, used_words, has_number, repeated_word, second_driver, missing_driver, AreNumbered, AreMarksOfWords, unmarked}
 
 -- ---- the first word that repeats a number
 
@@ -83,7 +83,7 @@ same_finds p q [] same = refl
 same_finds p q (w ∷ ws) same =
     rw (All-head (λ (word : Word). p word ≡ q word) w ws same, same_finds p q ws (All-tail (λ (word : Word). p word ≡ q word) w ws same)) refl
 
-pub unmarked_is : (count : ℕ) (ss : List Statement) (marks : List Bool) → AreNumbered count ss → AreMarks count (filter_map driven_word ss) marks → unmarked marks (flat_map used_words ss) ≡ missing_driver ss
+pub unmarked_is : (count : ℕ) (ss : List Statement) (marks : List Bool) → AreNumbered count ss → AreMarksOfWords count (filter_map driven_word ss) marks → unmarked marks (flat_map used_words ss) ≡ missing_driver ss
 unfolding missing_driver
 unmarked_is count ss marks numbered are =
     same_finds (λ word. not (slice_index_or marks word.name false)) (λ word. not (has_number (filter_map driven_word ss) word.name)) (flat_map used_words ss)

@@ -13,7 +13,7 @@ use Rattle.net_model.proofs.Elements.{true_false}
 use Rattle.bench_reader.specs.declared.statement.Word.{Word}
 use Rattle.bench_reader.specs.Tokens.{Text, Token}
 use Rattle.bench_reader.specs.Grammar.{Named, gate_driver, flip_flop_driver, Phrase, input_phrase, output_phrase, gate_phrase, has_right_pins, phrase_names}
-use Rattle.bench_reader.specs.Reading.{distinct_names, names_of, is_among, driven_names, all_used_names, driven_twice, undriven, word_of, number_in, first_word, statement_with, ArePhrases}
+use Rattle.bench_reader.specs.Reading.{distinct_names, names_of, is_among, driven_names, all_used_names, driven_twice, undriven, named_word, name_number, first_word, statement_with, ArePhrases}
 use Rattle.bench_reader.specs.Drivers.{driven_word, used_words, has_number, repeated_word}
 use Rattle.bench_reader.proofs.NameLemmas.{same_text}
 
@@ -53,7 +53,7 @@ first_place names text (k, h, e) =
     ]
 
 -- a text that is a name has the number of its place
-pub number_is : (names : List Text) (text : Text) → Contains names text → (number_in names text < length names) × (get_or names (number_in names text) text ≡ text)
+pub number_is : (names : List Text) (text : Text) → Contains names text → (name_number names text < length names) × (get_or names (name_number names text) text ≡ text)
 number_is names text m =
     let place = position_or_len (bytes_eq text) names in
     let h = first_place names text m in
@@ -62,17 +62,17 @@ number_is names text m =
     rw t (h, here)
 
 -- two names have one number exactly where they are one text
-same_number : (names : List Text) (a b : Text) → Contains names a → Contains names b → (number_in names a == number_in names b) ≡ bytes_eq a b
+same_number : (names : List Text) (a b : Text) → Contains names a → Contains names b → (name_number names a == name_number names b) ≡ bytes_eq a b
 same_number names a b ma mb =
     let na = number_is names a ma in
     let nb = number_is names b mb in
     elim (cases_Bool (bytes_eq a b)) [
-      | inl on ↦ eq-eqb (number_in names a) (number_in names b) (ap (number_in names) (same_bytes a b on)) ∙ sym on
-      | inr off ↦ elim (cases_Bool (number_in names a == number_in names b)) [
+      | inl on ↦ eq-eqb (name_number names a) (name_number names b) (ap (name_number names) (same_bytes a b on)) ∙ sym on
+      | inr off ↦ elim (cases_Bool (name_number names a == name_number names b)) [
         | inr differs ↦ differs ∙ sym off
         | inl on ↦
-            let e = eqb-true (number_in names a) (number_in names b) on in
-            let same : a ≡ b = sym na.1 ∙ (get_or_default names (number_in names a) a b na.0 ∙ (ap (λ k. get_or names k b) e ∙ nb.1)) in
+            let e = eqb-true (name_number names a) (name_number names b) on in
+            let same : a ≡ b = sym na.1 ∙ (get_or_default names (name_number names a) a b na.0 ∙ (ap (λ k. get_or names k b) e ∙ nb.1)) in
             true_false (bytes_eq a b) (ap (bytes_eq a) (sym same) ∙ same_text a) off
       ]
     ]
@@ -81,7 +81,7 @@ same_number names a b ma mb =
 
 module _ (text : Text) (names : List Text) where
   abbrev pub word : Named → Word
-  word n = word_of text names n
+  word n = named_word text names n
 
   -- names that have numbers
   abbrev pub Known : List Named → Type 0

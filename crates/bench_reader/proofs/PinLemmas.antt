@@ -14,10 +14,10 @@ use Rattle.bench_reader.specs.declared.fault.NetKind.TheVariants.{WrongPins}
 use Rattle.bench_reader.specs.declared.shape.Shape.TheVariants.{Gate}
 use Rattle.bench_reader.specs.declared.shape.GateHead.{GateHead}
 use Rattle.bench_reader.specs.Tokens.{Text, open_bracket, close_bracket, comma_mark, equals_mark, name_run, Token}
-use Rattle.bench_reader.specs.Grammar.{Named, Driver, gate_phrase, takes, pins_of, driver_pins, driven_phrase, phrase_of, CanBegin}
+use Rattle.bench_reader.specs.Grammar.{Named, Driver, gate_phrase, takes, gate_pins, driver_pins, driven_phrase, phrase_of, CanBegin}
 use Rattle.bench_reader.specs.Refusal.{stop_of}
-use Rattle.bench_reader.specs.Scanning.{tokens_at, piece_of, text_in, named_in, token_in, IsLexeme, IsNext}
-use Rattle.bench_reader.specs.Shapes.{stop_kind, driver_in, head_tokens, IsHead, ArePins, IsStatement}
+use Rattle.bench_reader.specs.Scanning.{tokens_at, lexeme_piece, text_in, named_in, token_in, IsLexeme, IsNext}
+use Rattle.bench_reader.specs.Shapes.{stop_kind, driver_in, head_tokens, IsGateHead, ArePins, IsStatement}
 use Rattle.bench_reader.specs.Stops.{StopsIn, in_pins, IsStop}
 use Rattle.bench_reader.proofs.DriverPins.{name_first}
 use Rattle.bench_reader.proofs.StopLemmas.{stop_at}
@@ -27,36 +27,36 @@ use Rattle.bench_reader.proofs.StateLemmas.{place_behind}
 pub record PinsSoFar (text : Text) (driver : Driver) (from : ℕ) (pins : List Lexeme) (byte : ℕ) : Type 0 where
   pub part : List Token
   pub whole : tokens_at text from ≡ part ++ tokens_at text byte
-  pub ends : (t : Text) (m : ℕ) (more : List Token) → driver_pins driver (part ++ (name_run t, m) ∷ more) ≡ option_map (λ rest. map (named_in text) pins ++ rest) (pins_of ((name_run t, m) ∷ more))
+  pub ends : (t : Text) (m : ℕ) (more : List Token) → driver_pins driver (part ++ (name_run t, m) ∷ more) ≡ option_map (λ rest. map (named_in text) pins ++ rest) (gate_pins ((name_run t, m) ∷ more))
   pub names : All (IsLexeme text) pins
 
 pub no_pins : (text : Text) (driver : Driver) (from : ℕ) → PinsSoFar text driver from [] from
-no_pins text driver from = record { part = []; whole = refl; ends = λ t m more. name_first driver t m more ∙ by (pins_of ((name_run t, m) ∷ more)); names = All-nil (IsLexeme text) }
+no_pins text driver from = record { part = []; whole = refl; ends = λ t m more. name_first driver t m more ∙ by (gate_pins ((name_run t, m) ∷ more)); names = All-nil (IsLexeme text) }
   where
     by : (o : Option (List Named)) → o ≡ option_map (λ rest. [] ++ rest) o
     by None = refl
     by (Some pins) = refl
 
-no_pin : (kind : LexemeKind) (run : Text) (byte : ℕ) (more : List Token) → kind ≢ Name → pins_of ((piece_of kind run, byte) ∷ more) ≡ None
-unfolding pins_of
+no_pin : (kind : LexemeKind) (run : Text) (byte : ℕ) (more : List Token) → kind ≢ Name → gate_pins ((lexeme_piece kind run, byte) ∷ more) ≡ None
+unfolding gate_pins
 no_pin Name run byte more g = absurd (g refl)
 no_pin _ run byte more g = refl
 
 -- what can't stand first behind the bracket
-no_first : (driver : Driver) (kind : LexemeKind) (run : Text) (byte : ℕ) (more : List Token) → kind ≢ Name → (kind ≡ CloseBracket → takes driver 0 ≡ false) → driver_pins driver ((piece_of kind run, byte) ∷ more) ≡ None
-unfolding driver_pins pins_of
+no_first : (driver : Driver) (kind : LexemeKind) (run : Text) (byte : ℕ) (more : List Token) → kind ≢ Name → (kind ≡ CloseBracket → takes driver 0 ≡ false) → driver_pins driver ((lexeme_piece kind run, byte) ∷ more) ≡ None
+unfolding driver_pins gate_pins
 no_first driver Name run byte more g h = absurd (g refl)
 no_first driver CloseBracket run byte [] g h = rw (h refl) refl
 no_first driver _ run byte [] g h = refl
 no_first driver _ run byte (x ∷ more) g h = refl
 
-no_mark : (t : Text) (m : ℕ) (kind : LexemeKind) (run : Text) (byte : ℕ) (more : List Token) → kind ≢ Comma → kind ≢ CloseBracket → pins_of ((name_run t, m) ∷ (piece_of kind run, byte) ∷ more) ≡ None
-unfolding pins_of
+no_mark : (t : Text) (m : ℕ) (kind : LexemeKind) (run : Text) (byte : ℕ) (more : List Token) → kind ≢ Comma → kind ≢ CloseBracket → gate_pins ((name_run t, m) ∷ (lexeme_piece kind run, byte) ∷ more) ≡ None
+unfolding gate_pins
 no_mark t m Comma run byte more g h = absurd (g refl)
 no_mark t m CloseBracket run byte more g h = absurd (h refl)
 no_mark t m _ run byte more g h = refl
 
-module _ (text : Text) (head : GateHead) (h : IsHead text head) where
+module _ (text : Text) (head : GateHead) (h : IsGateHead text head) where
   abbrev pub begin : List Token
   begin = (name_run (text_in text head.name), head.name.place.byte) ∷ (equals_mark, head.equals.place.byte) ∷ (name_run (text_in text head.word), head.word.place.byte) ∷ (open_bracket, head.bracket.place.byte) ∷ []
 
@@ -86,7 +86,7 @@ module _ (text : Text) (head : GateHead) (h : IsHead text head) where
       let f : phrase_of (((begin ++ part) ++ token ∷ []) ++ c.more) ≡ Some c.phrase = c.is in
       cc
 
-  part_stop : (part : List Token) (kind : LexemeKind) (run : Text) (byte : ℕ) → stop_of (begin ++ part) (piece_of kind run, byte) ≡ (stop_kind kind, byte)
+  part_stop : (part : List Token) (kind : LexemeKind) (run : Text) (byte : ℕ) → stop_of (begin ++ part) (lexeme_piece kind run, byte) ≡ (stop_kind kind, byte)
   part_stop part BadByte run byte = refl
   part_stop part _ run byte = refl
 
@@ -99,7 +99,7 @@ module _ (text : Text) (head : GateHead) (h : IsHead text head) where
 
   -- a lexeme that can't stand first
   pub first_wrong : (a : Lexeme) (f : NetFault) → IsNext text head.bracket.end a → a.kind ≢ Name → (a.kind ≡ CloseBracket → takes driver 0 ≡ false) → f ≡ At (stop_kind a.kind) a.place → IsStop text HeadTokens f
-  unfolding pins_of driver_pins
+  unfolding gate_pins driver_pins
   first_wrong a f next other closes is =
       part_stops [] head.bracket.end a f refl ((name_run [], 0) ∷ (close_bracket, 0) ∷ []) (([], 0) ∷ []) refl refl (λ rest. no_first driver a.kind (text_in text a) a.place.byte rest other closes) next is
 
@@ -123,11 +123,11 @@ module _ (text : Text) (head : GateHead) (h : IsHead text head) where
       pinned_whole : tokens_at text head.bracket.end ≡ pinned ++ tokens_at text pin.end
       pinned_whole = s.whole ∙ rw (next.tokens, is_name) (sym (append_assoc s.part ((name_run (text_in text pin), pin.place.byte) ∷ []) (tokens_at text pin.end)))
 
-      pinned_ends : (more : List Token) → driver_pins driver (pinned ++ more) ≡ option_map (λ rest. map (named_in text) pins ++ rest) (pins_of ((name_run (text_in text pin), pin.place.byte) ∷ more))
+      pinned_ends : (more : List Token) → driver_pins driver (pinned ++ more) ≡ option_map (λ rest. map (named_in text) pins ++ rest) (gate_pins ((name_run (text_in text pin), pin.place.byte) ∷ more))
       pinned_ends more = ap (driver_pins driver) (append_assoc s.part ((name_run (text_in text pin), pin.place.byte) ∷ []) more) ∙ s.ends (text_in text pin) pin.place.byte more
 
       pub pins_no_mark : (mark : Lexeme) (f : NetFault) → IsNext text pin.end mark → mark.kind ≢ Comma → mark.kind ≢ CloseBracket → f ≡ At (stop_kind mark.kind) mark.place → IsStop text HeadTokens f
-      unfolding pins_of
+      unfolding gate_pins
       pins_no_mark mark f after g k is =
           part_stops pinned pin.end mark f pinned_whole ((close_bracket, 0) ∷ []) (map (named_in text) pins ++ named_in text pin ∷ []) (pinned_ends ((close_bracket, 0) ∷ [])) (rw append-nil at (pinned_ends []))
           (λ rest. pinned_ends (token_in text mark ∷ rest) ∙ rw (no_mark (text_in text pin) pin.place.byte mark.kind (text_in text mark) mark.place.byte rest g k) refl) after is
@@ -143,15 +143,15 @@ module _ (text : Text) (head : GateHead) (h : IsHead text head) where
         join None = refl
         join (Some rest) = ap Some (sym (append_assoc (map (named_in text) pins) (named_in text pin ∷ []) rest) ∙ ap (λ ns. ns ++ rest) (sym (map-append (named_in text) pins (pin ∷ []))))
 
-        parted_ends : (more : List Token) → driver_pins driver (parted ++ more) ≡ option_map (λ rest. map (named_in text) (pins ++ pin ∷ []) ++ rest) (pins_of more)
-        unfolding pins_of
-        parted_ends more = ap (driver_pins driver) (append_assoc pinned ((comma_mark, mark.place.byte) ∷ []) more) ∙ pinned_ends ((comma_mark, mark.place.byte) ∷ more) ∙ join (pins_of more)
+        parted_ends : (more : List Token) → driver_pins driver (parted ++ more) ≡ option_map (λ rest. map (named_in text) (pins ++ pin ∷ []) ++ rest) (gate_pins more)
+        unfolding gate_pins
+        parted_ends more = ap (driver_pins driver) (append_assoc pinned ((comma_mark, mark.place.byte) ∷ []) more) ∙ pinned_ends ((comma_mark, mark.place.byte) ∷ more) ∙ join (gate_pins more)
 
         pub pins_more : PinsSoFar text driver head.bracket.end (pins ++ pin ∷ []) mark.end
         pins_more = record { part = parted; whole = parted_whole; ends = λ t m more. parted_ends ((name_run t, m) ∷ more); names = All-push (IsLexeme text) pins pin s.names next.lexeme }
 
         pub pins_no_name : (a : Lexeme) (f : NetFault) → IsNext text mark.end a → a.kind ≢ Name → f ≡ At (stop_kind a.kind) a.place → IsStop text HeadTokens f
-        unfolding pins_of
+        unfolding gate_pins
         pins_no_name a f beyond other is =
             part_stops parted mark.end a f parted_whole ((name_run [], 0) ∷ (close_bracket, 0) ∷ []) (map (named_in text) (pins ++ pin ∷ []) ++ ([], 0) ∷ []) (parted_ends ((name_run [], 0) ∷ (close_bracket, 0) ∷ [])) (rw append-nil at (parted_ends []))
             (λ rest. parted_ends (token_in text a ∷ rest) ∙ rw (no_pin a.kind (text_in text a) a.place.byte rest other) refl) beyond is
@@ -160,7 +160,7 @@ module _ (text : Text) (head : GateHead) (h : IsHead text head) where
         pins_fewer a beyond named = let e : length (tokens_at text pin.end) ≡ length (tokens_at text a.end) + 2 = rw (after.tokens, comma, beyond.tokens, named) (omega arith) in omega (arith, e)
 
       pub pins_done : (mark : Lexeme) (place : Place) (found : Vec Lexeme Global) → found.items ≡ pins ++ pin ∷ [] → IsNext text pin.end mark → mark.kind ≡ CloseBracket → place.byte ≡ mark.end → place.line ≡ mark.place.line → ArePins text head (found, place)
-      unfolding pins_of
+      unfolding gate_pins
       pins_done mark place found is after closes b l = record {
         group = pinned ++ (close_bracket, mark.place.byte) ∷ [];
         whole = pinned_whole ∙ rw (after.tokens, closes, b) (sym (append_assoc pinned ((close_bracket, mark.place.byte) ∷ []) (tokens_at text mark.end)));

@@ -12,7 +12,7 @@ use Rattle.bench_reader.specs.declared.fault.Place.{Place}
 use Rattle.bench_reader.specs.Tokens.{Text, is_blank, is_name_byte, without_comments, Piece, name_run, with_byte, pieces, placed_pieces, is_blank_piece, tokens_of, line_of}
 use Rattle.bench_reader.specs.declared.scanner.LexemeKind.{LexemeKind}
 use Rattle.bench_reader.specs.declared.scanner.LexemeKind.TheVariants.{OpenBracket, CloseBracket, Comma, Equals, Name, BadByte, End}
-use Rattle.bench_reader.specs.Scanning.{tokens_in, tokens_at, tokens_with, piece_of, IsPlace, IsNext}
+use Rattle.bench_reader.specs.Scanning.{tokens_in, tokens_at, tokens_with, lexeme_piece, IsPlace, IsNext}
 use Rattle.bench_reader.specs.Bytes.{kind_at, length_at, is_skipped, inside_behind, IsSkipped}
 use Rattle.bench_reader.proofs.Pieces.{name_first}
 
@@ -107,7 +107,7 @@ name_tokens byte text n e h =
 
 module _ (byte b : ℕ) (rest : Text) (blank : is_blank b ≡ false) (hash : (b == 35) ≡ false) where
   abbrev pub Begins : LexemeKind → Type 0
-  Begins kind = (n : ℕ) → n ≡ length_at kind (b ∷ rest) → tokens_in false byte (b ∷ rest) ≡ tokens_with kind (piece_of kind (take n (b ∷ rest)), byte) (tokens_in false (byte + n) (drop n (b ∷ rest)))
+  Begins kind = (n : ℕ) → n ≡ length_at kind (b ∷ rest) → tokens_in false byte (b ∷ rest) ≡ tokens_with kind (lexeme_piece kind (take n (b ∷ rest)), byte) (tokens_in false (byte + n) (drop n (b ∷ rest)))
 
   begins_name : is_name_byte b ≡ true → Begins Name
   begins_name e n h = name_tokens byte (b ∷ rest) n h (rw (h, e) (omega arith))

@@ -6,7 +6,7 @@ use Rattle.std.proofs.lemmas.List.{length-map}
 use Rattle.std.proofs.lemmas.List.Sums.{sum_by-cons}
 use Rattle.net_model.proofs.Elements.{length-filter-le}
 use Rattle.bench_reader.specs.Tokens.{Text, without_comments, Piece, pieces, piece_length, placed_pieces, is_blank_piece, Token, tokens_of, open_bracket, close_bracket, comma_mark, equals_mark, name_run}
-use Rattle.bench_reader.specs.Grammar.{Named, Driver, gate_driver, flip_flop_driver, driver_of, is_word, Phrase, input_phrase, output_phrase, gate_phrase, phrase_of, driver_pins, pins_of, observed_phrase, driven_phrase, phrase_names}
+use Rattle.bench_reader.specs.Grammar.{Named, Driver, gate_driver, flip_flop_driver, driver_of, is_word, Phrase, input_phrase, output_phrase, gate_phrase, phrase_of, driver_pins, gate_pins, observed_phrase, driven_phrase, phrase_names}
 use Rattle.bench_reader.specs.Reading.{distinct_names, names_of, statement_of, joined_tokens, ArePhrases}
 use Rattle.bench_reader.specs.Driven.{statement_size}
 use Rattle.bench_reader.specs.Netlist.{Netlist}
@@ -35,10 +35,10 @@ few_tokens text =
 
 -- ---- names and tokens
 
-pins_size : (tokens : List Token) (pins : List Named) → pins_of tokens ≡ Some pins → length pins ≤ length tokens
-unfolding pins_of
+pins_size : (tokens : List Token) (pins : List Named) → gate_pins tokens ≡ Some pins → length pins ≤ length tokens
+unfolding gate_pins
 pins_size ((name_run text, at) ∷ (close_bracket, b) ∷ []) pins e = let f : (text, at) ∷ [] ≡ pins = cc in rw (← f) (omega arith)
-pins_size ((name_run text, at) ∷ (comma_mark, b) ∷ tokens) pins e = by (pins_of tokens) (pins_size tokens) e
+pins_size ((name_run text, at) ∷ (comma_mark, b) ∷ tokens) pins e = by (gate_pins tokens) (pins_size tokens) e
   where
     by : (o : Option (List Named)) → ((ps : List Named) → o ≡ Some ps → length ps ≤ length tokens) → option_map (λ ps. (text, at) ∷ ps) o ≡ Some pins → length pins ≤ suc (suc (length tokens))
     by None more e = cc

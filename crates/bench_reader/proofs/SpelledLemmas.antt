@@ -10,9 +10,9 @@ use Rattle.std.proofs.lemmas.List.Folds.{list_any_none, list_any_at}
 use Rattle.std.proofs.lemmas.Slice.Eq.{bytes_eq-Decides}
 use Rattle.bench_reader.specs.Netlist.{Netlist}
 use Rattle.bench_reader.specs.Tokens.{Text, Piece, open_bracket, close_bracket, comma_mark, equals_mark, name_run, Token, tokens_of}
-use Rattle.bench_reader.specs.Grammar.{Named, Driver, gate_driver, flip_flop_driver, driver_of, takes, Phrase, input_phrase, output_phrase, gate_phrase, phrase_of, pins_of, driver_pins, observed_phrase, driven_phrase, has_right_pins, phrase_names}
-use Rattle.bench_reader.specs.Reading.{distinct_names, names_of, is_among, driven_names, all_used_names, driven_twice, undriven, number_in, word_of, statement_with, statement_of, netlist_of, joined_tokens, ArePhrases, IsNetlist}
-use Rattle.bench_reader.specs.Spelled.{Written, written_input, written_output, written_gate, written_driven, written_used, written_names, HasRightWord, AreRight, spelled, spelled_pins, Spells, ReadsAs, IsAsWritten}
+use Rattle.bench_reader.specs.Grammar.{Named, Driver, gate_driver, flip_flop_driver, driver_of, takes, Phrase, input_phrase, output_phrase, gate_phrase, phrase_of, gate_pins, driver_pins, observed_phrase, driven_phrase, has_right_pins, phrase_names}
+use Rattle.bench_reader.specs.Reading.{distinct_names, names_of, is_among, driven_names, all_used_names, driven_twice, undriven, name_number, named_word, statement_with, statement_of, netlist_of, joined_tokens, ArePhrases, IsNetlist}
+use Rattle.bench_reader.specs.Spelled.{Written, written_input, written_output, written_gate, written_driven, written_used, written_names, HasRightWord, AreRightTogether, spelled, spelled_pins, Spells, ReadsAs, IsAsWritten}
 use Rattle.bench_reader.proofs.DriverPins.{name_first}
 use Rattle.bench_reader.proofs.NumberLemmas.{find_none}
 
@@ -61,19 +61,19 @@ record IsGroup (w : Written) (group : List Token) : Type 0 where
   word : HasWord phrase
   written : written_of phrase ≡ w
 
-read_pins : (pin : Text) (pins : List Text) (group : List Token) → pieces_in group ≡ spelled_pins (pin ∷ pins) → (ns : List Named) × (pins_of group ≡ Some ns) × (map (λ n. n.0) ns ≡ pin ∷ pins)
-unfolding pins_of
+read_pins : (pin : Text) (pins : List Text) (group : List Token) → pieces_in group ≡ spelled_pins (pin ∷ pins) → (ns : List Named) × (gate_pins group ≡ Some ns) × (map (λ n. n.0) ns ≡ pin ∷ pins)
+unfolding gate_pins
 read_pins pin [] group e =
     let t = one_token group (name_run pin) (close_bracket ∷ []) e in
     let u = one_token t.1 close_bracket [] t.3 in
     let whole : group ≡ (name_run pin, t.0) ∷ (close_bracket, u.0) ∷ [] = t.2 ∙ ap (λ ts. (name_run pin, t.0) ∷ ts) (u.2 ∙ ap (λ ts. (close_bracket, u.0) ∷ ts) (no_token u.1 u.3)) in
-    ((pin, t.0) ∷ [], ap pins_of whole, refl)
+    ((pin, t.0) ∷ [], ap gate_pins whole, refl)
 read_pins pin (other ∷ pins) group e =
     let t = one_token group (name_run pin) (comma_mark ∷ spelled_pins (other ∷ pins)) e in
     let u = one_token t.1 comma_mark (spelled_pins (other ∷ pins)) t.3 in
     let whole : group ≡ (name_run pin, t.0) ∷ (comma_mark, u.0) ∷ u.1 = t.2 ∙ ap (λ ts. (name_run pin, t.0) ∷ ts) u.2 in
     let rest = read_pins other pins u.1 u.3 in
-    ((pin, t.0) ∷ rest.0, ap pins_of whole ∙ ap (option_map (λ ns. (pin, t.0) ∷ ns)) rest.1, ap (λ ts. pin ∷ ts) rest.2)
+    ((pin, t.0) ∷ rest.0, ap gate_pins whole ∙ ap (option_map (λ ns. (pin, t.0) ∷ ns)) rest.1, ap (λ ts. pin ∷ ts) rest.2)
 
 read_driver_pins : (driver : Driver) (pins : List Text) (group : List Token) → pieces_in group ≡ spelled_pins pins → IsTrue (takes driver (length pins)) → (ns : List Named) × (driver_pins driver group ≡ Some ns) × (map (λ n. n.0) ns ≡ pins)
 unfolding driver_pins
@@ -84,7 +84,7 @@ read_driver_pins driver [] group e right =
 read_driver_pins driver (pin ∷ pins) group e right =
     let t = front pins e in
     let read = read_pins pin pins group e in
-    (read.0, ap (driver_pins driver) t.2 ∙ name_first driver pin t.0 t.1 ∙ ap pins_of (sym t.2) ∙ read.1, read.2)
+    (read.0, ap (driver_pins driver) t.2 ∙ name_first driver pin t.0 t.1 ∙ ap gate_pins (sym t.2) ∙ read.1, read.2)
   where
     front : (pins : List Text) → pieces_in group ≡ spelled_pins (pin ∷ pins) → (at : ℕ) × (more : List Token) × (group ≡ (name_run pin, at) ∷ more)
     front [] e = let t = one_token group (name_run pin) (close_bracket ∷ []) e in (t.0, t.1, t.2)
@@ -229,11 +229,11 @@ none_missing driven used each =
 -- ---- statements
 
 module _ (text : Text) (names : List Text) where
-  numbers_of : (pins : List Named) → map (λ p. p.name) (map (word_of text names) pins) ≡ map (number_in names) (texts_of pins)
+  numbers_of : (pins : List Named) → map (λ p. p.name) (map (named_word text names) pins) ≡ map (name_number names) (texts_of pins)
   numbers_of [] = refl
-  numbers_of (pin ∷ pins) = ap (λ ns. number_in names pin.0 ∷ ns) (numbers_of pins)
+  numbers_of (pin ∷ pins) = ap (λ ns. name_number names pin.0 ∷ ns) (numbers_of pins)
 
-  reads_one : (p : Phrase) → HasWord p × IsTrue (has_right_pins p) → ReadsAs names (written_of p) (statement_with (word_of text names) p)
+  reads_one : (p : Phrase) → HasWord p × IsTrue (has_right_pins p) → ReadsAs names (written_of p) (statement_with (named_word text names) p)
   reads_one (input_phrase n) a = refl
   reads_one (output_phrase n) a = refl
   reads_one (gate_phrase n (gate_driver kind) word pins) a = (a.0, refl, numbers_of pins)
@@ -246,7 +246,7 @@ module _ (text : Text) (names : List Text) where
   reads_all [] a = tt
   reads_all (p ∷ ps) a = (reads_one p a.0, reads_all ps a.1)
 
-pub accepted : (text : Text) (ws : List Written) → length text ≤ 16777216 → Spells text ws → AreRight ws → (netlist : Netlist) × IsNetlist text netlist × IsAsWritten ws netlist
+pub accepted : (text : Text) (ws : List Written) → length text ≤ 16777216 → Spells text ws → AreRightTogether ws → (netlist : Netlist) × IsNetlist text netlist × IsAsWritten ws netlist
 unfolding driven_twice undriven names_of
 accepted text ws short spells right =
     let g = read_groups ws (tokens_of text) spells right.words in

@@ -8,19 +8,19 @@ use Rattle.bench_reader.specs.declared.scanner.LexemeKind.{LexemeKind}
 use Rattle.bench_reader.specs.declared.scanner.LexemeKind.TheVariants.{OpenBracket, CloseBracket, Equals, Name, BadByte, End}
 use Rattle.bench_reader.specs.declared.scanner.Lexeme.{Lexeme}
 use Rattle.bench_reader.specs.Tokens.{Text, open_bracket, close_bracket, equals_mark, name_run, Token}
-use Rattle.bench_reader.specs.Grammar.{Named, Driver, driver_of, Phrase, input_phrase, gate_phrase, driver_pins, pins_of, observed_phrase, driven_phrase, phrase_of, CanBegin}
+use Rattle.bench_reader.specs.Grammar.{Named, Driver, driver_of, Phrase, input_phrase, gate_phrase, driver_pins, gate_pins, observed_phrase, driven_phrase, phrase_of, CanBegin}
 use Rattle.bench_reader.specs.Refusal.{stop_of}
-use Rattle.bench_reader.specs.Scanning.{tokens_at, tokens_with, tokens_from, piece_of, text_in, token_in, IsPlace, IsNext}
+use Rattle.bench_reader.specs.Scanning.{tokens_at, tokens_with, tokens_from, lexeme_piece, text_in, token_in, IsPlace, IsNext}
 use Rattle.bench_reader.specs.Shapes.{stop_kind}
 use Rattle.bench_reader.specs.Stops.{StopsIn, in_token, in_end, IsStop}
 
-stops : (size : ℕ) (tokens part : List Token) (kind : LexemeKind) (run : Text) (byte : ℕ) (more : List Token) → tokens ≡ part ++ tokens_with kind (piece_of kind run, byte) more → (kind ≡ End → (part ≢ []) × (byte ≡ size))
-    → CanBegin part → phrase_of part ≡ None → ¬ CanBegin (part ++ (piece_of kind run, byte) ∷ []) → stop_of part (piece_of kind run, byte) ≡ (stop_kind kind, byte) → StopsIn size tokens (stop_kind kind, byte)
+stops : (size : ℕ) (tokens part : List Token) (kind : LexemeKind) (run : Text) (byte : ℕ) (more : List Token) → tokens ≡ part ++ tokens_with kind (lexeme_piece kind run, byte) more → (kind ≡ End → (part ≢ []) × (byte ≡ size))
+    → CanBegin part → phrase_of part ≡ None → ¬ CanBegin (part ++ (lexeme_piece kind run, byte) ∷ []) → stop_of part (lexeme_piece kind run, byte) ≡ (stop_kind kind, byte) → StopsIn size tokens (stop_kind kind, byte)
 stops size tokens part End run byte more e f b n w s =
     let all : tokens ≡ part = e ∙ append-nil part in
     let h = f refl in
     rw (h.1, all) (in_end h.0 b n refl)
-stops size tokens part kind run byte more e f b n w s = in_token part (piece_of kind run, byte) more e b w n (sym s)
+stops size tokens part kind run byte more e f b n w s = in_token part (lexeme_piece kind run, byte) more e b w n (sym s)
 
 -- a fault at a lexeme with which the tokens so far can't go on
 pub stop_at : (text : Text) (tokens part : List Token) (from : ℕ) (a : Lexeme) (f : NetFault) → IsNext text from a → tokens ≡ part ++ tokens_at text from → f ≡ At (stop_kind a.kind) a.place
@@ -41,11 +41,11 @@ pub stop_first : (text : Text) (a : Lexeme) (f : NetFault) → IsPlace text a.pl
 unfolding phrase_of
 stop_first text a f p is some other = rw is (p, stops (length text) (tokens_from text a) [] a.kind (text_in text a) a.place.byte (tokens_at text a.end) refl (λ k. absurd (some k)) nothing_begins nothing_partial (wrong a.kind (text_in text a) a.place.byte other) (stop a.kind (text_in text a) a.place.byte))
   where
-    wrong : (kind : LexemeKind) (run : Text) (byte : ℕ) → kind ≢ Name → ¬ CanBegin ((piece_of kind run, byte) ∷ [])
+    wrong : (kind : LexemeKind) (run : Text) (byte : ℕ) → kind ≢ Name → ¬ CanBegin ((lexeme_piece kind run, byte) ∷ [])
     wrong Name run byte h c = h refl
     wrong _ run byte h c = let e = c.is in cc
 
-    stop : (kind : LexemeKind) (run : Text) (byte : ℕ) → stop_of [] (piece_of kind run, byte) ≡ (stop_kind kind, byte)
+    stop : (kind : LexemeKind) (run : Text) (byte : ℕ) → stop_of [] (lexeme_piece kind run, byte) ≡ (stop_kind kind, byte)
     stop BadByte run byte = refl
     stop _ run byte = refl
 
@@ -53,20 +53,20 @@ stop_first text a f p is some other = rw is (p, stops (length text) (tokens_from
 
 module _ (w : Text) (a : ℕ) where
   pub one_begins : CanBegin ((name_run w, a) ∷ [])
-  unfolding phrase_of driven_phrase driver_of driver_pins pins_of
+  unfolding phrase_of driven_phrase driver_of driver_pins gate_pins
   one_begins = record { more = (equals_mark, 0) ∷ (name_run (codes "AND"), 0) ∷ (open_bracket, 0) ∷ (name_run [], 0) ∷ (close_bracket, 0) ∷ []; phrase = _; is = refl }
 
   pub one_partial : phrase_of ((name_run w, a) ∷ []) ≡ None
   unfolding phrase_of
   one_partial = refl
 
-  pub one_wrong : (kind : LexemeKind) (run : Text) (byte : ℕ) → kind ≢ OpenBracket → kind ≢ Equals → ¬ CanBegin ((name_run w, a) ∷ (piece_of kind run, byte) ∷ [])
+  pub one_wrong : (kind : LexemeKind) (run : Text) (byte : ℕ) → kind ≢ OpenBracket → kind ≢ Equals → ¬ CanBegin ((name_run w, a) ∷ (lexeme_piece kind run, byte) ∷ [])
   unfolding phrase_of
   one_wrong OpenBracket run byte g h c = g refl
   one_wrong Equals run byte g h c = h refl
   one_wrong _ run byte g h c = let e = c.is in cc
 
-  pub one_stop : (kind : LexemeKind) (run : Text) (byte : ℕ) → kind ≢ OpenBracket → stop_of ((name_run w, a) ∷ []) (piece_of kind run, byte) ≡ (stop_kind kind, byte)
+  pub one_stop : (kind : LexemeKind) (run : Text) (byte : ℕ) → kind ≢ OpenBracket → stop_of ((name_run w, a) ∷ []) (lexeme_piece kind run, byte) ≡ (stop_kind kind, byte)
   one_stop OpenBracket run byte g = absurd (g refl)
   one_stop _ run byte g = refl
 
@@ -94,12 +94,12 @@ module _ (w : Text) (a b : ℕ) where
   unfolding phrase_of
   two_partial = refl
 
-  pub two_wrong : (kind : LexemeKind) (run : Text) (byte : ℕ) → kind ≢ Name → ¬ CanBegin ((name_run w, a) ∷ (open_bracket, b) ∷ (piece_of kind run, byte) ∷ [])
+  pub two_wrong : (kind : LexemeKind) (run : Text) (byte : ℕ) → kind ≢ Name → ¬ CanBegin ((name_run w, a) ∷ (open_bracket, b) ∷ (lexeme_piece kind run, byte) ∷ [])
   unfolding phrase_of
   two_wrong Name run byte g c = g refl
   two_wrong _ run byte g c = let e = c.is in cc
 
-  pub two_stop : (kind : LexemeKind) (run : Text) (byte : ℕ) → stop_of ((name_run w, a) ∷ (open_bracket, b) ∷ []) (piece_of kind run, byte) ≡ (stop_kind kind, byte)
+  pub two_stop : (kind : LexemeKind) (run : Text) (byte : ℕ) → stop_of ((name_run w, a) ∷ (open_bracket, b) ∷ []) (lexeme_piece kind run, byte) ≡ (stop_kind kind, byte)
   two_stop BadByte run byte = refl
   two_stop _ run byte = refl
 
@@ -112,12 +112,12 @@ module _ (w : Text) (a b : ℕ) where
     unfolding phrase_of
     three_partial = refl
 
-    pub three_wrong : (kind : LexemeKind) (run : Text) (byte : ℕ) → kind ≢ CloseBracket → ¬ CanBegin ((name_run w, a) ∷ (open_bracket, b) ∷ (name_run n, m) ∷ (piece_of kind run, byte) ∷ [])
+    pub three_wrong : (kind : LexemeKind) (run : Text) (byte : ℕ) → kind ≢ CloseBracket → ¬ CanBegin ((name_run w, a) ∷ (open_bracket, b) ∷ (name_run n, m) ∷ (lexeme_piece kind run, byte) ∷ [])
     unfolding phrase_of
     three_wrong CloseBracket run byte g c = g refl
     three_wrong _ run byte g c = let e = c.is in cc
 
-    pub three_stop : (kind : LexemeKind) (run : Text) (byte : ℕ) → stop_of ((name_run w, a) ∷ (open_bracket, b) ∷ (name_run n, m) ∷ []) (piece_of kind run, byte) ≡ (stop_kind kind, byte)
+    pub three_stop : (kind : LexemeKind) (run : Text) (byte : ℕ) → stop_of ((name_run w, a) ∷ (open_bracket, b) ∷ (name_run n, m) ∷ []) (lexeme_piece kind run, byte) ≡ (stop_kind kind, byte)
     three_stop BadByte run byte = refl
     three_stop _ run byte = refl
 
@@ -129,10 +129,10 @@ module _ (w : Text) (a b : ℕ) where
 
 module _ (n : Text) (a b : ℕ) where
   pub equals_begins : CanBegin ((name_run n, a) ∷ (equals_mark, b) ∷ [])
-  unfolding phrase_of driven_phrase driver_of driver_pins pins_of
+  unfolding phrase_of driven_phrase driver_of driver_pins gate_pins
   equals_begins = record { more = (name_run (codes "AND"), 0) ∷ (open_bracket, 0) ∷ (name_run [], 0) ∷ (close_bracket, 0) ∷ []; phrase = _; is = refl }
 
-  pub equals_wrong : (kind : LexemeKind) (run : Text) (byte : ℕ) → kind ≢ Name → ¬ CanBegin ((name_run n, a) ∷ (equals_mark, b) ∷ (piece_of kind run, byte) ∷ [])
+  pub equals_wrong : (kind : LexemeKind) (run : Text) (byte : ℕ) → kind ≢ Name → ¬ CanBegin ((name_run n, a) ∷ (equals_mark, b) ∷ (lexeme_piece kind run, byte) ∷ [])
   unfolding phrase_of
   equals_wrong Name run byte g c = g refl
   equals_wrong _ run byte g c = let e = c.is in cc
@@ -141,7 +141,7 @@ module _ (n : Text) (a b : ℕ) where
   unfolding phrase_of
   equals_partial = refl
 
-  pub equals_stop : (kind : LexemeKind) (run : Text) (byte : ℕ) → kind ≢ Name → stop_of ((name_run n, a) ∷ (equals_mark, b) ∷ []) (piece_of kind run, byte) ≡ (stop_kind kind, byte)
+  pub equals_stop : (kind : LexemeKind) (run : Text) (byte : ℕ) → kind ≢ Name → stop_of ((name_run n, a) ∷ (equals_mark, b) ∷ []) (lexeme_piece kind run, byte) ≡ (stop_kind kind, byte)
   equals_stop Name run byte g = absurd (g refl)
   equals_stop _ run byte g = refl
 
@@ -155,10 +155,10 @@ module _ (n : Text) (a b : ℕ) where
     gate_wrong e c = no_gate c.more c.phrase e c.is
 
     pub gate_begins : (driver : Driver) → driver_of word ≡ Some driver → CanBegin ((name_run n, a) ∷ (equals_mark, b) ∷ (name_run word, w) ∷ [])
-    unfolding phrase_of driven_phrase driver_pins pins_of
+    unfolding phrase_of driven_phrase driver_pins gate_pins
     gate_begins driver e = record { more = (open_bracket, 0) ∷ (name_run [], 0) ∷ (close_bracket, 0) ∷ []; phrase = gate_phrase (n, a) driver (word, w) (([], 0) ∷ []); is = rw e refl }
 
-    pub bracket_wrong : (kind : LexemeKind) (run : Text) (byte : ℕ) → kind ≢ OpenBracket → ¬ CanBegin ((name_run n, a) ∷ (equals_mark, b) ∷ (name_run word, w) ∷ (piece_of kind run, byte) ∷ [])
+    pub bracket_wrong : (kind : LexemeKind) (run : Text) (byte : ℕ) → kind ≢ OpenBracket → ¬ CanBegin ((name_run n, a) ∷ (equals_mark, b) ∷ (name_run word, w) ∷ (lexeme_piece kind run, byte) ∷ [])
     unfolding phrase_of
     bracket_wrong OpenBracket run byte g c = g refl
     bracket_wrong _ run byte g c = let e = c.is in cc
@@ -167,7 +167,7 @@ module _ (n : Text) (a b : ℕ) where
     unfolding phrase_of
     gate_partial = refl
 
-    pub bracket_stop : (kind : LexemeKind) (run : Text) (byte : ℕ) → stop_of ((name_run n, a) ∷ (equals_mark, b) ∷ (name_run word, w) ∷ []) (piece_of kind run, byte) ≡ (stop_kind kind, byte)
+    pub bracket_stop : (kind : LexemeKind) (run : Text) (byte : ℕ) → stop_of ((name_run n, a) ∷ (equals_mark, b) ∷ (name_run word, w) ∷ []) (lexeme_piece kind run, byte) ≡ (stop_kind kind, byte)
     bracket_stop BadByte run byte = refl
     bracket_stop _ run byte = refl
 

@@ -52,7 +52,7 @@ pub record AreNumbered (count : ℕ) (statements : List Statement) : Type 0 wher
   pub used : All (λ statement. All (λ word. word.name < count) (used_words statement)) statements
 
 -- The marks are at the numbers of these words.
-pub record AreMarks (count : ℕ) (words : List Word) (marks : List Bool) : Type 0 where
+pub record AreMarksOfWords (count : ℕ) (words : List Word) (marks : List Bool) : Type 0 where
   pub whole : length marks ≡ count
   pub each : (number : ℕ) → number < count → slice_index_or marks number false ≡ has_number words number
 

@@ -7,5 +7,5 @@ use Rattle.bench_reader.specs.Driven.{IsDriven}
 abbrev pub netlist_in : Inside → Netlist
 netlist_in a = record { statements = a.statements.items; names = texts_of_names a.names.items }
 
-abbrev pub IsSound : Inside → Type 0
-IsSound a = IsDriven (netlist_in a)
+abbrev pub AreStatementsFields : Inside → Type 0
+AreStatementsFields a = IsDriven (netlist_in a)

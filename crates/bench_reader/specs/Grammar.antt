@@ -43,15 +43,15 @@ pub data Phrase : Type 0 where
   gate_phrase : Named → Driver → Named → List Named → Phrase
 
 -- the pins of a gate, up to the closing bracket
-unfoldable pub pins_of : List Token → Option (List Named)
-pins_of ((name_run text, at) ∷ (close_bracket, b) ∷ []) = Some ((text, at) ∷ [])
-pins_of ((name_run text, at) ∷ (comma_mark, b) ∷ tokens) = option_map (λ pins. (text, at) ∷ pins) (pins_of tokens)
-pins_of _ = None
+unfoldable pub gate_pins : List Token → Option (List Named)
+gate_pins ((name_run text, at) ∷ (close_bracket, b) ∷ []) = Some ((text, at) ∷ [])
+gate_pins ((name_run text, at) ∷ (comma_mark, b) ∷ tokens) = option_map (λ pins. (text, at) ∷ pins) (gate_pins tokens)
+gate_pins _ = None
 
 -- the same of what a gate word says: a gate that takes no pins may have none
 unfoldable pub driver_pins : Driver → List Token → Option (List Named)
 driver_pins driver ((close_bracket, b) ∷ []) = if takes driver 0 then Some [] else None
-driver_pins driver tokens = pins_of tokens
+driver_pins driver tokens = gate_pins tokens
 
 unfoldable pub observed_phrase : Text → Named → Option Phrase
 observed_phrase word n = if is_word (codes "INPUT") word then Some (input_phrase n) else if is_word (codes "OUTPUT") word then Some (output_phrase n) else None

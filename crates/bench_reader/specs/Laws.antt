@@ -5,7 +5,7 @@ use Rattle.bench_reader.specs.Netlist.{Netlist}
 use Rattle.bench_reader.specs.Tokens.{Text}
 use Rattle.bench_reader.specs.Reading.{IsNetlist}
 use Rattle.bench_reader.specs.Refusal.{TextRefused}
-use Rattle.bench_reader.specs.Spelled.{Written, AreRight, Spells, HasRuns, written_line, IsAsWritten}
+use Rattle.bench_reader.specs.Spelled.{Written, AreRightTogether, Spells, HasRuns, written_line, IsAsWritten}
 
 -- each text is accepted or refused
 abbrev pub AcceptedOrRefused : Type 0
@@ -25,7 +25,7 @@ OneNetlist = (text : Text) (one other : Netlist) → IsNetlist text one → IsNe
 
 -- a text that isn't too long and spells right statements is accepted, and reads as them
 abbrev pub SpelledIsAccepted : Type 0
-SpelledIsAccepted = (text : Text) (statements : List Written) → length text ≤ 16777216 → Spells text statements → AreRight statements → (netlist : Netlist) × IsNetlist text netlist × IsAsWritten statements netlist
+SpelledIsAccepted = (text : Text) (statements : List Written) → length text ≤ 16777216 → Spells text statements → AreRightTogether statements → (netlist : Netlist) × IsNetlist text netlist × IsAsWritten statements netlist
 
 -- a line for each statement spells the statements
 abbrev pub LinesSpell : Type 0

@@ -46,12 +46,12 @@ abbrev pub place_of : Text → ℕ → Place
 place_of text byte = record { byte = byte; line = line_of text byte }
 
 -- the number of a name: its place among the names
-abbrev pub number_in : List Text → Text → ℕ
-number_in names text = unwrap_or (position (bytes_eq text) names) 0
+abbrev pub name_number : List Text → Text → ℕ
+name_number names text = unwrap_or (position (bytes_eq text) names) 0
 
 -- the word of a name: its number and its place
-abbrev pub word_of : Text → List Text → Named → Word
-word_of text names n = record { name = number_in names n.0; place = place_of text n.1 }
+abbrev pub named_word : Text → List Text → Named → Word
+named_word text names n = record { name = name_number names n.0; place = place_of text n.1 }
 
 -- A phrase as a statement, where each name is this word.
 module _ (word : Named → Word) where
@@ -69,7 +69,7 @@ module _ (word : Named → Word) where
   statement_with (gate_phrase n driver at pins) = driven_statement driver n pins
 
 unfoldable pub statement_of : Text → List Text → Phrase → Statement
-statement_of text names phrase = statement_with (word_of text names) phrase
+statement_of text names phrase = statement_with (named_word text names) phrase
 
 abbrev pub netlist_of : Text → List Phrase → Netlist
 netlist_of text phrases = record { statements = map (statement_of text (names_of phrases)) phrases; names = names_of phrases }

@@ -28,17 +28,17 @@ text_in text a = slice_range text a.place.byte a.end
 abbrev pub named_in : Text → Lexeme → Named
 named_in text a = (text_in text a, a.place.byte)
 
-abbrev pub piece_of : LexemeKind → Text → Piece
-piece_of OpenBracket run = open_bracket
-piece_of CloseBracket run = close_bracket
-piece_of Comma run = comma_mark
-piece_of Equals run = equals_mark
-piece_of Name run = name_run run
-piece_of BadByte run = bad_byte
-piece_of End run = blank_piece
+abbrev pub lexeme_piece : LexemeKind → Text → Piece
+lexeme_piece OpenBracket run = open_bracket
+lexeme_piece CloseBracket run = close_bracket
+lexeme_piece Comma run = comma_mark
+lexeme_piece Equals run = equals_mark
+lexeme_piece Name run = name_run run
+lexeme_piece BadByte run = bad_byte
+lexeme_piece End run = blank_piece
 
 abbrev pub token_in : Text → Lexeme → Token
-token_in text a = (piece_of a.kind (text_in text a), a.place.byte)
+token_in text a = (lexeme_piece a.kind (text_in text a), a.place.byte)
 
 -- the tokens from a lexeme on
 abbrev pub tokens_with : LexemeKind → Token → List Token → List Token

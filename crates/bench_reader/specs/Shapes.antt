@@ -57,7 +57,7 @@ abbrev pub head_tokens : Text → GateHead → List Token
 head_tokens text head = token_in text head.name ∷ token_in text head.equals ∷ token_in text head.word ∷ token_in text head.bracket ∷ []
 
 -- The tokens of the begin of a gate stand where they say, and its word says this.
-pub record IsHead (text : Text) (head : GateHead) : Type 0 where
+pub record IsGateHead (text : Text) (head : GateHead) : Type 0 where
   pub name : IsLexeme text head.name
   pub is_name : head.name.kind ≡ lexeme.Name
   pub is_equals : head.equals.kind ≡ lexeme.Equals

@@ -6,7 +6,7 @@ use Rattle.bench_reader.specs.declared.statement.Statement.TheVariants.{Input, O
 use Rattle.bench_reader.specs.Netlist.{Netlist}
 use Rattle.bench_reader.specs.Tokens.{Text, is_name_byte, Piece, open_bracket, close_bracket, comma_mark, equals_mark, name_run, tokens_of}
 use Rattle.bench_reader.specs.Grammar.{Driver, gate_driver, flip_flop_driver, driver_of, takes}
-use Rattle.bench_reader.specs.Reading.{distinct_names, number_in}
+use Rattle.bench_reader.specs.Reading.{distinct_names, name_number}
 
 -- an input, an observed name, and a gate: the name that it drives, its word and its pins
 pub data Written : Type 0 where
@@ -40,7 +40,7 @@ HasRightWord (written_output n) = Unit {0}
 HasRightWord (written_gate n word pins) = (driver : Driver) × (driver_of word ≡ Some driver) × IsTrue (takes driver (length pins))
 
 -- Statements that are right together: no name is driven twice, and each that is used is driven.
-pub record AreRight (statements : List Written) : Type 0 where
+pub record AreRightTogether (statements : List Written) : Type 0 where
   pub words : All HasRightWord statements
   pub once : AllPairs (λ a b. a ≢ b) (filter_map written_driven statements)
   pub driven : All (Contains (filter_map written_driven statements)) (flat_map written_used statements)
@@ -88,10 +88,10 @@ written_line (written_gate n word pins) = n ++ (codes "=" ++ (word ++ (codes "("
 
 -- A statement is the written one, with the number of each name among these.
 abbrev pub ReadsAs : List Text → Written → Statement → Type 0
-ReadsAs names (written_input n) (Input q) = q.name ≡ number_in names n
-ReadsAs names (written_output n) (Output q) = q.name ≡ number_in names n
-ReadsAs names (written_gate n word pins) (Drive q kind ps) = (driver_of word ≡ Some (gate_driver kind)) × (q.name ≡ number_in names n) × (map (λ p. p.name) ps ≡ map (number_in names) pins)
-ReadsAs names (written_gate n word pins) (Flop q d) = (driver_of word ≡ Some flip_flop_driver) × (q.name ≡ number_in names n) × (d.name ∷ [] ≡ map (number_in names) pins)
+ReadsAs names (written_input n) (Input q) = q.name ≡ name_number names n
+ReadsAs names (written_output n) (Output q) = q.name ≡ name_number names n
+ReadsAs names (written_gate n word pins) (Drive q kind ps) = (driver_of word ≡ Some (gate_driver kind)) × (q.name ≡ name_number names n) × (map (λ p. p.name) ps ≡ map (name_number names) pins)
+ReadsAs names (written_gate n word pins) (Flop q d) = (driver_of word ≡ Some flip_flop_driver) × (q.name ≡ name_number names n) × (d.name ∷ [] ≡ map (name_number names) pins)
 ReadsAs names _ _ = ⊥
 
 -- A netlist has exactly the written statements, in their order, and their names in order of first appearance.

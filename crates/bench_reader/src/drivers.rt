@@ -1,6 +1,6 @@
 //! Names that are driven twice, or used and not driven.
 ghost use Rattle.std.specs.Prelude.{◌≡◌, ◌<◌, None, false, length, filter_map, flat_map, replicate, All, IfOk};
-ghost use Rattle.bench_reader.specs.Drivers.{driven_word, used_words, repeated_word, driver_fault, AreNumbered, AreMarks, unmarked};
+ghost use Rattle.bench_reader.specs.Drivers.{driven_word, used_words, repeated_word, driver_fault, AreNumbered, AreMarksOfWords, unmarked};
 
 use crate::fault::{NetKind, Place};
 use crate::parsed::Parsed;
@@ -62,7 +62,7 @@ fn mark_words(marks: &mut [bool], words: &[Word]) -> Option<Word>
     requires clear { marks.old ≡ replicate (length marks.old) false }
     requires numbered { All (λ word. word.name < length marks.old) words.now }
     ensures repeated { result ≡ repeated_word words.now }
-    ensures marked { result ≡ None → AreMarks (length marks.old) words.now marks.new }
+    ensures marked { result ≡ None → AreMarksOfWords (length marks.old) words.now marks.new }
 {
     for word in words {
         if marks[word.name as usize] {

@@ -3,7 +3,7 @@ ghost use Rattle.std.specs.Prelude.{◌≡◌, ◌+◌, ◌<◌, ◌^◌, map, l
 ghost use Rattle.std.specs.Str.{bytes_eq};
 ghost use Rattle.bench_reader.specs.Names.{texts_in};
 ghost use Rattle.bench_reader.specs.Grammar.{takes, phrase_names, has_right_pins};
-ghost use Rattle.bench_reader.specs.Reading.{word_of, statement_of};
+ghost use Rattle.bench_reader.specs.Reading.{named_word, statement_of};
 ghost use Rattle.bench_reader.specs.Scanning.{text_in, named_in, IsLexeme};
 ghost use Rattle.bench_reader.specs.Shapes.{driver_in, phrase_in, names_in};
 ghost use Rattle.bench_reader.specs.Numbering.{with_name, with_names, port_statement, gate_statement};
@@ -40,7 +40,7 @@ fn word(
     requires few { length (texts_in names.old) < 2 ^ 31 }
     requires name { IsLexeme bytes.now name }
     ensures names { OnOk result (texts_in names.new ≡ with_name (texts_in names.old) (text_in bytes.now name)) }
-    ensures word { IfOk result (λ word. word ≡ word_of bytes.now (texts_in names.new) (named_in bytes.now name)) }
+    ensures word { IfOk result (λ word. word ≡ named_word bytes.now (texts_in names.new) (named_in bytes.now name)) }
 {
     let number = number_of(alloc, names, text_of(bytes, name))?;
     Ok(Word {
@@ -59,7 +59,7 @@ fn words(
     requires few { length (texts_in names.old) + length pins.now < 2 ^ 31 }
     requires pins { All (IsLexeme bytes.now) pins.now }
     ensures names { OnOk result (texts_in names.new ≡ with_names (texts_in names.old) (map (named_in bytes.now) pins.now)) }
-    ensures words { IfOk result (λ words. words ≡ map (word_of bytes.now (texts_in names.new)) (map (named_in bytes.now) pins.now)) }
+    ensures words { IfOk result (λ words. words ≡ map (named_word bytes.now (texts_in names.new)) (map (named_in bytes.now) pins.now)) }
 {
     let mut words = Words::new(alloc);
     for pin in pins {

@@ -1,7 +1,7 @@
 //! One statement, by the places of its names.
 ghost use Rattle.std.specs.Prelude.{◌≡◌, ◌≢◌, ◌<◌, ◌^◌, ◌∷◌, ◌++◌, length, IfOk, IfErr};
 ghost use Rattle.bench_reader.specs.Scanning.{tokens_at, tokens_from, token_in, IsLexeme, IsNext};
-ghost use Rattle.bench_reader.specs.Shapes.{stop_kind, head_tokens, IsHead, ArePins, IsStatement};
+ghost use Rattle.bench_reader.specs.Shapes.{stop_kind, head_tokens, IsGateHead, ArePins, IsStatement};
 ghost use Rattle.bench_reader.specs.Stops.{IsStop};
 
 use crate::fault::{NetFault, NetKind, Place};
@@ -117,7 +117,7 @@ fn gate_head(bytes: &[u8], name: Lexeme, equals: Lexeme) -> Result<GateHead, Net
     requires is_name { name.kind ≡ LexemeKind.Name }
     requires equals { IsLexeme bytes.now equals }
     requires is_equals { equals.kind ≡ LexemeKind.Equals }
-    ensures head { IfOk result (IsHead bytes.now) }
+    ensures head { IfOk result (IsGateHead bytes.now) }
     ensures tokens { IfOk result (λ head. token_in bytes.now name ∷ tokens_from bytes.now equals ≡ head_tokens bytes.now head ++ tokens_at bytes.now head.bracket.end) }
     ensures refused { IfErr result (IsStop bytes.now (token_in bytes.now name ∷ tokens_from bytes.now equals)) }
 {
@@ -146,7 +146,7 @@ fn gate_head(bytes: &[u8], name: Lexeme, equals: Lexeme) -> Result<GateHead, Net
 // The pins of a gate, and the place behind the closing bracket. A gate that takes no pins may have none.
 fn pins(alloc: Global, bytes: &[u8], head: GateHead) -> Result<(Vec<Lexeme>, Place), NetFault>
     requires room { length bytes.now < 2 ^ 31 }
-    requires head { IsHead bytes.now head }
+    requires head { IsGateHead bytes.now head }
     ensures ok { IfOk result (ArePins bytes.now head) }
     ensures refused { IfErr result (IsStop bytes.now (head_tokens bytes.now head ++ tokens_at bytes.now head.bracket.end)) }
 {
@@ -166,7 +166,7 @@ fn some_pins(
     first: Lexeme,
 ) -> Result<(Vec<Lexeme>, Place), NetFault>
     requires room { length bytes.now < 2 ^ 31 }
-    requires head { IsHead bytes.now head }
+    requires head { IsGateHead bytes.now head }
     requires first { IsNext bytes.now head.bracket.end first }
     requires is_name { first.kind ≡ LexemeKind.Name }
     ensures ok { IfOk result (ArePins bytes.now head) }

@@ -89,11 +89,11 @@ impl Model for Statements {
 
     ghost Value = { Netlist };
 
-    ghost use Rattle.bench_reader.specs.Fields.{netlist_in, IsSound};
+    ghost use Rattle.bench_reader.specs.Fields.{netlist_in, AreStatementsFields};
 
     ghost view = { netlist_in };
 
-    ghost invariant = { IsSound };
+    ghost invariant = { AreStatementsFields };
 }
 
 impl Statements {

@@ -10,7 +10,7 @@ use Rattle.std.proofs.lemmas.Simd.{map-map}
 use Rattle.std.specs.Cmp.Derive.{one_truth}
 use Rattle.net_model.specs.ClassTable.{ClassTable, first_table, class_count, class_at, members, representative, piece_lowest, new_lowest, class_after, refined_table, cuts_class, SplitBy}
 use Rattle.net_model.proofs.Elements.{true_false}
-use Rattle.class_refine.specs.Fields.{IsWhole, IsKept, table_with}
+use Rattle.class_refine.specs.Fields.{IsWhole, HasGroups, table_with}
 use Rattle.class_refine.specs.Steps.{is_in, piece_of, ArePieces, staying, IsMove}
 use Rattle.class_refine.proofs.Ranges.{filter_all, range_below, position_cases}
 use Rattle.class_refine.proofs.Pieces.{IsSound, representative_lowest, members-All, members-contains, piece_is, new_lowest-All, after_cases, moves_into, moved_from}
@@ -45,7 +45,7 @@ module _ (t : ClassTable) (row : List (List Bool)) (sound : IsSound t) where
       one_truth (was && own) (eqb (class_at (refined_table t row) n) (class_count t + k)) (λ e. grind (arith, nat_tests, and_parts was own e, after, moves_into t row sound k n h inside))
       (λ e. grind (arith, nat_tests, and_from was own, after, moved_from t row sound k n inside, (piece_is t row n inside).class, e)))
 
-  joined_by : (groups pieces : List (List ℕ)) (parents : List ℕ) → IsKept t groups → ArePieces t row (new_lowest t row) pieces parents → AreJoined t row (groups ++ pieces)
+  joined_by : (groups pieces : List (List ℕ)) (parents : List ℕ) → HasGroups t groups → ArePieces t row (new_lowest t row) pieces parents → AreJoined t row (groups ++ pieces)
   joined_by groups pieces parents kept are =
       let long : length pieces ≡ length (new_lowest t row) = ap length are.groups_are ∙ length-map (new_lowest t row) (piece_of t row) in
       record {
@@ -61,7 +61,7 @@ module _ (t : ClassTable) (row : List (List Bool)) (sound : IsSound t) where
             ∙ (ap (λ gs. get_or gs k []) are.groups_are ∙ (get_or-map (piece_of t row) (new_lowest t row) k 0 [] inside ∙ (piece_members k inside ∙ ap (members (refined_table t row)) place)));
       }
 
-pub joined : (t : ClassTable) (row : List (List Bool)) (groups pieces : List (List ℕ)) (parents : List ℕ) → IsKept t groups → ArePieces t row (new_lowest t row) pieces parents → AreJoined t row (groups ++ pieces)
+pub joined : (t : ClassTable) (row : List (List Bool)) (groups pieces : List (List ℕ)) (parents : List ℕ) → HasGroups t groups → ArePieces t row (new_lowest t row) pieces parents → AreJoined t row (groups ++ pieces)
 joined t row groups pieces parents kept are = joined_by t row (sound_from t kept.whole) groups pieces parents kept are
 
 module _ (t : ClassTable) (row : List (List Bool)) (groups : List (List ℕ)) (are : AreJoined t row groups) where
@@ -148,7 +148,7 @@ module _ (t : ClassTable) (row : List (List Bool)) (groups : List (List ℕ)) (a
 
   pub kept_after : (left : List (List ℕ)) (parents : List ℕ) → 0 < length (new_lowest t row) → parents ≡ map (class_at t) (new_lowest t row) → length left ≡ length groups
       → ((class : ℕ) → Contains parents class ⊎ (staying (refined_table t row).class_of groups class ≡ get_or groups class []) → get_or left class [] ≡ staying (refined_table t row).class_of groups class)
-      → IsKept (refined_table t row) left
+      → HasGroups (refined_table t row) left
   kept_after left parents some parents_are long each = record {
     whole = whole-refined t row are.whole some;
     small = omega (arith, numbers-refined t row, are.small);
@@ -158,7 +158,7 @@ module _ (t : ClassTable) (row : List (List Bool)) (groups : List (List ℕ)) (a
 
 -- ---- the fields
 
-pub kept_first : (numbers : ℕ) (group : List ℕ) → group ≡ range_with_len 0 numbers → 0 < numbers → numbers < 2 ^ 32 → IsKept (first_table numbers) (group ∷ [])
+pub kept_first : (numbers : ℕ) (group : List ℕ) → group ≡ range_with_len 0 numbers → 0 < numbers → numbers < 2 ^ 32 → HasGroups (first_table numbers) (group ∷ [])
 unfolding members
 kept_first numbers group is some fits =
     let long = length-replicate {A = ℕ} numbers 0 in
@@ -197,7 +197,7 @@ first-filter p (x ∷ xs) =
       | inr f ↦ rw f (first-filter p xs)
     ]
 
-pub first_is : (t : ClassTable) (groups : List (List ℕ)) (class : ℕ) → IsKept t groups → class < class_count t → (0 < length (get_or groups class [])) × IsRepresentative t class (get_or (get_or groups class []) 0 0)
+pub first_is : (t : ClassTable) (groups : List (List ℕ)) (class : ℕ) → HasGroups t groups → class < class_count t → (0 < length (get_or groups class [])) × IsRepresentative t class (get_or (get_or groups class []) 0 0)
 unfolding members representative
 first_is t groups class kept h =
     let n = kept.whole.inhabited class h in

@@ -14,7 +14,7 @@ use Rattle.dia_check.specs.declared.answer.Checked.{Checked}
 use Rattle.dia_check.specs.declared.answer.FileFault.{FileFault}
 use Rattle.dia_check.specs.declared.answer.FileFault.TheVariants as file
 use Rattle.dia_check.specs.declared.reader.Reader.{Reader}
-use Rattle.dia_check.specs.Faults.{as_shelf, fault_of}
+use Rattle.dia_check.specs.Faults.{as_shelf, file_fault}
 use Rattle.dia_check.specs.Accepted.{IsAccepted, ReadsRest, rest_of}
 use Rattle.dia_check.specs.Reader.{IsReading, IsAcceptedText}
 use Rattle.dia_check.specs.Rest.{HasRead}
@@ -52,7 +52,7 @@ pub accepted_is_no_fault : (checked : Checked) (fault : ResultFault) → ¬ IsEr
 accepted_is_no_fault checked fault same = cc
 
 -- a sure shelf doesn't fail to read a file that is opened
-pub opened_never_fails : (e : ShelfFault) {rest : Option (List ℕ)} → (IsErrOf (let r : Result ℕ ShelfFault = Err e in r) shelf.Failed → rest ≡ None) → IsSome rest → ¬ IsErrOf (let r : Result (Unit {0}) FileFault = Err (fault_of e) in r) file.Failed
+pub opened_never_fails : (e : ShelfFault) {rest : Option (List ℕ)} → (IsErrOf (let r : Result ℕ ShelfFault = Err e in r) shelf.Failed → rest ≡ None) → IsSome rest → ¬ IsErrOf (let r : Result (Unit {0}) FileFault = Err (file_fault e) in r) file.Failed
 opened_never_fails shelf.Failed fails some same = let clash : false ≡ true = ap is_some (sym (fails refl)) ∙ some in cc
 opened_never_fails shelf.NoMemory fails some same = cc
 

@@ -22,7 +22,7 @@ use Rattle.dia_check.specs.declared.checker.Checker.{Checker}
 use Rattle.dia_check.specs.declared.stop.Stop.{Stop}
 use Rattle.dia_check.specs.declared.stop.Stop.TheVariants as stop
 use Rattle.dia_check.specs.Progress.{IsProgress}
-use Rattle.dia_check.specs.Checker.{IsChecker, AreWaiting, IsCheckOf, HasCheck, IsRefusedText, IsJudged, Judges, JudgesWaiting, line_of}
+use Rattle.dia_check.specs.Checker.{IsChecker, AreWaiting, IsCheckOf, HasCheck, IsRefusedText, IsJudged, JudgesText, JudgesWaiting, record_line}
 use Rattle.dia_check.proofs.Counting.{read_same, text_more, lines_short}
 
 -- a fault of the line behind so many
@@ -73,21 +73,21 @@ module _ {c : Circuit} {text : Text} {k : Checker} (is : IsCheckOf c text k) whe
           (λ i. fault_behind reason (is.is.progress.lines i));
     }
 
-    module _ (r : Record) (spelled : HasSpelling r) (one : ¬ Contains (spelling r) 10) (short : length (text ++ line_of r) ≤ 2 ^ 40) where
-      pub misplaced_line : ¬ IsInPlace k.keeper.kept.table is.seen r → IsRefusedText c (text ++ line_of r) (fault_behind why.Order k.progress.lines)
+    module _ (r : Record) (spelled : HasSpelling r) (one : ¬ Contains (spelling r) 10) (short : length (text ++ record_line r) ≤ 2 ^ 40) where
+      pub misplaced_line : ¬ IsInPlace k.keeper.kept.table is.seen r → IsRefusedText c (text ++ record_line r) (fault_behind why.Order k.progress.lines)
       misplaced_line out = refused_line (spelling r) why.Order one short (λ more. misplaced r more k.keeper.kept.table refl spelled table_seen out refl)
 
-      pub wrong_line : (reason : ResultKind) → IsInPlace k.keeper.kept.table is.seen r → ContentRefused c k.keeper.kept.table is.seen r reason → IsRefusedText c (text ++ line_of r) (fault_behind reason k.progress.lines)
+      pub wrong_line : (reason : ResultKind) → IsInPlace k.keeper.kept.table is.seen r → ContentRefused c k.keeper.kept.table is.seen r reason → IsRefusedText c (text ++ record_line r) (fault_behind reason k.progress.lines)
       wrong_line reason place refused = refused_line (spelling r) reason one short (λ more. wrong r more k.keeper.kept.table refl spelled table_seen place refused)
 
     -- the line is one more
-    pub taken_line : (r : Record) (new : Checker) → length (text ++ line_of r) ≤ 2 ^ 40 → new.waiting.items ≡ [] → IsChecker c (is.seen ++ r ∷ []) new → IsCheckOf c (text ++ line_of r) new
+    pub taken_line : (r : Record) (new : Checker) → length (text ++ record_line r) ≤ 2 ^ 40 → new.waiting.items ≡ [] → IsChecker c (is.seen ++ r ∷ []) new → IsCheckOf c (text ++ record_line r) new
     taken_line r new short empty next = record {
       seen = is.seen ++ r ∷ [];
       is = next;
       waiting = nothing_waits c (is.seen ++ r ∷ []) new.waiting.items empty;
       text_is =
-          ap (λ (t : Text). t ++ line_of r) text_seen ∙ sym (text_more is.seen r) ∙ sym (ap text_of (append-nil (is.seen ++ r ∷ [])))
+          ap (λ (t : Text). t ++ record_line r) text_seen ∙ sym (text_more is.seen r) ∙ sym (ap text_of (append-nil (is.seen ++ r ∷ [])))
           ∙ sym (ap (λ (w : List (List Bool)). text_of (is.seen ++ r ∷ [] ++ map Pattern w)) empty);
       short = short;
     }
@@ -116,24 +116,24 @@ few_lines has = omega (arith, many_lines has.is)
 
 -- the answer where the line of a record is refused and nothing waits
 module _ {c : Circuit} {k new : Checker} (none : k.waiting.items ≡ []) (r : Record) (spelled : HasSpelling r) (one : ¬ Contains (spelling r) 10) where
-  pub judged_misplaced : ((text : Text) (is : IsCheckOf c text k) → ¬ IsInPlace k.keeper.kept.table is.seen r) → Judges c k new (line_of r) (Err (stop.Refused (fault_behind why.Order k.progress.lines)))
+  pub judged_misplaced : ((text : Text) (is : IsCheckOf c text k) → ¬ IsInPlace k.keeper.kept.table is.seen r) → JudgesText c k new (record_line r) (Err (stop.Refused (fault_behind why.Order k.progress.lines)))
   judged_misplaced out = record { judged = λ text is short. misplaced_line is none r spelled one short (out text is) }
 
   pub judged_wrong : (reason : ResultKind) → ((text : Text) (is : IsCheckOf c text k) → IsInPlace k.keeper.kept.table is.seen r × ContentRefused c k.keeper.kept.table is.seen r reason)
-      → Judges c k new (line_of r) (Err (stop.Refused (fault_behind reason k.progress.lines)))
+      → JudgesText c k new (record_line r) (Err (stop.Refused (fault_behind reason k.progress.lines)))
   judged_wrong reason broken = record { judged = λ text is short. let both = broken text is in wrong_line is none r spelled one short reason both.0 both.1 }
 
 -- ---- one after another
 
 -- what waits is judged first
-pub judged_then : {c : Circuit} {old mid new : Checker} {line : Text} {x : Unit {0}} {result : Result (Unit {0}) Stop} → JudgesWaiting c old mid (Ok x) → Judges c mid new line result → Judges c old new line result
+pub judged_then : {c : Circuit} {old mid new : Checker} {line : Text} {x : Unit {0}} {result : Result (Unit {0}) Stop} → JudgesWaiting c old mid (Ok x) → JudgesText c mid new line result → JudgesText c old new line result
 judged_then first next = record { judged = λ text is short. next.judged text (first.judged text is) short }
 
 stopped_by : (c : Circuit) (mid new : Checker) (text line : Text) (s : Stop) → IsJudged c text mid (Err s) → IsJudged c (text ++ line) new (Err s)
 stopped_by c mid new text line (stop.Refused fault) is = refused_longer line is
 stopped_by c mid new text line stop.NoMemory is = tt
 
-pub stopped : {c : Circuit} {old mid new : Checker} {line : Text} (s : Stop) → JudgesWaiting c old mid (Err s) → Judges c old new line (Err s)
+pub stopped : {c : Circuit} {old mid new : Checker} {line : Text} (s : Stop) → JudgesWaiting c old mid (Err s) → JudgesText c old new line (Err s)
 stopped {c} {old} {mid} {new} {line} s first = record { judged = λ text is short. stopped_by c mid new text line s (first.judged text is) }
 
 pub has_after : {c : Circuit} {old new : Checker} {x : Unit {0}} → HasCheck c old → JudgesWaiting c old new (Ok x) → HasCheck c new

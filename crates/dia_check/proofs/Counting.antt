@@ -7,7 +7,7 @@ use Rattle.std.proofs.lemmas.List.Sums.{sum_by-append}
 use Rattle.result_file.specs.declared.record.Record.{Record}
 use Rattle.result_file.specs.Spelling.{Text, spelling, text_of}
 use Rattle.result_file.proofs.RecordLists.{text-append}
-use Rattle.dia_check.specs.Checker.{line_of}
+use Rattle.dia_check.specs.Checker.{record_line}
 
 module _ (rs : List Record) (r : Record) where
   count_one : (p : Record → Bool) (b : Bool) → p r ≡ b → count_by p (rs ++ r ∷ []) ≡ count_by p rs + cond {A = ℕ} b 1 0
@@ -30,8 +30,8 @@ module _ (rs : List Record) (r : Record) where
   length_one = omega (arith, length-append rs (r ∷ []))
 
 -- the text with one line more
-pub text_more : (rs : List Record) (r : Record) → text_of (rs ++ r ∷ []) ≡ text_of rs ++ line_of r
-text_more rs r = text-append rs (r ∷ []) ∙ ap (λ (t : Text). text_of rs ++ t) (append-nil (line_of r))
+pub text_more : (rs : List Record) (r : Record) → text_of (rs ++ r ∷ []) ≡ text_of rs ++ record_line r
+text_more rs r = text-append rs (r ∷ []) ∙ ap (λ (t : Text). text_of rs ++ t) (append-nil (record_line r))
 
 -- each line has a byte
 pub lines_short : (rs : List Record) → length rs ≤ length (text_of rs)

@@ -13,7 +13,7 @@ use Rattle.dia_check.specs.declared.answer.Checked.{Checked}
 use Rattle.dia_check.specs.declared.checker.Checker.{Checker}
 use Rattle.dia_check.specs.declared.stop.Stop.{Stop}
 use Rattle.dia_check.specs.declared.stop.Stop.TheVariants as stop
-use Rattle.dia_check.specs.Checker.{IsCheckOf, IsComplete, IsJudged, IsWholly, JudgesWaiting, JudgesEnd}
+use Rattle.dia_check.specs.Checker.{IsCheckOf, IsJudgedWhole, IsJudged, IsWholly, JudgesWaiting, JudgesEnd}
 use Rattle.dia_check.specs.Reader.{IsAcceptedText}
 use Rattle.dia_check.proofs.CheckLemmas.{fault_behind, text_seen, table_seen}
 
@@ -42,7 +42,7 @@ module _ {c : Circuit} {text : Text} {k : Checker} (is : IsCheckOf c text k) (no
       (λ i. fault_behind why.Order (is.is.progress.lines i))
 
 -- what the lines state, once the end stands
-pub states_all : {c : Circuit} {text : Text} {k : Checker} → IsComplete c text k → (checked : Checked)
+pub states_all : {c : Circuit} {text : Text} {k : Checker} → IsJudgedWhole c text k → (checked : Checked)
     → checked.summary ≡ record { numbers = k.progress.members; patterns = k.keeper.kept.table.patterns; classes = k.progress.classes; equal = k.progress.equal; spent = k.progress.spent }
     → checked.budgets ≡ k.progress.budgets → checked.patterns ≡ k.keeper.kept.vectors → checked.classes ≡ k.keeper.kept.table → IsAcceptedText c text checked
 states_all {c} {text} {k} whole checked summary_is budgets_is patterns_is classes_is =

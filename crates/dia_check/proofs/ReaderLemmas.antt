@@ -17,8 +17,8 @@ use Rattle.dia_check.specs.declared.reader.Reader.{Reader}
 use Rattle.dia_check.specs.declared.stop.Stop.{Stop}
 use Rattle.dia_check.specs.declared.stop.Stop.TheVariants as stop
 use Rattle.dia_check.specs.declared.answer.Checked.{Checked}
-use Rattle.dia_check.specs.Checker.{IsCheckOf, HasCheck, IsComplete, IsRefusedText, IsJudged, Judges, JudgesWaiting, JudgesEnd}
-use Rattle.dia_check.specs.Reader.{IsHeld, IsOpen, IsReading, HasHeld, HasOpen, AreTaken, IsTaken, TakesLines, TakesPiece, IsAcceptedText, IsRefusedEnd}
+use Rattle.dia_check.specs.Checker.{IsCheckOf, HasCheck, IsJudgedWhole, IsRefusedText, IsJudged, JudgesText, JudgesWaiting, JudgesEnd}
+use Rattle.dia_check.specs.Reader.{IsHeld, HasJudgedLines, IsReading, HasHeld, HasOpen, AreTaken, IsTaken, TakesLines, TakesPiece, IsAcceptedText, IsRefusedEnd}
 use Rattle.dia_check.proofs.CheckLemmas.{fault_behind, refused_longer, text_seen}
 
 -- ---- a line that is taken out
@@ -33,7 +33,7 @@ module _ {c : Circuit} {fed : Text} {r : Reader} (h : IsHeld c fed r) (short : l
   within : length (h.text ++ ended) ≤ 2 ^ 40
   within = omega (arith, short, ap length parts, length-append (h.text ++ ended) rest)
 
-  pub line_held : (new : Checker) (x : Unit {0}) → Judges c r.checker new ended (Ok x) → (r' : Reader) → r'.checker ≡ new → r'.lines ≡ rest → IsHeld c fed r'
+  pub line_held : (new : Checker) (x : Unit {0}) → JudgesText c r.checker new ended (Ok x) → (r' : Reader) → r'.checker ≡ new → r'.lines ≡ rest → IsHeld c fed r'
   line_held new x judges r' checker_is lines_is = record {
     text = h.text ++ ended;
     check = rw checker_is (judges.judged h.text h.check within);
@@ -44,7 +44,7 @@ module _ {c : Circuit} {fed : Text} {r : Reader} (h : IsHeld c fed r) (short : l
   line_stopped_by new (stop.Refused fault) is r' = subst (λ (t : Text). IsRefusedText c t fault) (sym parts) (refused_longer rest is)
   line_stopped_by new stop.NoMemory is r' = tt
 
-  pub line_stopped : (new : Checker) (s : Stop) → Judges c r.checker new ended (Err s) → (r' : Reader) → AreTaken c fed r' (Err s)
+  pub line_stopped : (new : Checker) (s : Stop) → JudgesText c r.checker new ended (Err s) → (r' : Reader) → AreTaken c fed r' (Err s)
   line_stopped new s judges r' = line_stopped_by new s (judges.judged h.text h.check within) r'
 
   pub line_smaller : length rest < length r.lines
@@ -116,7 +116,7 @@ none_by None none = refl
 none_by (Some fault) none = absurd (cc)
 
 module _ {c : Circuit} {fed : Text} {old : Reader} (piece : Text) (none : is_some old.refused ≡ false) (is : IsReading c fed old) where
-  open_so_far : IsOpen c fed old
+  open_so_far : HasJudgedLines c fed old
   open_so_far = is.going (none_by old.refused none)
 
   pub reading_more : {new : Reader} {x : Unit {0}} → TakesPiece c old new piece (Ok x) → IsReading c (fed ++ piece) new
@@ -135,7 +135,7 @@ module _ {c : Circuit} {fed : Text} {old : Reader} (piece : Text) (none : is_som
 
 -- ---- a piece, up to the limit
 
-module _ {c : Circuit} {fed : Text} {old : Reader} (is : IsOpen c fed old) (piece : Text) (count : ℕ) (count_is : count ≡ min (length piece) old.room) where
+module _ {c : Circuit} {fed : Text} {old : Reader} (is : HasJudgedLines c fed old) (piece : Text) (count : ℕ) (count_is : count ≡ min (length piece) old.room) where
   abbrev inside : Text
   inside = take count piece
 
@@ -153,7 +153,7 @@ module _ {c : Circuit} {fed : Text} {old : Reader} (is : IsOpen c fed old) (piec
     inside_held = held_more is.held inside r checker_is lines_is
 
     -- all of it is within the limit
-    pub piece_taken : {new : Reader} {x : Unit {0}} → TakesLines c r new (Ok x) → length piece ≤ count → r.room ≡ old.room - count → IsOpen c (fed ++ piece) new
+    pub piece_taken : {new : Reader} {x : Unit {0}} → TakesLines c r new (Ok x) → length piece ≤ count → r.room ≡ old.room - count → HasJudgedLines c (fed ++ piece) new
     piece_taken {new} takes all room_is =
         let taken = takes.taken (fed ++ inside) inside_held inside_short in
         let same : fed ++ inside ≡ fed ++ piece = ap (λ (t : Text). fed ++ t) (take_all count piece all) in
@@ -206,7 +206,7 @@ has_held {c} has piece count count_is r checker_is lines_is = record {
 -- ---- as the calls state it
 
 pub lines_stopped : {c : Circuit} {old mid new : Reader} {k : Checker} (s : Stop) (line rest : Text) → ((fed : Text) → IsHeld c fed old → length fed ≤ 2 ^ 40 → IsHeld c fed mid) → IsFirstLine mid.lines line rest
-    → Judges c mid.checker k (line ++ 10 ∷ []) (Err s) → new.room ≡ old.room → new.refused ≡ old.refused → TakesLines c old new (Err s)
+    → JudgesText c mid.checker k (line ++ 10 ∷ []) (Err s) → new.room ≡ old.room → new.refused ≡ old.refused → TakesLines c old new (Err s)
 lines_stopped {c} {old} {mid} {new} {k} s line rest held first judges room refused = record {
   taken = λ fed is short. line_stopped (held fed is short) short line rest first k s judges new;
   room = room;
@@ -225,7 +225,7 @@ module _ {c : Circuit} {old : Reader} (piece : Text) (count : ℕ) (count_is : c
 pub refused_end : {c : Circuit} {fed : Text} {fault : ResultFault} → IsRefusedText c fed fault → IsRefusedEnd c fed fault
 refused_end {c} {fed} {fault} is = record { whole = subst (λ (t : Text). FileRefused c t fault) (append-nil fed) (is.refused []); beyond = λ more. is }
 
-pub end_refused : {c : Circuit} {fed : Text} {r : Reader} {new : Checker} {rest : Text} {fault : ResultFault} → IsOpen c fed r → rest ≡ r.lines → JudgesEnd c r.checker new rest (Err (stop.Refused fault)) → IsRefusedEnd c fed fault
+pub end_refused : {c : Circuit} {fed : Text} {r : Reader} {new : Checker} {rest : Text} {fault : ResultFault} → HasJudgedLines c fed r → rest ≡ r.lines → JudgesEnd c r.checker new rest (Err (stop.Refused fault)) → IsRefusedEnd c fed fault
 end_refused {c} {fed} {r} {new} {rest} {fault} is rest_is judges =
     let h = is.held in
     let whole : h.text ++ rest ≡ fed = ap (λ (t : Text). h.text ++ t) rest_is ∙ sym h.fed_is in
@@ -234,8 +234,8 @@ end_refused {c} {fed} {r} {new} {rest} {fault} is rest_is judges =
       beyond = λ more. absurd (omega (arith, more, is.room));
     }
 
-pub end_accepted : {c : Circuit} {fed : Text} {r : Reader} {new : Checker} {rest : Text} {x : Unit {0}} {checked : Checked} → IsOpen c fed r → rest ≡ r.lines → JudgesEnd c r.checker new rest (Ok x)
-    → ((c : Circuit) (text : Text) → IsComplete c text new → IsAcceptedText c text checked) → (length fed ≤ 2 ^ 40) × IsAcceptedText c fed checked
+pub end_accepted : {c : Circuit} {fed : Text} {r : Reader} {new : Checker} {rest : Text} {x : Unit {0}} {checked : Checked} → HasJudgedLines c fed r → rest ≡ r.lines → JudgesEnd c r.checker new rest (Ok x)
+    → ((c : Circuit) (text : Text) → IsJudgedWhole c text new → IsAcceptedText c text checked) → (length fed ≤ 2 ^ 40) × IsAcceptedText c fed checked
 end_accepted {c} {fed} {r} {new} {rest} {x} {checked} is rest_is judges accepted =
     let h = is.held in
     let whole : h.text ++ rest ≡ fed = ap (λ (t : Text). h.text ++ t) rest_is ∙ sym h.fed_is in

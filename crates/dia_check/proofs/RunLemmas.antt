@@ -28,7 +28,7 @@ use Rattle.result_file.proofs.RightLines.{right_more}
 use Rattle.dia_check.specs.declared.progress.Progress.{Progress}
 use Rattle.dia_check.specs.declared.checker.Checker.{Checker}
 use Rattle.dia_check.specs.Progress.{IsProgress}
-use Rattle.dia_check.specs.Checker.{IsCheckOf, IsRefusedText, line_of}
+use Rattle.dia_check.specs.Checker.{IsCheckOf, IsRefusedText, record_line}
 use Rattle.dia_check.proofs.ProgressLemmas.{open_in_place}
 use Rattle.dia_check.proofs.CheckLemmas.{fault_behind, nothing_waits}
 
@@ -145,7 +145,7 @@ module _ {c : Circuit} {text : Text} {k : Checker} (is : IsCheckOf c text k) (so
       let v = get_or waiting count [] in
       let later = map Pattern (drop (suc count) waiting) in
       let parts : waiting ≡ kept ++ v ∷ drop (suc count) waiting = sym (take-append-drop count waiting) ∙ ap (λ (vs : List (List Bool)). kept ++ vs) (drop-cons waiting count [] below) in
-      let whole : text ≡ text_of seen ++ (line_of (Pattern v) ++ text_of later) =
+      let whole : text ≡ text_of seen ++ (record_line (Pattern v) ++ text_of later) =
       is.text_is
       ∙ ap (λ (w : List (List Bool)). text_of (is.seen ++ map Pattern w)) parts
       ∙ ap (λ (rs : List Record). text_of (is.seen ++ rs)) (map-append Pattern kept (v ∷ drop (suc count) waiting))
@@ -158,11 +158,11 @@ module _ {c : Circuit} {text : Text} {k : Checker} (is : IsCheckOf c text k) (so
             let rest = spelling (Pattern v) ++ 10 ∷ (text_of later ++ more) in
             let file : text ++ more ≡ text_of seen ++ rest =
             ap (λ (t : Text). t ++ more) whole
-            ∙ append_assoc (text_of seen) (line_of (Pattern v) ++ text_of later) more
-            ∙ ap (λ (t : Text). text_of seen ++ t) (append_assoc (line_of (Pattern v)) (text_of later) more ∙ append_assoc (spelling (Pattern v)) (10 ∷ []) (text_of later ++ more)) in
+            ∙ append_assoc (text_of seen) (record_line (Pattern v) ++ text_of later) more
+            ∙ ap (λ (t : Text). text_of seen ++ t) (append_assoc (record_line (Pattern v)) (text_of later) more ∙ append_assoc (spelling (Pattern v)) (10 ∷ []) (text_of later ++ more)) in
             let long : line_length rest ≡ length (spelling (Pattern v)) + 1 = ended_length (spelling (Pattern v)) (text_of later ++ more) one in
             at_line seen rest why.Pattern file lines_then
-            (omega (arith, long, is.short, ap length whole, length-append (text_of seen) (line_of (Pattern v) ++ text_of later), length-append (line_of (Pattern v)) (text_of later), length-append (spelling (Pattern v)) (10 ∷ [])))
+            (omega (arith, long, is.short, ap length whole, length-append (text_of seen) (record_line (Pattern v) ++ text_of later), length-append (record_line (Pattern v)) (text_of later), length-append (spelling (Pattern v)) (10 ∷ [])))
             (wrong (Pattern v) (text_of later ++ more) keeper.kept.table refl tt table (two_then, no_class_then) (λ right. unsplit (rw (sym patterns_then) at right.splits), refl))
             (λ i. record { kind = why.Pattern; line = lines_are i + 1 });
       }

@@ -27,7 +27,7 @@ use Rattle.result_file.proofs.RightLines.{IsNextLine, right_next}
 use Rattle.dia_check.specs.declared.progress.Progress.{Progress}
 use Rattle.dia_check.specs.declared.checker.Checker.{Checker}
 use Rattle.dia_check.specs.Progress.{IsProgress, with_member}
-use Rattle.dia_check.specs.Checker.{IsChecker, IsCheckOf, NamesOpen, line_of}
+use Rattle.dia_check.specs.Checker.{IsChecker, IsCheckOf, NamesOpen, record_line}
 use Rattle.dia_check.proofs.Counting.{read_same, count_same, text_more}
 use Rattle.dia_check.proofs.ProgressLemmas.{open_in_place, progress_line, progress_budget, progress_class, progress_member, progress_end}
 use Rattle.dia_check.proofs.CheckLemmas.{taken_line, next_line, checker_line}
@@ -58,8 +58,8 @@ module _ {c : Circuit} {text : Text} {k : Checker} (is : IsCheckOf c text k) whe
       never (omega (arith, place.0, is.is.progress.lines), omega (arith, place.1, is.is.progress.classes)))
 
   -- a pattern more waits
-  pub pattern_waits : (v : List Bool) → ¬ Contains (spelling (Pattern v)) 10 → length v ≡ c.sources → (2 ≤ k.progress.lines) × (k.progress.classes ≡ 0) → length k.waiting.items < LANES → length (text ++ line_of (Pattern v)) ≤ 2 ^ 40
-      → (new : Checker) → new.keeper ≡ k.keeper → new.marks ≡ k.marks → new.from ≡ k.from → new.progress ≡ k.progress → new.pool ≡ k.pool → new.waiting.items ≡ k.waiting.items ++ v ∷ [] → IsCheckOf c (text ++ line_of (Pattern v)) new
+  pub pattern_waits : (v : List Bool) → ¬ Contains (spelling (Pattern v)) 10 → length v ≡ c.sources → (2 ≤ k.progress.lines) × (k.progress.classes ≡ 0) → length k.waiting.items < LANES → length (text ++ record_line (Pattern v)) ≤ 2 ^ 40
+      → (new : Checker) → new.keeper ≡ k.keeper → new.marks ≡ k.marks → new.from ≡ k.from → new.progress ≡ k.progress → new.pool ≡ k.pool → new.waiting.items ≡ k.waiting.items ++ v ∷ [] → IsCheckOf c (text ++ record_line (Pattern v)) new
   pattern_waits v one width body room short new keeper_is marks_is from_is progress_is pool_is waiting_is =
       let waiting = k.waiting.items in
       let behind = map Pattern waiting in
@@ -73,7 +73,7 @@ module _ {c : Circuit} {text : Text} {k : Checker} (is : IsCheckOf c text k) whe
           place = λ some. (omega (arith, body.0, is.is.progress.lines), omega (arith, body.1, is.is.progress.classes));
         });
         text_is =
-            ap (λ (t : Text). t ++ line_of (Pattern v)) is.text_is
+            ap (λ (t : Text). t ++ record_line (Pattern v)) is.text_is
             ∙ sym (text_more (is.seen ++ behind) (Pattern v))
             ∙ ap text_of (append_assoc is.seen behind (Pattern v ∷ []))
             ∙ sym (ap (λ (rs : List Record). text_of (is.seen ++ rs)) (map-append Pattern waiting (v ∷ [])))
@@ -105,8 +105,8 @@ module _ {c : Circuit} {text : Text} {k : Checker} (is : IsCheckOf c text k) (no
   some_class = omega (arith, is.is.keeper.whole.patterns)
 
   -- one line more that is no pattern and no evidence
-  one_more : (r : Record) (q : Progress) → HasSpelling r → length (text ++ line_of r) ≤ 2 ^ 40 → IsInPlace t is.seen r → IsRightContent c t is.seen r → pattern_of r ≡ None → evidence_of r ≡ None
-      → (0 < class_lines (is.seen ++ r ∷ []) → next_member t (evidence_in is.seen) ≡ None) → IsProgress (is.seen ++ r ∷ []) q → IsCheckOf c (text ++ line_of r) (record k { progress = q })
+  one_more : (r : Record) (q : Progress) → HasSpelling r → length (text ++ record_line r) ≤ 2 ^ 40 → IsInPlace t is.seen r → IsRightContent c t is.seen r → pattern_of r ≡ None → evidence_of r ≡ None
+      → (0 < class_lines (is.seen ++ r ∷ []) → next_member t (evidence_in is.seen) ≡ None) → IsProgress (is.seen ++ r ∷ []) q → IsCheckOf c (text ++ record_line r) (record k { progress = q })
   one_more r q spelled short place content no_pattern no_evidence complete progress =
       taken_line is none r (record k { progress = q }) short none (checker_line is.is r q (next_line is r spelled place content) no_pattern no_evidence complete progress)
 
@@ -115,8 +115,8 @@ module _ {c : Circuit} {text : Text} {k : Checker} (is : IsCheckOf c text k) (no
   pub head_place : p.lines ≡ 0 → is.seen ≡ []
   head_place zero = nil_from_length is.seen (omega (arith, is.is.progress.lines))
 
-  pub head_taken : (sources positions numbers : ℕ) → HasSpelling (Head sources positions numbers) → length (text ++ line_of (Head sources positions numbers)) ≤ 2 ^ 40 → p.lines ≡ 0
-      → IsRightContent c t is.seen (Head sources positions numbers) → IsCheckOf c (text ++ line_of (Head sources positions numbers)) (record k { progress = record p { lines = p.lines + 1 } })
+  pub head_taken : (sources positions numbers : ℕ) → HasSpelling (Head sources positions numbers) → length (text ++ record_line (Head sources positions numbers)) ≤ 2 ^ 40 → p.lines ≡ 0
+      → IsRightContent c t is.seen (Head sources positions numbers) → IsCheckOf c (text ++ record_line (Head sources positions numbers)) (record k { progress = record p { lines = p.lines + 1 } })
   head_taken sources positions numbers spelled short zero content =
       let r = Head sources positions numbers in
       let first = head_place zero in
@@ -124,8 +124,8 @@ module _ {c : Circuit} {text : Text} {k : Checker} (is : IsCheckOf c text k) (no
       (λ some. is.is.complete (omega (arith, some, count_same is.seen r is_class refl)))
       (progress_line is.is.progress (open_in_place is.is.progress t r first) r refl refl refl refl refl refl)
 
-  pub budget_taken : (b : Budgets) → HasSpelling (Budget b) → length (text ++ line_of (Budget b)) ≤ 2 ^ 40 → p.lines ≡ 1 → AreWithinLimits b
-      → IsCheckOf c (text ++ line_of (Budget b)) (record k { progress = record p { lines = p.lines + 1; budgets = b } })
+  pub budget_taken : (b : Budgets) → HasSpelling (Budget b) → length (text ++ record_line (Budget b)) ≤ 2 ^ 40 → p.lines ≡ 1 → AreWithinLimits b
+      → IsCheckOf c (text ++ record_line (Budget b)) (record k { progress = record p { lines = p.lines + 1; budgets = b } })
   budget_taken b spelled short one limits =
       let place : length is.seen ≡ 1 = omega (arith, one, is.is.progress.lines) in
       one_more (Budget b) (record p { lines = p.lines + 1; budgets = b }) spelled short place limits refl refl
@@ -142,8 +142,8 @@ module _ {c : Circuit} {text : Text} {k : Checker} (is : IsCheckOf c text k) (no
 
   -- ---- classes
 
-  pub class_taken : (number : ℕ) (birth : Option (ℕ × ℕ)) → HasSpelling (Class number birth) → length (text ++ line_of (Class number birth)) ≤ 2 ^ 40 → 2 ≤ p.lines → p.members ≡ 0 → IsRightClass t is.seen number birth
-      → IsCheckOf c (text ++ line_of (Class number birth)) (record k { progress = record p { lines = p.lines + 1; classes = p.classes + 1 } })
+  pub class_taken : (number : ℕ) (birth : Option (ℕ × ℕ)) → HasSpelling (Class number birth) → length (text ++ record_line (Class number birth)) ≤ 2 ^ 40 → 2 ≤ p.lines → p.members ≡ 0 → IsRightClass t is.seen number birth
+      → IsCheckOf c (text ++ record_line (Class number birth)) (record k { progress = record p { lines = p.lines + 1; classes = p.classes + 1 } })
   class_taken number birth spelled short two no_member content =
       let r = Class number birth in
       let place : (2 ≤ length is.seen) × (member_lines is.seen ≡ 0) = (omega (arith, two, is.is.progress.lines), omega (arith, no_member, is.is.progress.members)) in
@@ -155,8 +155,8 @@ module _ {c : Circuit} {text : Text} {k : Checker} (is : IsCheckOf c text k) (no
 
   -- ---- members
 
-  pub member_taken : (number class : ℕ) (m : Mark) → HasSpelling (Member number class m) → length (text ++ line_of (Member number class m)) ≤ 2 ^ 40 → p.classes ≡ class_count t → p.ended ≡ false → IsRightMember t is.seen number class m
-      → IsCheckOf c (text ++ line_of (Member number class m)) (record k { progress = with_member p m })
+  pub member_taken : (number class : ℕ) (m : Mark) → HasSpelling (Member number class m) → length (text ++ record_line (Member number class m)) ≤ 2 ^ 40 → p.classes ≡ class_count t → p.ended ≡ false → IsRightMember t is.seen number class m
+      → IsCheckOf c (text ++ record_line (Member number class m)) (record k { progress = with_member p m })
   member_taken number class m spelled short all going content =
       let r = Member number class m in
       one_more r (with_member p m) spelled short (omega (arith, all, is.is.progress.classes), is.is.progress.unended going) content refl refl
@@ -168,8 +168,8 @@ module _ {c : Circuit} {text : Text} {k : Checker} (is : IsCheckOf c text k) (no
 
   -- ---- the end
 
-  pub end_taken : length (text ++ line_of End) ≤ 2 ^ 40 → p.classes ≡ class_count t → p.members ≡ fault_count c → p.ended ≡ false
-      → IsCheckOf c (text ++ line_of End) (record k { progress = record p { lines = p.lines + 1; ended = true } })
+  pub end_taken : length (text ++ record_line End) ≤ 2 ^ 40 → p.classes ≡ class_count t → p.members ≡ fault_count c → p.ended ≡ false
+      → IsCheckOf c (text ++ record_line End) (record k { progress = record p { lines = p.lines + 1; ended = true } })
   end_taken short all whole going =
       let classes : class_lines is.seen ≡ class_count t = omega (arith, all, is.is.progress.classes) in
       let members : member_lines is.seen ≡ length t.class_of = omega (arith, whole, is.is.progress.members, numbers_are) in
@@ -211,10 +211,10 @@ module _ {c : Circuit} {text : Text} {k : Checker} (is : IsCheckOf c text k) (no
           subst P (sym kept) (names.lowest.below n (omega (arith, below, other)))
     ]
 
-    pub evidence_taken : HasSpelling (Same e) → length (text ++ line_of (Same e)) ≤ 2 ^ 40 → (2 ≤ p.lines) × (p.classes ≡ 0) → HasRightRoots c (fault_numbered c e.partner) (fault_numbered c e.member) e.proof
+    pub evidence_taken : HasSpelling (Same e) → length (text ++ record_line (Same e)) ≤ 2 ^ 40 → (2 ≤ p.lines) × (p.classes ≡ 0) → HasRightRoots c (fault_numbered c e.partner) (fault_numbered c e.member) e.proof
         → IsRightProof c (fault_numbered c e.partner) (fault_numbered c e.member) p.budgets e.proof
         → (new : Checker) → new.keeper ≡ k.keeper → new.marks ≡ set k.marks e.member (Some g) → new.from ≡ e.member + 1 → new.progress ≡ record p { lines = p.lines + 1 } → new.pool.clauses ≡ [] → new.waiting.items ≡ []
-        → IsCheckOf c (text ++ line_of (Same e)) new
+        → IsCheckOf c (text ++ record_line (Same e)) new
     evidence_taken spelled short both roots right new keeper_is marks_is from_is progress_is pool_is empty =
         let r = Same e in
         let place = body_place both in

@@ -64,7 +64,7 @@ IsJudged c text k (Err (stop.Refused fault)) = IsRefusedText c text fault
 IsJudged c text k (Err stop.NoMemory) = ⊤
 
 -- A text that comes behind what was judged is judged too, where all of it is within the limit.
-pub record Judges (c : Circuit) (old new : Checker) (more : Text) (result : Result (Unit {0}) Stop) : Type 0 where
+pub record JudgesText (c : Circuit) (old new : Checker) (more : Text) (result : Result (Unit {0}) Stop) : Type 0 where
   pub judged : (text : Text) → IsCheckOf c text old → length (text ++ more) ≤ 2 ^ 40 → IsJudged c (text ++ more) new result
 
 -- What waits is judged.
@@ -72,8 +72,8 @@ pub record JudgesWaiting (c : Circuit) (old new : Checker) (result : Result (Uni
   pub judged : (text : Text) → IsCheckOf c text old → IsJudged c text new result
 
 -- The line of a record, with its LF.
-abbrev pub line_of : Record → Text
-line_of r = spelling r ++ 10 ∷ []
+abbrev pub record_line : Record → Text
+record_line r = spelling r ++ 10 ∷ []
 
 -- The evidence names the lowest number that is neither a representative nor marked, with its representative.
 pub record NamesOpen (t : ClassTable) (given : List (Option Given)) (evidence : Evidence) : Type 0 where
@@ -81,14 +81,14 @@ pub record NamesOpen (t : ClassTable) (given : List (Option Given)) (evidence : 
   pub partner : evidence.partner ≡ representative t (class_at t evidence.member)
 
 -- Each line was judged, up to the end.
-pub record IsComplete (c : Circuit) (text : Text) (k : Checker) : Type 0 where
+pub record IsJudgedWhole (c : Circuit) (text : Text) (k : Checker) : Type 0 where
   pub is : IsCheckOf c text k
   pub none : k.waiting.items ≡ []
   pub ended : IsTrue k.progress.ended
 
 -- The file ends behind this text and these bytes: right lines up to the end and no byte more, or it is refused.
 abbrev pub IsWholly : Circuit → Text → Text → Checker → Result (Unit {0}) Stop → Type 0
-IsWholly c text rest k (Ok x) = (rest ≡ []) × IsComplete c text k
+IsWholly c text rest k (Ok x) = (rest ≡ []) × IsJudgedWhole c text k
 IsWholly c text rest k (Err (stop.Refused fault)) = FileRefused c (text ++ rest) fault
 IsWholly c text rest k (Err stop.NoMemory) = ⊤
 

@@ -12,6 +12,6 @@ as_shelf (Err (file.Result fault)) = Ok tt
 as_shelf (Err file.Failed) = Err shelf.Failed
 as_shelf (Err file.NoMemory) = Err shelf.NoMemory
 
-abbrev pub fault_of : ShelfFault → FileFault
-fault_of shelf.Failed = file.Failed
-fault_of shelf.NoMemory = file.NoMemory
+abbrev pub file_fault : ShelfFault → FileFault
+file_fault shelf.Failed = file.Failed
+file_fault shelf.NoMemory = file.NoMemory

@@ -19,14 +19,14 @@ pub record IsHeld (c : Circuit) (fed : Text) (r : Reader) : Type 0 where
   pub fed_is : fed ≡ text ++ r.lines
 
 -- Each line of these bytes was judged, and those that are held have no LF.
-pub record IsOpen (c : Circuit) (fed : Text) (r : Reader) : Type 0 where
+pub record HasJudgedLines (c : Circuit) (fed : Text) (r : Reader) : Type 0 where
   pub held : IsHeld c fed r
   pub one : ¬ Contains r.lines 10
   pub room : length fed + r.room ≡ 2 ^ 40
 
 -- These bytes were read, and the first line that breaks a rule is known if there is one.
 pub record IsReading (c : Circuit) (fed : Text) (r : Reader) : Type 0 where
-  pub going : r.refused ≡ None → IsOpen c fed r
+  pub going : r.refused ≡ None → HasJudgedLines c fed r
   pub refused : (fault : ResultFault) → r.refused ≡ Some fault → IsRefusedText c fed fault
 
 pub record HasHeld (c : Circuit) (r : Reader) : Type 0 where
@@ -36,7 +36,7 @@ pub record HasHeld (c : Circuit) (r : Reader) : Type 0 where
 
 pub record HasOpen (c : Circuit) (r : Reader) : Type 0 where
   pub fed : Text
-  pub is : IsOpen c fed r
+  pub is : HasJudgedLines c fed r
 
 pub record HasReading (c : Circuit) (r : Reader) : Type 0 where
   pub fed : Text
@@ -54,13 +54,13 @@ pub record TakesLines (c : Circuit) (old new : Reader) (result : Result (Unit {0
   pub refused : new.refused ≡ old.refused
 
 abbrev pub IsTaken : Circuit → Text → Reader → Result (Unit {0}) Stop → Type 0
-IsTaken c fed r (Ok x) = IsOpen c fed r
+IsTaken c fed r (Ok x) = HasJudgedLines c fed r
 IsTaken c fed r (Err (stop.Refused fault)) = IsRefusedText c fed fault
 IsTaken c fed r (Err stop.NoMemory) = ⊤
 
 -- A piece comes behind the bytes.
 pub record TakesPiece (c : Circuit) (old new : Reader) (piece : Text) (result : Result (Unit {0}) Stop) : Type 0 where
-  pub taken : (fed : Text) → IsOpen c fed old → IsTaken c (fed ++ piece) new result
+  pub taken : (fed : Text) → HasJudgedLines c fed old → IsTaken c (fed ++ piece) new result
   pub refused : new.refused ≡ old.refused
 
 -- A file is refused whose first bytes these are: with no byte behind them, or whatever stands there if they go beyond the limit.

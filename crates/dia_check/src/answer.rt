@@ -1,7 +1,7 @@
 //! What the check of a result file answers.
 
 ghost use Rattle.std.specs.Prelude.{◌≡◌};
-ghost use Rattle.dia_check.specs.Faults.{fault_of};
+ghost use Rattle.dia_check.specs.Faults.{file_fault};
 ghost use Rattle.dia_check.specs.declared.answer.FileFault.TheVariants as file;
 
 use class_refine::Classes;
@@ -34,7 +34,7 @@ pub enum FileFault {
 }
 
 impl From<ShelfFault> for FileFault {
-    ghost from_gives = { λ fault e. e ≡ fault_of fault };
+    ghost from_gives = { λ fault e. e ≡ file_fault fault };
 
     fn from(fault: ShelfFault) -> Self {
         match fault {

@@ -8,7 +8,7 @@ ghost use Rattle.result_file.specs.declared.record.Record.TheVariants.{Head, Bud
 ghost use Rattle.result_file.specs.Marks.{pattern_of, evidence_in, mark_of as mark_by};
 ghost use Rattle.result_file.specs.Lines.{AreWithinLimits, NamesNext, IsRightClass, IsRightMember};
 ghost use Rattle.result_file.specs.Spelling.{Text, HasSpelling, IsNoSpelling, spelling};
-ghost use Rattle.dia_check.specs.Checker.{HasCheck, Judges, JudgesWaiting, JudgesEnd, IsChecker, IsCheckOf, IsComplete, NamesOpen, line_of};
+ghost use Rattle.dia_check.specs.Checker.{HasCheck, JudgesText, JudgesWaiting, JudgesEnd, IsChecker, IsCheckOf, IsJudgedWhole, NamesOpen, record_line};
 ghost use Rattle.dia_check.specs.Reader.{IsAcceptedText};
 
 use crate::answer::Checked;
@@ -76,7 +76,7 @@ impl<'a> Checker<'a> {
     pub(crate) fn judge_line(&mut self, alloc: Global, subject: &Subject, line: &[u8]) -> Judged
         requires check { HasCheck subject.now self.old }
         requires one { ¬ Contains line.now 10 }
-        ensures { Judges subject.now self.old self.new (line.now ++ 10 ∷ []) result }
+        ensures { JudgesText subject.now self.old self.new (line.now ++ 10 ∷ []) result }
     {
         match read_record(alloc, line) {
             Ok(record) => self.judge(alloc, subject, record),
@@ -90,7 +90,7 @@ impl<'a> Checker<'a> {
         requires check { HasCheck subject.now self.old }
         requires one { ¬ Contains line.now 10 }
         requires wrong { IsNoSpelling line.now }
-        ensures { Judges subject.now self.old self.new (line.now ++ 10 ∷ []) result }
+        ensures { JudgesText subject.now self.old self.new (line.now ++ 10 ∷ []) result }
     {
         self.flush(subject)?;
         Err(self.refused(ResultKind::Syntax))
@@ -101,7 +101,7 @@ impl<'a> Checker<'a> {
         requires check { HasCheck subject.now self.old }
         requires spelled { HasSpelling entry }
         requires one { ¬ Contains (spelling entry) 10 }
-        ensures { Judges subject.now self.old self.new (line_of entry) result }
+        ensures { JudgesText subject.now self.old self.new (record_line entry) result }
     {
         self.make_way(subject, &entry)?;
         self.judge_next(alloc, subject, entry)
@@ -114,7 +114,7 @@ impl<'a> Checker<'a> {
         requires none { pattern_of entry ≡ None → self.old.waiting.items ≡ [] }
         requires spelled { HasSpelling entry }
         requires one { ¬ Contains (spelling entry) 10 }
-        ensures { Judges subject.now self.old self.new (line_of entry) result }
+        ensures { JudgesText subject.now self.old self.new (record_line entry) result }
     {
         match entry {
             Record::Head(sources, positions, numbers) => {
@@ -178,7 +178,7 @@ impl<'a> Checker<'a> {
         requires check { HasCheck subject.now self.old }
         requires room { length self.old.waiting.items < LANES }
         requires one { ¬ Contains (spelling (Pattern v)) 10 }
-        ensures { Judges subject.now self.old self.new (line_of (Pattern v)) result }
+        ensures { JudgesText subject.now self.old self.new (record_line (Pattern v)) result }
     {
         if v.len() != subject.circuit().sources() as usize {
             return self.refuse_pattern(subject, &v);
@@ -196,7 +196,7 @@ impl<'a> Checker<'a> {
         requires check { HasCheck subject.now self.old }
         requires one { ¬ Contains (spelling (Pattern v.now)) 10 }
         requires wrong { length v.now ≢ subject.now.sources }
-        ensures { Judges subject.now self.old self.new (line_of (Pattern v.now)) result }
+        ensures { JudgesText subject.now self.old self.new (record_line (Pattern v.now)) result }
     {
         self.flush(subject)?;
         if !self.progress.is_body() {
@@ -216,7 +216,7 @@ impl<'a> Checker<'a> {
         requires none { self.old.waiting.items ≡ [] }
         requires spelled { HasSpelling (Head sources positions numbers) }
         requires one { ¬ Contains (spelling (Head sources positions numbers)) 10 }
-        ensures { Judges subject.now self.old self.new (line_of (Head sources positions numbers)) result }
+        ensures { JudgesText subject.now self.old self.new (record_line (Head sources positions numbers)) result }
     {
         if self.progress.lines != 0 {
             return Err(self.refused(ResultKind::Order));
@@ -233,7 +233,7 @@ impl<'a> Checker<'a> {
         requires none { self.old.waiting.items ≡ [] }
         requires spelled { HasSpelling (Budget budgets) }
         requires one { ¬ Contains (spelling (Budget budgets)) 10 }
-        ensures { Judges subject.now self.old self.new (line_of (Budget budgets)) result }
+        ensures { JudgesText subject.now self.old self.new (record_line (Budget budgets)) result }
     {
         if self.progress.lines != 1 {
             return Err(self.refused(ResultKind::Order));
@@ -251,7 +251,7 @@ impl<'a> Checker<'a> {
         requires none { self.old.waiting.items ≡ [] }
         requires spelled { HasSpelling (Same evidence.now) }
         requires one { ¬ Contains (spelling (Same evidence.now)) 10 }
-        ensures { Judges subject.now self.old self.new (line_of (Same evidence.now)) result }
+        ensures { JudgesText subject.now self.old self.new (record_line (Same evidence.now)) result }
     {
         if !self.progress.is_body() {
             return Err(self.refused(ResultKind::Order));
@@ -311,7 +311,7 @@ impl<'a> Checker<'a> {
         requires none { self.old.waiting.items ≡ [] }
         requires spelled { HasSpelling (Class number birth) }
         requires one { ¬ Contains (spelling (Class number birth)) 10 }
-        ensures { Judges subject.now self.old self.new (line_of (Class number birth)) result }
+        ensures { JudgesText subject.now self.old self.new (record_line (Class number birth)) result }
     {
         if self.progress.lines < 2 || self.progress.members != 0 {
             return Err(self.refused(ResultKind::Order));
@@ -347,7 +347,7 @@ impl<'a> Checker<'a> {
         requires none { self.old.waiting.items ≡ [] }
         requires spelled { HasSpelling (Member number class mark) }
         requires one { ¬ Contains (spelling (Member number class mark)) 10 }
-        ensures { Judges subject.now self.old self.new (line_of (Member number class mark)) result }
+        ensures { JudgesText subject.now self.old self.new (record_line (Member number class mark)) result }
     {
         if self.progress.classes != self.keeper.classes().count() || self.progress.ended {
             return Err(self.refused(ResultKind::Order));
@@ -380,7 +380,7 @@ impl<'a> Checker<'a> {
         requires none { self.old.waiting.items ≡ [] }
         requires spelled { HasSpelling (End) }
         requires one { ¬ Contains (spelling (End)) 10 }
-        ensures { Judges subject.now self.old self.new (line_of (End)) result }
+        ensures { JudgesText subject.now self.old self.new (record_line (End)) result }
     {
         if self.progress.classes != self.keeper.classes().count()
             || self.progress.members != subject.numbers()
@@ -411,7 +411,7 @@ impl<'a> Checker<'a> {
 
     // What the lines state.
     pub(crate) fn into_checked(self, alloc: Global) -> Result<Checked, AllocError>
-        ensures { IfOk result (λ checked. (c : Circuit) (text : Text) → IsComplete c text self.entry → IsAcceptedText c text checked) }
+        ensures { IfOk result (λ checked. (c : Circuit) (text : Text) → IsJudgedWhole c text self.entry → IsAcceptedText c text checked) }
     {
         let Checker {
             keeper,

@@ -11,7 +11,7 @@ use Rattle.dict_file.specs.declared.fault.DictFault.{DictFault}
 use Rattle.dict_file.specs.Spelling.{IsFileOf}
 use Rattle.dict_file.specs.Reading.{IsRefusedBy}
 use Rattle.diagnose.specs.declared.fault.LogKind.{LogKind}
-use Rattle.diagnose.specs.Lines.{LineForm, RestRule, TextRefused, too_long, at_line, line_of}
+use Rattle.diagnose.specs.Lines.{LineForm, RestRule, LinesRefused, too_long, at_line, line_number}
 use Rattle.request_words.specs.Request.{Text}
 use Rattle.dia_commands.specs.Dictionaries.{IsDictionaryFile, IsRefusedDictionary}
 use Rattle.dia_commands.specs.Logs.{IsRefusedBySome, IsLogFor, IsListFor}
@@ -52,19 +52,19 @@ refused_dictionary_read {all} {bytes} {console} e is = record { fault = is.fault
 -- ---- texts of lines
 
 -- the line of a byte up to which all was read
-line_read : (byte : ℕ) (all : Text) → line_of (read_of byte all) byte ≡ line_of all byte
+line_read : (byte : ℕ) (all : Text) → line_number (read_of byte all) byte ≡ line_number all byte
 line_read byte all = ap (λ (text : Text). count_by (λ b. b == 10) text + 1) (take-take byte (byte + 1) all (omega arith))
 
-text_read : {line : LineForm} {width : ℕ} {Rest : RestRule} {all bytes : Text} {kind : LogKind} {number : ℕ} → bytes ≡ read_of 1073741824 all → TextRefused line width Rest bytes kind number → TextRefused line width Rest all kind number
+text_read : {line : LineForm} {width : ℕ} {Rest : RestRule} {all bytes : Text} {kind : LogKind} {number : ℕ} → bytes ≡ read_of 1073741824 all → LinesRefused line width Rest bytes kind number → LinesRefused line width Rest all kind number
 text_read {line} {width} {Rest} {all} {bytes} {kind} {number} e refused = elim (cases_lt 1073741824 (length all)) [
   | inl long ↦ elim refused [
-    | too_long over is at ↦ too_long long is (at ∙ ap (λ (t : Text). line_of t 1073741824) e ∙ line_read 1073741824 all)
+    | too_long over is at ↦ too_long long is (at ∙ ap (λ (t : Text). line_number t 1073741824) e ∙ line_read 1073741824 all)
     | at_line rows rest short wide text wrong at ↦ absurd (long_read 1073741824 all bytes e long short)
   ]
-  | inr short ↦ subst (λ (b : Text). TextRefused line width Rest b kind number) (e ∙ read_whole 1073741824 all short) refused
+  | inr short ↦ subst (λ (b : Text). LinesRefused line width Rest b kind number) (e ∙ read_whole 1073741824 all short) refused
 ]
 
-pub refused_text_read : {line : LineForm} {width : ℕ} {Rest : RestRule} {all bytes console : Text} → bytes ≡ read_of 1073741824 all → IsRefusedBySome (TextRefused line width Rest bytes) console → IsRefusedBySome (TextRefused line width Rest all) console
+pub refused_text_read : {line : LineForm} {width : ℕ} {Rest : RestRule} {all bytes console : Text} → bytes ≡ read_of 1073741824 all → IsRefusedBySome (LinesRefused line width Rest bytes) console → IsRefusedBySome (LinesRefused line width Rest all) console
 refused_text_read {line} {width} {Rest} {all} {bytes} {console} e is = record { kind = is.kind; line = is.line; refused = text_read e is.refused; console_is = is.console_is }
 
 pub log_read : (d : Dict) {all bytes : Text} {observed : List (List Bool)} → bytes ≡ read_of 1073741824 all → IsLogFor d bytes observed → IsLogFor d all observed

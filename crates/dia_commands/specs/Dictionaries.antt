@@ -14,7 +14,7 @@ use Rattle.table_dicts.specs.Apart.{apart_count}
 use Rattle.samediff_dict.specs.Chosen.{chosen_baselines}
 use Rattle.dict_file.specs.declared.fault.DictFault.{DictFault}
 use Rattle.dict_file.specs.declared.fault.DictVersion.TheVariants.{Two}
-use Rattle.dict_file.specs.Spelling.{spelling, IsFileOf}
+use Rattle.dict_file.specs.Spelling.{dict_spelling, IsFileOf}
 use Rattle.dict_file.specs.Reading.{IsRefusedBy}
 use Rattle.request_words.specs.declared.request.EntryKind.{EntryKind}
 use Rattle.request_words.specs.declared.request.EntryKind.TheVariants.{PassFail, Full, SameDiff}
@@ -72,7 +72,7 @@ pub record KeepsMostApart (c : Circuit) (patterns : List (List Bool)) (classes :
 pub record IsMadeOf (c : Circuit) (kind : EntryKind) (patterns : List (List Bool)) (classes : ClassTable) (file text : Text) : Type 0 where
   pub dictionary : Dict
   pub entries : IsOfPatterns c kind patterns classes dictionary
-  pub file_is : file ≡ spelling Two dictionary
+  pub file_is : file ≡ dict_spelling Two dictionary
   pub text_is : text ≡ dictionary_counts dictionary classes
   pub all_apart : kind ≡ Full → pairs_kept classes dictionary ≡ pair_count (class_count classes)
   pub most_apart : kind ≡ SameDiff → KeepsMostApart c patterns classes dictionary
@@ -88,7 +88,7 @@ pub record IsMadeDictionary (c : Circuit) (kind : EntryKind) (result file text :
 
 -- The file has the dictionary in version 2, and the text is printed of it.
 pub record IsConverted (d : Dict) (file text : Text) : Type 0 where
-  pub file_is : file ≡ spelling Two d
+  pub file_is : file ≡ dict_spelling Two d
   pub text_is : text ≡ groups_text d.numbers d.patterns (length d.entries)
 
 -- The text lists the numbers of which the dictionary has the entry of these observed answers.

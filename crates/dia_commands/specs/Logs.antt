@@ -3,7 +3,7 @@ use Rattle.std.specs.Prelude.{◌≡◌, ℕ, Bool, List}
 use Rattle.net_model.specs.Circuit.{Circuit}
 use Rattle.table_dicts.specs.declared.dict.Dict.{Dict}
 use Rattle.diagnose.specs.declared.fault.LogKind.{LogKind}
-use Rattle.diagnose.specs.LogText.{IsLog, LogRefused}
+use Rattle.diagnose.specs.LogText.{IsLog, TesterLogRefused}
 use Rattle.diagnose.specs.VectorText.{IsVectorList, VectorsRefused}
 use Rattle.request_words.specs.Request.{Text}
 use Rattle.dia_commands.specs.Texts.{log_text}
@@ -22,7 +22,7 @@ abbrev pub IsLogFor : Dict → Text → List (List Bool) → Type 0
 IsLogFor d bytes observed = IsLog d.patterns d.positions bytes observed
 
 abbrev pub IsRefusedLog : Dict → Text → Text → Type 0
-IsRefusedLog d bytes console = IsRefusedBySome (LogRefused d.patterns d.positions bytes) console
+IsRefusedLog d bytes console = IsRefusedBySome (TesterLogRefused d.patterns d.positions bytes) console
 
 -- ---- lists of vectors
 

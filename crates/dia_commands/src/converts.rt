@@ -1,7 +1,7 @@
 //! The command `convert`: a dictionary is written in version 2.
 
 ghost use Rattle.std.specs.Prelude.{ℕ, List, Some};
-ghost use Rattle.dict_file.specs.Spelling.{HasSpelling};
+ghost use Rattle.dict_file.specs.Spelling.{HasDictSpelling};
 ghost use Rattle.request_words.specs.Request.{convert};
 ghost use Rattle.dia_commands.specs.Dictionaries.{IsConverted};
 ghost use Rattle.dia_commands.specs.Plans.{makes_file};
@@ -27,7 +27,7 @@ pub fn convert_file<S: Shelf>(alloc: Global, shelf: &mut S, old: &str, new: &str
 
 // Writes a dictionary in version 2 under this name, and prints what it amounts to.
 fn save_dictionary<S: Shelf>(alloc: Global, shelf: &mut S, dict: &Dict, new: &str) -> u8
-    requires { HasSpelling dict.now }
+    requires { HasDictSpelling dict.now }
     ensures { (old : List ℕ) → RanOn (convert old new.now) (makes_file new.now (IsConverted dict.now)) result (S.state shelf.old) (S.state shelf.new) }
 {
     let Ok(file) = encode(alloc, dict, DictVersion::Two) else {

@@ -2,7 +2,7 @@
 
 ghost use Rattle.std.specs.Prelude.{◌≡◌, ◌++◌, ℕ, Bool, List, IfOk, OnOk, Some, flat_map};
 ghost use Rattle.table_dicts.specs.Rows.{AreRows};
-ghost use Rattle.dict_file.specs.Spelling.{HasSpelling};
+ghost use Rattle.dict_file.specs.Spelling.{HasDictSpelling};
 ghost use Rattle.request_words.specs.Request.{diagnose};
 ghost use Rattle.dia_commands.specs.Dictionaries.{IsDiagnosis};
 ghost use Rattle.dia_commands.specs.Plans.{says, with_log};
@@ -31,7 +31,7 @@ pub fn diagnose_log<S: Shelf>(alloc: Global, shelf: &mut S, dict: &str, log: &st
 
 // Reads and judges the log, and prints the numbers that the dictionary and the log point to.
 fn diagnose_by<S: Shelf>(alloc: Global, shelf: &mut S, dict: &Dict, log: &str) -> u8
-    requires { HasSpelling dict.now }
+    requires { HasDictSpelling dict.now }
     ensures { (name : List ℕ) → RanOn (diagnose name log.now) (with_log log.now dict.now (λ (observed : List (List Bool)). says (IsDiagnosis dict.now observed))) result (S.state shelf.old) (S.state shelf.new) }
 {
     let observed = match read_observed(alloc, shelf, dict, log) {
@@ -47,7 +47,7 @@ fn diagnose_by<S: Shelf>(alloc: Global, shelf: &mut S, dict: &Dict, log: &str) -
 // A line for each number whose entry is that of the observed answers, and how many they are.
 #[tactic(auto, unfolding(crate::specs::Texts::numbers_text))]
 fn diagnosis(alloc: Global, dict: &Dict, observed: &AnswerRows) -> Result<Vec<u8>, AllocError>
-    requires dictionary { HasSpelling dict.now }
+    requires dictionary { HasDictSpelling dict.now }
     requires observed { AreRows dict.now.patterns dict.now.positions observed.now }
     ensures { IfOk result (λ text. IsDiagnosis dict.now observed.now text.items) }
 {

@@ -1,7 +1,7 @@
 //! From a dictionary's name to the dictionary, or to the end of the run.
 
 ghost use Rattle.std.specs.Prelude.{◌≡◌, IfErr, IfOk, option_map};
-ghost use Rattle.dict_file.specs.Spelling.{HasSpelling};
+ghost use Rattle.dict_file.specs.Spelling.{HasDictSpelling};
 ghost use Rattle.dia_commands.specs.Dictionaries.{IsDictionaryFile, IsRefusedDictionary};
 ghost use Rattle.dia_commands.specs.Outcome.{said, IsPartOf};
 ghost use Rattle.dia_commands.specs.Ran.{Ends};
@@ -25,7 +25,7 @@ pub(crate) fn read_dictionary<S: Shelf>(
     shelf: &mut S,
     name: &str,
 ) -> Result<Dict, u8>
-    ensures spelled { IfOk result HasSpelling }
+    ensures spelled { IfOk result HasDictSpelling }
     ensures ok { IfOk result (λ dict. WasAccepted name.now IsDictionaryFile dict (S.state shelf.old) (S.state shelf.new)) }
     ensures err { IfErr result (λ status. IsOver name.now 5 IsRefusedDictionary status (S.state shelf.old) (S.state shelf.new)) }
 {

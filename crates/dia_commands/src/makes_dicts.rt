@@ -7,7 +7,7 @@ ghost use Rattle.class_refine.specs.Fields.{IsWhole};
 ghost use Rattle.table_dicts.specs.Dictionary.{IsGroupedDict, IsShaped};
 ghost use Rattle.table_dicts.specs.Setting.{IsSetting};
 ghost use Rattle.dict_file.specs.declared.fault.DictVersion.TheVariants.{Two};
-ghost use Rattle.dict_file.specs.Spelling.{spelling};
+ghost use Rattle.dict_file.specs.Spelling.{dict_spelling};
 ghost use Rattle.request_words.specs.Request.{make_dict};
 ghost use Rattle.dia_commands.specs.Dictionaries.{IsOfPatterns, KeepsMostApart, IsMadeOf, IsMadeDictionary, dictionary_counts};
 ghost use Rattle.dia_commands.specs.Plans.{makes_file, with_result};
@@ -138,7 +138,7 @@ fn spelled(alloc: Global, dict: &Dict, classes: &Classes) -> Result<Made, AllocE
     requires shaped { IsShaped dict.now }
     requires numbers { length classes.now.class_of ≡ dict.now.numbers }
     ensures whole { IsWhole classes.now }
-    ensures file { IfOk result (λ made. made.file.items ≡ spelling Two dict.now) }
+    ensures file { IfOk result (λ made. made.file.items ≡ dict_spelling Two dict.now) }
     ensures text { IfOk result (λ made. string_bytes made.text ≡ dictionary_counts dict.now classes.now) }
 {
     let count = classes.count();

@@ -8,7 +8,7 @@ use Rattle.result_file.specs.Laws.{ValidIsTrue}
 use Rattle.table_dicts.specs.declared.dict.Dict.{Dict}
 use Rattle.dict_file.specs.Laws.{RefusedIsWrong, OneDictionary}
 use Rattle.dict_file.specs.declared.fault.DictVersion.TheVariants.{Two}
-use Rattle.dict_file.specs.Spelling.{spelling, IsFileOf}
+use Rattle.dict_file.specs.Spelling.{dict_spelling, IsFileOf}
 use Rattle.dict_file.specs.Reading.{IsRefusedBy}
 use Rattle.request_words.specs.Request.{Text, Request, make_dict, convert, diagnose}
 use Rattle.dia_commands.specs.Dictionaries.{IsDiagnosis}
@@ -76,6 +76,6 @@ module _ (wrong : RefusedIsWrong) (one : OneDictionary) (files : Files) (d : Dic
 
 pub diagnoses_alike : RefusedIsWrong → OneDictionary → DiagnosesAlike
 diagnoses_alike wrong one files first second log bytes d held is there short o =
-    let also : IsFileOf d (spelling Two d) = (Two, record { has = is.1.has; bytes_are = refl; short = short }) in
+    let also : IsFileOf d (dict_spelling Two d) = (Two, record { has = is.1.has; bytes_are = refl; short = short }) in
     let reads_log : Dict → Plan = λ e. with_log log e (λ observed. says (IsDiagnosis e observed)) in
-    (moved wrong one files d reads_log first second bytes (spelling Two d) held is there also o, moved wrong one files d reads_log second first (spelling Two d) bytes there also held is o)
+    (moved wrong one files d reads_log first second bytes (dict_spelling Two d) held is there also o, moved wrong one files d reads_log second first (dict_spelling Two d) bytes there also held is o)

@@ -15,7 +15,7 @@ use Rattle.dia_commands.specs.Dictionaries.{IsDictionaryFile, IsRefusedDictionar
 use Rattle.dia_commands.specs.Logs.{IsLogFor, IsRefusedLog, IsListFor, IsRefusedList}
 use Rattle.table_dicts.specs.declared.dict.Dict.{Dict}
 use Rattle.dict_file.specs.Laws.{RefusedIsWrong, OneDictionary}
-use Rattle.diagnose.specs.Laws.{RefusedLogIsWrong, OneLogReading, RefusedListIsWrong, OneListReading}
+use Rattle.diagnose.specs.Laws.{RefusedTesterLogIsWrong, OneLogReading, RefusedListIsWrong, OneListReading}
 use Rattle.dia_commands.specs.Outcome.{Outcome}
 use Rattle.dia_commands.specs.Plans.{plan_of}
 use Rattle.dia_commands.specs.Plan.{IsClearFile, IsClear}
@@ -35,7 +35,7 @@ pub record HasLaws : Type 0 where
   pub results : RefusedFileIsWrong
   pub dictionaries : RefusedIsWrong
   pub one_dictionary : OneDictionary
-  pub logs : RefusedLogIsWrong
+  pub logs : RefusedTesterLogIsWrong
   pub one_log : OneLogReading
   pub lists : RefusedListIsWrong
   pub one_list : OneListReading

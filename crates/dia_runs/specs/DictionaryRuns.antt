@@ -5,7 +5,7 @@ use Rattle.diag_shelf.specs.World.{Files, World}
 use Rattle.table_dicts.specs.declared.dict.Dict.{Dict}
 use Rattle.table_dicts.specs.Dictionary.{listed_numbers}
 use Rattle.dict_file.specs.declared.fault.DictVersion.TheVariants.{Two}
-use Rattle.dict_file.specs.Spelling.{spelling, most_bytes, IsFileOf}
+use Rattle.dict_file.specs.Spelling.{dict_spelling, most_bytes, IsFileOf}
 use Rattle.request_words.specs.declared.request.EntryKind.{EntryKind}
 use Rattle.request_words.specs.Request.{Text, Request, make_dict, convert, diagnose}
 use Rattle.dia_commands.specs.Texts.{groups_text, numbers_text}
@@ -33,7 +33,7 @@ MakesDictionary request status old new = (kind : EntryKind) (bench result dict :
 -- Under the new name is the version 2 of the dictionary that was read, and the console gained its counts.
 pub record HasConverted (name new_name : Text) (old new : World) : Type 0 where
   pub dictionary : WasRead old.files name IsDictionaryFile
-  pub saved : get new.files new_name ≡ Some (spelling Two dictionary.thing)
+  pub saved : get new.files new_name ≡ Some (dict_spelling Two dictionary.thing)
   pub printed : ConsoleGained (groups_text dictionary.thing.numbers dictionary.thing.patterns (length dictionary.thing.entries)) old new
 
 -- A run of `convert` that answers 0 leaves that.
@@ -53,5 +53,5 @@ PrintsDiagnosis request status old new = (dict log : Text) → request ≡ Some 
 -- A dictionary and its version 2, within the limit of bytes, are diagnosed alike: with every log a run by the one is to end as a run by
 -- the other.
 abbrev pub DiagnosesAlike : Type 0
-DiagnosesAlike = (files : Files) (first second log bytes : Text) (d : Dict) → get files first ≡ Some bytes → IsFileOf d bytes → get files second ≡ Some (spelling Two d) → length (spelling Two d) ≤ most_bytes
+DiagnosesAlike = (files : Files) (first second log bytes : Text) (d : Dict) → get files first ≡ Some bytes → IsFileOf d bytes → get files second ≡ Some (dict_spelling Two d) → length (dict_spelling Two d) ≤ most_bytes
     → (o : Outcome) → CallsFor files (plan_of (Some (diagnose first log))) o ↔ CallsFor files (plan_of (Some (diagnose second log))) o

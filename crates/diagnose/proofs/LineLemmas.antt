@@ -5,7 +5,7 @@ use Rattle.std.proofs.lemmas.List.{append-nil}
 use Rattle.std.proofs.lemmas.List.Elements.{All-head, All-tail}
 use Rattle.net_model.specs.Rows.{AreWide}
 use Rattle.diagnose.specs.declared.fault.LogKind.{LogKind}
-use Rattle.diagnose.specs.Lines.{Text, text_limit, LineForm, lines_from, RestRule, TextRefused, too_long, at_line}
+use Rattle.diagnose.specs.Lines.{Text, text_limit, LineForm, lines_from, RestRule, LinesRefused, too_long, at_line}
 use Rattle.diagnose.proofs.Cuts.{not_empty}
 
 -- a row more
@@ -116,7 +116,7 @@ module _ (line : LineForm) (width : ℕ) where
         ]
 
     -- a text is refused by one rule at one line
-    pub refused_once : OneRule → KeepsRight → (text : Text) (kind other : LogKind) (number place : ℕ) → TextRefused line width Rest text kind number → TextRefused line width Rest text other place → (kind ≡ other) × (number ≡ place)
+    pub refused_once : OneRule → KeepsRight → (text : Text) (kind other : LogKind) (number place : ℕ) → LinesRefused line width Rest text kind number → LinesRefused line width Rest text other place → (kind ≡ other) × (number ≡ place)
     refused_once once keeps text kind other number place (too_long long k l) (too_long again k' l') = (k ∙ sym k', l ∙ sym l')
     refused_once once keeps text kind other number place (too_long long k l) (at_line rows rest short wide is refused l') = absurd (omega (arith, long, short))
     refused_once once keeps text kind other number place (at_line rows rest short wide is refused l) (too_long long k' l') = absurd (omega (arith, long, short))
@@ -125,7 +125,7 @@ module _ (line : LineForm) (width : ℕ) where
         (both.0, l ∙ both.1 ∙ sym l')
 
     -- a refused text isn't the lines of rows at whose end nothing is refused, nor one of whose lines
-    pub refused_wrong : (text : Text) (kind : LogKind) (number : ℕ) (rows : List (List Bool)) → TextRefused line width Rest text kind number → length text ≤ text_limit → AreWide width rows → text ≡ lines_from line 0 rows
+    pub refused_wrong : (text : Text) (kind : LogKind) (number : ℕ) (rows : List (List Bool)) → LinesRefused line width Rest text kind number → length text ≤ text_limit → AreWide width rows → text ≡ lines_from line 0 rows
         → (Rest (length rows) [] kind → ⊥) → ((n : ℕ) (row : List Bool) (more : Text) → n < length rows → length row ≡ width → Rest n (line n row ++ 10 ∷ more) kind → ⊥) → ⊥
     refused_wrong text kind number rows (too_long long k l) short wide is last each = omega (arith, long, short)
     refused_wrong text kind number rows (at_line others rest short' wide' is' refused l) short wide is last each =

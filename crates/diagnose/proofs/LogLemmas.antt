@@ -9,7 +9,7 @@ use Rattle.net_model.specs.BitText.{bits_text}
 use Rattle.diagnose.specs.declared.fault.LogKind.{LogKind}
 use Rattle.diagnose.specs.declared.fault.LogKind.TheVariants.{Syntax, Order, Width, Missing}
 use Rattle.diagnose.specs.Lines.{Text, text_limit, lines_from, digit_bits, IsCutAt, at_line}
-use Rattle.diagnose.specs.LogText.{log_line, IsLog, BeginsWithLine, HasNoLine, LogRestRefused, missing, no_line, too_many, misplaced, wrong_width, LogRefused, IsRightLine}
+use Rattle.diagnose.specs.LogText.{log_line, IsLog, BeginsWithLine, HasNoLine, LogRestRefused, missing, no_line, too_many, misplaced, wrong_width, TesterLogRefused, IsRightLogLine}
 use Rattle.result_file.proofs.Cuts.{tails}
 use Rattle.result_file.proofs.NumberLemmas.{number_bytes}
 use Rattle.result_file.proofs.BitLemmas.{bits_once}
@@ -113,7 +113,7 @@ module _ (patterns positions : ℕ) (small : patterns < 2 ^ 32) where
   one_rule n rest kind other (misplaced p b m begins l apart k) again = k ∙ sym (from_misplaced n rest other p b m begins l apart again)
   one_rule n rest kind other (wrong_width b m begins l wide k) again = k ∙ sym (from_wrong_width n rest other n b m begins l refl wide again)
 
-  pub log_refused_once : (text : Text) (kind other : LogKind) (line number : ℕ) → LogRefused patterns positions text kind line → LogRefused patterns positions text other number → (kind ≡ other) × (line ≡ number)
+  pub log_refused_once : (text : Text) (kind other : LogKind) (line number : ℕ) → TesterLogRefused patterns positions text kind line → TesterLogRefused patterns positions text other number → (kind ≡ other) × (line ≡ number)
   log_refused_once = refused_once log_line positions (tells_row positions) (LogRestRefused patterns positions) one_rule keeps_right
 
   end_is_right : (n : ℕ) (kind : LogKind) → n ≡ patterns → LogRestRefused patterns positions n [] kind → ⊥
@@ -123,7 +123,7 @@ module _ (patterns positions : ℕ) (small : patterns < 2 ^ 32) where
   end_is_right n kind all (misplaced p b m begins l other k) = omega (arith, all, l)
   end_is_right n kind all (wrong_width b m begins l other k) = omega (arith, all, l)
 
-  pub log_refused_wrong : (text : Text) (observed : List (List Bool)) (kind : LogKind) (line : ℕ) → LogRefused patterns positions text kind line → ¬ IsLog patterns positions text observed
+  pub log_refused_wrong : (text : Text) (observed : List (List Bool)) (kind : LogKind) (line : ℕ) → TesterLogRefused patterns positions text kind line → ¬ IsLog patterns positions text observed
   log_refused_wrong text observed kind line refused is =
       refused_wrong log_line positions (tells_row positions) (LogRestRefused patterns positions) text kind line observed refused is.short is.rows.width_is is.text_is
       (λ rest. end_is_right (length observed) kind is.rows.count_is rest)
@@ -140,7 +140,7 @@ pub record IsLogSoFar (patterns positions : ℕ) (text : Text) (place : ℕ) (ob
   pub rows : AreRows patterns positions observed
   pub text_is : text ≡ lines_from log_line 0 (take place observed) ++ rest
 
-pub log_more : (patterns positions : ℕ) (text : Text) (place : ℕ) (observed : List (List Bool)) (rest digits more : Text) → IsLogSoFar patterns positions text place observed rest → place < patterns → IsRightLine positions place rest digits more
+pub log_more : (patterns positions : ℕ) (text : Text) (place : ℕ) (observed : List (List Bool)) (rest digits more : Text) → IsLogSoFar patterns positions text place observed rest → place < patterns → IsRightLogLine positions place rest digits more
     → IsLogSoFar patterns positions text (place + 1) (set observed place (digit_bits digits)) more
 log_more patterns positions text place observed rest digits more so_far below right =
     let bits = digit_bits digits in
@@ -166,16 +166,16 @@ log_done patterns positions text place observed rest so_far past short none = re
 }
 
 pub log_refused : (patterns positions : ℕ) (text : Text) (place : ℕ) (observed : List (List Bool)) (rest : Text) (kind : LogKind) → IsLogSoFar patterns positions text place observed rest → place ≤ patterns → length text ≤ text_limit
-    → LogRestRefused patterns positions place rest kind → LogRefused patterns positions text kind (place + 1)
+    → LogRestRefused patterns positions place rest kind → TesterLogRefused patterns positions text kind (place + 1)
 log_refused patterns positions text place observed rest kind so_far within short refused =
     let front : length (take place observed) ≡ place = length-take-le place observed (omega (arith, within, so_far.rows.count_is)) in
     at_line (take place observed) rest short (All-take (λ row. length row ≡ positions) place observed so_far.rows.width_is) so_far.text_is
     (subst (λ (k : ℕ). LogRestRefused patterns positions k rest kind) (sym front) refused) (omega (arith, front))
 
 pub log_refused_at : (patterns positions : ℕ) (text : Text) (place : ℕ) (observed : List (List Bool)) (rest : Text) (kind : LogKind) → IsLogSoFar patterns positions text place observed rest → place ≡ patterns → length text ≤ text_limit
-    → LogRestRefused patterns positions patterns rest kind → LogRefused patterns positions text kind (patterns + 1)
+    → LogRestRefused patterns positions patterns rest kind → TesterLogRefused patterns positions text kind (patterns + 1)
 log_refused_at patterns positions text place observed rest kind so_far same short refused =
-    subst (λ (k : ℕ). LogRefused patterns positions text kind (k + 1)) same
+    subst (λ (k : ℕ). TesterLogRefused patterns positions text kind (k + 1)) same
     (log_refused patterns positions text place observed rest kind so_far (omega (arith, same)) short (subst (λ (k : ℕ). LogRestRefused patterns positions k rest kind) (sym same) refused))
 
 -- ---- what stands behind some lines, as the reader finds it

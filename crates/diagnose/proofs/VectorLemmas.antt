@@ -8,7 +8,7 @@ use Rattle.net_model.specs.Rows.{AreWide}
 use Rattle.diagnose.specs.declared.fault.LogKind.{LogKind}
 use Rattle.diagnose.specs.declared.fault.LogKind.TheVariants.{Syntax, Width}
 use Rattle.diagnose.specs.Lines.{Text, text_limit, lines_from, digit_bits, IsCutAt, at_line}
-use Rattle.diagnose.specs.VectorText.{vector_line, IsVectorList, HasNoVector, VectorRestRefused, no_vector, wrong_width, VectorsRefused, IsRightVector}
+use Rattle.diagnose.specs.VectorText.{listed_vector, IsVectorList, HasNoVector, VectorRestRefused, no_vector, wrong_width, VectorsRefused, IsRightVector}
 use Rattle.diagnose.proofs.Cuts.{cut_once, not_empty}
 use Rattle.result_file.proofs.BitLemmas.{bits_once}
 use Rattle.diagnose.proofs.LogLemmas.{bits_without_feed}
@@ -19,7 +19,7 @@ tells_bits row other rest more e =
     let cut = cut_once 10 (bits_text row) (bits_text other) rest more (bits_without_feed row) (bits_without_feed other) e in
     (bits_once row other cut.0, cut.1)
 
-tells_vector : (width : ℕ) → TellsRow vector_line width
+tells_vector : (width : ℕ) → TellsRow listed_vector width
 tells_vector width n row other rest more e = tells_bits row other rest more e
 
 module _ (sources : ℕ) where
@@ -28,7 +28,7 @@ module _ (sources : ℕ) where
   right_vector n bits more kind wide (no_vector e none k) = none bits more refl
   right_vector n bits more kind wide (wrong_width b m begins other k) = other (sym (ap (λ (xs : List Bool). length xs) (tells_bits bits b more m begins).0) ∙ wide)
 
-  keeps_right : KeepsRight vector_line sources (tells_vector sources) (VectorRestRefused sources)
+  keeps_right : KeepsRight listed_vector sources (tells_vector sources) (VectorRestRefused sources)
   keeps_right n m row more rest kind other before wide refused behind = right_vector n row more kind wide refused
 
   from_no_vector : (n : ℕ) (rest : Text) (kind : LogKind) → HasNoVector rest → VectorRestRefused sources n rest kind → kind ≡ Syntax
@@ -39,12 +39,12 @@ module _ (sources : ℕ) where
   from_width n rest kind b m begins (no_vector e none k) = absurd (none b m begins)
   from_width n rest kind b m begins (wrong_width b' m' begins' other k) = k
 
-  one_rule : OneRule vector_line sources (tells_vector sources) (VectorRestRefused sources)
+  one_rule : OneRule listed_vector sources (tells_vector sources) (VectorRestRefused sources)
   one_rule n rest kind other (no_vector e none k) again = k ∙ sym (from_no_vector n rest other none again)
   one_rule n rest kind other (wrong_width b m begins wide k) again = k ∙ sym (from_width n rest other b m begins again)
 
   pub list_refused_once : (text : Text) (kind other : LogKind) (line number : ℕ) → VectorsRefused sources text kind line → VectorsRefused sources text other number → (kind ≡ other) × (line ≡ number)
-  list_refused_once = refused_once vector_line sources (tells_vector sources) (VectorRestRefused sources) one_rule keeps_right
+  list_refused_once = refused_once listed_vector sources (tells_vector sources) (VectorRestRefused sources) one_rule keeps_right
 
   end_is_right : (n : ℕ) (kind : LogKind) → VectorRestRefused sources n [] kind → ⊥
   end_is_right n kind (no_vector e none k) = e refl
@@ -52,20 +52,20 @@ module _ (sources : ℕ) where
 
   pub list_refused_wrong : (text : Text) (vectors : List (List Bool)) (kind : LogKind) (line : ℕ) → VectorsRefused sources text kind line → ¬ IsVectorList sources text vectors
   list_refused_wrong text vectors kind line refused is =
-      refused_wrong vector_line sources (tells_vector sources) (VectorRestRefused sources) text kind line vectors refused is.short is.wide is.text_is
+      refused_wrong listed_vector sources (tells_vector sources) (VectorRestRefused sources) text kind line vectors refused is.short is.wide is.text_is
       (λ rest. end_is_right (length vectors) kind rest)
       (λ n row more below wide rest. right_vector n row more kind wide rest)
 
   pub list_read_once : (text : Text) (vectors others : List (List Bool)) → IsVectorList sources text vectors → IsVectorList sources text others → vectors ≡ others
   list_read_once text vectors others first second =
-      rows_once vector_line sources (tells_vector sources) vectors others first.wide second.wide (sym first.text_is ∙ second.text_is)
+      rows_once listed_vector sources (tells_vector sources) vectors others first.wide second.wide (sym first.text_is ∙ second.text_is)
 
 -- ---- a list that is read so far
 
 -- The vectors are those of the lines before what is left, of which the next one has this number.
 pub record IsListSoFar (sources : ℕ) (text : Text) (number : ℕ) (vectors : List (List Bool)) (rest : Text) : Type 0 where
   pub wide : AreWide sources vectors
-  pub text_is : text ≡ lines_from vector_line 0 vectors ++ rest
+  pub text_is : text ≡ lines_from listed_vector 0 vectors ++ rest
   pub number_is : number ≡ length vectors + 1
   pub left : number + length rest ≤ length text + 1
 
@@ -78,14 +78,14 @@ list_more sources text number vectors rest digits more so_far right =
     let bits = digit_bits digits in record {
       wide = All-push (λ row. length row ≡ sources) vectors bits so_far.wide (length-map digits (λ digit. eqb digit 49) ∙ right.width);
       text_is =
-          so_far.text_is ∙ ap (λ (t : Text). lines_from vector_line 0 vectors ++ t) right.begins
-          ∙ sym (lines_more vector_line 0 vectors bits (length vectors) more (omega arith));
+          so_far.text_is ∙ ap (λ (t : Text). lines_from listed_vector 0 vectors ++ t) right.begins
+          ∙ sym (lines_more listed_vector 0 vectors bits (length vectors) more (omega arith));
       number_is = omega (arith, so_far.number_is, length-append vectors (bits ∷ []));
       left = omega (arith, so_far.left, shorter rest digits more right.begins);
     }
 
 pub list_done : (sources : ℕ) (text : Text) (number : ℕ) (vectors : List (List Bool)) (rest : Text) → IsListSoFar sources text number vectors rest → length text ≤ text_limit → length rest ≡ 0 → IsVectorList sources text vectors
-list_done sources text number vectors [] so_far short none = record { short = short; wide = so_far.wide; text_is = so_far.text_is ∙ append-nil (lines_from vector_line 0 vectors) }
+list_done sources text number vectors [] so_far short none = record { short = short; wide = so_far.wide; text_is = so_far.text_is ∙ append-nil (lines_from listed_vector 0 vectors) }
 list_done sources text number vectors (b ∷ rest) so_far short none = absurd (omega (arith, none))
 
 pub list_refused : (sources : ℕ) (text : Text) (number : ℕ) (vectors : List (List Bool)) (rest : Text) (kind : LogKind) → IsListSoFar sources text number vectors rest → length text ≤ text_limit

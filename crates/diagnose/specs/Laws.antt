@@ -2,16 +2,16 @@
 use Rattle.std.specs.Prelude.{◌≡◌, ℕ, ◌<◌, ◌^◌, Bool, List}
 use Rattle.diagnose.specs.declared.fault.LogKind.{LogKind}
 use Rattle.diagnose.specs.Lines.{Text}
-use Rattle.diagnose.specs.LogText.{IsLog, LogRefused}
+use Rattle.diagnose.specs.LogText.{IsLog, TesterLogRefused}
 use Rattle.diagnose.specs.VectorText.{IsVectorList, VectorsRefused}
 
 -- a refused log isn't the log of any rows
-abbrev pub RefusedLogIsWrong : Type 0
-RefusedLogIsWrong = (patterns positions : ℕ) (text : Text) (observed : List (List Bool)) (kind : LogKind) (line : ℕ) → patterns < 2 ^ 32 → LogRefused patterns positions text kind line → ¬ IsLog patterns positions text observed
+abbrev pub RefusedTesterLogIsWrong : Type 0
+RefusedTesterLogIsWrong = (patterns positions : ℕ) (text : Text) (observed : List (List Bool)) (kind : LogKind) (line : ℕ) → patterns < 2 ^ 32 → TesterLogRefused patterns positions text kind line → ¬ IsLog patterns positions text observed
 
 -- a log is refused by one rule at one line
-abbrev pub OneLogRefusal : Type 0
-OneLogRefusal = (patterns positions : ℕ) (text : Text) (kind other : LogKind) (line number : ℕ) → patterns < 2 ^ 32 → LogRefused patterns positions text kind line → LogRefused patterns positions text other number → (kind ≡ other) × (line ≡ number)
+abbrev pub OneTesterLogRefusal : Type 0
+OneTesterLogRefusal = (patterns positions : ℕ) (text : Text) (kind other : LogKind) (line number : ℕ) → patterns < 2 ^ 32 → TesterLogRefused patterns positions text kind line → TesterLogRefused patterns positions text other number → (kind ≡ other) × (line ≡ number)
 
 -- a log is the log of one list of rows
 abbrev pub OneLogReading : Type 0

@@ -15,8 +15,8 @@ abbrev pub text_limit : ℕ
 text_limit = 2 ^ 30
 
 -- the line of a byte, counted from 1
-abbrev pub line_of : Text → ℕ → ℕ
-line_of text byte = count_by (λ b. b == 10) (take byte text) + 1
+abbrev pub line_number : Text → ℕ → ℕ
+line_number text byte = count_by (λ b. b == 10) (take byte text) + 1
 
 -- the bits of digits
 abbrev pub digit_bits : Text → List Bool
@@ -49,12 +49,12 @@ abbrev pub RestRule : Type 1
 RestRule = ℕ → Text → LogKind → Type 0
 
 -- A text of lines is refused by this rule at this line: by its length, or since what stands behind some right lines is refused.
-pub data TextRefused (line : LineForm) (width : ℕ) (Rest : RestRule) (text : Text) (kind : LogKind) (number : ℕ) : Type 0 where
-  too_long : text_limit < length text → kind ≡ TooLong → number ≡ line_of text text_limit → TextRefused line width Rest text kind number
+pub data LinesRefused (line : LineForm) (width : ℕ) (Rest : RestRule) (text : Text) (kind : LogKind) (number : ℕ) : Type 0 where
+  too_long : text_limit < length text → kind ≡ TooLong → number ≡ line_number text text_limit → LinesRefused line width Rest text kind number
   at_line : (rows : List (List Bool)) (rest : Text) → length text ≤ text_limit → AreWide width rows → text ≡ lines_from line 0 rows ++ rest → Rest (length rows) rest kind → number ≡ length rows + 1
-      → TextRefused line width Rest text kind number
+      → LinesRefused line width Rest text kind number
 
 -- A fault tells the rule and the line of a refusal, or want of memory.
-abbrev pub Tells : (LogKind → ℕ → Type 0) → LogFault → Type 0
-Tells Refused (At kind line) = Refused kind line
-Tells Refused NoMemory = ⊤
+abbrev pub TellsLogFault : (LogKind → ℕ → Type 0) → LogFault → Type 0
+TellsLogFault Refused (At kind line) = Refused kind line
+TellsLogFault Refused NoMemory = ⊤

@@ -4,7 +4,7 @@ use Rattle.net_model.specs.BitText.{bits_text}
 use Rattle.table_dicts.specs.Rows.{AreRows}
 use Rattle.diagnose.specs.declared.fault.LogKind.{LogKind}
 use Rattle.diagnose.specs.declared.fault.LogKind.TheVariants.{Syntax, Order, Width, Missing}
-use Rattle.diagnose.specs.Lines.{Text, text_limit, digit_bits, lines_from, TextRefused}
+use Rattle.diagnose.specs.Lines.{Text, text_limit, digit_bits, lines_from, LinesRefused}
 
 -- a line of a log, without its LF
 abbrev pub log_line : ℕ → List Bool → Text
@@ -33,10 +33,10 @@ pub data LogRestRefused (patterns positions before : ℕ) (rest : Text) (kind : 
   wrong_width : (bits : List Bool) (more : Text) → BeginsWithLine rest before bits more → before < patterns → length bits ≢ positions → kind ≡ Width → LogRestRefused patterns positions before rest kind
 
 -- The log is refused by this rule at this line.
-abbrev pub LogRefused : ℕ → ℕ → Text → LogKind → ℕ → Type 0
-LogRefused patterns positions = TextRefused log_line positions (LogRestRefused patterns positions)
+abbrev pub TesterLogRefused : ℕ → ℕ → Text → LogKind → ℕ → Type 0
+TesterLogRefused patterns positions = LinesRefused log_line positions (LogRestRefused patterns positions)
 
 -- The text begins with the line of this pattern, with digits of the right width.
-pub record IsRightLine (positions pattern : ℕ) (text digits rest : Text) : Type 0 where
+pub record IsRightLogLine (positions pattern : ℕ) (text digits rest : Text) : Type 0 where
   pub begins : BeginsWithLine text pattern (digit_bits digits) rest
   pub width : length digits ≡ positions

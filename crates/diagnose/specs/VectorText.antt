@@ -4,17 +4,17 @@ use Rattle.net_model.specs.BitText.{bits_text}
 use Rattle.net_model.specs.Rows.{AreWide}
 use Rattle.diagnose.specs.declared.fault.LogKind.{LogKind}
 use Rattle.diagnose.specs.declared.fault.LogKind.TheVariants.{Syntax, Width}
-use Rattle.diagnose.specs.Lines.{Text, text_limit, digit_bits, lines_from, TextRefused}
+use Rattle.diagnose.specs.Lines.{Text, text_limit, digit_bits, lines_from, LinesRefused}
 
 -- a line of a list, without its LF; its number isn't written
-abbrev pub vector_line : ℕ → List Bool → Text
-vector_line number bits = bits_text bits
+abbrev pub listed_vector : ℕ → List Bool → Text
+listed_vector number bits = bits_text bits
 
 -- The text is the list of these vectors, each with a bit for each source.
 pub record IsVectorList (sources : ℕ) (text : Text) (vectors : List (List Bool)) : Type 0 where
   pub short : length text ≤ text_limit
   pub wide : AreWide sources vectors
-  pub text_is : text ≡ lines_from vector_line 0 vectors
+  pub text_is : text ≡ lines_from listed_vector 0 vectors
 
 -- The text begins with no line of bits.
 abbrev pub HasNoVector : Text → Type 0
@@ -27,7 +27,7 @@ pub data VectorRestRefused (sources before : ℕ) (rest : Text) (kind : LogKind)
 
 -- The list is refused by this rule at this line.
 abbrev pub VectorsRefused : ℕ → Text → LogKind → ℕ → Type 0
-VectorsRefused sources = TextRefused vector_line sources (VectorRestRefused sources)
+VectorsRefused sources = LinesRefused listed_vector sources (VectorRestRefused sources)
 
 -- The text begins with a line of digits of the right width.
 pub record IsRightVector (sources : ℕ) (text digits rest : Text) : Type 0 where

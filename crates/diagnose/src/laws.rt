@@ -1,11 +1,11 @@
 //! Laws over the definitions: each function has an empty body, and its contract is the law.
 
-ghost use Rattle.diagnose.specs.Laws.{RefusedLogIsWrong, OneLogRefusal, OneLogReading, RefusedListIsWrong, OneListRefusal, OneListReading};
+ghost use Rattle.diagnose.specs.Laws.{RefusedTesterLogIsWrong, OneTesterLogRefusal, OneLogReading, RefusedListIsWrong, OneListRefusal, OneListReading};
 
 /// A log is the log of one list of rows, or it is refused for one rule at one line, and never both.
 pub fn log_is_read_once()
-    ensures wrong { RefusedLogIsWrong }
-    ensures refusal { OneLogRefusal }
+    ensures wrong { RefusedTesterLogIsWrong }
+    ensures refusal { OneTesterLogRefusal }
     ensures reading { OneLogReading }
 {}
 

@@ -4,7 +4,7 @@ ghost use Rattle.std.specs.Prelude.{◌≡◌, ◌≢◌, ◌<◌, ◌≤◌, �
 ghost use Rattle.net_model.specs.BitText.{bits_text};
 ghost use Rattle.diagnose.specs.declared.fault.LogKind.TheVariants as log_kind;
 ghost use Rattle.diagnose.specs.declared.fault.LogFault.TheVariants as log_fault;
-ghost use Rattle.diagnose.specs.Lines.{text_limit, line_of, digit_bits, IsDigit, SpellField, IsCutAt};
+ghost use Rattle.diagnose.specs.Lines.{text_limit, line_number, digit_bits, IsDigit, SpellField, IsCutAt};
 
 use crate::fault::{LogFault, LogKind};
 use memchr::memchr;
@@ -16,7 +16,7 @@ const LIMIT: usize = 1 << 30;
 
 /// Refuses a text of too many bytes.
 pub(crate) fn check_size(text: &[u8]) -> Result<(), LogFault>
-    ensures { MatchResult result (λ _. length text.now ≤ text_limit) (λ fault. (text_limit < length text.now) × (fault ≡ log_fault.At log_kind.TooLong (line_of text.now text_limit))) }
+    ensures { MatchResult result (λ _. length text.now ≤ text_limit) (λ fault. (text_limit < length text.now) × (fault ≡ log_fault.At log_kind.TooLong (line_number text.now text_limit))) }
 {
     if text.len() <= LIMIT {
         return Ok(());
@@ -28,7 +28,7 @@ pub(crate) fn check_size(text: &[u8]) -> Result<(), LogFault>
 fn line_at(text: &[u8], byte: usize) -> u64
     requires within { byte ≤ length text.now }
     requires small { byte < 2 ^ 32 }
-    ensures { result ≡ line_of text.now byte }
+    ensures { result ≡ line_number text.now byte }
 {
     let feeds = text[..byte].iter().filter(|b| **b == b'\n').count();
     feeds as u64 + 1

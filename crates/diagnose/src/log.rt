@@ -3,8 +3,8 @@
 ghost use Rattle.std.specs.Prelude.{◌≡◌, ◌≢◌, ◌<◌, ◌≤◌, ◌*◌, ◌^◌, ℕ, Bool, List, [], length, slice_index_or, slice_set, IfOk, IfErr, MatchOption, MatchResult};
 ghost use Rattle.table_dicts.specs.Rows.{IsWordOf};
 ghost use Rattle.diagnose.specs.declared.fault.LogKind.TheVariants as log_kind;
-ghost use Rattle.diagnose.specs.Lines.{digit_bits, Tells};
-ghost use Rattle.diagnose.specs.LogText.{log_line, BeginsWithLine, HasNoLine, IsLog, LogRefused, LogRestRefused, IsRightLine};
+ghost use Rattle.diagnose.specs.Lines.{digit_bits, TellsLogFault};
+ghost use Rattle.diagnose.specs.LogText.{log_line, BeginsWithLine, HasNoLine, IsLog, TesterLogRefused, LogRestRefused, IsRightLogLine};
 
 use crate::fault::{LogFault, LogKind};
 use crate::lines::{check_size, cut, digits_of};
@@ -26,7 +26,7 @@ struct LogLine<'a> {
 /// A log has at most 2^30 bytes. A fault tells the first line that breaks a rule.
 pub fn read_log(alloc: Global, dict: &Dict, bytes: &[u8]) -> Result<AnswerRows, LogFault>
     ensures read { IfOk result (λ observed. IsLog dict.now.patterns dict.now.positions bytes.now observed) }
-    ensures refused { IfErr result (Tells (LogRefused dict.now.patterns dict.now.positions bytes.now)) }
+    ensures refused { IfErr result (TellsLogFault (TesterLogRefused dict.now.patterns dict.now.positions bytes.now)) }
 {
     check_size(bytes)?;
     read_lines(alloc, dict.patterns, dict.positions, bytes)
@@ -40,7 +40,7 @@ fn read_lines(
 ) -> Result<AnswerRows, LogFault>
     requires { length bytes.now ≤ 2 ^ 30 }
     ensures read { IfOk result (λ observed. IsLog patterns positions bytes.now observed) }
-    ensures refused { IfErr result (Tells (LogRefused patterns positions bytes.now)) }
+    ensures refused { IfErr result (TellsLogFault (TesterLogRefused patterns positions bytes.now)) }
 {
     let mut observed = AnswerRows::zeros(alloc, patterns as usize, positions as usize)?;
     let mut rest = bytes;
@@ -66,7 +66,7 @@ fn right_line<'a>(
     rest: &'a [u8],
 ) -> Result<LogLine<'a>, LogKind>
     requires { pattern < patterns }
-    ensures { MatchResult result (λ line. IsRightLine positions pattern rest.now line.digits.now line.rest.now) (LogRestRefused patterns positions pattern rest.now) }
+    ensures { MatchResult result (λ line. IsRightLogLine positions pattern rest.now line.digits.now line.rest.now) (LogRestRefused patterns positions pattern rest.now) }
 {
     if rest.is_empty() {
         return Err(LogKind::Missing);

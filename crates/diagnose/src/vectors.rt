@@ -2,7 +2,7 @@
 
 ghost use Rattle.std.specs.Prelude.{◌≡◌, ◌≢◌, ◌≤◌, ◌^◌, ◌++◌, ◌∷◌, [], ℕ, length, IfOk, IfErr, MatchOption, MatchResult};
 ghost use Rattle.net_model.specs.BitText.{bits_text};
-ghost use Rattle.diagnose.specs.Lines.{digit_bits, Tells};
+ghost use Rattle.diagnose.specs.Lines.{digit_bits, TellsLogFault};
 ghost use Rattle.diagnose.specs.VectorText.{HasNoVector, IsVectorList, VectorsRefused, VectorRestRefused, IsRightVector};
 
 use crate::fault::{LogFault, LogKind};
@@ -15,7 +15,7 @@ use std::alloc::Global;
 /// A list has at most 2^30 bytes. A fault tells the first line that breaks a rule.
 pub fn read_vectors(alloc: Global, sources: u32, bytes: &[u8]) -> Result<Vectors, LogFault>
     ensures read { IfOk result (λ vectors. IsVectorList sources bytes.now vectors) }
-    ensures refused { IfErr result (Tells (VectorsRefused sources bytes.now)) }
+    ensures refused { IfErr result (TellsLogFault (VectorsRefused sources bytes.now)) }
 {
     check_size(bytes)?;
     read_lines(alloc, sources, bytes)
@@ -24,7 +24,7 @@ pub fn read_vectors(alloc: Global, sources: u32, bytes: &[u8]) -> Result<Vectors
 fn read_lines(alloc: Global, sources: u32, bytes: &[u8]) -> Result<Vectors, LogFault>
     requires { length bytes.now ≤ 2 ^ 30 }
     ensures read { IfOk result (λ vectors. IsVectorList sources bytes.now vectors) }
-    ensures refused { IfErr result (Tells (VectorsRefused sources bytes.now)) }
+    ensures refused { IfErr result (TellsLogFault (VectorsRefused sources bytes.now)) }
 {
     let mut vectors = Vectors::new(alloc);
     let mut rest = bytes;

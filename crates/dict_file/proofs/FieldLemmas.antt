@@ -12,11 +12,11 @@ use Rattle.dict_file.specs.declared.fault.DictVersion.{DictVersion}
 use Rattle.dict_file.specs.declared.fault.DictVersion.TheVariants.{One, Two}
 use Rattle.dict_file.specs.declared.row_bytes.RowsAt.{RowsAt}
 use Rattle.dict_file.specs.Packing.{byte_count}
-use Rattle.dict_file.specs.Spelling.{kind_number, version_number, limit, HasSpelling, packed_rows, head_bytes}
+use Rattle.dict_file.specs.Spelling.{kind_number, version_number, limit, HasDictSpelling, packed_rows, head_bytes}
 use Rattle.dict_file.specs.Parts.{each}
 use Rattle.dict_file.specs.Reading as reading
 use Rattle.dict_file.specs.Reading.{row_start, rows_end, row_of, row_part, head_part}
-use Rattle.dict_file.specs.Places.{rows_of}
+use Rattle.dict_file.specs.Places.{first_rows}
 use Rattle.dict_file.proofs.Standing.{IsAt, at_first, at_second, at_both, at_cut, cut_at}
 use Rattle.dict_file.proofs.BitLemmas.{IsRowAt}
 use Rattle.dict_file.proofs.ManyRows.{length-packed_rows, rows_stand, stand_rows, length-row_in, row_at_in, row_in_at, padding_at, number_stands, four_stand, two_stand}
@@ -29,7 +29,7 @@ AreBytes bytes = (i : ℕ) → get_or bytes i 0 < 256
 -- The rows are right, and they are those of a list.
 pub record AreRowsOf (bytes : List ℕ) (rows : RowsAt) (list : List (List Bool)) : Type 0 where
   pub right : (each rows.count (row_part bytes rows)).Right
-  pub are : rows_of bytes rows rows.count ≡ list
+  pub are : first_rows bytes rows rows.count ≡ list
   pub ends : rows_end rows ≡ rows.from + length (packed_rows list)
 
 pub rows_read : (bytes : List ℕ) (rows : RowsAt) (list : List (List Bool)) → AreWide rows.width list → length list ≡ rows.count → IsAt bytes rows.from (packed_rows list) → AreRowsOf bytes rows list
@@ -45,20 +45,20 @@ rows_read bytes rows list wide count is =
       ends = ap (λ n. rows.from + n * byte_count rows.width) (sym count) ∙ ap (λ n. rows.from + n) (sym (length-packed_rows rows.width list wide));
     }
 
-pub length-rows_of : (bytes : List ℕ) (rows : RowsAt) (count : ℕ) → length (rows_of bytes rows count) ≡ count
+pub length-rows_of : (bytes : List ℕ) (rows : RowsAt) (count : ℕ) → length (first_rows bytes rows count) ≡ count
 length-rows_of bytes rows count = length-map-range_with_len (row_of bytes rows) 0 count
 
-pub get_or-rows_of : (bytes : List ℕ) (rows : RowsAt) (count k : ℕ) → k < count → get_or (rows_of bytes rows count) k [] ≡ row_of bytes rows k
+pub get_or-rows_of : (bytes : List ℕ) (rows : RowsAt) (count k : ℕ) → k < count → get_or (first_rows bytes rows count) k [] ≡ row_of bytes rows k
 get_or-rows_of bytes rows count k h = get_or-map-range_with_len (row_of bytes rows) 0 count k k [] h (omega arith)
 
-pub wide_rows_of : (bytes : List ℕ) (rows : RowsAt) (count : ℕ) → AreWide rows.width (rows_of bytes rows count)
+pub wide_rows_of : (bytes : List ℕ) (rows : RowsAt) (count : ℕ) → AreWide rows.width (first_rows bytes rows count)
 wide_rows_of bytes rows count = λ k d h.
     ap length (get_or-map-range_with_len (row_of bytes rows) 0 count k k d (omega (arith, h, length-rows_of bytes rows count)) (omega arith))
     ∙ length-row_in bytes (row_start rows k) rows.width
 
-pub rows_written : (bytes : List ℕ) (rows : RowsAt) → AreBytes bytes → rows.from ≤ length bytes → (each rows.count (row_part bytes rows)).Right → IsAt bytes rows.from (packed_rows (rows_of bytes rows rows.count))
+pub rows_written : (bytes : List ℕ) (rows : RowsAt) → AreBytes bytes → rows.from ≤ length bytes → (each rows.count (row_part bytes rows)).Right → IsAt bytes rows.from (packed_rows (first_rows bytes rows rows.count))
 rows_written bytes rows fits within right =
-    rows_stand bytes rows.width (rows_of bytes rows rows.count) rows.from fits (wide_rows_of bytes rows rows.count) within
+    rows_stand bytes rows.width (first_rows bytes rows rows.count) rows.from fits (wide_rows_of bytes rows rows.count) within
     (λ k h.
     let low : k < rows.count = omega (arith, h, length-rows_of bytes rows rows.count) in
     subst (IsRowAt bytes (row_start rows k)) (sym (get_or-rows_of bytes rows rows.count k low)) (row_at_in bytes (row_start rows k) rows.width (right k low).0 (right k low).1))
@@ -133,7 +133,7 @@ kind_known SameDiff = inr (inr refl)
 pub count_small : (n : ℕ) → n ≤ limit → n < 256 ^ 4
 count_small n h = omega (arith, h)
 
-pub head_stands : (bytes : List ℕ) (v : DictVersion) (d : Dict) → HasSpelling d → IsAt bytes 0 (head_bytes v d) → HasHead bytes v d
+pub head_stands : (bytes : List ℕ) (v : DictVersion) (d : Dict) → HasDictSpelling d → IsAt bytes 0 (head_bytes v d) → HasHead bytes v d
 head_stands bytes v d has is =
     let magic : IsAt bytes 0 (codes "DIAT") = at_first (codes "DIAT") (behind_magic v d) is in
     let a : IsAt bytes 4 (behind_magic v d) = at_second (codes "DIAT") (behind_magic v d) is in
@@ -181,9 +181,9 @@ width_by_kind PassFail n p q s t e f g = ap (λ m. cond (eqb m 2) (p * s) p) e �
 width_by_kind Full n p q s t e f g = ap (λ m. cond (eqb m 2) (p * s) p) e ∙ (ap (λ m. m * s) f ∙ ap (λ m. q * m) g)
 width_by_kind SameDiff n p q s t e f g = ap (λ m. cond (eqb m 2) (p * s) p) e ∙ f
 
-pub baselines_counted : {bytes : List ℕ} {v : DictVersion} {d : Dict} → AreFields bytes v d → reading.baseline_count bytes ≡ dictionary.baseline_count d.kind d.patterns
+pub baselines_counted : {bytes : List ℕ} {v : DictVersion} {d : Dict} → AreFields bytes v d → reading.read_baseline_count bytes ≡ dictionary.baseline_count d.kind d.patterns
 baselines_counted {bytes} {v} {d} are = base_by_kind d.kind (reading.kind bytes) (reading.patterns bytes) d.patterns are.kind_is are.patterns_are
 
-pub entries_measured : {bytes : List ℕ} {v : DictVersion} {d : Dict} → AreFields bytes v d → reading.entry_width bytes ≡ dictionary.entry_width d.kind d.patterns d.positions
+pub entries_measured : {bytes : List ℕ} {v : DictVersion} {d : Dict} → AreFields bytes v d → reading.read_entry_width bytes ≡ dictionary.entry_width d.kind d.patterns d.positions
 entries_measured {bytes} {v} {d} are =
     width_by_kind d.kind (reading.kind bytes) (reading.patterns bytes) d.patterns (reading.positions bytes) d.positions are.kind_is are.patterns_are are.positions_are

@@ -7,7 +7,7 @@ use Rattle.table_dicts.specs.Grouped.{IsGrouped}
 use Rattle.dict_file.specs.declared.fault.DictFault.{DictFault}
 use Rattle.dict_file.specs.declared.fault.DictVersion.{DictVersion}
 use Rattle.dict_file.specs.declared.fault.DictVersion.TheVariants.{One, Two}
-use Rattle.dict_file.specs.Spelling.{kind_number, version_number, Spells, IsFileOf, entry_rows}
+use Rattle.dict_file.specs.Spelling.{kind_number, version_number, SpellsDict, IsFileOf, entry_rows}
 use Rattle.dict_file.specs.Reading as reading
 use Rattle.dict_file.specs.Reading.{file_part, IsRefusedBy, part_one, part_two}
 use Rattle.dict_file.proofs.PartLemmas.{file_is}
@@ -60,7 +60,7 @@ fields_once : {bytes : List ℕ} {v : DictVersion} {d e : Dict} → AreFields by
 fields_once {bytes} {v} {d} {e} one two b g r =
     same_dict d e (kind_once d.kind e.kind (sym one.kind_is ∙ two.kind_is)) (sym one.positions_are ∙ two.positions_are) (sym one.patterns_are ∙ two.patterns_are) (sym one.numbers_are ∙ two.numbers_are) b g r
 
-one_once : (bytes : List ℕ) (d e : Dict) → Spells One d bytes → Spells One e bytes → d ≡ e
+one_once : (bytes : List ℕ) (d e : Dict) → SpellsDict One d bytes → SpellsDict One e bytes → d ≡ e
 one_once bytes d e first second =
     let a = reads_one first in
     let b = reads_one second in
@@ -70,21 +70,21 @@ one_once bytes d e first second =
     (λ n h. sym (get_or-entry_rows d n [] h) ∙ (ap (λ (xs : List (List Bool)). get_or xs n []) rows ∙ get_or-entry_rows e n [] (omega (arith, h, numbers)))) in
     fields_once a.head.fields b.head.fields (sym a.baselines.are ∙ b.baselines.are) groups.0 groups.1
 
-two_once : (bytes : List ℕ) (d e : Dict) → Spells Two d bytes → Spells Two e bytes → d ≡ e
+two_once : (bytes : List ℕ) (d e : Dict) → SpellsDict Two d bytes → SpellsDict Two e bytes → d ≡ e
 two_once bytes d e first second =
     let a = reads_two first in
     let b = reads_two second in
     fields_once a.head.fields b.head.fields (sym a.baselines.are ∙ b.baselines.are) (all_groups first.has a ∙ sym (all_groups second.has b)) (sym a.entries.are ∙ b.entries.are)
 
-version_of : {bytes : List ℕ} {d : Dict} (v : DictVersion) → Spells v d bytes → reading.version bytes ≡ version_number v
+version_of : {bytes : List ℕ} {d : Dict} (v : DictVersion) → SpellsDict v d bytes → reading.version bytes ≡ version_number v
 version_of One spells = (reads_one spells).head.fields.version_is
 version_of Two spells = (reads_two spells).head.fields.version_is
 
-same_version : (bytes : List ℕ) (v : DictVersion) (d e : Dict) → Spells v d bytes → Spells v e bytes → d ≡ e
+same_version : (bytes : List ℕ) (v : DictVersion) (d e : Dict) → SpellsDict v d bytes → SpellsDict v e bytes → d ≡ e
 same_version bytes One d e first second = one_once bytes d e first second
 same_version bytes Two d e first second = two_once bytes d e first second
 
-pub dictionary_once : (bytes : List ℕ) (v w : DictVersion) (d e : Dict) → Spells v d bytes → Spells w e bytes → (v ≡ w) × (d ≡ e)
+pub dictionary_once : (bytes : List ℕ) (v w : DictVersion) (d e : Dict) → SpellsDict v d bytes → SpellsDict w e bytes → (v ≡ w) × (d ≡ e)
 dictionary_once bytes v w d e first second =
     let same = version_once v w (sym (version_of v first) ∙ version_of w second) in
-    (same, same_version bytes v d e first (subst (λ x. Spells x e bytes) (sym same) second))
+    (same, same_version bytes v d e first (subst (λ x. SpellsDict x e bytes) (sym same) second))

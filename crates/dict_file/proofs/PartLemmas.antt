@@ -8,7 +8,7 @@ use Rattle.dict_file.specs.declared.fault.DictFault.TheVariants.{Magic, Version,
 use Rattle.dict_file.specs.Spelling.{limit, most_bytes}
 use Rattle.dict_file.specs.Parts.{Part, wants, reaches, ◌⊳◌, each, when}
 use Rattle.dict_file.specs.declared.row_bytes.RowsAt.{RowsAt}
-use Rattle.dict_file.specs.Reading.{row_start, rows_end, row_part, new_row_part, IsNewRow, number_at, version, kind, magic_part, version_part, kind_part, count_part, head_part, baseline_count, baselines_at, entries_one, end_part, part_one, group_count_part, groups_from, group_part, groups_part, IsGroupCount, IsGroupNumber, AreUsed, numbers, groups, entries_two, part_two, file_part}
+use Rattle.dict_file.specs.Reading.{row_start, rows_end, row_part, new_row_part, IsNewRow, number_at, version, kind, magic_part, version_part, kind_part, count_part, head_part, read_baseline_count, baseline_rows_at, entries_one, end_part, part_one, group_count_part, groups_from, group_part, groups_part, IsGroupCount, IsGroupNumber, AreUsed, numbers, groups, entries_two, part_two, file_part}
 
 pub record IsExclusive (part : Part) : Type 0 where
   pub apart : (fault : DictFault) → part.Right → part.Refused fault → ⊥
@@ -104,7 +104,7 @@ module _ (bytes : List ℕ) where
 
   one_is : IsExclusive (part_one bytes)
   one_is =
-      then_is (each (baseline_count bytes) (row_part bytes (baselines_at bytes 19))) rows_one (rows_are bytes (baselines_at bytes 19) (baseline_count bytes))
+      then_is (each (read_baseline_count bytes) (row_part bytes (baseline_rows_at bytes 19))) rows_one (rows_are bytes (baseline_rows_at bytes 19) (read_baseline_count bytes))
       (then_is (each (numbers bytes) (row_part bytes (entries_one bytes))) end_one (rows_are bytes (entries_one bytes) (numbers bytes)) (end_is (rows_end (entries_one bytes))))
 
   group_is : (k : ℕ) → IsExclusive (group_part bytes k)
@@ -125,12 +125,12 @@ module _ (bytes : List ℕ) where
   groups_two = groups_part bytes ⊳ rows_two
 
   abbrev baselines_two : Part
-  baselines_two = each (baseline_count bytes) (row_part bytes (baselines_at bytes 23)) ⊳ groups_two
+  baselines_two = each (read_baseline_count bytes) (row_part bytes (baseline_rows_at bytes 23)) ⊳ groups_two
 
   two_is : IsExclusive (part_two bytes)
   two_is =
       then_is (group_count_part bytes) baselines_two (reach_then bytes 23 (IsGroupCount bytes) (Value 19))
-      (then_is (each (baseline_count bytes) (row_part bytes (baselines_at bytes 23))) groups_two (rows_are bytes (baselines_at bytes 23) (baseline_count bytes))
+      (then_is (each (read_baseline_count bytes) (row_part bytes (baseline_rows_at bytes 23))) groups_two (rows_are bytes (baseline_rows_at bytes 23) (read_baseline_count bytes))
       (then_is (groups_part bytes) rows_two groups_are
       (then_is (each (groups bytes) (new_row_part bytes (entries_two bytes))) end_two (each_is (groups bytes) (new_row_part bytes (entries_two bytes)) (new_row_is bytes (entries_two bytes)))
       (end_is (rows_end (entries_two bytes))))))

@@ -12,10 +12,10 @@ use Rattle.table_dicts.specs.Dictionary as dictionary
 use Rattle.table_dicts.specs.Dictionary.{IsShaped, IsGroupedDict}
 use Rattle.table_dicts.proofs.GroupLemmas.{few_groups}
 use Rattle.dict_file.specs.declared.fault.DictVersion.TheVariants.{Two}
-use Rattle.dict_file.specs.Spelling.{limit, most_bytes, HasSpelling, spelling, Spells, packed_rows, head_bytes}
+use Rattle.dict_file.specs.Spelling.{limit, most_bytes, HasDictSpelling, dict_spelling, SpellsDict, packed_rows, head_bytes}
 use Rattle.dict_file.specs.Reading as reading
-use Rattle.dict_file.specs.Reading.{row_start, rows_end, row_of, row_part, new_row_part, IsNewRow, number_at, part_two, baselines_at, groups_from, group_at, groups_before, group_part, groups_part, IsGroupCount, IsGroupNumber, group_count_part, AreUsed, entries_two, end_part}
-use Rattle.dict_file.specs.Places.{rows_of}
+use Rattle.dict_file.specs.Reading.{row_start, rows_end, row_of, row_part, new_row_part, IsNewRow, number_at, part_two, baseline_rows_at, groups_from, group_at, groups_before, group_part, groups_part, IsGroupCount, IsGroupNumber, group_count_part, AreUsed, entries_two, end_part}
+use Rattle.dict_file.specs.Places.{first_rows}
 use Rattle.dict_file.proofs.Standing.{IsAt, at_itself, at_first, at_second, at_both, at_whole}
 use Rattle.dict_file.proofs.ManyRows.{length-numbers, numbers_stand, stand_numbers, number_stands, four_stand}
 use Rattle.dict_file.proofs.FieldLemmas.{AreBytes, AreRowsOf, rows_read, rows_written, length-rows_of, get_or-rows_of, HasHead, head_stands, fields_stand, entries_measured, count_small}
@@ -41,7 +41,7 @@ pub record ReadsTwo (bytes : List ℕ) (d : Dict) : Type 0 where
   pub head : HasHead bytes Two d
   pub reaches : 23 ≤ length bytes
   pub count : reading.groups bytes ≡ length d.entries
-  pub baselines : AreRowsOf bytes (baselines_at bytes 23) d.baselines
+  pub baselines : AreRowsOf bytes (baseline_rows_at bytes 23) d.baselines
   pub groups_stand : IsAt bytes (groups_from bytes) (flat_map (big_bytes 4) d.groups)
   pub groups_are : (k : ℕ) → k < d.numbers → group_at bytes k ≡ get_or d.groups k 0
   pub entries : AreRowsOf bytes (entries_two bytes) d.entries
@@ -60,11 +60,11 @@ behind_count d = packed_rows d.baselines ++ behind_baselines d
 abbrev pub behind_head : Dict → List ℕ
 behind_head d = big_bytes 4 (length d.entries) ++ behind_count d
 
-few_entries : {d : Dict} → HasSpelling d → length d.entries ≤ limit
+few_entries : {d : Dict} → HasDictSpelling d → length d.entries ≤ limit
 few_entries {d} has = omega (arith, few_groups has.grouped, has.numbers)
 
-length-spelling_two : (d : Dict) → length (spelling Two d) ≡ 23 + (length (packed_rows d.baselines) + (4 * length d.groups + length (packed_rows d.entries)))
-unfolding spelling
+length-spelling_two : (d : Dict) → length (dict_spelling Two d) ≡ 23 + (length (packed_rows d.baselines) + (4 * length d.groups + length (packed_rows d.entries)))
+unfolding dict_spelling
 length-spelling_two d =
     omega (
       arith,
@@ -75,11 +75,11 @@ length-spelling_two d =
       length-numbers d.groups,
     )
 
-pub reads_two : {bytes : List ℕ} {d : Dict} → Spells Two d bytes → ReadsTwo bytes d
-unfolding spelling
+pub reads_two : {bytes : List ℕ} {d : Dict} → SpellsDict Two d bytes → ReadsTwo bytes d
+unfolding dict_spelling
 reads_two {bytes} {d} spells =
     let has = spells.has in
-    let whole : IsAt bytes 0 (spelling Two d) = subst (IsAt bytes 0) spells.bytes_are (at_itself bytes) in
+    let whole : IsAt bytes 0 (dict_spelling Two d) = subst (IsAt bytes 0) spells.bytes_are (at_itself bytes) in
     let head : HasHead bytes Two d = head_stands bytes Two d has (at_first (head_bytes Two d) (behind_head d) whole) in
     let a : IsAt bytes 19 (behind_head d) = at_second (head_bytes Two d) (behind_head d) whole in
     let number : IsAt bytes 19 (big_bytes 4 (length d.entries)) = at_first (big_bytes 4 (length d.entries)) (behind_count d) a in
@@ -107,7 +107,7 @@ reads_two {bytes} {d} spells =
       ends = omega (arith, ap length spells.bytes_are, length-spelling_two d, entries.ends, baselines.ends, one_each, head.fields.numbers_are);
     }
 
-module _ {bytes : List ℕ} {d : Dict} (has : HasSpelling d) (reads : ReadsTwo bytes d) where
+module _ {bytes : List ℕ} {d : Dict} (has : HasDictSpelling d) (reads : ReadsTwo bytes d) where
   pub before_are : (n : ℕ) → n ≤ d.numbers → take n d.groups ≡ groups_before bytes n
   before_are n h = groups_taken bytes d.groups (λ k l. reads.groups_are k (omega (arith, l, has.grouped.one_each))) n (omega (arith, h, has.grouped.one_each))
 
@@ -117,7 +117,7 @@ module _ {bytes : List ℕ} {d : Dict} (has : HasSpelling d) (reads : ReadsTwo b
       sym (take_all (reading.numbers bytes) d.groups (omega (arith, numbers, has.grouped.one_each))) ∙ before_are (reading.numbers bytes) (omega (arith, numbers))
 
   -- rows without bits are equal
-  one_without_bits : reading.entry_width bytes ≡ 0 → length d.entries ≤ 1
+  one_without_bits : reading.read_entry_width bytes ≡ 0 → length d.entries ≤ 1
   one_without_bits none = elim (cases_lt 1 (length d.entries)) [
     | inr few ↦ few
     | inl more ↦
@@ -172,8 +172,8 @@ module _ {bytes : List ℕ} {d : Dict} (has : HasSpelling d) (reads : ReadsTwo b
 -- ---- what is read is spelled
 
 pub spells_two : {bytes : List ℕ} {d : Dict} → AreBytes bytes → length bytes ≤ most_bytes → IsReadAs bytes Two 23 d → (part_two bytes).Right → d.groups ≡ groups_before bytes (reading.numbers bytes)
-    → d.entries ≡ rows_of bytes (entries_two bytes) (reading.groups bytes) → Spells Two d bytes
-unfolding spelling
+    → d.entries ≡ first_rows bytes (entries_two bytes) (reading.groups bytes) → SpellsDict Two d bytes
+unfolding dict_spelling
 spells_two {bytes} {d} fits short is right groups_are entries_are =
     let has = spelling_of is in
     let count : reading.groups bytes ≡ length d.entries = sym (ap length entries_are ∙ length-rows_of bytes (entries_two bytes) (reading.groups bytes)) in
@@ -197,7 +197,7 @@ spells_two {bytes} {d} fits short is right groups_are entries_are =
     (rows_written bytes (entries_two bytes) fits (omega (arith, groups.inside, place)) (λ k h. (right.1.1.1.0 k h).0)) in
     let entries : AreRowsOf bytes (entries_two bytes) d.entries =
     rows_read bytes (entries_two bytes) d.entries (subst (λ w. AreWide w d.entries) (sym (entries_measured is.fields)) has.shaped.entries) (sym count) rest in
-    let all : IsAt bytes 0 (spelling Two d) =
+    let all : IsAt bytes 0 (dict_spelling Two d) =
     at_both (head_bytes Two d) (behind_head d) head
     (at_both (big_bytes 4 (length d.entries)) (behind_count d) number
     (at_both (packed_rows d.baselines) (behind_baselines d) base
@@ -205,6 +205,6 @@ spells_two {bytes} {d} fits short is right groups_are entries_are =
     (at_both (flat_map (big_bytes 4) d.groups) (behind_groups d) groups (subst (λ n. IsAt bytes n (packed_rows d.entries)) (sym place) rest))))) in
     record {
       has = has;
-      bytes_are = at_whole bytes (spelling Two d) all (omega (arith, length-spelling_two d, right.1.1.1.1, entries.ends, read.ends, one_each, numbers_are));
+      bytes_are = at_whole bytes (dict_spelling Two d) all (omega (arith, length-spelling_two d, right.1.1.1.1, entries.ends, read.ends, one_each, numbers_are));
       short = short;
     }

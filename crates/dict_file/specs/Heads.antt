@@ -16,7 +16,7 @@ abbrev pub IsKindAt : List ℕ → DictKind → Type 0
 IsKindAt bytes kind = kind_number kind ≡ reading.kind bytes
 
 -- The first 19 bytes are right, and these are their fields.
-pub record IsHead (bytes : List ℕ) (head : Head) : Type 0 where
+pub record IsDictHead (bytes : List ℕ) (head : Head) : Type 0 where
   pub right : (head_part bytes).Right
   pub version_is : IsVersionAt bytes head.version
   pub kind_is : IsKindAt bytes head.kind
@@ -26,7 +26,7 @@ pub record IsHead (bytes : List ℕ) (head : Head) : Type 0 where
 
 -- The bytes aren't too many, and begin with this head of this version.
 pub record Begins (bytes : List ℕ) (version : DictVersion) (head : Head) : Type 0 where
-  pub is : IsHead bytes head
+  pub is : IsDictHead bytes head
   pub version_is : head.version ≡ version
   pub short : length bytes ≤ most_bytes
 

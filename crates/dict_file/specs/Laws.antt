@@ -4,7 +4,7 @@ use Rattle.table_dicts.specs.declared.dict.Dict.{Dict}
 use Rattle.dict_file.specs.declared.fault.DictFault.{DictFault}
 use Rattle.dict_file.specs.declared.fault.DictVersion.{DictVersion}
 use Rattle.dict_file.specs.declared.fault.DictVersion.TheVariants.{Two}
-use Rattle.dict_file.specs.Spelling.{spelling, most_bytes, Spells, IsFileOf}
+use Rattle.dict_file.specs.Spelling.{dict_spelling, most_bytes, SpellsDict, IsFileOf}
 use Rattle.dict_file.specs.Reading.{IsRefusedBy}
 
 -- bytes that are refused are no dictionary's file
@@ -17,8 +17,8 @@ OneFault = (bytes : List ℕ) (fault other : DictFault) → IsRefusedBy bytes fa
 
 -- bytes are the file of one dictionary, in one version
 abbrev pub OneDictionary : Type 0
-OneDictionary = (bytes : List ℕ) (version other : DictVersion) (d e : Dict) → Spells version d bytes → Spells other e bytes → (version ≡ other) × (d ≡ e)
+OneDictionary = (bytes : List ℕ) (version other : DictVersion) (d e : Dict) → SpellsDict version d bytes → SpellsDict other e bytes → (version ≡ other) × (d ≡ e)
 
 -- a dictionary that has a file has one in version 2, if that isn't too long
 abbrev pub Respelled : Type 0
-Respelled = (bytes : List ℕ) (d : Dict) → IsFileOf d bytes → length (spelling Two d) ≤ most_bytes → IsFileOf d (spelling Two d)
+Respelled = (bytes : List ℕ) (d : Dict) → IsFileOf d bytes → length (dict_spelling Two d) ≤ most_bytes → IsFileOf d (dict_spelling Two d)

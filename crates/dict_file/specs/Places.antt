@@ -19,11 +19,11 @@ pub record IsPlaced (bytes : List ℕ) (rows : RowsAt) : Type 0 where
   pub few : rows.count < 2 ^ 32
 
 -- the first rows, so many
-abbrev pub rows_of : List ℕ → RowsAt → ℕ → List (List Bool)
-rows_of bytes rows count = map (row_of bytes rows) (range_with_len 0 count)
+abbrev pub first_rows : List ℕ → RowsAt → ℕ → List (List Bool)
+first_rows bytes rows count = map (row_of bytes rows) (range_with_len 0 count)
 
 -- So many rows are right, and the next one isn't, if there is one.
-pub record AreRightTo (bytes : List ℕ) (rows : RowsAt) (right : ℕ) : Type 0 where
+pub record AreRightRows (bytes : List ℕ) (rows : RowsAt) (right : ℕ) : Type 0 where
   pub within : right ≤ rows.count
   pub inside : row_start rows right ≤ length bytes
   pub each_is : (k : ℕ) → k < right → (row_part bytes rows k).Right
@@ -38,7 +38,7 @@ pub record AreWholeTo (len : ℕ) (rows : RowsAt) (whole : ℕ) : Type 0 where
 -- The rows were read: the part of each is right, and this is where they end, within the bytes.
 pub record AreRead (bytes : List ℕ) (part : RowsAt → ℕ → Part) (rows : RowsAt) (read : ReadRows) : Type 0 where
   pub right : (each rows.count (part rows)).Right
-  pub rows_are : read.rows ≡ rows_of bytes rows rows.count
+  pub rows_are : read.rows ≡ first_rows bytes rows rows.count
   pub end_is : read.end ≡ rows_end rows
   pub within : read.end ≤ length bytes
 

@@ -77,20 +77,20 @@ module _ (bytes : List ℕ) where
   -- ---- where the rows are
 
   -- how many baselines there are, and how wide an entry is
-  abbrev pub baseline_count : ℕ
-  baseline_count = if kind == 2 then 0 else patterns
+  abbrev pub read_baseline_count : ℕ
+  read_baseline_count = if kind == 2 then 0 else patterns
 
-  abbrev pub entry_width : ℕ
-  entry_width = if kind == 2 then patterns * positions else patterns
+  abbrev pub read_entry_width : ℕ
+  read_entry_width = if kind == 2 then patterns * positions else patterns
 
-  abbrev pub baselines_at : ℕ → RowsAt
-  baselines_at from = record { from = from; count = baseline_count; width = positions }
+  abbrev pub baseline_rows_at : ℕ → RowsAt
+  baseline_rows_at from = record { from = from; count = read_baseline_count; width = positions }
 
   abbrev pub baselines_part : ℕ → Part
-  baselines_part from = each baseline_count (row_part bytes (baselines_at from))
+  baselines_part from = each read_baseline_count (row_part bytes (baseline_rows_at from))
 
   abbrev pub entries_at : ℕ → ℕ → RowsAt
-  entries_at from count = record { from = from; count = count; width = entry_width }
+  entries_at from count = record { from = from; count = count; width = read_entry_width }
 
   -- no byte follows
   abbrev pub end_part : ℕ → Part
@@ -99,7 +99,7 @@ module _ (bytes : List ℕ) where
   -- ---- version 1
 
   abbrev pub entries_one : RowsAt
-  entries_one = entries_at (rows_end (baselines_at 19)) numbers
+  entries_one = entries_at (rows_end (baseline_rows_at 19)) numbers
 
   abbrev pub part_one : Part
   part_one = baselines_part 19 ⊳ each numbers (row_part bytes entries_one) ⊳ end_part (rows_end entries_one)
@@ -114,13 +114,13 @@ module _ (bytes : List ℕ) where
   pub record IsGroupCount : Type 0 where
     pub some : 0 < groups
     pub few : groups ≤ numbers
-    pub one : entry_width ≡ 0 → groups ≤ 1
+    pub one : read_entry_width ≡ 0 → groups ≤ 1
 
   abbrev pub group_count_part : Part
   group_count_part = reaches bytes 23 ⊳ wants IsGroupCount (Value 19)
 
   abbrev pub groups_from : ℕ
-  groups_from = rows_end (baselines_at 23)
+  groups_from = rows_end (baseline_rows_at 23)
 
   -- the group of a number, and those of the numbers before one
   abbrev pub group_at : ℕ → ℕ
@@ -161,5 +161,5 @@ module _ (bytes : List ℕ) where
     pub refused : file_part.Refused fault
 
 -- A fault tells what is refused, but for want of memory.
-abbrev pub Tells : (DictFault → Type 0) → DictFault → Type 0
-Tells Refused fault = fault ≢ NoMemory → Refused fault
+abbrev pub TellsDictFault : (DictFault → Type 0) → DictFault → Type 0
+TellsDictFault Refused fault = fault ≢ NoMemory → Refused fault

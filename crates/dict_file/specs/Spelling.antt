@@ -28,7 +28,7 @@ abbrev pub most_bytes : ℕ
 most_bytes = 2 ^ 40
 
 -- What has a spelling: a grouped dictionary of the right shape within the limits.
-pub record HasSpelling (d : Dict) : Type 0 where
+pub record HasDictSpelling (d : Dict) : Type 0 where
   pub grouped : IsGroupedDict d
   pub shaped : IsShaped d
   pub positions : d.positions ≤ limit
@@ -54,15 +54,15 @@ abbrev pub body_bytes : DictVersion → Dict → List ℕ
 body_bytes One d = packed_rows d.baselines ++ packed_rows (entry_rows d)
 body_bytes Two d = big_bytes 4 (length d.entries) ++ (packed_rows d.baselines ++ (flat_map (big_bytes 4) d.groups ++ packed_rows d.entries))
 
-unfoldable pub spelling : DictVersion → Dict → List ℕ
-spelling version d = head_bytes version d ++ body_bytes version d
+unfoldable pub dict_spelling : DictVersion → Dict → List ℕ
+dict_spelling version d = head_bytes version d ++ body_bytes version d
 
 -- The bytes are the file of the dictionary in this version.
-pub record Spells (version : DictVersion) (d : Dict) (bytes : List ℕ) : Type 0 where
-  pub has : HasSpelling d
-  pub bytes_are : bytes ≡ spelling version d
+pub record SpellsDict (version : DictVersion) (d : Dict) (bytes : List ℕ) : Type 0 where
+  pub has : HasDictSpelling d
+  pub bytes_are : bytes ≡ dict_spelling version d
   pub short : length bytes ≤ most_bytes
 
 -- The bytes are a file of the dictionary.
 abbrev pub IsFileOf : Dict → List ℕ → Type 0
-IsFileOf d bytes = (version : DictVersion) × Spells version d bytes
+IsFileOf d bytes = (version : DictVersion) × SpellsDict version d bytes

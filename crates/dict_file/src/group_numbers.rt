@@ -7,7 +7,7 @@ ghost use Rattle.dict_file.specs.declared.fault.DictFault.TheVariants as dict_fa
 ghost use Rattle.dict_file.specs.Spelling.{most_bytes};
 ghost use Rattle.dict_file.specs.Parts.{reaches, wants, ◌⊳◌};
 ghost use Rattle.dict_file.specs.Reading as reading;
-ghost use Rattle.dict_file.specs.Reading.{number_at, groups_from, groups_before, groups_part, Tells};
+ghost use Rattle.dict_file.specs.Reading.{number_at, groups_from, groups_before, groups_part, TellsDictFault};
 
 use crate::fault::DictFault;
 use crate::fields::{number, push_number, reach};
@@ -32,7 +32,7 @@ pub(crate) fn read_groups(
     requires some { 0 < numbers }
     ensures read { IfOk result (λ read. read ≡ groups_before bytes.now numbers) }
     ensures right { OnOk result (groups_part bytes.now).Right }
-    ensures refused { IfErr result (Tells (groups_part bytes.now).Refused) }
+    ensures refused { IfErr result (TellsDictFault (groups_part bytes.now).Refused) }
 {
     let mut read = Groups::new(alloc);
     let mut used = 0;

@@ -3,7 +3,7 @@
 ghost use Rattle.std.specs.Prelude.{◌≡◌, ◌++◌, IfOk, IfErr, OnOk};
 ghost use Rattle.dict_file.specs.Spelling.{head_bytes, version_number, kind_number};
 ghost use Rattle.dict_file.specs.Reading.{head_part, magic_part, version_part, kind_part};
-ghost use Rattle.dict_file.specs.Heads.{IsHead, IsVersionAt, IsKindAt, dict_with};
+ghost use Rattle.dict_file.specs.Heads.{IsDictHead, IsVersionAt, IsKindAt, dict_with};
 
 use crate::fault::{DictFault, DictVersion};
 use crate::fields::{push_number, push_short, reach, read_count, short_number};
@@ -40,7 +40,7 @@ impl Head {
 
 /// Reads the first 19 bytes.
 pub(crate) fn read_head(bytes: &[u8]) -> Result<Head, DictFault>
-    ensures head { IfOk result (IsHead bytes.now) }
+    ensures head { IfOk result (IsDictHead bytes.now) }
     ensures refused { IfErr result (head_part bytes.now).Refused }
 {
     read_magic(bytes)?;

@@ -2,12 +2,12 @@
 
 ghost use Rattle.std.specs.Prelude.{◌≡◌, ◌+◌, ◌*◌, ◌<◌, ◌≤◌, ◌^◌, ℕ, List, length, IfOk, IfErr, OnOk};
 ghost use Rattle.dict_file.specs.declared.fault.DictVersion.TheVariants as dict_version;
-ghost use Rattle.dict_file.specs.Heads.{IsHead, Begins};
+ghost use Rattle.dict_file.specs.Heads.{IsDictHead, Begins};
 ghost use Rattle.dict_file.specs.Spelling.{IsFileOf, most_bytes};
 ghost use Rattle.dict_file.specs.Parts.{each};
 ghost use Rattle.dict_file.specs.Places.{AreRead};
 ghost use Rattle.dict_file.specs.Reading as reading;
-ghost use Rattle.dict_file.specs.Reading.{IsRefusedBy, Tells, row_part, new_row_part, rows_end, baselines_part, group_count_part, groups_from, entries_one, entries_two, part_one, part_two, end_part};
+ghost use Rattle.dict_file.specs.Reading.{IsRefusedBy, TellsDictFault, row_part, new_row_part, rows_end, baselines_part, group_count_part, groups_from, entries_one, entries_two, part_one, part_two, end_part};
 
 use crate::fault::{DictFault, DictVersion};
 use crate::fields::{number, reach};
@@ -26,7 +26,7 @@ const MOST_BYTES: u64 = 1 << 40;
 /// More than 2^40 bytes are refused first.
 pub fn decode(alloc: Global, bytes: &[u8]) -> Result<Dict, DictFault>
     ensures read { IfOk result (λ dict. IsFileOf dict bytes.now) }
-    ensures refused { IfErr result (Tells (IsRefusedBy bytes.now)) }
+    ensures refused { IfErr result (TellsDictFault (IsRefusedBy bytes.now)) }
 {
     if bytes.len() as u64 > MOST_BYTES {
         return Err(DictFault::TooLong(MOST_BYTES));
@@ -41,7 +41,7 @@ pub fn decode(alloc: Global, bytes: &[u8]) -> Result<Dict, DictFault>
 fn decode_one(alloc: Global, bytes: &[u8], head: Head) -> Result<Dict, DictFault>
     requires { Begins bytes.now dict_version.One head }
     ensures read { IfOk result (λ dict. IsFileOf dict bytes.now) }
-    ensures refused { IfErr result (Tells (part_one bytes.now).Refused) }
+    ensures refused { IfErr result (TellsDictFault (part_one bytes.now).Refused) }
 {
     let above = baselines(alloc, bytes, head, 19)?;
     let below = entries(alloc, bytes, head, above.end)?;
@@ -53,7 +53,7 @@ fn decode_one(alloc: Global, bytes: &[u8], head: Head) -> Result<Dict, DictFault
 fn decode_two(alloc: Global, bytes: &[u8], head: Head) -> Result<Dict, DictFault>
     requires { Begins bytes.now dict_version.Two head }
     ensures read { IfOk result (λ dict. IsFileOf dict bytes.now) }
-    ensures refused { IfErr result (Tells (part_two bytes.now).Refused) }
+    ensures refused { IfErr result (TellsDictFault (part_two bytes.now).Refused) }
 {
     let count = read_group_count(bytes, head)?;
     let above = baselines(alloc, bytes, head, 23)?;
@@ -67,7 +67,7 @@ fn decode_two(alloc: Global, bytes: &[u8], head: Head) -> Result<Dict, DictFault
 
 // How many groups version 2 says that there are.
 fn read_group_count(bytes: &[u8], head: Head) -> Result<u32, DictFault>
-    requires { IsHead bytes.now head }
+    requires { IsDictHead bytes.now head }
     ensures value { IfOk result (λ count. count ≡ reading.groups bytes.now) }
     ensures right { OnOk result (group_count_part bytes.now).Right }
     ensures refused { IfErr result (group_count_part bytes.now).Refused }
@@ -82,11 +82,11 @@ fn read_group_count(bytes: &[u8], head: Head) -> Result<u32, DictFault>
 
 // The baselines, from a byte on.
 fn baselines(alloc: Global, bytes: &[u8], head: Head, from: usize) -> Result<ReadRows, DictFault>
-    requires head { IsHead bytes.now head }
+    requires head { IsDictHead bytes.now head }
     requires begins { from ≤ length bytes.now }
     requires short { length bytes.now ≤ most_bytes }
-    ensures read { IfOk result (AreRead bytes.now (row_part bytes.now) (reading.baselines_at bytes.now from)) }
-    ensures refused { IfErr result (Tells (baselines_part bytes.now from).Refused) }
+    ensures read { IfOk result (AreRead bytes.now (row_part bytes.now) (reading.baseline_rows_at bytes.now from)) }
+    ensures refused { IfErr result (TellsDictFault (baselines_part bytes.now from).Refused) }
 {
     let rows = baselines_at(head, from);
     read_rows(alloc, bytes, rows)
@@ -94,12 +94,12 @@ fn baselines(alloc: Global, bytes: &[u8], head: Head, from: usize) -> Result<Rea
 
 // The entries of version 1, one for each number.
 fn entries(alloc: Global, bytes: &[u8], head: Head, from: usize) -> Result<ReadRows, DictFault>
-    requires head { IsHead bytes.now head }
-    requires from { from ≡ rows_end (reading.baselines_at bytes.now 19) }
+    requires head { IsDictHead bytes.now head }
+    requires from { from ≡ rows_end (reading.baseline_rows_at bytes.now 19) }
     requires begins { from ≤ length bytes.now }
     requires short { length bytes.now ≤ most_bytes }
     ensures read { IfOk result (AreRead bytes.now (row_part bytes.now) (entries_one bytes.now)) }
-    ensures refused { IfErr result (Tells (each (reading.numbers bytes.now) (row_part bytes.now (entries_one bytes.now))).Refused) }
+    ensures refused { IfErr result (TellsDictFault (each (reading.numbers bytes.now) (row_part bytes.now (entries_one bytes.now))).Refused) }
 {
     let rows = entries_at(head, from, head.numbers);
     read_rows(alloc, bytes, rows)
@@ -113,13 +113,13 @@ fn new_entries(
     from: usize,
     count: u32,
 ) -> Result<ReadRows, DictFault>
-    requires head { IsHead bytes.now head }
+    requires head { IsDictHead bytes.now head }
     requires from { from ≡ groups_from bytes.now + 4 * reading.numbers bytes.now }
     requires count { count ≡ reading.groups bytes.now }
     requires begins { from ≤ length bytes.now }
     requires short { length bytes.now ≤ most_bytes }
     ensures read { IfOk result (AreRead bytes.now (new_row_part bytes.now) (entries_two bytes.now)) }
-    ensures refused { IfErr result (Tells (each (reading.groups bytes.now) (new_row_part bytes.now (entries_two bytes.now))).Refused) }
+    ensures refused { IfErr result (TellsDictFault (each (reading.groups bytes.now) (new_row_part bytes.now (entries_two bytes.now))).Refused) }
 {
     let rows = entries_at(head, from, count);
     read_new_rows(alloc, bytes, rows)
@@ -127,7 +127,7 @@ fn new_entries(
 
 // Where the baselines are.
 fn baselines_at(head: Head, from: usize) -> RowsAt
-    ensures { (bytes : List ℕ) → IsHead bytes head → result ≡ reading.baselines_at bytes from }
+    ensures { (bytes : List ℕ) → IsDictHead bytes head → result ≡ reading.baseline_rows_at bytes from }
 {
     RowsAt {
         from,
@@ -138,7 +138,7 @@ fn baselines_at(head: Head, from: usize) -> RowsAt
 
 // How many baselines there are.
 fn baseline_count(head: Head) -> usize
-    ensures { (bytes : List ℕ) → IsHead bytes head → result ≡ reading.baseline_count bytes }
+    ensures { (bytes : List ℕ) → IsDictHead bytes head → result ≡ reading.read_baseline_count bytes }
 {
     match head.kind {
         DictKind::Full => 0,
@@ -148,7 +148,7 @@ fn baseline_count(head: Head) -> usize
 
 // Where entry rows are, so many.
 fn entries_at(head: Head, from: usize, count: u32) -> RowsAt
-    ensures { (bytes : List ℕ) → IsHead bytes head → result ≡ reading.entries_at bytes from count }
+    ensures { (bytes : List ℕ) → IsDictHead bytes head → result ≡ reading.entries_at bytes from count }
 {
     RowsAt {
         from,
@@ -159,7 +159,7 @@ fn entries_at(head: Head, from: usize, count: u32) -> RowsAt
 
 // How many bits an entry has.
 fn entry_width(head: Head) -> usize
-    ensures { (bytes : List ℕ) → IsHead bytes head → result ≡ reading.entry_width bytes }
+    ensures { (bytes : List ℕ) → IsDictHead bytes head → result ≡ reading.read_entry_width bytes }
 {
     match head.kind {
         DictKind::Full => head.patterns as usize * head.positions as usize,

@@ -7,8 +7,8 @@ ghost use Rattle.table_dicts.specs.Rows.{IsRowSet};
 ghost use Rattle.dict_file.specs.Packing.{byte_count, row_in, packed_row};
 ghost use Rattle.dict_file.specs.Spelling.{packed_rows};
 ghost use Rattle.dict_file.specs.Parts.{each};
-ghost use Rattle.dict_file.specs.Reading.{row_start, row_part, new_row_part, Tells};
-ghost use Rattle.dict_file.specs.Places.{IsPlaced, AreWholeTo, AreRightTo, AreRead, TellsRepeat, rows_of};
+ghost use Rattle.dict_file.specs.Reading.{row_start, row_part, new_row_part, TellsDictFault};
+ghost use Rattle.dict_file.specs.Places.{IsPlaced, AreWholeTo, AreRightRows, AreRead, TellsRepeat, first_rows};
 
 use crate::fault::DictFault;
 use crate::packing::{packed_byte, word_at};
@@ -71,7 +71,7 @@ impl RowsAt {
     // How many rows from the first one on are whole and have a padding of zeros.
     fn right(self, bytes: &[u8]) -> usize
         requires { IsPlaced bytes.now self }
-        ensures { AreRightTo bytes.now self result }
+        ensures { AreRightRows bytes.now self result }
     {
         let whole = self.whole(bytes.len());
         let padding = 8 * self.size() - self.width;
@@ -113,7 +113,7 @@ fn has_low_bit(byte: u8, count: usize) -> bool
 pub(crate) fn read_rows(alloc: Global, bytes: &[u8], rows: RowsAt) -> Result<ReadRows, DictFault>
     requires { IsPlaced bytes.now rows }
     ensures read { IfOk result (AreRead bytes.now (row_part bytes.now) rows) }
-    ensures refused { IfErr result (Tells (each rows.count (row_part bytes.now rows)).Refused) }
+    ensures refused { IfErr result (TellsDictFault (each rows.count (row_part bytes.now rows)).Refused) }
 {
     let right = rows.right(bytes);
     if right < rows.count {
@@ -132,7 +132,7 @@ pub(crate) fn read_new_rows(
 ) -> Result<ReadRows, DictFault>
     requires { IsPlaced bytes.now rows }
     ensures read { IfOk result (AreRead bytes.now (new_row_part bytes.now) rows) }
-    ensures refused { IfErr result (Tells (each rows.count (new_row_part bytes.now rows)).Refused) }
+    ensures refused { IfErr result (TellsDictFault (each rows.count (new_row_part bytes.now rows)).Refused) }
 {
     let right = rows.right(bytes);
     let read = load_rows(alloc, bytes, rows, right)?;
@@ -149,7 +149,7 @@ fn refuse_repeat(alloc: Global, read: &AnswerRows, rows: RowsAt) -> Result<(), D
     requires few { length read.now < 2 ^ 32 }
     requires small { (row : ℕ) → row < length read.now → row_start rows row + byte_count rows.width < 2 ^ 64 }
     ensures different { OnOk result (AreDifferent read.now) }
-    ensures repeat { IfErr result (Tells (TellsRepeat read.now rows)) }
+    ensures repeat { IfErr result (TellsDictFault (TellsRepeat read.now rows)) }
 {
     match first_repeat(alloc, read)? {
         None => Ok(()),
@@ -166,7 +166,7 @@ fn load_rows(
 ) -> Result<AnswerRows, AllocError>
     requires placed { IsPlaced bytes.now rows }
     requires whole { row_start rows count ≤ length bytes.now }
-    ensures { IfOk result (λ loaded. loaded ≡ rows_of bytes.now rows count) }
+    ensures { IfOk result (λ loaded. loaded ≡ first_rows bytes.now rows count) }
 {
     let mut loaded = AnswerRows::zeros(alloc, count, rows.width)?;
     if rows.width == 0 {

@@ -4,7 +4,7 @@ ghost use Rattle.std.specs.Prelude.{◌≡◌, ◌<◌, ◌++◌, length, flat_m
 ghost use Rattle.byteorder.specs.Endian.{big_bytes};
 ghost use Rattle.net_model.specs.Rows.{row_at};
 ghost use Rattle.table_dicts.specs.Dictionary.{IsShaped, IsGroupedDict};
-ghost use Rattle.dict_file.specs.Spelling.{spelling, body_bytes, packed_rows, entry_rows};
+ghost use Rattle.dict_file.specs.Spelling.{dict_spelling, body_bytes, packed_rows, entry_rows};
 
 use crate::fault::DictVersion;
 use crate::fields::push_number;
@@ -19,7 +19,7 @@ use table_dicts::Dict;
 pub fn encode(alloc: Global, dict: &Dict, version: DictVersion) -> Result<Vec<u8>, AllocError>
     requires grouped { IsGroupedDict dict.now }
     requires shaped { IsShaped dict.now }
-    ensures { IfOk result (λ bytes. bytes.items ≡ spelling version dict.now) }
+    ensures { IfOk result (λ bytes. bytes.items ≡ dict_spelling version dict.now) }
 {
     let mut bytes = Vec::new(alloc);
     push_head(&mut bytes, dict, version)?;

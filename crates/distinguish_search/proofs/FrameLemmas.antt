@@ -18,7 +18,7 @@ use Rattle.pair_sets.specs.Tree.{IsRightAt, is_closed, closed_count}
 use Rattle.pair_sets.proofs.CubeLemmas.{few_fixed}
 use Rattle.pair_sets.proofs.TreeLemmas.{split_tree}
 use Rattle.distinguish_search.specs.declared.frames.Frame.{Frame}
-use Rattle.distinguish_search.specs.Frames.{cube_of, AreFrames, IsUnderWay, is_open, open_count, closed_in, open_in, vectors_ahead, SplitsOn, IsWhole, GoesOn}
+use Rattle.distinguish_search.specs.Frames.{tried_cube, AreFrames, IsUnderWay, is_open_leaf, open_leaves, closed_in, open_in, vectors_ahead, SplitsOn, IsWholeTree, GoesOn}
 
 abbrev pub frame_with : ℕ → Bool → Option (List Token) → ℕ → Frame
 frame_with source bit half place = record { source = source; bit = bit; half = half; place = place }
@@ -53,25 +53,25 @@ module _ (items : List Frame) (i : ℕ) (frame : Frame) (h : i < length items) (
   taken : reverse (take (i + 1) items) ≡ frame ∷ reverse (take i items)
   taken = ap reverse (take_more items i frame h) ∙ reverse-append (take i items) (get_or items i frame ∷ []) ∙ ap (λ x. x ∷ reverse (take i items)) (sym is)
 
-  cube_parts : cube_of (reverse items) ≡ cube_of (reverse (drop (i + 1) items)) ++ cube_of (frame ∷ reverse (take i items))
+  cube_parts : tried_cube (reverse items) ≡ tried_cube (reverse (drop (i + 1) items)) ++ tried_cube (frame ∷ reverse (take i items))
   cube_parts =
-      ap (λ xs. cube_of (reverse xs)) (sym (take-append-drop (i + 1) items)) ∙ ap cube_of (reverse-append (take (i + 1) items) (drop (i + 1) items))
+      ap (λ xs. tried_cube (reverse xs)) (sym (take-append-drop (i + 1) items)) ∙ ap tried_cube (reverse-append (take (i + 1) items) (drop (i + 1) items))
       ∙ map-append (λ (frame : Frame). (frame.source, frame.bit)) (reverse (drop (i + 1) items)) (reverse (take (i + 1) items))
-      ∙ ap (λ xs. cube_of (reverse (drop (i + 1) items)) ++ cube_of xs) taken
+      ∙ ap (λ xs. tried_cube (reverse (drop (i + 1) items)) ++ tried_cube xs) taken
 
-  once_here : (sources : ℕ) → FixesOnce sources (cube_of (reverse items)) → FixesOnce sources (cube_of (frame ∷ reverse (take i items)))
-  once_here sources once = once_after sources (cube_of (reverse (drop (i + 1) items))) (cube_of (frame ∷ reverse (take i items))) (subst (FixesOnce sources) cube_parts once)
+  once_here : (sources : ℕ) → FixesOnce sources (tried_cube (reverse items)) → FixesOnce sources (tried_cube (frame ∷ reverse (take i items)))
+  once_here sources once = once_after sources (tried_cube (reverse (drop (i + 1) items))) (tried_cube (frame ∷ reverse (take i items))) (subst (FixesOnce sources) cube_parts once)
 
-  pub source_within : (sources : ℕ) → FixesOnce sources (cube_of (reverse items)) → frame.source < sources
+  pub source_within : (sources : ℕ) → FixesOnce sources (tried_cube (reverse items)) → frame.source < sources
   source_within sources once = (once_here sources once).0
 
-  pub bits_more : (sources : ℕ) (bits : List (Option Bool)) → FixesOnce sources (cube_of (reverse items)) → length bits ≡ sources → ((source : ℕ) → get_or bits source None ≡ fixed_bit (cube_of (reverse (take i items))) source)
-      → (source : ℕ) → get_or (slice_set bits frame.source (Some frame.bit)) source None ≡ fixed_bit (cube_of (reverse (take (i + 1) items))) source
+  pub bits_more : (sources : ℕ) (bits : List (Option Bool)) → FixesOnce sources (tried_cube (reverse items)) → length bits ≡ sources → ((source : ℕ) → get_or bits source None ≡ fixed_bit (tried_cube (reverse (take i items))) source)
+      → (source : ℕ) → get_or (slice_set bits frame.source (Some frame.bit)) source None ≡ fixed_bit (tried_cube (reverse (take (i + 1) items))) source
   bits_more sources bits once width are source =
-      let before = cube_of (reverse (take i items)) in
+      let before = tried_cube (reverse (take i items)) in
       let set = slice_set bits frame.source (Some frame.bit) in
       let within : frame.source < length bits = omega (arith, source_within sources once, width) in
-      subst (λ xs. get_or set source None ≡ fixed_bit (cube_of xs) source) (sym taken) (elim (cases_eq source frame.source) [
+      subst (λ xs. get_or set source None ≡ fixed_bit (tried_cube xs) source) (sym taken) (elim (cases_eq source frame.source) [
         | inl same ↦ subst (λ k. get_or set k None ≡ fixed_bit ((frame.source, frame.bit) ∷ before) k) (sym same) (get_or-set_same bits frame.source (Some frame.bit) None within ∙ sym (fixed_here before frame.source frame.bit))
         | inr ne ↦ get_or-set_other bits frame.source source (Some frame.bit) None ne ∙ are source ∙ sym (fixed_beside before frame.source frame.bit source (λ e. ne (sym e)))
       ])
@@ -81,20 +81,20 @@ module _ (items : List Frame) (i : ℕ) (frame : Frame) (h : i < length items) (
 pub closed_joined : (source : ℕ) (zeros ones : List Token) → closed_count (Split source ∷ zeros ++ ones) ≡ closed_count zeros + closed_count ones
 closed_joined source zeros ones = omega (arith, sum_by-cons (λ token. cond (is_closed token) 1 0) (Split source) (zeros ++ ones), sum_by-append (λ token. cond (is_closed token) 1 0) zeros ones)
 
-pub open_joined : (source : ℕ) (zeros ones : List Token) → open_count (Split source ∷ zeros ++ ones) ≡ open_count zeros + open_count ones
-open_joined source zeros ones = omega (arith, sum_by-cons (λ token. cond (is_open token) 1 0) (Split source) (zeros ++ ones), sum_by-append (λ token. cond (is_open token) 1 0) zeros ones)
+pub open_joined : (source : ℕ) (zeros ones : List Token) → open_leaves (Split source ∷ zeros ++ ones) ≡ open_leaves zeros + open_leaves ones
+open_joined source zeros ones = omega (arith, sum_by-cons (λ token. cond (is_open_leaf token) 1 0) (Split source) (zeros ++ ones), sum_by-append (λ token. cond (is_open_leaf token) 1 0) zeros ones)
 
 pub closed_in_more : (frame : Frame) (frames : List Frame) → closed_in (frame ∷ frames) ≡ closed_count (unwrap_or frame.half []) + closed_in frames
 closed_in_more frame frames = sum_by-cons (λ (frame : Frame). closed_count (unwrap_or frame.half [])) frame frames
 
-pub open_in_more : (frame : Frame) (frames : List Frame) → open_in (frame ∷ frames) ≡ open_count (unwrap_or frame.half []) + open_in frames
-open_in_more frame frames = sum_by-cons (λ (frame : Frame). open_count (unwrap_or frame.half [])) frame frames
+pub open_in_more : (frame : Frame) (frames : List Frame) → open_in (frame ∷ frames) ≡ open_leaves (unwrap_or frame.half []) + open_in frames
+open_in_more frame frames = sum_by-cons (λ (frame : Frame). open_leaves (unwrap_or frame.half [])) frame frames
 
 closed_either : (bit : Bool) (source : ℕ) (half tree : List Token) → closed_count (if bit then Split source ∷ half ++ tree else Split source ∷ tree ++ half) ≡ closed_count half + closed_count tree
 closed_either true source half tree = closed_joined source half tree
 closed_either false source half tree = omega (arith, closed_joined source tree half)
 
-open_either : (bit : Bool) (source : ℕ) (half tree : List Token) → open_count (if bit then Split source ∷ half ++ tree else Split source ∷ tree ++ half) ≡ open_count half + open_count tree
+open_either : (bit : Bool) (source : ℕ) (half tree : List Token) → open_leaves (if bit then Split source ∷ half ++ tree else Split source ∷ tree ++ half) ≡ open_leaves half + open_leaves tree
 open_either true source half tree = open_joined source half tree
 open_either false source half tree = omega (arith, open_joined source tree half)
 
@@ -105,17 +105,17 @@ splits_twice sources a b d p q = record { closed = q.closed ∙ p.closed; left_o
 
 module _ (c : Circuit) (f g : Fault) where
   -- a split that is right for the simulation is so for the splits under way
-  pub right_here : (sim : PairSim) (frames : List Frame) (source : ℕ) → IsUnderWay c f g sim frames → IsRightAt sim.circuit sim.f sim.g (Split source) sim.cube → IsRightAt c f g (Split source) (cube_of frames)
+  pub right_here : (sim : PairSim) (frames : List Frame) (source : ℕ) → IsUnderWay c f g sim frames → IsRightAt sim.circuit sim.f sim.g (Split source) sim.cube → IsRightAt c f g (Split source) (tried_cube frames)
   right_here sim frames source under_way right = subst (λ (s : PairSim). IsRightAt s.circuit s.f s.g (Split source) s.cube) under_way.stands right
 
-  pub once_of : (frames : List Frame) → AreFrames c f g frames → FixesOnce c.sources (cube_of frames)
+  pub once_of : (frames : List Frame) → AreFrames c f g frames → FixesOnce c.sources (tried_cube frames)
   once_of [] are = tt
   once_of (frame ∷ frames) are = (are.0.0, are.0.2, once_of frames are.2)
 
-  module _ (frames : List Frame) (source : ℕ) (bit : Bool) (place : ℕ) (right : IsRightAt c f g (Split source) (cube_of frames)) (are : AreFrames c f g frames) where
+  module _ (frames : List Frame) (source : ℕ) (bit : Bool) (place : ℕ) (right : IsRightAt c f g (Split source) (tried_cube frames)) (are : AreFrames c f g frames) where
     -- a source is free, so not all are fixed
     pub few_frames : length frames < c.sources
-    few_frames = omega (arith, few_fixed c.sources (cube_of frames) source (once_of frames are) right.0 right.2, length-map {B = ℕ × Bool} frames (λ (frame : Frame). (frame.source, frame.bit)))
+    few_frames = omega (arith, few_fixed c.sources (tried_cube frames) source (once_of frames are) right.0 right.2, length-map {B = ℕ × Bool} frames (λ (frame : Frame). (frame.source, frame.bit)))
 
     pub split_more : (sim new : PairSim) → IsUnderWay c f g sim frames → new ≡ with_cube sim ((source, bit) ∷ sim.cube) → IsUnderWay c f g new (frame_with source bit None place ∷ frames)
     split_more sim new under_way e = record { stands = e ∙ ap (λ (s : PairSim). with_cube s ((source, bit) ∷ s.cube)) under_way.stands; right = (right, tt, are) }
@@ -132,30 +132,30 @@ module _ (c : Circuit) (f g : Fault) where
 
   -- ---- halves
 
-  module _ (frames : List Frame) (source : ℕ) (bit : Bool) (place : ℕ) (tree : List Token) (right : IsRightAt c f g (Split source) (cube_of frames)) (here : IsSubtree c f g ((source, bit) ∷ cube_of frames) tree) (are : AreFrames c f g frames) where
+  module _ (frames : List Frame) (source : ℕ) (bit : Bool) (place : ℕ) (tree : List Token) (right : IsRightAt c f g (Split source) (tried_cube frames)) (here : IsSubtree c f g ((source, bit) ∷ tried_cube frames) tree) (are : AreFrames c f g frames) where
     -- the first half of a split is finished, and the second one begins
-    pub half_more : (sim new : PairSim) → sim ≡ pair_sim c f g (cube_of frames) → new ≡ with_cube sim ((source, not bit) ∷ sim.cube) → IsUnderWay c f g new (frame_with source (not bit) (Some tree) place ∷ frames)
+    pub half_more : (sim new : PairSim) → sim ≡ pair_sim c f g (tried_cube frames) → new ≡ with_cube sim ((source, not bit) ∷ sim.cube) → IsUnderWay c f g new (frame_with source (not bit) (Some tree) place ∷ frames)
     half_more sim new stands e = record {
       stands = e ∙ ap (λ (s : PairSim). with_cube s ((source, not bit) ∷ s.cube)) stands;
-      right = (right, subst (λ b. IsSubtree c f g ((source, b) ∷ cube_of frames) tree) (sym (not-not bit)) here, are);
+      right = (right, subst (λ b. IsSubtree c f g ((source, b) ∷ tried_cube frames) tree) (sym (not-not bit)) here, are);
     }
 
     -- both halves are finished
-    pub split_whole : (other : List Token) → IsSubtree c f g ((source, not bit) ∷ cube_of frames) other → IsSubtree c f g (cube_of frames) (if bit then Split source ∷ other ++ tree else Split source ∷ tree ++ other)
+    pub split_whole : (other : List Token) → IsSubtree c f g ((source, not bit) ∷ tried_cube frames) other → IsSubtree c f g (tried_cube frames) (if bit then Split source ∷ other ++ tree else Split source ∷ tree ++ other)
     split_whole other half = by bit here half
       where
-        by : (bit : Bool) → IsSubtree c f g ((source, bit) ∷ cube_of frames) tree → IsSubtree c f g ((source, not bit) ∷ cube_of frames) other → IsSubtree c f g (cube_of frames) (if bit then Split source ∷ other ++ tree else Split source ∷ tree ++ other)
-        by true here half = split_tree c f g (cube_of frames) source other tree right half here
-        by false here half = split_tree c f g (cube_of frames) source tree other right here half
+        by : (bit : Bool) → IsSubtree c f g ((source, bit) ∷ tried_cube frames) tree → IsSubtree c f g ((source, not bit) ∷ tried_cube frames) other → IsSubtree c f g (tried_cube frames) (if bit then Split source ∷ other ++ tree else Split source ∷ tree ++ other)
+        by true here half = split_tree c f g (tried_cube frames) source other tree right half here
+        by false here half = split_tree c f g (tried_cube frames) source tree other right here half
 
 -- ---- the way up from a tree
 
 -- The tree stands for the tree and the splits that there were at first.
 pub record ClimbsFrom (c : Circuit) (f g : Fault) (first : List Token) (start : List Frame) (sim : PairSim) (frames : List Frame) (tree : List Token) : Type 0 where
   pub under_way : IsUnderWay c f g sim frames
-  pub right : IsSubtree c f g (cube_of frames) tree
+  pub right : IsSubtree c f g (tried_cube frames) tree
   pub closed : closed_count tree + closed_in frames ≡ closed_count first + closed_in start
-  pub left_open : open_count tree + open_in frames ≡ open_count first + open_in start
+  pub left_open : open_leaves tree + open_in frames ≡ open_leaves first + open_in start
   pub ahead : vectors_ahead c.sources frames ≡ vectors_ahead c.sources start
 
 module _ (c : Circuit) (f g : Fault) (first : List Token) (start : List Frame) (sim : PairSim) (tree : List Token) where
@@ -168,11 +168,11 @@ module _ (c : Circuit) (f g : Fault) (first : List Token) (start : List Frame) (
     ahead = refl;
   }
 
-  pub climb_ends : ClimbsFrom c f g first start sim [] tree → IsWhole c f g first start tree
+  pub climb_ends : ClimbsFrom c f g first start sim [] tree → IsWholeTree c f g first start tree
   climb_ends climbs = record { right = climbs.right; closed = omega (arith, climbs.closed); left_open = omega (arith, climbs.left_open) }
 
   module _ (frames : List Frame) (source : ℕ) (bit : Bool) (place : ℕ) (new : PairSim) (undone : PairSim) (back : undone ≡ with_cube sim (drop 1 sim.cube)) where
-    stands_back : (half : Option (List Token)) → sim ≡ pair_sim c f g (cube_of (frame_with source bit half place ∷ frames)) → undone ≡ pair_sim c f g (cube_of frames)
+    stands_back : (half : Option (List Token)) → sim ≡ pair_sim c f g (tried_cube (frame_with source bit half place ∷ frames)) → undone ≡ pair_sim c f g (tried_cube frames)
     stands_back half stands = back ∙ ap (λ (s : PairSim). with_cube s (drop 1 s.cube)) stands
 
     pub climb_turns : ClimbsFrom c f g first start sim (frame_with source bit None place ∷ frames) tree → new ≡ with_cube undone ((source, not bit) ∷ undone.cube) → GoesOn c f g first start new (frame_with source (not bit) (Some tree) place ∷ frames)
@@ -188,8 +188,8 @@ module _ (c : Circuit) (f g : Fault) (first : List Token) (start : List Frame) (
     climb_more half joined climbs e =
         let right = climbs.under_way.right in record {
           under_way = record { stands = stands_back (Some half) climbs.under_way.stands; right = right.2 };
-          right = subst (IsSubtree c f g (cube_of frames)) (sym e) (split_whole c f g frames source bit place tree right.0 climbs.right right.2 half right.1);
+          right = subst (IsSubtree c f g (tried_cube frames)) (sym e) (split_whole c f g frames source bit place tree right.0 climbs.right right.2 half right.1);
           closed = omega (arith, ap closed_count e, closed_either bit source half tree, climbs.closed, closed_in_more (frame_with source bit (Some half) place) frames);
-          left_open = omega (arith, ap open_count e, open_either bit source half tree, climbs.left_open, open_in_more (frame_with source bit (Some half) place) frames);
+          left_open = omega (arith, ap open_leaves e, open_either bit source half tree, climbs.left_open, open_in_more (frame_with source bit (Some half) place) frames);
           ahead = omega (arith, climbs.ahead);
         }

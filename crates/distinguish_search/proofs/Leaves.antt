@@ -20,7 +20,7 @@ use Rattle.distinguish_search.specs.declared.frames.Frame.{Frame}
 use Rattle.distinguish_search.specs.declared.found.Found.TheVariants.{Covered, Spent}
 use Rattle.distinguish_search.specs.End.{leaf_token}
 use Rattle.distinguish_search.specs.Found.{IsFound}
-use Rattle.distinguish_search.specs.Frames.{IsUnderWay, is_open, open_count, closed_in, open_in, SplitsOn, GoesOn, IsWhole}
+use Rattle.distinguish_search.specs.Frames.{IsUnderWay, is_open_leaf, open_leaves, closed_in, open_in, SplitsOn, GoesOn, IsWholeTree}
 
 -- The search is under way with so many closed leaves, and no leaf is open as long as one more may be closed.
 pub record IsInBudget (c : Circuit) (f g : Fault) (leaves closed : ℕ) (sim : PairSim) (frames : List Frame) : Type 0 where
@@ -39,28 +39,28 @@ closed_of_leaf : (full : Bool) → closed_count (leaf_token full ∷ []) ≡ (if
 closed_of_leaf true = refl
 closed_of_leaf false = refl
 
-open_of_leaf : (full : Bool) → open_count (leaf_token full ∷ []) ≡ (if full then 1 else 0)
+open_of_leaf : (full : Bool) → open_leaves (leaf_token full ∷ []) ≡ (if full then 1 else 0)
 open_of_leaf true = refl
 open_of_leaf false = refl
 
 -- ---- open leaves
 
-is_rest : (token : Token) → is_open token ≡ true → token ≡ Rest
+is_rest : (token : Token) → is_open_leaf token ≡ true → token ≡ Rest
 is_rest Rest e = refl
 is_rest (Split source) e = cc
 is_rest Closed e = cc
 
-some_open : (tokens : List Token) → list_any is_open tokens ≡ true → Contains tokens Rest
-some_open tokens e = let found = passing is_open tokens e in subst (Contains tokens) (is_rest found.0 found.2) found.1
+some_open : (tokens : List Token) → list_any is_open_leaf tokens ≡ true → Contains tokens Rest
+some_open tokens e = let found = passing is_open_leaf tokens e in subst (Contains tokens) (is_rest found.0 found.2) found.1
 
-none_open : (tokens : List Token) → list_any is_open tokens ≡ false → Contains tokens Rest → ⊥
-none_open tokens e m = let t : list_any is_open tokens ≡ true = any_from is_open tokens Rest m refl in false≢true (sym e ∙ t)
+none_open : (tokens : List Token) → list_any is_open_leaf tokens ≡ false → Contains tokens Rest → ⊥
+none_open tokens e m = let t : list_any is_open_leaf tokens ≡ true = any_from is_open_leaf tokens Rest m refl in false≢true (sym e ∙ t)
 
-open_counted : (tokens : List Token) → list_any is_open tokens ≡ true → 0 < open_count tokens
+open_counted : (tokens : List Token) → list_any is_open_leaf tokens ≡ true → 0 < open_leaves tokens
 open_counted [] e = cc
-open_counted (Split source ∷ tokens) e = omega (arith, open_counted tokens e, sum_by-cons (λ token. cond (is_open token) 1 0) (Split source) tokens)
-open_counted (Closed ∷ tokens) e = omega (arith, open_counted tokens e, sum_by-cons (λ token. cond (is_open token) 1 0) Closed tokens)
-open_counted (Rest ∷ tokens) e = omega (arith, sum_by-cons (λ token. cond (is_open token) 1 0) Rest tokens)
+open_counted (Split source ∷ tokens) e = omega (arith, open_counted tokens e, sum_by-cons (λ token. cond (is_open_leaf token) 1 0) (Split source) tokens)
+open_counted (Closed ∷ tokens) e = omega (arith, open_counted tokens e, sum_by-cons (λ token. cond (is_open_leaf token) 1 0) Closed tokens)
+open_counted (Rest ∷ tokens) e = omega (arith, sum_by-cons (λ token. cond (is_open_leaf token) 1 0) Rest tokens)
 
 -- ---- one leaf more
 
@@ -72,7 +72,7 @@ record IsCounted (leaves now closed_total open_total : ℕ) : Type 0 where
 
 module _ (c : Circuit) (f g : Fault) (leaves closed now : ℕ) (sim : PairSim) (start frames : List Frame) (budget : IsInBudget c f g leaves closed sim start) (on : SplitsOn c.sources start frames) where
   count_from : (full : Bool) (closed_total open_total : ℕ) → (closed == leaves) ≡ full → now ≡ (if full then closed else closed + 1)
-      → closed_total ≡ closed_count (leaf_token full ∷ []) + closed_in frames → open_total ≡ open_count (leaf_token full ∷ []) + open_in frames → IsCounted leaves now closed_total open_total
+      → closed_total ≡ closed_count (leaf_token full ∷ []) + closed_in frames → open_total ≡ open_leaves (leaf_token full ∷ []) + open_in frames → IsCounted leaves now closed_total open_total
   count_from true closed_total open_total t e d o =
       let same : closed ≡ leaves = eqb-true closed leaves t in record {
         counted = omega (arith, d, closed_of_leaf true, on.closed, budget.counted, e);
@@ -88,13 +88,13 @@ module _ (c : Circuit) (f g : Fault) (leaves closed now : ℕ) (sim : PairSim) (
 
   module _ (full : Bool) (is : (closed == leaves) ≡ full) (more : now ≡ (if full then closed else closed + 1)) where
     -- a whole tree is what is found
-    pub whole_found : (tree : List Token) → IsWhole c f g (leaf_token full ∷ []) frames tree → IsFound c f g leaves (if list_any is_open tree then Spent tree else Covered tree)
-    whole_found tree whole = by (list_any is_open tree) refl
+    pub whole_found : (tree : List Token) → IsWholeTree c f g (leaf_token full ∷ []) frames tree → IsFound c f g leaves (if list_any is_open_leaf tree then Spent tree else Covered tree)
+    whole_found tree whole = by (list_any is_open_leaf tree) refl
       where
-        counts : IsCounted leaves now (closed_count tree) (open_count tree)
-        counts = count_from full (closed_count tree) (open_count tree) is more whole.closed whole.left_open
+        counts : IsCounted leaves now (closed_count tree) (open_leaves tree)
+        counts = count_from full (closed_count tree) (open_leaves tree) is more whole.closed whole.left_open
 
-        by : (b : Bool) → list_any is_open tree ≡ b → IsFound c f g leaves (if b then Spent tree else Covered tree)
+        by : (b : Bool) → list_any is_open_leaf tree ≡ b → IsFound c f g leaves (if b then Spent tree else Covered tree)
         by true e = record { tree = subtree_is_tree c f g tree whole.right; open_leaf = some_open tree e; full = counts.counted ∙ counts.spent (open_counted tree e) }
         by false e = record { tree = subtree_is_tree c f g tree whole.right; covered = none_open tree e; few = omega (arith, counts.counted, counts.few) }
 

@@ -12,9 +12,9 @@ use Rattle.pair_sets.proofs.StateLemmas.{apart_differs}
 use Rattle.distinguish_search.specs.declared.end.End.TheVariants.{Leaf, Apart}
 use Rattle.distinguish_search.specs.declared.frames.Frame.{Frame}
 use Rattle.distinguish_search.specs.declared.found.Found.TheVariants.{Covered, Spent}
-use Rattle.distinguish_search.specs.End.{IsEnd, leaf_token}
+use Rattle.distinguish_search.specs.End.{IsSearchEnd, leaf_token}
 use Rattle.distinguish_search.specs.Found.{SeparatesAll, IsFound}
-use Rattle.distinguish_search.specs.Frames.{cube_of, is_open, IsUnderWay, SplitsOn, IsClimbed}
+use Rattle.distinguish_search.specs.Frames.{tried_cube, is_open_leaf, IsUnderWay, SplitsOn, IsClimbed}
 use Rattle.distinguish_search.proofs.FrameLemmas.{once_of, has_fixed}
 use Rattle.distinguish_search.proofs.Leaves.{IsInBudget, leaf_right, whole_found, still_in_budget}
 
@@ -32,31 +32,31 @@ more_else closed leaves now same e = let t : (closed == leaves) ≡ true = eq-eq
 module _ (c : Circuit) (f g : Fault) (leaves closed : ℕ) (sim : PairSim) (start : List Frame) (budget : IsInBudget c f g leaves closed sim start)
     (new : PairSim) (stack : List Frame) (way : IsUnderWay sim.circuit sim.f sim.g new stack) where
   -- the simulation's circuit and faults are those of the search, before the descent and behind it
-  was : sim ≡ pair_sim c f g (cube_of start)
+  was : sim ≡ pair_sim c f g (tried_cube start)
   was = budget.under_way.stands
 
   here : IsUnderWay c f g new stack
   here = subst (λ (s : PairSim). IsUnderWay s.circuit s.f s.g new stack) was way
 
-  is : new ≡ pair_sim c f g (cube_of stack)
+  is : new ≡ pair_sim c f g (tried_cube stack)
   is = here.stands
 
-  pub once_here : FixesOnce c.sources (cube_of stack)
+  pub once_here : FixesOnce c.sources (tried_cube stack)
   once_here = once_of c f g stack here.right
 
-  pub cube_found : (full : Bool) (cube : List (Option Bool)) → IsCircuit c → IsEnd sim.circuit sim.f sim.g new.cube full Apart → length cube ≡ c.sources → ((source : ℕ) → get_or cube source None ≡ fixed_bit (cube_of stack) source) → SeparatesAll c f g cube
+  pub cube_found : (full : Bool) (cube : List (Option Bool)) → IsCircuit c → IsSearchEnd sim.circuit sim.f sim.g new.cube full Apart → length cube ≡ c.sources → ((source : ℕ) → get_or cube source None ≡ fixed_bit (tried_cube stack) source) → SeparatesAll c f g cube
   cube_found full cube w end width bits =
-      let apart : IsEnd c f g new.cube full Apart = subst (λ (s : PairSim). IsEnd s.circuit s.f s.g new.cube full Apart) was end in record {
+      let apart : IsSearchEnd c f g new.cube full Apart = subst (λ (s : PairSim). IsSearchEnd s.circuit s.f s.g new.cube full Apart) was end in record {
         width = width;
         each = λ v wide has.
-            let inside : InCube (cube_of stack) v = has_fixed c.sources (cube_of stack) v once_here (λ source bit e. has source bit (bits source ∙ e)) in
+            let inside : InCube (tried_cube stack) v = has_fixed c.sources (tried_cube stack) v once_here (λ source bit e. has source bit (bits source ∙ e)) in
             (apart_differs c f g new.cube v apart.0 w wide apart.1 (subst (λ (s : PairSim). InCube s.cube v) (sym is) inside)).separates;
       }
 
-  pub leaf_here : (full : Bool) (tree : List Token) → IsEnd sim.circuit sim.f sim.g new.cube full Leaf → tree ≡ leaf_token full ∷ [] → IsSubtree new.circuit new.f new.g new.cube tree
+  pub leaf_here : (full : Bool) (tree : List Token) → IsSearchEnd sim.circuit sim.f sim.g new.cube full Leaf → tree ≡ leaf_token full ∷ [] → IsSubtree new.circuit new.f new.g new.cube tree
   leaf_here full tree end leaf =
       subst (λ (s : PairSim). IsSubtree s.circuit s.f s.g new.cube tree) (sym is)
-      (subst (IsSubtree c f g new.cube) (sym leaf) (leaf_right c f g new.cube full (subst (λ (s : PairSim). IsEnd s.circuit s.f s.g new.cube full Leaf) was end)))
+      (subst (IsSubtree c f g new.cube) (sym leaf) (leaf_right c f g new.cube full (subst (λ (s : PairSim). IsSearchEnd s.circuit s.f s.g new.cube full Leaf) was end)))
 
   module _ (splits : SplitsOn sim.circuit.sources start stack) (now : ℕ) (more : now ≡ (if closed == leaves then closed else closed + 1)) (tree : List Token) (leaf : tree ≡ leaf_token (closed == leaves) ∷ [])
       (later : PairSim) (left : List Frame) where
@@ -66,7 +66,7 @@ module _ (c : Circuit) (f g : Fault) (leaves closed : ℕ) (sim : PairSim) (star
     climbed : (whole : Option (List Token)) → IsClimbed new.circuit new.f new.g tree stack later left whole → IsClimbed c f g (leaf_token (closed == leaves) ∷ []) stack later left whole
     climbed whole h = subst (λ xs. IsClimbed c f g xs stack later left whole) leaf (subst (λ (s : PairSim). IsClimbed s.circuit s.f s.g tree stack later left whole) is h)
 
-    pub tree_found : (whole : List Token) → IsClimbed new.circuit new.f new.g tree stack later left (Some whole) → IsFound c f g leaves (if list_any is_open whole then Spent whole else Covered whole)
+    pub tree_found : (whole : List Token) → IsClimbed new.circuit new.f new.g tree stack later left (Some whole) → IsFound c f g leaves (if list_any is_open_leaf whole then Spent whole else Covered whole)
     tree_found whole h = whole_found c f g leaves closed now sim start stack budget on (closed == leaves) refl more whole (climbed (Some whole) h)
 
     pub goes_on : IsClimbed new.circuit new.f new.g tree stack later left None → IsInBudget c f g leaves now later left

@@ -21,7 +21,7 @@ use Rattle.pair_sets.specs.CubeState.{set_at, seen_pairs, source_pairs, line_pai
 use Rattle.pair_sets.proofs.SeenLemmas.{pin_set, length-seen, seen_at, source_line_pairs, gate_is_at}
 use Rattle.pair_sets.proofs.StateLemmas.{undecided_mixed}
 use Rattle.pair_sets.proofs.ReadLemmas.{part_is}
-use Rattle.distinguish_search.specs.Open.{IsOpen, IsDecided, AreDecided, IsOpenAt}
+use Rattle.distinguish_search.specs.Open.{IsLineOpen, IsPositionDecided, AreDecided, IsPositionOpen}
 use Rattle.pair_sets.proofs.SingleLemmas.{AllSingle, not_several, no_single, several_before, single_fixed, single_each, single_value, mixed_several}
 
 module _ (c : Circuit) (f g : Fault) (cube : Cube) where
@@ -32,7 +32,7 @@ module _ (c : Circuit) (f g : Fault) (cube : Cube) where
   free_source (Some bit) e = absurd (no_single (fixed_pairs bit) e (single_fixed bit))
 
   -- an open source is free
-  pub open_is_free : (line : ℕ) → IsOpen c f g cube line → line < c.sources → fixed_bit cube line ≡ None
+  pub open_is_free : (line : ℕ) → IsLineOpen c f g cube line → line < c.sources → fixed_bit cube line ≡ None
   open_is_free line here inside =
       let is : set_at here.sets line ≡ _ = here.are.each line here.inside ∙ source_line_pairs c f g cube here.sets line inside in
       free_source (fixed_bit cube line) (several_before (stuck_stem f line) (stuck_stem g line) (source_pairs cube line) (subst (λ s. has_several s ≡ true) is here.several))
@@ -41,7 +41,7 @@ module _ (c : Circuit) (f g : Fault) (cube : Cube) where
 
   -- a reached position that isn't decided shows an open line
   pub mixed_is_open : (sets : List PairSet) (place : ℕ) → IsCircuit c → ArePairSets c f g cube sets → place < length (reached_positions c f g)
-      → (only_equal (position_pairs c f g sets (get_or (reached_positions c f g) place 0)) || only_unequal (position_pairs c f g sets (get_or (reached_positions c f g) place 0))) ≡ false → IsOpenAt c f g cube place
+      → (only_equal (position_pairs c f g sets (get_or (reached_positions c f g) place 0)) || only_unequal (position_pairs c f g sets (get_or (reached_positions c f g) place 0))) ≡ false → IsPositionOpen c f g cube place
   unfolding position_pairs
   mixed_is_open sets place w are h e =
       let at = get_or (reached_positions c f g) place 0 in
@@ -76,12 +76,12 @@ module _ (c : Circuit) (f g : Fault) (cube : Cube) where
       let found = undecided_mixed c f g sets state.is in
       let place = found.1.0 in
       let here : get_or reached place 0 ≡ found.0 = get_or_default reached place 0 found.0 found.1.1 ∙ found.1.2 in
-      let decided : IsDecided c f g cube (get_or reached place 0) = elim (cases_lt place middle) [ inl under ↦ early place (omega arith) under | inr over ↦ late place over found.1.1 ] in
+      let decided : IsPositionDecided c f g cube (get_or reached place 0) = elim (cases_lt place middle) [ inl under ↦ early place (omega arith) under | inr over ↦ late place over found.1.1 ] in
       false≢true (sym found.2 ∙ subst (λ at. (only_equal (position_pairs c f g sets at) || only_unequal (position_pairs c f g sets at)) ≡ true) here (decided sets state.are))
 
   -- ---- its steps
 
-  pub pin_is_open : (line pin read : ℕ) (sets : List PairSet) → IsCircuit c → IsOpen c f g cube line → ArePairSets c f g cube sets → Contains (pins_of c line) read → has_several (pin_set f g sets line pin read) ≡ true → IsOpen c f g cube read
+  pub pin_is_open : (line pin read : ℕ) (sets : List PairSet) → IsCircuit c → IsLineOpen c f g cube line → ArePairSets c f g cube sets → Contains (pins_of c line) read → has_several (pin_set f g sets line pin read) ≡ true → IsLineOpen c f g cube read
   pin_is_open line pin read sets w here are m e = record {
     inside = pins_inside c w line read m;
     relevant = relevant_back c f g w.acyclic read line m here.relevant;
@@ -95,7 +95,7 @@ module _ (c : Circuit) (f g : Fault) (cube : Cube) where
   NoneSeveral line pins n = (sets : List PairSet) → ArePairSets c f g cube sets → (k : ℕ) → k < n → has_several (pin_set f g sets line k (get_or pins k 0)) ≡ false
 
   -- some pin of an open line does
-  pub some_several : (line : ℕ) → IsOpen c f g cube line → c.sources ≤ line → NoneSeveral line (pins_of c line) (length (pins_of c line)) → ⊥
+  pub some_several : (line : ℕ) → IsLineOpen c f g cube line → c.sources ≤ line → NoneSeveral line (pins_of c line) (length (pins_of c line)) → ⊥
   unfolding line_pairs
   some_several line here above none =
       let sets = here.sets in
@@ -113,8 +113,8 @@ module _ (c : Circuit) (f g : Fault) (cube : Cube) where
       no_single (gate_pairs gate.0.kind seen) (subst (λ o. has_several (option_map_or (λ (gate : Gate). gate_pairs gate.kind (seen_pairs f g sets line gate.pins)) o (source_pairs cube line)) ≡ true) gate.1 driven) (single_value (gate_value gate.0.kind) seen all)
 
   -- a pin that sees several pairs reads an open line, and one that doesn't is passed
-  pub pin_found : (line pin : ℕ) (pins : List ℕ) (pairs : PairSet) → IsCircuit c → IsOpen c f g cube line → pins ≡ pins_of c line → pin < length pins
-      → IsPart c f g cube (λ sets. pin_set f g sets line pin (get_or pins pin 0)) pairs → has_several pairs ≡ true → Feeds c (get_or pins pin 0) line × IsOpen c f g cube (get_or pins pin 0)
+  pub pin_found : (line pin : ℕ) (pins : List ℕ) (pairs : PairSet) → IsCircuit c → IsLineOpen c f g cube line → pins ≡ pins_of c line → pin < length pins
+      → IsPart c f g cube (λ sets. pin_set f g sets line pin (get_or pins pin 0)) pairs → has_several pairs ≡ true → Feeds c (get_or pins pin 0) line × IsLineOpen c f g cube (get_or pins pin 0)
   pin_found line pin pins pairs w here same within part e =
       let read = get_or pins pin 0 in
       let feeds : Feeds c read line = subst (λ (ps : List ℕ). Contains ps read) same (Contains-get_or pins pin 0 within) in

@@ -11,9 +11,9 @@ use Rattle.distinguish_search.specs.declared.end.End.{End}
 use Rattle.distinguish_search.specs.declared.end.End.TheVariants.{Leaf, Apart}
 
 -- A leaf is all same, unless no leaf may be closed any more.
-abbrev pub IsEnd : Circuit → Fault → Fault → Cube → Bool → End → Type 0
-IsEnd c f g cube full Leaf = full ≡ false → IsState c f g cube state.AllSame
-IsEnd c f g cube full Apart = (at : ℕ) × IsState c f g cube (state.Apart at)
+abbrev pub IsSearchEnd : Circuit → Fault → Fault → Cube → Bool → End → Type 0
+IsSearchEnd c f g cube full Leaf = full ≡ false → IsState c f g cube state.AllSame
+IsSearchEnd c f g cube full Apart = (at : ℕ) × IsState c f g cube (state.Apart at)
 
 -- the leaf of a cube at which a descent ends
 abbrev pub leaf_token : Bool → Token

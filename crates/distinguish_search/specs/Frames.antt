@@ -11,8 +11,8 @@ use Rattle.pair_sets.specs.PairSim.{PairSim, pair_sim}
 use Rattle.distinguish_search.specs.declared.frames.Frame.{Frame}
 
 -- the cube of the bits that are tried
-abbrev pub cube_of : List Frame → Cube
-cube_of frames = map (λ frame. (frame.source, frame.bit)) frames
+abbrev pub tried_cube : List Frame → Cube
+tried_cube frames = map (λ frame. (frame.source, frame.bit)) frames
 
 -- the place of the reached position that asked for the last split
 abbrev pub last_place : List Frame → ℕ
@@ -27,27 +27,27 @@ IsHalf c f g cube source bit (Some half) = IsSubtree c f g ((source, not bit) �
 -- Each split is right at its cube, and so is its finished half.
 abbrev pub AreFrames : Circuit → Fault → Fault → List Frame → Type 0
 AreFrames c f g [] = ⊤
-AreFrames c f g (frame ∷ frames) = IsRightAt c f g (Split frame.source) (cube_of frames) × IsHalf c f g (cube_of frames) frame.source frame.bit frame.half × AreFrames c f g frames
+AreFrames c f g (frame ∷ frames) = IsRightAt c f g (Split frame.source) (tried_cube frames) × IsHalf c f g (tried_cube frames) frame.source frame.bit frame.half × AreFrames c f g frames
 
 -- The splits are right, and the simulation stands at the cube of their bits.
 pub record IsUnderWay (c : Circuit) (f g : Fault) (sim : PairSim) (frames : List Frame) : Type 0 where
-  pub stands : sim ≡ pair_sim c f g (cube_of frames)
+  pub stands : sim ≡ pair_sim c f g (tried_cube frames)
   pub right : AreFrames c f g frames
 
 -- whether a token is an open leaf, and how many are
-abbrev pub is_open : Token → Bool
-is_open Rest = true
-is_open _ = false
+abbrev pub is_open_leaf : Token → Bool
+is_open_leaf Rest = true
+is_open_leaf _ = false
 
-abbrev pub open_count : List Token → ℕ
-open_count tokens = count_by is_open tokens
+abbrev pub open_leaves : List Token → ℕ
+open_leaves tokens = count_by is_open_leaf tokens
 
 -- how many closed leaves, and how many open ones, the finished halves have
 abbrev pub closed_in : List Frame → ℕ
 closed_in frames = sum_by (λ frame. closed_count (unwrap_or frame.half [])) frames
 
 abbrev pub open_in : List Frame → ℕ
-open_in frames = sum_by (λ frame. open_count (unwrap_or frame.half [])) frames
+open_in frames = sum_by (λ frame. open_leaves (unwrap_or frame.half [])) frames
 
 -- of so many sources: how many vectors the second halves have that are not begun
 abbrev pub vectors_ahead : ℕ → List Frame → ℕ
@@ -65,19 +65,19 @@ pub record SplitsOn (sources : ℕ) (old new : List Frame) : Type 0 where
   pub left : vectors_left sources new ≡ vectors_left sources old
 
 -- The tree is whole, and has all leaves that there were.
-pub record IsWhole (c : Circuit) (f g : Fault) (tree : List Token) (frames : List Frame) (whole : List Token) : Type 0 where
+pub record IsWholeTree (c : Circuit) (f g : Fault) (tree : List Token) (frames : List Frame) (whole : List Token) : Type 0 where
   pub right : IsSubtree c f g [] whole
   pub closed : closed_count whole ≡ closed_count tree + closed_in frames
-  pub left_open : open_count whole ≡ open_count tree + open_in frames
+  pub left_open : open_leaves whole ≡ open_leaves tree + open_in frames
 
 -- The search is at a later cube, and all leaves that there were are in finished halves.
 pub record GoesOn (c : Circuit) (f g : Fault) (tree : List Token) (old : List Frame) (sim : PairSim) (new : List Frame) : Type 0 where
   pub under_way : IsUnderWay c f g sim new
   pub closed : closed_in new ≡ closed_count tree + closed_in old
-  pub left_open : open_in new ≡ open_count tree + open_in old
+  pub left_open : open_in new ≡ open_leaves tree + open_in old
   pub fewer : vectors_left c.sources new < vectors_left c.sources old
 
 -- A finished tree is either the whole tree, or the first half of a split that goes on.
 abbrev pub IsClimbed : Circuit → Fault → Fault → List Token → List Frame → PairSim → List Frame → Option (List Token) → Type 0
 IsClimbed c f g tree old sim new None = GoesOn c f g tree old sim new
-IsClimbed c f g tree old sim new (Some whole) = IsWhole c f g tree old whole
+IsClimbed c f g tree old sim new (Some whole) = IsWholeTree c f g tree old whole

@@ -10,7 +10,7 @@ use Rattle.pair_sets.specs.CubeState.{set_at, position_pairs, ArePairSets}
 
 module _ (c : Circuit) (f g : Fault) (cube : Cube) where
   -- The line is relevant, and has two pairs or more.
-  pub record IsOpen (line : ℕ) : Type 0 where
+  pub record IsLineOpen (line : ℕ) : Type 0 where
     pub inside : line < line_count c
     pub relevant : IsTrue (is_relevant c f g line)
     pub sets : List PairSet
@@ -18,14 +18,14 @@ module _ (c : Circuit) (f g : Fault) (cube : Cube) where
     pub several : has_several (set_at sets line) ≡ true
 
   -- The position has equal pairs alone, or unequal pairs alone.
-  abbrev pub IsDecided : ℕ → Type 0
-  IsDecided at = (sets : List PairSet) → ArePairSets c f g cube sets → (only_equal (position_pairs c f g sets at) || only_unequal (position_pairs c f g sets at)) ≡ true
+  abbrev pub IsPositionDecided : ℕ → Type 0
+  IsPositionDecided at = (sets : List PairSet) → ArePairSets c f g cube sets → (only_equal (position_pairs c f g sets at) || only_unequal (position_pairs c f g sets at)) ≡ true
 
   -- The reached positions at these places are decided.
   abbrev pub AreDecided : ℕ → ℕ → Type 0
-  AreDecided start end = (place : ℕ) → start ≤ place → place < end → IsDecided (slice_index (reached_positions c f g) place)
+  AreDecided start end = (place : ℕ) → start ≤ place → place < end → IsPositionDecided (slice_index (reached_positions c f g) place)
 
   -- The reached position at the place shows an open line.
-  pub record IsOpenAt (place : ℕ) : Type 0 where
+  pub record IsPositionOpen (place : ℕ) : Type 0 where
     pub within : place < length (reached_positions c f g)
-    pub shows : IsOpen (slice_index c.positions (slice_index (reached_positions c f g) place))
+    pub shows : IsLineOpen (slice_index c.positions (slice_index (reached_positions c f g) place))

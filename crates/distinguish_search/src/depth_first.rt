@@ -4,7 +4,7 @@ ghost use Rattle.std.specs.Prelude.{◌≡◌, ◌≤◌, ◌∷◌, [], IfOk, i
 ghost use Rattle.std.specs.List.{list_any};
 ghost use Rattle.net_model.specs.Fault.{IsFaultOf};
 ghost use Rattle.distinguish_search.specs.End.{leaf_token};
-ghost use Rattle.distinguish_search.specs.Frames.{is_open};
+ghost use Rattle.distinguish_search.specs.Frames.{is_open_leaf};
 ghost use Rattle.distinguish_search.specs.Found.{IsFound};
 
 use crate::climb::climb;
@@ -121,7 +121,7 @@ fn leaf(alloc: Global, full: bool) -> Result<Tree, AllocError>
 
 // A whole tree is spent where it has an open leaf, else covered.
 fn finished(tree: Tree) -> Found
-    ensures { result ≡ (if list_any is_open tree then Found.Spent tree else Found.Covered tree) }
+    ensures { result ≡ (if list_any is_open_leaf tree then Found.Spent tree else Found.Covered tree) }
 {
     if has_open(tree.as_slice()) {
         Found::Spent(tree)
@@ -132,13 +132,13 @@ fn finished(tree: Tree) -> Found
 
 // Whether some leaf is open.
 fn has_open(tokens: &[Token]) -> bool
-    ensures { result ≡ list_any is_open tokens.now }
+    ensures { result ≡ list_any is_open_leaf tokens.now }
 {
-    tokens.iter().any(|token| is_open(*token))
+    tokens.iter().any(|token| is_open_leaf(*token))
 }
 
-fn is_open(token: Token) -> bool
-    ensures { result ≡ is_open token }
+fn is_open_leaf(token: Token) -> bool
+    ensures { result ≡ is_open_leaf token }
 {
     matches!(token, Token::Rest)
 }

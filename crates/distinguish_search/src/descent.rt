@@ -2,7 +2,7 @@
 
 ghost use Rattle.std.specs.Prelude.{◌≡◌, IfOk};
 ghost use Rattle.distinguish_search.specs.Frames.{IsUnderWay, SplitsOn};
-ghost use Rattle.distinguish_search.specs.End.{IsEnd};
+ghost use Rattle.distinguish_search.specs.End.{IsSearchEnd};
 
 use crate::end::End;
 use crate::frames::Frame;
@@ -24,7 +24,7 @@ pub(crate) fn descend(
     ensures circuit { sim.new.circuit ≡ sim.old.circuit }
     ensures under_way { IfOk result (λ end. IsUnderWay sim.old.circuit sim.old.f sim.old.g sim.new stack.new) }
     ensures splits { IfOk result (λ end. SplitsOn sim.old.circuit.sources stack.old stack.new) }
-    ensures ends { IfOk result (IsEnd sim.old.circuit sim.old.f sim.old.g sim.new.cube full) }
+    ensures ends { IfOk result (IsSearchEnd sim.old.circuit sim.old.f sim.old.g sim.new.cube full) }
 {
     loop {
         match sim.state() {

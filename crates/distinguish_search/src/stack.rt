@@ -2,7 +2,7 @@
 
 ghost use Rattle.std.specs.Prelude.{◌≡◌, ℕ, ◌∷◌, [], None, IfOk, OnOk, MatchOption, length, replicate, slice_index_or};
 ghost use Rattle.pair_sets.specs.Cube.{FixesOnce, fixed_bit};
-ghost use Rattle.distinguish_search.specs.Frames.{cube_of, last_place};
+ghost use Rattle.distinguish_search.specs.Frames.{tried_cube, last_place};
 
 use crate::frames::Frame;
 use std::alloc::{AllocError, Global};
@@ -57,9 +57,9 @@ impl Stack {
 
     /// The cube of the bits that are tried: a bit for each source that is fixed, and none for one that is free.
     pub(crate) fn cube(&self, alloc: Global, sources: u32) -> Result<Vec<Option<bool>>, AllocError>
-        requires { FixesOnce sources (cube_of self.now) }
+        requires { FixesOnce sources (tried_cube self.now) }
         ensures width { IfOk result (λ cube. length cube.items ≡ sources) }
-        ensures bits { IfOk result (λ cube. (source : ℕ) → slice_index_or cube.items source None ≡ fixed_bit (cube_of self.now) source) }
+        ensures bits { IfOk result (λ cube. (source : ℕ) → slice_index_or cube.items source None ≡ fixed_bit (tried_cube self.now) source) }
     {
         let mut cube = free_cube(alloc, sources)?;
         for frame in &self.frames {

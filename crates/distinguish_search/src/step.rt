@@ -2,7 +2,7 @@
 
 ghost use Rattle.std.specs.Prelude.{◌≡◌, ◌<◌, ◌≤◌, length};
 ghost use Rattle.net_model.specs.Circuit.{Feeds, pins_of};
-ghost use Rattle.distinguish_search.specs.Open.{IsOpen};
+ghost use Rattle.distinguish_search.specs.Open.{IsLineOpen};
 ghost use Rattle.distinguish_search.specs.Asked.{passing_bit, asked_bit};
 
 use crate::rule::{Rule, Weight};
@@ -19,9 +19,9 @@ pub(crate) struct Step {
 /// A step from a line that a gate drives.
 pub(crate) fn step_back(sim: &PairSim, rule: Rule, from: Step) -> Step
     requires gate { sim.now.circuit.sources ≤ from.line }
-    requires open { IsOpen sim.now.circuit sim.now.f sim.now.g sim.now.cube from.line }
+    requires open { IsLineOpen sim.now.circuit sim.now.f sim.now.g sim.now.cube from.line }
     ensures feeds { Feeds sim.now.circuit result.line from.line }
-    ensures open { IsOpen sim.now.circuit sim.now.f sim.now.g sim.now.cube result.line }
+    ensures open { IsLineOpen sim.now.circuit sim.now.f sim.now.g sim.now.cube result.line }
 {
     let Step { line, bit } = from;
     let kind = sim.circuit().gate(line).kind;
@@ -38,10 +38,10 @@ pub(crate) fn step_back(sim: &PairSim, rule: Rule, from: Step) -> Step
 // From a multiplexer through its first pin where that is open, else through the data pin that it shows.
 fn chosen_pin(sim: &PairSim, rule: Rule, line: u32, bit: bool) -> Step
     requires gate { sim.now.circuit.sources ≤ line }
-    requires open { IsOpen sim.now.circuit sim.now.f sim.now.g sim.now.cube line }
+    requires open { IsLineOpen sim.now.circuit sim.now.f sim.now.g sim.now.cube line }
     requires three { length (pins_of sim.now.circuit line) ≡ 3 }
     ensures feeds { Feeds sim.now.circuit result.line line }
-    ensures open { IsOpen sim.now.circuit sim.now.f sim.now.g sim.now.cube result.line }
+    ensures open { IsLineOpen sim.now.circuit sim.now.f sim.now.g sim.now.cube result.line }
 {
     let pins = sim.circuit().gate(line).pins.as_slice();
     let select = sim.pin_pairs(line, 0, pins[0]);
@@ -77,9 +77,9 @@ fn shown_pin(select: PairSet) -> u32
 // pins, the heaviest by the rule, and the first among those.
 fn open_pin(sim: &PairSim, rule: Rule, kind: Kind, line: u32, bit: bool) -> u32
     requires gate { sim.now.circuit.sources ≤ line }
-    requires open { IsOpen sim.now.circuit sim.now.f sim.now.g sim.now.cube line }
+    requires open { IsLineOpen sim.now.circuit sim.now.f sim.now.g sim.now.cube line }
     ensures feeds { Feeds sim.now.circuit result line }
-    ensures open { IsOpen sim.now.circuit sim.now.f sim.now.g sim.now.cube result }
+    ensures open { IsLineOpen sim.now.circuit sim.now.f sim.now.g sim.now.cube result }
 {
     let pins = sim.circuit().gate(line).pins.as_slice();
     let mut found = None;

@@ -1,7 +1,7 @@
 //! From a reached position that is undecided back to a free source that can still decide it.
 
 ghost use Rattle.std.specs.Prelude.{◌≤◌, MatchOption, length};
-ghost use Rattle.distinguish_search.specs.Open.{IsOpenAt, AreDecided};
+ghost use Rattle.distinguish_search.specs.Open.{IsPositionOpen, AreDecided};
 ghost use Rattle.net_model.specs.Scope.{reached_positions};
 ghost use Rattle.pair_sets.specs.CubeState.{IsState};
 ghost use Rattle.pair_sets.specs.Tree.{IsRightAt};
@@ -50,7 +50,7 @@ pub(crate) fn choose(sim: &PairSim, rule: Rule, from: usize) -> Choice
 // The place of a reached position at which the faults may answer alike, and may answer differently.
 fn open_place(sim: &PairSim, from: usize) -> usize
     requires { IsState sim.now.circuit sim.now.f sim.now.g sim.now.cube Undecided }
-    ensures { IsOpenAt sim.now.circuit sim.now.f sim.now.g sim.now.cube result }
+    ensures { IsPositionOpen sim.now.circuit sim.now.f sim.now.g sim.now.cube result }
 {
     let count = sim.reached().len();
     let from = from.min(count);
@@ -66,7 +66,7 @@ fn open_place(sim: &PairSim, from: usize) -> usize
 // The first such place in a range, if there is one.
 fn first_open(sim: &PairSim, from: usize, end: usize) -> Option<usize>
     requires { end ≤ length (reached_positions sim.now.circuit sim.now.f sim.now.g) }
-    ensures { MatchOption result (AreDecided sim.now.circuit sim.now.f sim.now.g sim.now.cube from end) (IsOpenAt sim.now.circuit sim.now.f sim.now.g sim.now.cube) }
+    ensures { MatchOption result (AreDecided sim.now.circuit sim.now.f sim.now.g sim.now.cube from end) (IsPositionOpen sim.now.circuit sim.now.f sim.now.g sim.now.cube) }
 {
     let reached = sim.reached();
     for place in from..end {

@@ -17,7 +17,7 @@ use Rattle.fault_list.proofs.Bound.{few_sites}
 use Rattle.fault_list.proofs.Pair.{one_number}
 use Rattle.fault_list.proofs.Stuck.{length-stuck}
 use Rattle.fault_collapse.specs.Forest.{Forest, forest_with, number_count, successor_of, root_of, IsNumberOf, AreSuccessors, AreRoots, IsForestOf}
-use Rattle.fault_collapse.specs.ForestFields.{IsSettled}
+use Rattle.fault_collapse.specs.ForestFields.{AreForestFields}
 use Rattle.fault_collapse.proofs.Numbers.{number_stands}
 use Rattle.fault_collapse.proofs.Chain.{root_itself, root_is_last, same_root_is_equal}
 
@@ -41,7 +41,7 @@ module _ (c : Circuit) where
       let again = are.each (slice_index roots number) (root c fault) here in
       one_number c (slice_index roots (slice_index roots number)) (slice_index roots number) (root c fault) (again ∙ ap Some (root_itself c w (root c fault) (root_is_last c w fault stands))) here
 
-  pub is_settled : IsCircuit c → (successors : List (Option ℕ)) (roots : List ℕ) → AreSuccessors c successors → AreRoots c roots → IsSettled (forest_with successors roots)
+  pub is_settled : IsCircuit c → (successors : List (Option ℕ)) (roots : List ℕ) → AreSuccessors c successors → AreRoots c roots → AreForestFields (forest_with successors roots)
   is_settled w successors roots s are = record {
     whole = s.whole ∙ sym are.whole;
     free = omega (arith, some_fault, are.whole);
@@ -84,7 +84,7 @@ module _ (c : Circuit) where
 
 -- ---- how many roots there are
 
-module _ (forest : Forest) (is : IsSettled forest) (number : ℕ) (within : number < number_count forest) where
+module _ (forest : Forest) (is : AreForestFields forest) (number : ℕ) (within : number < number_count forest) where
   -- a number that is its own root is a root
   own_is_root : root_of forest number ≡ number → list_any (λ root. root == number) forest.roots ≡ true
   own_is_root own = list_any_at (λ root. root == number) forest.roots number 0 within (let t : eqb (get_or forest.roots number 0) number ≡ true = grind (arith, nat_tests) in t)

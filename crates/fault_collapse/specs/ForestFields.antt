@@ -2,7 +2,7 @@
 use Rattle.std.specs.Prelude.{◌≡◌, ℕ, ◌<◌, ◌^◌, length}
 use Rattle.fault_collapse.specs.Forest.{Forest, number_count, root_of}
 
-pub record IsSettled (forest : Forest) : Type 0 where
+pub record AreForestFields (forest : Forest) : Type 0 where
   pub whole : length forest.successors ≡ number_count forest
   pub free : 0 < number_count forest
   pub few : number_count forest < 2 ^ 27

@@ -25,13 +25,13 @@ pub struct Forest {
 
 impl Model for Forest {
     ghost use Rattle.fault_collapse.specs.Forest as spec;
-    ghost use Rattle.fault_collapse.specs.ForestFields.{IsSettled};
+    ghost use Rattle.fault_collapse.specs.ForestFields.{AreForestFields};
 
     ghost Value = { spec.Forest };
 
     ghost view = { λ f. spec.forest_with f.successors.items f.roots.items };
 
-    ghost invariant = { λ f. IsSettled (spec.forest_with f.successors.items f.roots.items) };
+    ghost invariant = { λ f. AreForestFields (spec.forest_with f.successors.items f.roots.items) };
 }
 
 /// The forest of a circuit's faults. `faults` is the list of the circuit's faults.

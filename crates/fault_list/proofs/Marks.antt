@@ -6,12 +6,12 @@ use Rattle.std.proofs.lemmas.List.{get_or_append_left, get_or_at, get_or-set_sam
 use Rattle.std.proofs.lemmas.List.Elements.{Contains-push, Contains-append_left, Contains-push_cases}
 use Rattle.net_model.specs.Answer.{bit_at}
 use Rattle.net_model.proofs.Elements.{get_or-replicate_anywhere}
-use Rattle.fault_list.specs.Scope.{AreMarks, MarksLines}
+use Rattle.fault_list.specs.Scope.{AreMarksOfTest, MarksLines}
 
-pub marks_none : (test : ℕ → Bool) (marks : List Bool) → marks ≡ [] → AreMarks test 0 marks
+pub marks_none : (test : ℕ → Bool) (marks : List Bool) → marks ≡ [] → AreMarksOfTest test 0 marks
 marks_none test marks none = record { whole = ap length none; each = λ n h. absurd (omega (arith, h)) }
 
-pub marks_more : (test : ℕ → Bool) (count : ℕ) (marks : List Bool) (bit : Bool) → bit ≡ test count → AreMarks test count marks → AreMarks test (count + 1) (marks ++ bit ∷ [])
+pub marks_more : (test : ℕ → Bool) (count : ℕ) (marks : List Bool) (bit : Bool) → bit ≡ test count → AreMarksOfTest test count marks → AreMarksOfTest test (count + 1) (marks ++ bit ∷ [])
 marks_more test count marks bit is so_far = record {
   whole = omega (arith, length-append marks (bit ∷ []), so_far.whole);
   each = λ n h.

@@ -15,7 +15,7 @@ use Rattle.net_model.proofs.Elements.{true_false, passing}
 use Rattle.net_model.proofs.Orders.{order_has, reader_is_gate}
 use Rattle.net_model.proofs.Relevance.{listed_reached, relevant_back, relevant_shown}
 use Rattle.net_model.proofs.SetSoFar.{fits_from}
-use Rattle.fault_list.specs.Scope.{AreMarks, AreShown, MarksLines}
+use Rattle.fault_list.specs.Scope.{AreMarksOfTest, AreReachedMarked, MarksLines}
 
 -- ---- back along the order
 
@@ -27,7 +27,7 @@ pub record RelevantFrom (c : Circuit) (f g : Fault) (order : List ℕ) (i : ℕ)
   pub closed : (k reader line : ℕ) → i ≤ k → slice_get order k ≡ Some reader → Feeds c line reader → bit_at marks reader ≡ true → bit_at marks line ≡ true
 
 module _ (c : Circuit) (w : IsCircuit c) (f g : Fault) (order : List ℕ) (is : IsOrder c order) where
-  pub relevant_none : (reached marks : List Bool) → AreMarks (is_reached c f g) (length c.positions) reached → AreShown c.positions reached (line_count c) marks → RelevantFrom c f g order (length order) marks
+  pub relevant_none : (reached marks : List Bool) → AreMarksOfTest (is_reached c f g) (length c.positions) reached → AreReachedMarked c.positions reached (line_count c) marks → RelevantFrom c f g order (length order) marks
   relevant_none reached marks are shown = record {
     whole = shown.whole;
     sound = λ line e.
@@ -92,7 +92,7 @@ module _ (c : Circuit) (w : IsCircuit c) (f g : Fault) (order : List ℕ) (is : 
             marked_back marks all n line pin.0 pin.2 (all.closed at.0 end pin.0 (omega arith) (slice_get-get_or order at.0 end at.1 ∙ ap Some at.2) pin.1 e)
       ]
 
-  pub relevant_all : (marks : List Bool) → RelevantFrom c f g order 0 marks → AreMarks (is_relevant c f g) (line_count c) marks
+  pub relevant_all : (marks : List Bool) → RelevantFrom c f g order 0 marks → AreMarksOfTest (is_relevant c f g) (line_count c) marks
   unfolding leads_to is_relevant
   relevant_all marks all = record {
     whole = all.whole;

@@ -17,7 +17,7 @@ use Rattle.net_model.proofs.Orders.{order_has, order_only, order_after}
 use Rattle.net_model.proofs.ScopeLaws.{no_longer}
 use Rattle.net_model.proofs.SetSoFar.{fits_from}
 use Rattle.fault_list.proofs.Table.{no_pins}
-use Rattle.fault_list.specs.Scope.{AreMarks, is_first_changed, begins_at}
+use Rattle.fault_list.specs.Scope.{AreMarksOfTest, is_first_changed, begins_at}
 
 -- ---- tests
 
@@ -65,7 +65,7 @@ pub record SplitSoFar (c : Circuit) (f g : Fault) (order : List ℕ) (i : ℕ) (
   pub gates : (line : ℕ) → Contains (take i order) line → bit_at marks line ≡ is_split c f g line
 
 module _ (c : Circuit) (w : IsCircuit c) (f g : Fault) (order : List ℕ) (is : IsOrder c order) where
-  pub split_none : (marks : List Bool) → AreMarks (begins_at f g) (line_count c) marks → SplitSoFar c f g order 0 marks
+  pub split_none : (marks : List Bool) → AreMarksOfTest (begins_at f g) (line_count c) marks → SplitSoFar c f g order 0 marks
   split_none marks first = record {
     whole = first.whole;
     sources = λ line h.
@@ -101,7 +101,7 @@ module _ (c : Circuit) (w : IsCircuit c) (f g : Fault) (order : List ℕ) (is : 
             ];
       }
 
-  pub split_all : (i : ℕ) (marks : List Bool) → length order ≤ i → SplitSoFar c f g order i marks → AreMarks (is_split c f g) (line_count c) marks
+  pub split_all : (i : ℕ) (marks : List Bool) → length order ≤ i → SplitSoFar c f g order i marks → AreMarksOfTest (is_split c f g) (line_count c) marks
   split_all i marks h so_far = record {
     whole = so_far.whole;
     each = λ line k.

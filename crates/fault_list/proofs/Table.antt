@@ -15,7 +15,7 @@ use Rattle.net_model.specs.declared.fault.Site.TheVariants.{Stem, Pin, Position}
 use Rattle.net_model.specs.declared.fault.Fault.TheVariants.{Stuck}
 use Rattle.net_model.specs.Circuit.{Circuit, IsCircuit, line_count, pins_of}
 use Rattle.net_model.specs.Fault.{IsFaultOf}
-use Rattle.fault_list.specs.Slots.{row_of, row_start, slot_of, ArePlaces}
+use Rattle.fault_list.specs.Slots.{site_row, site_row_start, slot_of, ArePlaces}
 use Rattle.fault_list.proofs.Bound.{pins_of_item}
 use Rattle.fault_list.proofs.Numbered.{IsPlaceOf}
 
@@ -29,7 +29,7 @@ if_then_some : {A : Type 0} (a b : Bool) (x y : A) → (if a then then_some b x 
 if_then_some true b x y e = let h = then_some-Some b x y e in (refl, h.0, h.1)
 if_then_some false b x y e = cc
 
-row_of-one : (s t : Site) → (row_of s).0 ≡ (row_of t).0 → (row_of s).1 ≡ (row_of t).1 → s ≡ t
+row_of-one : (s t : Site) → (site_row s).0 ≡ (site_row t).0 → (site_row s).1 ≡ (site_row t).1 → s ≡ t
 row_of-one (Stem line) (Stem other) e f = ap Stem (omega (arith, e))
 row_of-one (Stem line) (Pin gate pin) e f = absurd (omega (arith, f))
 row_of-one (Stem line) (Position at) e f = absurd (omega (arith, e))
@@ -46,34 +46,34 @@ IsRising starts = (low high : ℕ) → low ≤ high → high < length starts →
 
 -- a site's slot is in its row
 pub record IsSlot (starts : List ℕ) (site : Site) (slot : ℕ) : Type 0 where
-  pub row : (row_of site).0 + 1 < length starts
-  pub here : get_or starts (row_of site).0 0 + (row_of site).1 ≡ slot
-  pub below : slot < get_or starts ((row_of site).0 + 1) 0
+  pub row : (site_row site).0 + 1 < length starts
+  pub here : get_or starts (site_row site).0 0 + (site_row site).1 ≡ slot
+  pub below : slot < get_or starts ((site_row site).0 + 1) 0
 
 is_slot : (starts : List ℕ) (site : Site) (slot : ℕ) → slot_of starts site ≡ Some slot → IsSlot starts site slot
 is_slot starts site slot e =
-    let h = if_then_some (nat_lt ((row_of site).0 + 1) (length starts)) (nat_lt (get_or starts (row_of site).0 0 + (row_of site).1) (get_or starts ((row_of site).0 + 1) 0)) (get_or starts (row_of site).0 0 + (row_of site).1) slot e in
-    let row : (row_of site).0 + 1 < length starts = grind (arith, nat_tests, h.0) in
-    let below : get_or starts (row_of site).0 0 + (row_of site).1 < get_or starts ((row_of site).0 + 1) 0 = grind (arith, nat_tests, h.1) in
+    let h = if_then_some (nat_lt ((site_row site).0 + 1) (length starts)) (nat_lt (get_or starts (site_row site).0 0 + (site_row site).1) (get_or starts ((site_row site).0 + 1) 0)) (get_or starts (site_row site).0 0 + (site_row site).1) slot e in
+    let row : (site_row site).0 + 1 < length starts = grind (arith, nat_tests, h.0) in
+    let below : get_or starts (site_row site).0 0 + (site_row site).1 < get_or starts ((site_row site).0 + 1) 0 = grind (arith, nat_tests, h.1) in
     record { row = row; here = h.2; below = omega (arith, below, h.2) }
 
 slot_is : (starts : List ℕ) (site : Site) (slot : ℕ) → IsSlot starts site slot → slot_of starts site ≡ Some slot
 slot_is starts site slot s =
-    let row : nat_lt ((row_of site).0 + 1) (length starts) ≡ true = let h = s.row in grind (arith, nat_tests) in
-    let below : nat_lt (get_or starts (row_of site).0 0 + (row_of site).1) (get_or starts ((row_of site).0 + 1) 0) ≡ true = let h = s.below in let e = s.here in grind (arith, nat_tests) in
-    (λ i. if row i then then_some (below i) (get_or starts (row_of site).0 0 + (row_of site).1) else None) ∙ ap Some s.here
+    let row : nat_lt ((site_row site).0 + 1) (length starts) ≡ true = let h = s.row in grind (arith, nat_tests) in
+    let below : nat_lt (get_or starts (site_row site).0 0 + (site_row site).1) (get_or starts ((site_row site).0 + 1) 0) ≡ true = let h = s.below in let e = s.here in grind (arith, nat_tests) in
+    (λ i. if row i then then_some (below i) (get_or starts (site_row site).0 0 + (site_row site).1) else None) ∙ ap Some s.here
 
 -- two sites have different slots
 one_site : (starts : List ℕ) → IsRising starts → (s t : Site) (slot : ℕ) → slot_of starts s ≡ Some slot → slot_of starts t ≡ Some slot → s ≡ t
 one_site starts rising s t slot e f =
     let a = is_slot starts s slot e in
     let b = is_slot starts t slot f in
-    elim (cases_eq (row_of s).0 (row_of t).0) [
+    elim (cases_eq (site_row s).0 (site_row t).0) [
       | inl same ↦ row_of-one s t same (let start = ap (λ n. get_or starts n 0) same in omega (arith, a.here, b.here, start))
       | inr other ↦
-          elim (cases_lt (row_of s).0 (row_of t).0) [
-            | inl low ↦ absurd (let h = rising ((row_of s).0 + 1) (row_of t).0 (omega arith) (omega (arith, b.row)) in omega (arith, h, a.below, b.here))
-            | inr high ↦ absurd (let h = rising ((row_of t).0 + 1) (row_of s).0 (omega arith) (omega (arith, a.row)) in omega (arith, h, b.below, a.here))
+          elim (cases_lt (site_row s).0 (site_row t).0) [
+            | inl low ↦ absurd (let h = rising ((site_row s).0 + 1) (site_row t).0 (omega arith) (omega (arith, b.row)) in omega (arith, h, a.below, b.here))
+            | inr high ↦ absurd (let h = rising ((site_row t).0 + 1) (site_row s).0 (omega arith) (omega (arith, a.row)) in omega (arith, h, b.below, a.here))
           ]
     ]
 
@@ -128,34 +128,34 @@ module _ (starts places : List ℕ) (sites : List Site) (are : ArePlaces starts 
 -- ---- the rows of a circuit
 
 module _ (c : Circuit) where
-  pub row_start-more : (line : ℕ) → row_start c (line + 2) ≡ row_start c (line + 1) + (1 + length (pins_of c line))
+  pub row_start-more : (line : ℕ) → site_row_start c (line + 2) ≡ site_row_start c (line + 1) + (1 + length (pins_of c line))
   row_start-more line =
       let next : line + 2 ≡ suc (suc line) = omega arith in
       let this : line + 1 ≡ suc line = omega arith in
       rw (next, this) refl
 
-  rises : (row : ℕ) → row_start c row ≤ row_start c (suc row)
+  rises : (row : ℕ) → site_row_start c row ≤ site_row_start c (suc row)
   rises zero = omega arith
   rises (suc line) = omega arith
 
-  rises_by : (row more : ℕ) → row_start c row ≤ row_start c (row + more)
+  rises_by : (row more : ℕ) → site_row_start c row ≤ site_row_start c (row + more)
   rises_by row zero = let e : row + 0 ≡ row = omega arith in rw e (omega arith)
   rises_by row (suc more) = let e : row + suc more ≡ suc (row + more) = omega arith in rw e (omega (arith, rises_by row more, rises (row + more)))
 
-  pub rises_to : (low high : ℕ) → low ≤ high → row_start c low ≤ row_start c high
-  rises_to low high h = let e : low + (high - low) ≡ high = omega arith in subst (λ n. row_start c low ≤ row_start c n) e (rises_by low (high - low))
+  pub rises_to : (low high : ℕ) → low ≤ high → site_row_start c low ≤ site_row_start c high
+  rises_to low high h = let e : low + (high - low) ≡ high = omega arith in subst (λ n. site_row_start c low ≤ site_row_start c n) e (rises_by low (high - low))
 
   pub no_pins : (line : ℕ) → line < c.sources → pins_of c line ≡ []
   no_pins line h = let test : nat_lt line c.sources ≡ true = grind (arith, nat_tests) in rw test refl
 
-  row_start-source : (line : ℕ) → line ≤ c.sources → row_start c (suc line) ≡ length c.positions + line
+  row_start-source : (line : ℕ) → line ≤ c.sources → site_row_start c (suc line) ≡ length c.positions + line
   row_start-source zero h = omega arith
   row_start-source (suc line) h = omega (arith, row_start-source line (omega arith), ap length (no_pins line (omega arith)))
 
   pins_before : ℕ → ℕ
   pins_before count = sum_by (λ (gate : Gate). length gate.pins) (take count c.gates)
 
-  row_start-gate : (count : ℕ) → count ≤ length c.gates → row_start c (suc (c.sources + count)) ≡ length c.positions + (c.sources + count) + pins_before count
+  row_start-gate : (count : ℕ) → count ≤ length c.gates → site_row_start c (suc (c.sources + count)) ≡ length c.positions + (c.sources + count) + pins_before count
   unfolding pins_before
   row_start-gate zero h = let e : c.sources + 0 ≡ c.sources = omega arith in rw e (omega (arith, row_start-source c.sources (omega arith)))
   row_start-gate (suc count) h =
@@ -170,25 +170,25 @@ module _ (c : Circuit) where
         | inr past ↦ absurd (omega (arith, past.0))
       ]
 
-  pub row_start-few : IsCircuit c → (row : ℕ) → row ≤ line_count c + 1 → row_start c row < 2 ^ 26
+  pub row_start-few : IsCircuit c → (row : ℕ) → row ≤ line_count c + 1 → site_row_start c row < 2 ^ 26
   unfolding pins_before
   row_start-few w row h =
       let last : line_count c + 1 ≡ suc (c.sources + length c.gates) = omega arith in
       let all = λ (gate : Gate). length gate.pins in
-      let end : row_start c (line_count c + 1) ≡ length c.positions + line_count c + sum_by all c.gates =
+      let end : site_row_start c (line_count c + 1) ≡ length c.positions + line_count c + sum_by all c.gates =
       rw last (row_start-gate (length c.gates) (omega arith) ∙ ap (λ gates. length c.positions + line_count c + sum_by all gates) (take_all (length c.gates) c.gates (omega arith))) in
       omega (arith, w.small, end, rises_to row (line_count c + 1) h)
 
   -- ---- the table of a circuit
 
   abbrev starts_of : List ℕ
-  starts_of = map (row_start c) (range_with_len 0 (line_count c + 2))
+  starts_of = map (site_row_start c) (range_with_len 0 (line_count c + 2))
 
-  start_at : (row : ℕ) → row < line_count c + 2 → get_or starts_of row 0 ≡ row_start c row
-  start_at row h = get_or-map-range_with_len (row_start c) 0 (line_count c + 2) row row 0 h (omega arith)
+  start_at : (row : ℕ) → row < line_count c + 2 → get_or starts_of row 0 ≡ site_row_start c row
+  start_at row h = get_or-map-range_with_len (site_row_start c) 0 (line_count c + 2) row row 0 h (omega arith)
 
   pub row_count : length starts_of ≡ line_count c + 2
-  row_count = length-map-range_with_len (row_start c) 0 (line_count c + 2)
+  row_count = length-map-range_with_len (site_row_start c) 0 (line_count c + 2)
 
   pub is_rising : IsRising starts_of
   is_rising low high h within =
@@ -200,14 +200,14 @@ module _ (c : Circuit) where
       let test : nat_lt line c.sources ≡ false = grind (arith, nat_tests) in
       rw (test, slice_get_past c.gates (line - c.sources) (omega arith)) refl
 
-  at_row : (site : Site) → (row_of site).0 < line_count c + 1 → row_start c (row_of site).0 + (row_of site).1 < row_start c ((row_of site).0 + 1)
+  at_row : (site : Site) → (site_row site).0 < line_count c + 1 → site_row_start c (site_row site).0 + (site_row site).1 < site_row_start c ((site_row site).0 + 1)
       → (slot : ℕ) × (slot_of starts_of site ≡ Some slot)
   at_row site row below = (
-    row_start c (row_of site).0 + (row_of site).1,
-    slot_is starts_of site (row_start c (row_of site).0 + (row_of site).1) (record {
+    site_row_start c (site_row site).0 + (site_row site).1,
+    slot_is starts_of site (site_row_start c (site_row site).0 + (site_row site).1) (record {
       row = omega (arith, row, row_count);
-      here = ap (λ n. n + (row_of site).1) (start_at (row_of site).0 (omega arith));
-      below = omega (arith, below, start_at ((row_of site).0 + 1) (omega arith));
+      here = ap (λ n. n + (site_row site).1) (start_at (site_row site).0 (omega arith));
+      below = omega (arith, below, start_at ((site_row site).0 + 1) (omega arith));
     }),
   )
 
@@ -227,8 +227,8 @@ module _ (c : Circuit) where
   pub slot_within : (site : Site) (slot : ℕ) → slot_of starts_of site ≡ Some slot → slot < get_or starts_of (line_count c + 1) 0
   slot_within site slot e =
       let s = is_slot starts_of site slot e in
-      let row : (row_of site).0 + 1 ≤ line_count c + 1 = omega (arith, s.row, row_count) in
-      omega (arith, s.below, is_rising ((row_of site).0 + 1) (line_count c + 1) row (omega (arith, row_count)))
+      let row : (site_row site).0 + 1 ≤ line_count c + 1 = omega (arith, s.row, row_count) in
+      omega (arith, s.below, is_rising ((site_row site).0 + 1) (line_count c + 1) row (omega (arith, row_count)))
 
   -- ---- the same of a list of starts that is the circuit's
 

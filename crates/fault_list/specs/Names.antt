@@ -19,10 +19,10 @@ module _ (c : Circuit) (names : List (List ℕ)) where
   site_fields (Pin gate pin) = codes "G" ∷ line_name (slice_index (pins_of c gate) pin) ∷ line_name gate ∷ decimal pin ∷ []
   site_fields (Position at) = codes "O" ∷ line_name (slice_index c.positions at) ∷ decimal at ∷ []
 
-  abbrev pub fault_fields : Fault → List (List ℕ)
-  fault_fields Free = codes "free" ∷ []
-  fault_fields (Stuck site bit) = site_fields site ++ (bit_digit bit ∷ []) ∷ []
+  abbrev pub name_fields : Fault → List (List ℕ)
+  name_fields Free = codes "free" ∷ []
+  name_fields (Stuck site bit) = site_fields site ++ (bit_digit bit ∷ []) ∷ []
 
   -- the fields, parted by one blank each
   abbrev pub fault_name : Fault → List ℕ
-  fault_name fault = join_with_byte 32 (fault_fields fault)
+  fault_name fault = join_with_byte 32 (name_fields fault)

@@ -11,6 +11,6 @@ abbrev pub faults_at : List Site → List Fault
 faults_at sites = Free ∷ flat_map both_stuck sites
 
 -- There are not too many sites for their numbers, and the table has the place of each.
-pub record IsNumbered (starts places : List ℕ) (sites : List Site) : Type 0 where
+pub record HasSiteNumbers (starts places : List ℕ) (sites : List Site) : Type 0 where
   pub few : length sites < 2 ^ 26
   pub places_are : ArePlaces starts places sites

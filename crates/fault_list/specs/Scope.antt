@@ -16,15 +16,15 @@ abbrev pub scope_with : List Bool → List Bool → List Bool → Scope
 scope_with split relevant reached = record { split = split; relevant = relevant; reached = reached }
 
 -- There is one mark for each of so many numbers, and it is the test's answer.
-pub record AreMarks (test : ℕ → Bool) (count : ℕ) (marks : List Bool) : Type 0 where
+pub record AreMarksOfTest (test : ℕ → Bool) (count : ℕ) (marks : List Bool) : Type 0 where
   pub whole : length marks ≡ count
   pub each : (n : ℕ) → n < count → bit_at marks n ≡ test n
 
 -- This is the scope of two faults.
 pub record IsScopeOf (c : Circuit) (f g : Fault) (s : Scope) : Type 0 where
-  pub split : AreMarks (is_split c f g) (line_count c) s.split
-  pub relevant : AreMarks (is_relevant c f g) (line_count c) s.relevant
-  pub reached : AreMarks (is_reached c f g) (length c.positions) s.reached
+  pub split : AreMarksOfTest (is_split c f g) (line_count c) s.split
+  pub relevant : AreMarksOfTest (is_relevant c f g) (line_count c) s.relevant
+  pub reached : AreMarksOfTest (is_reached c f g) (length c.positions) s.reached
 
 -- whether a line is the first that a fault can change
 abbrev pub is_first_changed : Fault → ℕ → Bool
@@ -42,7 +42,7 @@ pub record MarksLines (lines : List ℕ) (old new : List Bool) : Type 0 where
   pub no_others : (line : ℕ) → bit_at new line ≡ true → (bit_at old line ≡ true) ⊎ Contains lines line
 
 -- The lines of the reached positions are marked, of so many lines.
-pub record AreShown (positions : List ℕ) (reached : List Bool) (lines : ℕ) (marks : List Bool) : Type 0 where
+pub record AreReachedMarked (positions : List ℕ) (reached : List Bool) (lines : ℕ) (marks : List Bool) : Type 0 where
   pub whole : length marks ≡ lines
   pub shown : (at : ℕ) → at < length positions → bit_at reached at ≡ true → bit_at marks (slice_index positions at) ≡ true
   pub no_others : (line : ℕ) → bit_at marks line ≡ true → (at : ℕ) × (at < length positions) × (bit_at reached at ≡ true) × (slice_index positions at ≡ line)

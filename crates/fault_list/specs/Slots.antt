@@ -7,21 +7,21 @@ use Rattle.net_model.specs.declared.fault.Site.TheVariants.{Stem, Pin, Position}
 use Rattle.net_model.specs.Circuit.{Circuit, pins_of}
 
 -- the row of a site, and how far from the row's start it is
-abbrev pub row_of : Site → ℕ × ℕ
-row_of (Stem line) = (line + 1, 0)
-row_of (Pin gate pin) = (gate + 1, pin + 1)
-row_of (Position at) = (0, at)
+abbrev pub site_row : Site → ℕ × ℕ
+site_row (Stem line) = (line + 1, 0)
+site_row (Pin gate pin) = (gate + 1, pin + 1)
+site_row (Position at) = (0, at)
 
 -- where a row starts in a circuit's table
-abbrev pub row_start : Circuit → ℕ → ℕ
-row_start c zero = 0
-row_start c (suc zero) = length c.positions
-row_start c (suc (suc line)) = row_start c (suc line) + (1 + length (pins_of c line))
+abbrev pub site_row_start : Circuit → ℕ → ℕ
+site_row_start c zero = 0
+site_row_start c (suc zero) = length c.positions
+site_row_start c (suc (suc line)) = site_row_start c (suc line) + (1 + length (pins_of c line))
 
 -- the slot of a site in a table whose rows start there
 abbrev pub slot_of : List ℕ → Site → Option ℕ
-slot_of starts site = if nat_lt ((row_of site).0 + 1) (length starts)
-    then then_some (nat_lt (slice_index starts (row_of site).0 + (row_of site).1) (slice_index starts ((row_of site).0 + 1))) (slice_index starts (row_of site).0 + (row_of site).1)
+slot_of starts site = if nat_lt ((site_row site).0 + 1) (length starts)
+    then then_some (nat_lt (slice_index starts (site_row site).0 + (site_row site).1) (slice_index starts ((site_row site).0 + 1))) (slice_index starts (site_row site).0 + (site_row site).1)
     else None
 
 -- The slot of each site has its place.

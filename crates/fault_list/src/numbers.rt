@@ -25,13 +25,13 @@ pub struct FaultList {
 impl Model for FaultList {
     ghost use Rattle.std.specs.Prelude.{List};
     ghost use Rattle.net_model.specs.declared.fault.Fault.{Fault};
-    ghost use Rattle.fault_list.specs.Numbers.{faults_at, IsNumbered};
+    ghost use Rattle.fault_list.specs.Numbers.{faults_at, HasSiteNumbers};
 
     ghost Value = { List Fault };
 
     ghost view = { λ l. faults_at l.sites.items };
 
-    ghost invariant = { λ l. IsNumbered l.starts.items l.places.items l.sites.items };
+    ghost invariant = { λ l. HasSiteNumbers l.starts.items l.places.items l.sites.items };
 }
 
 /// All faults of a circuit: fewer than 134,217,728, number 0 included.

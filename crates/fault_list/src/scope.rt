@@ -6,7 +6,7 @@ ghost use Rattle.net_model.specs.Answer.{bit_at};
 ghost use Rattle.net_model.specs.Circuit.{line_count};
 ghost use Rattle.net_model.specs.Fault.{stuck_position};
 ghost use Rattle.net_model.specs.Scope.{is_split, is_relevant, is_reached};
-ghost use Rattle.fault_list.specs.Scope.{AreMarks, AreShown, IsScopeOf, MarksLines, is_first_changed, begins_at};
+ghost use Rattle.fault_list.specs.Scope.{AreMarksOfTest, AreReachedMarked, IsScopeOf, MarksLines, is_first_changed, begins_at};
 
 use net_model::{Circuit, Fault, Site};
 use std::alloc::{AllocError, Global};
@@ -77,7 +77,7 @@ fn split_lines(
     f: &Fault,
     g: &Fault,
 ) -> Result<Vec<bool>, AllocError>
-    ensures { IfOk result (λ marks. AreMarks (is_split circuit.now f.now g.now) (line_count circuit.now) marks.items) }
+    ensures { IfOk result (λ marks. AreMarksOfTest (is_split circuit.now f.now g.now) (line_count circuit.now) marks.items) }
 {
     let mut marks = first_lines(alloc, circuit, f, g)?;
     for line in circuit.order() {
@@ -95,7 +95,7 @@ fn first_lines(
     f: &Fault,
     g: &Fault,
 ) -> Result<Vec<bool>, AllocError>
-    ensures { IfOk result (λ marks. AreMarks (begins_at f.now g.now) (line_count circuit.now) marks.items) }
+    ensures { IfOk result (λ marks. AreMarksOfTest (begins_at f.now g.now) (line_count circuit.now) marks.items) }
 {
     let mut marks = Vec::with_capacity(alloc, circuit.lines() as usize)?;
     for line in 0..circuit.lines() {
@@ -112,8 +112,8 @@ fn reached_positions(
     g: &Fault,
     split: &[bool],
 ) -> Result<Vec<bool>, AllocError>
-    requires { AreMarks (is_split circuit.now f.now g.now) (line_count circuit.now) split.now }
-    ensures { IfOk result (λ marks. AreMarks (is_reached circuit.now f.now g.now) (length circuit.now.positions) marks.items) }
+    requires { AreMarksOfTest (is_split circuit.now f.now g.now) (line_count circuit.now) split.now }
+    ensures { IfOk result (λ marks. AreMarksOfTest (is_reached circuit.now f.now g.now) (length circuit.now.positions) marks.items) }
 {
     let mut marks = Vec::new(alloc);
     for (at, line) in circuit.positions().iter().enumerate() {
@@ -131,8 +131,8 @@ fn relevant_lines(
     g: &Fault,
     reached: &[bool],
 ) -> Result<Vec<bool>, AllocError>
-    requires { AreMarks (is_reached circuit.now f.now g.now) (length circuit.now.positions) reached.now }
-    ensures { IfOk result (λ marks. AreMarks (is_relevant circuit.now f.now g.now) (line_count circuit.now) marks.items) }
+    requires { AreMarksOfTest (is_reached circuit.now f.now g.now) (length circuit.now.positions) reached.now }
+    ensures { IfOk result (λ marks. AreMarksOfTest (is_relevant circuit.now f.now g.now) (line_count circuit.now) marks.items) }
 {
     let mut marks = shown_lines(alloc, circuit, reached)?;
     let order = circuit.order();
@@ -148,7 +148,7 @@ fn relevant_lines(
 // The lines of reached positions.
 fn shown_lines(alloc: Global, circuit: &Circuit, reached: &[bool]) -> Result<Vec<bool>, AllocError>
     requires { length reached.now ≡ length circuit.now.positions }
-    ensures { IfOk result (λ marks. AreShown circuit.now.positions reached.now (line_count circuit.now) marks.items) }
+    ensures { IfOk result (λ marks. AreReachedMarked circuit.now.positions reached.now (line_count circuit.now) marks.items) }
 {
     let mut marks = vec![in alloc; false; circuit.lines() as usize]?;
     for (at, line) in circuit.positions().iter().enumerate() {

@@ -5,14 +5,14 @@ ghost use Rattle.std.specs.Prelude.{◌≡◌, ◌<◌, ◌+◌, ◌↔◌, ℕ,
 ghost use Rattle.std.specs.List.{range_with_len};
 ghost use Rattle.net_model.specs.Circuit.{all_lines, line_count, pins_of};
 ghost use Rattle.net_model.specs.FaultList.{sites_of_line};
-ghost use Rattle.fault_list.specs.Slots.{row_of, row_start, slot_of, ArePlaces};
+ghost use Rattle.fault_list.specs.Slots.{site_row, site_row_start, slot_of, ArePlaces};
 
 use net_model::{Circuit, Site};
 use std::alloc::{AllocError, Global};
 
 // Where each row starts, and where the last one ends.
 pub(crate) fn starts(alloc: Global, circuit: &Circuit) -> Result<Vec<u32>, AllocError>
-    ensures { IfOk result (λ found. found.items ≡ map (row_start circuit.now) (range_with_len 0 (line_count circuit.now + 2))) }
+    ensures { IfOk result (λ found. found.items ≡ map (site_row_start circuit.now) (range_with_len 0 (line_count circuit.now + 2))) }
 {
     let mut starts = Vec::with_capacity(alloc, circuit.lines() as usize + 2)?;
     add_starts(&mut starts, circuit)?;
@@ -22,7 +22,7 @@ pub(crate) fn starts(alloc: Global, circuit: &Circuit) -> Result<Vec<u32>, Alloc
 // Adds them to none.
 fn add_starts(starts: &mut Vec<u32>, circuit: &Circuit) -> Result<(), AllocError>
     requires { starts.old.items ≡ [] }
-    ensures { OnOk result (starts.new.items ≡ map (row_start circuit.now) (range_with_len 0 (line_count circuit.now + 2))) }
+    ensures { OnOk result (starts.new.items ≡ map (site_row_start circuit.now) (range_with_len 0 (line_count circuit.now + 2))) }
 {
     let mut next = circuit.positions().len() as u32;
     starts.push(0)?;
@@ -52,7 +52,7 @@ pub(crate) fn places(
     starts: &[u32],
     sites: &[Site],
 ) -> Result<Vec<u32>, AllocError>
-    requires starts { starts.now ≡ map (row_start circuit.now) (range_with_len 0 (line_count circuit.now + 2)) }
+    requires starts { starts.now ≡ map (site_row_start circuit.now) (range_with_len 0 (line_count circuit.now + 2)) }
     requires sites { sites.now ≡ flat_map (sites_of_line circuit.now) (all_lines circuit.now) }
     ensures { IfOk result (λ found. ArePlaces starts.now found.items sites.now) }
 {
@@ -91,7 +91,7 @@ fn slot_of(starts: &[u32], site: Site) -> Option<usize>
 
 // The row of a site, and how far from the row's start it is.
 fn row_of(site: Site) -> (usize, usize)
-    ensures { result ≡ row_of site }
+    ensures { result ≡ site_row site }
 {
     match site {
         Site::Stem(line) => (line as usize + 1, 0),

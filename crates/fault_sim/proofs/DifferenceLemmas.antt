@@ -12,7 +12,7 @@ use Rattle.word_sim.specs.declared.lanes.TheConstants.{LANES}
 use Rattle.word_sim.specs.GoodSim.{GoodSim, vectors_of}
 use Rattle.net_model.specs.Gate.{inverted}
 use Rattle.fault_sim.specs.FaultyLanes.{faulty_bits, vector_at, IsFreeLane}
-use Rattle.fault_sim.specs.Events.{AreSettled, IsShown}
+use Rattle.fault_sim.specs.Events.{AreLanesSettled, IsPositionShown}
 use Rattle.fault_sim.specs.FaultSim.{AreDifferences}
 use Rattle.fault_sim.proofs.FaultyLemmas.{seen_at}
 use Rattle.fault_sim.proofs.SettledLemmas.{settled_all}
@@ -31,8 +31,8 @@ answer_at c is f v answer bits a agrees position h =
     ∙ seen_at (stuck_position f) bits c.positions position h
 
 module _ (good : GoodSim) (is : IsCircuit good.circuit) (few : length (vectors_of good) ≤ LANES) (f : Fault) (lines rows : List (List Bool)) where
-  pub differences_are : length lines ≡ line_count good.circuit → AreSettled good f lines → length rows ≡ length good.circuit.positions
-      → ((position : ℕ) → position < length good.circuit.positions → IsShown good f lines position (get_or rows position [])) → AreDifferences good.circuit f (vectors_of good) rows
+  pub differences_are : length lines ≡ line_count good.circuit → AreLanesSettled good f lines → length rows ≡ length good.circuit.positions
+      → ((position : ℕ) → position < length good.circuit.positions → IsPositionShown good f lines position (get_or rows position [])) → AreDifferences good.circuit f (vectors_of good) rows
   differences_are width settled whole shown = record {
     whole = whole;
     live = λ position lane h live answer without a b.

@@ -21,7 +21,7 @@ use Rattle.fault_sim.specs.Rows.{IsFalse, AreFalseBut}
 use Rattle.net_model.specs.Wiring.{Wiring, IsWiring}
 use Rattle.net_model.specs.Gate.{inverted}
 use Rattle.fault_sim.specs.FaultyLanes.{faulty_bits, vector_at, IsFreeLane, IsFalsePast, IsSettledLine}
-use Rattle.fault_sim.specs.Events.{AreSettled, AreIdleSettled, AreIdleSettledBut, AreFalsePast}
+use Rattle.fault_sim.specs.Events.{AreLanesSettled, AreIdleSettled, AreIdleSettledBut, AreFalsePast}
 use Rattle.fault_sim.proofs.FaultyLemmas.{length-faulty, faulty_at}
 
 -- ---- bits
@@ -126,7 +126,7 @@ module _ (good : GoodSim) (f : Fault) (w : Wiring) (is : IsCircuit good.circuit)
 
 -- ---- all lines are settled
 
-pub settled_all : (good : GoodSim) (f : Fault) (rows : List (List Bool)) → length rows ≡ line_count good.circuit → AreSettled good f rows
+pub settled_all : (good : GoodSim) (f : Fault) (rows : List (List Bool)) → length rows ≡ line_count good.circuit → AreLanesSettled good f rows
     → (lane : ℕ) (free : List Bool) → IsFreeLane good lane free → Agrees good.circuit f (vector_at good lane) (faulty_bits free rows lane)
 settled_all good f rows width settled lane free at = record {
   whole = length-faulty free rows lane ∙ width;

@@ -19,7 +19,7 @@ use Rattle.event_queue.specs.Pending.{is_pending, IsLowest}
 use Rattle.fault_sim.specs.Rows.{IsFalse, IsTrueSomewhere, AreFalseBut}
 use Rattle.net_model.specs.Gate.{inverted}
 use Rattle.fault_sim.specs.FaultyLanes.{faulty_bits}
-use Rattle.fault_sim.specs.Events.{IsShown, IsUntouched, stands_at}
+use Rattle.fault_sim.specs.Events.{IsPositionShown, IsPositionUntouched, stands_at}
 use Rattle.fault_sim.proofs.FaultyLemmas.{faulty_at}
 use Rattle.fault_sim.proofs.SettledLemmas.{inverted_none}
 
@@ -30,7 +30,7 @@ position_free (Stuck (Pin gate at) bit) position h = refl
 position_free (Stuck (Position at) bit) position h = ap (λ b. then_some b bit) (ne_eqb at position (λ e. h (ap Some e)))
 
 module _ (good : GoodSim) (f : Fault) (lines : List (List Bool)) where
-  pub shown_untouched : (position : ℕ) (row : List Bool) → get_or good.circuit.positions position 0 < length lines → IsUntouched good.circuit f lines position → IsFalse row → IsShown good f lines position row
+  pub shown_untouched : (position : ℕ) (row : List Bool) → get_or good.circuit.positions position 0 < length lines → IsPositionUntouched good.circuit f lines position → IsFalse row → IsPositionShown good f lines position row
   shown_untouched position row inside still none = record {
     live = λ lane free at.
         let line = get_or good.circuit.positions position 0 in
@@ -39,34 +39,34 @@ module _ (good : GoodSim) (f : Fault) (lines : List (List Bool)) where
     past = λ lane h within. none lane within;
   }
 
-  pub shown_same : (position : ℕ) (row other : List Bool) → ((lane : ℕ) → lane < LANES → bit_at other lane ≡ bit_at row lane) → IsShown good f lines position row → IsShown good f lines position other
+  pub shown_same : (position : ℕ) (row other : List Bool) → ((lane : ℕ) → lane < LANES → bit_at other lane ≡ bit_at row lane) → IsPositionShown good f lines position row → IsPositionShown good f lines position other
   shown_same position row other same shown = record {
     live = λ lane free at. ap (inverted (bit_at free (get_or good.circuit.positions position 0))) (same lane at.within) ∙ shown.live lane free at;
     past = λ lane h within. same lane within ∙ shown.past lane h within;
   }
 
   module _ (rows : List (List Bool)) (queue less : List Bool) (at : ℕ) (lowest : IsLowest queue less at) (count : ℕ)
-      (shown : (position : ℕ) → position < count → is_pending queue position ≡ false → IsShown good f lines position (get_or rows position [])) where
-    pub shown_more : (row : List Bool) → at < length rows → IsShown good f lines at row → (position : ℕ) → position < count → is_pending less position ≡ false → IsShown good f lines position (get_or (set rows at row) position [])
+      (shown : (position : ℕ) → position < count → is_pending queue position ≡ false → IsPositionShown good f lines position (get_or rows position [])) where
+    pub shown_more : (row : List Bool) → at < length rows → IsPositionShown good f lines at row → (position : ℕ) → position < count → is_pending less position ≡ false → IsPositionShown good f lines position (get_or (set rows at row) position [])
     shown_more row inside here position h idle =
         elim (cases_eq position at) [
           | inl same ↦
-              let P : ℕ → Type 0 = λ k. IsShown good f lines k (get_or (set rows at row) k []) in
-              subst P (sym same) (subst (IsShown good f lines at) (sym (get_or-set_same rows at row [] inside)) here)
-          | inr ne ↦ subst (IsShown good f lines position) (sym (get_or-set_other rows at position row [] ne)) (shown position h (sym (lowest.others position ne) ∙ idle))
+              let P : ℕ → Type 0 = λ k. IsPositionShown good f lines k (get_or (set rows at row) k []) in
+              subst P (sym same) (subst (IsPositionShown good f lines at) (sym (get_or-set_same rows at row [] inside)) here)
+          | inr ne ↦ subst (IsPositionShown good f lines position) (sym (get_or-set_other rows at position row [] ne)) (shown position h (sym (lowest.others position ne) ∙ idle))
         ]
 
-    pub shown_kept : IsShown good f lines at (get_or rows at []) → (position : ℕ) → position < count → is_pending less position ≡ false → IsShown good f lines position (get_or rows position [])
+    pub shown_kept : IsPositionShown good f lines at (get_or rows at []) → (position : ℕ) → position < count → is_pending less position ≡ false → IsPositionShown good f lines position (get_or rows position [])
     shown_kept here position h idle =
         elim (cases_eq position at) [
-          | inl same ↦ let P : ℕ → Type 0 = λ k. IsShown good f lines k (get_or rows k []) in subst P (sym same) here
+          | inl same ↦ let P : ℕ → Type 0 = λ k. IsPositionShown good f lines k (get_or rows k []) in subst P (sym same) here
           | inr ne ↦ shown position h (sym (lowest.others position ne) ∙ idle)
         ]
 
 -- what shows a listed line is marked, so the other positions show lines that aren't inverted
 pub untouched_idle : (c : Circuit) (w : Wiring) → IsWiring c w → (f : Fault) (lines : List (List Bool)) (listed : List ℕ) → length lines ≡ line_count c → AreFalseBut listed lines
     → (position : ℕ) → position < length c.positions → (stands_at f ≡ Some position → ⊥)
-    → ((line : ℕ) → Contains listed line → Contains (get_or w.showing line []) position → ⊥) → IsUntouched c f lines position
+    → ((line : ℕ) → Contains listed line → Contains (get_or w.showing line []) position → ⊥) → IsPositionUntouched c f lines position
 untouched_idle c w wired f lines listed width others position h apart unmarked =
     let line = get_or c.positions position 0 in
     let inside : line < length lines = omega (arith, width, wired.circuit.positions position 0 h) in

@@ -14,8 +14,8 @@ use Rattle.fault_sim.specs.FaultyLanes.{faulty_bits, IsFreeLane, IsFalsePast, Is
 
 module _ (good : GoodSim) (f : Fault) where
   -- Each line has the bit that its gate and the fault give it, in every live lane.
-  abbrev pub AreSettled : List (List Bool) → Type 0
-  AreSettled rows = (lane : ℕ) (free : List Bool) → IsFreeLane good lane free → (line : ℕ) → line < line_count good.circuit → IsSettledLine good f rows lane free line
+  abbrev pub AreLanesSettled : List (List Bool) → Type 0
+  AreLanesSettled rows = (lane : ℕ) (free : List Bool) → IsFreeLane good lane free → (line : ℕ) → line < line_count good.circuit → IsSettledLine good f rows lane free line
 
   -- The same of each line whose gate doesn't wait.
   abbrev pub AreIdleSettled : List ℕ → List Bool → List (List Bool) → Type 0
@@ -43,12 +43,12 @@ pub record IsUnderway (good : GoodSim) (order : List ℕ) (queue : List Bool) (r
   pub past : AreFalsePast good rows
 
 -- The row says in each lane whether the fault turns what the position shows.
-pub record IsShown (good : GoodSim) (f : Fault) (lines : List (List Bool)) (position : ℕ) (row : List Bool) : Type 0 where
+pub record IsPositionShown (good : GoodSim) (f : Fault) (lines : List (List Bool)) (position : ℕ) (row : List Bool) : Type 0 where
   pub live : (lane : ℕ) (free : List Bool) → IsFreeLane good lane free
       → inverted (bit_at free (slice_index good.circuit.positions position)) (bit_at row lane) ≡ unwrap_or (stuck_position f position) (bit_at (faulty_bits free lines lane) (slice_index good.circuit.positions position))
   pub past : IsFalsePast good row
 
 -- Neither the fault nor the lines turn what the position shows.
-pub record IsUntouched (c : Circuit) (f : Fault) (lines : List (List Bool)) (position : ℕ) : Type 0 where
+pub record IsPositionUntouched (c : Circuit) (f : Fault) (lines : List (List Bool)) (position : ℕ) : Type 0 where
   pub free : stuck_position f position ≡ None
   pub same : IsFalse (slice_index_or lines (slice_index c.positions position) [])

@@ -12,8 +12,8 @@ pub record FaultSim : Type 0 where
   pub differences : List (List Bool)
 
 -- the bits of a position by lane
-abbrev pub row_at : FaultSim → ℕ → List Bool
-row_at sim position = slice_index_or sim.differences position []
+abbrev pub lanes_at : FaultSim → ℕ → List Bool
+lanes_at sim position = slice_index_or sim.differences position []
 
 -- The bit is true exactly where the fault's answer to the vector and the fault-free one differ at the position.
 abbrev pub IsDifference : Circuit → Fault → List Bool → ℕ → Bool → Type 0
@@ -27,4 +27,4 @@ pub record AreDifferences (c : Circuit) (f : Fault) (vectors rows : List (List B
 
 -- Some position differs in the lane.
 abbrev pub IsSomeDifference : FaultSim → ℕ → Type 0
-IsSomeDifference sim lane = (position : ℕ) × (position < length sim.circuit.positions) × IsTrue (bit_at (row_at sim position) lane)
+IsSomeDifference sim lane = (position : ℕ) × (position < length sim.circuit.positions) × IsTrue (bit_at (lanes_at sim position) lane)

@@ -5,7 +5,7 @@ use Rattle.event_queue.specs.Pending.{IsEmpty}
 use Rattle.fault_sim.specs.declared.sim.FaultSim.TheInside.{Inside}
 use Rattle.fault_sim.specs.Rows.{IsTrueSomewhere}
 
-pub record IsReady (a : Inside) : Type 0 where
+pub record AreFaultSimFields (a : Inside) : Type 0 where
   pub circuit : IsCircuit a.circuit.now
   pub none_waits : IsEmpty a.queue
   pub none_marked : IsEmpty a.marks

@@ -7,7 +7,7 @@ ghost use Rattle.net_model.specs.Wiring.{IsWiring};
 ghost use Rattle.event_queue.specs.Pending.{is_pending, IsEmpty};
 ghost use Rattle.fault_sim.specs.FaultyLanes.{IsLive};
 ghost use Rattle.fault_sim.specs.Rows.{AreFalseBut, IsTrueSomewhere};
-ghost use Rattle.fault_sim.specs.Events.{AreSettled, AreIdleSettled, AreIdleSettledBut, AreFalsePast, IsUnderway, IsShown, IsUntouched, stands_at};
+ghost use Rattle.fault_sim.specs.Events.{AreLanesSettled, AreIdleSettled, AreIdleSettledBut, AreFalsePast, IsUnderway, IsPositionShown, IsPositionUntouched, stands_at};
 
 use crate::faulty::{line_change, position_change};
 use crate::rows::Rows;
@@ -35,7 +35,7 @@ pub(crate) fn change_lines(
     ensures room { rows.new.room ≡ rows.old.room }
     ensures queue { length good.now.circuit.gates ≤ length queue.new }
     ensures none { IsEmpty queue.new }
-    ensures settled { AreSettled good.now fault rows.new.rows }
+    ensures settled { AreLanesSettled good.now fault rows.new.rows }
     ensures past { AreFalsePast good.now rows.new.rows }
 {
     let Some(line) = first_changed(fault) else {
@@ -94,7 +94,7 @@ fn follow(
     requires settled { AreIdleSettled good.now fault wiring.now.order queue.old rows.old.rows }
     ensures room { rows.new.room ≡ rows.old.room }
     ensures none { IsEmpty queue.new }
-    ensures settled { AreSettled good.now fault rows.new.rows }
+    ensures settled { AreLanesSettled good.now fault rows.new.rows }
     ensures underway { IsUnderway good.now wiring.now.order queue.new rows.new.rows }
 {
     let order = wiring.order();
@@ -121,7 +121,7 @@ pub(crate) fn mark_positions(circuit: &Circuit, fault: Fault, lines: &Rows, mark
     requires none { IsEmpty marks.old }
     ensures room { length marks.new ≡ length marks.old }
     ensures within { (position : ℕ) → is_pending marks.new position ≡ true → position < length circuit.now.positions }
-    ensures others { (position : ℕ) → position < length circuit.now.positions → is_pending marks.new position ≡ false → IsUntouched circuit.now fault lines.now.rows position }
+    ensures others { (position : ℕ) → position < length circuit.now.positions → is_pending marks.new position ≡ false → IsPositionUntouched circuit.now fault lines.now.rows position }
 {
     let wiring = circuit.wiring();
     for line in lines.listed() {
@@ -160,14 +160,14 @@ pub(crate) fn show_positions(
     requires listed { positions.old.listed ≡ [] }
     requires room { length good.now.circuit.positions ≤ positions.old.room }
     requires within { (position : ℕ) → is_pending marks.old position ≡ true → position < length good.now.circuit.positions }
-    requires others { (position : ℕ) → position < length good.now.circuit.positions → is_pending marks.old position ≡ false → IsUntouched good.now.circuit fault lines.now position }
+    requires others { (position : ℕ) → position < length good.now.circuit.positions → is_pending marks.old position ≡ false → IsPositionUntouched good.now.circuit fault lines.now position }
     ensures marks { length marks.new ≡ length marks.old }
     ensures none { IsEmpty marks.new }
     ensures whole { length positions.new.rows ≡ length positions.old.rows }
     ensures room { positions.new.room ≡ positions.old.room }
     ensures some { All (λ at. IsTrueSomewhere (slice_index_or positions.new.rows at [])) positions.new.listed }
     ensures ascending { AllPairs ◌<◌ positions.new.listed }
-    ensures shown { (position : ℕ) → position < length good.now.circuit.positions → IsShown good.now fault lines.now position (slice_index_or positions.new.rows position []) }
+    ensures shown { (position : ℕ) → position < length good.now.circuit.positions → IsPositionShown good.now fault lines.now position (slice_index_or positions.new.rows position []) }
 {
     let shown = good.circuit().positions();
     let mut from = 0;

@@ -15,14 +15,14 @@ pub(crate) struct Rows {
 }
 
 impl Model for Rows {
-    ghost use Rattle.fault_sim.specs.RowsFields.{rows_of, AreListed};
+    ghost use Rattle.fault_sim.specs.RowsFields.{rows_inside, AreRowsListed};
     ghost use Rattle.fault_sim.specs.Rows as spec;
 
     ghost Value = { spec.Rows };
 
-    ghost view = { rows_of };
+    ghost view = { rows_inside };
 
-    ghost invariant = { AreListed };
+    ghost invariant = { AreRowsListed };
 }
 
 impl Rows {

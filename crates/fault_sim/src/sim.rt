@@ -5,7 +5,7 @@ ghost use Rattle.net_model.specs.Fault.{IsFaultOf};
 ghost use Rattle.net_model.specs.Answer.{bit_at};
 ghost use Rattle.word_sim.specs.GoodSim.{vectors_of};
 ghost use Rattle.fault_sim.specs.Rows.{IsFalse, IsTrueSomewhere};
-ghost use Rattle.fault_sim.specs.FaultSim.{row_at, AreDifferences, IsSomeDifference};
+ghost use Rattle.fault_sim.specs.FaultSim.{lanes_at, AreDifferences, IsSomeDifference};
 
 use crate::events::{change_lines, mark_positions, show_positions};
 use crate::rows::Rows;
@@ -40,13 +40,13 @@ impl Drop for FaultSim<'_> {
 
 impl<'a> Model for FaultSim<'a> {
     ghost use Rattle.fault_sim.specs.FaultSim as spec;
-    ghost use Rattle.fault_sim.specs.FaultSimFields.{IsReady};
+    ghost use Rattle.fault_sim.specs.FaultSimFields.{AreFaultSimFields};
 
     ghost Value = { spec.FaultSim };
 
     ghost view = { λ s. record { circuit = s.circuit.now; differences = s.positions.rows } };
 
-    ghost invariant = { IsReady };
+    ghost invariant = { AreFaultSimFields };
 }
 
 impl<'a> FaultSim<'a> {
@@ -95,7 +95,7 @@ impl<'a> FaultSim<'a> {
     /// In which lanes the answers differ at a position. A lane with no vector is false.
     pub fn differs(&self, position: u32) -> Lanes
         requires { position < length self.now.circuit.positions }
-        ensures { result ≡ row_at self.now position }
+        ensures { result ≡ lanes_at self.now position }
     {
         self.positions.row(position)
     }
@@ -103,7 +103,7 @@ impl<'a> FaultSim<'a> {
     /// The positions that differ in some lane, ascending.
     pub fn differing_positions(&self) -> &[u32]
         ensures within { All (λ position. position < length self.now.circuit.positions) result.now }
-        ensures exactly { (position : ℕ) → position < length self.now.circuit.positions → Contains result.now position ↔ IsTrueSomewhere (row_at self.now position) }
+        ensures exactly { (position : ℕ) → position < length self.now.circuit.positions → Contains result.now position ↔ IsTrueSomewhere (lanes_at self.now position) }
         ensures ascending { AllPairs ◌<◌ result.now }
     {
         self.positions.listed()

@@ -24,7 +24,7 @@ use Rattle.fault_sim.specs.FaultyLanes.{vector_at}
 use Rattle.kept_vectors.specs.declared.notes.Note.{Note}
 use Rattle.kept_vectors.specs.Kept.{KeptSoFar, nothing_kept, with_vector, Keeps, KeepsFirst, SplitInTurn, IsFiner}
 use Rattle.kept_vectors.specs.Keeper.{keeper_with, IsKeeper}
-use Rattle.kept_vectors.specs.Notes.{is_noted, AreRight, AreAlikeAt, IsBlank, bit_in}
+use Rattle.kept_vectors.specs.Notes.{is_noted, AreRightNotes, AreAlikeAt, IsRowBlank, bit_in}
 use Rattle.kept_vectors.proofs.AnswerLemmas.{row_exists, answer_in_row}
 use Rattle.kept_vectors.proofs.RowLemmas.{AreNotedAt, tell_same}
 use Rattle.kept_vectors.proofs.SameCuts.{same_kept, none_kept, whole_kept}
@@ -253,7 +253,7 @@ keeps_lane {old} {mid} {new} good all lane ran inside before one =
 
 module _ (good : GoodSim) (is : IsCircuit good.circuit) (kept : KeptSoFar) (numbers : length kept.table.class_of ≡ fault_count good.circuit) (lane : ℕ) (live : lane < length (vectors_of good)) where
   -- a lane whose vector is offered with the row of what is noted
-  pub offered_lane : (notes : List Note) → AreRight good notes → ((m n : ℕ) → m < length kept.table.class_of → n < length kept.table.class_of → class_at kept.table m ≡ class_at kept.table n → AreNotedAt good lane notes m n)
+  pub offered_lane : (notes : List Note) → AreRightNotes good notes → ((m n : ℕ) → m < length kept.table.class_of → n < length kept.table.class_of → class_at kept.table m ≡ class_at kept.table n → AreNotedAt good lane notes m n)
       → (row : List (List Bool)) → ((number position : ℕ) → bit_in row number position ≡ is_noted notes lane number position)
       → ((number : ℕ) → number < fault_count good.circuit → length (get_or row number []) ≡ length good.circuit.positions)
       → (new : KeptSoFar) → new ≡ with_vector kept (vector_at good lane, row) → Keeps good.circuit (vector_at good lane ∷ []) kept new
@@ -283,7 +283,7 @@ no_bit_in (suc count) width zero position = get_or-replicate_anywhere width posi
 no_bit_in (suc count) width (suc number) position = no_bit_in count width number position
 
 -- a row of zeros is blank
-pub blank_zeros : (c : Circuit) (row : List (List Bool)) (count width : ℕ) → row ≡ replicate count (replicate width false) → count ≡ fault_count c → width ≡ length c.positions → IsBlank c row
+pub blank_zeros : (c : Circuit) (row : List (List Bool)) (count width : ℕ) → row ≡ replicate count (replicate width false) → count ≡ fault_count c → width ≡ length c.positions → IsRowBlank c row
 blank_zeros c row count width is numbers positions = record {
   count = ap length is ∙ (length-replicate count (replicate width false) ∙ numbers);
   widths = λ number h.

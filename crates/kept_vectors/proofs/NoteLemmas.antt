@@ -19,9 +19,9 @@ use Rattle.word_sim.specs.declared.lanes.TheConstants.{LANES}
 use Rattle.word_sim.specs.GoodSim.{GoodSim, vectors_of}
 use Rattle.fault_sim.specs.FaultyLanes.{vector_at}
 use Rattle.fault_sim.specs.Rows.{IsTrueSomewhere}
-use Rattle.fault_sim.specs.FaultSim.{FaultSim, row_at, AreDifferences, IsDifference}
+use Rattle.fault_sim.specs.FaultSim.{FaultSim, lanes_at, AreDifferences, IsDifference}
 use Rattle.kept_vectors.specs.declared.notes.Note.{Note}
-use Rattle.kept_vectors.specs.Notes.{has_lane, is_noted, renumbered, AreNotesAt, IsDifferenceOf, IsReportOf, AreRight, IsWholeOf, IsUnnoted, AreNoted, AreAlikeAt, AreRootsOf}
+use Rattle.kept_vectors.specs.Notes.{has_lane, is_noted, renumbered, AreNotesAt, IsDifferenceOf, IsReportOf, AreRightNotes, IsWholeOf, IsUnnoted, AreNoted, AreAlikeAt, AreRootsOf}
 use Rattle.net_model.proofs.OneAnswer.{one_answer}
 use Rattle.kept_vectors.proofs.AnswerLemmas.{answer_exists, alike_by_differences}
 
@@ -29,38 +29,38 @@ use Rattle.kept_vectors.proofs.AnswerLemmas.{answer_exists, alike_by_differences
 
 -- the note of a number at a position
 abbrev pub note_at : FaultSim → ℕ → ℕ → Note
-note_at sim number position = record { number = number; position = position; lanes = row_at sim position }
+note_at sim number position = record { number = number; position = position; lanes = lanes_at sim position }
 
 module _ (sim : FaultSim) (number lane position : ℕ) where
-  any_row : (listed : List ℕ) → list_any (has_lane lane number position) (map (note_at sim number) listed) ≡ true → bit_at (row_at sim position) lane ≡ true
+  any_row : (listed : List ℕ) → list_any (has_lane lane number position) (map (note_at sim number) listed) ≡ true → bit_at (lanes_at sim position) lane ≡ true
   any_row [] e = absurd (false≢true e)
   any_row (q ∷ listed) e =
       elim (or_cases (has_lane lane number position (note_at sim number q)) (list_any (has_lane lane number position) (map (note_at sim number) listed)) e) [
         | inr later ↦ any_row listed later
         | inl here ↦
-            let both = and_parts (eqb number number && eqb q position) (bit_at (row_at sim q) lane) here in
+            let both = and_parts (eqb number number && eqb q position) (bit_at (lanes_at sim q) lane) here in
             let same : q ≡ position = eqb-true q position ((and_parts (eqb number number) (eqb q position) both.0).1) in
-            ap (λ (p : ℕ). bit_at (row_at sim p) lane) (sym same) ∙ both.1
+            ap (λ (p : ℕ). bit_at (lanes_at sim p) lane) (sym same) ∙ both.1
       ]
 
-  row_any : (listed : List ℕ) → Contains listed position → bit_at (row_at sim position) lane ≡ true → list_any (has_lane lane number position) (map (note_at sim number) listed) ≡ true
+  row_any : (listed : List ℕ) → Contains listed position → bit_at (lanes_at sim position) lane ≡ true → list_any (has_lane lane number position) (map (note_at sim number) listed) ≡ true
   row_any [] (k, h, is) e = absurd (omega (arith, h))
   row_any (q ∷ listed) (zero, h, is) e =
       or_left (has_lane lane number position (note_at sim number q)) (list_any (has_lane lane number position) (map (note_at sim number) listed))
-      (and_from (eqb number number && eqb q position) (bit_at (row_at sim q) lane) (and_from (eqb number number) (eqb q position) (eq-eqb number number refl) (eq-eqb q position is))
-      (ap (λ (p : ℕ). bit_at (row_at sim p) lane) is ∙ e))
+      (and_from (eqb number number && eqb q position) (bit_at (lanes_at sim q) lane) (and_from (eqb number number) (eqb q position) (eq-eqb number number refl) (eq-eqb q position is))
+      (ap (λ (p : ℕ). bit_at (lanes_at sim p) lane) is ∙ e))
   row_any (q ∷ listed) (suc k, h, is) e =
       or_right (has_lane lane number position (note_at sim number q)) (list_any (has_lane lane number position) (map (note_at sim number) listed))
       (row_any listed (k, omega (arith, h), is) e)
 
 -- the notes of all positions that differ
 pub notes_of : (sim : FaultSim) (number : ℕ) (listed : List ℕ) → All (λ position. position < length sim.circuit.positions) listed
-    → ((position : ℕ) → position < length sim.circuit.positions → Contains listed position ↔ IsTrueSomewhere (row_at sim position)) → AreNotesAt sim number (map (note_at sim number) listed)
+    → ((position : ℕ) → position < length sim.circuit.positions → Contains listed position ↔ IsTrueSomewhere (lanes_at sim position)) → AreNotesAt sim number (map (note_at sim number) listed)
 notes_of sim number listed within exactly = record {
   numbers = All-map (λ (note : Note). note.number ≡ number) (note_at sim number) listed (λ k d h. refl);
   positions = All-map (λ (note : Note). note.position < length sim.circuit.positions) (note_at sim number) listed within;
   noted = λ position lane h few.
-      one_truth (is_noted (map (note_at sim number) listed) lane number position) (bit_at (row_at sim position) lane) (any_row sim number lane position listed)
+      one_truth (is_noted (map (note_at sim number) listed) lane number position) (bit_at (lanes_at sim position) lane) (any_row sim number lane position listed)
       (λ e. row_any sim number lane position listed ((exactly position h).1 (lane, few, e)) e);
 }
 
@@ -131,7 +131,7 @@ module _ (good : GoodSim) (old more : List Note) where
 
   module _ (number : ℕ) (inside : number < fault_count good.circuit) (report : IsReportOf good number more) where
     -- they stay right
-    pub right_more : AreRight good old → AreRight good (old ++ more)
+    pub right_more : AreRightNotes good old → AreRightNotes good (old ++ more)
     right_more right = record {
       numbers = All-append (λ (note : Note). note.number < fault_count good.circuit) old more right.numbers (λ k d h. let e = report.numbers k d h in omega (arith, e, inside));
       positions = All-append (λ (note : Note). note.position < length good.circuit.positions) old more right.positions report.positions;
@@ -184,10 +184,10 @@ range_behind {X} xs ys a b start end =
 -- The bits of the two simulators are the same in a lane, so the numbers answer alike.
 pub alike_by_sims : (good : GoodSim) → IsCircuit good.circuit → (one other : FaultSim) (m n lane : ℕ)
     → AreDifferences good.circuit (fault_numbered good.circuit m) (vectors_of good) one.differences → AreDifferences good.circuit (fault_numbered good.circuit n) (vectors_of good) other.differences
-    → lane < length (vectors_of good) → ((position : ℕ) → position < length good.circuit.positions → bit_at (row_at one position) lane ≡ bit_at (row_at other position) lane)
+    → lane < length (vectors_of good) → ((position : ℕ) → position < length good.circuit.positions → bit_at (lanes_at one position) lane ≡ bit_at (lanes_at other position) lane)
     → AreAlikeAt good lane m n
 alike_by_sims good is one other m n lane first second live same =
-    alike_by_differences good.circuit is (fault_numbered good.circuit m) (fault_numbered good.circuit n) (vector_at good lane) (λ position. bit_at (row_at one position) lane)
+    alike_by_differences good.circuit is (fault_numbered good.circuit m) (fault_numbered good.circuit n) (vector_at good lane) (λ position. bit_at (lanes_at one position) lane)
     (λ position h. (first.live position lane h live, subst (λ b. IsDifferenceOf good n position lane b) (sym (same position h)) (second.live position lane h live)))
 
 -- a number answers like itself

@@ -11,7 +11,7 @@ use Rattle.net_model.specs.declared.fault.Fault.TheVariants.{Free}
 use Rattle.word_sim.specs.GoodSim.{GoodSim, vectors_of}
 use Rattle.fault_sim.specs.FaultyLanes.{vector_at}
 use Rattle.kept_vectors.specs.declared.notes.Note.{Note}
-use Rattle.kept_vectors.specs.Notes.{is_noted, IsDifferenceOf, AreRight, IsHidden, AreAlikeAt, bit_in, HaveSamePlaces}
+use Rattle.kept_vectors.specs.Notes.{is_noted, IsDifferenceOf, AreRightNotes, IsHidden, AreAlikeAt, bit_in, HaveSamePlaces}
 use Rattle.kept_vectors.proofs.AnswerLemmas.{answer_exists, answer_in_row, alike_by_differences, same_difference}
 use Rattle.kept_vectors.proofs.SameCuts.{TellSame}
 
@@ -27,14 +27,14 @@ abbrev pub AreNotedAt : GoodSim → ℕ → List Note → ℕ → ℕ → Type 0
 AreNotedAt good lane notes m n = (IsWholeAt good lane notes m × IsWholeAt good lane notes n) ⊎ (IsHidden good notes lane m × IsHidden good notes lane n × AreAlikeAt good lane m n)
 
 -- what is noted of a number is where its answers differ
-noted_differs : (good : GoodSim) (notes : List Note) → AreRight good notes → (number lane : ℕ) → IsWholeAt good lane notes number → (position : ℕ) → position < length good.circuit.positions → lane < length (vectors_of good)
+noted_differs : (good : GoodSim) (notes : List Note) → AreRightNotes good notes → (number lane : ℕ) → IsWholeAt good lane notes number → (position : ℕ) → position < length good.circuit.positions → lane < length (vectors_of good)
     → IsDifferenceOf good number position lane (is_noted notes lane number position)
 noted_differs good notes right number lane whole position h live = elim (cases_Bool (is_noted notes lane number position)) [
   | inl t ↦ subst (λ b. IsDifferenceOf good number position lane b) (sym t) (right.differ number position lane h live t)
   | inr f ↦ subst (λ b. IsDifferenceOf good number position lane b) (sym f) (whole position h f)
 ]
 
-module _ (good : GoodSim) (is : IsCircuit good.circuit) (notes : List Note) (right : AreRight good notes) (t : ClassTable) (numbers : length t.class_of ≡ fault_count good.circuit)
+module _ (good : GoodSim) (is : IsCircuit good.circuit) (notes : List Note) (right : AreRightNotes good notes) (t : ClassTable) (numbers : length t.class_of ≡ fault_count good.circuit)
     (lane : ℕ) (live : lane < length (vectors_of good)) (noted : (m n : ℕ) → m < length t.class_of → n < length t.class_of → class_at t m ≡ class_at t n → AreNotedAt good lane notes m n)
     (row answers : List (List Bool)) (set : (number position : ℕ) → bit_in row number position ≡ is_noted notes lane number position)
     (widths : (number : ℕ) → number < fault_count good.circuit → length (get_or row number []) ≡ length good.circuit.positions) (are : IsAnswerRow good.circuit (vector_at good lane) answers) where

@@ -18,7 +18,7 @@ use Rattle.class_refine.proofs.Ranges.{position_cases}
 use Rattle.word_sim.specs.GoodSim.{GoodSim, vectors_of}
 use Rattle.kept_vectors.specs.declared.notes.Note.{Note}
 use Rattle.kept_vectors.specs.declared.spans.Span.{Span}
-use Rattle.kept_vectors.specs.Notes.{has_lane, is_noted, AreRight, IsUnnoted, AreNoted, AreAlikeAt, IsShown, IsHidden, AreShown, bit_in, AreWithin, HaveSamePlaces, IsBlank}
+use Rattle.kept_vectors.specs.Notes.{has_lane, is_noted, AreRightNotes, IsUnnoted, AreNoted, AreAlikeAt, IsNumberShown, IsHidden, AreShownAlike, bit_in, AreNotesWithin, HaveSamePlaces, IsRowBlank}
 use Rattle.kept_vectors.specs.Spans.{ArePartsOf, span_with, span_notes, lane_notes}
 use Rattle.kept_vectors.proofs.NoteLemmas.{range_longer, range_behind}
 use Rattle.kept_vectors.proofs.RowLemmas.{AreNotedAt}
@@ -162,7 +162,7 @@ module _ (good : GoodSim) (spans : List Span) (old more : List Note) (lanes : Li
   abbrev pub shown_now : List Note
   shown_now = lane_notes (spans ++ cond (ltb start end) (span_with lanes start end ∷ []) []) (old ++ more) lane
 
-  still_shown : (number : ℕ) → IsUnnoted good more number → IsShown good shown_then old lane number → IsShown good shown_now (old ++ more) lane number
+  still_shown : (number : ℕ) → IsUnnoted good more number → IsNumberShown good shown_then old lane number → IsNumberShown good shown_now (old ++ more) lane number
   still_shown number none is position h =
       shown_before spans old more lane lanes start end first last number position parts (none position lane h live)
       ∙ (is position h ∙ sym (both_noted old more lane number position ∙ (ap (λ b. is_noted old lane number position || b) (none position lane h live) ∙ or_none (is_noted old lane number position))))
@@ -175,11 +175,11 @@ module _ (good : GoodSim) (spans : List Span) (old more : List Note) (lanes : Li
   still_hidden number none is position h = shown_before spans old more lane lanes start end first last number position parts (none position lane h live) ∙ is position h
 
   -- two numbers of an earlier class
-  pub shown_later : (m n : ℕ) → IsUnnoted good more m → IsUnnoted good more n → AreShown good shown_then old lane m n → AreShown good shown_now (old ++ more) lane m n
+  pub shown_later : (m n : ℕ) → IsUnnoted good more m → IsUnnoted good more n → AreShownAlike good shown_then old lane m n → AreShownAlike good shown_now (old ++ more) lane m n
   shown_later m n um un (inl both) = inl (still_shown m um both.0, still_shown n un both.1)
   shown_later m n um un (inr none) = inr (still_hidden m um none.0, still_hidden n un none.1, none.2)
 
-  now_shown : (number : ℕ) → IsUnnoted good old number → bit_at lanes lane ≡ true → IsShown good shown_now (old ++ more) lane number
+  now_shown : (number : ℕ) → IsUnnoted good old number → bit_at lanes lane ≡ true → IsNumberShown good shown_now (old ++ more) lane number
   now_shown number none on position h =
       shown_here spans old more lane lanes start end first last number position parts (none position lane h live)
       ∙ (ap (λ b. b && is_noted more lane number position) on ∙ sym (both_noted old more lane number position ∙ ap (λ b. b || is_noted more lane number position) (none position lane h live)))
@@ -189,7 +189,7 @@ module _ (good : GoodSim) (spans : List Span) (old more : List Note) (lanes : Li
       shown_here spans old more lane lanes start end first last number position parts (none position lane h live) ∙ ap (λ b. b && is_noted more lane number position) off
 
   -- two numbers of the new class
-  pub shown_class : (m n : ℕ) → IsUnnoted good old m → IsUnnoted good old n → (bit_at lanes lane ≡ false → AreAlikeAt good lane m n) → AreShown good shown_now (old ++ more) lane m n
+  pub shown_class : (m n : ℕ) → IsUnnoted good old m → IsUnnoted good old n → (bit_at lanes lane ≡ false → AreAlikeAt good lane m n) → AreShownAlike good shown_now (old ++ more) lane m n
   shown_class m n um un alike = elim (cases_Bool (bit_at lanes lane)) [
     | inl on ↦ inl (now_shown m um on, now_shown n un on)
     | inr off ↦ inr (now_hidden m um off, now_hidden n un off, alike off)
@@ -198,14 +198,14 @@ module _ (good : GoodSim) (spans : List Span) (old more : List Note) (lanes : Li
 -- ---- what a lane shows tells of the lane
 
 module _ (good : GoodSim) (spans : List Span) (notes : List Note) (lane : ℕ) where
-  pub right_shown : AreRight good notes → AreRight good (lane_notes spans notes lane)
+  pub right_shown : AreRightNotes good notes → AreRightNotes good (lane_notes spans notes lane)
   right_shown right = record {
     numbers = lane_All (λ (note : Note). note.number < fault_count good.circuit) spans notes lane right.numbers;
     positions = lane_All (λ (note : Note). note.position < length good.circuit.positions) spans notes lane right.positions;
     differ = λ number position other h live e. right.differ number position other h live (lane_noted other number position spans notes lane e);
   }
 
-  pub told_at : (m n : ℕ) → lane < length (vectors_of good) → AreNoted good notes m n → AreShown good (lane_notes spans notes lane) notes lane m n → AreNotedAt good lane (lane_notes spans notes lane) m n
+  pub told_at : (m n : ℕ) → lane < length (vectors_of good) → AreNoted good notes m n → AreShownAlike good (lane_notes spans notes lane) notes lane m n → AreNotedAt good lane (lane_notes spans notes lane) m n
   told_at m n live (inl whole) (inl both) = inl (λ position h e. whole.0 position lane h live (sym (both.0 position h) ∙ e), λ position h e. whole.1 position lane h live (sym (both.1 position h) ∙ e))
   told_at m n live (inr none) (inl both) = inr (λ position h. both.0 position h ∙ none.0 position lane h live, λ position h. both.1 position h ∙ none.1 position lane h live, none.2 lane live)
   told_at m n live noted (inr hidden) = inr hidden
@@ -221,9 +221,9 @@ none_noted t classes lane number position (note ∷ notes) all none =
     let rest = none_noted t classes lane number position notes (All-tail (λ (n : Note). Contains classes (class_at t n.number)) note notes all) none in
     λ i. (other i && eqb note.position position && bit_at note.lanes lane) || rest i
 
-module _ (good : GoodSim) (row : List (List Bool)) (blank : IsBlank good.circuit row) (filled : List (List Bool)) (places : HaveSamePlaces row filled) (notes : List Note) where
+module _ (good : GoodSim) (row : List (List Bool)) (blank : IsRowBlank good.circuit row) (filled : List (List Bool)) (places : HaveSamePlaces row filled) (notes : List Note) where
   -- the notes are within the row
-  pub notes_within : AreRight good notes → AreWithin filled notes
+  pub notes_within : AreRightNotes good notes → AreNotesWithin filled notes
   notes_within right k d h =
       let number = right.numbers k d h in
       let position = right.positions k d h in

@@ -6,7 +6,7 @@ use Rattle.std.proofs.lemmas.List.Folds.{list_any_more}
 use Rattle.std.proofs.Math.Bool.{and-true, and-false}
 use Rattle.net_model.specs.Answer.{bit_at}
 use Rattle.kept_vectors.specs.declared.notes.Note.{Note}
-use Rattle.kept_vectors.specs.Notes.{has_lane, is_noted, bit_in, AreWithin, HaveSamePlaces}
+use Rattle.kept_vectors.specs.Notes.{has_lane, is_noted, bit_in, AreNotesWithin, HaveSamePlaces}
 
 -- The bit of a note is written if it has the lane.
 pub record IsWritten (note : Note) (lane : ℕ) (bit : Bool) (row new : List (List Bool)) : Type 0 where
@@ -68,7 +68,7 @@ module _ (note : Note) (lane : ℕ) (bit : Bool) (row new : List (List Bool)) wh
   })
 
 module _ (notes : List Note) (i : ℕ) (note : Note) (h : i < length notes) (is : note ≡ get_or notes i note) where
-  pub note_inside : {old row : List (List Bool)} → AreWithin old notes → HaveSamePlaces old row → (note.number < length row) × (note.position < length (get_or row note.number []))
+  pub note_inside : {old row : List (List Bool)} → AreNotesWithin old notes → HaveSamePlaces old row → (note.number < length row) × (note.position < length (get_or row note.number []))
   note_inside {old} {row} inside same =
       let at = subst (λ (n : Note). (n.number < length old) × (n.position < length (get_or old n.number []))) (sym is) (inside i note h) in
       (omega (arith, at.0, same.count), omega (arith, at.1, same.widths note.number))

@@ -8,7 +8,7 @@ use Rattle.kept_vectors.specs.Scan.{kept_now, IsScan}
 abbrev pub keeper_of : Inside → Keeper
 keeper_of a = keeper_with a.scan.good.circuit (kept_now a.kept)
 
-pub record IsReady (a : Inside) : Type 0 where
+pub record AreKeeperFields (a : Inside) : Type 0 where
   pub scan : IsScan a.scan
   pub keeper : IsKeeper (keeper_of a)
   pub stream : (done : ℕ) × (a.stream ≡ stream_at a.scan.good.circuit.sources done)

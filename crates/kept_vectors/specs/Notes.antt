@@ -10,7 +10,7 @@ use Rattle.class_refine.specs.Fields.{IsWhole}
 use Rattle.word_sim.specs.declared.lanes.TheConstants.{LANES}
 use Rattle.word_sim.specs.GoodSim.{GoodSim, vectors_of}
 use Rattle.fault_sim.specs.FaultyLanes.{vector_at}
-use Rattle.fault_sim.specs.FaultSim.{FaultSim, row_at, IsDifference}
+use Rattle.fault_sim.specs.FaultSim.{FaultSim, lanes_at, IsDifference}
 use Rattle.kept_vectors.specs.declared.notes.Note.{Note}
 use Rattle.kept_vectors.specs.declared.spans.Span.{Span}
 use Rattle.kept_vectors.specs.declared.differences.Differences.{Differences}
@@ -31,7 +31,7 @@ renumbered number note = record { number = number; position = note.position; lan
 pub record AreNotesAt (sim : FaultSim) (number : ℕ) (notes : List Note) : Type 0 where
   pub numbers : All (λ note. note.number ≡ number) notes
   pub positions : All (λ note. note.position < length sim.circuit.positions) notes
-  pub noted : (position lane : ℕ) → position < length sim.circuit.positions → lane < LANES → is_noted notes lane number position ≡ bit_at (row_at sim position) lane
+  pub noted : (position lane : ℕ) → position < length sim.circuit.positions → lane < LANES → is_noted notes lane number position ≡ bit_at (lanes_at sim position) lane
 
 module _ (good : GoodSim) where
   -- The bit is true exactly where the number's answer at the position differs from the fault-free one, in this lane.
@@ -45,7 +45,7 @@ module _ (good : GoodSim) where
     pub differ : (position lane : ℕ) → position < length good.circuit.positions → lane < length (vectors_of good) → IsDifferenceOf number position lane (is_noted notes lane number position)
 
   -- The notes are of numbers and positions of the circuit, and the answers differ where they say so.
-  pub record AreRight (notes : List Note) : Type 0 where
+  pub record AreRightNotes (notes : List Note) : Type 0 where
     pub numbers : All (λ note. note.number < fault_count good.circuit) notes
     pub positions : All (λ note. note.position < length good.circuit.positions) notes
     pub differ : (number position lane : ℕ) → position < length good.circuit.positions → lane < length (vectors_of good) → is_noted notes lane number position ≡ true
@@ -70,15 +70,15 @@ module _ (good : GoodSim) where
   AreNoted notes m n = (IsWholeOf notes m × IsWholeOf notes n) ⊎ (IsUnnoted notes m × IsUnnoted notes n × ((lane : ℕ) → lane < length (vectors_of good) → AreAlikeAt lane m n))
 
   -- All that is noted of the number in the lane is shown, or nothing is.
-  abbrev pub IsShown : List Note → List Note → ℕ → ℕ → Type 0
-  IsShown shown notes lane number = (position : ℕ) → position < length good.circuit.positions → is_noted shown lane number position ≡ is_noted notes lane number position
+  abbrev pub IsNumberShown : List Note → List Note → ℕ → ℕ → Type 0
+  IsNumberShown shown notes lane number = (position : ℕ) → position < length good.circuit.positions → is_noted shown lane number position ≡ is_noted notes lane number position
 
   abbrev pub IsHidden : List Note → ℕ → ℕ → Type 0
   IsHidden shown lane number = (position : ℕ) → position < length good.circuit.positions → is_noted shown lane number position ≡ false
 
   -- Both numbers are shown in the lane, or neither is, and they answer alike to its vector.
-  abbrev pub AreShown : List Note → List Note → ℕ → ℕ → ℕ → Type 0
-  AreShown shown notes lane m n = (IsShown shown notes lane m × IsShown shown notes lane n) ⊎ (IsHidden shown lane m × IsHidden shown lane n × AreAlikeAt lane m n)
+  abbrev pub AreShownAlike : List Note → List Note → ℕ → ℕ → ℕ → Type 0
+  AreShownAlike shown notes lane m n = (IsNumberShown shown notes lane m × IsNumberShown shown notes lane n) ⊎ (IsHidden shown lane m × IsHidden shown lane n × AreAlikeAt lane m n)
 
 -- The circuit has run these vectors, and it is noted how the numbers of each class of the table answer to them. A lane that is false in
 -- `splitting` tells no two of one class apart, nor does one that is false in the span of a class two of that class.
@@ -87,11 +87,11 @@ pub record AreTold (good : GoodSim) (vectors : List (List Bool)) (splitting : Li
   pub ran : good.ran ≡ Some vectors
   pub whole : IsWhole t
   pub numbers : length t.class_of ≡ fault_count good.circuit
-  pub right : AreRight good notes
+  pub right : AreRightNotes good notes
   pub noted : (m n : ℕ) → m < length t.class_of → n < length t.class_of → class_at t m ≡ class_at t n → AreNoted good notes m n
   pub alike : (m n lane : ℕ) → m < length t.class_of → n < length t.class_of → class_at t m ≡ class_at t n → lane < length (vectors_of good) → bit_at splitting lane ≡ false → AreAlikeAt good lane m n
   pub parts : ArePartsOf notes spans
-  pub shown : (m n lane : ℕ) → m < length t.class_of → n < length t.class_of → class_at t m ≡ class_at t n → lane < length (vectors_of good) → AreShown good (lane_notes spans notes lane) notes lane m n
+  pub shown : (m n lane : ℕ) → m < length t.class_of → n < length t.class_of → class_at t m ≡ class_at t n → lane < length (vectors_of good) → AreShownAlike good (lane_notes spans notes lane) notes lane m n
 
 -- Numbers with one root answer alike to every vector.
 pub record AreRootsOf (c : Circuit) (roots : List ℕ) : Type 0 where
@@ -100,7 +100,7 @@ pub record AreRootsOf (c : Circuit) (roots : List ℕ) : Type 0 where
   pub equal : IsCircuit c → (m n : ℕ) → m < fault_count c → n < fault_count c → slice_index roots m ≡ slice_index roots n → AreEqual c (fault_numbered c m) (fault_numbered c n)
 
 -- The circuit has run a block, and these are its faults and their roots.
-pub record HasRun (good : GoodSim) (listed : List Fault) (roots : List ℕ) : Type 0 where
+pub record HasRunBlock (good : GoodSim) (listed : List Fault) (roots : List ℕ) : Type 0 where
   pub circuit : IsCircuit good.circuit
   pub ran : IsSome good.ran
   pub few : length (vectors_of good) ≤ LANES
@@ -125,8 +125,8 @@ abbrev pub bit_in : List (List Bool) → ℕ → ℕ → Bool
 bit_in row number position = bit_at (slice_index_or row number []) position
 
 -- The row has the places of the notes.
-abbrev pub AreWithin : List (List Bool) → List Note → Type 0
-AreWithin row notes = All (λ note. (note.number < length row) × (note.position < length (slice_index_or row note.number []))) notes
+abbrev pub AreNotesWithin : List (List Bool) → List Note → Type 0
+AreNotesWithin row notes = All (λ note. (note.number < length row) × (note.position < length (slice_index_or row note.number []))) notes
 
 -- The rows have the same places.
 pub record HaveSamePlaces (old new : List (List Bool)) : Type 0 where
@@ -134,7 +134,7 @@ pub record HaveSamePlaces (old new : List (List Bool)) : Type 0 where
   pub widths : (number : ℕ) → length (slice_index_or new number []) ≡ length (slice_index_or old number [])
 
 -- The row has a place for each number and position of the circuit, and nothing is set.
-pub record IsBlank (c : Circuit) (row : List (List Bool)) : Type 0 where
+pub record IsRowBlank (c : Circuit) (row : List (List Bool)) : Type 0 where
   pub count : length row ≡ fault_count c
   pub widths : (number : ℕ) → number < fault_count c → length (slice_index_or row number []) ≡ length c.positions
   pub clear : (number position : ℕ) → bit_in row number position ≡ false

@@ -7,7 +7,7 @@ use Rattle.fault_collapse.specs.Forest.{IsForestOf}
 use Rattle.kept_vectors.specs.declared.scan.Kept.{Kept}
 use Rattle.kept_vectors.specs.declared.scan.Scan.{Scan}
 use Rattle.kept_vectors.specs.Kept.{KeptSoFar, Keeps}
-use Rattle.kept_vectors.specs.Notes.{AreOf, IsBlank}
+use Rattle.kept_vectors.specs.Notes.{AreOf, IsRowBlank}
 
 -- what the code holds, as the definition has it
 abbrev pub kept_now : Kept → KeptSoFar
@@ -20,7 +20,7 @@ pub record IsScan (s : Scan) : Type 0 where
   pub forest_of : IsForestOf s.good.circuit s.forest.now
   pub block : s.block.sources ≡ s.good.circuit.sources
   pub differences : AreOf s.good.circuit s.differences
-  pub blank : IsBlank s.good.circuit s.row
+  pub blank : IsRowBlank s.good.circuit s.row
 
 -- what a vector does: where it splits a class it stands behind the others, and else nothing changes
 abbrev pub IsOffered : Bool → List Bool → KeptSoFar → KeptSoFar → Type 0
@@ -33,6 +33,6 @@ pub record HasJudged (c : Circuit) (vectors : List (List Bool)) (run : Bool) (co
   pub kept : IsTrue run → new.vectors ≡ old.vectors ++ take count vectors
 
 -- All were judged, or of a run those up to one that changes nothing.
-pub record IsEnded (c : Circuit) (vectors : List (List Bool)) (run : Bool) (count : ℕ) (new : KeptSoFar) : Type 0 where
+pub record IsScanEnd (c : Circuit) (vectors : List (List Bool)) (run : Bool) (count : ℕ) (new : KeptSoFar) : Type 0 where
   pub all : ¬ IsTrue run → count ≡ length vectors
   pub stops : count < length vectors → Keeps c (slice_index_or vectors count [] ∷ []) new new

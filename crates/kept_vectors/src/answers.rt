@@ -1,7 +1,7 @@
 //! A row of answers, as differences from the fault-free ones.
 
 ghost use Rattle.std.specs.Prelude.{◌≡◌, ℕ, ◌<◌, false, if◌then◌else◌};
-ghost use Rattle.kept_vectors.specs.Notes.{is_noted, AreWithin, HaveSamePlaces, bit_in};
+ghost use Rattle.kept_vectors.specs.Notes.{is_noted, AreNotesWithin, HaveSamePlaces, bit_in};
 
 use crate::notes::Note;
 use net_model::AnswerRows;
@@ -11,7 +11,7 @@ use word_sim::LANES;
 pub(crate) fn fill_row(notes: &[Note], lane: u32, row: &mut AnswerRows)
     requires lane { lane < LANES }
     requires clear { (number position : ℕ) → bit_in row.old number position ≡ false }
-    requires inside { AreWithin row.old notes.now }
+    requires inside { AreNotesWithin row.old notes.now }
     ensures places { HaveSamePlaces row.old row.new }
     ensures set { (number position : ℕ) → bit_in row.new number position ≡ is_noted notes.now lane number position }
 {
@@ -22,7 +22,7 @@ pub(crate) fn fill_row(notes: &[Note], lane: u32, row: &mut AnswerRows)
 pub(crate) fn clear_row(notes: &[Note], lane: u32, row: &mut AnswerRows)
     requires lane { lane < LANES }
     requires set { (number position : ℕ) → bit_in row.old number position ≡ is_noted notes.now lane number position }
-    requires inside { AreWithin row.old notes.now }
+    requires inside { AreNotesWithin row.old notes.now }
     ensures places { HaveSamePlaces row.old row.new }
     ensures clear { (number position : ℕ) → bit_in row.new number position ≡ false }
 {
@@ -32,7 +32,7 @@ pub(crate) fn clear_row(notes: &[Note], lane: u32, row: &mut AnswerRows)
 // Writes a bit where something is noted in a lane.
 fn write_bits(notes: &[Note], lane: u32, bit: bool, row: &mut AnswerRows)
     requires lane { lane < LANES }
-    requires inside { AreWithin row.old notes.now }
+    requires inside { AreNotesWithin row.old notes.now }
     ensures places { HaveSamePlaces row.old row.new }
     ensures written { (number position : ℕ) → bit_in row.new number position ≡ (if is_noted notes.now lane number position then bit else bit_in row.old number position) }
 {

@@ -5,8 +5,8 @@ ghost use Rattle.net_model.specs.FaultList.{fault_count, fault_numbered};
 ghost use Rattle.net_model.specs.Answer.{bit_at};
 ghost use Rattle.net_model.specs.ClassTable.{class_at};
 ghost use Rattle.word_sim.specs.GoodSim.{vectors_of};
-ghost use Rattle.fault_sim.specs.FaultSim.{row_at, AreDifferences};
-ghost use Rattle.kept_vectors.specs.Notes.{AreRight, AreNoted, IsUnnoted, AreAlikeAt, HasRun, AreOf, AreSpans, IsReportOf, AreShown};
+ghost use Rattle.fault_sim.specs.FaultSim.{lanes_at, AreDifferences};
+ghost use Rattle.kept_vectors.specs.Notes.{AreRightNotes, AreNoted, IsUnnoted, AreAlikeAt, HasRunBlock, AreOf, AreSpans, IsReportOf, AreShownAlike};
 ghost use Rattle.kept_vectors.specs.Spans.{ArePartsOf, lane_notes};
 
 use crate::notes::{Note, copy_notes, have_one_root, simulate};
@@ -79,15 +79,15 @@ impl<'a> Differences<'a> {
         roots: &[u32],
         classes: &Classes,
     ) -> Result<Lanes, AllocError>
-        requires run { HasRun good.now listed.now roots.now }
+        requires run { HasRunBlock good.now listed.now roots.now }
         requires numbers { length classes.now.class_of ≡ fault_count good.now.circuit }
         requires of { AreOf good.now.circuit self.old }
         ensures of { AreOf good.now.circuit self.new }
-        ensures right { OnOk result (AreRight good.now self.new.notes.items) }
+        ensures right { OnOk result (AreRightNotes good.now self.new.notes.items) }
         ensures noted { OnOk result ((m n : ℕ) → m < length classes.now.class_of → n < length classes.now.class_of → class_at classes.now m ≡ class_at classes.now n → AreNoted good.now self.new.notes.items m n) }
         ensures alike { IfOk result (λ lanes. (m n lane : ℕ) → m < length classes.now.class_of → n < length classes.now.class_of → class_at classes.now m ≡ class_at classes.now n → lane < length (vectors_of good.now) → bit_at lanes lane ≡ false → AreAlikeAt good.now lane m n) }
         ensures parts { OnOk result (ArePartsOf self.new.notes.items self.new.spans.items) }
-        ensures shown { OnOk result ((m n lane : ℕ) → m < length classes.now.class_of → n < length classes.now.class_of → class_at classes.now m ≡ class_at classes.now n → lane < length (vectors_of good.now) → AreShown good.now (lane_notes self.new.spans.items self.new.notes.items lane) self.new.notes.items lane m n) }
+        ensures shown { OnOk result ((m n lane : ℕ) → m < length classes.now.class_of → n < length classes.now.class_of → class_at classes.now m ≡ class_at classes.now n → lane < length (vectors_of good.now) → AreShownAlike good.now (lane_notes self.new.spans.items self.new.notes.items lane) self.new.notes.items lane m n) }
     {
         self.notes.clear();
         self.spans.clear();
@@ -115,15 +115,15 @@ impl<'a> Differences<'a> {
         roots: &[u32],
         group: &[u32],
     ) -> Result<Lanes, AllocError>
-        requires run { HasRun good.now listed.now roots.now }
+        requires run { HasRunBlock good.now listed.now roots.now }
         requires inside { All (λ number. number < fault_count good.now.circuit) group.now }
         requires room { length group.now ≤ fault_count good.now.circuit }
         requires fresh { All (IsUnnoted good.now self.old.notes.items) group.now }
         requires of { AreOf good.now.circuit self.old }
-        requires right { AreRight good.now self.old.notes.items }
+        requires right { AreRightNotes good.now self.old.notes.items }
         ensures of { AreOf good.now.circuit self.new }
         ensures spans { self.new.spans ≡ self.old.spans }
-        ensures right { OnOk result (AreRight good.now self.new.notes.items) }
+        ensures right { OnOk result (AreRightNotes good.now self.new.notes.items) }
         ensures more { OnOk result ((more : List Note) × (self.new.notes.items ≡ self.old.notes.items ++ more) × All (λ note. Contains group.now note.number) more) }
         ensures noted { OnOk result ((m n : ℕ) → Contains group.now m → Contains group.now n → AreNoted good.now self.new.notes.items m n) }
         ensures alike { IfOk result (λ lanes. (m n lane : ℕ) → Contains group.now m → Contains group.now n → lane < length (vectors_of good.now) → bit_at lanes lane ≡ false → AreAlikeAt good.now lane m n) }
@@ -147,7 +147,7 @@ impl<'a> Differences<'a> {
         roots: &[u32],
         group: &[u32],
     ) -> Result<(), AllocError>
-        requires run { HasRun good.now listed.now roots.now }
+        requires run { HasRunBlock good.now listed.now roots.now }
         requires inside { All (λ number. number < fault_count good.now.circuit) group.now }
         requires room { length group.now ≤ fault_count good.now.circuit }
         requires some { 0 < length group.now }
@@ -177,7 +177,7 @@ impl<'a> Differences<'a> {
         at: usize,
         lanes: Lanes,
     ) -> Result<Lanes, AllocError>
-        requires run { HasRun good.now listed.now roots.now }
+        requires run { HasRunBlock good.now listed.now roots.now }
         requires inside { All (λ number. number < fault_count good.now.circuit) group.now }
         requires room { length group.now ≤ fault_count good.now.circuit }
         requires of { AreOf good.now.circuit self.old }
@@ -228,7 +228,7 @@ fn twin_at(places: &[usize], roots: &[u32], group: &[u32], at: usize) -> Option<
 // 1 in the lanes in which the answers differ.
 fn apart(one: &FaultSim, other: &FaultSim) -> Lanes
     requires { one.now.circuit ≡ other.now.circuit }
-    ensures { (lane position : ℕ) → lane < LANES → position < length one.now.circuit.positions → bit_at result lane ≡ false → bit_at (row_at one.now position) lane ≡ bit_at (row_at other.now position) lane }
+    ensures { (lane position : ℕ) → lane < LANES → position < length one.now.circuit.positions → bit_at result lane ≡ false → bit_at (lanes_at one.now position) lane ≡ bit_at (lanes_at other.now position) lane }
 {
     apart_at(one, other, one.differing_positions()).or(apart_at(
         one,
@@ -241,7 +241,7 @@ fn apart(one: &FaultSim, other: &FaultSim) -> Lanes
 fn apart_at(one: &FaultSim, other: &FaultSim, positions: &[u32]) -> Lanes
     requires circuit { one.now.circuit ≡ other.now.circuit }
     requires inside { All (λ position. position < length one.now.circuit.positions) positions.now }
-    ensures { (lane position : ℕ) → lane < LANES → Contains positions.now position → bit_at result lane ≡ false → bit_at (row_at one.now position) lane ≡ bit_at (row_at other.now position) lane }
+    ensures { (lane position : ℕ) → lane < LANES → Contains positions.now position → bit_at result lane ≡ false → bit_at (lanes_at one.now position) lane ≡ bit_at (lanes_at other.now position) lane }
 {
     let mut lanes = Lanes::all(false);
     for position in positions {

@@ -42,12 +42,12 @@ impl Drop for Keeper<'_> {
 }
 
 impl<'a> Model for Keeper<'a> {
-    ghost use Rattle.kept_vectors.specs.KeeperFields.{keeper_of, IsReady};
+    ghost use Rattle.kept_vectors.specs.KeeperFields.{keeper_of, AreKeeperFields};
     ghost use Rattle.kept_vectors.specs.Keeper as spec;
 
     ghost Value = { spec.Keeper };
 
-    ghost invariant = { IsReady };
+    ghost invariant = { AreKeeperFields };
 
     ghost view = { keeper_of };
 }

@@ -9,8 +9,8 @@ ghost use Rattle.class_refine.specs.Fields.{IsWhole};
 ghost use Rattle.fault_collapse.specs.Forest.{IsForestOf};
 ghost use Rattle.fault_sim.specs.FaultyLanes.{vector_at};
 ghost use Rattle.kept_vectors.specs.Kept.{with_vector, Keeps, KeepsFirst};
-ghost use Rattle.kept_vectors.specs.Scan.{kept_now, IsScan, IsOffered, HasJudged, IsEnded};
-ghost use Rattle.kept_vectors.specs.Notes.{AreOf, AreTold, IsBlank};
+ghost use Rattle.kept_vectors.specs.Scan.{kept_now, IsScan, IsOffered, HasJudged, IsScanEnd};
+ghost use Rattle.kept_vectors.specs.Notes.{AreOf, AreTold, IsRowBlank};
 ghost use Rattle.word_sim.specs.Block.{IsBlock};
 
 use crate::answers::{clear_row, fill_row};
@@ -189,7 +189,7 @@ impl<'a> Scan<'a> {
         ensures scan { IsScan self.new }
         ensures circuit { self.new.good.circuit ≡ self.old.good.circuit }
         ensures ok { IfOk result (λ count. HasJudged self.old.good.circuit self.old.block.vectors run count (kept_now kept.old) (kept_now kept.new)) }
-        ensures ended { IfOk result (λ count. IsEnded self.old.good.circuit self.old.block.vectors run count (kept_now kept.new)) }
+        ensures ended { IfOk result (λ count. IsScanEnd self.old.good.circuit self.old.block.vectors run count (kept_now kept.new)) }
         ensures err { OnErr result ((count : ℕ) × HasJudged self.old.good.circuit self.old.block.vectors run count (kept_now kept.old) (kept_now kept.new)) }
     {
         if self.block.live() == 0 {
@@ -239,10 +239,10 @@ fn judge_lanes(
     run: bool,
 ) -> Result<u32, AllocError>
     requires told { AreTold good.now block.now.vectors splitting spans.now notes.now kept.old.classes }
-    requires blank { IsBlank good.now.circuit row.old }
-    ensures blank { IsBlank good.now.circuit row.new }
+    requires blank { IsRowBlank good.now.circuit row.old }
+    ensures blank { IsRowBlank good.now.circuit row.new }
     ensures ok { IfOk result (λ count. HasJudged good.now.circuit block.now.vectors run count (kept_now kept.old) (kept_now kept.new)) }
-    ensures ended { IfOk result (λ count. IsEnded good.now.circuit block.now.vectors run count (kept_now kept.new)) }
+    ensures ended { IfOk result (λ count. IsScanEnd good.now.circuit block.now.vectors run count (kept_now kept.new)) }
     ensures err { OnErr result ((count : ℕ) × HasJudged good.now.circuit block.now.vectors run count (kept_now kept.old) (kept_now kept.new)) }
 {
     let live = block.live();
@@ -267,10 +267,10 @@ pub(crate) fn judge_lane(
     kept: &mut Kept,
 ) -> Result<bool, AllocError>
     requires told { AreTold good.now block.now.vectors splitting spans.now notes.now kept.old.classes }
-    requires blank { IsBlank good.now.circuit row.old }
+    requires blank { IsRowBlank good.now.circuit row.old }
     requires lane { lane < length block.now.vectors }
     requires few { length block.now.vectors ≤ LANES }
-    ensures blank { IsBlank good.now.circuit row.new }
+    ensures blank { IsRowBlank good.now.circuit row.new }
     ensures ok { OnOk result (Keeps good.now.circuit (vector_at good.now lane ∷ []) (kept_now kept.old) (kept_now kept.new)) }
     ensures offered { IfOk result (λ splits. IsOffered splits (vector_at good.now lane) (kept_now kept.old) (kept_now kept.new)) }
     ensures err { OnErr result (kept_now kept.new ≡ kept_now kept.old) }

@@ -13,8 +13,8 @@ use Rattle.clause_pool.specs.Proper.{HasVariablesUpTo}
 use Rattle.pair_miter.specs.Fresh.{IsFresh}
 use Rattle.solver_trail.specs.Assignment.{Assignment, IsTrail, CutsAbove}
 use Rattle.solver_trail.specs.Trail.{TrailState, Fits, Attaches, attached_numbers}
-use Rattle.learn_solver.specs.Places.{set_at, IsFalseOf, up_to}
-use Rattle.learn_solver.specs.Ready.{IsReady, AreQuietBelow}
+use Rattle.learn_solver.specs.Places.{set_literal_at, IsFalseOf, up_to}
+use Rattle.learn_solver.specs.Ready.{IsSolverReady, AreQuietBelow}
 use Rattle.learn_solver.specs.Learned.{IsLower, IsAsserting}
 use Rattle.learn_solver.proofs.Levels.{inside_at, same_place}
 use Rattle.learn_solver.proofs.Falsity.{place_up_to, undetermined_above, consistent_up_to}
@@ -28,7 +28,7 @@ false_variable a trail l level f = subst (λ v. (0 < v) × (v ≤ a.variables)) 
 levels_differ : (a : Assignment) (trail : IsTrail a) (l m : Literal) (i j : ℕ) → IsFalseOf a i l → IsFalseOf a j m → i ≢ j → l ≢ m
 levels_differ a trail l m i j f g ne e =
     let same = same_place a trail f.place g.place f.at.within g.at.within (ap (λ (x : Literal). x.variable) f.at.is ∙ (ap (λ (x : Literal). x.variable) e ∙ sym (ap (λ (x : Literal). x.variable) g.at.is))) in
-    ne (sym f.of_level ∙ (ap (λ k. (set_at a k).level) same ∙ g.of_level))
+    ne (sym f.of_level ∙ (ap (λ k. (set_literal_at a k).level) same ∙ g.of_level))
 
 module _ (a : Assignment) (trail : IsTrail a) (clause : Clause) (back : ℕ) (asserts : IsAsserting a back clause) where
   -- the clause has the asserting literal and the others
@@ -82,9 +82,9 @@ module _ (a : Assignment) (trail : IsTrail a) (clause : Clause) (back : ℕ) (as
       }
 
 -- the trail is ready again once the clause is in the pool and attached
-pub ready_learned : (old cut new : TrailState) (clauses more : List Clause) (clause : Clause) (back number : ℕ) → IsReady old clauses → IsAsserting old.assignment back clause
+pub ready_learned : (old cut new : TrailState) (clauses more : List Clause) (clause : Clause) (back number : ℕ) → IsSolverReady old clauses → IsAsserting old.assignment back clause
     → more ≡ clauses ++ clause ∷ [] → number ≡ length more → CutsAbove old.assignment cut.assignment back → attached_numbers cut ≡ attached_numbers old
-    → Attaches (attached_numbers cut) (attached_numbers new) number → new.assignment ≡ cut.assignment → Fits new more → IsTrail new.assignment → IsReady new more
+    → Attaches (attached_numbers cut) (attached_numbers new) number → new.assignment ≡ cut.assignment → Fits new more → IsTrail new.assignment → IsSolverReady new more
 ready_learned old cut new clauses more clause back number ready asserts added count cuts kept attached same fits trail = record {
   fits = fits;
   is_trail = trail;

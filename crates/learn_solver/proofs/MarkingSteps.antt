@@ -8,9 +8,9 @@ use Rattle.net_model.specs.Answer.{bit_at}
 use Rattle.clause_pool.specs.Literal.{Literal}
 use Rattle.clause_pool.specs.Clauses.{Clause}
 use Rattle.solver_trail.specs.Assignment.{Assignment, IsTrail, no_literal}
-use Rattle.learn_solver.specs.Places.{set_at}
+use Rattle.learn_solver.specs.Places.{set_literal_at}
 use Rattle.learn_solver.specs.Marks.{MarksClause}
-use Rattle.learn_solver.specs.Walk.{open_count, IsSetBefore, HasVariable}
+use Rattle.learn_solver.specs.Walk.{marked_count, IsSetBefore, HasVariable}
 use Rattle.learn_solver.proofs.Counts.{one_if, open_one}
 
 pub record IsMarking (a : Assignment) (old new : List Bool) (clause : Clause) (at opened : ℕ) : Type 0 where
@@ -18,7 +18,7 @@ pub record IsMarking (a : Assignment) (old new : List Bool) (clause : Clause) (a
   pub kept : (v : ℕ) → bit_at old v ≡ true → bit_at new v ≡ true
   pub done : (k : ℕ) → k < at → bit_at new (get_or clause k no_literal.literal).variable ≡ true
   pub only : (v : ℕ) → bit_at new v ≡ true → (bit_at old v ≡ true) ⊎ HasVariable clause v
-  pub count : (place : ℕ) → place ≤ length a.literals → All (λ (l : Literal). IsSetBefore a place l.variable) clause → open_count a new place ≡ open_count a old place + opened
+  pub count : (place : ℕ) → place ≤ length a.literals → All (λ (l : Literal). IsSetBefore a place l.variable) clause → marked_count a new place ≡ marked_count a old place + opened
   pub few : opened ≤ at
 
 pub marking_none : (a : Assignment) (old : List Bool) (clause : Clause) → IsMarking a old old clause 0 0
@@ -51,7 +51,7 @@ module _ (a : Assignment) (old new : List Bool) (clause : Clause) (at opened : �
     | inr other ↦ get_or-set_other new v u true false other ∙ marked
   ]
 
-  pub marking_now : (more : ℕ) → IsTrail a → v < length new → bit_at new v ≡ false → more ≤ 1 → ((k : ℕ) → k < length a.literals → (set_at a k).literal.variable ≡ v → more ≡ one_if ((set_at a k).level == a.level))
+  pub marking_now : (more : ℕ) → IsTrail a → v < length new → bit_at new v ≡ false → more ≤ 1 → ((k : ℕ) → k < length a.literals → (set_literal_at a k).literal.variable ≡ v → more ≡ one_if ((set_literal_at a k).level == a.level))
       → IsMarking a old (set new v true) clause (at + 1) (opened + more)
   marking_now more trail room unmarked most counted = record {
     places = length-set new v true ∙ h.places;

@@ -7,13 +7,13 @@ use Rattle.clause_pool.specs.Literal.{Literal}
 use Rattle.clause_pool.specs.Clauses.{Clause}
 use Rattle.clause_pool.specs.Partial.{IsQuiet}
 use Rattle.solver_trail.specs.declared.set_literals.SetLiteral.{SetLiteral}
-use Rattle.solver_trail.specs.Assignment.{Assignment, IsTrail, Propagates, CutsAbove, held}
+use Rattle.solver_trail.specs.Assignment.{Assignment, IsTrail, Propagates, CutsAbove, assigned_literals}
 use Rattle.learn_solver.specs.Places.{up_to}
 use Rattle.learn_solver.specs.Ready.{AreQuietBelow}
 use Rattle.learn_solver.proofs.UpTo.{up_to_more, up_to_all, up_to_cut}
 use Rattle.learn_solver.proofs.Levels.{all_levels}
 
-pub quiet_decided : (a b : Assignment) (clauses : List Clause) (l : Literal) → IsTrail a → AreQuietBelow a clauses → All (IsQuiet (held a)) clauses
+pub quiet_decided : (a b : Assignment) (clauses : List Clause) (l : Literal) → IsTrail a → AreQuietBelow a clauses → All (IsQuiet (assigned_literals a)) clauses
     → b.literals ≡ a.literals ++ record { literal = l; level = a.level + 1; reason = None } ∷ [] → b.level ≡ a.level + 1 → AreQuietBelow b clauses
 quiet_decided a b clauses l trail quiet now more level_is = λ level h.
     let s : SetLiteral = record { literal = l; level = a.level + 1; reason = None } in

@@ -8,18 +8,18 @@ use Rattle.pair_miter.specs.Variables.{variable_count}
 use Rattle.solver_trail.specs.Trail.{TrailState}
 use Rattle.learn_solver.specs.declared.search.Search.{Search}
 use Rattle.learn_solver.specs.Learning.{IsLearning}
-use Rattle.learn_solver.specs.Ready.{IsReady}
-use Rattle.learn_solver.specs.Search.{IsPrepared, IsSearch, LearnsClause, clauses_of}
-use Rattle.learn_solver.specs.Walk.{AreClear}
+use Rattle.learn_solver.specs.Ready.{IsSolverReady}
+use Rattle.learn_solver.specs.Search.{IsSearchReady, IsSearch, LearnsClause, miter_clauses}
+use Rattle.learn_solver.specs.Walk.{AreUnmarked}
 use Rattle.learn_solver.proofs.Solving.{learning_long}
 
 -- another trail that is ready, too
-pub prepared_on : (old : Search) (clauses : List Clause) (trail : TrailState) (decider : ℕ) → IsPrepared old clauses → IsReady trail clauses → trail.assignment.variables ≡ old.trail.assignment.variables → decider ≡ old.decider
-    → IsPrepared (record old { trail = trail; decider = decider }) clauses
+pub prepared_on : (old : Search) (clauses : List Clause) (trail : TrailState) (decider : ℕ) → IsSearchReady old clauses → IsSolverReady trail clauses → trail.assignment.variables ≡ old.trail.assignment.variables → decider ≡ old.decider
+    → IsSearchReady (record old { trail = trail; decider = decider }) clauses
 prepared_on old clauses trail decider h ready same kept = record {
   ready = ready;
   decider = kept ∙ (h.decider ∙ sym same);
-  clear = subst (λ n. AreClear n old.marks) (sym same) h.clear;
+  clear = subst (λ n. AreUnmarked n old.marks) (sym same) h.clear;
 }
 
 module _ (m : Miter) (conflicts : ℕ) (old : Search) (pool : List Clause) (h : IsSearch m conflicts old pool) where
@@ -27,22 +27,22 @@ module _ (m : Miter) (conflicts : ℕ) (old : Search) (pool : List Clause) (h : 
   decider_is = h.prepared.decider ∙ h.variables
 
   -- nothing is learned, and the search is prepared
-  pub search_on : (new : Search) → IsPrepared new pool → new.trail.assignment.variables ≡ old.trail.assignment.variables → new.chains.items ≡ old.chains.items → IsSearch m conflicts new pool
+  pub search_on : (new : Search) → IsSearchReady new pool → new.trail.assignment.variables ≡ old.trail.assignment.variables → new.chains.items ≡ old.chains.items → IsSearch m conflicts new pool
   search_on new prepared same chains = record {
     prepared = prepared;
     variables = same ∙ h.variables;
-    learning = subst (IsLearning (clauses_of m) pool) (sym chains) h.learning;
+    learning = subst (IsLearning (miter_clauses m) pool) (sym chains) h.learning;
     few = subst (λ cs. length cs ≤ conflicts) (sym chains) h.few;
     begins = h.begins;
   }
 
   -- the same after a restart
-  pub restarted : (new : Search) → IsPrepared new pool → new.trail.assignment.variables ≡ old.trail.assignment.variables → new.chains ≡ old.chains → IsSearch m conflicts new pool
+  pub restarted : (new : Search) → IsSearchReady new pool → new.trail.assignment.variables ≡ old.trail.assignment.variables → new.chains ≡ old.chains → IsSearch m conflicts new pool
   restarted new prepared same chains = search_on new prepared same (ap (λ (v : Vec ChainView Global). v.items) chains)
 
   -- the pool has room for another clause
-  pub room_left : length old.chains.items < conflicts → length (clauses_of m) + conflicts < 2 ^ 32 → length pool + 1 < 2 ^ 32
-  room_left left few = omega (arith, learning_long (clauses_of m) pool old.chains.items h.learning, left, few)
+  pub room_left : length old.chains.items < conflicts → length (miter_clauses m) + conflicts < 2 ^ 32 → length pool + 1 < 2 ^ 32
+  room_left left few = omega (arith, learning_long (miter_clauses m) pool old.chains.items h.learning, left, few)
 
   -- one more clause is learned
   pub search_more : (mid new : Search) (more : List Clause) → mid.trail.assignment.variables ≡ old.trail.assignment.variables → mid.chains.items ≡ old.chains.items → LearnsClause mid pool new more → BeginsWith more pool → length old.chains.items < conflicts
@@ -50,7 +50,7 @@ module _ (m : Miter) (conflicts : ℕ) (old : Search) (pool : List Clause) (h : 
   search_more mid new more same chains l begins left = record {
     prepared = l.prepared;
     variables = l.variables ∙ (same ∙ h.variables);
-    learning = l.learning (clauses_of m) (subst (IsLearning (clauses_of m) pool) (sym chains) h.learning);
+    learning = l.learning (miter_clauses m) (subst (IsLearning (miter_clauses m) pool) (sym chains) h.learning);
     few = omega (arith, l.count, ap length chains, left);
-    begins = begins_through more pool (clauses_of m) begins h.begins;
+    begins = begins_through more pool (miter_clauses m) begins h.begins;
   }

@@ -11,12 +11,12 @@ use Rattle.clause_pool.specs.Clauses.{Clause}
 use Rattle.clause_pool.specs.Partial.{IsQuiet}
 use Rattle.clause_pool.proofs.Numbered.{all_at_number}
 use Rattle.pair_miter.specs.ChainView.{ChainView}
-use Rattle.solver_trail.specs.Assignment.{Assignment, IsTrail, held, no_literal}
+use Rattle.solver_trail.specs.Assignment.{Assignment, IsTrail, assigned_literals, no_literal}
 use Rattle.solver_trail.specs.Trail.{TrailState}
 use Rattle.solver_trail.proofs.Held.{held_at}
-use Rattle.learn_solver.specs.Places.{set_at, IsFalseAt, IsFalseOf, up_to}
-use Rattle.learn_solver.specs.Ready.{IsReady, IsConflict}
-use Rattle.learn_solver.specs.Walk.{AreClear, open_count, IsSetBefore, IsLeft, IsKept, IsWalk, HasVariable}
+use Rattle.learn_solver.specs.Places.{set_literal_at, IsFalseAt, IsFalseOf, up_to}
+use Rattle.learn_solver.specs.Ready.{IsSolverReady, IsConflictClause}
+use Rattle.learn_solver.specs.Walk.{AreUnmarked, marked_count, IsSetBefore, IsLeft, IsKeptLiteral, IsTrailWalk, HasVariable}
 use Rattle.learn_solver.specs.Marks.{MarksClause}
 use Rattle.learn_solver.specs.Learned.{IsLower, IsAsserting, IsLearned}
 use Rattle.learn_solver.proofs.Levels.{same_place, level_at, levels_rise}
@@ -25,10 +25,10 @@ use Rattle.learn_solver.proofs.Clearing.{false_at}
 use Rattle.learn_solver.proofs.Falsity.{false_somewhere, place_up_to, same_false, consistent_held, up_to_place}
 use Rattle.learn_solver.proofs.Resolvents.{chain_start}
 
-module _ (trail : TrailState) (clauses : List Clause) (ready : IsReady trail clauses) (number : ℕ) (c : IsConflict trail clauses number) where
+module _ (trail : TrailState) (clauses : List Clause) (ready : IsSolverReady trail clauses) (number : ℕ) (c : IsConflictClause trail clauses number) where
   -- a literal of a false clause is false
   false_literal : (l : Literal) → Contains c.clause l → (k : ℕ) × IsFalseAt trail.assignment l k
-  false_literal l h = false_somewhere trail.assignment l (All-contains (λ (m : Literal). Contains (held trail.assignment) (opposite m)) c.clause l c.false_clause h)
+  false_literal l h = false_somewhere trail.assignment l (All-contains (λ (m : Literal). Contains (assigned_literals trail.assignment) (opposite m)) c.clause l c.false_clause h)
 
   -- one of them is of the present level, if that is above 0
   present_literal : 0 < trail.assignment.level → (l : Literal) × Contains c.clause l × IsFalseOf trail.assignment trail.assignment.level l
@@ -37,7 +37,7 @@ module _ (trail : TrailState) (clauses : List Clause) (ready : IsReady trail cla
       by : IsQuiet (up_to trail.assignment.literals (trail.assignment.level - 1)) c.clause → (l : Literal) × Contains c.clause l × IsFalseOf trail.assignment trail.assignment.level l
       by (inl s) =
           let p = up_to_place trail.assignment (trail.assignment.level - 1) s.literal s.is_held in
-          absurd (consistent_held trail.assignment ready.is_trail s.literal (held_at trail.assignment.literals p.0 no_literal s.literal p.1 p.2) (All-contains (λ (m : Literal). Contains (held trail.assignment) (opposite m)) c.clause s.literal c.false_clause s.inside))
+          absurd (consistent_held trail.assignment ready.is_trail s.literal (held_at trail.assignment.literals p.0 no_literal s.literal p.1 p.2) (All-contains (λ (m : Literal). Contains (assigned_literals trail.assignment) (opposite m)) c.clause s.literal c.false_clause s.inside))
       by (inr t) =
           let f = false_literal t.first t.first_inside in (
             t.first,
@@ -45,7 +45,7 @@ module _ (trail : TrailState) (clauses : List Clause) (ready : IsReady trail cla
             record {
               place = f.0;
               at = f.1;
-              of_level = elim (cases_lt (set_at trail.assignment f.0).level trail.assignment.level) [
+              of_level = elim (cases_lt (set_literal_at trail.assignment f.0).level trail.assignment.level) [
                 | inl lower ↦
                     absurd (t.first_undetermined.opposite_not_held (subst (Contains (up_to trail.assignment.literals (trail.assignment.level - 1))) f.1.is (place_up_to trail.assignment (trail.assignment.level - 1) f.0 f.1.within (omega (arith, lower)))))
                 | inr le ↦ omega (arith, le, level_at trail.assignment ready.is_trail f.0 f.1.within)
@@ -53,7 +53,7 @@ module _ (trail : TrailState) (clauses : List Clause) (ready : IsReady trail cla
             },
           )
 
-  module _ (marks new : List Bool) (opened : ℕ) (clear : AreClear trail.assignment.variables marks) (m : MarksClause trail.assignment marks new c.clause opened) where
+  module _ (marks new : List Bool) (opened : ℕ) (clear : AreUnmarked trail.assignment.variables marks) (m : MarksClause trail.assignment marks new c.clause opened) where
     has_variable : (v : ℕ) → bit_at new v ≡ true → HasVariable c.clause v
     has_variable v h = elim (m.only v h) [
       | inl old ↦ absurd (false≢true (sym (clear.none v) ∙ old))
@@ -71,18 +71,18 @@ module _ (trail : TrailState) (clauses : List Clause) (ready : IsReady trail cla
         let is : l ≡ has.0 = false_at trail.assignment l f.0 (subst (IsFalseAt trail.assignment l) same h.false_at) ∙ sym (false_at trail.assignment has.0 f.0 f.1) in
         subst (Contains c.clause) (sym is) has.1
 
-    count_new : opened ≡ open_count trail.assignment new (length trail.assignment.literals)
+    count_new : opened ≡ marked_count trail.assignment new (length trail.assignment.literals)
     count_new =
         let sum = m.count (length trail.assignment.literals) (omega arith) (λ k d h. set_before (get_or c.clause k d) (Contains-get_or c.clause k d h)) in
-        omega (arith, sum, none_open (open_count trail.assignment marks (length trail.assignment.literals)) refl)
+        omega (arith, sum, none_open (marked_count trail.assignment marks (length trail.assignment.literals)) refl)
       where
-        none_open : (n : ℕ) → open_count trail.assignment marks (length trail.assignment.literals) ≡ n → open_count trail.assignment marks (length trail.assignment.literals) ≡ 0
+        none_open : (n : ℕ) → marked_count trail.assignment marks (length trail.assignment.literals) ≡ n → marked_count trail.assignment marks (length trail.assignment.literals) ≡ 0
         none_open zero e = e
         none_open (suc n) e =
             let found = open_some trail.assignment marks (length trail.assignment.literals) (omega arith) (omega (arith, e)) in
-            absurd (false≢true (sym (clear.none (set_at trail.assignment found.0).literal.variable) ∙ found.2))
+            absurd (false≢true (sym (clear.none (set_literal_at trail.assignment found.0).literal.variable) ∙ found.2))
 
-    pub walk_start : IsWalk trail.assignment clauses new (record { start = number; fresh_at = None; steps = [] }) [] opened (length trail.assignment.literals)
+    pub walk_start : IsTrailWalk trail.assignment clauses new (record { start = number; fresh_at = None; steps = [] }) [] opened (length trail.assignment.literals)
     walk_start = record {
       within = omega arith;
       places = m.places ∙ clear.places;
@@ -94,7 +94,7 @@ module _ (trail : TrailState) (clauses : List Clause) (ready : IsReady trail cla
       left_inside = left_in;
       marked = λ v h. let has = has_variable v h in subst (IsSetBefore trail.assignment (length trail.assignment.literals)) has.2 (set_before has.0 has.1);
       count = count_new;
-      kept_at = All-nil (IsKept trail.assignment (length trail.assignment.literals));
+      kept_at = All-nil (IsKeptLiteral trail.assignment (length trail.assignment.literals));
       order = λ i j d less within. absurd (omega arith);
       pending = λ none above.
           let p = present_literal above in
@@ -107,8 +107,8 @@ module _ (trail : TrailState) (clauses : List Clause) (ready : IsReady trail cla
 -- ---- the end
 
 -- where no mark is left, the walk is over
-pub walk_over : (a : Assignment) (clauses : List Clause) (marks : List Bool) (chain : ChainView) (kept : List Literal) (left place : ℕ) → ((v : ℕ) → bit_at marks v ≡ false) → IsWalk a clauses marks chain kept left place
-    → IsWalk a clauses marks chain kept left 0
+pub walk_over : (a : Assignment) (clauses : List Clause) (marks : List Bool) (chain : ChainView) (kept : List Literal) (left place : ℕ) → ((v : ℕ) → bit_at marks v ≡ false) → IsTrailWalk a clauses marks chain kept left place
+    → IsTrailWalk a clauses marks chain kept left 0
 walk_over a clauses marks chain kept left place none w = record {
   within = omega arith;
   places = w.places;
@@ -122,34 +122,34 @@ walk_over a clauses marks chain kept left place none w = record {
   kept_inside = w.kept_inside;
   left_inside = λ l h. absurd (omega (arith, h.before));
   marked = λ v h. absurd (false≢true (sym (none v) ∙ h));
-  count = w.count ∙ by (open_count a marks place) refl;
-  kept_at = All-weaker (IsKept a place) (IsKept a 0) (λ l h. record { at = h.at; behind = omega arith; false_at = h.false_at; above = h.above }) kept w.kept_at;
+  count = w.count ∙ by (marked_count a marks place) refl;
+  kept_at = All-weaker (IsKeptLiteral a place) (IsKeptLiteral a 0) (λ l h. record { at = h.at; behind = omega arith; false_at = h.false_at; above = h.above }) kept w.kept_at;
   order = w.order;
   pending = w.pending;
   done = w.done;
   first = w.first;
 }
   where
-    by : (n : ℕ) → open_count a marks place ≡ n → open_count a marks place ≡ 0
+    by : (n : ℕ) → marked_count a marks place ≡ n → marked_count a marks place ≡ 0
     by zero e = e
-    by (suc n) e = let found = open_some a marks place w.within (omega (arith, e)) in absurd (false≢true (sym (none (set_at a found.0).literal.variable) ∙ found.2))
+    by (suc n) e = let found = open_some a marks place w.within (omega (arith, e)) in absurd (false≢true (sym (none (set_literal_at a found.0).literal.variable) ∙ found.2))
 
-pub clear_end : (a : Assignment) (clauses : List Clause) (marks : List Bool) (chain : ChainView) (kept : List Literal) (left : ℕ) → IsWalk a clauses marks chain kept left 0 → AreClear a.variables marks
+pub clear_end : (a : Assignment) (clauses : List Clause) (marks : List Bool) (chain : ChainView) (kept : List Literal) (left : ℕ) → IsTrailWalk a clauses marks chain kept left 0 → AreUnmarked a.variables marks
 clear_end a clauses marks chain kept left w = record { places = w.places; none = λ v. by v (bit_at marks v) refl }
   where
     by : (v : ℕ) (b : Bool) → bit_at marks v ≡ b → b ≡ false
     by v true e = let before = (w.marked v e).before in absurd (omega arith)
     by v false e = refl
 
-module _ (a : Assignment) (trail : IsTrail a) (clauses : List Clause) (marks : List Bool) (chain : ChainView) (kept : List Literal) (left : ℕ) (w : IsWalk a clauses marks chain kept left 0)
-    (back : ℕ) (no_second : length kept ≤ 1 → back ≡ 0) (second : (d : Literal) (place : ℕ) → 1 < length kept → IsFalseAt a (get_or kept 1 d) place → back ≡ (set_at a place).level) where
+module _ (a : Assignment) (trail : IsTrail a) (clauses : List Clause) (marks : List Bool) (chain : ChainView) (kept : List Literal) (left : ℕ) (w : IsTrailWalk a clauses marks chain kept left 0)
+    (back : ℕ) (no_second : length kept ≤ 1 → back ≡ 0) (second : (d : Literal) (place : ℕ) → 1 < length kept → IsFalseAt a (get_or kept 1 d) place → back ≡ (set_literal_at a place).level) where
   -- the second literal's level is the highest of the others
-  le_back : (k : ℕ) (d : Literal) → suc k < length kept → (p : ℕ) → IsFalseAt a (get_or kept (suc k) d) p → (set_at a p).level ≤ back
+  le_back : (k : ℕ) (d : Literal) → suc k < length kept → (p : ℕ) → IsFalseAt a (get_or kept (suc k) d) p → (set_literal_at a p).level ≤ back
   le_back zero d h p f = omega (arith, second d p h f)
   le_back (suc j) d h p f =
       let b = w.order 1 (suc (suc j)) d (omega arith) h in
       let same = same_false a trail (get_or kept (suc (suc j)) d) p b.second f b.second_at in
-      let levels : (set_at a p).level ≡ (set_at a b.second).level = ap (λ i. (set_at a i).level) same in
+      let levels : (set_literal_at a p).level ≡ (set_literal_at a b.second).level = ap (λ i. (set_literal_at a i).level) same in
       omega (arith, levels, levels_rise a trail b.second b.first (omega (arith, b.order)) b.first_at.within, second d b.first (omega arith) b.first_at)
 
   lower_rest : (l : Literal) (rest : List Literal) → kept ≡ l ∷ rest → All (IsLower a back) rest
@@ -158,7 +158,7 @@ module _ (a : Assignment) (trail : IsTrail a) (clauses : List Clause) (marks : L
       let within : suc k < length kept = omega (arith, h, size) in
       let own = w.kept_at (suc k) d within in
       record {
-        level = (set_at a own.at).level;
+        level = (set_literal_at a own.at).level;
         false_of = record { place = own.at; at = subst (λ m. IsFalseAt a m own.at) (ap (λ ls. get_or ls (suc k) d) is) own.false_at; of_level = refl };
         above = own.above;
         up_to = le_back k d within own.at own.false_at;

@@ -8,8 +8,8 @@ use Rattle.learn_solver.specs.declared.aim.Both.{Both}
 use Rattle.learn_solver.specs.Ready.{IsSet}
 
 -- All variables are set.
-abbrev pub IsWhole : Assignment → Type 0
-IsWhole a = (x : ℕ) → 0 < x → x ≤ a.variables → IsSet a x
+abbrev pub AreAllSet : Assignment → Type 0
+AreAllSet a = (x : ℕ) → 0 < x → x ≤ a.variables → IsSet a x
 
 -- The variable isn't set.
 pub record IsFree (a : Assignment) (x : ℕ) : Type 0 where

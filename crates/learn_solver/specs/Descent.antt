@@ -4,14 +4,14 @@ use Rattle.clause_pool.specs.Clauses.{Clause}
 use Rattle.clause_pool.specs.Partial.{IsQuiet}
 use Rattle.solver_trail.specs.declared.trail.Propagated.{Propagated}
 use Rattle.solver_trail.specs.declared.trail.Propagated.TheVariants.{Quiet, Conflict}
-use Rattle.solver_trail.specs.Assignment.{Assignment, held}
+use Rattle.solver_trail.specs.Assignment.{Assignment, assigned_literals}
 use Rattle.solver_trail.specs.Trail.{TrailState}
-use Rattle.learn_solver.specs.Ready.{IsConflict}
+use Rattle.learn_solver.specs.Ready.{IsConflictClause}
 
 -- Either all clauses are quiet, or the one of this number is false.
 abbrev pub IsFoundAt : TrailState → List Clause → Propagated → Type 0
-IsFoundAt trail clauses Quiet = All (IsQuiet (held trail.assignment)) clauses
-IsFoundAt trail clauses (Conflict number) = IsConflict trail clauses number
+IsFoundAt trail clauses Quiet = All (IsQuiet (assigned_literals trail.assignment)) clauses
+IsFoundAt trail clauses (Conflict number) = IsConflictClause trail clauses number
 
 -- At least so many literals more are set, of as many variables, which are enough for them.
 pub record Grows (old new : Assignment) (more : ℕ) : Type 0 where

@@ -5,14 +5,14 @@ use Rattle.clause_pool.specs.Literal.{Literal}
 use Rattle.clause_pool.specs.Clauses.{Clause}
 use Rattle.net_model.specs.Answer.{bit_at}
 use Rattle.solver_trail.specs.Assignment.{Assignment}
-use Rattle.learn_solver.specs.Walk.{open_count, IsSetBefore, HasVariable}
+use Rattle.learn_solver.specs.Walk.{marked_count, IsSetBefore, HasVariable}
 
 -- how many marks are set
 abbrev pub mark_count : List Bool → ℕ
 mark_count marks = count_by (λ b. b) marks
 
 -- So many marks are set, and the variables that were marked have places.
-pub record AreCounted (marks : List Bool) (met : List ℕ) (left : ℕ) : Type 0 where
+pub record AreMetCounted (marks : List Bool) (met : List ℕ) (left : ℕ) : Type 0 where
   pub count : left ≡ mark_count marks
   pub inside : All (λ x. x < length marks) met
 
@@ -24,4 +24,4 @@ pub record MarksClause (a : Assignment) (old new : List Bool) (clause : Clause) 
   pub all : (l : Literal) → Contains clause l → bit_at new l.variable ≡ true
   pub only : (x : ℕ) → bit_at new x ≡ true → (bit_at old x ≡ true) ⊎ HasVariable clause x
   pub count : (place : ℕ) → place ≤ length a.literals → All (λ (l : Literal). IsSetBefore a place l.variable) clause
-      → open_count a new place ≡ open_count a old place + opened
+      → marked_count a new place ≡ marked_count a old place + opened

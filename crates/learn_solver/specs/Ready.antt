@@ -5,7 +5,7 @@ use Rattle.clause_pool.specs.Partial.{IsQuiet}
 use Rattle.solver_trail.specs.declared.set_literals.SetLiteral.{SetLiteral}
 use Rattle.solver_trail.specs.declared.trail.Propagated.{Propagated}
 use Rattle.solver_trail.specs.declared.trail.Propagated.TheVariants.{Quiet, Conflict}
-use Rattle.solver_trail.specs.Assignment.{Assignment, IsTrail, held}
+use Rattle.solver_trail.specs.Assignment.{Assignment, IsTrail, assigned_literals}
 use Rattle.solver_trail.specs.Trail.{TrailState, Fits, IsFalseClause, attached_numbers}
 use Rattle.learn_solver.specs.Places.{up_to}
 
@@ -14,7 +14,7 @@ abbrev pub AreQuietBelow : Assignment → List Clause → Type 0
 AreQuietBelow a clauses = (level : ℕ) → level < a.level → All (IsQuiet (up_to a.literals level)) clauses
 
 -- The trail fits the clauses, all of which are attached, and they are quiet at each level below the present one.
-pub record IsReady (trail : TrailState) (clauses : List Clause) : Type 0 where
+pub record IsSolverReady (trail : TrailState) (clauses : List Clause) : Type 0 where
   pub fits : Fits trail clauses
   pub is_trail : IsTrail trail.assignment
   pub attached : (number : ℕ) → 0 < number → number ≤ length clauses → Contains (attached_numbers trail) number
@@ -24,14 +24,14 @@ abbrev pub IsSet : Assignment → ℕ → Type 0
 IsSet a variable = (s : SetLiteral) × Contains a.literals s × (s.literal.variable ≡ variable)
 
 -- The clause of this number is false.
-pub record IsConflict (trail : TrailState) (clauses : List Clause) (number : ℕ) : Type 0 where
+pub record IsConflictClause (trail : TrailState) (clauses : List Clause) (number : ℕ) : Type 0 where
   pub from : 0 < number
   pub below : number ≤ length clauses
   pub clause : Clause
   pub numbered : numbered_clause clauses number ≡ Some clause
-  pub false_clause : IsFalseClause (held trail.assignment) clause
+  pub false_clause : IsFalseClause (assigned_literals trail.assignment) clause
 
 -- Either all variables are set and all clauses satisfied, or a clause is false.
-abbrev pub IsEnd : TrailState → List Clause → Propagated → Type 0
-IsEnd trail clauses Quiet = All (IsQuiet (held trail.assignment)) clauses × ((x : ℕ) → 0 < x → x ≤ trail.assignment.variables → IsSet trail.assignment x)
-IsEnd trail clauses (Conflict number) = IsConflict trail clauses number
+abbrev pub IsDescentEnd : TrailState → List Clause → Propagated → Type 0
+IsDescentEnd trail clauses Quiet = All (IsQuiet (assigned_literals trail.assignment)) clauses × ((x : ℕ) → 0 < x → x ≤ trail.assignment.variables → IsSet trail.assignment x)
+IsDescentEnd trail clauses (Conflict number) = IsConflictClause trail clauses number

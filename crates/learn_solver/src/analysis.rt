@@ -3,10 +3,10 @@
 ghost use Rattle.std.specs.Prelude.{◌≡◌, ℕ, ◌<◌, ◌≤◌, IfOk, All, length, slice_index_or};
 ghost use Rattle.clause_pool.specs.Literal.{Literal};
 ghost use Rattle.solver_trail.specs.Assignment.{IsTrail};
-ghost use Rattle.learn_solver.specs.Places.{set_at, IsFalseAt};
+ghost use Rattle.learn_solver.specs.Places.{set_literal_at, IsFalseAt};
 ghost use Rattle.learn_solver.specs.Learned.{IsLearned};
-ghost use Rattle.learn_solver.specs.Ready.{IsReady, IsConflict};
-ghost use Rattle.learn_solver.specs.Walk.{AreClear};
+ghost use Rattle.learn_solver.specs.Ready.{IsSolverReady, IsConflictClause};
+ghost use Rattle.learn_solver.specs.Walk.{AreUnmarked};
 
 use crate::marking::mark_clause;
 use crate::marks::Marks;
@@ -33,11 +33,11 @@ pub(crate) fn analyze(
     marks: &mut Marks,
     conflict: u32,
 ) -> Result<Learned, AllocError>
-    requires ready { IsReady trail.now pool.now.clauses }
-    requires conflict { IsConflict trail.now pool.now.clauses conflict }
-    requires clear { AreClear trail.now.assignment.variables marks.old }
+    requires ready { IsSolverReady trail.now pool.now.clauses }
+    requires conflict { IsConflictClause trail.now pool.now.clauses conflict }
+    requires clear { AreUnmarked trail.now.assignment.variables marks.old }
     ensures learned { IfOk result (λ learned. IsLearned trail.now.assignment pool.now.clauses learned.chain learned.clause.items learned.back) }
-    ensures clear { IfOk result (λ learned. AreClear trail.now.assignment.variables marks.new) }
+    ensures clear { IfOk result (λ learned. AreUnmarked trail.now.assignment.variables marks.new) }
 {
     let mut analysis = Analysis {
         chain: Chain::new(alloc, conflict, None),
@@ -67,7 +67,7 @@ fn back_level(trail: &Trail, kept: &[Lit]) -> u32
     requires trail { IsTrail trail.now.assignment }
     requires inside { All (λ (l : Literal). (0 < l.variable) × (l.variable ≤ trail.now.assignment.variables)) kept.now }
     ensures none { length kept.now ≤ 1 → result ≡ 0 }
-    ensures some { (d : Literal) (place : ℕ) → 1 < length kept.now → IsFalseAt trail.now.assignment (slice_index_or kept.now 1 d) place → result ≡ (set_at trail.now.assignment place).level }
+    ensures some { (d : Literal) (place : ℕ) → 1 < length kept.now → IsFalseAt trail.now.assignment (slice_index_or kept.now 1 d) place → result ≡ (set_literal_at trail.now.assignment place).level }
 {
     if kept.len() < 2 {
         return 0;

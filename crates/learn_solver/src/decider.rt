@@ -3,7 +3,7 @@
 ghost use Rattle.std.specs.Prelude.{◌≡◌, ℕ, ◌<◌, ◌≤◌, ◌^◌, All, IfOk, IfSome, MatchBool, MatchOption};
 ghost use Rattle.solver_trail.specs.Assignment.{IsTrail, IsUnset};
 ghost use Rattle.learn_solver.specs.Ready.{IsSet};
-ghost use Rattle.learn_solver.specs.Decisions.{AreBoth, HasSigns, IsDecidable, IsFree, IsWhole};
+ghost use Rattle.learn_solver.specs.Decisions.{AreBoth, HasSigns, IsDecidable, IsFree, AreAllSet};
 
 use crate::aim::Both;
 use crate::places::{level_at, literal_at};
@@ -56,7 +56,7 @@ impl Decider {
         requires trail { IsTrail trail.now.assignment }
         requires variables { trail.now.assignment.variables ≡ self.old }
         ensures variables { self.new ≡ self.old }
-        ensures next { MatchOption result (IsWhole trail.now.assignment) (IsDecidable trail.now.assignment) }
+        ensures next { MatchOption result (AreAllSet trail.now.assignment) (IsDecidable trail.now.assignment) }
     {
         match newest_unset(trail, &self.queue, self.place) {
             Some(variable) => {
@@ -184,7 +184,7 @@ fn highest_unset(trail: &Trail, from: u32) -> u32
 // The lowest unset variable.
 fn lowest_unset(trail: &Trail, variables: u32) -> Option<u32>
     requires { trail.now.assignment.variables ≡ variables }
-    ensures { MatchOption result (IsWhole trail.now.assignment) (IsFree trail.now.assignment) }
+    ensures { MatchOption result (AreAllSet trail.now.assignment) (IsFree trail.now.assignment) }
 {
     for at in 0..variables {
         if is_unset(trail, at + 1) {

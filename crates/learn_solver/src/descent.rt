@@ -2,11 +2,11 @@
 
 ghost use Rattle.std.specs.Prelude.{◌≡◌, ◌<◌, All, MatchOption};
 ghost use Rattle.clause_pool.specs.Partial.{IsQuiet};
-ghost use Rattle.solver_trail.specs.Assignment.{IsTrail, held};
+ghost use Rattle.solver_trail.specs.Assignment.{IsTrail, assigned_literals};
 ghost use Rattle.learn_solver.specs.declared.aim.Aim.TheVariants as Aim;
 ghost use Rattle.solver_trail.specs.declared.trail.Propagated.TheVariants as Propagated;
-ghost use Rattle.learn_solver.specs.Ready.{IsReady};
-ghost use Rattle.learn_solver.specs.Decisions.{IsAim, IsDecidable, IsWhole};
+ghost use Rattle.learn_solver.specs.Ready.{IsSolverReady};
+ghost use Rattle.learn_solver.specs.Decisions.{IsAim, IsDecidable, AreAllSet};
 ghost use Rattle.learn_solver.specs.Descent.{IsFoundAt, Grows};
 
 use crate::aim::Aim;
@@ -22,14 +22,14 @@ pub(crate) fn descend(
     decider: &mut Decider,
     aim: &Aim,
 ) -> Propagated
-    requires ready { IsReady trail.old pool.now.clauses }
+    requires ready { IsSolverReady trail.old pool.now.clauses }
     requires variables { trail.old.assignment.variables ≡ decider.old }
     requires aim { IsAim decider.old aim.now }
-    ensures ready { IsReady trail.new pool.now.clauses }
+    ensures ready { IsSolverReady trail.new pool.now.clauses }
     ensures variables { trail.new.assignment.variables ≡ trail.old.assignment.variables }
     ensures decider { decider.new ≡ decider.old }
     ensures found { IsFoundAt trail.new pool.now.clauses result }
-    ensures whole { aim.now ≡ Aim.Model → result ≡ Propagated.Quiet → IsWhole trail.new.assignment }
+    ensures whole { aim.now ≡ Aim.Model → result ≡ Propagated.Quiet → AreAllSet trail.new.assignment }
 {
     let mut found = settle(trail, pool);
     'down: while let Propagated::Quiet = found {
@@ -47,7 +47,7 @@ fn next(trail: &Trail, decider: &mut Decider, aim: &Aim) -> Option<Lit>
     requires variables { trail.now.assignment.variables ≡ decider.old }
     requires aim { IsAim decider.old aim.now }
     ensures decider { decider.new ≡ decider.old }
-    ensures next { MatchOption result (aim.now ≡ Aim.Model → IsWhole trail.now.assignment) (IsDecidable trail.now.assignment) }
+    ensures next { MatchOption result (aim.now ≡ Aim.Model → AreAllSet trail.now.assignment) (IsDecidable trail.now.assignment) }
 {
     match aim {
         Aim::Both(both) => decider.next_for(trail, both),
@@ -57,10 +57,10 @@ fn next(trail: &Trail, decider: &mut Decider, aim: &Aim) -> Option<Lit>
 
 // Decides a literal and propagates.
 fn go_down(trail: &mut Trail, pool: &Pool, lit: Lit) -> Propagated
-    requires ready { IsReady trail.old pool.now.clauses }
-    requires quiet { All (IsQuiet (held trail.old.assignment)) pool.now.clauses }
+    requires ready { IsSolverReady trail.old pool.now.clauses }
+    requires quiet { All (IsQuiet (assigned_literals trail.old.assignment)) pool.now.clauses }
     requires decidable { IsDecidable trail.old.assignment lit }
-    ensures ready { IsReady trail.new pool.now.clauses }
+    ensures ready { IsSolverReady trail.new pool.now.clauses }
     ensures grows { Grows trail.old.assignment trail.new.assignment 1 }
     ensures found { IsFoundAt trail.new pool.now.clauses result }
 {
@@ -70,8 +70,8 @@ fn go_down(trail: &mut Trail, pool: &Pool, lit: Lit) -> Propagated
 
 // Propagates over all clauses.
 fn settle(trail: &mut Trail, pool: &Pool) -> Propagated
-    requires { IsReady trail.old pool.now.clauses }
-    ensures ready { IsReady trail.new pool.now.clauses }
+    requires { IsSolverReady trail.old pool.now.clauses }
+    ensures ready { IsSolverReady trail.new pool.now.clauses }
     ensures grows { Grows trail.old.assignment trail.new.assignment 0 }
     ensures found { IsFoundAt trail.new pool.now.clauses result }
 {

@@ -3,7 +3,7 @@
 ghost use Rattle.std.specs.Prelude.{◌≡◌, ◌+◌, ◌<◌, ◌^◌, ◌∷◌, ◌++◌, [], OnOk, length};
 ghost use Rattle.clause_pool.specs.Clauses.{BeginsWith};
 ghost use Rattle.clause_pool.specs.Proper.{HasNoVariableTwice};
-ghost use Rattle.learn_solver.specs.Ready.{IsReady};
+ghost use Rattle.learn_solver.specs.Ready.{IsSolverReady};
 ghost use Rattle.learn_solver.specs.Learned.{IsAsserting};
 
 use clause_pool::{Lit, Pool};
@@ -17,12 +17,12 @@ pub(crate) fn learn(
     clause: &[Lit],
     back: u32,
 ) -> Result<(), AllocError>
-    requires ready { IsReady trail.old pool.old.clauses }
+    requires ready { IsSolverReady trail.old pool.old.clauses }
     requires asserting { IsAsserting trail.old.assignment back clause.now }
     requires once { HasNoVariableTwice clause.now }
     requires few { length pool.old.clauses + 1 < 2 ^ 32 }
     ensures added { OnOk result (pool.new.clauses ≡ pool.old.clauses ++ clause.now ∷ []) }
-    ensures ready { OnOk result (IsReady trail.new pool.new.clauses) }
+    ensures ready { OnOk result (IsSolverReady trail.new pool.new.clauses) }
     ensures variables { trail.new.assignment.variables ≡ trail.old.assignment.variables }
     ensures begins { BeginsWith pool.new.clauses pool.old.clauses }
 {

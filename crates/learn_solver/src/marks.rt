@@ -17,13 +17,13 @@ pub(crate) struct Marks {
 
 impl Model for Marks {
     ghost use Rattle.std.specs.Prelude.{Bool, List};
-    ghost use Rattle.learn_solver.specs.Marks.{AreCounted};
+    ghost use Rattle.learn_solver.specs.Marks.{AreMetCounted};
 
     ghost Value = { List Bool };
 
     ghost view = { λ m. m.bits };
 
-    ghost invariant = { λ m. AreCounted m.bits m.met.items m.left };
+    ghost invariant = { λ m. AreMetCounted m.bits m.met.items m.left };
 }
 
 impl Marks {

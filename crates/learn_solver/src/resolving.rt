@@ -3,9 +3,9 @@
 ghost use Rattle.std.specs.Prelude.{◌≡◌, ◌⊎◌, ℕ, ◌+◌, ◌<◌, ◌≤◌, true, ◌==◌, length, None, Some, IfOk, MatchBool, if◌then◌else◌};
 ghost use Rattle.net_model.specs.Answer.{bit_at};
 ghost use Rattle.solver_trail.specs.Assignment.{IsTrail};
-ghost use Rattle.learn_solver.specs.Places.{set_at};
-ghost use Rattle.learn_solver.specs.Ready.{IsReady};
-ghost use Rattle.learn_solver.specs.Walk.{IsWalk, IsChoice};
+ghost use Rattle.learn_solver.specs.Places.{set_literal_at};
+ghost use Rattle.learn_solver.specs.Ready.{IsSolverReady};
+ghost use Rattle.learn_solver.specs.Walk.{IsTrailWalk, IsReasonChoice};
 
 use crate::marking::mark_clause;
 use crate::marks::Marks;
@@ -32,9 +32,9 @@ pub(crate) fn visit(
     analysis: &mut Analysis,
     place: usize,
 ) -> Result<(), AllocError>
-    requires ready { IsReady trail.now pool.now.clauses }
-    requires walk { IsWalk trail.now.assignment pool.now.clauses marks.old analysis.old.chain analysis.old.kept.items analysis.old.left (place + 1) }
-    ensures { IfOk result (λ _. IsWalk trail.now.assignment pool.now.clauses marks.new analysis.new.chain analysis.new.kept.items analysis.new.left place) }
+    requires ready { IsSolverReady trail.now pool.now.clauses }
+    requires walk { IsTrailWalk trail.now.assignment pool.now.clauses marks.old analysis.old.chain analysis.old.kept.items analysis.old.left (place + 1) }
+    ensures { IfOk result (λ _. IsTrailWalk trail.now.assignment pool.now.clauses marks.new analysis.new.chain analysis.new.kept.items analysis.new.left place) }
 {
     let lit = literal_at(trail, place);
     if !marks.has(lit.variable()) {
@@ -51,8 +51,8 @@ pub(crate) fn visit(
 fn reason_at(trail: &Trail, place: usize, left: usize) -> Option<u32>
     requires trail { IsTrail trail.now.assignment }
     requires inside { place < length trail.now.assignment.literals }
-    requires several { 1 < left → (k : ℕ) × (k < place) × ((set_at trail.now.assignment k).level ≡ trail.now.assignment.level) }
-    ensures { IsChoice trail.now.assignment place left result }
+    requires several { 1 < left → (k : ℕ) × (k < place) × ((set_literal_at trail.now.assignment k).level ≡ trail.now.assignment.level) }
+    ensures { IsReasonChoice trail.now.assignment place left result }
 {
     let present = trail.level();
     if goes(level_at(trail, place), present, left) {
@@ -77,11 +77,11 @@ fn keep(
     marks: &mut Marks,
     analysis: &mut Analysis,
 ) -> Result<(), AllocError>
-    requires ready { IsReady trail.now pool.now.clauses }
-    requires walk { IsWalk trail.now.assignment pool.now.clauses marks.old analysis.old.chain analysis.old.kept.items analysis.old.left (place + 1) }
-    requires marked { bit_at marks.old (set_at trail.now.assignment place).literal.variable ≡ true }
-    requires choice { IsChoice trail.now.assignment place analysis.old.left None }
-    ensures { IfOk result (λ _. IsWalk trail.now.assignment pool.now.clauses marks.new analysis.new.chain analysis.new.kept.items analysis.new.left place) }
+    requires ready { IsSolverReady trail.now pool.now.clauses }
+    requires walk { IsTrailWalk trail.now.assignment pool.now.clauses marks.old analysis.old.chain analysis.old.kept.items analysis.old.left (place + 1) }
+    requires marked { bit_at marks.old (set_literal_at trail.now.assignment place).literal.variable ≡ true }
+    requires choice { IsReasonChoice trail.now.assignment place analysis.old.left None }
+    ensures { IfOk result (λ _. IsTrailWalk trail.now.assignment pool.now.clauses marks.new analysis.new.chain analysis.new.kept.items analysis.new.left place) }
 {
     let lit = literal_at(trail, place);
     let variable = lit.variable();
@@ -100,11 +100,11 @@ fn resolve(
     place: usize,
     number: u32,
 ) -> Result<(), AllocError>
-    requires ready { IsReady trail.now pool.now.clauses }
-    requires walk { IsWalk trail.now.assignment pool.now.clauses marks.old analysis.old.chain analysis.old.kept.items analysis.old.left (place + 1) }
-    requires marked { bit_at marks.old (set_at trail.now.assignment place).literal.variable ≡ true }
-    requires choice { IsChoice trail.now.assignment place analysis.old.left (Some number) }
-    ensures { IfOk result (λ _. IsWalk trail.now.assignment pool.now.clauses marks.new analysis.new.chain analysis.new.kept.items analysis.new.left place) }
+    requires ready { IsSolverReady trail.now pool.now.clauses }
+    requires walk { IsTrailWalk trail.now.assignment pool.now.clauses marks.old analysis.old.chain analysis.old.kept.items analysis.old.left (place + 1) }
+    requires marked { bit_at marks.old (set_literal_at trail.now.assignment place).literal.variable ≡ true }
+    requires choice { IsReasonChoice trail.now.assignment place analysis.old.left (Some number) }
+    ensures { IfOk result (λ _. IsTrailWalk trail.now.assignment pool.now.clauses marks.new analysis.new.chain analysis.new.kept.items analysis.new.left place) }
 {
     let lit = literal_at(trail, place);
     let variable = lit.variable();
@@ -120,8 +120,8 @@ fn resolve(
 fn fewer(trail: &Trail, place: usize, left: usize) -> usize
     requires trail { IsTrail trail.now.assignment }
     requires inside { place < length trail.now.assignment.literals }
-    requires some { (set_at trail.now.assignment place).level ≡ trail.now.assignment.level → 0 < left }
-    ensures { result + (if (set_at trail.now.assignment place).level == trail.now.assignment.level then 1 else 0) ≡ left }
+    requires some { (set_literal_at trail.now.assignment place).level ≡ trail.now.assignment.level → 0 < left }
+    ensures { result + (if (set_literal_at trail.now.assignment place).level == trail.now.assignment.level then 1 else 0) ≡ left }
 {
     if level_at(trail, place) == trail.level() {
         left - 1

@@ -4,8 +4,8 @@ ghost use Rattle.std.specs.Prelude.{[], ◌≡◌, ◌∷◌, ◌+◌, ◌++◌,
 ghost use Rattle.clause_pool.specs.Clauses.{BeginsWith};
 ghost use Rattle.clause_pool.specs.Proper.{HasNoVariableTwice, IsProper};
 ghost use Rattle.learn_solver.specs.Learned.{IsAsserting};
-ghost use Rattle.learn_solver.specs.Ready.{IsReady, IsConflict};
-ghost use Rattle.learn_solver.specs.Search.{IsPrepared, Learns};
+ghost use Rattle.learn_solver.specs.Ready.{IsSolverReady, IsConflictClause};
+ghost use Rattle.learn_solver.specs.Search.{IsSearchReady, Learns};
 
 use crate::analysis::{Learned, analyze};
 use crate::decider::Decider;
@@ -29,7 +29,7 @@ pub(crate) struct Search {
 pub(crate) fn begin(alloc: Global, pool: &Pool, variables: u32) -> Result<Search, AllocError>
     requires few { variables < 2 ^ 31 }
     requires proper { All (IsProper variables) pool.now.clauses }
-    ensures prepared { IfOk result (λ search. IsPrepared search pool.now.clauses) }
+    ensures prepared { IfOk result (λ search. IsSearchReady search pool.now.clauses) }
     ensures variables { IfOk result (λ search. search.trail.assignment.variables ≡ variables) }
     ensures none { IfOk result (λ search. search.chains.items ≡ []) }
 {
@@ -47,7 +47,7 @@ pub(crate) fn begin(alloc: Global, pool: &Pool, variables: u32) -> Result<Search
 // A trail to which all clauses of the pool are attached.
 fn attach_all(alloc: Global, pool: &Pool, variables: u32) -> Result<Trail, AllocError>
     requires { All (IsProper variables) pool.now.clauses }
-    ensures ready { IfOk result (λ trail. IsReady trail pool.now.clauses) }
+    ensures ready { IfOk result (λ trail. IsSolverReady trail pool.now.clauses) }
     ensures variables { IfOk result (λ trail. trail.assignment.variables ≡ variables) }
 {
     let mut trail = Trail::new(alloc, variables)?;
@@ -64,8 +64,8 @@ pub(crate) fn learn_from(
     pool: &mut Pool,
     conflict: u32,
 ) -> Result<Option<Chain>, AllocError>
-    requires prepared { IsPrepared search.old pool.old.clauses }
-    requires conflict { IsConflict search.old.trail pool.old.clauses conflict }
+    requires prepared { IsSearchReady search.old pool.old.clauses }
+    requires conflict { IsConflictClause search.old.trail pool.old.clauses conflict }
     requires few { length pool.old.clauses + 1 < 2 ^ 32 }
     ensures learned { IfOk result (Learns search.old pool.old.clauses search.new pool.new.clauses) }
     ensures begins { BeginsWith pool.new.clauses pool.old.clauses }
@@ -93,11 +93,11 @@ fn take_in(
     clause: &[Lit],
     back: u32,
 ) -> Result<(), AllocError>
-    requires prepared { IsPrepared search.old pool.old.clauses }
+    requires prepared { IsSearchReady search.old pool.old.clauses }
     requires asserting { IsAsserting search.old.trail.assignment back clause.now }
     requires once { HasNoVariableTwice clause.now }
     requires few { length pool.old.clauses + 1 < 2 ^ 32 }
-    ensures prepared { OnOk result (IsPrepared search.new pool.new.clauses) }
+    ensures prepared { OnOk result (IsSearchReady search.new pool.new.clauses) }
     ensures added { OnOk result (pool.new.clauses ≡ pool.old.clauses ++ clause.now ∷ []) }
     ensures variables { search.new.trail.assignment.variables ≡ search.old.trail.assignment.variables }
     ensures chains { search.new.chains.items ≡ search.old.chains.items }
@@ -111,8 +111,8 @@ fn take_in(
 
 /// Goes back to level 0.
 pub(crate) fn restart(search: &mut Search, pool: &Pool)
-    requires { IsPrepared search.old pool.now.clauses }
-    ensures prepared { IsPrepared search.new pool.now.clauses }
+    requires { IsSearchReady search.old pool.now.clauses }
+    ensures prepared { IsSearchReady search.new pool.now.clauses }
     ensures variables { search.new.trail.assignment.variables ≡ search.old.trail.assignment.variables }
     ensures chains { search.new.chains ≡ search.old.chains }
 {

@@ -6,10 +6,10 @@ ghost use Rattle.clause_pool.specs.Clauses.{BeginsWith};
 ghost use Rattle.clause_pool.specs.Partial.{IsQuiet};
 ghost use Rattle.pair_miter.specs.Variables.{variable_count};
 ghost use Rattle.pair_miter.specs.Miter as spec;
-ghost use Rattle.learn_solver.specs.Decisions.{IsWhole};
-ghost use Rattle.learn_solver.specs.Search.{IsSearch, clauses_of};
+ghost use Rattle.learn_solver.specs.Decisions.{AreAllSet};
+ghost use Rattle.learn_solver.specs.Search.{IsSearch, miter_clauses};
 ghost use Rattle.learn_solver.specs.Solved.{IsSolved};
-ghost use Rattle.solver_trail.specs.Assignment.{IsTrail, held};
+ghost use Rattle.solver_trail.specs.Assignment.{IsTrail, assigned_literals};
 
 use crate::aim::Aim;
 use crate::logs::{bare_log, log_of};
@@ -52,9 +52,9 @@ fn run(
     conflicts: u32,
 ) -> Result<Solved, AllocError>
     requires search { IsSearch miter.now conflicts search.old pool.old.clauses }
-    requires few { length (clauses_of miter.now) + conflicts < 2 ^ 32 }
+    requires few { length (miter_clauses miter.now) + conflicts < 2 ^ 32 }
     ensures solved { IfOk result (IsSolved miter.now.circuit miter.now.f miter.now.g conflicts pool.new.clauses) }
-    ensures begins { BeginsWith pool.new.clauses (clauses_of miter.now) }
+    ensures begins { BeginsWith pool.new.clauses (miter_clauses miter.now) }
 {
     match sweep(alloc, miter, search, pool, conflicts)? {
         Some(last) => Ok(Solved::Refuted(bare_log(alloc, &mut search.chains, last)?)),
@@ -71,9 +71,9 @@ fn search_on(
     conflicts: u32,
 ) -> Result<Solved, AllocError>
     requires search { IsSearch miter.now conflicts search.old pool.old.clauses }
-    requires few { length (clauses_of miter.now) + conflicts < 2 ^ 32 }
+    requires few { length (miter_clauses miter.now) + conflicts < 2 ^ 32 }
     ensures solved { IfOk result (IsSolved miter.now.circuit miter.now.f miter.now.g conflicts pool.new.clauses) }
-    ensures begins { BeginsWith pool.new.clauses (clauses_of miter.now) }
+    ensures begins { BeginsWith pool.new.clauses (miter_clauses miter.now) }
 {
     let mut restarts = Restarts::new();
     'conflicts: while search.chains.len() < conflicts as usize {
@@ -96,8 +96,8 @@ fn search_on(
 fn vector(alloc: Global, miter: &Miter, trail: &Trail) -> Result<Vector, AllocError>
     requires trail { IsTrail trail.now.assignment }
     requires variables { trail.now.assignment.variables ≡ variable_count miter.now.circuit miter.now.f miter.now.g }
-    requires whole { IsWhole trail.now.assignment }
-    requires quiet { All (IsQuiet (held trail.now.assignment)) (clauses_of miter.now) }
+    requires whole { AreAllSet trail.now.assignment }
+    requires quiet { All (IsQuiet (assigned_literals trail.now.assignment)) (miter_clauses miter.now) }
     ensures { IfOk result (λ v. Separates miter.now.circuit v miter.now.f miter.now.g) }
 {
     let bits = model(alloc, trail, miter.variables())?;

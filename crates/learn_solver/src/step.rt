@@ -4,7 +4,7 @@ ghost use Rattle.std.specs.Prelude.{◌+◌, ◌<◌, ◌^◌, IfOk, length};
 ghost use Rattle.clause_pool.specs.Clauses.{BeginsWith};
 ghost use Rattle.pair_miter.specs.Variables.{variable_count};
 ghost use Rattle.learn_solver.specs.Decisions.{IsAim};
-ghost use Rattle.learn_solver.specs.Search.{IsSearch, EndsStep, clauses_of};
+ghost use Rattle.learn_solver.specs.Search.{IsSearch, EndsStep, miter_clauses};
 
 use crate::aim::Aim;
 use crate::descent::descend;
@@ -33,10 +33,10 @@ pub(crate) fn take_step(
 ) -> Result<Step, AllocError>
     requires search { IsSearch miter.now conflicts search.old pool.old.clauses }
     requires left { length search.old.chains.items < conflicts }
-    requires few { length (clauses_of miter.now) + conflicts < 2 ^ 32 }
+    requires few { length (miter_clauses miter.now) + conflicts < 2 ^ 32 }
     requires aim { IsAim (variable_count miter.now.circuit miter.now.f miter.now.g) aim.now }
     ensures ends { IfOk result (EndsStep miter.now conflicts aim.now search.old search.new pool.new.clauses) }
-    ensures begins { BeginsWith pool.new.clauses (clauses_of miter.now) }
+    ensures begins { BeginsWith pool.new.clauses (miter_clauses miter.now) }
 {
     match descend(&mut search.trail, pool, &mut search.decider, aim) {
         Propagated::Quiet => Ok(Step::Open),

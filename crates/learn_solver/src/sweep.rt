@@ -6,7 +6,7 @@ ghost use Rattle.clause_pool.specs.Clauses.{BeginsWith};
 ghost use Rattle.pair_miter.specs.SplitLines.{AreVariables};
 ghost use Rattle.pair_miter.specs.Variables.{variable_count};
 ghost use Rattle.learn_solver.specs.Decisions.{AreBoth};
-ghost use Rattle.learn_solver.specs.Search.{IsSearch, EndsSweep, clauses_of};
+ghost use Rattle.learn_solver.specs.Search.{IsSearch, EndsSweep, miter_clauses};
 
 use crate::aim::{Aim, Both};
 use crate::search::{Search, restart};
@@ -27,9 +27,9 @@ pub(crate) fn sweep(
     conflicts: u32,
 ) -> Result<Option<Chain>, AllocError>
     requires search { IsSearch miter.now conflicts search.old pool.old.clauses }
-    requires few { length (clauses_of miter.now) + conflicts < 2 ^ 32 }
+    requires few { length (miter_clauses miter.now) + conflicts < 2 ^ 32 }
     ensures ends { IfOk result (EndsSweep miter.now conflicts search.new pool.new.clauses) }
-    ensures begins { BeginsWith pool.new.clauses (clauses_of miter.now) }
+    ensures begins { BeginsWith pool.new.clauses (miter_clauses miter.now) }
 {
     let lines = miter.split_lines()?;
     try_all(alloc, miter, search, pool, conflicts, lines.as_slice())
@@ -45,10 +45,10 @@ fn try_all(
     lines: &[Copies],
 ) -> Result<Option<Chain>, AllocError>
     requires search { IsSearch miter.now conflicts search.old pool.old.clauses }
-    requires few { length (clauses_of miter.now) + conflicts < 2 ^ 32 }
+    requires few { length (miter_clauses miter.now) + conflicts < 2 ^ 32 }
     requires lines { All (AreVariables (variable_count miter.now.circuit miter.now.f miter.now.g)) lines.now }
     ensures ends { IfOk result (EndsSweep miter.now conflicts search.new pool.new.clauses) }
-    ensures begins { BeginsWith pool.new.clauses (clauses_of miter.now) }
+    ensures begins { BeginsWith pool.new.clauses (miter_clauses miter.now) }
 {
     let variables = miter.variables();
     for copies in lines {
@@ -87,10 +87,10 @@ fn reach(
     both: Both,
 ) -> Result<Option<Chain>, AllocError>
     requires search { IsSearch miter.now conflicts search.old pool.old.clauses }
-    requires few { length (clauses_of miter.now) + conflicts < 2 ^ 32 }
+    requires few { length (miter_clauses miter.now) + conflicts < 2 ^ 32 }
     requires both { AreBoth (variable_count miter.now.circuit miter.now.f miter.now.g) both }
     ensures ends { IfOk result (EndsSweep miter.now conflicts search.new pool.new.clauses) }
-    ensures begins { BeginsWith pool.new.clauses (clauses_of miter.now) }
+    ensures begins { BeginsWith pool.new.clauses (miter_clauses miter.now) }
 {
     search.decider.turn_to(both.highest);
     let aim = Aim::Both(both);

@@ -10,7 +10,7 @@ ghost use Rattle.net_model.specs.Collapse.{root};
 ghost use Rattle.net_model.specs.Fault.{IsFaultOf};
 ghost use Rattle.net_model.specs.FaultList.{faults, fault_count, fault_numbered};
 ghost use Rattle.result_file.specs.Lines.{HasRightRoots};
-ghost use Rattle.member_marks.specs.SubjectFields.{circuit_of, IsReady};
+ghost use Rattle.member_marks.specs.SubjectFields.{subject_circuit, AreSubjectFields};
 
 use fault_collapse::Forest;
 use fault_list::FaultList;
@@ -31,9 +31,9 @@ pub struct Subject<'a> {
 impl<'a> Model for Subject<'a> {
     ghost Value = { spec.Circuit };
 
-    ghost view = { circuit_of };
+    ghost view = { subject_circuit };
 
-    ghost invariant = { IsReady };
+    ghost invariant = { AreSubjectFields };
 }
 
 impl<'a> Subject<'a> {

@@ -5,12 +5,12 @@ use Rattle.std.proofs.lemmas.List.{append-nil, append_assoc, length-append}
 use Rattle.std.proofs.lemmas.List.Sums.{sum_by-append}
 use Rattle.clause_pool.specs.Clauses.{Clause, Clauses, literal_count}
 use Rattle.clause_pool.proofs.Numbered.{begins_through}
-use Rattle.pair_miter.specs.Adds.{Adds, HasRoom, Keeps, SamePlaces, Writes}
+use Rattle.pair_miter.specs.Adds.{Adds, HasRoom, KeepsClauses, SamePlaces, WritesClauses}
 use Rattle.pair_miter.specs.Miter.{tidy}
 use Rattle.pair_miter.proofs.TidyParts.{tidy-append, tidy_none}
 
 -- a call that fails has kept what was there
-pub writes_err : {T E : Type 0} {old new : Clauses} {clauses : List Clause} (r : Result T E) → IsErr r → Keeps old new clauses → Writes r old new clauses
+pub writes_err : {T E : Type 0} {old new : Clauses} {clauses : List Clause} (r : Result T E) → IsErr r → KeepsClauses old new clauses → WritesClauses r old new clauses
 writes_err (Ok x) wrong keeps = cc
 writes_err (Err e) fails keeps = keeps
 
@@ -43,20 +43,20 @@ adds_both a b c xs ys first second = record {
 }
 
 -- what is added to is kept
-pub adds_keeps : (old new : Clauses) (clauses : List Clause) → Adds old new clauses → Keeps old new clauses
+pub adds_keeps : (old new : Clauses) (clauses : List Clause) → Adds old new clauses → KeepsClauses old new clauses
 adds_keeps old new clauses adds = record { begins = record { more = clauses; are = adds.written }; in_room = adds.in_room }
 
-pub keeps_all : (pool : Clauses) (clauses : List Clause) → Keeps pool pool clauses
+pub keeps_all : (pool : Clauses) (clauses : List Clause) → KeepsClauses pool pool clauses
 keeps_all pool clauses = record { begins = record { more = []; are = sym (append-nil pool.clauses) }; in_room = λ room. record { of_clauses = refl; of_literals = refl } }
 
 -- where the first clauses are written and the others fail, or the first fail already
-pub keeps_both : (a b c : Clauses) (xs ys : List Clause) → Adds a b xs → Keeps b c ys → Keeps a c (xs ++ ys)
+pub keeps_both : (a b c : Clauses) (xs ys : List Clause) → Adds a b xs → KeepsClauses b c ys → KeepsClauses a c (xs ++ ys)
 keeps_both a b c xs ys first second = record {
   begins = begins_through c.clauses b.clauses a.clauses second.begins (record { more = xs; are = first.written });
   in_room = λ room. let rooms = rooms_of a b xs ys first room in let then = second.in_room rooms.1 in record { of_clauses = then.of_clauses ∙ rooms.0.of_clauses; of_literals = then.of_literals ∙ rooms.0.of_literals };
 }
 
-pub keeps_first : (a b : Clauses) (xs ys : List Clause) → Keeps a b xs → Keeps a b (xs ++ ys)
+pub keeps_first : (a b : Clauses) (xs ys : List Clause) → KeepsClauses a b xs → KeepsClauses a b (xs ++ ys)
 keeps_first a b xs ys first = record {
   begins = first.begins;
   in_room = λ room. first.in_room (record { enough_clauses = omega (arith, room.enough_clauses, length-append xs ys); enough_literals = omega (arith, room.enough_literals, sum_by-append length xs ys) });
@@ -87,14 +87,14 @@ left_few {old} {now} {rows} {first} {left} two adds few = let there = ap length 
 pub both_parts : {old now new : Clauses} {rows first left : List Clause} → InTwo rows first left → Adds old now (tidy first) → Adds now new (tidy left) → Adds old new (tidy rows)
 both_parts {old} {now} {new} {rows} {first} {left} two one other = subst (Adds old new) (sym (tidied two)) (adds_both old now new (tidy first) (tidy left) one other)
 
-pub first_fails : {old new : Clauses} {rows first left : List Clause} → InTwo rows first left → Keeps old new (tidy first) → Keeps old new (tidy rows)
-first_fails {old} {new} {rows} {first} {left} two keeps = subst (Keeps old new) (sym (tidied two)) (keeps_first old new (tidy first) (tidy left) keeps)
+pub first_fails : {old new : Clauses} {rows first left : List Clause} → InTwo rows first left → KeepsClauses old new (tidy first) → KeepsClauses old new (tidy rows)
+first_fails {old} {new} {rows} {first} {left} two keeps = subst (KeepsClauses old new) (sym (tidied two)) (keeps_first old new (tidy first) (tidy left) keeps)
 
-pub left_fails : {old now new : Clauses} {rows first left : List Clause} → InTwo rows first left → Adds old now (tidy first) → Keeps now new (tidy left) → Keeps old new (tidy rows)
-left_fails {old} {now} {new} {rows} {first} {left} two adds keeps = subst (Keeps old new) (sym (tidied two)) (keeps_both old now new (tidy first) (tidy left) adds keeps)
+pub left_fails : {old now new : Clauses} {rows first left : List Clause} → InTwo rows first left → Adds old now (tidy first) → KeepsClauses now new (tidy left) → KeepsClauses old new (tidy rows)
+left_fails {old} {now} {new} {rows} {first} {left} two adds keeps = subst (KeepsClauses old new) (sym (tidied two)) (keeps_both old now new (tidy first) (tidy left) adds keeps)
 
 -- a last call that writes what is left
-pub writes_left : {T E : Type 0} (r : Result T E) (new : Clauses) {old now : Clauses} {rows first left : List Clause} → InTwo rows first left → Adds old now (tidy first) → Writes r now new (tidy left) → Writes r old new (tidy rows)
+pub writes_left : {T E : Type 0} (r : Result T E) (new : Clauses) {old now : Clauses} {rows first left : List Clause} → InTwo rows first left → Adds old now (tidy first) → WritesClauses r now new (tidy left) → WritesClauses r old new (tidy rows)
 writes_left (Ok x) new two adds writes = both_parts two adds writes
 writes_left (Err e) new two adds writes = left_fails two adds writes
 
@@ -106,7 +106,7 @@ pub record HasNext (rows before next : List Clause) : Type 0 where
 pub next_few : {old now : Clauses} {rows before next : List Clause} → HasNext rows before next → Adds old now (tidy before) → length old.clauses + length (tidy rows) < 2 ^ 30 → length now.clauses + length (tidy next) < 2 ^ 30
 next_few {old} {before = before} {next = next} has adds few = left_few (beside before next) adds (first_few old has.are few)
 
-pub next_fails : {old now new : Clauses} {rows before next : List Clause} → HasNext rows before next → Adds old now (tidy before) → Keeps now new (tidy next) → Keeps old new (tidy rows)
+pub next_fails : {old now new : Clauses} {rows before next : List Clause} → HasNext rows before next → Adds old now (tidy before) → KeepsClauses now new (tidy next) → KeepsClauses old new (tidy rows)
 next_fails {before = before} {next = next} has adds keeps = first_fails has.are (left_fails (beside before next) adds keeps)
 
 -- ---- what is left, step by step
@@ -132,14 +132,14 @@ pub remains_few : {old now : Clauses} {all rows first left : List Clause} → Re
 remains_few {now = now} r two few = first_few now two (left_few r.parted r.adds few)
 
 -- what fails in what is left fails in all
-pub remains_fails : {old now new : Clauses} {all rows first left : List Clause} → Remains old now all rows → InTwo rows first left → Keeps now new (tidy first) → Keeps old new (tidy all)
+pub remains_fails : {old now new : Clauses} {all rows first left : List Clause} → Remains old now all rows → InTwo rows first left → KeepsClauses now new (tidy first) → KeepsClauses old new (tidy all)
 remains_fails r two keeps = left_fails r.parted r.adds (first_fails two keeps)
 
 -- the last call writes what is left
 pub remains_last_few : {old now : Clauses} {all left : List Clause} → Remains old now all left → length old.clauses + length (tidy all) < 2 ^ 30 → length now.clauses + length (tidy left) < 2 ^ 30
 remains_last_few r few = left_few r.parted r.adds few
 
-pub writes_last : {T E : Type 0} (r : Result T E) (new : Clauses) {old now : Clauses} {all left : List Clause} → Remains old now all left → Writes r now new (tidy left) → Writes r old new (tidy all)
+pub writes_last : {T E : Type 0} (r : Result T E) (new : Clauses) {old now : Clauses} {all left : List Clause} → Remains old now all left → WritesClauses r now new (tidy left) → WritesClauses r old new (tidy all)
 writes_last r new remains writes = writes_left r new remains.parted remains.adds writes
 
 -- ---- one clause, by the literals that were written
@@ -150,7 +150,7 @@ one_of left same = record { are = ap (λ (c : Clause). c ∷ left) (sym same) }
 pub step : {old now new : Clauses} {all left : List Clause} {row written : Clause} → Remains old now all (row ∷ left) → written ≡ row → Adds now new (tidy (written ∷ [])) → Remains old new all left
 step {left = left} r same adds = remains_less r (one_of left same) adds
 
-pub step_fails : {old now new : Clauses} {all left : List Clause} {row written : Clause} → Remains old now all (row ∷ left) → written ≡ row → Keeps now new (tidy (written ∷ [])) → Keeps old new (tidy all)
+pub step_fails : {old now new : Clauses} {all left : List Clause} {row written : Clause} → Remains old now all (row ∷ left) → written ≡ row → KeepsClauses now new (tidy (written ∷ [])) → KeepsClauses old new (tidy all)
 step_fails {left = left} r same keeps = remains_fails r (one_of left same) keeps
 
 pub step_few : {old now : Clauses} {all left : List Clause} {row written : Clause} → Remains old now all (row ∷ left) → written ≡ row → length old.clauses + length (tidy all) < 2 ^ 30

@@ -8,7 +8,7 @@ use Rattle.net_model.specs.Answer.{bit_at}
 use Rattle.clause_pool.specs.Literal.{Literal, same_literal}
 use Rattle.clause_pool.specs.LiteralCode.{code_of}
 use Rattle.clause_pool.specs.Clauses.{Clause}
-use Rattle.pair_miter.specs.Marks.{AreMarks}
+use Rattle.pair_miter.specs.Marks.{AreMarksOfClause}
 use Rattle.pair_miter.specs.Miter.{has_literal, without_repeats}
 use Rattle.std.proofs.Math.Bool.{or-true, or-false}
 use Rattle.pair_miter.proofs.TidyParts.{has_literal-push, kept_with, without_repeats-push}
@@ -30,7 +30,7 @@ same_code_of : (l m : Literal) → same_literal l m ≡ true → code_of l ≡ c
 same_code_of l m e = let test = same_code l m ∙ e in grind (arith, nat_tests)
 
 -- a marked literal that comes again
-pub marks_again : (marks : List Bool) (xs : Clause) (m : Literal) → AreMarks marks xs → bit_at marks (code_of m) ≡ true → AreMarks marks (xs ++ m ∷ [])
+pub marks_again : (marks : List Bool) (xs : Clause) (m : Literal) → AreMarksOfClause marks xs → bit_at marks (code_of m) ≡ true → AreMarksOfClause marks (xs ++ m ∷ [])
 marks_again marks xs m are marked l = by (same_literal l m) refl
   where
     by : (b : Bool) → same_literal l m ≡ b → bit_at marks (code_of l) ≡ has_literal (xs ++ m ∷ []) l
@@ -38,7 +38,7 @@ marks_again marks xs m are marked l = by (same_literal l m) refl
     by false e = are l ∙ (sym (or-false (has_literal xs l)) ∙ (ap (λ b. has_literal xs l || b) (sym e) ∙ sym (has_literal-push xs m l)))
 
 -- a literal that is marked now
-pub marks_more : (marks : List Bool) (xs : Clause) (m : Literal) → AreMarks marks xs → code_of m < length marks → AreMarks (set marks (code_of m) true) (xs ++ m ∷ [])
+pub marks_more : (marks : List Bool) (xs : Clause) (m : Literal) → AreMarksOfClause marks xs → code_of m < length marks → AreMarksOfClause (set marks (code_of m) true) (xs ++ m ∷ [])
 marks_more marks xs m are room l = by (same_literal l m) refl
   where
     by : (b : Bool) → same_literal l m ≡ b → bit_at (set marks (code_of m) true) (code_of l) ≡ has_literal (xs ++ m ∷ []) l
@@ -62,7 +62,7 @@ within_less marks m rest within room l marked = by (same_literal l m) refl
     by false e = ap (λ b. b || has_literal rest l) (sym e) ∙ within l (sym (get_or-set_other marks (code_of m) (code_of l) false false (other_code l m e)) ∙ marked)
 
 -- where none is left, no literal is marked
-pub within_none : (marks : List Bool) → AreWithin marks [] → AreMarks marks []
+pub within_none : (marks : List Bool) → AreWithin marks [] → AreMarksOfClause marks []
 within_none marks within l = by (bit_at marks (code_of l)) refl
   where
     by : (b : Bool) → bit_at marks (code_of l) ≡ b → bit_at marks (code_of l) ≡ false
@@ -71,7 +71,7 @@ within_none marks within l = by (bit_at marks (code_of l)) refl
 
 -- ---- a literal is kept where it isn't marked
 
-module _ (marks : List Bool) (kept xs : Clause) (m : Literal) (are : AreMarks marks xs) (so_far : kept ≡ without_repeats xs) where
+module _ (marks : List Bool) (kept xs : Clause) (m : Literal) (are : AreMarksOfClause marks xs) (so_far : kept ≡ without_repeats xs) where
   pub keeps_new : bit_at marks (code_of m) ≡ false → kept ++ m ∷ [] ≡ without_repeats (xs ++ m ∷ [])
   keeps_new unmarked =
       ap (λ ks. ks ++ m ∷ []) so_far

@@ -18,11 +18,11 @@ pub record Adds (old new : Clauses) (clauses : List Clause) : Type 0 where
   pub in_room : HasRoom old clauses → SamePlaces old new
 
 -- The old clauses stand as before, and some may stand after them. Where there was room for these clauses, the pool didn't grow.
-pub record Keeps (old new : Clauses) (clauses : List Clause) : Type 0 where
+pub record KeepsClauses (old new : Clauses) (clauses : List Clause) : Type 0 where
   pub begins : BeginsWith new.clauses old.clauses
   pub in_room : HasRoom old clauses → SamePlaces old new
 
 -- A call that answers so has written the clauses, or after an error perhaps some.
-abbrev pub Writes : {T E : Type 0} → Result T E → Clauses → Clauses → List Clause → Type 0
-Writes (Ok x) old new clauses = Adds old new clauses
-Writes (Err e) old new clauses = Keeps old new clauses
+abbrev pub WritesClauses : {T E : Type 0} → Result T E → Clauses → Clauses → List Clause → Type 0
+WritesClauses (Ok x) old new clauses = Adds old new clauses
+WritesClauses (Err e) old new clauses = KeepsClauses old new clauses

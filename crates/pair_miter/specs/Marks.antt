@@ -9,8 +9,8 @@ use Rattle.clause_pool.specs.Proper.{IsVariable}
 use Rattle.pair_miter.specs.Operand.{Operand, variable_of}
 
 -- the marked literals are those of the clause
-abbrev pub AreMarks : List Bool → Clause → Type 0
-AreMarks marks clause = (l : Literal) → bit_at marks (code_of l) ≡ has_literal clause l
+abbrev pub AreMarksOfClause : List Bool → Clause → Type 0
+AreMarksOfClause marks clause = (l : Literal) → bit_at marks (code_of l) ≡ has_literal clause l
 
 -- both literals of each of the clause's variables have a place
 abbrev pub HavePlaces : List Bool → Clause → Type 0
@@ -20,7 +20,7 @@ HavePlaces marks clause = All (λ l. 2 * l.variable + 1 < length marks) clause
 pub record AreClear (variables : ℕ) (marks : List Bool) : Type 0 where
   pub few : variables < 2 ^ 31
   pub places : length marks ≡ 2 * variables + 2
-  pub none : AreMarks marks []
+  pub none : AreMarksOfClause marks []
 
 -- a constant, or one of the variables
 abbrev pub IsOperand : ℕ → Operand → Type 0

@@ -24,7 +24,7 @@ abbrev pub numbering_of : Inside → Miter
 numbering_of a = miter_with a.circuit.now a.f a.g
 
 -- The circuit is one, the scope is the pair's, and the lines have their variables.
-pub record IsNumbered (a : Inside) : Type 0 where
+pub record HasVariables (a : Inside) : Type 0 where
   pub circuit : IsCircuit a.circuit.now
   pub scope : IsScopeOf a.circuit.now a.f a.g a.scope
   pub firsts : AreFirstVariables a.circuit.now a.f a.g (line_count a.circuit.now) a.firsts.items

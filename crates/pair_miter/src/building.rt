@@ -5,7 +5,7 @@ ghost use Rattle.net_model.specs.Circuit.{IsCircuit};
 ghost use Rattle.net_model.specs.Fault.{IsFaultOf};
 ghost use Rattle.net_model.specs.Scope.{reached_positions};
 ghost use Rattle.pair_miter.specs.declared.side.Side.TheVariants.{First};
-ghost use Rattle.pair_miter.specs.Adds.{HasRoom, SamePlaces, Writes};
+ghost use Rattle.pair_miter.specs.Adds.{HasRoom, SamePlaces, WritesClauses};
 ghost use Rattle.pair_miter.specs.Miter.{differences_part, lines_part, miter, tidy};
 ghost use Rattle.pair_miter.specs.MiterView.{miter_with};
 ghost use Rattle.pair_miter.specs.Variables.{difference_variable, first_helper, variable_count};
@@ -55,7 +55,7 @@ fn write_miter<'a>(
     requires first { IsFaultOf circuit.now f }
     requires second { IsFaultOf circuit.now g }
     ensures miter { IfOk result (λ built. built ≡ miter_with circuit.now f g) }
-    ensures written { Writes result pool.old pool.new (miter circuit.now f g) }
+    ensures written { WritesClauses result pool.old pool.new (miter circuit.now f g) }
 {
     let numbering = Numbering::new(alloc, circuit, f, g)?;
     let variables = write_parts(alloc, pool, &numbering)?;
@@ -71,7 +71,7 @@ fn write_miter<'a>(
 fn write_parts(alloc: Global, pool: &mut Pool, numbering: &Numbering) -> Result<u32, AllocError>
     requires { pool.old.clauses ≡ [] }
     ensures variables { IfOk result (λ variables. variables ≡ variable_count numbering.now.circuit numbering.now.f numbering.now.g) }
-    ensures written { Writes result pool.old pool.new (miter numbering.now.circuit numbering.now.f numbering.now.g) }
+    ensures written { WritesClauses result pool.old pool.new (miter numbering.now.circuit numbering.now.f numbering.now.g) }
     ensures circuit { IsCircuit numbering.now.circuit }
 {
     let first_difference = numbering.end() + count_helpers(numbering);
@@ -104,7 +104,7 @@ fn write_lines(
     requires variables { writer.old.tidier ≡ variable_count numbering.now.circuit numbering.now.f numbering.now.g }
     requires helper { writer.old.helper ≡ first_helper numbering.now.circuit numbering.now.f numbering.now.g First 0 }
     requires few { length pool.old.clauses + length (tidy (lines_part numbering.now.circuit numbering.now.f numbering.now.g)) < 2 ^ 30 }
-    ensures written { Writes result pool.old pool.new (tidy (lines_part numbering.now.circuit numbering.now.f numbering.now.g)) }
+    ensures written { WritesClauses result pool.old pool.new (tidy (lines_part numbering.now.circuit numbering.now.f numbering.now.g)) }
     ensures variables { writer.new.tidier ≡ writer.old.tidier }
 {
     for line in 0..numbering.circuit().lines() {
@@ -126,7 +126,7 @@ fn write_differences(
     requires variables { writer.old.tidier ≡ variable_count numbering.now.circuit numbering.now.f numbering.now.g }
     requires difference { first_difference ≡ difference_variable numbering.now.circuit numbering.now.f numbering.now.g 0 }
     requires few { length pool.old.clauses + length (tidy (differences_part numbering.now.circuit numbering.now.f numbering.now.g)) < 2 ^ 30 }
-    ensures written { Writes result pool.old pool.new (tidy (differences_part numbering.now.circuit numbering.now.f numbering.now.g)) }
+    ensures written { WritesClauses result pool.old pool.new (tidy (differences_part numbering.now.circuit numbering.now.f numbering.now.g)) }
     ensures variables { writer.new.tidier ≡ writer.old.tidier }
 {
     let mut differences = Vec::new(alloc);

@@ -28,13 +28,13 @@ pub(crate) struct Numbering<'a> {
 
 impl<'a> Model for Numbering<'a> {
     ghost use Rattle.pair_miter.specs.MiterView.{Miter};
-    ghost use Rattle.pair_miter.specs.Numbering.{numbering_of, IsNumbered};
+    ghost use Rattle.pair_miter.specs.Numbering.{numbering_of, HasVariables};
 
     ghost Value = { Miter };
 
     ghost view = { numbering_of };
 
-    ghost invariant = { IsNumbered };
+    ghost invariant = { HasVariables };
 }
 
 impl<'a> Numbering<'a> {

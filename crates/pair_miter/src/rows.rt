@@ -4,7 +4,7 @@ ghost use Rattle.std.specs.Prelude.{◌≡◌, ◌+◌, ◌<◌, ◌≤◌, ◌^
 ghost use Rattle.net_model.specs.Gate.{takes_pins};
 ghost use Rattle.clause_pool.specs.Literal.{Literal, opposite, pos_literal};
 ghost use Rattle.clause_pool.specs.Proper.{IsVariable};
-ghost use Rattle.pair_miter.specs.Adds.{Writes};
+ghost use Rattle.pair_miter.specs.Adds.{WritesClauses};
 ghost use Rattle.pair_miter.specs.Marks.{IsOperand, AreHelpers};
 ghost use Rattle.pair_miter.specs.Miter.{tidy};
 ghost use Rattle.pair_miter.specs.Rows.{variables, has_constant, has_odd_constants, same_value, xor_of_two, xor_onward, odd_rows, decided_rows, case_rows, chosen_rows, gate_rows};
@@ -31,7 +31,7 @@ pub(crate) fn write_gate(
     requires helpers { is_parity kind ≡ true → AreHelpers tidier.old helper (length (variables operands.now)) }
     requires pins { IsTrue (takes_pins kind (length operands.now)) }
     requires few { length pool.old.clauses + length (tidy (gate_rows kind output helper operands.now)) < 2 ^ 30 }
-    ensures written { Writes result pool.old pool.new (tidy (gate_rows kind output helper operands.now)) }
+    ensures written { WritesClauses result pool.old pool.new (tidy (gate_rows kind output helper operands.now)) }
     ensures variables { tidier.new ≡ tidier.old }
 {
     let y = tidier.literal(output, !kind.inverts());
@@ -60,7 +60,7 @@ fn write_decided(
     requires output { l.variable ≤ tidier.old }
     requires operands { All (IsOperand tidier.old) operands.now }
     requires few { length pool.old.clauses + length (tidy (decided_rows decides l operands.now)) < 2 ^ 30 }
-    ensures written { Writes result pool.old pool.new (tidy (decided_rows decides l operands.now)) }
+    ensures written { WritesClauses result pool.old pool.new (tidy (decided_rows decides l operands.now)) }
     ensures variables { tidier.new ≡ tidier.old }
 {
     if has_constant(decides, operands) {
@@ -80,7 +80,7 @@ fn write_same(tidier: &mut Tidier, pool: &mut Pool, y: Lit, variable: u32) -> Re
     requires output { y.variable ≤ tidier.old }
     requires variable { IsVariable tidier.old variable }
     requires few { length pool.old.clauses + length (tidy (same_value y variable)) < 2 ^ 30 }
-    ensures written { Writes result pool.old pool.new (tidy (same_value y variable)) }
+    ensures written { WritesClauses result pool.old pool.new (tidy (same_value y variable)) }
     ensures variables { tidier.new ≡ tidier.old }
 {
     let x = tidier.literal(variable, true);
@@ -99,7 +99,7 @@ fn write_odd(
     requires operands { All (IsOperand tidier.old) operands.now }
     requires helpers { AreHelpers tidier.old helper (length (variables operands.now)) }
     requires few { length pool.old.clauses + length (tidy (odd_rows y helper operands.now)) < 2 ^ 30 }
-    ensures written { Writes result pool.old pool.new (tidy (odd_rows y helper operands.now)) }
+    ensures written { WritesClauses result pool.old pool.new (tidy (odd_rows y helper operands.now)) }
     ensures variables { tidier.new ≡ tidier.old }
 {
     let out = if has_odd_constants(operands) {
@@ -133,7 +133,7 @@ fn write_xor_onward(
     requires operands { All (IsOperand tidier.old) operands.now }
     requires helpers { AreHelpers tidier.old helper (2 + length (variables operands.now)) }
     requires few { length pool.old.clauses + length (tidy (xor_onward y helper first (second ∷ variables operands.now))) < 2 ^ 30 }
-    ensures written { Writes result pool.old pool.new (tidy (xor_onward y helper first (second ∷ variables operands.now))) }
+    ensures written { WritesClauses result pool.old pool.new (tidy (xor_onward y helper first (second ∷ variables operands.now))) }
     ensures variables { tidier.new ≡ tidier.old }
 {
     let mut part = helper;
@@ -163,7 +163,7 @@ fn write_xor_of_two(
     requires first { b.variable ≤ tidier.old }
     requires second { IsVariable tidier.old variable }
     requires few { length pool.old.clauses + length (tidy (xor_of_two a b (pos_literal variable))) < 2 ^ 30 }
-    ensures written { Writes result pool.old pool.new (tidy (xor_of_two a b (pos_literal variable))) }
+    ensures written { WritesClauses result pool.old pool.new (tidy (xor_of_two a b (pos_literal variable))) }
     ensures variables { tidier.new ≡ tidier.old }
 {
     let c = tidier.literal(variable, true);
@@ -185,7 +185,7 @@ fn write_clauses<const N: usize>(
 ) -> Result<(), AllocError>
     requires variables { All (All (λ (l : Literal). l.variable ≤ tidier.old)) clauses.now }
     requires few { length pool.old.clauses + length (tidy clauses.now) < 2 ^ 30 }
-    ensures written { Writes result pool.old pool.new (tidy clauses.now) }
+    ensures written { WritesClauses result pool.old pool.new (tidy clauses.now) }
     ensures variables { tidier.new ≡ tidier.old }
 {
     for clause in clauses {
@@ -205,7 +205,7 @@ fn write_chosen(
     requires operands { All (IsOperand tidier.old) operands.now }
     requires three { length operands.now ≡ 3 }
     requires few { length pool.old.clauses + length (tidy (chosen_rows y operands.now)) < 2 ^ 30 }
-    ensures written { Writes result pool.old pool.new (tidy (chosen_rows y operands.now)) }
+    ensures written { WritesClauses result pool.old pool.new (tidy (chosen_rows y operands.now)) }
     ensures variables { tidier.new ≡ tidier.old }
 {
     let (chooser, first, second) = (&operands[0], &operands[1], &operands[2]);
@@ -226,7 +226,7 @@ fn write_case(
     requires chooser { IsOperand tidier.old chooser.now }
     requires chosen { IsOperand tidier.old chosen.now }
     requires few { length pool.old.clauses + length (tidy (case_rows y unless chooser.now chosen.now)) < 2 ^ 30 }
-    ensures written { Writes result pool.old pool.new (tidy (case_rows y unless chooser.now chosen.now)) }
+    ensures written { WritesClauses result pool.old pool.new (tidy (case_rows y unless chooser.now chosen.now)) }
     ensures variables { tidier.new ≡ tidier.old }
 {
     tidier.write_case(pool, y.opposite(), unless, chooser, true, chosen)?;

@@ -2,8 +2,8 @@
 
 ghost use Rattle.std.specs.Prelude.{◌≡◌, ◌+◌, ◌-◌, ◌<◌, ◌≤◌, ◌^◌, [], ◌∷◌, ◌++◌, length, All, vec_capacity, IfOk, OnOk};
 ghost use Rattle.clause_pool.specs.Proper.{IsVariable};
-ghost use Rattle.pair_miter.specs.Adds.{Writes};
-ghost use Rattle.pair_miter.specs.Marks.{AreMarks, HavePlaces, IsOperand};
+ghost use Rattle.pair_miter.specs.Adds.{WritesClauses};
+ghost use Rattle.pair_miter.specs.Marks.{AreMarksOfClause, HavePlaces, IsOperand};
 ghost use Rattle.pair_miter.specs.Miter.{tidy, without_repeats, is_tautology};
 ghost use Rattle.pair_miter.specs.Rows.{variables, operand_literals, case_clause, with_all};
 
@@ -60,7 +60,7 @@ impl Tidier {
     pub(crate) fn write(&mut self, pool: &mut Pool, clause: &[Lit]) -> Result<(), AllocError>
         requires variables { All (λ l. l.variable ≤ self.old) clause.now }
         requires few { length pool.old.clauses + length (tidy (clause.now ∷ [])) < 2 ^ 30 }
-        ensures written { Writes result pool.old pool.new (tidy (clause.now ∷ [])) }
+        ensures written { WritesClauses result pool.old pool.new (tidy (clause.now ∷ [])) }
         ensures variables { self.new ≡ self.old }
     {
         write_once(&mut self.marks, &mut self.kept, pool, clause)
@@ -77,7 +77,7 @@ impl Tidier {
         requires operands { All (IsOperand self.old) operands.now }
         requires first { first.variable ≤ self.old }
         requires few { length pool.old.clauses + length (tidy (with_all first positive (variables operands.now) ∷ [])) < 2 ^ 30 }
-        ensures written { Writes result pool.old pool.new (tidy (with_all first positive (variables operands.now) ∷ [])) }
+        ensures written { WritesClauses result pool.old pool.new (tidy (with_all first positive (variables operands.now) ∷ [])) }
         ensures variables { self.new ≡ self.old }
     {
         fill(&mut self.row, first, positive, operands)?;
@@ -99,7 +99,7 @@ impl Tidier {
         requires chooser { IsOperand self.old chooser.now }
         requires chosen { IsOperand self.old chosen.now }
         requires few { length pool.old.clauses + length (tidy (case_clause l unless chooser.now positive chosen.now)) < 2 ^ 30 }
-        ensures written { Writes result pool.old pool.new (tidy (case_clause l unless chooser.now positive chosen.now)) }
+        ensures written { WritesClauses result pool.old pool.new (tidy (case_clause l unless chooser.now positive chosen.now)) }
         ensures variables { self.new ≡ self.old }
     {
         if chooser.is_constant(unless) || chosen.is_constant(positive) {
@@ -166,11 +166,11 @@ fn write_once(
     clause: &[Lit],
 ) -> Result<(), AllocError>
     requires places { HavePlaces marks.old.items clause.now }
-    requires clear { AreMarks marks.old.items [] }
+    requires clear { AreMarksOfClause marks.old.items [] }
     requires few { length pool.old.clauses + length (tidy (clause.now ∷ [])) < 2 ^ 30 }
-    ensures written { Writes result pool.old pool.new (tidy (clause.now ∷ [])) }
+    ensures written { WritesClauses result pool.old pool.new (tidy (clause.now ∷ [])) }
     ensures places { length marks.new.items ≡ length marks.old.items }
-    ensures clear { AreMarks marks.new.items [] }
+    ensures clear { AreMarksOfClause marks.new.items [] }
 {
     kept.clear();
     kept.reserve(clause.len())?;
@@ -186,13 +186,13 @@ fn write_once(
 // Keeps and marks the literals of a clause, each once. Answers whether there are opposite ones.
 fn keep_once(marks: &mut Vec<bool>, kept: &mut Vec<Lit>, clause: &[Lit]) -> bool
     requires places { HavePlaces marks.old.items clause.now }
-    requires clear { AreMarks marks.old.items [] }
+    requires clear { AreMarksOfClause marks.old.items [] }
     requires none { kept.old.items ≡ [] }
     requires room { length clause.now ≤ vec_capacity kept.old }
     ensures kept { kept.new.items ≡ without_repeats clause.now }
     ensures opposites { result ≡ is_tautology clause.now }
     ensures places { length marks.new.items ≡ length marks.old.items }
-    ensures marked { AreMarks marks.new.items clause.now }
+    ensures marked { AreMarksOfClause marks.new.items clause.now }
 {
     let mut opposites = false;
     for lit in clause {
@@ -209,9 +209,9 @@ fn keep_once(marks: &mut Vec<bool>, kept: &mut Vec<Lit>, clause: &[Lit]) -> bool
 // Takes the marks of a clause's literals away.
 fn clear_marks(marks: &mut Vec<bool>, clause: &[Lit])
     requires places { HavePlaces marks.old.items clause.now }
-    requires marked { AreMarks marks.old.items clause.now }
+    requires marked { AreMarksOfClause marks.old.items clause.now }
     ensures places { length marks.new.items ≡ length marks.old.items }
-    ensures clear { AreMarks marks.new.items [] }
+    ensures clear { AreMarksOfClause marks.new.items [] }
 {
     for lit in clause {
         marks[lit.code()] = false;
@@ -221,7 +221,7 @@ fn clear_marks(marks: &mut Vec<bool>, clause: &[Lit])
 // Adds a clause to a pool, which grows only where it lacks room.
 fn push(pool: &mut Pool, clause: &[Lit]) -> Result<(), AllocError>
     requires { length pool.old.clauses < 2 ^ 30 }
-    ensures written { Writes result pool.old pool.new (clause.now ∷ []) }
+    ensures written { WritesClauses result pool.old pool.new (clause.now ∷ []) }
 {
     pool.add(clause)?;
     Ok(())

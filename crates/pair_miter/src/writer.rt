@@ -4,7 +4,7 @@ ghost use Rattle.std.specs.Prelude.{◌≡◌, ◌+◌, ◌<◌, ◌^◌, true, 
 ghost use Rattle.net_model.specs.Circuit.{line_count};
 ghost use Rattle.net_model.specs.Fault.{stuck_stem};
 ghost use Rattle.net_model.specs.Scope.{is_relevant, is_reached};
-ghost use Rattle.pair_miter.specs.Adds.{Writes};
+ghost use Rattle.pair_miter.specs.Adds.{WritesClauses};
 ghost use Rattle.pair_miter.specs.Miter.{copy_clauses, line_clauses, difference_clauses, tidy};
 ghost use Rattle.pair_miter.specs.Numbering.{HasCopy};
 ghost use Rattle.pair_miter.specs.Variables.{first_helper, copy_helpers, line_helpers, difference_variable, variable_count};
@@ -53,7 +53,7 @@ impl Writer {
         requires relevant { is_relevant numbering.now.circuit numbering.now.f numbering.now.g line ≡ true }
         requires helper { self.old.helper ≡ first_helper numbering.now.circuit numbering.now.f numbering.now.g Side.First line }
         requires few { length pool.old.clauses + length (tidy (line_clauses numbering.now.circuit numbering.now.f numbering.now.g line)) < 2 ^ 30 }
-        ensures written { Writes result pool.old pool.new (tidy (line_clauses numbering.now.circuit numbering.now.f numbering.now.g line)) }
+        ensures written { WritesClauses result pool.old pool.new (tidy (line_clauses numbering.now.circuit numbering.now.f numbering.now.g line)) }
         ensures helper { OnOk result (self.new.helper ≡ self.old.helper + line_helpers numbering.now.circuit numbering.now.f numbering.now.g line) }
         ensures variables { self.new.tidier ≡ self.old.tidier }
     {
@@ -78,7 +78,7 @@ impl Writer {
         requires copy { HasCopy numbering.now.circuit numbering.now.f numbering.now.g side line }
         requires helper { self.old.helper ≡ first_helper numbering.now.circuit numbering.now.f numbering.now.g side line }
         requires few { length pool.old.clauses + length (tidy (copy_clauses numbering.now.circuit numbering.now.f numbering.now.g side line)) < 2 ^ 30 }
-        ensures written { Writes result pool.old pool.new (tidy (copy_clauses numbering.now.circuit numbering.now.f numbering.now.g side line)) }
+        ensures written { WritesClauses result pool.old pool.new (tidy (copy_clauses numbering.now.circuit numbering.now.f numbering.now.g side line)) }
         ensures helper { OnOk result (self.new.helper ≡ self.old.helper + copy_helpers numbering.now.circuit numbering.now.f numbering.now.g side line) }
         ensures variables { self.new.tidier ≡ self.old.tidier }
     {
@@ -118,7 +118,7 @@ impl Writer {
         requires difference { difference ≡ difference_variable numbering.now.circuit numbering.now.f numbering.now.g position }
         requires variables { self.old.tidier ≡ variable_count numbering.now.circuit numbering.now.f numbering.now.g }
         requires few { length pool.old.clauses + length (tidy (difference_clauses numbering.now.circuit numbering.now.f numbering.now.g position)) < 2 ^ 30 }
-        ensures written { Writes result pool.old pool.new (tidy (difference_clauses numbering.now.circuit numbering.now.f numbering.now.g position)) }
+        ensures written { WritesClauses result pool.old pool.new (tidy (difference_clauses numbering.now.circuit numbering.now.f numbering.now.g position)) }
         ensures variables { self.new.tidier ≡ self.old.tidier }
     {
         let operands = [

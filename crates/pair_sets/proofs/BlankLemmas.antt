@@ -10,14 +10,14 @@ use Rattle.net_model.specs.Circuit.{Circuit, IsCircuit, line_count}
 use Rattle.net_model.specs.Fault.{stuck_position}
 use Rattle.net_model.specs.Scope.{is_split, is_reached, reached_positions}
 use Rattle.net_model.proofs.Relevance.{reached_listed}
-use Rattle.fault_list.specs.Scope.{AreMarks}
+use Rattle.fault_list.specs.Scope.{AreMarksOfTest}
 use Rattle.pair_sets.specs.declared.sim.Level.{Level}
 use Rattle.pair_sets.specs.declared.tally.Tally.{Tally}
 use Rattle.pair_sets.specs.declared.trail.Change.{Change}
 use Rattle.pair_sets.specs.PairSet.{PairSet, free_pairs}
 use Rattle.pair_sets.specs.CubeState.{set_at, ArePairSets, position_pairs}
-use Rattle.pair_sets.specs.PairSimFields.{cube_of, AreLevels}
-use Rattle.pair_sets.specs.Tally.{HasPlaces, IsBlank, IsBlankBut, IsShown, IsTally}
+use Rattle.pair_sets.specs.PairSimFields.{cube_of, AreCubeLevels}
+use Rattle.pair_sets.specs.Tally.{HasTallyPlaces, IsTallyBlank, IsBlankBut, ArePairsShown, IsTally}
 use Rattle.pair_sets.proofs.LevelLemmas.{reached_within}
 use Rattle.pair_sets.proofs.MarkLemmas.{filter_gap}
 use Rattle.pair_sets.proofs.SpreadLemmas.{none_split, unsplit_same}
@@ -36,13 +36,13 @@ module _ (c : Circuit) where
   none_reached = filter_gap (is_reached c Free Free) (length c.positions) 0 (length c.positions) (omega arith) (λ n low high. unreached n)
 
   -- nothing is kept without faults
-  pub blank_tally : (tally : Tally) → IsBlank tally → HasPlaces (length c.positions) tally → IsTally c Free Free tally
+  pub blank_tally : (tally : Tally) → IsTallyBlank tally → HasTallyPlaces (length c.positions) tally → IsTally c Free Free tally
   blank_tally tally blank places = record { reached = blank.reached ∙ sym none_reached; places = places }
 
-  pub blank_shown : (tally : Tally) (sets : List PairSet) → IsBlank tally → IsShown c Free Free sets tally.shown
+  pub blank_shown : (tally : Tally) (sets : List PairSet) → IsTallyBlank tally → ArePairsShown c Free Free sets tally.shown
   blank_shown tally sets blank at h = shown_unreached c Free Free sets tally.shown at (unreached at) (blank.free at)
 
-  pub free_blank : (tally : Tally) (sets : List PairSet) → IsTally c Free Free tally → IsShown c Free Free sets tally.shown → IsBlank tally
+  pub free_blank : (tally : Tally) (sets : List PairSet) → IsTally c Free Free tally → ArePairsShown c Free Free sets tally.shown → IsTallyBlank tally
   free_blank tally sets are shown = record {
     reached = are.reached ∙ none_reached;
     free = λ at. elim (cases_lt at (length c.positions)) [
@@ -52,7 +52,7 @@ module _ (c : Circuit) where
   }
 
   -- of positions that aren't reached nothing is kept
-  pub blank_but : (f g : Fault) (tally : Tally) (sets : List PairSet) → IsTally c f g tally → IsShown c f g sets tally.shown → IsBlankBut tally.reached.items tally.shown
+  pub blank_but : (f g : Fault) (tally : Tally) (sets : List PairSet) → IsTally c f g tally → ArePairsShown c f g sets tally.shown → IsBlankBut tally.reached.items tally.shown
   blank_but f g tally sets are shown = record {
     within = subst (λ n. All (λ at. at < n) tally.reached.items) (sym are.places.whole) (reached_within c f g tally.reached.items are.reached);
     others = λ at none. elim (cases_lt at (length c.positions)) [
@@ -66,7 +66,7 @@ module _ (c : Circuit) where
 -- ---- pairs
 
 -- where split lines get the pairs of the base and all others keep theirs, all have those of the base
-pub back_to_base : (c : Circuit) → IsCircuit c → (f g : Fault) (marks : List Bool) (old base new : List PairSet) → AreMarks (is_split c f g) (line_count c) marks
+pub back_to_base : (c : Circuit) → IsCircuit c → (f g : Fault) (marks : List Bool) (old base new : List PairSet) → AreMarksOfTest (is_split c f g) (line_count c) marks
     → ArePairSets c f g [] old → ArePairSets c Free Free [] base → length new ≡ length old
     → ((line : ℕ) → bit_at marks line ≡ true → set_at new line ≡ set_at base line) → ((line : ℕ) → set_at old line ≡ set_at base line → set_at new line ≡ set_at base line) → new ≡ base
 back_to_base c w f g marks old base new are right free whole here kept =
@@ -80,13 +80,13 @@ back_to_base c w f g marks old base new are right free whole here kept =
 
 module _ (c : Circuit) (f g : Fault) (room : ℕ) where
   -- the pairs of no fixed source are a level where there is room for all changes
-  pub lowest_level : (levels : List Level) (changes : List Change) (sets : List PairSet) → levels ≡ [] → changes ≡ [] → ArePairSets c f g [] sets → 4 * line_count c ≤ room → AreLevels c f g room (reverse levels) changes sets
+  pub lowest_level : (levels : List Level) (changes : List Change) (sets : List PairSet) → levels ≡ [] → changes ≡ [] → ArePairSets c f g [] sets → 4 * line_count c ≤ room → AreCubeLevels c f g room (reverse levels) changes sets
   lowest_level levels changes sets none no_changes right enough =
-      subst (λ xs. AreLevels c f g room (reverse xs) changes sets) (sym none)
+      subst (λ xs. AreCubeLevels c f g room (reverse xs) changes sets) (sym none)
       (no_changes, record { right = right; room_left = omega (arith, enough, few_pairs sets, right.whole, ap length no_changes) })
 
   -- where no source is fixed there are no levels, and no changes
-  pub unfixed : (levels : List Level) (changes : List Change) (sets : List PairSet) → AreLevels c f g room levels changes sets → cube_of levels ≡ [] → (levels ≡ []) × (changes ≡ [])
+  pub unfixed : (levels : List Level) (changes : List Change) (sets : List PairSet) → AreCubeLevels c f g room levels changes sets → cube_of levels ≡ [] → (levels ≡ []) × (changes ≡ [])
   unfixed [] changes sets are e = (refl, are.0)
   unfixed (level ∷ levels) changes sets are e = absurd (omega (arith, ap length e))
 

@@ -15,7 +15,7 @@ use Rattle.pair_sets.specs.CubeState.{set_at}
 use Rattle.event_queue.specs.Pending.{is_pending, IsLowest, IsIdle}
 use Rattle.event_queue.proofs.Marks.{lowest_left, pending_within}
 use Rattle.net_model.specs.Wiring.{Wiring, IsWiring}
-use Rattle.pair_sets.specs.Events.{gate_line_pairs, AreSettled, AreLoose, ReadersWait, WakesOnly, AreWoken, WakesReaders}
+use Rattle.pair_sets.specs.Events.{gate_line_pairs, ArePairsSettled, AreLoose, ReadersWait, WakesOnly, AreWoken, WakesReaders}
 use Rattle.pair_sets.proofs.PairLemmas.{within_same, within_more}
 use Rattle.pair_sets.proofs.SeenLemmas.{same_line_pairs, fewer_line_pairs}
 
@@ -126,7 +126,7 @@ module _ (c : Circuit) (f g : Fault) (w : IsCircuit c) (sets : List PairSet) (li
 
     pub settled_after : WakesReaders c wiring.order line (set_at sets line) pairs queue more
         → ((l : ℕ) → c.sources ≤ l → l < line_count c → l ≢ line → IsIdle wiring.order queue l → set_at sets l ≡ gate_line_pairs c f g sets l)
-        → AreSettled c f g wiring.order more (set sets line pairs)
+        → ArePairsSettled c f g wiring.order more (set sets line pairs)
     settled_after wakes settled l above below idle = settled_line wakes l (λ same. right (subst (λ n. c.sources ≤ n) same above)) (settled l above below) idle
 
 -- ---- along the order

@@ -16,7 +16,7 @@ use Rattle.net_model.specs.declared.operation.Operation.TheVariants.{Folded, Cho
 use Rattle.net_model.specs.Gate.{gate_value, operation_value, odd_ones, folded_bit, inverted, inverts, operation_of}
 use Rattle.net_model.proofs.Elements.{odd_one}
 use Rattle.pair_sets.specs.PairSet.{PairSet, Pair, meets, second_turned, forced_pairs, value_pairs, gate_pairs, operation_pairs, fixed_pairs, some_pair, has_pair, has_first, has_second, IsWithin}
-use Rattle.pair_sets.specs.Trail.{pair_count}
+use Rattle.pair_sets.specs.Trail.{pairs_in_set}
 use Rattle.pair_sets.proofs.PairLemmas.{Has, same_set, value_pair, values_from, values_are}
 
 -- ---- a fold of many pins is a fold of two, again and again
@@ -258,7 +258,7 @@ abbrev within_test : PairSet → PairSet → Bool
 within_test s t = ((not s.both_zero || t.both_zero) && (not s.zero_one || t.zero_one)) && ((not s.one_zero || t.one_zero) && (not s.both_one || t.both_one))
 
 abbrev fewer_test : PairSet → PairSet → Bool
-fewer_test s t = not (within_test s t) || same_sets s t || nat_lt (pair_count s) (pair_count t)
+fewer_test s t = not (within_test s t) || same_sets s t || nat_lt (pairs_in_set s) (pairs_in_set t)
 
 fewer_table : every_set (λ s. every_set (fewer_test s)) ≡ true
 fewer_table = refl
@@ -279,13 +279,13 @@ third true false d x n e = e
 third false b d x n e = cc
 
 -- a set of some of the pairs of another, and not all of them, has fewer
-pub fewer_pairs : (s t : PairSet) → IsWithin s t → s ≢ t → pair_count s < pair_count t
+pub fewer_pairs : (s t : PairSet) → IsWithin s t → s ≢ t → pairs_in_set s < pairs_in_set t
 fewer_pairs s t w ne =
-    ltb-true (pair_count s) (pair_count t)
-    (third (within_test s t) (same_sets s t) (nat_lt (pair_count s) (pair_count t)) (is_within_test s t w) (λ e. ne (same_sets_are s t e)) (at_set (fewer_test s) (at_set (λ x. every_set (fewer_test x)) fewer_table s) t))
+    ltb-true (pairs_in_set s) (pairs_in_set t)
+    (third (within_test s t) (same_sets s t) (nat_lt (pairs_in_set s) (pairs_in_set t)) (is_within_test s t w) (λ e. ne (same_sets_are s t e)) (at_set (fewer_test s) (at_set (λ x. every_set (fewer_test x)) fewer_table s) t))
 
-four_table : every_set (λ s. nat_lt (pair_count s) 5) ≡ true
+four_table : every_set (λ s. nat_lt (pairs_in_set s) 5) ≡ true
 four_table = refl
 
-pub four_at_most : (s : PairSet) → pair_count s ≤ 4
-four_at_most s = let h : pair_count s < 5 = ltb-true (pair_count s) 5 (at_set (λ x. nat_lt (pair_count x) 5) four_table s) in omega arith
+pub four_at_most : (s : PairSet) → pairs_in_set s ≤ 4
+four_at_most s = let h : pairs_in_set s < 5 = ltb-true (pairs_in_set s) 5 (at_set (λ x. nat_lt (pairs_in_set x) 5) four_table s) in omega arith

@@ -23,7 +23,7 @@ use Rattle.pair_sets.specs.PairSet.{forced_pairs, free_pairs, fixed_pairs, only_
 use Rattle.pair_sets.specs.CubeState.{set_at, source_pairs, ArePairSets, position_pairs, state_of}
 use Rattle.pair_sets.specs.Trail.{undone}
 use Rattle.pair_sets.specs.Events.{AreLoose, gate_line_pairs}
-use Rattle.pair_sets.specs.PairSimFields.{cube_of, IsLevelRight, AreLevels, IsReady}
+use Rattle.pair_sets.specs.PairSimFields.{cube_of, IsLevelRight, AreCubeLevels, ArePairSimFields}
 use Rattle.pair_sets.proofs.CubeLemmas.{few_fixed}
 use Rattle.pair_sets.proofs.PairLemmas.{within_same, within_forced}
 use Rattle.pair_sets.proofs.SeenLemmas.{source_line_pairs, any_cube}
@@ -87,20 +87,20 @@ module _ (c : Circuit) (f g : Fault) (cube : Cube) (sets : List PairSet) (are : 
 -- ---- levels
 
 module _ (c : Circuit) (f g : Fault) (room : ℕ) where
-  pub level_right : (levels : List Level) (changes : List Change) (sets : List PairSet) → AreLevels c f g room levels changes sets → IsLevelRight c f g (cube_of levels) room changes sets
+  pub level_right : (levels : List Level) (changes : List Change) (sets : List PairSet) → AreCubeLevels c f g room levels changes sets → IsLevelRight c f g (cube_of levels) room changes sets
   level_right [] changes sets are = are.1
   level_right (level ∷ levels) changes sets are = are.0
 
   -- where all changes are taken back, the pairs are those of no fixed source
-  pub first_level : (levels : List Level) (changes : List Change) (sets : List PairSet) → AreLevels c f g room levels changes sets → ArePairSets c f g [] (undone changes sets)
+  pub first_level : (levels : List Level) (changes : List Change) (sets : List PairSet) → AreCubeLevels c f g room levels changes sets → ArePairSets c f g [] (undone changes sets)
   first_level [] changes sets are = subst (λ xs. ArePairSets c f g [] (undone xs sets)) (sym are.0) are.1.right
   first_level (level ∷ levels) changes sets are =
       subst (ArePairSets c f g []) (sym (undone-append (take level.start changes) (drop level.start changes) sets) ∙ ap (λ xs. undone xs sets) (take-append-drop level.start changes))
       (first_level levels (take level.start changes) (undone (drop level.start changes) sets) are.4)
 
   pub levels_more : (levels : List Level) (changes : List Change) (sets : List PairSet) (level : Level) (added all : List Change) (new : List PairSet)
-      → AreLevels c f g room levels changes sets → level.source < c.sources → fixed_bit (cube_of levels) level.source ≡ None → level.start ≡ length changes
-      → all ≡ changes ++ added → undone added new ≡ sets → IsLevelRight c f g (cube_of (level ∷ levels)) room all new → AreLevels c f g room (level ∷ levels) all new
+      → AreCubeLevels c f g room levels changes sets → level.source < c.sources → fixed_bit (cube_of levels) level.source ≡ None → level.start ≡ length changes
+      → all ≡ changes ++ added → undone added new ≡ sets → IsLevelRight c f g (cube_of (level ∷ levels)) room all new → AreCubeLevels c f g room (level ∷ levels) all new
   levels_more levels changes sets level added all new are inside free start extends before right =
       let taken : take level.start all ≡ changes = ap (take level.start) extends ∙ take_at changes added level.start (sym start) in
       let dropped : drop level.start all ≡ added = ap (drop level.start) extends ∙ drop_at changes added level.start (sym start) in
@@ -109,15 +109,15 @@ module _ (c : Circuit) (f g : Fault) (room : ℕ) where
         inside,
         free,
         omega (arith, start, ap length extends, length-append changes added),
-        subst (λ xs. AreLevels c f g room levels xs (undone (drop level.start all) new)) (sym taken) (subst (AreLevels c f g room levels changes) (sym back) are),
+        subst (λ xs. AreCubeLevels c f g room levels xs (undone (drop level.start all) new)) (sym taken) (subst (AreCubeLevels c f g room levels changes) (sym back) are),
       )
 
-  levels_once : (levels : List Level) (changes : List Change) (sets : List PairSet) → AreLevels c f g room levels changes sets → FixesOnce c.sources (cube_of levels)
+  levels_once : (levels : List Level) (changes : List Change) (sets : List PairSet) → AreCubeLevels c f g room levels changes sets → FixesOnce c.sources (cube_of levels)
   levels_once [] changes sets are = tt
   levels_once (level ∷ levels) changes sets are = (are.1, are.2, levels_once levels (take level.start changes) (undone (drop level.start changes) sets) are.4)
 
   -- there are fewer levels than sources where a source is free
-  pub levels_few : (levels : List Level) (changes : List Change) (sets : List PairSet) → AreLevels c f g room levels changes sets → (source : ℕ) → source < c.sources → fixed_bit (cube_of levels) source ≡ None → length levels < c.sources
+  pub levels_few : (levels : List Level) (changes : List Change) (sets : List PairSet) → AreCubeLevels c f g room levels changes sets → (source : ℕ) → source < c.sources → fixed_bit (cube_of levels) source ≡ None → length levels < c.sources
   levels_few levels changes sets are source inside free =
       omega (arith, few_fixed c.sources (cube_of levels) source (levels_once levels changes sets are) inside free, length-map {B = ℕ × Bool} levels (λ (level : Level). (level.source, level.bit)))
 
@@ -148,5 +148,5 @@ module _ (c : Circuit) (f g : Fault) (sets : List PairSet) (reached : List ℕ) 
 -- ---- the fields of a simulation
 
 -- the pairs are those of the cube
-pub right_of : (a : Inside) → IsReady a → IsLevelRight a.pair.circuit.now a.pair.f a.pair.g (cube_of (reverse a.levels.items)) (vec_capacity a.trail.changes) a.trail.changes.items a.trail.sets.items
+pub right_of : (a : Inside) → ArePairSimFields a → IsLevelRight a.pair.circuit.now a.pair.f a.pair.g (cube_of (reverse a.levels.items)) (vec_capacity a.trail.changes) a.trail.changes.items a.trail.sets.items
 right_of a ready = level_right a.pair.circuit.now a.pair.f a.pair.g (vec_capacity a.trail.changes) (reverse a.levels.items) a.trail.changes.items a.trail.sets.items ready.levels

@@ -7,12 +7,12 @@ use Rattle.pair_sets.specs.declared.sim.PairSim.TheInside.{Inside}
 use Rattle.pair_sets.specs.Cube.{Cube}
 use Rattle.pair_sets.specs.CubeState.{ArePairSets, IsPart}
 use Rattle.pair_sets.specs.PairSim.{PairSim}
-use Rattle.pair_sets.specs.PairSimFields.{pair_sim_of, IsReady}
+use Rattle.pair_sets.specs.PairSimFields.{pair_sim_of, ArePairSimFields}
 use Rattle.pair_sets.proofs.DecidedLemmas.{same_pair_sets}
 use Rattle.pair_sets.proofs.LevelLemmas.{right_of}
 
 -- each line of the circuit has a set
-pub line_in : (a : Inside) → IsReady a → (sim : PairSim) (line : ℕ) → pair_sim_of a ≡ sim → line < line_count sim.circuit → line < length a.trail.sets.items
+pub line_in : (a : Inside) → ArePairSimFields a → (sim : PairSim) (line : ℕ) → pair_sim_of a ≡ sim → line < line_count sim.circuit → line < length a.trail.sets.items
 line_in a ready sim line view h = subst (λ n. line < n) (sym (right_of a ready).right.whole) (subst (λ (s : PairSim). line < line_count s.circuit) (sym view) h)
 
 -- a part of a cube's pair sets is that of any list of them

@@ -18,7 +18,7 @@ use Rattle.net_model.proofs.Copies.{pins_inside, same_readings}
 use Rattle.net_model.proofs.Elements.{passing, true_false}
 use Rattle.net_model.proofs.FirstChanged.{stem_elsewhere, pin_elsewhere}
 use Rattle.net_model.proofs.ScopeLaws.{leads_here, split_is_closed}
-use Rattle.fault_list.specs.Scope.{AreMarks, is_first_changed, begins_at}
+use Rattle.fault_list.specs.Scope.{AreMarksOfTest, is_first_changed, begins_at}
 use Rattle.event_queue.specs.Pending.{is_pending, IsEmpty, IsLowest, IsIdle}
 use Rattle.event_queue.proofs.Marks.{lowest_left}
 use Rattle.pair_sets.specs.PairSet.{PairSet, forced_pairs, gate_pairs}
@@ -86,7 +86,7 @@ pub none_split : (c : Circuit) (line : ℕ) → is_split c Free Free line ≡ fa
 unfolding is_split reaches_line
 none_split c line = refl
 
-pub none_marked : (c : Circuit) (marks : List Bool) → AreMarks (is_split c Free Free) (line_count c) marks → (line : ℕ) → bit_at marks line ≡ false
+pub none_marked : (c : Circuit) (marks : List Bool) → AreMarksOfTest (is_split c Free Free) (line_count c) marks → (line : ℕ) → bit_at marks line ≡ false
 none_marked c marks are line = elim (cases_lt line (line_count c)) [
   | inl below ↦ are.each line below ∙ none_split c line
   | inr past ↦ get_or_past marks line false (omega (arith, past, are.whole))
@@ -221,7 +221,7 @@ module _ (c : Circuit) (w : IsCircuit c) (f g : Fault) (wiring : Wiring) (wired 
       ]
 
       -- where no gate waits, the split lines are marked, and no others
-      pub spread_marks : length marks ≡ line_count c → AreMarks (is_split c f g) (line_count c) marks
+      pub spread_marks : length marks ≡ line_count c → AreMarksOfTest (is_split c f g) (line_count c) marks
       spread_marks whole = record {
         whole = whole;
         each = λ line h. both_ways (bit_at marks line) (is_split c f g line) (spread.split line) (marked_split line);

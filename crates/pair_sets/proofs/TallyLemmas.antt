@@ -12,7 +12,7 @@ use Rattle.net_model.specs.Fault.{stuck_position}
 use Rattle.net_model.specs.Scope.{is_reached, reached_positions}
 use Rattle.event_queue.specs.Pending.{IsEmpty}
 use Rattle.pair_sets.specs.declared.tally.Tally.{Tally}
-use Rattle.pair_sets.specs.Tally.{kept_pairs, IsShownAt, IsShown, IsTally, KeepsAll}
+use Rattle.pair_sets.specs.Tally.{kept_pairs, IsShownAt, ArePairsShown, IsTally, KeepsAll}
 use Rattle.pair_sets.specs.declared.trail.Change.{Change}
 use Rattle.pair_sets.specs.PairSet.{PairSet, free_pairs, forced_pairs}
 use Rattle.pair_sets.specs.CubeState.{set_at, position_pairs}
@@ -53,7 +53,7 @@ module _ (c : Circuit) (f g : Fault) where
   unfolding position_pairs
   shown_same old new shown at same was = was ∙ ap (λ s. if is_reached c f g at then forced_pairs (stuck_position f at) (stuck_position g at) s else free_pairs) same
 
-  module _ (old new shown : List PairSet) (changes : List Change) (are : IsShown c f g old shown) (at : ℕ) (inside : at < length c.positions) (none : All (λ change. change.line ≢ get_or c.positions at 0) changes) where
+  module _ (old new shown : List PairSet) (changes : List Change) (are : ArePairsShown c f g old shown) (at : ℕ) (inside : at < length c.positions) (none : All (λ change. change.line ≢ get_or c.positions at 0) changes) where
     -- where no change names its line a position shows what it showed before them
     pub shown_after : undone changes new ≡ old → IsShownAt c f g new shown at
     shown_after before = shown_same old new shown at (ap (λ sets. set_at sets (get_or c.positions at 0)) (sym before) ∙ unnamed_same changes new (get_or c.positions at 0) none) (are at inside)
@@ -74,7 +74,7 @@ module _ (c : Circuit) (f g : Fault) where
       by false rest = ap (λ b. b && list_all test (map (kept_pairs c f g sets) xs)) free ∙ rest
 
   -- a test that equal pairs pass holds of all that is kept where it does of what the reached positions show
-  pub all_of_shown : (test : PairSet → Bool) → test free_pairs ≡ true → (sets shown : List PairSet) → length shown ≡ length c.positions → IsShown c f g sets shown
+  pub all_of_shown : (test : PairSet → Bool) → test free_pairs ≡ true → (sets shown : List PairSet) → length shown ≡ length c.positions → ArePairsShown c f g sets shown
       → list_all test shown ≡ list_all (λ at. test (position_pairs c f g sets at)) (reached_positions c f g)
   unfolding reached_positions
   all_of_shown test free sets shown whole are =

@@ -8,7 +8,7 @@ use Rattle.pair_sets.specs.PairSet.{PairSet}
 use Rattle.pair_sets.specs.declared.trail.Change.{Change}
 use Rattle.pair_sets.specs.declared.trail.Trail.{Trail}
 use Rattle.pair_sets.specs.CubeState.{set_at}
-use Rattle.pair_sets.specs.Trail.{change_with, pair_count, undone, IsLonger}
+use Rattle.pair_sets.specs.Trail.{change_with, pairs_in_set, undone, IsLonger}
 use Rattle.pair_sets.proofs.GateLemmas.{four_at_most}
 
 pub undone-append : (first second : List Change) (sets : List PairSet) → undone (first ++ second) sets ≡ undone first (undone second sets)
@@ -20,9 +20,9 @@ length-undone [] sets = refl
 length-undone (change ∷ changes) sets = length-set (undone changes sets) change.line change.was ∙ length-undone changes sets
 
 -- there are at most four pairs for each line
-pub few_pairs : (sets : List PairSet) → sum_by pair_count sets ≤ 4 * length sets
+pub few_pairs : (sets : List PairSet) → sum_by pairs_in_set sets ≤ 4 * length sets
 few_pairs [] = omega arith
-few_pairs (s ∷ sets) = omega (arith, sum_by-cons pair_count s sets, four_at_most s, few_pairs sets)
+few_pairs (s ∷ sets) = omega (arith, sum_by-cons pairs_in_set s sets, four_at_most s, few_pairs sets)
 
 pub longer_none : (trail : Trail) → IsLonger trail trail
 longer_none trail = record {

@@ -4,7 +4,7 @@ use Rattle.net_model.specs.Answer.{bit_at}
 use Rattle.pair_sets.specs.declared.cone.Cone.TheInside.{Inside}
 
 -- The marked lines are listed, and no others, with room for those that aren't marked.
-pub record AreListed (a : Inside) : Type 0 where
+pub record AreLinesListed (a : Inside) : Type 0 where
   pub within : All (λ line. line < length a.marks.items) a.lines.items
   pub listed : (line : ℕ) → bit_at a.marks.items line ≡ true → Contains a.lines.items line
   pub marked : (line : ℕ) → Contains a.lines.items line → bit_at a.marks.items line ≡ true

@@ -11,8 +11,8 @@ abbrev pub gate_line_pairs : Circuit → Fault → Fault → List PairSet → �
 gate_line_pairs c f g sets line = line_pairs c f g [] sets line
 
 -- Each gate that doesn't wait has the pairs that its pins give.
-abbrev pub AreSettled : Circuit → Fault → Fault → List ℕ → List Bool → List PairSet → Type 0
-AreSettled c f g order queue sets = (line : ℕ) → c.sources ≤ line → line < line_count c → IsIdle order queue line → set_at sets line ≡ gate_line_pairs c f g sets line
+abbrev pub ArePairsSettled : Circuit → Fault → Fault → List ℕ → List Bool → List PairSet → Type 0
+ArePairsSettled c f g order queue sets = (line : ℕ) → c.sources ≤ line → line < line_count c → IsIdle order queue line → set_at sets line ≡ gate_line_pairs c f g sets line
 
 -- Each gate has the pairs that its pins give, and perhaps others.
 abbrev pub AreLoose : Circuit → Fault → Fault → List PairSet → Type 0

@@ -9,7 +9,7 @@ use Rattle.pair_sets.specs.PairSet.{PairSet, free_pairs}
 use Rattle.pair_sets.specs.CubeState.{position_pairs}
 
 -- There is a place for each of so many positions, and room to list all of them. None waits.
-pub record HasPlaces (count : ℕ) (tally : Tally) : Type 0 where
+pub record HasTallyPlaces (count : ℕ) (tally : Tally) : Type 0 where
   pub whole : length tally.shown ≡ count
   pub none_waits : IsEmpty tally.waiting
   pub queue_room : length tally.waiting ≡ count
@@ -21,7 +21,7 @@ pub record IsBlankBut (reached : List ℕ) (shown : List PairSet) : Type 0 where
   pub others : (at : ℕ) → (Contains reached at → ⊥) → slice_index_or shown at free_pairs ≡ free_pairs
 
 -- No position is listed, and of each equal pairs are kept.
-pub record IsBlank (tally : Tally) : Type 0 where
+pub record IsTallyBlank (tally : Tally) : Type 0 where
   pub reached : tally.reached.items ≡ []
   pub free : (at : ℕ) → slice_index_or tally.shown at free_pairs ≡ free_pairs
 
@@ -35,13 +35,13 @@ module _ (c : Circuit) (f g : Fault) where
   IsShownAt sets shown at = slice_index_or shown at free_pairs ≡ kept_pairs sets at
 
   -- So it is for each position.
-  abbrev pub IsShown : List PairSet → List PairSet → Type 0
-  IsShown sets shown = (at : ℕ) → at < length c.positions → IsShownAt sets shown at
+  abbrev pub ArePairsShown : List PairSet → List PairSet → Type 0
+  ArePairsShown sets shown = (at : ℕ) → at < length c.positions → IsShownAt sets shown at
 
   -- The positions that two faults reach are listed, with a place for each position.
   pub record IsTally (tally : Tally) : Type 0 where
     pub reached : tally.reached.items ≡ reached_positions c f g
-    pub places : HasPlaces (length c.positions) tally
+    pub places : HasTallyPlaces (length c.positions) tally
 
 -- Nothing changes but what is kept of positions.
 pub record KeepsAll (old new : Tally) : Type 0 where

@@ -5,8 +5,8 @@ use Rattle.pair_sets.specs.declared.trail.Change.{Change}
 use Rattle.pair_sets.specs.declared.trail.Trail.{Trail}
 
 -- how many pairs a set has
-abbrev pub pair_count : PairSet → ℕ
-pair_count s = (if s.both_zero then 1 else 0) + (if s.zero_one then 1 else 0) + (if s.one_zero then 1 else 0) + (if s.both_one then 1 else 0)
+abbrev pub pairs_in_set : PairSet → ℕ
+pairs_in_set s = (if s.both_zero then 1 else 0) + (if s.zero_one then 1 else 0) + (if s.one_zero then 1 else 0) + (if s.both_one then 1 else 0)
 
 abbrev pub change_with : ℕ → PairSet → Change
 change_with line was = record { line = line; was = was }
@@ -17,8 +17,8 @@ undone [] sets = sets
 undone (change ∷ changes) sets = slice_set (undone changes sets) change.line change.was
 
 -- There is room for a change for each pair that some line still has, and each change takes a pair away.
-abbrev pub HasRoom : Trail → Type 0
-HasRoom trail = length trail.changes.items + sum_by pair_count trail.sets.items ≤ vec_capacity trail.changes
+abbrev pub HasChangeRoom : Trail → Type 0
+HasChangeRoom trail = length trail.changes.items + sum_by pairs_in_set trail.sets.items ≤ vec_capacity trail.changes
 
 -- The second trail has further changes, which lead from the pairs of the first to its own.
 pub record IsLonger (old new : Trail) : Type 0 where

@@ -15,13 +15,13 @@ pub(crate) struct Cone {
 
 impl Model for Cone {
     ghost use Rattle.std.specs.Prelude.{List, Bool};
-    ghost use Rattle.pair_sets.specs.ConeFields.{AreListed};
+    ghost use Rattle.pair_sets.specs.ConeFields.{AreLinesListed};
 
     ghost Value = { List Bool };
 
     ghost view = { λ a. a.marks.items };
 
-    ghost invariant = { AreListed };
+    ghost invariant = { AreLinesListed };
 }
 
 impl Cone {

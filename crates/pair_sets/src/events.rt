@@ -7,8 +7,8 @@ ghost use Rattle.net_model.specs.Circuit.{line_count};
 ghost use Rattle.net_model.specs.Wiring.{IsWiring};
 ghost use Rattle.pair_sets.specs.CubeState.{set_at};
 ghost use Rattle.pair_sets.specs.PairSet.{IsWithin};
-ghost use Rattle.pair_sets.specs.Trail.{HasRoom, IsLonger};
-ghost use Rattle.pair_sets.specs.Events.{AreSettled, AreLoose, WakesReaders, gate_line_pairs};
+ghost use Rattle.pair_sets.specs.Trail.{HasChangeRoom, IsLonger};
+ghost use Rattle.pair_sets.specs.Events.{ArePairsSettled, AreLoose, WakesReaders, gate_line_pairs};
 
 use crate::fault_pair::FaultPair;
 use crate::pair_set::PairSet;
@@ -27,11 +27,11 @@ pub(crate) fn change_source(
     requires source { source < pair.now.circuit.now.sources }
     requires width { length trail.old.sets.items ≡ line_count pair.now.circuit.now }
     requires fewer { IsWithin pairs (set_at trail.old.sets.items source) }
-    requires room { HasRoom trail.old }
+    requires room { HasChangeRoom trail.old }
     requires queue { length queue.old ≡ length pair.now.circuit.now.gates }
     requires right { (line : ℕ) → pair.now.circuit.now.sources ≤ line → line < line_count pair.now.circuit.now → set_at trail.old.sets.items line ≡ gate_line_pairs pair.now.circuit.now pair.now.f pair.now.g trail.old.sets.items line }
     ensures longer { IsLonger trail.old trail.new }
-    ensures room { HasRoom trail.new }
+    ensures room { HasChangeRoom trail.new }
     ensures queue { length queue.new ≡ length queue.old }
     ensures none { IsEmpty queue.new }
     ensures right { (line : ℕ) → pair.now.circuit.now.sources ≤ line → line < line_count pair.now.circuit.now → set_at trail.new.sets.items line ≡ gate_line_pairs pair.now.circuit.now pair.now.f pair.now.g trail.new.sets.items line }
@@ -55,11 +55,11 @@ fn settle(
     requires line { line < line_count pair.now.circuit.now }
     requires width { length trail.old.sets.items ≡ line_count pair.now.circuit.now }
     requires fewer { IsWithin pairs (set_at trail.old.sets.items line) }
-    requires room { HasRoom trail.old }
+    requires room { HasChangeRoom trail.old }
     requires queue { length queue.old ≡ length wiring.now.order }
     ensures sets { trail.new.sets.items ≡ slice_set trail.old.sets.items line pairs }
     ensures longer { IsLonger trail.old trail.new }
-    ensures room { HasRoom trail.new }
+    ensures room { HasChangeRoom trail.new }
     ensures queue { length queue.new ≡ length queue.old }
     ensures wakes { WakesReaders pair.now.circuit.now wiring.now.order line (set_at trail.old.sets.items line) pairs queue.old queue.new }
 {
@@ -74,15 +74,15 @@ fn settle(
 fn follow(pair: &FaultPair, wiring: &Wiring, queue: &mut NumberQueue, trail: &mut Trail)
     requires wiring { IsWiring pair.now.circuit.now wiring.now }
     requires width { length trail.old.sets.items ≡ line_count pair.now.circuit.now }
-    requires room { HasRoom trail.old }
+    requires room { HasChangeRoom trail.old }
     requires queue { length queue.old ≡ length wiring.now.order }
-    requires settled { AreSettled pair.now.circuit.now pair.now.f pair.now.g wiring.now.order queue.old trail.old.sets.items }
+    requires settled { ArePairsSettled pair.now.circuit.now pair.now.f pair.now.g wiring.now.order queue.old trail.old.sets.items }
     requires loose { AreLoose pair.now.circuit.now pair.now.f pair.now.g trail.old.sets.items }
     ensures longer { IsLonger trail.old trail.new }
-    ensures room { HasRoom trail.new }
+    ensures room { HasChangeRoom trail.new }
     ensures queue { length queue.new ≡ length queue.old }
     ensures none { IsEmpty queue.new }
-    ensures settled { AreSettled pair.now.circuit.now pair.now.f pair.now.g wiring.now.order queue.new trail.new.sets.items }
+    ensures settled { ArePairsSettled pair.now.circuit.now pair.now.f pair.now.g wiring.now.order queue.new trail.new.sets.items }
     ensures sources { (source : ℕ) → source < pair.now.circuit.now.sources → set_at trail.new.sets.items source ≡ set_at trail.old.sets.items source }
 {
     let order = wiring.order();

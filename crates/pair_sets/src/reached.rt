@@ -5,7 +5,7 @@ ghost use Rattle.net_model.specs.Circuit.{line_count};
 ghost use Rattle.net_model.specs.Fault.{IsFaultOf, stuck_position};
 ghost use Rattle.net_model.specs.Scope.{is_reached, is_split};
 ghost use Rattle.net_model.specs.Wiring.{IsWiring};
-ghost use Rattle.fault_list.specs.Scope.{AreMarks};
+ghost use Rattle.fault_list.specs.Scope.{AreMarksOfTest};
 ghost use Rattle.event_queue.specs.Pending.{is_pending, IsEmpty};
 
 use crate::cone::Cone;
@@ -15,7 +15,7 @@ use net_model::{Fault, Site, Wiring, stuck_position};
 
 /// Whether a position is reached.
 pub(crate) fn is_reached(pair: &FaultPair, cone: &Cone, at: u32) -> bool
-    requires cone { AreMarks (is_split pair.now.circuit.now pair.now.f pair.now.g) (line_count pair.now.circuit.now) cone.now }
+    requires cone { AreMarksOfTest (is_split pair.now.circuit.now pair.now.f pair.now.g) (line_count pair.now.circuit.now) cone.now }
     requires position { at < length pair.now.circuit.now.positions }
     ensures { result ≡ is_reached pair.now.circuit.now pair.now.f pair.now.g at }
 {
@@ -40,7 +40,7 @@ pub(crate) fn wake_reached(
     requires wiring { IsWiring pair.now.circuit.now wiring.now }
     requires first { IsFaultOf pair.now.circuit.now pair.now.f }
     requires second { IsFaultOf pair.now.circuit.now pair.now.g }
-    requires cone { AreMarks (is_split pair.now.circuit.now pair.now.f pair.now.g) (line_count pair.now.circuit.now) cone.now }
+    requires cone { AreMarksOfTest (is_split pair.now.circuit.now pair.now.f pair.now.g) (line_count pair.now.circuit.now) cone.now }
     requires room { length positions.old ≡ length pair.now.circuit.now.positions }
     requires none { IsEmpty positions.old }
     ensures room { length positions.new ≡ length positions.old }

@@ -45,12 +45,12 @@ pub struct PairSim<'a> {
 }
 
 impl<'a> Model for PairSim<'a> {
-    ghost use Rattle.pair_sets.specs.PairSimFields.{pair_sim_of, IsReady};
+    ghost use Rattle.pair_sets.specs.PairSimFields.{pair_sim_of, ArePairSimFields};
     ghost use Rattle.pair_sets.specs.PairSim as spec;
 
     ghost view = { pair_sim_of };
 
-    ghost invariant = { IsReady };
+    ghost invariant = { ArePairSimFields };
 
     ghost Value = { spec.PairSim };
 }

@@ -7,7 +7,7 @@ ghost use Rattle.net_model.specs.Fault.{IsFaultOf};
 ghost use Rattle.net_model.specs.Scope.{is_split};
 ghost use Rattle.net_model.specs.Wiring.{IsWiring};
 ghost use Rattle.net_model.specs.declared.fault.Fault.TheVariants.{Free};
-ghost use Rattle.fault_list.specs.Scope.{AreMarks, is_first_changed};
+ghost use Rattle.fault_list.specs.Scope.{AreMarksOfTest, is_first_changed};
 ghost use Rattle.event_queue.specs.Pending.{IsEmpty};
 ghost use Rattle.pair_sets.specs.CubeState.{ArePairSets};
 ghost use Rattle.pair_sets.specs.Events.{AreWoken};
@@ -32,11 +32,11 @@ pub(crate) fn spread(
     requires first { IsFaultOf pair.now.circuit.now pair.now.f }
     requires second { IsFaultOf pair.now.circuit.now pair.now.g }
     requires free { ArePairSets pair.now.circuit.now Free Free [] sets.old.items }
-    requires unmarked { AreMarks (is_split pair.now.circuit.now Free Free) (line_count pair.now.circuit.now) cone.old }
+    requires unmarked { AreMarksOfTest (is_split pair.now.circuit.now Free Free) (line_count pair.now.circuit.now) cone.old }
     requires queue { length queue.old ≡ length wiring.now.order }
     requires none { IsEmpty queue.old }
     ensures sets { ArePairSets pair.now.circuit.now pair.now.f pair.now.g [] sets.new.items }
-    ensures cone { AreMarks (is_split pair.now.circuit.now pair.now.f pair.now.g) (line_count pair.now.circuit.now) cone.new }
+    ensures cone { AreMarksOfTest (is_split pair.now.circuit.now pair.now.f pair.now.g) (line_count pair.now.circuit.now) cone.new }
     ensures queue { length queue.new ≡ length queue.old }
     ensures none { IsEmpty queue.new }
 {

@@ -1,10 +1,10 @@
 //! What the reached positions show, kept up with the pairs of the lines.
 
 ghost use Rattle.std.specs.Prelude.{◌≡◌, ◌≢◌, ℕ, ◌<◌, ◌≤◌, ◌^◌, All, Contains, IfOk, drop, find, length, slice_index};
-ghost use Rattle.fault_list.specs.Scope.{AreMarks};
+ghost use Rattle.fault_list.specs.Scope.{AreMarksOfTest};
 ghost use Rattle.pair_sets.specs.CubeState.{position_pairs};
 ghost use Rattle.pair_sets.specs.PairSet.{only_unequal};
-ghost use Rattle.pair_sets.specs.Tally.{HasPlaces, IsBlank, IsBlankBut, IsShownAt, IsShown, IsTally, KeepsAll, kept_pairs};
+ghost use Rattle.pair_sets.specs.Tally.{HasTallyPlaces, IsTallyBlank, IsBlankBut, IsShownAt, ArePairsShown, IsTally, KeepsAll, kept_pairs};
 ghost use Rattle.net_model.specs.Circuit.{line_count};
 ghost use Rattle.net_model.specs.Fault.{IsFaultOf};
 ghost use Rattle.net_model.specs.Scope.{is_split};
@@ -32,8 +32,8 @@ impl Tally {
     /// None of so many positions is reached. No later call takes memory.
     pub(crate) fn none(alloc: Global, count: usize) -> Result<Tally, AllocError>
         requires { count < 2 ^ 32 }
-        ensures blank { IfOk result IsBlank }
-        ensures places { IfOk result (HasPlaces count) }
+        ensures blank { IfOk result IsTallyBlank }
+        ensures places { IfOk result (HasTallyPlaces count) }
     {
         Ok(Tally {
             reached: Vec::with_capacity(alloc, count)?,
@@ -44,10 +44,10 @@ impl Tally {
 
     /// Takes out all that is kept of reached positions, and touches no others.
     pub(crate) fn clear(&mut self)
-        requires places { HasPlaces (length self.old.shown) self.old }
+        requires places { HasTallyPlaces (length self.old.shown) self.old }
         requires others { IsBlankBut self.old.reached.items self.old.shown }
-        ensures blank { IsBlank self.new }
-        ensures places { HasPlaces (length self.old.shown) self.new }
+        ensures blank { IsTallyBlank self.new }
+        ensures places { HasTallyPlaces (length self.old.shown) self.new }
     {
         while let Some(at) = self.reached.pop() {
             self.shown.put(at, PairSet::free());
@@ -60,11 +60,11 @@ impl Tally {
         requires first { IsFaultOf pair.now.circuit.now pair.now.f }
         requires second { IsFaultOf pair.now.circuit.now pair.now.g }
         requires width { length sets.now ≡ line_count pair.now.circuit.now }
-        requires cone { AreMarks (is_split pair.now.circuit.now pair.now.f pair.now.g) (line_count pair.now.circuit.now) cone.now }
-        requires blank { IsBlank self.old }
-        requires places { HasPlaces (length pair.now.circuit.now.positions) self.old }
+        requires cone { AreMarksOfTest (is_split pair.now.circuit.now pair.now.f pair.now.g) (line_count pair.now.circuit.now) cone.now }
+        requires blank { IsTallyBlank self.old }
+        requires places { HasTallyPlaces (length pair.now.circuit.now.positions) self.old }
         ensures tally { IsTally pair.now.circuit.now pair.now.f pair.now.g self.new }
-        ensures shown { IsShown pair.now.circuit.now pair.now.f pair.now.g sets.now self.new.shown }
+        ensures shown { ArePairsShown pair.now.circuit.now pair.now.f pair.now.g sets.now self.new.shown }
     {
         wake_reached(pair, wiring, cone, &mut self.waiting);
         let mut from = 0;
@@ -78,13 +78,13 @@ impl Tally {
     /// Looks again at the positions that show a line of the changes from one on. It takes no memory.
     pub(crate) fn recount(&mut self, pair: &FaultPair, cone: &Cone, trail: &Trail, start: usize)
         requires width { length trail.now.sets.items ≡ line_count pair.now.circuit.now }
-        requires cone { AreMarks (is_split pair.now.circuit.now pair.now.f pair.now.g) (line_count pair.now.circuit.now) cone.now }
+        requires cone { AreMarksOfTest (is_split pair.now.circuit.now pair.now.f pair.now.g) (line_count pair.now.circuit.now) cone.now }
         requires tally { IsTally pair.now.circuit.now pair.now.f pair.now.g self.old }
         requires start { start ≤ length trail.now.changes.items }
         requires lines { All (λ change. change.line < length trail.now.sets.items) (drop start trail.now.changes.items) }
         requires others { (at : ℕ) → at < length pair.now.circuit.now.positions → All (λ change. change.line ≢ slice_index pair.now.circuit.now.positions at) (drop start trail.now.changes.items) → IsShownAt pair.now.circuit.now pair.now.f pair.now.g trail.now.sets.items self.old.shown at }
         ensures tally { IsTally pair.now.circuit.now pair.now.f pair.now.g self.new }
-        ensures shown { IsShown pair.now.circuit.now pair.now.f pair.now.g trail.now.sets.items self.new.shown }
+        ensures shown { ArePairsShown pair.now.circuit.now pair.now.f pair.now.g trail.now.sets.items self.new.shown }
     {
         let wiring = pair.circuit.wiring();
         let sets = trail.sets.as_slice();
@@ -96,7 +96,7 @@ impl Tally {
     // Looks again at these positions.
     fn look_again(&mut self, pair: &FaultPair, cone: &Cone, sets: &[PairSet], positions: &[u32])
         requires width { length sets.now ≡ line_count pair.now.circuit.now }
-        requires cone { AreMarks (is_split pair.now.circuit.now pair.now.f pair.now.g) (line_count pair.now.circuit.now) cone.now }
+        requires cone { AreMarksOfTest (is_split pair.now.circuit.now pair.now.f pair.now.g) (line_count pair.now.circuit.now) cone.now }
         requires tally { IsTally pair.now.circuit.now pair.now.f pair.now.g self.old }
         requires positions { All (λ at. at < length pair.now.circuit.now.positions) positions.now }
         ensures all { KeepsAll self.old self.new }
@@ -113,7 +113,7 @@ impl Tally {
 // What is kept of a position.
 fn kept_pairs(pair: &FaultPair, cone: &Cone, sets: &[PairSet], at: u32) -> PairSet
     requires width { length sets.now ≡ line_count pair.now.circuit.now }
-    requires cone { AreMarks (is_split pair.now.circuit.now pair.now.f pair.now.g) (line_count pair.now.circuit.now) cone.now }
+    requires cone { AreMarksOfTest (is_split pair.now.circuit.now pair.now.f pair.now.g) (line_count pair.now.circuit.now) cone.now }
     requires position { at < length pair.now.circuit.now.positions }
     ensures { result ≡ kept_pairs pair.now.circuit.now pair.now.f pair.now.g sets.now at }
 {

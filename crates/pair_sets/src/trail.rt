@@ -2,7 +2,7 @@
 
 ghost use Rattle.std.specs.Prelude.{◌≡◌, ℕ, ◌<◌, ◌≤◌, ◌∷◌, [], ◌++◌, All, Contains, IfOk, drop, length, slice_set, vec_capacity};
 ghost use Rattle.pair_sets.specs.CubeState.{set_at};
-ghost use Rattle.pair_sets.specs.Trail.{HasRoom, change_with, pair_count, undone};
+ghost use Rattle.pair_sets.specs.Trail.{HasChangeRoom, change_with, pairs_in_set, undone};
 
 use crate::pair_set::PairSet;
 use std::alloc::{AllocError, Global};
@@ -37,12 +37,12 @@ impl Trail {
     /// Gives a line fewer pairs. It takes no memory.
     pub(crate) fn set(&mut self, line: u32, pairs: PairSet)
         requires line { line < length self.old.sets.items }
-        requires fewer { pair_count pairs < pair_count (set_at self.old.sets.items line) }
-        requires room { HasRoom self.old }
+        requires fewer { pairs_in_set pairs < pairs_in_set (set_at self.old.sets.items line) }
+        requires room { HasChangeRoom self.old }
         ensures sets { self.new.sets.items ≡ slice_set self.old.sets.items line pairs }
         ensures changes { self.new.changes.items ≡ self.old.changes.items ++ change_with line (set_at self.old.sets.items line) ∷ [] }
         ensures capacity { vec_capacity self.new.changes ≡ vec_capacity self.old.changes }
-        ensures room { HasRoom self.new }
+        ensures room { HasChangeRoom self.new }
     {
         let was = self.sets[line as usize];
         self.changes.push_reserved(Change { line, was });

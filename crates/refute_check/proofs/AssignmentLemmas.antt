@@ -8,8 +8,8 @@ use Rattle.std.proofs.lemmas.List.Sums.{sum_by-set, sum_by-cons}
 use Rattle.clause_pool.specs.Literal.{Literal, opposite}
 use Rattle.net_model.proofs.Elements.{none_in, first_or_later}
 use Rattle.refute_check.specs.declared.assignment.Assignment.{Assignment}
-use Rattle.refute_check.specs.Assignment.{IsAssignment, open_count}
-use Rattle.refute_check.specs.Held.{IsTrueAt, IsOpenAt, value_at}
+use Rattle.refute_check.specs.Assignment.{IsAssignment, unset_count}
+use Rattle.refute_check.specs.Held.{IsTrueAt, IsLiteralOpen, value_at}
 use Rattle.refute_check.proofs.HeldLemmas.{true_is, is_true, opposite_true, open_not_true, open_not_false, hold, hold_holds, hold_kept, hold_cases, open_is}
 
 pub last_in : {X : Type 0} → (xs : List X) (x : X) → Contains (xs ++ x ∷ []) x
@@ -23,7 +23,7 @@ only_in x y m = elim (first_or_later x [] y m) [ inl e ↦ sym e | inr none ↦ 
 count_one : Option Bool → ℕ
 count_one v = cond (is_none v) 1 0
 
-pub open_one_less : (values : List (Option Bool)) (h : Literal) → h.variable < length values → IsOpenAt values h → open_count (hold values h) + 1 ≡ open_count values
+pub open_one_less : (values : List (Option Bool)) (h : Literal) → h.variable < length values → IsLiteralOpen values h → unset_count (hold values h) + 1 ≡ unset_count values
 unfolding count_one
 open_one_less values h within o =
     let sums = sum_by-set count_one values h.variable (Some h.positive) None within in
@@ -31,7 +31,7 @@ open_one_less values h within o =
     omega (arith, sums, was)
 
 -- a list of one value has it at each place
-pub open_all : (values : List (Option Bool)) → ((k : ℕ) → get_or values k None ≡ None) → open_count values ≡ length values
+pub open_all : (values : List (Option Bool)) → ((k : ℕ) → get_or values k None ≡ None) → unset_count values ≡ length values
 unfolding count_one
 open_all [] none = refl
 open_all (v ∷ values) none =
@@ -48,7 +48,7 @@ true_within values l t = by values l.variable (true_is values l t)
     by (v ∷ values) (suc k) e = omega (arith, by values k e)
 
 -- where no literal is true, all are open
-pub none_true : (values : List (Option Bool)) → ((l : Literal) → IsTrueAt values l → ⊥) → (l : Literal) → IsOpenAt values l
+pub none_true : (values : List (Option Bool)) → ((l : Literal) → IsTrueAt values l → ⊥) → (l : Literal) → IsLiteralOpen values l
 none_true values none l = by (value_at values l) refl
   where
     by : (o : Option Bool) → value_at values l ≡ o → value_at values l ≡ None
@@ -56,13 +56,13 @@ none_true values none l = by (value_at values l) refl
     by (Some true) e = absurd (none l e)
     by (Some false) e = absurd (none (opposite l) (opposite_true values l e))
 
-open_place : (values : List (Option Bool)) → ((l : Literal) → IsOpenAt values l) → (k : ℕ) → get_or values k None ≡ None
+open_place : (values : List (Option Bool)) → ((l : Literal) → IsLiteralOpen values l) → (k : ℕ) → get_or values k None ≡ None
 open_place values all k = open_is values (record { variable = k; positive = true }) (all (record { variable = k; positive = true }))
 
 -- ---- assignments
 
 -- nothing is held
-pub empty_assignment : (a : Assignment) → ((l : Literal) → IsOpenAt a.values.items l) → a.trail.items ≡ [] → length a.values.items ≤ vec_capacity a.trail → IsAssignment a
+pub empty_assignment : (a : Assignment) → ((l : Literal) → IsLiteralOpen a.values.items l) → a.trail.items ≡ [] → length a.values.items ≤ vec_capacity a.trail → IsAssignment a
 empty_assignment a all none room = record {
   listed = λ l t. absurd (open_not_true a.values.items l (all l) t);
   held = λ l m. absurd (none_in l (subst (λ xs. Contains xs l) none m));
@@ -70,7 +70,7 @@ empty_assignment a all none room = record {
   room = room;
 }
 
-module _ (a : Assignment) (is : IsAssignment a) (x : Literal) (within : x.variable < length a.values.items) (o : IsOpenAt a.values.items x) where
+module _ (a : Assignment) (is : IsAssignment a) (x : Literal) (within : x.variable < length a.values.items) (o : IsLiteralOpen a.values.items x) where
   pub room_for_one : length a.trail.items < vec_capacity a.trail
   room_for_one = omega (arith, is.counted, is.room, open_one_less a.values.items x within o)
 
@@ -92,7 +92,7 @@ module _ (a : Assignment) (is : IsAssignment a) (x : Literal) (within : x.variab
       open_one_less a.values.items x within o,
       ap length trail,
       length-append a.trail.items (x ∷ []),
-      ap open_count values,
+      ap unset_count values,
       ap length values,
       length-set a.values.items x.variable (Some x.positive),
     );

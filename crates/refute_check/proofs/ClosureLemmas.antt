@@ -10,15 +10,15 @@ use Rattle.clause_pool.specs.Partial.{IsQuiet, IsUndetermined}
 use Rattle.net_model.proofs.Copies.{later}
 use Rattle.net_model.proofs.Elements.{none_in, first_or_later}
 use Rattle.pair_miter.specs.Fresh.{IsFresh}
-use Rattle.refute_check.specs.Held.{IsTrueAt, IsFalseAt, IsOpenAt, IsQuietAt, satisfied, two_open, IsUnitAt}
-use Rattle.refute_check.specs.Closure.{IsClosure, IsStep, HoldsOthers, AreOthersFalse}
+use Rattle.refute_check.specs.Held.{IsTrueAt, IsLiteralFalse, IsLiteralOpen, IsQuietAt, satisfied, two_open, IsUnitAt}
+use Rattle.refute_check.specs.Closure.{IsClosure, IsStep, HoldsOthers, AssumesOthers}
 use Rattle.refute_check.proofs.HeldLemmas.{true_is, is_true, opposite_true, opposite_false, opposite_open, open_not_true, open_not_false, true_not_false, hold, hold_open, hold_holds, hold_kept, hold_kept_false, hold_cases}
 use Rattle.clause_pool.proofs.Literals.{opposite_opposite, literal_cases, same_literals, same_or_opposite}
 
 -- ---- steps
 
 module _ (clauses : List Clause) (at : Literal) where
-  pub no_step : (values : List (Option Bool)) → IsOpenAt values at → IsStep clauses at values values
+  pub no_step : (values : List (Option Bool)) → IsLiteralOpen values at → IsStep clauses at values values
   no_step values o = record { size = refl; at_open = o; kept = λ l t. t; closes = λ held c. c }
 
   pub two_steps : (before between after : List (Option Bool)) → IsStep clauses at before between → IsStep clauses at between after → IsStep clauses at before after
@@ -32,7 +32,7 @@ module _ (clauses : List Clause) (at : Literal) where
 -- ---- what a set of literals holds that closes the true ones
 
 module _ (clauses : List Clause) (at : Literal) (values : List (Option Bool)) (held : List Literal) (closure : IsClosure clauses at values held) where
-  holds_opposite : (l : Literal) → IsFalseAt values l → Contains held (opposite l)
+  holds_opposite : (l : Literal) → IsLiteralFalse values l → Contains held (opposite l)
   holds_opposite l f = closure.within (opposite l) (opposite_true values l f)
 
   unit_held_by : (clause : Clause) (unit : Literal) → IsUnitAt values clause unit → IsQuiet held clause → Contains held unit
@@ -48,15 +48,15 @@ module _ (clauses : List Clause) (at : Literal) (values : List (Option Bool)) (h
         | inr ne ↦ absurd (n.opposite_not_held (holds_opposite l (is.others l m ne)))
       ]
 
-  not_false_by : (clause : Clause) → All (IsFalseAt values) clause → IsQuiet held clause → ⊥
-  not_false_by clause all (inl s) = closure.consistent s.literal s.is_held (holds_opposite s.literal (All-contains (IsFalseAt values) clause s.literal all s.inside))
-  not_false_by clause all (inr t) = t.first_undetermined.opposite_not_held (holds_opposite t.first (All-contains (IsFalseAt values) clause t.first all t.first_inside))
+  not_false_by : (clause : Clause) → All (IsLiteralFalse values) clause → IsQuiet held clause → ⊥
+  not_false_by clause all (inl s) = closure.consistent s.literal s.is_held (holds_opposite s.literal (All-contains (IsLiteralFalse values) clause s.literal all s.inside))
+  not_false_by clause all (inr t) = t.first_undetermined.opposite_not_held (holds_opposite t.first (All-contains (IsLiteralFalse values) clause t.first all t.first_inside))
 
   module _ (clause : Clause) (is_in : Contains clauses clause) where
     pub unit_held : (unit : Literal) → IsUnitAt values clause unit → Contains held unit
     unit_held unit is = unit_held_by clause unit is (All-contains (IsQuiet held) clauses clause closure.quiet is_in)
 
-    pub not_false : All (IsFalseAt values) clause → ⊥
+    pub not_false : All (IsLiteralFalse values) clause → ⊥
     not_false all = not_false_by clause all (All-contains (IsQuiet held) clauses clause closure.quiet is_in)
 
     pub not_at : (unit : Literal) → IsUnitAt values clause unit → unit.variable ≡ at.variable → ⊥
@@ -65,7 +65,7 @@ module _ (clauses : List Clause) (at : Literal) (values : List (Option Bool)) (h
       | inr w ↦ closure.undetermined.opposite_not_held (subst (Contains held) w.0 (unit_held unit is))
     ]
 
-pub unit_step : (clauses : List Clause) (at : Literal) (values : List (Option Bool)) (clause : Clause) (unit : Literal) → Contains clauses clause → IsUnitAt values clause unit → IsOpenAt values at → unit.variable < length values → unit.variable ≢ at.variable
+pub unit_step : (clauses : List Clause) (at : Literal) (values : List (Option Bool)) (clause : Clause) (unit : Literal) → Contains clauses clause → IsUnitAt values clause unit → IsLiteralOpen values at → unit.variable < length values → unit.variable ≢ at.variable
     → IsStep clauses at values (hold values unit)
 unit_step clauses at values clause unit is_in is o within ne = record {
   size = length-set values unit.variable (Some unit.positive);
@@ -97,8 +97,8 @@ unit_within clauses clause unit before after all is_in is size =
 
 -- What is true before a place of the clause: the other literals there are false, and no more literals are true.
 pub record AreOthersFalseBefore (clause : Clause) (at : Literal) (k : ℕ) (values : List (Option Bool)) : Type 0 where
-  pub at_open : IsOpenAt values at
-  pub others : (j : ℕ) (d : Literal) → j < k → get_or clause j d ≢ at → IsFalseAt values (get_or clause j d)
+  pub at_open : IsLiteralOpen values at
+  pub others : (j : ℕ) (d : Literal) → j < k → get_or clause j d ≢ at → IsLiteralFalse values (get_or clause j d)
   pub no_more : (l : Literal) → IsTrueAt values l → Contains clause (opposite l) × (opposite l ≢ at)
 
 module _ (clause : Clause) (at : Literal) where
@@ -108,12 +108,12 @@ module _ (clause : Clause) (at : Literal) where
 
     pub others_more : l.variable ≢ at.variable → (IsTrueAt values l → ⊥) → l.variable < length values → AreOthersFalseBefore clause at (k + 1) (hold values (opposite l))
     others_more apart untrue within =
-        let free : IsFalseAt values (opposite l) → ⊥ = λ f. untrue (subst (IsTrueAt values) (opposite_opposite l) (opposite_true values (opposite l) f)) in
-        let now : IsFalseAt (hold values (opposite l)) l = opposite_false (hold values (opposite l)) l (hold_holds values (opposite l) within) in
+        let free : IsLiteralFalse values (opposite l) → ⊥ = λ f. untrue (subst (IsTrueAt values) (opposite_opposite l) (opposite_true values (opposite l) f)) in
+        let now : IsLiteralFalse (hold values (opposite l)) l = opposite_false (hold values (opposite l)) l (hold_holds values (opposite l) within) in
         record {
           at_open = hold_open values (opposite l) at (λ e. apart (sym e)) are.at_open;
           others = λ j d h ne. elim (cases_eq j k) [
-            | inl e ↦ subst (IsFalseAt (hold values (opposite l))) (sym (ap (λ n. get_or clause n d) e ∙ at_place d)) now
+            | inl e ↦ subst (IsLiteralFalse (hold values (opposite l))) (sym (ap (λ n. get_or clause n d) e ∙ at_place d)) now
             | inr late ↦ hold_kept_false values (opposite l) within free (get_or clause j d) (are.others j d (omega (arith, h, late)) ne)
           ];
           no_more = λ m t. elim (hold_cases values (opposite l) within m t) [
@@ -125,13 +125,13 @@ module _ (clause : Clause) (at : Literal) where
         }
 
     -- the literal is the one that stays open, or false already
-    pub others_same : (l ≢ at → IsFalseAt values l) → AreOthersFalseBefore clause at (k + 1) values
+    pub others_same : (l ≢ at → IsLiteralFalse values l) → AreOthersFalseBefore clause at (k + 1) values
     others_same f = record {
       at_open = are.at_open;
       others = λ j d h ne. elim (cases_eq j k) [
         | inl e ↦
             let here = ap (λ n. get_or clause n d) e ∙ at_place d in
-            subst (IsFalseAt values) (sym here) (f (λ same. ne (here ∙ same)))
+            subst (IsLiteralFalse values) (sym here) (f (λ same. ne (here ∙ same)))
         | inr late ↦ are.others j d (omega (arith, h, late)) ne
       ];
       no_more = are.no_more;
@@ -191,7 +191,7 @@ module _ (values : List (Option Bool)) where
       let place : l.variable ≡ w.0 = omega (arith, w.1) in
       is_true values l (ap (λ n. get_or values n None) place ∙ w.2)
 
-  open_in_true : (l : Literal) → IsOpenAt values l → IsUndetermined true_literals l
+  open_in_true : (l : Literal) → IsLiteralOpen values l → IsUndetermined true_literals l
   open_in_true l o = record {
     not_held = λ m. open_not_true values l o (in_true l m);
     opposite_not_held = λ m. open_not_true values (opposite l) (opposite_open values l o) (in_true (opposite l) m);
@@ -212,7 +212,7 @@ module _ (values : List (Option Bool)) where
 -- ---- freshness
 
 module _ (clauses : List Clause) (clause : Clause) (at : Literal) where
-  is_fresh : (before after : List (Option Bool)) → Contains clause at → AreOthersFalse clause at before → IsStep clauses at before after → All (IsQuietAt after) clauses → IsFresh clauses clause at
+  is_fresh : (before after : List (Option Bool)) → Contains clause at → AssumesOthers clause at before → IsStep clauses at before after → All (IsQuietAt after) clauses → IsFresh clauses clause at
   is_fresh before after inside are step quiet = record {
     inside = inside;
     held = true_literals after;
@@ -232,7 +232,7 @@ module _ (clauses : List Clause) (clause : Clause) (at : Literal) where
     })),
   )
 
-  fresh_closes : (values : List (Option Bool)) → AreOthersFalse clause at values → (fresh : IsFresh clauses clause at) → IsClosure clauses at values fresh.held
+  fresh_closes : (values : List (Option Bool)) → AssumesOthers clause at values → (fresh : IsFresh clauses clause at) → IsClosure clauses at values fresh.held
   fresh_closes values are fresh = record {
     consistent = fresh.consistent;
     undetermined = fresh.undetermined;
@@ -240,7 +240,7 @@ module _ (clauses : List Clause) (clause : Clause) (at : Literal) where
     within = λ l t. let o = are.no_more l t in subst (Contains fresh.held) (opposite_opposite l) (fresh.others (opposite l) o.0 o.1);
   }
 
-  pub closed_is_fresh : (closed : Bool) (before after : List (Option Bool)) → Contains clause at → AreOthersFalse clause at before → (IsTrue closed → IsStep clauses at before after) → (IsTrue closed → All (IsQuietAt after) clauses)
+  pub closed_is_fresh : (closed : Bool) (before after : List (Option Bool)) → Contains clause at → AssumesOthers clause at before → (IsTrue closed → IsStep clauses at before after) → (IsTrue closed → All (IsQuietAt after) clauses)
       → (IsFalse closed → (set : List Literal) → ¬ IsClosure clauses at before set) → IsTrue closed ↔ IsFresh clauses clause at
   closed_is_fresh true before after inside are step quiet none = (λ t. is_fresh before after inside are (step t) (quiet t), λ fresh. refl)
   closed_is_fresh false before after inside are step quiet none = (λ t. cc, λ fresh. absurd (none refl fresh.held (fresh_closes before are fresh)))

@@ -10,7 +10,7 @@ use Rattle.clause_pool.specs.Clauses.{Clause}
 use Rattle.clause_pool.specs.Proper.{HasVariablesUpTo, IsVariable}
 use Rattle.clause_pool.proofs.Literals.{code_within}
 use Rattle.net_model.proofs.Elements.{none_in}
-use Rattle.refute_check.specs.Index.{HasTwo, IsIndexOf, IsNumber, list_at}
+use Rattle.refute_check.specs.Index.{HasTwo, IsIndexOf, IsClauseNumber, list_at}
 use Rattle.refute_check.proofs.AssignmentLemmas.{last_in, only_in}
 
 -- The number stands in the lists of the first literals, and besides it the lists have what they had.
@@ -81,7 +81,7 @@ index_none variables lists places none = record {
 }
 
 module _ (variables : ℕ) (clauses : List Clause) (clause : Clause) (number : ℕ) (next : length clauses + 1 ≡ number) where
-  wider : (n : ℕ) → IsNumber (length clauses) n ⊎ (n ≡ number) → IsNumber (length (clauses ++ clause ∷ [])) n
+  wider : (n : ℕ) → IsClauseNumber (length clauses) n ⊎ (n ≡ number) → IsClauseNumber (length (clauses ++ clause ∷ [])) n
   wider n (inl is) = (is.0, omega (arith, is.1, length_push clauses clause))
   wider n (inr e) = (omega (arith, e, next), omega (arith, e, next, length_push clauses clause))
 

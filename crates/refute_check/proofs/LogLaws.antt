@@ -14,7 +14,7 @@ use Rattle.refute_check.specs.declared.refusal.EvidenceKind.{EvidenceKind}
 use Rattle.refute_check.specs.declared.refusal.EvidenceKind.TheVariants.{Covered, Refuted, Spent}
 use Rattle.refute_check.specs.declared.refusal.Refusal.{Refusal}
 use Rattle.refute_check.specs.declared.refusal.RefusalKind.{RefusalKind}
-use Rattle.refute_check.specs.LogRefusal.{ChainStops, IsRightEnd, IsRightLog, HasRightLength, AreRightBefore, StopsAt, EndsWrong, LogRefused, wrong_count, at_step, at_end, end_refusal, is_last}
+use Rattle.refute_check.specs.LogRefusal.{ChainStops, IsRightEnd, IsRightLog, HasRightLength, AreRightBefore, ChainStopsAt, EndsWrong, LogRefused, wrong_count, at_step, at_end, end_refusal, is_last}
 use Rattle.refute_check.proofs.ChainLaws.{stopped_has_no_end, stops_once}
 
 module _ (kind : EvidenceKind) (clauses : List Clause) (log : List ChainView) where
@@ -39,7 +39,7 @@ module _ (kind : EvidenceKind) (clauses : List Clause) (log : List ChainView) wh
   same_before : (at : ℕ) (ends others : List Clause) → log_ends clauses (take at log) ≡ Some ends → log_ends clauses (take at log) ≡ Some others → ends ≡ others
   same_before at ends others are is = same_Some ends others (sym are ∙ is)
 
-  not_stopped : (at later : ℕ) (rule : RefusalKind) → StopsAt kind clauses log at rule → AreRightBefore kind clauses log later → at < later → ⊥
+  not_stopped : (at later : ℕ) (rule : RefusalKind) → ChainStopsAt kind clauses log at rule → AreRightBefore kind clauses log later → at < later → ⊥
   not_stopped at later rule s b lower =
       let part = part_before at later s.chain b lower s.chain_is in
       let same = same_before at s.before.ends (take at b.ends) s.before.are part.0 in
@@ -59,13 +59,13 @@ module _ (kind : EvidenceKind) (clauses : List Clause) (log : List ChainView) wh
       → chain_end (clauses ++ b.ends) chain ≡ chain_end (clauses ++ d.ends) other
   same_end at chain other b d is too = let chains = same_Some chain other (sym is ∙ too) in let ends = same_before at b.ends d.ends b.are d.are in (λ i. chain_end (clauses ++ ends i) (chains i))
 
-  one_stop : (at : ℕ) (rule other : RefusalKind) → StopsAt kind clauses log at rule → StopsAt kind clauses log at other → rule ≡ other
+  one_stop : (at : ℕ) (rule other : RefusalKind) → ChainStopsAt kind clauses log at rule → ChainStopsAt kind clauses log at other → rule ≡ other
   one_stop at rule other s t =
       let chains = same_Some s.chain t.chain (sym s.chain_is ∙ t.chain_is) in
       let ends = same_before at s.before.ends t.before.ends s.before.are t.before.are in
       stops_once (clauses ++ t.before.ends) t.chain rule other (subst (λ (p : List Clause × ChainView). ChainStops (clauses ++ p.0) p.1 rule) (λ i. (ends i, chains i)) s.stops) t.stops
 
-  stop_or_end : (at : ℕ) (rule : RefusalKind) (end : Clause) → StopsAt kind clauses log at rule → EndsWrong kind clauses log at end → ⊥
+  stop_or_end : (at : ℕ) (rule : RefusalKind) (end : Clause) → ChainStopsAt kind clauses log at rule → EndsWrong kind clauses log at end → ⊥
   stop_or_end at rule end s e =
       none-some end (sym (stopped_has_no_end (clauses ++ s.before.ends) s.chain rule s.stops) ∙ (same_end at s.chain e.chain s.before e.before s.chain_is e.chain_is ∙ e.end_is))
 
@@ -89,14 +89,14 @@ module _ (kind : EvidenceKind) (clauses : List Clause) (log : List ChainView) wh
     one_refusal refusal other (at_end at end long e is) (wrong_count many are) = absurd (many long)
     one_refusal refusal other (at_step at rule long s is) (at_step place broken too t are) =
         let here = same_place at place (not_stopped at place rule s t.before) (not_stopped place at broken t s.before) in
-        let same = one_stop at rule broken s (subst (λ n. StopsAt kind clauses log n broken) (sym here) t) in
+        let same = one_stop at rule broken s (subst (λ n. ChainStopsAt kind clauses log n broken) (sym here) t) in
         is ∙ ((λ i. record { kind = same i; step = here i }) ∙ sym are)
     one_refusal refusal other (at_step at rule long s is) (at_end place end too e are) =
         let here = same_place at place (not_stopped at place rule s e.before) (not_wrong place at end e s.before) in
         absurd (stop_or_end at rule end s (subst (λ n. EndsWrong kind clauses log n end) (sym here) e))
     one_refusal refusal other (at_end at end long e is) (at_step place broken too t are) =
         let here = same_place at place (not_wrong at place end e t.before) (not_stopped place at broken t e.before) in
-        absurd (stop_or_end at broken end (subst (λ n. StopsAt kind clauses log n broken) (sym here) t) e)
+        absurd (stop_or_end at broken end (subst (λ n. ChainStopsAt kind clauses log n broken) (sym here) t) e)
     one_refusal refusal other (at_end at end long e is) (at_end place last too d are) =
         let here = same_place at place (not_wrong at place end e d.before) (not_wrong place at last d e.before) in
         let same = one_end at end last e (subst (λ n. EndsWrong kind clauses log n last) (sym here) d) in

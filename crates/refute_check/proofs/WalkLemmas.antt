@@ -27,7 +27,7 @@ use Rattle.refute_check.specs.declared.refusal.RefusalKind.{RefusalKind}
 use Rattle.refute_check.specs.declared.refusal.RefusalKind.TheVariants.{BadTree, LeafOpen, WrongCount}
 use Rattle.refute_check.specs.declared.tree.Walk.{Walk}
 use Rattle.refute_check.specs.TreeRefusal.{token_refusal, IsRightToken, IsRightTree, TreeRefused, at_token, too_short, wrong_count}
-use Rattle.refute_check.specs.Walk.{second_halves, waiting_in, IsWalk, IsRightIn, IsVerdict, GoesOn, AreRightCounts}
+use Rattle.refute_check.specs.Walk.{second_halves, waiting_in, IsTreeWalk, IsRightIn, IsVerdict, HasGoneOn, AreRightCounts}
 
 -- ---- a source on the path
 
@@ -47,7 +47,7 @@ on_path path source = list_any-IsPermutation (λ half. half.0 == source) path (r
 waiting_is : (walk : Walk) (cube : Cube) → walk.whole ≡ false → reverse walk.path.items ≡ cube → waiting_in walk ≡ cube ∷ second_halves cube
 waiting_is walk cube whole r = λ i. if whole i then [] else (r i ∷ second_halves (r i))
 
-module _ (walk : Walk) (w : IsWalk walk) where
+module _ (walk : Walk) (w : IsTreeWalk walk) where
   path_free : (source : ℕ) → list_any (λ half. half.0 == source) walk.path.items ≡ is_some (fixed_bit walk.sim.cube source)
   path_free source = on_path walk.path.items source ∙ ap (λ cube. is_some (fixed_bit cube source)) (sym w.stands)
 
@@ -89,7 +89,7 @@ module _ (walk : Walk) (w : IsWalk walk) where
 
 -- A walk stands higher up, and as many second halves wait as at first.
 pub record GoesUp (start now : Walk) : Type 0 where
-  pub walk : IsWalk now
+  pub walk : IsTreeWalk now
   pub same : now.sim ≡ with_cube start.sim now.sim.cube
   pub inside : now.whole ≡ false
   pub halves : second_halves now.sim.cube ≡ second_halves start.sim.cube
@@ -118,12 +118,12 @@ module _ (start walk : Walk) (up : GoesUp start walk) (rest : Vec (ℕ × Bool) 
     })
 
     pub second_half : half.1 ≡ false → (path : Vec (ℕ × Bool) Global) (down : PairSim) → path.items ≡ rest.items ++ (half.0, true) ∷ [] → down ≡ with_cube sim ((half.0, true) ∷ sim.cube)
-        → GoesOn start (record walk { sim = down; path = path }) (second_halves start.sim.cube)
+        → HasGoneOn start (record walk { sim = down; path = path }) (second_halves start.sim.cube)
     second_half bit path down pushed assigned =
         let cube = (half.0, true) ∷ reverse rest.items in
         let new = record walk { sim = with_cube walk.sim cube; path = path } in
         let stands : reverse path.items ≡ cube = ap reverse pushed ∙ reverse-append rest.items ((half.0, true) ∷ []) in
-        subst (λ sim. GoesOn start (record walk { sim = sim; path = path }) (second_halves start.sim.cube)) (sym (assigned ∙ ap (λ (sim : PairSim). with_cube sim ((half.0, true) ∷ sim.cube)) is_undone)) (record {
+        subst (λ sim. HasGoneOn start (record walk { sim = sim; path = path }) (second_halves start.sim.cube)) (sym (assigned ∙ ap (λ (sim : PairSim). with_cube sim ((half.0, true) ∷ sim.cube)) is_undone)) (record {
           walk = record { circuit = up.walk.circuit; stands = sym stands; once = last_once; scope = up.walk.scope; sources = up.walk.sources };
           same = ap (λ sim. with_cube sim cube) up.same;
           waiting = waiting_is new cube up.inside stands ∙ halves_of false bit;
@@ -133,7 +133,7 @@ module _ (start walk : Walk) (up : GoesUp start walk) (rest : Vec (ℕ × Bool) 
 
 -- The tokens before a step are right, and the walk stands behind them.
 pub record HasCome (c : Circuit) (f g : Fault) (tokens : List Token) (step : ℕ) (walk : Walk) : Type 0 where
-  pub walk_is : IsWalk walk
+  pub walk_is : IsTreeWalk walk
   pub same : walk.sim ≡ pair_sim c f g walk.sim.cube
   pub waiting : waiting_in walk ≡ waiting_after (take step tokens)
   pub right : (k : ℕ) → k < step → IsRightToken c f g tokens k
@@ -169,7 +169,7 @@ module _ (c : Circuit) (f g : Fault) (tokens : List Token) where
                   (subst (λ t. IsRightAt c f g t walk.sim.cube) (sym is) (subst (IsRightAt c f g (token_at tokens step)) same right.2)),
             )
 
-    pub come_more : (token : Token) (new : Walk) → step < length tokens → token ≡ token_at tokens step → IsRightIn walk token → GoesOn walk new (after_token (waiting_in walk) token) → HasCome c f g tokens (step + 1) new
+    pub come_more : (token : Token) (new : Walk) → step < length tokens → token ≡ token_at tokens step → IsRightIn walk token → HasGoneOn walk new (after_token (waiting_in walk) token) → HasCome c f g tokens (step + 1) new
     come_more token new inside is right goes = record {
       walk_is = goes.walk;
       same = goes.same ∙ (λ i. with_cube (come.same i) new.sim.cube);

@@ -6,12 +6,12 @@ use Rattle.refute_check.specs.declared.assignment.Assignment.{Assignment}
 use Rattle.refute_check.specs.Held.{IsTrueAt}
 
 -- how many variables have no value
-abbrev pub open_count : List (Option Bool) → ℕ
-open_count values = count_by is_none values
+abbrev pub unset_count : List (Option Bool) → ℕ
+unset_count values = count_by is_none values
 
 -- The true literals are those of the list, each once, and there is room in it for one of each variable.
 pub record IsAssignment (a : Assignment) : Type 0 where
   pub listed : (l : Literal) → IsTrueAt a.values.items l → Contains a.trail.items l
   pub held : (l : Literal) → Contains a.trail.items l → IsTrueAt a.values.items l
-  pub counted : length a.trail.items + open_count a.values.items ≡ length a.values.items
+  pub counted : length a.trail.items + unset_count a.values.items ≡ length a.values.items
   pub room : length a.values.items ≤ vec_capacity a.trail

@@ -3,7 +3,7 @@ use Rattle.std.specs.Prelude.{◌≡◌, ◌≢◌, Bool, List, All, Contains, O
 use Rattle.clause_pool.specs.Literal.{Literal, opposite}
 use Rattle.clause_pool.specs.Clauses.{Clause}
 use Rattle.clause_pool.specs.Partial.{IsConsistent, IsUndetermined, IsQuiet}
-use Rattle.refute_check.specs.Held.{IsTrueAt, IsFalseAt, IsOpenAt}
+use Rattle.refute_check.specs.Held.{IsTrueAt, IsLiteralFalse, IsLiteralOpen}
 
 -- A set of literals holds the opposites of the clause's other literals and leaves this one undetermined.
 pub record HoldsOthers (clause : Clause) (at : Literal) (held : List Literal) : Type 0 where
@@ -12,9 +12,9 @@ pub record HoldsOthers (clause : Clause) (at : Literal) (held : List Literal) : 
   pub undetermined : IsUndetermined held at
 
 -- The true literals are the opposites of the clause's other literals.
-pub record AreOthersFalse (clause : Clause) (at : Literal) (values : List (Option Bool)) : Type 0 where
-  pub at_open : IsOpenAt values at
-  pub others : (l : Literal) → Contains clause l → l ≢ at → IsFalseAt values l
+pub record AssumesOthers (clause : Clause) (at : Literal) (values : List (Option Bool)) : Type 0 where
+  pub at_open : IsLiteralOpen values at
+  pub others : (l : Literal) → Contains clause l → l ≢ at → IsLiteralFalse values l
   pub no_more : (l : Literal) → IsTrueAt values l → Contains clause (opposite l) × (opposite l ≢ at)
 
 -- A set of literals holds all true ones and leaves this one undetermined, and unit propagation has nothing to do at any clause.
@@ -27,6 +27,6 @@ pub record IsClosure (clauses : List Clause) (at : Literal) (values : List (Opti
 -- More literals are true, all of which are held by each set that closes the earlier ones.
 pub record IsStep (clauses : List Clause) (at : Literal) (before after : List (Option Bool)) : Type 0 where
   pub size : length after ≡ length before
-  pub at_open : IsOpenAt after at
+  pub at_open : IsLiteralOpen after at
   pub kept : (l : Literal) → IsTrueAt before l → IsTrueAt after l
   pub closes : (held : List Literal) → IsClosure clauses at before held → IsClosure clauses at after held

@@ -15,25 +15,25 @@ value_at values l = option_map (λ bit. beq bit l.positive) (slice_index_or valu
 abbrev pub IsTrueAt : List (Option Bool) → Literal → Type 0
 IsTrueAt values l = value_at values l ≡ Some true
 
-abbrev pub IsFalseAt : List (Option Bool) → Literal → Type 0
-IsFalseAt values l = value_at values l ≡ Some false
+abbrev pub IsLiteralFalse : List (Option Bool) → Literal → Type 0
+IsLiteralFalse values l = value_at values l ≡ Some false
 
-abbrev pub IsOpenAt : List (Option Bool) → Literal → Type 0
-IsOpenAt values l = value_at values l ≡ None
+abbrev pub IsLiteralOpen : List (Option Bool) → Literal → Type 0
+IsLiteralOpen values l = value_at values l ≡ None
 
 -- One literal of the clause is true, or two different ones are open.
 pub data IsQuietAt (values : List (Option Bool)) (clause : Clause) : Type 0 where
   satisfied : (l : Literal) → Contains clause l → IsTrueAt values l → IsQuietAt values clause
-  two_open : (l m : Literal) → (l ≡ m → ⊥) → Contains clause l → Contains clause m → IsOpenAt values l → IsOpenAt values m → IsQuietAt values clause
+  two_open : (l m : Literal) → (l ≡ m → ⊥) → Contains clause l → Contains clause m → IsLiteralOpen values l → IsLiteralOpen values m → IsQuietAt values clause
 
 -- One literal of the clause is open, and all others are false.
 pub record IsUnitAt (values : List (Option Bool)) (clause : Clause) (unit : Literal) : Type 0 where
   pub inside : Contains clause unit
-  pub is_open : IsOpenAt values unit
-  pub others : (l : Literal) → Contains clause l → (l ≡ unit → ⊥) → IsFalseAt values l
+  pub is_open : IsLiteralOpen values unit
+  pub others : (l : Literal) → Contains clause l → (l ≡ unit → ⊥) → IsLiteralFalse values l
 
 -- what is found at a clause
 abbrev pub IsLook : List (Option Bool) → Clause → Look → Type 0
 IsLook values clause Quiet = IsQuietAt values clause
 IsLook values clause (Unit place) = (place < length clause) × HoldsAt (IsUnitAt values clause) clause place
-IsLook values clause False = All (IsFalseAt values) clause
+IsLook values clause False = All (IsLiteralFalse values) clause

@@ -8,8 +8,8 @@ abbrev pub list_at : List (List ℕ) → ℕ → List ℕ
 list_at lists place = slice_index_or lists place []
 
 -- the number of one of so many clauses
-abbrev pub IsNumber : ℕ → ℕ → Type 0
-IsNumber count number = (0 < number) × (number ≤ count)
+abbrev pub IsClauseNumber : ℕ → ℕ → Type 0
+IsClauseNumber count number = (0 < number) × (number ≤ count)
 
 -- The clause has two different literals.
 pub record HasTwo (clause : Clause) : Type 0 where
@@ -23,7 +23,7 @@ pub record HasTwo (clause : Clause) : Type 0 where
 -- two different literals, and all numbers are numbers of clauses.
 pub record IsIndexOf (variables : ℕ) (clauses : List Clause) (lists : List (List ℕ)) (short : List ℕ) : Type 0 where
   pub places : length lists ≡ 2 * variables + 2
-  pub numbers : (place number : ℕ) → Contains (list_at lists place) number → IsNumber (length clauses) number
-  pub short_numbers : (number : ℕ) → Contains short number → IsNumber (length clauses) number
+  pub numbers : (place number : ℕ) → Contains (list_at lists place) number → IsClauseNumber (length clauses) number
+  pub short_numbers : (number : ℕ) → Contains short number → IsClauseNumber (length clauses) number
   pub all : (k : ℕ) (l : Literal) → k < length clauses → Contains (slice_index_or clauses k []) l → Contains (list_at lists (code_of l)) (k + 1)
   pub all_short : (k : ℕ) → k < length clauses → HasTwo (slice_index_or clauses k []) ⊎ Contains short (k + 1)

@@ -71,7 +71,7 @@ pub record AreRightBefore (kind : EvidenceKind) (clauses : List Clause) (log : L
   pub each : (k : ℕ) (chain : ChainView) (end : Clause) → slice_get log k ≡ Some chain → slice_get ends k ≡ Some end → IsRightEnd kind (is_last log k) (clauses ++ take k ends) chain end
 
 -- A chain stops, all before it being right.
-pub record StopsAt (kind : EvidenceKind) (clauses : List Clause) (log : List ChainView) (at : ℕ) (refusal : RefusalKind) : Type 0 where
+pub record ChainStopsAt (kind : EvidenceKind) (clauses : List Clause) (log : List ChainView) (at : ℕ) (refusal : RefusalKind) : Type 0 where
   pub before : AreRightBefore kind clauses log at
   pub chain : ChainView
   pub chain_is : slice_get log at ≡ Some chain
@@ -88,5 +88,5 @@ pub record EndsWrong (kind : EvidenceKind) (clauses : List Clause) (log : List C
 -- The log is refused so.
 pub data LogRefused (kind : EvidenceKind) (clauses : List Clause) (limit : ℕ) (log : List ChainView) (refusal : Refusal) : Type 0 where
   wrong_count : ¬ HasRightLength kind limit log → refusal ≡ record { kind = WrongCount; step = length log } → LogRefused kind clauses limit log refusal
-  at_step : (at : ℕ) (rule : RefusalKind) → HasRightLength kind limit log → StopsAt kind clauses log at rule → refusal ≡ record { kind = rule; step = at } → LogRefused kind clauses limit log refusal
+  at_step : (at : ℕ) (rule : RefusalKind) → HasRightLength kind limit log → ChainStopsAt kind clauses log at rule → refusal ≡ record { kind = rule; step = at } → LogRefused kind clauses limit log refusal
   at_end : (at : ℕ) (end : Clause) → HasRightLength kind limit log → EndsWrong kind clauses log at end → refusal ≡ record { kind = end_refusal kind (is_last log at) end; step = at } → LogRefused kind clauses limit log refusal

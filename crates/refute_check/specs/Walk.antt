@@ -23,7 +23,7 @@ abbrev pub waiting_in : Walk → List Cube
 waiting_in walk = if walk.whole then [] else reverse walk.path.items ∷ second_halves (reverse walk.path.items)
 
 -- A walk's parts belong together.
-pub record IsWalk (walk : Walk) : Type 0 where
+pub record IsTreeWalk (walk : Walk) : Type 0 where
   pub circuit : IsCircuit walk.sim.circuit
   pub stands : walk.sim.cube ≡ reverse walk.path.items
   pub once : FixesOnce walk.sim.circuit.sources walk.sim.cube
@@ -40,8 +40,8 @@ IsVerdict walk token None = IsRightIn walk token
 IsVerdict walk token (Some kind) = (kind ≡ token_refusal (slice_get (waiting_in walk) 0) token) × ¬ IsRightIn walk token
 
 -- A walk of the same faults has gone on, and these cubes wait.
-pub record GoesOn (old new : Walk) (cubes : List Cube) : Type 0 where
-  pub walk : IsWalk new
+pub record HasGoneOn (old new : Walk) (cubes : List Cube) : Type 0 where
+  pub walk : IsTreeWalk new
   pub same : new.sim ≡ with_cube old.sim new.sim.cube
   pub waiting : waiting_in new ≡ cubes
 

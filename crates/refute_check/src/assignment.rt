@@ -3,7 +3,7 @@
 ghost use Rattle.std.specs.Prelude.{◌≡◌, ◌+◌, ◌<◌, [], ◌∷◌, ◌++◌, Some, All, IfOk, length, slice_set};
 ghost use Rattle.clause_pool.specs.Literal.{Literal};
 ghost use Rattle.refute_check.specs.Assignment.{IsAssignment};
-ghost use Rattle.refute_check.specs.Held.{IsLook, IsOpenAt, value_at};
+ghost use Rattle.refute_check.specs.Held.{IsLook, IsLiteralOpen, value_at};
 
 use clause_pool::Lit;
 use std::alloc::{AllocError, Global};
@@ -30,7 +30,7 @@ impl Assignment {
     pub(crate) fn new(alloc: Global, variables: u32) -> Result<Assignment, AllocError>
         ensures assignment { IfOk result IsAssignment }
         ensures size { IfOk result (λ assignment. length assignment.values.items ≡ variables + 1) }
-        ensures empty { IfOk result (λ assignment. (l : Literal) → IsOpenAt assignment.values.items l) }
+        ensures empty { IfOk result (λ assignment. (l : Literal) → IsLiteralOpen assignment.values.items l) }
     {
         let count = variables as usize + 1;
         Ok(Assignment {
@@ -52,7 +52,7 @@ impl Assignment {
     pub(crate) fn hold(&mut self, lit: Lit)
         requires assignment { IsAssignment self.old }
         requires within { lit.variable < length self.old.values.items }
-        requires undetermined { IsOpenAt self.old.values.items lit }
+        requires undetermined { IsLiteralOpen self.old.values.items lit }
         ensures assignment { IsAssignment self.new }
         ensures values { self.new.values.items ≡ slice_set self.old.values.items lit.variable (Some lit.positive) }
         ensures trail { self.new.trail.items ≡ self.old.trail.items ++ lit ∷ [] }
@@ -66,7 +66,7 @@ impl Assignment {
         requires { IsAssignment self.old }
         ensures assignment { IsAssignment self.new }
         ensures size { length self.new.values.items ≡ length self.old.values.items }
-        ensures empty { (l : Literal) → IsOpenAt self.new.values.items l }
+        ensures empty { (l : Literal) → IsLiteralOpen self.new.values.items l }
     {
         while let Some(lit) = self.trail.pop() {
             self.values[lit.variable() as usize] = None;

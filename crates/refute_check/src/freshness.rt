@@ -7,11 +7,11 @@ ghost use Rattle.clause_pool.specs.LiteralCode.{code_of};
 ghost use Rattle.clause_pool.specs.Proper.{HasVariablesUpTo, IsVariable};
 ghost use Rattle.pair_miter.specs.Fresh.{IsFresh};
 ghost use Rattle.refute_check.specs.Assignment.{IsAssignment};
-ghost use Rattle.refute_check.specs.Closure.{AreOthersFalse, HoldsOthers, IsClosure, IsStep};
-ghost use Rattle.refute_check.specs.Held.{IsOpenAt, IsQuietAt};
-ghost use Rattle.refute_check.specs.Index.{IsIndexOf, IsNumber};
+ghost use Rattle.refute_check.specs.Closure.{AssumesOthers, HoldsOthers, IsClosure, IsStep};
+ghost use Rattle.refute_check.specs.Held.{IsLiteralOpen, IsQuietAt};
+ghost use Rattle.refute_check.specs.Index.{IsIndexOf, IsClauseNumber};
 ghost use Rattle.refute_check.specs.Looked.{IsLookedAt};
-ghost use Rattle.refute_check.specs.Propagation.{AreLooked, AreSettled, HoldsMore, IsReady};
+ghost use Rattle.refute_check.specs.Propagation.{AreLooked, AreClausesSettled, HoldsMore, IsPropagatorReady};
 
 use crate::assignment::{Assignment, Look};
 use crate::index::Index;
@@ -51,7 +51,7 @@ impl Propagator {
     /// A propagator for the clauses of a pool, whose variables are from 1 to `variables`.
     pub(crate) fn new(alloc: Global, pool: &Pool, variables: u32) -> Result<Propagator, AllocError>
         requires { All (HasVariablesUpTo variables) pool.now.clauses }
-        ensures { IfOk result (IsReady variables pool.now.clauses) }
+        ensures { IfOk result (IsPropagatorReady variables pool.now.clauses) }
     {
         Ok(Propagator {
             looked: Looked::none(alloc, pool.len())?,
@@ -72,7 +72,7 @@ impl Propagator {
     /// Takes the clause of a number into account, the next one of the pool.
     pub(crate) fn add(&mut self, clause: &[Lit], number: u32) -> Result<(), AllocError>
         requires { All (λ l. code_of l < length self.old.index.lists) clause.now }
-        ensures { OnOk result ((variables : ℕ) (clauses : List Clause) → length clauses + 1 ≡ number → IsReady variables clauses self.old → IsReady variables (clauses ++ clause.now ∷ []) self.new) }
+        ensures { OnOk result ((variables : ℕ) (clauses : List Clause) → length clauses + 1 ≡ number → IsPropagatorReady variables clauses self.old → IsPropagatorReady variables (clauses ++ clause.now ∷ []) self.new) }
     {
         self.index.add(clause, number)?;
         self.looked.add()?;
@@ -81,12 +81,12 @@ impl Propagator {
 
     /// Whether a clause is fresh at one of its literals. It takes no memory.
     pub(crate) fn fresh(&mut self, pool: &Pool, variables: u32, clause: &[Lit], at: Lit) -> bool
-        requires ready { IsReady variables pool.now.clauses self.old }
+        requires ready { IsPropagatorReady variables pool.now.clauses self.old }
         requires pool { All (HasVariablesUpTo variables) pool.now.clauses }
         requires clause { HasVariablesUpTo variables clause.now }
         requires at { IsVariable variables at.variable }
         ensures fresh { IsTrue result ↔ IsFresh pool.now.clauses clause.now at }
-        ensures ready { IsReady variables pool.now.clauses self.new }
+        ensures ready { IsPropagatorReady variables pool.now.clauses self.new }
     {
         if !clause.contains(&at) {
             return false;
@@ -111,10 +111,10 @@ fn hold_others(held: &mut Assignment, clause: &[Lit], at: Lit) -> bool
     requires assignment { IsAssignment held.old }
     requires at { at.variable < length held.old.values.items }
     requires clause { All (λ (l : Literal). l.variable < length held.old.values.items) clause.now }
-    requires empty { (l : Literal) → IsOpenAt held.old.values.items l }
+    requires empty { (l : Literal) → IsLiteralOpen held.old.values.items l }
     ensures assignment { IsAssignment held.new }
     ensures size { length held.new.values.items ≡ length held.old.values.items }
-    ensures held { IsTrue result → AreOthersFalse clause.now at held.new.values.items }
+    ensures held { IsTrue result → AssumesOthers clause.now at held.new.values.items }
     ensures none { IsFalse result → (set : List Literal) → ¬ HoldsOthers clause.now at set }
 {
     for lit in clause {
@@ -149,7 +149,7 @@ fn close(
     requires index { IsIndexOf variables pool.now.clauses index.now.lists index.now.short.items }
     requires size { length held.old.values.items ≡ variables + 1 }
     requires pool { All (HasVariablesUpTo variables) pool.now.clauses }
-    requires at { IsOpenAt held.old.values.items at }
+    requires at { IsLiteralOpen held.old.values.items at }
     ensures assignment { IsAssignment held.new }
     ensures size { length held.new.values.items ≡ length held.old.values.items }
     ensures room { length looked.new.stamps.items ≡ length looked.old.stamps.items }
@@ -185,9 +185,9 @@ fn visit(
     requires assignment { IsAssignment held.old }
     requires looked { AreLooked pool.now.clauses held.old looked.old }
     requires pool { All (All (λ (l : Literal). l.variable < length held.old.values.items)) pool.now.clauses }
-    requires numbers { All (IsNumber (length pool.now.clauses)) numbers.now }
+    requires numbers { All (IsClauseNumber (length pool.now.clauses)) numbers.now }
     requires from { from ≤ length held.old.trail.items }
-    requires at { IsOpenAt held.old.values.items at }
+    requires at { IsLiteralOpen held.old.values.items at }
     ensures assignment { IsAssignment held.new }
     ensures size { length held.new.values.items ≡ length held.old.values.items }
     ensures longer { length held.old.trail.items ≤ length held.new.trail.items }
@@ -195,7 +195,7 @@ fn visit(
     ensures earlier { (number at : ℕ) → IsLookedAt looked.new number at → at ≤ length held.new.trail.items }
     ensures looked { IsTrue result → AreLooked pool.now.clauses held.new looked.new }
     ensures step { IsTrue result → IsStep pool.now.clauses at held.old.values.items held.new.values.items }
-    ensures settled { IsTrue result → AreSettled pool.now.clauses held.old from numbers.now → AreSettled pool.now.clauses held.new from [] }
+    ensures settled { IsTrue result → AreClausesSettled pool.now.clauses held.old from numbers.now → AreClausesSettled pool.now.clauses held.new from [] }
     ensures none { IsFalse result → (set : List Literal) → ¬ IsClosure pool.now.clauses at held.old.values.items set }
 {
     for number in numbers {
@@ -215,8 +215,8 @@ fn visit(
 fn settle(held: &mut Assignment, pool: &Pool, number: u32, at: Lit) -> bool
     requires assignment { IsAssignment held.old }
     requires pool { All (All (λ (l : Literal). l.variable < length held.old.values.items)) pool.now.clauses }
-    requires number { IsNumber (length pool.now.clauses) number }
-    requires at { IsOpenAt held.old.values.items at }
+    requires number { IsClauseNumber (length pool.now.clauses) number }
+    requires at { IsLiteralOpen held.old.values.items at }
     ensures assignment { IsAssignment held.new }
     ensures more { HoldsMore held.old held.new }
     ensures step { IsTrue result → IsStep pool.now.clauses at held.old.values.items held.new.values.items }

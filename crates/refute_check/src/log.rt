@@ -9,7 +9,7 @@ ghost use Rattle.pair_miter.specs.Miter as spec;
 ghost use Rattle.refute_check.specs.declared.refusal.Refusal.{Refusal};
 ghost use Rattle.refute_check.specs.declared.refusal.EvidenceKind.{EvidenceKind};
 ghost use Rattle.refute_check.specs.LogRefusal.{ChainStops, EndsAs, HasRightLength, IsRightLog, IsRuleFor, LogRefused};
-ghost use Rattle.refute_check.specs.Propagation.{IsReady, IsReadyFor};
+ghost use Rattle.refute_check.specs.Propagation.{IsPropagatorReady, IsReadyFor};
 ghost use Rattle.refute_check.specs.Reached.{IsReached};
 
 use crate::chain::follow;
@@ -200,11 +200,11 @@ fn ends_fresh(
     chain: &Chain,
     end: &[Lit],
 ) -> bool
-    requires ready { IsReady variables pool.now.clauses propagator.old }
+    requires ready { IsPropagatorReady variables pool.now.clauses propagator.old }
     requires clauses { All (HasVariablesUpTo variables) pool.now.clauses }
     requires end { HasVariablesUpTo variables end.now }
     ensures fresh { IsTrue result ↔ EndsFresh pool.now.clauses chain.now end.now }
-    ensures ready { IsReady variables pool.now.clauses propagator.new }
+    ensures ready { IsPropagatorReady variables pool.now.clauses propagator.new }
 {
     let Some(at) = chain.at() else {
         return false;

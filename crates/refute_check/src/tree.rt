@@ -10,7 +10,7 @@ ghost use Rattle.pair_sets.specs.PairSim.{pair_sim};
 ghost use Rattle.pair_sets.specs.Tree.{IsRightAt, after_token, closed_count};
 ghost use Rattle.refute_check.specs.declared.refusal.Refusal.{Refusal};
 ghost use Rattle.refute_check.specs.TreeRefusal.{IsRightTree, TreeRefused};
-ghost use Rattle.refute_check.specs.Walk.{IsWalk, IsRightIn, IsVerdict, GoesOn, AreRightCounts, waiting_in, second_halves};
+ghost use Rattle.refute_check.specs.Walk.{IsTreeWalk, IsRightIn, IsVerdict, HasGoneOn, AreRightCounts, waiting_in, second_halves};
 
 use crate::refusal::{CheckFault, EvidenceKind, RefusalKind, refused};
 use fault_list::Scope;
@@ -60,7 +60,7 @@ impl<'a> Walk<'a> {
     ) -> Result<Walk<'a>, AllocError>
         requires first { IsFaultOf circuit.now f.now }
         requires second { IsFaultOf circuit.now g.now }
-        ensures walk { IfOk result IsWalk }
+        ensures walk { IfOk result IsTreeWalk }
         ensures sim { IfOk result (λ walk. walk.sim ≡ pair_sim circuit.now f.now g.now []) }
         ensures root { IfOk result (λ walk. waiting_in walk ≡ [] ∷ []) }
     {
@@ -75,7 +75,7 @@ impl<'a> Walk<'a> {
 
     // Goes through the whole tree from its root, and checks it as `check_tree` does.
     fn check(&mut self, tokens: &[Token], kind: EvidenceKind, cubes: u32) -> Result<(), CheckFault>
-        requires walk { IsWalk self.old }
+        requires walk { IsTreeWalk self.old }
         requires root { waiting_in self.old ≡ [] ∷ [] }
         ensures right { OnOk result (IsRightTree self.old.sim.circuit self.old.sim.f self.old.sim.g kind cubes tokens.now) }
         ensures refused { (refusal : Refusal) → IsErrOf result (CheckFault.Refused refusal) → TreeRefused self.old.sim.circuit self.old.sim.f self.old.sim.g kind cubes tokens.now refusal }
@@ -97,7 +97,7 @@ impl<'a> Walk<'a> {
 
     // The rule that a token breaks at the cube, if it breaks one.
     fn wrong(&self, token: Token) -> Option<RefusalKind>
-        requires { IsWalk self.now }
+        requires { IsTreeWalk self.now }
         ensures { IsVerdict self.now token result }
     {
         if self.whole {
@@ -121,7 +121,7 @@ impl<'a> Walk<'a> {
 
     // Whether a source can be split at the cube.
     fn can_split(&self, source: u32) -> bool
-        requires { IsWalk self.now }
+        requires { IsTreeWalk self.now }
         ensures { IsTrue result ↔ IsRightAt self.now.sim.circuit self.now.sim.f self.now.sim.g (Split source) self.now.sim.cube }
     {
         source < self.sources
@@ -132,7 +132,7 @@ impl<'a> Walk<'a> {
 
     // Whether the cube is undecided.
     fn is_undecided(&self) -> bool
-        requires { IsWalk self.now }
+        requires { IsTreeWalk self.now }
         ensures { IsTrue result ↔ IsState self.now.sim.circuit self.now.sim.f self.now.sim.g self.now.sim.cube Undecided }
     {
         matches!(self.sim.state(), PairState::Undecided)
@@ -140,9 +140,9 @@ impl<'a> Walk<'a> {
 
     // Goes on to the cube of the next token.
     fn go_on(&mut self, token: Token) -> Result<(), AllocError>
-        requires walk { IsWalk self.old }
+        requires walk { IsTreeWalk self.old }
         requires right { IsRightIn self.old token }
-        ensures { OnOk result (GoesOn self.old self.new (after_token (waiting_in self.old) token)) }
+        ensures { OnOk result (HasGoneOn self.old self.new (after_token (waiting_in self.old) token)) }
     {
         match token {
             Token::Split(source) => self.go_down(source),
@@ -152,9 +152,9 @@ impl<'a> Walk<'a> {
 
     // Goes down to the first half of the cube.
     fn go_down(&mut self, source: u32) -> Result<(), AllocError>
-        requires walk { IsWalk self.old }
+        requires walk { IsTreeWalk self.old }
         requires right { IsRightIn self.old (Split source) }
-        ensures { OnOk result (GoesOn self.old self.new (after_token (waiting_in self.old) (Split source))) }
+        ensures { OnOk result (HasGoneOn self.old self.new (after_token (waiting_in self.old) (Split source))) }
     {
         self.path.push((source, false))?;
         self.sim.assign(source, false);
@@ -163,9 +163,9 @@ impl<'a> Walk<'a> {
 
     // Goes up to the last split of whose second half nothing is read, and to that half. If there is none the tree is whole.
     fn go_up(&mut self) -> Result<(), AllocError>
-        requires walk { IsWalk self.old }
+        requires walk { IsTreeWalk self.old }
         requires inside { self.old.whole ≡ false }
-        ensures { OnOk result (GoesOn self.old self.new (second_halves self.old.sim.cube)) }
+        ensures { OnOk result (HasGoneOn self.old self.new (second_halves self.old.sim.cube)) }
     {
         while let Some((source, bit)) = self.path.pop() {
             self.sim.undo();

@@ -12,7 +12,7 @@ use Rattle.result_file.specs.declared.record.Proof.{Proof}
 use Rattle.result_file.specs.declared.record.Record.{Record}
 use Rattle.result_file.specs.declared.fault.RecordFault.{RecordFault}
 use Rattle.result_file.specs.declared.fault.RecordFault.TheVariants.{Syntax, NoMemory}
-use Rattle.result_file.specs.Spelling.{Text, fields, spelling, literal_field, step_fields, clause_fields, chain_fields, evidence_fields, proof_fields, HasTreeSpelling, HasProofSpelling, IsNumber, IsVariable, IsLiteral, HasStepSpelling, HasLiteralSpelling, HasChainSpelling, IsFreshChain, HasSpelling, IsNoSpelling}
+use Rattle.result_file.specs.Spelling.{Text, fields, spelling, literal_field, step_fields, clause_fields, chain_fields, evidence_fields, proof_fields, HasTreeSpelling, HasProofSpelling, IsNumber, IsVariableNumber, IsLiteral, HasStepSpelling, HasLiteralSpelling, HasChainSpelling, IsFreshChain, HasSpelling, IsNoSpelling}
 use Rattle.result_file.specs.Reading.{Reads, IsChainOf}
 use Rattle.result_file.proofs.DigitLemmas.{text_of_digits, no_dash_digits}
 use Rattle.result_file.proofs.Cuts.{tails}
@@ -62,23 +62,23 @@ behind_two now (x ∷ y ∷ xs) low = ap (map now) (take_all (length (x ∷ y �
 
 -- ---- literals
 
-no_negative : (positive : Bool) (n : ℕ) (digits : Text) → IsVariable n → ((m : ℕ) → IsVariable m → decimal m ≡ digits → ⊥) → literal_field (record { variable = n; positive = positive }) ≡ 45 ∷ digits → ⊥
+no_negative : (positive : Bool) (n : ℕ) (digits : Text) → IsVariableNumber n → ((m : ℕ) → IsVariableNumber m → decimal m ≡ digits → ⊥) → literal_field (record { variable = n; positive = positive }) ≡ 45 ∷ digits → ⊥
 no_negative true n digits small never e = omega (arith, first_digit n (omega (arith, small.1)), ap first_byte e)
 no_negative false n digits small never e = never n small (tails e).1
 
-negative_none : (field digits : Text) → field ≡ 45 ∷ digits → ((m : ℕ) → IsVariable m → decimal m ≡ digits → ⊥) → (l : Literal) → IsLiteral l → literal_field l ≡ field → ⊥
+negative_none : (field digits : Text) → field ≡ 45 ∷ digits → ((m : ℕ) → IsVariableNumber m → decimal m ≡ digits → ⊥) → (l : Literal) → IsLiteral l → literal_field l ≡ field → ⊥
 negative_none field digits is never l small e = no_negative l.positive l.variable digits small never (e ∙ is)
 
-no_positive : (positive : Bool) (n : ℕ) (field : Text) → IsVariable n → ((rest : Text) → field ≡ 45 ∷ rest → ⊥) → ((m : ℕ) → IsVariable m → decimal m ≡ field → ⊥) → literal_field (record { variable = n; positive = positive }) ≡ field → ⊥
+no_positive : (positive : Bool) (n : ℕ) (field : Text) → IsVariableNumber n → ((rest : Text) → field ≡ 45 ∷ rest → ⊥) → ((m : ℕ) → IsVariableNumber m → decimal m ≡ field → ⊥) → literal_field (record { variable = n; positive = positive }) ≡ field → ⊥
 no_positive true n field small dash never e = never n small e
 no_positive false n field small dash never e = dash (decimal n) (sym e)
 
-positive_none : (field : Text) → ((rest : Text) → field ≡ 45 ∷ rest → ⊥) → ((m : ℕ) → IsVariable m → decimal m ≡ field → ⊥) → (l : Literal) → IsLiteral l → literal_field l ≡ field → ⊥
+positive_none : (field : Text) → ((rest : Text) → field ≡ 45 ∷ rest → ⊥) → ((m : ℕ) → IsVariableNumber m → decimal m ≡ field → ⊥) → (l : Literal) → IsLiteral l → literal_field l ≡ field → ⊥
 positive_none field dash never l small e = no_positive l.positive l.variable field small dash never e
 
 -- what is read behind a dash, and what is read where there is none
 abbrev pub LiteralWith : Bool → Text → Option Literal → Type 0
-LiteralWith positive digits r = MatchOption r ((n : ℕ) → IsVariable n → decimal n ≢ digits) (λ l. IsVariable l.variable × (decimal l.variable ≡ digits) × (l.positive ≡ positive))
+LiteralWith positive digits r = MatchOption r ((n : ℕ) → IsVariableNumber n → decimal n ≢ digits) (λ l. IsVariableNumber l.variable × (decimal l.variable ≡ digits) × (l.positive ≡ positive))
 
 abbrev pub LiteralOf : Text → Option Literal → Type 0
 LiteralOf field r = MatchOption r ((l : Literal) → IsLiteral l → literal_field l ≢ field) (λ l. IsLiteral l × (literal_field l ≡ field))

@@ -21,21 +21,21 @@ abbrev pub LeadTo : Text → List Event → Text → Type 0
 LeadTo before [] after = after ≡ before
 LeadTo before (event ∷ events) after = (next : Text) × Leads before event next × LeadTo next events after
 
-abbrev pub piece_of : Event → Text
-piece_of (fed piece) = piece
-piece_of (taken line) = []
+abbrev pub event_piece : Event → Text
+event_piece (fed piece) = piece
+event_piece (taken line) = []
 
-abbrev pub line_of : Event → Option Text
-line_of (fed piece) = None
-line_of (taken line) = Some line
+abbrev pub event_line : Event → Option Text
+event_line (fed piece) = None
+event_line (taken line) = Some line
 
 -- all bytes that were fed
 abbrev pub fed_text : List Event → Text
-fed_text events = flat_map piece_of events
+fed_text events = flat_map event_piece events
 
 -- the lines that were taken
 abbrev pub taken_lines : List Event → List Text
-taken_lines events = filter_map line_of events
+taken_lines events = filter_map event_line events
 
 -- these lines, each with its LF
 abbrev pub lines_text : List Text → Text

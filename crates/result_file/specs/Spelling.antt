@@ -96,11 +96,11 @@ pub record HasTreeSpelling (tree : List Token) : Type 0 where
   pub nonempty : tree ≢ []
   pub each : All HasTokenSpelling tree
 
-abbrev pub IsVariable : ℕ → Type 0
-IsVariable n = (0 < n) × (n < 2 ^ 31)
+abbrev pub IsVariableNumber : ℕ → Type 0
+IsVariableNumber n = (0 < n) × (n < 2 ^ 31)
 
 abbrev pub IsLiteral : Literal → Type 0
-IsLiteral l = IsVariable l.variable
+IsLiteral l = IsVariableNumber l.variable
 
 abbrev pub HasStepSpelling : Literal × ℕ → Type 0
 HasStepSpelling step = IsLiteral step.0 × IsNumber step.1

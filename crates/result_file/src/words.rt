@@ -5,7 +5,7 @@ ghost use Rattle.net_model.specs.BitText.{bit_digit, bits_text};
 ghost use Rattle.clause_pool.specs.Literal.{Literal};
 ghost use Rattle.pair_sets.specs.declared.tree.Token as token;
 ghost use Rattle.result_file.specs.declared.record.Mark as mark;
-ghost use Rattle.result_file.specs.Spelling.{IsNumber, IsVariable, IsLiteral, HasTokenSpelling, literal_field, token_field, mark_field};
+ghost use Rattle.result_file.specs.Spelling.{IsNumber, IsVariableNumber, IsLiteral, HasTokenSpelling, literal_field, token_field, mark_field};
 ghost use Rattle.result_file.specs.Reading.{Reads};
 
 use crate::fault::RecordFault;
@@ -41,7 +41,7 @@ pub(crate) fn literal_of(field: &str) -> Option<Lit>
 
 // The literal of the variable that digits spell.
 fn literal_with(digits: &str, positive: bool) -> Option<Lit>
-    ensures { MatchOption result ((n : ℕ) → IsVariable n → decimal n ≢ digits.now) (λ l. IsVariable l.variable × (decimal l.variable ≡ digits.now) × (l.positive ≡ positive)) }
+    ensures { MatchOption result ((n : ℕ) → IsVariableNumber n → decimal n ≢ digits.now) (λ l. IsVariableNumber l.variable × (decimal l.variable ≡ digits.now) × (l.positive ≡ positive)) }
 {
     let variable = number_of(digits)?;
     if variable == 0 || variable >= 1 << 31 {

@@ -11,7 +11,7 @@ use Rattle.table_dicts.specs.Entries.{free_baselines}
 use Rattle.samediff_dict.specs.declared.numbering.Candidates.{Candidates}
 use Rattle.samediff_dict.specs.declared.partition.Partition.{Partition}
 use Rattle.samediff_dict.specs.Chosen.{candidates, pairs_apart, with_next, greedy_baselines, better_baselines, improvement, improved_baselines, chosen_baselines}
-use Rattle.samediff_dict.specs.Groups.{AreWithin, IsFirstMost, gain_at}
+use Rattle.samediff_dict.specs.Groups.{AreBelow, IsFirstMost, gain_at}
 use Rattle.samediff_dict.specs.Partition.{IsPartition, TogetherAt, are_together}
 use Rattle.samediff_dict.specs.Numbered.{AreCandidates, AreChosen, HasBaselines, AlikeFrom, answers_base, baselines_at}
 use Rattle.samediff_dict.proofs.CandidateLemmas.{code_is, candidate, length-baselines, base_at, chosen_push, chosen_set}
@@ -29,8 +29,8 @@ pub free_candidate : (t : ClassTable) (rows : List (List (List Bool))) (pattern 
 free_candidate t rows pattern c whole are = are.own (class_at t 0) (whole.classes 0 whole.some) ∙ ap (answer_in (get_or rows pattern [])) (first_leads t whole)
 
 -- there is a candidate
-pub numbers_within : {t : ClassTable} {row : List (List Bool)} {c : Candidates} {numbers : List ℕ} → AreCandidates t row c → numbers ≡ c.numbers → AreWithin numbers c.count
-numbers_within {c = c} are same = subst (λ (xs : List ℕ). AreWithin xs c.count) (sym same) (λ class h. omega (arith, are.within class (omega (arith, h, are.one_each)), are.count_is))
+pub numbers_within : {t : ClassTable} {row : List (List Bool)} {c : Candidates} {numbers : List ℕ} → AreCandidates t row c → numbers ≡ c.numbers → AreBelow numbers c.count
+numbers_within {c = c} are same = subst (λ (xs : List ℕ). AreBelow xs c.count) (sym same) (λ class h. omega (arith, are.within class (omega (arith, h, are.one_each)), are.count_is))
 
 pub some_candidate : (t : ClassTable) (row : List (List Bool)) (c : Candidates) → IsWhole t → AreCandidates t row c → 0 < length (candidates t row)
 some_candidate t row c whole are = omega (arith, are.within (class_at t 0) (whole.classes 0 whole.some))

@@ -10,7 +10,7 @@ use Rattle.std.proofs.lemmas.List.FromFn.{get_or-range_with_len, length-range_wi
 use Rattle.std.specs.Cmp.Derive.{one_truth}
 use Rattle.class_refine.proofs.Ranges.{range_ascends}
 use Rattle.samediff_dict.specs.declared.partition.Partition.{Partition}
-use Rattle.samediff_dict.specs.Groups.{AreWithin, AreGroups, InBoth, InBothAt, in_one, is_shared, gain_at, pairs_where, tells_apart, IsFoundAbove}
+use Rattle.samediff_dict.specs.Groups.{AreBelow, AreGroups, InBoth, InBothAt, in_one, is_shared, gain_at, pairs_where, tells_apart, IsFoundAbove}
 use Rattle.samediff_dict.specs.Partition.{group_in, are_together, together_in_both, TogetherAt, TogetherInBoth, AreMatched, IsListed, IsPartition, pairs_between}
 use Rattle.samediff_dict.proofs.PairLemmas.{pairs_to, pairs_are, pairs_same}
 use Rattle.samediff_dict.proofs.TallyLemmas.{pairs_all}
@@ -24,11 +24,11 @@ at_place xs x (k, h, e) = (k, h, get_or_default xs k 0 x h ∙ e)
 -- The listed classes are those at some places of another partition's list, each with a group below the count.
 pub record ArePicked (p r : Partition) (places : List ℕ) : Type 0 where
   pub ascending : AllPairs (λ low high. low < high) places
-  pub within : AreWithin places (length p.classes.items)
+  pub within : AreBelow places (length p.classes.items)
   pub long : length r.classes.items ≡ length places
   pub groups_long : length r.groups.group_of.items ≡ length places
   pub classes_are : (k : ℕ) → k < length places → get_or r.classes.items k 0 ≡ get_or p.classes.items (get_or places k 0) 0
-  pub groups_within : AreWithin r.groups.group_of.items r.groups.count
+  pub groups_within : AreBelow r.groups.group_of.items r.groups.count
 
 pub picked_listed : {n : ℕ} {p r : Partition} {places : List ℕ} → IsListed n p → ArePicked p r places → IsListed n r
 picked_listed {n} {p} {r} {places} listed are = record {

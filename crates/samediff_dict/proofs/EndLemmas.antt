@@ -9,7 +9,7 @@ use Rattle.samediff_dict.specs.Chosen.{candidates, improvement}
 use Rattle.samediff_dict.specs.Groups.{IsFirstAbove, NoneAbove, gain_at}
 use Rattle.samediff_dict.specs.Partition.{IsPartition, TogetherAt, together_in_both}
 use Rattle.samediff_dict.specs.Numbered.{AreCandidates, AlikeFrom, answers_base, baselines_at}
-use Rattle.samediff_dict.specs.Choice.{IsChosen, IsPartitionFrom, AreEnds, AreSomeEnds, AreStarts}
+use Rattle.samediff_dict.specs.Choice.{IsChosen, IsPartitionFrom, ArePartitionsBehind, AreSomeEnds, ArePartitionsBefore}
 use Rattle.samediff_dict.proofs.CandidateLemmas.{each_push, length-baselines, base_at, base_kept, baselines_set}
 use Rattle.samediff_dict.proofs.ChoiceLemmas.{whole_is, cut_first, cut_last}
 use Rattle.samediff_dict.proofs.SearchLemmas.{NoneBefore, none_at_all, none_here, found_at}
@@ -31,9 +31,9 @@ module _ (rows : List (List (List Bool))) (c : Choice) where
         };
       })
 
-  pub ends_more : (chosen : List ℕ) (end next : Partition) (ends new : List Partition) (last pattern m : ℕ) (numbers : List ℕ) (d : Candidates) → IsChosen rows c chosen → last < length chosen → AreEnds rows c chosen (last + 1) ends → pattern ≡ length chosen - 1 - last
+  pub ends_more : (chosen : List ℕ) (end next : Partition) (ends new : List Partition) (last pattern m : ℕ) (numbers : List ℕ) (d : Candidates) → IsChosen rows c chosen → last < length chosen → ArePartitionsBehind rows c chosen (last + 1) ends → pattern ≡ length chosen - 1 - last
       → AreCandidates c.classes.now (get_or rows pattern []) d → numbers ≡ d.numbers → end ≡ get_or ends last end
-      → IsPartition m (TogetherAt end numbers (get_or chosen pattern 0)) next → m ≡ class_count c.classes.now → new ≡ ends ++ next ∷ [] → AreEnds rows c chosen (last + 1 + 1) new
+      → IsPartition m (TogetherAt end numbers (get_or chosen pattern 0)) next → m ≡ class_count c.classes.now → new ≡ ends ++ next ∷ [] → ArePartitionsBehind rows c chosen (last + 1 + 1) new
   ends_more chosen end next ends new last pattern m numbers d chosen_is h so_far at are same is_end is e more =
       let t = c.classes.now in
       let up : length chosen - last ≡ pattern + 1 = omega (arith, at, h) in
@@ -43,13 +43,13 @@ module _ (rows : List (List (List Bool))) (c : Choice) where
       let here : IsPartitionFrom rows c chosen pattern (length chosen) next =
       cut_first t rows chosen pattern d end next m (omega (arith, at, h)) chosen_is.chosen_are are before
       (subst (λ (ys : List ℕ). IsPartition m (TogetherAt end ys (get_or chosen pattern 0)) next) same is) e in
-      subst (AreEnds rows c chosen (last + 1 + 1)) (sym more) (record {
+      subst (ArePartitionsBehind rows c chosen (last + 1 + 1)) (sym more) (record {
         count = omega (arith, length_push ends next, so_far.count);
         each = each_push (λ k p. IsPartitionFrom rows c chosen (length chosen - k) (length chosen) p) ends next (last + 1) so_far.count so_far.each (subst (λ k. IsPartitionFrom rows c chosen k (length chosen) next) down here);
       })
 
   -- those by the baselines behind a replaced one stay
-  pub ends_stay : (chosen : List ℕ) (ends : List Partition) (pattern answer : ℕ) → AreEnds rows c chosen (length chosen + 1) ends → pattern < length chosen → AreSomeEnds rows c (set chosen pattern answer) (take (length chosen - pattern) ends)
+  pub ends_stay : (chosen : List ℕ) (ends : List Partition) (pattern answer : ℕ) → ArePartitionsBehind rows c chosen (length chosen + 1) ends → pattern < length chosen → AreSomeEnds rows c (set chosen pattern answer) (take (length chosen - pattern) ends)
   ends_stay chosen ends pattern answer are h =
       let t = c.classes.now in
       let n = length chosen in
@@ -74,7 +74,7 @@ module _ (rows : List (List (List Bool))) (c : Choice) where
       }
 
   -- the partition by the baselines behind a pattern
-  pub end_at : (chosen : List ℕ) (ends : List Partition) (pattern : ℕ) (d : Partition) → AreEnds rows c chosen (length chosen + 1) ends → pattern < length chosen
+  pub end_at : (chosen : List ℕ) (ends : List Partition) (pattern : ℕ) (d : Partition) → ArePartitionsBehind rows c chosen (length chosen + 1) ends → pattern < length chosen
       → IsPartitionFrom rows c chosen (pattern + 1) (length chosen) (get_or ends (length chosen - 1 - pattern) d)
   end_at chosen ends pattern d are h =
       let up : length chosen - (length chosen - 1 - pattern) ≡ pattern + 1 = omega (arith, h) in
@@ -83,28 +83,28 @@ module _ (rows : List (List (List Bool))) (c : Choice) where
 -- ---- the partitions by the first baselines
 
 module _ (rows : List (List (List Bool))) (c : Choice) where
-  pub starts_none : (chosen : List ℕ) (whole : Partition) (starts : List Partition) (m : ℕ) → IsPartition m (λ _ _. Unit {0}) whole → m ≡ class_count c.classes.now → starts ≡ whole ∷ [] → AreStarts rows c chosen starts
+  pub starts_none : (chosen : List ℕ) (whole : Partition) (starts : List Partition) (m : ℕ) → IsPartition m (λ _ _. Unit {0}) whole → m ≡ class_count c.classes.now → starts ≡ whole ∷ [] → ArePartitionsBefore rows c chosen starts
   starts_none chosen whole starts m is e at =
-      subst (AreStarts rows c chosen) (sym at) (record {
+      subst (ArePartitionsBefore rows c chosen) (sym at) (record {
         some = omega arith;
         each = each_push (λ first p. IsPartitionFrom rows c chosen 0 first p) [] whole 0 refl (λ k d h. absurd (omega (arith, h))) (whole_is c.classes.now rows (baselines_at c.classes.now rows chosen) 0 m whole is e);
       })
 
-  pub starts_more : (chosen : List ℕ) (before next : Partition) (starts new : List Partition) (pattern m : ℕ) (numbers : List ℕ) (d : Candidates) → IsChosen rows c chosen → pattern < length chosen → AreStarts rows c chosen starts → length starts ≡ pattern + 1
+  pub starts_more : (chosen : List ℕ) (before next : Partition) (starts new : List Partition) (pattern m : ℕ) (numbers : List ℕ) (d : Candidates) → IsChosen rows c chosen → pattern < length chosen → ArePartitionsBefore rows c chosen starts → length starts ≡ pattern + 1
       → AreCandidates c.classes.now (get_or rows pattern []) d → numbers ≡ d.numbers → before ≡ get_or starts pattern before
-      → IsPartition m (TogetherAt before numbers (get_or chosen pattern 0)) next → m ≡ class_count c.classes.now → new ≡ starts ++ next ∷ [] → AreStarts rows c chosen new
+      → IsPartition m (TogetherAt before numbers (get_or chosen pattern 0)) next → m ≡ class_count c.classes.now → new ≡ starts ++ next ∷ [] → ArePartitionsBefore rows c chosen new
   starts_more chosen before next starts new pattern m numbers d chosen_is h so_far long are same is_before is e more =
       let old : IsPartitionFrom rows c chosen 0 pattern before = subst (λ p. IsPartitionFrom rows c chosen 0 pattern p) (sym is_before) (so_far.each pattern before (omega (arith, long))) in
       let here : IsPartitionFrom rows c chosen 0 (pattern + 1) next =
       cut_last c.classes.now rows chosen pattern d before next m h chosen_is.chosen_are are old (subst (λ (ys : List ℕ). IsPartition m (TogetherAt before ys (get_or chosen pattern 0)) next) same is) e in
       let wide = length_push starts next in
-      subst (AreStarts rows c chosen) (sym more) (record {
+      subst (ArePartitionsBefore rows c chosen) (sym more) (record {
         some = omega (arith, wide);
         each = λ k x low. each_push (λ first p. IsPartitionFrom rows c chosen 0 first p) starts next (pattern + 1) long (λ j y l. so_far.each j y (omega (arith, l, long))) here k x (omega (arith, low, wide, long));
       })
 
   -- those by the baselines before a replaced one stay
-  pub starts_stay : (chosen : List ℕ) (starts : List Partition) (pattern answer : ℕ) → AreStarts rows c chosen starts → pattern < length chosen → AreStarts rows c (set chosen pattern answer) (take (pattern + 1) starts)
+  pub starts_stay : (chosen : List ℕ) (starts : List Partition) (pattern answer : ℕ) → ArePartitionsBefore rows c chosen starts → pattern < length chosen → ArePartitionsBefore rows c (set chosen pattern answer) (take (pattern + 1) starts)
   starts_stay chosen starts pattern answer are h =
       let t = c.classes.now in
       let bases = baselines_at t rows chosen in

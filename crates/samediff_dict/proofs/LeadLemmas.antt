@@ -12,7 +12,7 @@ use Rattle.table_dicts.specs.AnswerTable.{Answers, answer_in, answer_to}
 use Rattle.samediff_dict.specs.declared.numbering.Candidates.{Candidates}
 use Rattle.samediff_dict.specs.Chosen.{candidates}
 use Rattle.samediff_dict.specs.Copied.{HasClass, HaveClasses, IsLead, AreLeads, AreWanted}
-use Rattle.samediff_dict.specs.Numbered.{AreNumbered, baselines_at}
+use Rattle.samediff_dict.specs.Numbered.{HaveCandidates, baselines_at}
 use Rattle.samediff_dict.proofs.CandidateLemmas.{none, base_at}
 use Rattle.samediff_dict.proofs.MadeLemmas.{length-range}
 
@@ -53,7 +53,7 @@ leads_in_range {t} patterns chosen {count} {leads} first end are k d inside h =
     subst (λ (c : Candidates). IsLead t c (get_or chosen (first + k) 0) (get_or leads k 0)) (range_at patterns first end k d inside)
     (subst (λ number. IsLead t (get_or (slice_range patterns first end) k d) number (get_or leads k 0)) (range_at chosen first end k 0 inside) (are.each k d h))
 
-module _ (t : ClassTable) (rows : List (List (List Bool))) (patterns : List Candidates) (chosen : List ℕ) (numbered : AreNumbered t rows patterns) (long : length chosen ≡ length rows) where
+module _ (t : ClassTable) (rows : List (List (List Bool))) (patterns : List Candidates) (chosen : List ℕ) (numbered : HaveCandidates t rows patterns) (long : length chosen ≡ length rows) where
   -- such a number answers the baseline
   pub lead_answers : (pattern lead : ℕ) → pattern < length rows → ((d : Candidates) → IsLead t (get_or patterns pattern d) (get_or chosen pattern 0) lead) → answer_in (get_or rows pattern []) lead ≡ row_at (baselines_at t rows chosen) pattern
   lead_answers pattern lead h all =

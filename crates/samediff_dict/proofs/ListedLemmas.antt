@@ -7,7 +7,7 @@ use Rattle.std.proofs.lemmas.Bool.{cases_eq, cases_lt, eqb-true, eq-eqb, ne_eqb,
 use Rattle.std.proofs.lemmas.List.{get_or_default, get_or_past}
 use Rattle.std.proofs.lemmas.List.Sums.{position_or_len_is, passes_at_first}
 use Rattle.samediff_dict.specs.declared.partition.Partition.{Partition}
-use Rattle.samediff_dict.specs.Groups.{AreWithin, gain_at, in_one, tells_apart}
+use Rattle.samediff_dict.specs.Groups.{AreBelow, gain_at, in_one, tells_apart}
 use Rattle.samediff_dict.specs.Partition.{group_in, are_together, IsListed, IsPartition}
 use Rattle.samediff_dict.proofs.PairLemmas.{sum_to, sum_to-zero, one_if, pairs_to, pairs_are, pairs_same}
 
@@ -92,11 +92,11 @@ pairs_risen at p (suc many) (suc limit) rises lows highs = elim (cases_eq (at ma
       omega (arith, before, sum_to-zero (λ low. one_if (p low limit)) limit (λ low h. ap one_if (highs low limit h (omega arith) missed)))
 ]
 
-rises : (xs : List ℕ) (limit : ℕ) → AllPairs (λ low high. low < high) xs → AreWithin xs limit → Rises (λ k. get_or xs k 0) (length xs) limit
+rises : (xs : List ℕ) (limit : ℕ) → AllPairs (λ low high. low < high) xs → AreBelow xs limit → Rises (λ k. get_or xs k 0) (length xs) limit
 rises xs limit up below = record { up = λ i j l h. up i j 0 l h; below = below }
 
 -- ascending numbers below a limit are no more than the limit
-pub ascending_few : (xs : List ℕ) (limit : ℕ) → AllPairs (λ low high. low < high) xs → AreWithin xs limit → length xs ≤ limit
+pub ascending_few : (xs : List ℕ) (limit : ℕ) → AllPairs (λ low high. low < high) xs → AreBelow xs limit → length xs ≤ limit
 ascending_few xs limit up below = few_rise (λ k. get_or xs k 0) (length xs) limit (rises xs limit up below)
 
 -- ---- the places of classes

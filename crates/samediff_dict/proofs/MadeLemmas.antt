@@ -27,7 +27,7 @@ use Rattle.table_dicts.proofs.OneTable.{one_answers}
 use Rattle.samediff_dict.specs.declared.numbering.Candidates.{Candidates}
 use Rattle.samediff_dict.specs.Setting.{AreAnswersOfNumbers}
 use Rattle.samediff_dict.specs.Copied.{HaveClasses, class_entry}
-use Rattle.samediff_dict.specs.Numbered.{AnswerAlike, AreNumbersOf, AreAdded, AreCandidates, AreNumbered, AreChosen, baselines_at, class_answers}
+use Rattle.samediff_dict.specs.Numbered.{AnswerAlike, AreNumbersOf, AreAdded, AreCandidates, HaveCandidates, AreChosen, baselines_at, class_answers}
 use Rattle.samediff_dict.proofs.CandidateLemmas.{candidates_of_numbers, some_class}
 use Rattle.samediff_dict.proofs.ChoiceLemmas.{base_is}
 use Rattle.samediff_dict.proofs.DifferingLemmas.{length-class_entry, class_entry_at}
@@ -141,12 +141,12 @@ numbered_more {t} {rows} {table} {leads} {first} {old} {new} end sum answers so_
   ];
 }
 
-pub numbered_all : {t : ClassTable} {rows : List (List (List Bool))} {done : ℕ} {patterns : List Candidates} → AreNumberedTo t rows done patterns → done ≡ length rows → AreNumbered t rows patterns
+pub numbered_all : {t : ClassTable} {rows : List (List (List Bool))} {done : ℕ} {patterns : List Candidates} → AreNumberedTo t rows done patterns → done ≡ length rows → HaveCandidates t rows patterns
 numbered_all so_far all = record { count = so_far.count ∙ all; each = λ pattern d h. so_far.each pattern d (omega (arith, h, all)) }
 
 -- ---- what is chosen among them
 
-module _ (t : ClassTable) (rows : List (List (List Bool))) (patterns : List Candidates) (chosen : List ℕ) (numbered : AreNumbered t rows patterns) (long : length chosen ≡ length rows) (are_chosen : AreChosen t rows chosen) where
+module _ (t : ClassTable) (rows : List (List (List Bool))) (patterns : List Candidates) (chosen : List ℕ) (numbered : HaveCandidates t rows patterns) (long : length chosen ≡ length rows) (are_chosen : AreChosen t rows chosen) where
   pub have_classes : HaveClasses (class_count t) patterns chosen
   have_classes = record {
     count = numbered.count ∙ sym long;
@@ -157,7 +157,7 @@ module _ (t : ClassTable) (rows : List (List (List Bool))) (patterns : List Cand
 
 -- ---- entries
 
-module _ (k : ClassTable) (t : Answers) (patterns : List Candidates) (chosen : List ℕ) (numbered : AreNumbered k t.rows patterns) (long : length chosen ≡ length t.rows) (are_chosen : AreChosen k t.rows chosen)
+module _ (k : ClassTable) (t : Answers) (patterns : List Candidates) (chosen : List ℕ) (numbered : HaveCandidates k t.rows patterns) (long : length chosen ≡ length t.rows) (are_chosen : AreChosen k t.rows chosen)
     (baselines : AreRows (length t.rows) t.positions (baselines_at k t.rows chosen)) where
   -- no candidates
   abbrev none : Candidates

@@ -8,7 +8,7 @@ use Rattle.std.proofs.lemmas.Bool.{cases_eq, cases_lt}
 use Rattle.std.proofs.lemmas.List.{length_push, get_or_append_left, get_or_push, get_or_default}
 use Rattle.std.proofs.lemmas.List.Quantifiers.{all_pairs_push}
 use Rattle.std.proofs.lemmas.List.Sorted.{searched}
-use Rattle.samediff_dict.specs.Groups.{AreWithin}
+use Rattle.samediff_dict.specs.Groups.{AreBelow}
 use Rattle.samediff_dict.specs.Partition.{AreMatched}
 
 ascending_up : (xs : List ℕ) → AllPairs (λ low high. low < high) xs → (i j : ℕ) → i ≤ j → j < length xs → get_or xs i 0 ≤ get_or xs j 0
@@ -54,7 +54,7 @@ matched_without numbers others here there place are none = record {
   ];
 }
 
-push_within : (xs : List ℕ) (x limit : ℕ) → AreWithin xs limit → x < limit → AreWithin (xs ++ x ∷ []) limit
+push_within : (xs : List ℕ) (x limit : ℕ) → AreBelow xs limit → x < limit → AreBelow (xs ++ x ∷ []) limit
 push_within xs x limit within h k l = elim (cases_lt k (length xs)) [
   | inl low ↦ omega (arith, get_or_append_left xs (x ∷ []) 0 k low, within k low)
   | inr over ↦ let e : length xs ≡ k = omega (arith, over, l, length_push xs x) in omega (arith, get_or_push xs x 0 k e, h)

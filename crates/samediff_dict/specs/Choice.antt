@@ -7,7 +7,7 @@ use Rattle.samediff_dict.specs.declared.choosing.Choice.{Choice}
 use Rattle.samediff_dict.specs.declared.improving.Replacement.{Replacement}
 use Rattle.samediff_dict.specs.Chosen.{candidates, improvement}
 use Rattle.samediff_dict.specs.Partition.{IsPartition}
-use Rattle.samediff_dict.specs.Numbered.{AreNumbered, AreChosen, AlikeFrom, baselines_at}
+use Rattle.samediff_dict.specs.Numbered.{HaveCandidates, AreChosen, AlikeFrom, baselines_at}
 
 module _ (rows : List (List (List Bool))) (c : Choice) where
   -- The candidates of each pattern are numbered.
@@ -15,7 +15,7 @@ module _ (rows : List (List (List Bool))) (c : Choice) where
     pub whole : IsWhole c.classes.now
     pub count_is : c.count ≡ class_count c.classes.now
     pub few : c.count < 2 ^ 32
-    pub numbered : AreNumbered c.classes.now rows c.patterns.now
+    pub numbered : HaveCandidates c.classes.now rows c.patterns.now
 
   module _ (chosen : List ℕ) where
     -- There is the number of a candidate for each pattern.
@@ -28,7 +28,7 @@ module _ (rows : List (List (List Bool))) (c : Choice) where
     IsPartitionFrom first end p = IsPartition (class_count c.classes.now) (AlikeFrom c.classes.now rows (baselines_at c.classes.now rows chosen) first end) p
 
     -- There is a partition by the last patterns for each count of them below a limit.
-    pub record AreEnds (limit : ℕ) (ends : List Partition) : Type 0 where
+    pub record ArePartitionsBehind (limit : ℕ) (ends : List Partition) : Type 0 where
       pub count : length ends ≡ limit
       pub each : (last : ℕ) (d : Partition) → last < limit → IsPartitionFrom (length chosen - last) (length chosen) (slice_index_or ends last d)
 
@@ -36,10 +36,10 @@ module _ (rows : List (List (List Bool))) (c : Choice) where
     pub record AreSomeEnds (ends : List Partition) : Type 0 where
       pub some : 0 < length ends
       pub few : length ends ≤ length chosen + 1
-      pub are : AreEnds (length ends) ends
+      pub are : ArePartitionsBehind (length ends) ends
 
     -- There are partitions by the first patterns for some counts of them, from none on.
-    pub record AreStarts (starts : List Partition) : Type 0 where
+    pub record ArePartitionsBefore (starts : List Partition) : Type 0 where
       pub some : 0 < length starts
       pub each : (first : ℕ) (d : Partition) → first < length starts → IsPartitionFrom 0 first (slice_index_or starts first d)
 

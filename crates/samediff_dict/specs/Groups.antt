@@ -4,29 +4,29 @@ use Rattle.std.specs.Bool.{beq}
 use Rattle.std.specs.List.{range_with_len}
 
 -- Each of the numbers is below the limit.
-abbrev pub AreWithin : List ℕ → ℕ → Type 0
-AreWithin numbers limit = (place : ℕ) → place < length numbers → slice_index numbers place < limit
+abbrev pub AreBelow : List ℕ → ℕ → Type 0
+AreBelow numbers limit = (place : ℕ) → place < length numbers → slice_index numbers place < limit
 
 -- two places have the same number in a list, in two lists, and against one number
-abbrev pub AreAlike : List ℕ → ℕ → ℕ → Type 0
-AreAlike numbers low high = slice_index numbers low ≡ slice_index numbers high
+abbrev pub HaveSameNumber : List ℕ → ℕ → ℕ → Type 0
+HaveSameNumber numbers low high = slice_index numbers low ≡ slice_index numbers high
 
 abbrev pub InBoth : List ℕ → List ℕ → ℕ → ℕ → Type 0
-InBoth left right low high = AreAlike left low high × AreAlike right low high
+InBoth left right low high = HaveSameNumber left low high × HaveSameNumber right low high
 
-abbrev pub AreAlikeAt : List ℕ → ℕ → ℕ → ℕ → Type 0
-AreAlikeAt numbers number low high = (slice_index numbers low == number) ≡ (slice_index numbers high == number)
+abbrev pub HaveOrLackNumber : List ℕ → ℕ → ℕ → ℕ → Type 0
+HaveOrLackNumber numbers number low high = (slice_index numbers low == number) ≡ (slice_index numbers high == number)
 
 abbrev pub InBothAt : List ℕ → List ℕ → ℕ → ℕ → ℕ → Type 0
-InBothAt left right number low high = AreAlike left low high × AreAlikeAt right number low high
+InBothAt left right number low high = HaveSameNumber left low high × HaveOrLackNumber right number low high
 
 -- There is a group for each of so many places, below the count of groups, and two places are in one group exactly where they
 -- are together.
 pub record AreGroups (places : ℕ) (together : ℕ → ℕ → Type 0) (group_of : List ℕ) (count : ℕ) : Type 0 where
   pub one_each : length group_of ≡ places
-  pub within : AreWithin group_of count
-  pub same : (low high : ℕ) → low < places → high < places → together low high → AreAlike group_of low high
-  pub together_are : (low high : ℕ) → low < places → high < places → AreAlike group_of low high → together low high
+  pub within : AreBelow group_of count
+  pub same : (low high : ℕ) → low < places → high < places → together low high → HaveSameNumber group_of low high
+  pub together_are : (low high : ℕ) → low < places → high < places → HaveSameNumber group_of low high → together low high
 
 -- how many of the first places are in a group
 abbrev pub size_to : List ℕ → ℕ → ℕ → ℕ

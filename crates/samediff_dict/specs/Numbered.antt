@@ -40,7 +40,7 @@ pub record AreCandidates (t : ClassTable) (row : List (List Bool)) (c : Candidat
   pub own : (class : ℕ) → class < class_count t → row_at (candidates t row) (slice_index c.numbers class) ≡ answer_in row (representative t class)
 
 -- There are candidates for each pattern.
-pub record AreNumbered (t : ClassTable) (rows : List (List (List Bool))) (patterns : List Candidates) : Type 0 where
+pub record HaveCandidates (t : ClassTable) (rows : List (List (List Bool))) (patterns : List Candidates) : Type 0 where
   pub count : length patterns ≡ length rows
   pub each : (pattern : ℕ) (d : Candidates) → pattern < length rows → AreCandidates t (slice_index_or rows pattern []) (slice_index_or patterns pattern d)
 

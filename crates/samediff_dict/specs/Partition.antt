@@ -3,7 +3,7 @@ use Rattle.std.specs.Prelude.{◌≡◌, ℕ, ◌+◌, ◌<◌, ◌==◌, ◌&&�
 use Rattle.std.specs.List.{position_or_len}
 use Rattle.samediff_dict.specs.declared.partition.Partition.{Partition}
 use Rattle.samediff_dict.specs.declared.groups.Groups.{Groups}
-use Rattle.samediff_dict.specs.Groups.{AreWithin, AreAlikeAt, pairs_where, shared_places}
+use Rattle.samediff_dict.specs.Groups.{AreBelow, HaveOrLackNumber, pairs_where, shared_places}
 
 -- the group of a class. One that isn't listed has a group of its own behind those of the others.
 unfoldable pub group_in : Partition → ℕ → ℕ
@@ -17,7 +17,7 @@ abbrev pub TogetherInBoth : Partition → Partition → ℕ → ℕ → Type 0
 TogetherInBoth p q low high = AreTogether p low high × AreTogether q low high
 
 abbrev pub TogetherAt : Partition → List ℕ → ℕ → ℕ → ℕ → Type 0
-TogetherAt p numbers number low high = AreTogether p low high × AreAlikeAt numbers number low high
+TogetherAt p numbers number low high = AreTogether p low high × HaveOrLackNumber numbers number low high
 
 -- whether two classes are together in a partition, and in two
 abbrev pub are_together : Partition → ℕ → ℕ → Bool
@@ -30,8 +30,8 @@ together_in_both p q low high = are_together p low high && are_together q low hi
 pub record IsListed (classes : ℕ) (p : Partition) : Type 0 where
   pub one_each : length p.groups.group_of.items ≡ length p.classes.items
   pub ascending : AllPairs (λ low high. low < high) p.classes.items
-  pub below : AreWithin p.classes.items classes
-  pub within : AreWithin p.groups.group_of.items p.groups.count
+  pub below : AreBelow p.classes.items classes
+  pub within : AreBelow p.groups.group_of.items p.groups.count
 
 -- Of so many classes two are in one group exactly where they are together.
 pub record IsPartition (classes : ℕ) (together : ℕ → ℕ → Type 0) (p : Partition) : Type 0 where
@@ -55,7 +55,7 @@ pairs_between classes together = pairs_where classes (λ low high. not (together
 pub record AreMatched (numbers others : List ℕ) (first : ℕ) (here there : List ℕ) : Type 0 where
   pub one_each : length there ≡ length here
   pub ascending : AllPairs (λ low high. low < high) here
-  pub within : AreWithin here first
-  pub there_within : AreWithin there (length others)
+  pub within : AreBelow here first
+  pub there_within : AreBelow there (length others)
   pub equal : (k : ℕ) → k < length here → slice_index numbers (slice_index here k) ≡ slice_index others (slice_index there k)
   pub complete : (place : ℕ) → place < first → Contains others (slice_index numbers place) → Contains here place

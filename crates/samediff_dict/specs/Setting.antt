@@ -4,7 +4,7 @@ use Rattle.table_dicts.specs.declared.setting.Setting.{Setting}
 use Rattle.table_dicts.specs.AnswerTable.{Answers, HasSizes, answer_to}
 use Rattle.table_dicts.specs.Setting.{IsSetting, AreAnswersAt}
 use Rattle.samediff_dict.specs.declared.numbering.Candidates.{Candidates}
-use Rattle.samediff_dict.specs.Numbered.{AreNumbered, AreChosen}
+use Rattle.samediff_dict.specs.Numbered.{HaveCandidates, AreChosen}
 
 -- The table has what each of these numbers answers to the patterns in a range.
 pub record AreAnswersOfNumbers (s : Setting) (numbers : List ℕ) (first end : ℕ) (table : Answers) : Type 0 where
@@ -15,6 +15,6 @@ pub record AreAnswersOfNumbers (s : Setting) (numbers : List ℕ) (first end : �
 pub record AreChosenOf (s : Setting) (t : Answers) (patterns : List Candidates) (chosen : List ℕ) : Type 0 where
   pub setting : IsSetting s
   pub answers : AreAnswersAt s t
-  pub numbered : AreNumbered s.classes.now t.rows patterns
+  pub numbered : HaveCandidates s.classes.now t.rows patterns
   pub one_each : length chosen ≡ length t.rows
   pub chosen_are : AreChosen s.classes.now t.rows chosen

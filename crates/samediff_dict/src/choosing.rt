@@ -4,7 +4,7 @@ ghost use Rattle.std.specs.Prelude.{◌≡◌, ◌<◌, Bool, List, length, slic
 ghost use Rattle.net_model.specs.ClassTable.{class_count};
 ghost use Rattle.table_dicts.specs.Entries.{free_baselines};
 ghost use Rattle.samediff_dict.specs.Chosen.{pairs_apart, greedy_baselines, better_baselines, chosen_baselines};
-ghost use Rattle.samediff_dict.specs.Numbered.{AreNumbered, HasBaselines, baselines_at};
+ghost use Rattle.samediff_dict.specs.Numbered.{HaveCandidates, HasBaselines, baselines_at};
 ghost use Rattle.samediff_dict.specs.Choice.{IsChoice, IsChosen};
 ghost use Rattle.samediff_dict.specs.Groups.{IsFirstMost, gain_at};
 ghost use Rattle.samediff_dict.specs.Partition.{IsListed, IsPartition, TogetherAt, are_together};
@@ -22,7 +22,7 @@ pub(crate) fn choose_numbers(
     patterns: &[Candidates],
 ) -> Result<Vec<u32>, AllocError>
     ghost rows: { List (List (List Bool)) }
-    requires { AreNumbered classes.now rows patterns.now }
+    requires { HaveCandidates classes.now rows patterns.now }
     ensures { IfOk result (λ chosen. HasBaselines classes.now rows chosen.items (chosen_baselines classes.now rows)) }
 {
     let choice = Choice {

@@ -4,7 +4,7 @@ ghost use Rattle.std.specs.Prelude.{◌≡◌, ◌+◌, ◌<◌, ◌≤◌, ℕ,
 ghost use Rattle.net_model.specs.ClassTable.{class_count};
 ghost use Rattle.table_dicts.specs.Rows.{AreRows, AreRowsBegun};
 ghost use Rattle.samediff_dict.specs.Chosen.{chosen_baselines};
-ghost use Rattle.samediff_dict.specs.Numbered.{AnswerAlike, AreNumbered};
+ghost use Rattle.samediff_dict.specs.Numbered.{AnswerAlike, HaveCandidates};
 ghost use Rattle.samediff_dict.specs.Copied.{HaveClasses, AreLeads, AreWanted};
 
 use crate::choosing::choose_numbers;
@@ -41,7 +41,7 @@ fn chosen_rows(
     ghost rows: { List (List (List Bool)) }
     requires rows { rows ≡ table.now.rows }
     requires numbers { length classes.now.class_of ≡ table.now.numbers }
-    requires numbered { AreNumbered classes.now rows patterns.now }
+    requires numbered { HaveCandidates classes.now rows patterns.now }
     ensures chosen { IfOk result (λ baselines. baselines ≡ chosen_baselines classes.now rows) }
     ensures shape { IfOk result (AreRows (length rows) table.now.positions) }
 {

@@ -1,7 +1,7 @@
 //! How many pairs of classes each candidate tells apart.
 
 ghost use Rattle.std.specs.Prelude.{◌≡◌, ◌<◌, ◌^◌, length, IfOk, slice_index};
-ghost use Rattle.samediff_dict.specs.Groups.{AreWithin, AreGains, AreGroups, InBoth, IsTallyOf, gain_at, in_one, IsFirstMost, IsFoundAbove};
+ghost use Rattle.samediff_dict.specs.Groups.{AreBelow, AreGains, AreGroups, InBoth, IsTallyOf, gain_at, in_one, IsFirstMost, IsFoundAbove};
 ghost use Rattle.samediff_dict.specs.Partition.{IsListed, are_together};
 
 use crate::groups::{Groups, Tally};
@@ -18,8 +18,8 @@ impl Groups {
     ) -> Result<Vec<u64>, AllocError>
         requires long { length answers.now ≡ length self.now.group_of.items }
         requires few { length answers.now < 2 ^ 32 }
-        requires within { AreWithin self.now.group_of.items self.now.count }
-        requires known { AreWithin answers.now candidates }
+        requires within { AreBelow self.now.group_of.items self.now.count }
+        requires known { AreBelow answers.now candidates }
         ensures { IfOk result (λ gains. AreGains (in_one self.now.group_of.items) answers.now candidates gains.items) }
     {
         let cells = self.meet(alloc, answers)?;
@@ -40,8 +40,8 @@ impl Groups {
     ) -> Result<Vec<u64>, AllocError>
         requires long { length answers.now ≡ length self.now.group_of.items }
         requires few { length answers.now < 2 ^ 32 }
-        requires within { AreWithin self.now.group_of.items self.now.count }
-        requires known { AreWithin answers.now candidates }
+        requires within { AreBelow self.now.group_of.items self.now.count }
+        requires known { AreBelow answers.now candidates }
         requires cells { AreGroups (length answers.now) (InBoth self.now.group_of.items answers.now) cells.now.group_of.items cells.now.count }
         requires all { IsTallyOf self.now.group_of.items self.now.count all.now.sizes.items all.now.together }
         requires alike { IsTallyOf cells.now.group_of.items cells.now.count alike.now.sizes.items alike.now.together }
@@ -71,7 +71,7 @@ impl Partition {
     ) -> Result<u32, AllocError>
         requires listed { IsListed (length answers.now) self.now }
         requires few { length answers.now < 2 ^ 32 }
-        requires known { AreWithin answers.now candidates }
+        requires known { AreBelow answers.now candidates }
         requires some { 0 < candidates }
         ensures { IfOk result (IsFirstMost (gain_at (are_together self.now) answers.now) candidates) }
     {
@@ -89,7 +89,7 @@ impl Partition {
     ) -> Result<Option<u32>, AllocError>
         requires listed { IsListed (length answers.now) self.now }
         requires few { length answers.now < 2 ^ 32 }
-        requires known { AreWithin answers.now candidates }
+        requires known { AreBelow answers.now candidates }
         requires current { current < candidates }
         ensures { IfOk result (IsFoundAbove (gain_at (are_together self.now) answers.now) candidates current) }
     {
@@ -107,7 +107,7 @@ impl Partition {
     fn gains(&self, alloc: Global, answers: &[u32], candidates: u32) -> Result<Vec<u64>, AllocError>
         requires listed { IsListed (length answers.now) self.now }
         requires few { length answers.now < 2 ^ 32 }
-        requires known { AreWithin answers.now candidates }
+        requires known { AreBelow answers.now candidates }
         ensures { IfOk result (λ gains. AreGains (are_together self.now) answers.now candidates gains.items) }
     {
         let own_answers = picked(alloc, answers, self.classes.as_slice())?;
@@ -119,7 +119,7 @@ impl Partition {
 // The size of the group of a place.
 pub(crate) fn size_of(groups: &[u32], sizes: &[u32], place: usize) -> u32
     requires place { place < length groups.now }
-    requires within { AreWithin groups.now (length sizes.now) }
+    requires within { AreBelow groups.now (length sizes.now) }
     ensures { result ≡ slice_index sizes.now (slice_index groups.now place) }
 {
     sizes[groups[place] as usize]

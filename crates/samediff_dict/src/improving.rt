@@ -4,7 +4,7 @@ ghost use Rattle.std.specs.Prelude.{◌≡◌, ◌+◌, ◌<◌, ◌++◌, ◌�
 ghost use Rattle.net_model.specs.ClassTable.{class_count};
 ghost use Rattle.samediff_dict.specs.Chosen.{better_baselines, candidates, improvement, chosen_baselines};
 ghost use Rattle.samediff_dict.specs.Numbered.{HasBaselines, baselines_at};
-ghost use Rattle.samediff_dict.specs.Choice.{IsChoice, IsChosen, AreEnds, AreSomeEnds, AreStarts, IsFirstBetter};
+ghost use Rattle.samediff_dict.specs.Choice.{IsChoice, IsChosen, ArePartitionsBehind, AreSomeEnds, ArePartitionsBefore, IsFirstBetter};
 ghost use Rattle.samediff_dict.specs.Partition.{IsListed, IsPartition, TogetherAt, together_in_both};
 ghost use Rattle.samediff_dict.specs.Groups.{IsFoundAbove, gain_at};
 ghost use Rattle.samediff_dict.specs.declared.numbering.Candidates.{Candidates};
@@ -39,7 +39,7 @@ impl Choice<'_> {
         ghost rows: { List (List (List Bool)) }
         requires { IsChoice rows self.now }
         ensures ends { IfOk result (λ begun. AreSomeEnds rows self.now chosen.now begun.items) }
-        ensures starts { IfOk result (λ begun. AreStarts rows self.now chosen.now begun.items) }
+        ensures starts { IfOk result (λ begun. ArePartitionsBefore rows self.now chosen.now begun.items) }
     {
         let mut begun = Vec::with_capacity(alloc, chosen.len() + 1)?;
         begun.push(Partition::whole(alloc, self.count)?)?;
@@ -59,7 +59,7 @@ impl Choice<'_> {
         requires choice { IsChoice rows self.now }
         requires better { HasBaselines self.now.classes.now rows chosen.old (better_baselines self.now.classes.now rows) }
         requires ends { AreSomeEnds rows self.now chosen.old ends.old.items }
-        requires starts { AreStarts rows self.now chosen.old starts.old.items }
+        requires starts { ArePartitionsBefore rows self.now chosen.old starts.old.items }
         ensures { OnOk result (HasBaselines self.now.classes.now rows chosen.new (chosen_baselines self.now.classes.now rows)) }
     {
         'replacing: loop {
@@ -85,10 +85,10 @@ impl Choice<'_> {
         ghost rows: { List (List (List Bool)) }
         requires choice { IsChoice rows self.now }
         requires chosen { IsChosen rows self.now chosen.now }
-        requires ends { AreEnds rows self.now chosen.now (length chosen.now + 1) ends.now }
-        requires starts { AreStarts rows self.now chosen.now starts.old.items }
+        requires ends { ArePartitionsBehind rows self.now chosen.now (length chosen.now + 1) ends.now }
+        requires starts { ArePartitionsBefore rows self.now chosen.now starts.old.items }
         ensures found { IfOk result (λ found. MatchOption found (improvement self.now.classes.now rows (baselines_at self.now.classes.now rows chosen.now) ≡ None) (IsFirstBetter rows self.now chosen.now)) }
-        ensures starts { OnOk result (AreStarts rows self.now chosen.now starts.new.items) }
+        ensures starts { OnOk result (ArePartitionsBefore rows self.now chosen.now starts.new.items) }
     {
         for pattern in 0..chosen.len() {
             let end = &ends[chosen.len() - 1 - pattern];
@@ -135,7 +135,7 @@ impl Choice<'_> {
         requires choice { IsChoice rows self.now }
         requires chosen { IsChosen rows self.now chosen.now }
         requires some { AreSomeEnds rows self.now chosen.now ends.old.items }
-        ensures { OnOk result (AreEnds rows self.now chosen.now (length chosen.now + 1) ends.new.items) }
+        ensures { OnOk result (ArePartitionsBehind rows self.now chosen.now (length chosen.now + 1) ends.new.items) }
     {
         for last in ends.len() - 1..chosen.len() {
             let pattern = chosen.len() - 1 - last;
@@ -157,9 +157,9 @@ impl Choice<'_> {
         requires chosen { IsChosen rows self.now chosen.now }
         requires pattern { pattern < length chosen.now }
         requires before { pattern < length starts.old.items }
-        requires starts { AreStarts rows self.now chosen.now starts.old.items }
+        requires starts { ArePartitionsBefore rows self.now chosen.now starts.old.items }
         ensures there { OnOk result (pattern + 1 < length starts.new.items) }
-        ensures starts { OnOk result (AreStarts rows self.now chosen.now starts.new.items) }
+        ensures starts { OnOk result (ArePartitionsBefore rows self.now chosen.now starts.new.items) }
     {
         if pattern + 1 < starts.len() {
             return Ok(());

@@ -5,7 +5,7 @@ ghost use Rattle.table_dicts.specs.Setting.{IsSetting, AreAnswersAt};
 ghost use Rattle.table_dicts.specs.AnswerTable.{Answers};
 ghost use Rattle.table_dicts.specs.Dictionary.{IsSameDiff};
 ghost use Rattle.samediff_dict.specs.Chosen.{chosen_baselines};
-ghost use Rattle.samediff_dict.specs.Numbered.{AreNumbered, HasBaselines};
+ghost use Rattle.samediff_dict.specs.Numbered.{HaveCandidates, HasBaselines};
 
 use crate::choosing::choose_numbers;
 use crate::differing::class_entries;
@@ -30,7 +30,7 @@ fn dict_among(alloc: Global, setting: &Setting, patterns: &[Candidates]) -> Resu
     ghost t: { Answers }
     requires setting { IsSetting setting.now }
     requires answers { AreAnswersAt setting.now t }
-    requires numbered { AreNumbered setting.now.classes.now t.rows patterns.now }
+    requires numbered { HaveCandidates setting.now.classes.now t.rows patterns.now }
     ensures { IfOk result (IsSameDiff t (chosen_baselines setting.now.classes.now t.rows)) }
 {
     let chosen = choose_numbers(alloc, setting.classes, patterns)?;
@@ -47,7 +47,7 @@ fn dict_with(
     ghost t: { Answers }
     requires setting { IsSetting setting.now }
     requires answers { AreAnswersAt setting.now t }
-    requires numbered { AreNumbered setting.now.classes.now t.rows patterns.now }
+    requires numbered { HaveCandidates setting.now.classes.now t.rows patterns.now }
     requires chosen { HasBaselines setting.now.classes.now t.rows chosen.now (chosen_baselines setting.now.classes.now t.rows) }
     ensures { IfOk result (IsSameDiff t (chosen_baselines setting.now.classes.now t.rows)) }
 {

@@ -3,7 +3,7 @@
 ghost use Rattle.net_model.specs.ClassTable.{class_count, representative};
 ghost use Rattle.net_model.specs.FaultList.{fault_count};
 ghost use Rattle.net_model.specs.Rows.{row_at};
-ghost use Rattle.samediff_dict.specs.Numbered.{AreNumbered, baselines_at};
+ghost use Rattle.samediff_dict.specs.Numbered.{HaveCandidates, baselines_at};
 ghost use Rattle.samediff_dict.specs.Setting.{AreAnswersOfNumbers, AreChosenOf};
 ghost use Rattle.std.specs.List.{range_with_len};
 ghost use Rattle.std.specs.Prelude.{◌≡◌, ◌+◌, ◌-◌, ◌<◌, ◌≤◌, ◌^◌, ℕ, length, map, All, IfOk, OnOk};
@@ -25,7 +25,7 @@ const MOST_BITS: u64 = 1 << 30;
 /// The candidates of each pattern.
 pub(crate) fn candidates(alloc: Global, setting: &Setting) -> Result<Vec<Candidates>, AllocError>
     requires { IsSetting setting.now }
-    ensures { IfOk result (λ patterns. (t : Answers) → AreAnswersAt setting.now t → AreNumbered setting.now.classes.now t.rows patterns.items) }
+    ensures { IfOk result (λ patterns. (t : Answers) → AreAnswersAt setting.now t → HaveCandidates setting.now.classes.now t.rows patterns.items) }
 {
     let lowest = representatives(alloc, setting.classes)?;
     let leads = first_numbers(alloc, setting.classes.count())?;
@@ -43,7 +43,7 @@ fn candidates_of(
     requires lowest { lowest.now ≡ map (representative setting.now.classes.now) (range_with_len 0 (class_count setting.now.classes.now)) }
     requires within { All (λ number. number < fault_count setting.now.circuit.now) lowest.now }
     requires leads { leads.now ≡ range_with_len 0 (class_count setting.now.classes.now) }
-    ensures { IfOk result (λ patterns. (t : Answers) → AreAnswersAt setting.now t → AreNumbered setting.now.classes.now t.rows patterns.items) }
+    ensures { IfOk result (λ patterns. (t : Answers) → AreAnswersAt setting.now t → HaveCandidates setting.now.classes.now t.rows patterns.items) }
 {
     let count = setting.classes.count();
     let vectors = setting.patterns.as_slice();

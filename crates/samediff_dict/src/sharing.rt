@@ -1,7 +1,7 @@
 //! The search for a candidate among the classes that two partitions leave together.
 
 ghost use Rattle.std.specs.Prelude.{◌≡◌, ◌<◌, ◌^◌, ◌++◌, ◌∷◌, [], ℕ, length, AllPairs, Contains, slice_index, IfOk, OnOk, MatchOption};
-ghost use Rattle.samediff_dict.specs.Groups.{AreWithin, gain_at, IsFoundAbove};
+ghost use Rattle.samediff_dict.specs.Groups.{AreBelow, gain_at, IsFoundAbove};
 ghost use Rattle.samediff_dict.specs.Partition.{AreMatched, IsListed, IsPartition, TogetherInBoth, together_in_both};
 
 use crate::groups::Groups;
@@ -41,7 +41,7 @@ impl Partition {
         requires listed { IsListed (length answers.now) self.now }
         requires other_listed { IsListed (length answers.now) other.now }
         requires few { length answers.now < 2 ^ 32 }
-        requires known { AreWithin answers.now candidates }
+        requires known { AreBelow answers.now candidates }
         requires current { current < candidates }
         ensures { IfOk result (IsFoundAbove (gain_at (together_in_both self.now other.now) answers.now) candidates current) }
     {

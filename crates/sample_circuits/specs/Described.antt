@@ -7,9 +7,9 @@ use Rattle.net_model.specs.Circuit.{Circuit, circuit_with}
 use Rattle.sample_circuits.specs.declared.building.Parts.{Parts}
 
 -- the gate of a kind that reads these lines
-abbrev pub gate_of : Kind × Bor (List ℕ) → Gate
-gate_of gate = record { kind = gate.0; pins = gate.1.now }
+abbrev pub described_gate : Kind × Bor (List ℕ) → Gate
+described_gate gate = record { kind = gate.0; pins = gate.1.now }
 
 -- the circuit of these parts
 abbrev pub circuit_of : Parts → Circuit
-circuit_of parts = circuit_with parts.sources (map gate_of parts.gates.now) parts.positions.now
+circuit_of parts = circuit_with parts.sources (map described_gate parts.gates.now) parts.positions.now

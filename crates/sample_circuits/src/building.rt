@@ -4,7 +4,7 @@ ghost use Rattle.std.specs.Prelude.{◌≡◌, ◌<◌, ◌↔◌, ℕ, List, Er
 ghost use Rattle.net_model.specs.Gate.{takes_pins};
 ghost use Rattle.net_model.specs.Circuit.{FitsTogether, IsCircuit, circuit_with};
 ghost use Rattle.net_model.specs.LoopWalk.{IsLoopWalk};
-ghost use Rattle.sample_circuits.specs.Described.{gate_of, circuit_of};
+ghost use Rattle.sample_circuits.specs.Described.{described_gate, circuit_of};
 
 use net_model::{BuildFault, Circuit, Gate, Kind, Pins};
 use std::alloc::{AllocError, Global};
@@ -60,7 +60,7 @@ pub fn circuit(alloc: Global, parts: Parts) -> Result<Circuit, PartsFault>
 
 // Gates of these kinds, each over its lines.
 fn gates_of(alloc: Global, gates: &[(Kind, &[u32])]) -> Result<Vec<Gate>, AllocError>
-    ensures { IfOk result (λ made. made.items ≡ map gate_of gates.now) }
+    ensures { IfOk result (λ made. made.items ≡ map described_gate gates.now) }
 {
     let mut made = Vec::new(alloc);
     for (kind, lines) in gates {

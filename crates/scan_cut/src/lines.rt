@@ -1,6 +1,6 @@
 //! The lines of the cut: which names are lines, and which line each name is.
 ghost use Rattle.std.specs.Prelude.{◌≡◌, ◌≢◌, ◌<◌, ◌^◌, ◌++◌, map, length, All, AllPairs, IfOk, OnOk};
-ghost use Rattle.scan_cut.specs.Cut.{input_of, output_of, flop_output, flop_data, driven_word, source_names, gate_words, position_names};
+ghost use Rattle.scan_cut.specs.Cut.{input_of, output_of, flop_output, flop_data, gate_driven_word, source_names, gate_words, position_names};
 ghost use Rattle.scan_cut.specs.Lines.{AreLines};
 
 use bench_reader::{Statement, Word};
@@ -44,7 +44,7 @@ fn flop_data(statement: &Statement) -> Option<u32>
 
 // The word that a gate drives.
 pub(crate) fn gate_word(statement: &Statement) -> Option<Word>
-    ensures { result ≡ driven_word statement.now }
+    ensures { result ≡ gate_driven_word statement.now }
 {
     match statement {
         Statement::Drive(word, _, _) => Some(*word),

@@ -15,8 +15,8 @@ unfoldable pub vector_line : ℕ → List Bool → Text
 vector_line number answer = codes "pattern " ++ (decimal number ++ (codes " answer " ++ (bits_text answer ++ codes "\n")))
 
 -- the line of a fault, by its number: what the circuit with it answers
-unfoldable pub fault_line : ℕ → List Bool → Text
-fault_line number answer = codes "fault " ++ (decimal number ++ (codes " " ++ (bits_text answer ++ codes "\n")))
+unfoldable pub faulty_line : ℕ → List Bool → Text
+faulty_line number answer = codes "fault " ++ (decimal number ++ (codes " " ++ (bits_text answer ++ codes "\n")))
 
 module _ (row : List (List Bool)) where
   -- whether a number's answer differs from that of number 0, which is the circuit without a fault
@@ -28,7 +28,7 @@ module _ (row : List (List Bool)) where
   differing_numbers = filter answers_otherwise (range_with_len 1 (length row - 1))
 
   abbrev pub numbered_line : ℕ → Text
-  numbered_line number = fault_line number (answer_in row number)
+  numbered_line number = faulty_line number (answer_in row number)
 
   -- the lines of a vector, by its number, from the answer of each number
   unfoldable pub vector_text : ℕ → Text

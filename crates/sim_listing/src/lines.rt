@@ -6,7 +6,7 @@ ghost use Rattle.std.specs.String.{string_bytes};
 ghost use Rattle.net_model.specs.BitText.{bit_digit, bits_text};
 ghost use Rattle.net_model.specs.Rows.{bit_of};
 ghost use Rattle.table_dicts.specs.AnswerTable.{answer_to};
-ghost use Rattle.sim_listing.specs.SimText.{vector_line, fault_line, differing_numbers, numbered_line, vector_text};
+ghost use Rattle.sim_listing.specs.SimText.{vector_line, faulty_line, differing_numbers, numbered_line, vector_text};
 
 use std::alloc::AllocError;
 use table_dicts::AnswerTable;
@@ -64,7 +64,7 @@ impl Row<'_> {
     ) -> Result<(), AllocError>
         requires pattern { self.now.pattern < length self.now.table.now.rows }
         requires number { number < self.now.table.now.numbers }
-        ensures { OnOk result (string_bytes text.new ≡ (if differs then string_bytes text.old ++ fault_line number (answer_to self.now.table.now self.now.pattern number) else string_bytes text.old)) }
+        ensures { OnOk result (string_bytes text.new ≡ (if differs then string_bytes text.old ++ faulty_line number (answer_to self.now.table.now self.now.pattern number) else string_bytes text.old)) }
     {
         if differs {
             self.push_fault_line(text, number)?;
@@ -73,11 +73,11 @@ impl Row<'_> {
     }
 
     // Appends the line of a fault.
-    #[tactic(auto, unfolding(crate::specs::SimText::fault_line))]
+    #[tactic(auto, unfolding(crate::specs::SimText::faulty_line))]
     fn push_fault_line(&self, text: &mut String, number: u32) -> Result<(), AllocError>
         requires pattern { self.now.pattern < length self.now.table.now.rows }
         requires number { number < self.now.table.now.numbers }
-        ensures { OnOk result (string_bytes text.new ≡ string_bytes text.old ++ fault_line number (answer_to self.now.table.now self.now.pattern number)) }
+        ensures { OnOk result (string_bytes text.new ≡ string_bytes text.old ++ faulty_line number (answer_to self.now.table.now self.now.pattern number)) }
     {
         write!(text, "fault {number} ")?;
         self.push_answer(text, number)?;

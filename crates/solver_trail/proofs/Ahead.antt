@@ -6,7 +6,7 @@ use Rattle.clause_pool.specs.Literal.{Literal, pos_literal}
 use Rattle.clause_pool.specs.LiteralCode.{code_of}
 use Rattle.clause_pool.proofs.Literals.{same_by_code}
 use Rattle.solver_trail.specs.declared.watches.Watches.{Watches}
-use Rattle.solver_trail.specs.Watches.{watched, IsChain, IsAmong, AreApart, AreInLists, IsRewatched, IsAhead, IsWatchOf, head_of}
+use Rattle.solver_trail.specs.Watches.{watched, IsChain, IsWatchAmong, AreListedOnce, AreInLists, IsRewatched, IsAhead, IsWatchOf, head_of}
 use Rattle.solver_trail.proofs.Lists.{chain_set, taken_listed, rewatched_listed, apart_length}
 
 -- The first of the watches that are ahead.
@@ -14,11 +14,11 @@ pub record IsAtWatch {w : Watches} {lit : Literal} {first : Option ℕ} (h : IsA
   pub later : List ℕ
   pub rest : h.rest ≡ watch ∷ later
   pub chain : IsChain w.nexts.items (get_or w.nexts.items watch None) later
-  pub once : ¬ IsAmong later watch
-  pub apart : AreApart later
+  pub once : ¬ IsWatchAmong later watch
+  pub apart : AreListedOnce later
   pub within : watch < length w.literals.items
   pub is : watched w.literals.items watch ≡ lit
-  pub owned : (m : ℕ) → IsAmong later m → IsWatchOf w.literals.items m lit
+  pub owned : (m : ℕ) → IsWatchAmong later m → IsWatchOf w.literals.items m lit
   pub listed : AreInLists w (watch ∷ later)
 
 module _ {w : Watches} {lit : Literal} {first : Option ℕ} (h : IsAhead w lit first) where
@@ -39,8 +39,8 @@ module _ {w : Watches} {lit : Literal} {first : Option ℕ} (h : IsAhead w lit f
   pub at_watch : (watch : ℕ) → first ≡ Some watch → IsAtWatch h watch
   at_watch watch e = by h.rest refl h.chain h.apart h.owned h.listed
     where
-      by : (rest : List ℕ) → h.rest ≡ rest → IsChain w.nexts.items first rest → AreApart rest
-          → ((m : ℕ) → IsAmong rest m → IsWatchOf w.literals.items m lit) → AreInLists w rest → IsAtWatch h watch
+      by : (rest : List ℕ) → h.rest ≡ rest → IsChain w.nexts.items first rest → AreListedOnce rest
+          → ((m : ℕ) → IsWatchAmong rest m → IsWatchOf w.literals.items m lit) → AreInLists w rest → IsAtWatch h watch
       by [] is chain apart owned listed = absurd (let wrong : ◌≡◌ {A = Option ℕ} None (Some watch) = sym chain ∙ e in cc)
       by (i ∷ later) is chain apart owned listed =
           let same : i ≡ watch = (let some : ◌≡◌ {A = Option ℕ} (Some i) (Some watch) = sym chain.0 ∙ e in cc) in
@@ -48,7 +48,7 @@ module _ {w : Watches} {lit : Literal} {first : Option ℕ} (h : IsAhead w lit f
             later = later;
             rest = is ∙ ap (λ n. n ∷ later) same;
             chain = subst (λ n. IsChain w.nexts.items (get_or w.nexts.items n None) later) same chain.1;
-            once = subst (λ n. ¬ IsAmong later n) same apart.0;
+            once = subst (λ n. ¬ IsWatchAmong later n) same apart.0;
             apart = apart.1;
             within = (owned watch (inl same)).0;
             is = (owned watch (inl same)).1;
@@ -67,7 +67,7 @@ module _ {w : Watches} {lit : Literal} {first : Option ℕ} (h : IsAhead w lit f
       apart = at.apart;
       owned = λ m there.
           let o = at.owned m there in
-          let ne : m ≢ watch = λ e. at.once (subst (IsAmong at.later) e there) in
+          let ne : m ≢ watch = λ e. at.once (subst (IsWatchAmong at.later) e there) in
           (omega (arith, o.0, ap length r.literals, length-set w.literals.items watch target), ap (λ ls. watched ls m) r.literals ∙ (get_or-set_other w.literals.items watch m target (pos_literal 0) ne ∙ o.1));
       listed = rw (r.firsts, r.nexts, r.literals) (rewatched_listed at.listed at.once at.within target below);
     },

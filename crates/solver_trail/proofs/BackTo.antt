@@ -7,7 +7,7 @@ use Rattle.std.proofs.lemmas.List.Elements.{All-cons, All-nil}
 use Rattle.clause_pool.specs.Literal.{Literal}
 use Rattle.solver_trail.specs.declared.set_literals.SetLiteral.{SetLiteral}
 use Rattle.solver_trail.specs.declared.set_literals.Slot.{Slot}
-use Rattle.solver_trail.specs.Assignment.{literals_of, AreLevels, no_literal}
+use Rattle.solver_trail.specs.Assignment.{literals_of, AreInLevels, no_literal}
 use Rattle.solver_trail.specs.StackFields.{ArePlaced}
 use Rattle.solver_trail.proofs.Levels.{AreLevels-pop, follows_bounds, level_between}
 use Rattle.solver_trail.proofs.Placed.{placed_pop}
@@ -31,10 +31,10 @@ pub record IsBackTo (old : List SetLiteral) (level : ℕ) (entries : List SetLit
   pub within : length entries ≤ length old
   pub cut : All (λ (s : SetLiteral). level < s.level) (drop (length entries) old)
   pub present : ℕ
-  pub levels : AreLevels 0 entries present
+  pub levels : AreInLevels 0 entries present
   pub above : level ≤ present
 
-pub back_to_start : (old : List SetLiteral) (level present : ℕ) → AreLevels 0 old present → level ≤ present → IsBackTo old level old
+pub back_to_start : (old : List SetLiteral) (level present : ℕ) → AreInLevels 0 old present → level ≤ present → IsBackTo old level old
 back_to_start old level present levels above = record {
   prefix = sym (take_all (length old) old (omega arith));
   within = omega arith;
@@ -51,7 +51,7 @@ back_to_step {old = old} {level = level} {entries = entries} h some last =
     let n = length entries - 1 in
     let e = get_or entries n no_literal in
     let less : length (take n entries) ≡ n = length-take-le n entries (omega arith) in
-    let popped = AreLevels-pop 0 (take n entries) h.present e (subst (λ es. AreLevels 0 es h.present) (all_but_last entries some) h.levels) in
+    let popped = AreLevels-pop 0 (take n entries) h.present e (subst (λ es. AreInLevels 0 es h.present) (all_but_last entries some) h.levels) in
     let same : get_or old n no_literal ≡ e = sym (ap (λ es. get_or es n no_literal) h.prefix ∙ get_or-take (length entries) old n no_literal (omega arith)) in
     let size : n + 1 ≡ length entries = omega arith in
     let rest : All (λ (s : SetLiteral). level < s.level) (drop n old) =
@@ -68,17 +68,17 @@ back_to_step {old = old} {level = level} {entries = entries} h some last =
 
 pub back_to_end : {old : List SetLiteral} {level : ℕ} {entries : List SetLiteral} → (h : IsBackTo old level entries)
     → (0 < length entries → HoldsAt (λ (s : SetLiteral). s.level ≤ level) entries (length entries - 1))
-    → AreLevels 0 entries level
-back_to_end {level = level} {entries = entries} h last = subst (λ m. AreLevels 0 entries m) (by (length entries) refl) h.levels
+    → AreInLevels 0 entries level
+back_to_end {level = level} {entries = entries} h last = subst (λ m. AreInLevels 0 entries m) (by (length entries) refl) h.levels
   where
     by : (n : ℕ) → length entries ≡ n → h.present ≡ level
     by zero e =
-        let none : AreLevels 0 [] h.present = subst (λ es. AreLevels 0 es h.present) (nil_from_length entries e) h.levels in
+        let none : AreInLevels 0 [] h.present = subst (λ es. AreInLevels 0 es h.present) (nil_from_length entries e) h.levels in
         omega (arith, none, h.above)
     by (suc n) e =
         let some : 0 < length entries = omega arith in
-        let popped = AreLevels-pop 0 (take (length entries - 1) entries) h.present (get_or entries (length entries - 1) no_literal) (subst (λ es. AreLevels 0 es h.present) (all_but_last entries some) h.levels) in
+        let popped = AreLevels-pop 0 (take (length entries - 1) entries) h.present (get_or entries (length entries - 1) no_literal) (subst (λ es. AreInLevels 0 es h.present) (all_but_last entries some) h.levels) in
         omega (arith, popped.3, h.above, last some no_literal)
 
-pub levels_below : (entries : List SetLiteral) (level : ℕ) → AreLevels 0 entries level → All (λ (s : SetLiteral). s.level ≤ level) entries
+pub levels_below : (entries : List SetLiteral) (level : ℕ) → AreInLevels 0 entries level → All (λ (s : SetLiteral). s.level ≤ level) entries
 levels_below entries level levels = λ k d h. (level_between 0 entries level k d levels h).1

@@ -10,7 +10,7 @@ use Rattle.clause_pool.proofs.Numbered.{numbered_longer, same_clause}
 use Rattle.solver_trail.specs.declared.set_literals.SetLiteral.{SetLiteral}
 use Rattle.solver_trail.specs.Assignment.{Assignment, CutsAbove, literals_of}
 use Rattle.solver_trail.specs.Trail.{TrailState, Attaches, AreAttached, AreReasons, IsReason, Fits, attached_numbers}
-use Rattle.solver_trail.specs.Watches.{AreWatched, IsKept, AreKept}
+use Rattle.solver_trail.specs.Watches.{AreWatched, IsPartnerTrue, AreKept}
 use Rattle.solver_trail.specs.Laws.{FitsLonger}
 use Rattle.solver_trail.proofs.Pairs.{each_two}
 
@@ -177,4 +177,4 @@ pub kept_two : (literals : List SetLiteral) (visited n : ℕ) (watched : List Li
     → ((j : ℕ) (d : SetLiteral) → j < visited → (get_or literals j d).literal ≢ opposite second) → AreKept literals visited visited watched
     → AreKept literals visited visited (watched ++ first ∷ second ∷ [])
 kept_two literals visited n watched even first second one two kept =
-    each_two (λ watch l other. IsKept literals visited visited l other) watched n even first second kept (λ j d below e. absurd (one j d below e)) (λ j d below e. absurd (two j d below e))
+    each_two (λ watch l other. IsPartnerTrue literals visited visited l other) watched n even first second kept (λ j d below e. absurd (one j d below e)) (λ j d below e. absurd (two j d below e))

@@ -11,7 +11,7 @@ use Rattle.clause_pool.specs.Partial.{IsUndetermined}
 use Rattle.clause_pool.proofs.Literals.{literal_cases, same_or_opposite}
 use Rattle.clause_pool.proofs.Numbered.{same_clause}
 use Rattle.solver_trail.specs.declared.set_literals.SetLiteral.{SetLiteral}
-use Rattle.solver_trail.specs.Assignment.{Assignment, held, literals_of, Propagates, IsTrail, IsUnset, IsValueOf}
+use Rattle.solver_trail.specs.Assignment.{Assignment, assigned_literals, literals_of, Propagates, IsTrail, IsUnset, IsValueOf}
 use Rattle.solver_trail.specs.Trail.{AreReasons, IsFalseClause, IsReason}
 use Rattle.solver_trail.specs.Propagation.{AreOthersFalse, IsOpenOther, IsRewatch}
 use Rattle.solver_trail.proofs.Held.{held_at, not_both, length-literals_of, at_push_before, at_push_end}
@@ -36,9 +36,9 @@ propagates_two {a = a} first second = record {
   at_level = All-append (λ (s : SetLiteral). (s.level ≡ a.level) × IsSome s.reason) first.more second.more first.at_level (λ k d h. let there = second.at_level k d h in (there.0 ∙ first.level, there.1));
 }
 
-pub held_more : {a b : Assignment} → Propagates a b → (l : Literal) → Contains (held a) l → Contains (held b) l
+pub held_more : {a b : Assignment} → Propagates a b → (l : Literal) → Contains (assigned_literals a) l → Contains (assigned_literals b) l
 held_more {a = a} step l there =
-    subst (λ ls. Contains (literals_of ls) l) (sym step.added) (subst (λ ls. Contains ls l) (sym (map-append (λ (s : SetLiteral). s.literal) a.literals step.more)) (Contains-append_left (held a) (literals_of step.more) l there))
+    subst (λ ls. Contains (literals_of ls) l) (sym step.added) (subst (λ ls. Contains ls l) (sym (map-append (λ (s : SetLiteral). s.literal) a.literals step.more)) (Contains-append_left (assigned_literals a) (literals_of step.more) l there))
 
 -- ---- reasons
 
@@ -78,7 +78,7 @@ reasons_push {literals = literals} r s is_attached is_reason = record {
 -- All literals of the clause but this one, which is unset, are false.
 pub record IsUnit (a : Assignment) (clause : Clause) (l : Literal) : Type 0 where
   pub inside : Contains clause l
-  pub others : (m : Literal) → Contains clause m → m ≢ l → Contains (held a) (opposite m)
+  pub others : (m : Literal) → Contains clause m → m ≢ l → Contains (assigned_literals a) (opposite m)
 
 -- The assignment with one more literal, which a clause forces.
 pub record IsForced (a b : Assignment) (l : Literal) (level number : ℕ) : Type 0 where
@@ -95,10 +95,10 @@ module _ {a b : Assignment} {l : Literal} {level number : ℕ} (f : IsForced a b
     at_level = All-push (λ (s : SetLiteral). (s.level ≡ a.level) × IsSome s.reason) [] (record { literal = l; level = level; reason = Some number }) (All-nil (λ (s : SetLiteral). (s.level ≡ a.level) × IsSome s.reason)) (f.present, refl);
   }
 
-  pub held_forced : Contains (held b) l
+  pub held_forced : Contains (assigned_literals b) l
   held_forced =
       let s : SetLiteral = record { literal = l; level = level; reason = Some number } in
-      subst (λ (x : Assignment). Contains (held x) l) (sym f.is) (subst (λ ls. Contains ls l) (sym (map_push (λ (s : SetLiteral). s.literal) a.literals s)) (Contains-push (held a) l))
+      subst (λ (x : Assignment). Contains (assigned_literals x) l) (sym f.is) (subst (λ ls. Contains ls l) (sym (map_push (λ (s : SetLiteral). s.literal) a.literals s)) (Contains-push (assigned_literals a) l))
 
   pub reasons_forced : {attached : List ℕ} {clauses : List Clause} {clause : Clause} → AreReasons attached clauses a.literals
       → Contains attached number → numbered_clause clauses number ≡ Some clause → IsUnit a clause l → AreReasons attached clauses b.literals
@@ -108,13 +108,13 @@ module _ {a b : Assignment} {l : Literal} {level number : ℕ} (f : IsForced a b
       (λ n is. subst (Contains attached) (some_is n is) is_in)
       (λ n c is e.
       let same = same_clause clauses number clause c found (ap (numbered_clause clauses) (some_is n is) ∙ e) in
-      subst (λ c. IsReason (held a) c l) same (record { inside = unit.inside; others = unit.others })))
+      subst (λ c. IsReason (assigned_literals a) c l) same (record { inside = unit.inside; others = unit.others })))
     where
       some_is : (n : ℕ) → ◌≡◌ {A = Option ℕ} (Some number) (Some n) → number ≡ n
       some_is n e = cc
 
 -- an undetermined literal's variable is unset
-pub undetermined_unset : (a : Assignment) (l : Literal) → IsUndetermined (held a) l → IsUnset a l.variable
+pub undetermined_unset : (a : Assignment) (l : Literal) → IsUndetermined (assigned_literals a) l → IsUnset a l.variable
 undetermined_unset a l o k d h e = elim (same_or_opposite (get_or a.literals k d).literal l e) [
   | inl same ↦ o.not_held (held_at a.literals k d l h same)
   | inr other ↦ o.opposite_not_held (held_at a.literals k d (opposite l) h other.0)
@@ -124,20 +124,20 @@ undetermined_unset a l o k d h e = elim (same_or_opposite (get_or a.literals k d
 
 -- a literal that isn't known to be false
 pub not_false : (a : Assignment) (l : Literal) (value : Option Bool) → IsTrail a → IsValueOf a l value → value ≢ Some false
-    → ¬ Contains (held a) (opposite l)
+    → ¬ Contains (assigned_literals a) (opposite l)
 not_false a l None trail v ne = v.opposite_not_held
 not_false a l (Some true) trail v ne = not_both a l trail v
 not_false a l (Some false) trail v ne = absurd (ne refl)
 
 -- the clause is false, or another of its literals can be watched
-pub false_or_open : (held : List Literal) (clause : Clause) (lit other : Literal) (found : Option Literal) → Contains held (opposite other)
-    → MatchOption found (AreOthersFalse held clause other) (IsOpenOther held clause other)
-    → MatchOption found (IsFalseClause held clause) (IsRewatch held clause lit other)
-false_or_open held clause lit other None f others = λ k d h. elim (literal_cases (get_or clause k d) other) [
-  | inl same ↦ subst (λ l. Contains held (opposite l)) (sym same) f
+pub false_or_open : (assigned_literals : List Literal) (clause : Clause) (lit other : Literal) (found : Option Literal) → Contains assigned_literals (opposite other)
+    → MatchOption found (AreOthersFalse assigned_literals clause other) (IsOpenOther assigned_literals clause other)
+    → MatchOption found (IsFalseClause assigned_literals clause) (IsRewatch assigned_literals clause lit other)
+false_or_open assigned_literals clause lit other None f others = λ k d h. elim (literal_cases (get_or clause k d) other) [
+  | inl same ↦ subst (λ l. Contains assigned_literals (opposite l)) (sym same) f
   | inr ne ↦ others (get_or clause k d) (Contains-get_or clause k d h) ne
 ]
-false_or_open held clause lit other (Some l) f opened = inr opened
+false_or_open assigned_literals clause lit other (Some l) f opened = inr opened
 
 -- the one literal of a clause
 pub single_unit : (a : Assignment) (clause : Clause) (l : Literal) → length clause < 2 → slice_get clause 0 ≡ Some l → IsUnit a clause l

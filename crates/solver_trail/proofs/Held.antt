@@ -5,7 +5,7 @@ use Rattle.std.proofs.lemmas.Bool.{cases_eq, cases_lt}
 use Rattle.std.proofs.lemmas.List.{length-map, get_or-map, get_or_append_left, get_or_push}
 use Rattle.clause_pool.specs.Literal.{Literal, opposite}
 use Rattle.solver_trail.specs.declared.set_literals.SetLiteral.{SetLiteral}
-use Rattle.solver_trail.specs.Assignment.{Assignment, IsTrail, held, literals_of, no_literal}
+use Rattle.solver_trail.specs.Assignment.{Assignment, IsTrail, assigned_literals, literals_of, no_literal}
 
 pub literal_at : (entries : List SetLiteral) (k : ℕ) (d : SetLiteral) (e : Literal) → k < length entries
     → get_or (literals_of entries) k e ≡ (get_or entries k d).literal
@@ -35,7 +35,7 @@ pub at_push_end : (entries : List SetLiteral) (s d : SetLiteral) (k : ℕ) → k
 at_push_end entries s d k e = get_or_push entries s d k (sym e)
 
 -- a literal and its opposite are not both held
-pub not_both : (a : Assignment) (l : Literal) → IsTrail a → Contains (held a) l → Contains (held a) (opposite l) → ⊥
+pub not_both : (a : Assignment) (l : Literal) → IsTrail a → Contains (assigned_literals a) l → Contains (assigned_literals a) (opposite l) → ⊥
 not_both a l trail one two =
     let j = place_of a.literals l one in
     let k = place_of a.literals (opposite l) two in

@@ -5,7 +5,7 @@ use Rattle.std.proofs.lemmas.Bool.{cases_lt}
 use Rattle.std.proofs.lemmas.List.{length-drop, get_or_append_left, get_or-append_right, get_or-take, get_or-drop}
 use Rattle.clause_pool.specs.Literal.{Literal}
 use Rattle.solver_trail.specs.declared.set_literals.SetLiteral.{SetLiteral}
-use Rattle.solver_trail.specs.Assignment.{Assignment, AreLevels, CutsAbove, Propagates}
+use Rattle.solver_trail.specs.Assignment.{Assignment, AreInLevels, CutsAbove, Propagates}
 use Rattle.solver_trail.specs.Watches.{AreKept}
 use Rattle.solver_trail.proofs.Levels.{level_between}
 
@@ -34,7 +34,7 @@ pub kept_more : {a b : Assignment} → Propagates a b → (visited reached : ℕ
 kept_more {a = a} step visited reached watched le kept = subst (λ ls. AreKept ls visited reached watched) (sym step.added) (kept_append a.literals step.more visited reached watched le kept)
 
 -- where all literals from the visited ones on have the present level, all that have been gone through stay so
-pub kept_steady : (literals : List SetLiteral) (level visited reached : ℕ) (watched : List Literal) → AreLevels 0 literals level
+pub kept_steady : (literals : List SetLiteral) (level visited reached : ℕ) (watched : List Literal) → AreInLevels 0 literals level
     → reached ≤ length literals
     → ((j : ℕ) (d : SetLiteral) → visited ≤ j → j < length literals → (get_or literals j d).level ≡ level) → AreKept literals visited reached watched
     → AreKept literals reached reached watched

@@ -7,27 +7,27 @@ use Rattle.std.proofs.lemmas.Map.Steps.{length-le_from_distinct_below}
 use Rattle.std.proofs.lemmas.List.{length-set, length_push, get_or-set_same, get_or-set_other, get_or_append_left}
 use Rattle.clause_pool.specs.Literal.{Literal, pos_literal}
 use Rattle.clause_pool.specs.LiteralCode.{code_of}
-use Rattle.solver_trail.specs.Watches.{watched, IsChain, IsAmong, AreApart, IsListOf, AreListed, head_of}
+use Rattle.solver_trail.specs.Watches.{watched, IsChain, IsWatchAmong, AreListedOnce, IsListOf, AreWatchesListed, head_of}
 
 -- ---- chains
 
 -- a write at a watch that isn't in the chain
-pub chain_set : (nexts : List (Option ℕ)) (first : Option ℕ) (xs : List ℕ) (p : ℕ) (v : Option ℕ) → IsChain nexts first xs → ¬ IsAmong xs p
+pub chain_set : (nexts : List (Option ℕ)) (first : Option ℕ) (xs : List ℕ) (p : ℕ) (v : Option ℕ) → IsChain nexts first xs → ¬ IsWatchAmong xs p
     → IsChain (set nexts p v) first xs
 chain_set nexts first [] p v h away = h
 chain_set nexts first (x ∷ xs) p v h away =
     (h.0, subst (λ o. IsChain (set nexts p v) o xs) (sym (get_or-set_other nexts p x v None (λ e. away (inl e)))) (chain_set nexts (get_or nexts x None) xs p v h.1 (λ later. away (inr later))))
 
 chain_push : (nexts : List (Option ℕ)) (first : Option ℕ) (xs : List ℕ) (v : Option ℕ) → IsChain nexts first xs
-    → ((watch : ℕ) → IsAmong xs watch → watch < length nexts) → IsChain (nexts ++ v ∷ []) first xs
+    → ((watch : ℕ) → IsWatchAmong xs watch → watch < length nexts) → IsChain (nexts ++ v ∷ []) first xs
 chain_push nexts first [] v h below = h
 chain_push nexts first (x ∷ xs) v h below =
     (h.0, subst (λ o. IsChain (nexts ++ v ∷ []) o xs) (sym (get_or_append_left nexts (v ∷ []) None x (below x (inl refl)))) (chain_push nexts (get_or nexts x None) xs v h.1 (λ watch later. below watch (inr later))))
 
 -- ---- a list is taken out
 
-pub taken_listed : {firsts nexts : List (Option ℕ)} {literals : List Literal} (h : AreListed firsts nexts literals []) (code : ℕ) (below : code < length firsts)
-    → AreListed (set firsts code None) nexts literals (h.lists code below).members
+pub taken_listed : {firsts nexts : List (Option ℕ)} {literals : List Literal} (h : AreWatchesListed firsts nexts literals []) (code : ℕ) (below : code < length firsts)
+    → AreWatchesListed (set firsts code None) nexts literals (h.lists code below).members
 taken_listed {firsts = firsts} {nexts = nexts} {literals = literals} h code below = record { size = h.size; lists = lists }
   where
     lists : (c : ℕ) → c < length (set firsts code None) → IsListOf (set firsts code None) nexts literals (h.lists code below).members c
@@ -53,9 +53,9 @@ taken_listed {firsts = firsts} {nexts = nexts} {literals = literals} h code belo
 
 -- ---- a watch is put to the front of a list
 
-pub rewatched_listed : {firsts nexts : List (Option ℕ)} {literals : List Literal} {i : ℕ} {rest : List ℕ} (h : AreListed firsts nexts literals (i ∷ rest))
-    → ¬ IsAmong rest i → i < length literals → (l : Literal) → code_of l < length firsts
-    → AreListed (set firsts (code_of l) (Some i)) (set nexts i (head_of firsts l)) (set literals i l) rest
+pub rewatched_listed : {firsts nexts : List (Option ℕ)} {literals : List Literal} {i : ℕ} {rest : List ℕ} (h : AreWatchesListed firsts nexts literals (i ∷ rest))
+    → ¬ IsWatchAmong rest i → i < length literals → (l : Literal) → code_of l < length firsts
+    → AreWatchesListed (set firsts (code_of l) (Some i)) (set nexts i (head_of firsts l)) (set literals i l) rest
 rewatched_listed {firsts = firsts} {nexts = nexts} {literals = literals} {i = i} {rest = rest} h not_again within l below = record {
   size = length-set nexts i (head_of firsts l) ∙ (h.size ∙ sym (length-set literals i l));
   lists = lists;
@@ -74,10 +74,10 @@ rewatched_listed {firsts = firsts} {nexts = nexts} {literals = literals} {i = i}
         → IsListOf (set firsts (code_of l) (Some i)) (set nexts i (head_of firsts l)) (set literals i l) rest c
     lists c less =
         let list = h.lists c (omega (arith, less, length-set firsts (code_of l) (Some i))) in
-        let new : ¬ IsAmong list.members i = λ there. (list.owned i there).2 (inl refl) in
-        let owned : (m : ℕ) → IsAmong list.members m → (m < length (set literals i l)) × (code_of (watched (set literals i l) m) ≡ c) × ¬ IsAmong rest m =
-        λ m there. let o = list.owned m there in (omega (arith, o.0, size), ap code_of (same m (λ e. new (subst (IsAmong list.members) e there))) ∙ o.1, λ later. o.2 (inr later)) in
-        let whole : (m : ℕ) → m ≢ i → m < length (set literals i l) → code_of (watched (set literals i l) m) ≡ c → IsAmong list.members m ⊎ IsAmong rest m =
+        let new : ¬ IsWatchAmong list.members i = λ there. (list.owned i there).2 (inl refl) in
+        let owned : (m : ℕ) → IsWatchAmong list.members m → (m < length (set literals i l)) × (code_of (watched (set literals i l) m) ≡ c) × ¬ IsWatchAmong rest m =
+        λ m there. let o = list.owned m there in (omega (arith, o.0, size), ap code_of (same m (λ e. new (subst (IsWatchAmong list.members) e there))) ∙ o.1, λ later. o.2 (inr later)) in
+        let whole : (m : ℕ) → m ≢ i → m < length (set literals i l) → code_of (watched (set literals i l) m) ≡ c → IsWatchAmong list.members m ⊎ IsWatchAmong rest m =
         λ m ne less is. elim (list.whole m (omega (arith, less, size)) (ap code_of (sym (same m ne)) ∙ is)) [
           | inl there ↦ inl there
           | inr out ↦ elim out [ inl e ↦ absurd (ne (sym e)) | inr later ↦ inr later ]
@@ -92,7 +92,7 @@ rewatched_listed {firsts = firsts} {nexts = nexts} {literals = literals} {i = i}
             );
             apart = (new, list.apart);
             owned = λ m there. elim there [
-              | inl is ↦ subst (λ n. (n < length (set literals i l)) × (code_of (watched (set literals i l) n) ≡ c) × ¬ IsAmong rest n) is (omega (arith, within, size), ap code_of here ∙ sym e, not_again)
+              | inl is ↦ subst (λ n. (n < length (set literals i l)) × (code_of (watched (set literals i l) n) ≡ c) × ¬ IsWatchAmong rest n) is (omega (arith, within, size), ap code_of here ∙ sym e, not_again)
               | inr later ↦ owned m later
             ];
             whole = λ m less is. elim (cases_eq m i) [
@@ -112,8 +112,8 @@ rewatched_listed {firsts = firsts} {nexts = nexts} {literals = literals} {i = i}
 
 -- ---- a watch is added
 
-pub pushed_listed : {firsts nexts : List (Option ℕ)} {literals : List Literal} (h : AreListed firsts nexts literals []) (l : Literal)
-    → AreListed firsts (nexts ++ None ∷ []) (literals ++ l ∷ []) (length literals ∷ [])
+pub pushed_listed : {firsts nexts : List (Option ℕ)} {literals : List Literal} (h : AreWatchesListed firsts nexts literals []) (l : Literal)
+    → AreWatchesListed firsts (nexts ++ None ∷ []) (literals ++ l ∷ []) (length literals ∷ [])
 pushed_listed {firsts = firsts} {nexts = nexts} {literals = literals} h l = record {
   size = length_push nexts None ∙ (ap (λ n. n + 1) h.size ∙ sym (length_push literals l));
   lists = λ c less.
@@ -135,21 +135,21 @@ pushed_listed {firsts = firsts} {nexts = nexts} {literals = literals} h l = reco
 
 -- ---- a list is no longer than there are watches
 
-apart_distinct : (xs : List ℕ) → AreApart xs → IsDistinct eqb xs
+apart_distinct : (xs : List ℕ) → AreListedOnce xs → IsDistinct eqb xs
 unfolding IsDistinct
 apart_distinct [] h = tt
 apart_distinct (x ∷ xs) h = (others xs h.0, apart_distinct xs h.1)
   where
-    others : (ys : List ℕ) → ¬ IsAmong ys x → AllByRecursion (λ y. eqb x y ≡ false) ys
+    others : (ys : List ℕ) → ¬ IsWatchAmong ys x → AllByRecursion (λ y. eqb x y ≡ false) ys
     others [] h = tt
     others (y ∷ ys) h = (ne_eqb x y (λ e. h (inl (sym e))), others ys (λ later. h (inr later)))
 
-among_any : (q : ℕ) (xs : List ℕ) → list_any (eqb q) xs ≡ true → IsAmong xs q
+among_any : (q : ℕ) (xs : List ℕ) → list_any (eqb q) xs ≡ true → IsWatchAmong xs q
 among_any q [] e = let wrong : ◌≡◌ {A = Bool} false true = e in cc
 among_any q (x ∷ xs) e = elim (or_cases (eqb q x) (list_any (eqb q) xs) e) [
   | inl is ↦ inl (sym (eqb-true q x is))
   | inr later ↦ inr (among_any q xs later)
 ]
 
-pub apart_length : (n : ℕ) (xs : List ℕ) → AreApart xs → ((watch : ℕ) → IsAmong xs watch → watch < n) → length xs ≤ n
+pub apart_length : (n : ℕ) (xs : List ℕ) → AreListedOnce xs → ((watch : ℕ) → IsWatchAmong xs watch → watch < n) → length xs ≤ n
 apart_length n xs apart below = length-le_from_distinct_below xs n (apart_distinct xs apart) (λ q e. below q (among_any q xs e))

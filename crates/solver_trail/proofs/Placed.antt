@@ -11,8 +11,8 @@ use Rattle.clause_pool.specs.Literal.{Literal, opposite}
 use Rattle.clause_pool.specs.Partial.{IsUndetermined}
 use Rattle.solver_trail.specs.declared.set_literals.SetLiteral.{SetLiteral}
 use Rattle.solver_trail.specs.declared.set_literals.Slot.{Slot}
-use Rattle.solver_trail.specs.Assignment.{literals_of, AreLevels, IsInside, IsTrail, IsValueOf, no_literal}
-use Rattle.solver_trail.specs.StackFields.{slot_of, ArePlaced}
+use Rattle.solver_trail.specs.Assignment.{literals_of, AreInLevels, IsInside, IsTrail, IsValueOf, no_literal}
+use Rattle.solver_trail.specs.StackFields.{literal_slot, ArePlaced}
 use Rattle.solver_trail.proofs.Held.{place_of, held_at, at_push_before, at_push_end}
 
 -- ---- counts of open slots
@@ -58,7 +58,7 @@ slot_read slots v n x same within read = sym (get_or_read slots v x within (read
 module _ {variables : ℕ} {literals : List Literal} {entries : List SetLiteral} {slots : List (Option Slot)} (p : ArePlaced variables literals entries slots) where
   pub slot_at : (k : ℕ) (d : SetLiteral) (v : ℕ) → k < length entries → (get_or entries k d).literal.variable ≡ v
       → (s : Slot) × (get_or slots v None ≡ Some s) × (s.place ≡ k)
-  slot_at k d v h e = (slot_of (get_or entries k d).literal k, subst (λ n. get_or slots n None ≡ Some (slot_of (get_or entries k d).literal k)) e (p.slot k d h), refl)
+  slot_at k d v h e = (literal_slot (get_or entries k d).literal k, subst (λ n. get_or slots n None ≡ Some (literal_slot (get_or entries k d).literal k)) e (p.slot k d h), refl)
 
   pub unset_slot : (v : ℕ) → All (λ (s : SetLiteral). s.literal.variable ≢ v) entries → get_or slots v None ≡ None
   unset_slot v unset = by (get_or slots v None) refl
@@ -92,7 +92,7 @@ module _ {variables : ℕ} {literals : List Literal} {entries : List SetLiteral}
       let e = same_place a.0 b.0 (get_or slots (get_or entries j d).literal.variable None) a.1 b.1 in
       omega (arith, e, a.2, b.2)
 
-  pub placed_trail : (level : ℕ) → AreLevels 0 entries level → IsTrail (record { variables = variables; literals = entries; level = level })
+  pub placed_trail : (level : ℕ) → AreInLevels 0 entries level → IsTrail (record { variables = variables; literals = entries; level = level })
   placed_trail level levels = record { inside = p.inside; once = once; few = length_le; levels = levels }
 
   -- ---- the value of a literal
@@ -121,7 +121,7 @@ module _ {variables : ℕ} {literals : List Literal} {entries : List SetLiteral}
 -- ---- one more literal
 
 module _ {variables : ℕ} {literals : List Literal} {entries : List SetLiteral} {slots : List (Option Slot)} (p : ArePlaced variables literals entries slots) (e : SetLiteral) (free : get_or slots e.literal.variable None ≡ None) (some : 0 < e.literal.variable) (below : e.literal.variable ≤ variables) where
-  pub placed_push : ArePlaced variables (literals ++ e.literal ∷ []) (entries ++ e ∷ []) (set slots e.literal.variable (Some (slot_of e.literal (length entries))))
+  pub placed_push : ArePlaced variables (literals ++ e.literal ∷ []) (entries ++ e ∷ []) (set slots e.literal.variable (Some (literal_slot e.literal (length entries))))
   placed_push = record {
     same = ap (λ ls. ls ++ e.literal ∷ []) p.same ∙ sym (map_push (λ (s : SetLiteral). s.literal) entries e);
     table = length-set slots v (Some here) ∙ p.table;
@@ -129,12 +129,12 @@ module _ {variables : ℕ} {literals : List Literal} {entries : List SetLiteral}
     slot = λ k d h. elim (cases_eq k (length entries)) [
       | inl is ↦
           let at : get_or (entries ++ e ∷ []) k d ≡ e = at_push_end entries e d k is in
-          subst (λ (x : SetLiteral). get_or (set slots v (Some here)) x.literal.variable None ≡ Some (slot_of x.literal k)) (sym at)
-          (subst (λ n. get_or (set slots v (Some here)) v None ≡ Some (slot_of e.literal n)) (sym is) (get_or-set_same slots v (Some here) None within))
+          subst (λ (x : SetLiteral). get_or (set slots v (Some here)) x.literal.variable None ≡ Some (literal_slot x.literal k)) (sym at)
+          (subst (λ n. get_or (set slots v (Some here)) v None ≡ Some (literal_slot e.literal n)) (sym is) (get_or-set_same slots v (Some here) None within))
       | inr ne ↦
           let earlier : k < length entries = omega (arith, length_push entries e) in
           let at : get_or (entries ++ e ∷ []) k d ≡ get_or entries k d = at_push_before entries e d k earlier in
-          subst (λ (x : SetLiteral). get_or (set slots v (Some here)) x.literal.variable None ≡ Some (slot_of x.literal k)) (sym at)
+          subst (λ (x : SetLiteral). get_or (set slots v (Some here)) x.literal.variable None ≡ Some (literal_slot x.literal k)) (sym at)
           (get_or-set_other slots v (get_or entries k d).literal.variable (Some here) None (λ same. slot_unset p v free k d earlier same) ∙ p.slot k d earlier)
     ];
     entry = λ n s is. elim (cases_eq n v) [
@@ -157,7 +157,7 @@ module _ {variables : ℕ} {literals : List Literal} {entries : List SetLiteral}
       v = e.literal.variable
 
       here : Slot
-      here = slot_of e.literal (length entries)
+      here = literal_slot e.literal (length entries)
 
       within : e.literal.variable < length slots
       within = omega (arith, p.table)
@@ -165,14 +165,14 @@ module _ {variables : ℕ} {literals : List Literal} {entries : List SetLiteral}
 -- ---- one literal less
 
 module _ {variables : ℕ} {literals : List Literal} (entries : List SetLiteral) (e : SetLiteral) {slots : List (Option Slot)} (p : ArePlaced variables literals (entries ++ e ∷ []) slots) where
-  last_slot : get_or slots e.literal.variable None ≡ Some (slot_of e.literal (length entries))
-  last_slot = subst (λ (x : SetLiteral). get_or slots x.literal.variable None ≡ Some (slot_of x.literal (length entries))) (at_push_end entries e e (length entries) refl) (p.slot (length entries) e (omega (arith, length_push entries e)))
+  last_slot : get_or slots e.literal.variable None ≡ Some (literal_slot e.literal (length entries))
+  last_slot = subst (λ (x : SetLiteral). get_or slots x.literal.variable None ≡ Some (literal_slot x.literal (length entries))) (at_push_end entries e e (length entries) refl) (p.slot (length entries) e (omega (arith, length_push entries e)))
 
   apart : (k : ℕ) (d : SetLiteral) → k < length entries → (get_or entries k d).literal.variable ≢ e.literal.variable
   apart k d h same =
       let at = at_push_before entries e d k h in
       let there = slot_at p k d e.literal.variable (omega (arith, length_push entries e)) (ap (λ (x : SetLiteral). x.literal.variable) at ∙ same) in
-      let place = same_place there.0 (slot_of e.literal (length entries)) (get_or slots e.literal.variable None) there.1 last_slot in
+      let place = same_place there.0 (literal_slot e.literal (length entries)) (get_or slots e.literal.variable None) there.1 last_slot in
       omega (arith, place, there.2)
 
   pub last_within : e.literal.variable < length slots
@@ -188,7 +188,7 @@ module _ {variables : ℕ} {literals : List Literal} (entries : List SetLiteral)
     inside = λ k d h. subst (IsInside variables) (at_push_before entries e d k h) (p.inside k d (omega (arith, length_push entries e)));
     slot = λ k d h.
         get_or-set_other slots e.literal.variable (get_or entries k d).literal.variable None None (apart k d h)
-        ∙ subst (λ (x : SetLiteral). get_or slots x.literal.variable None ≡ Some (slot_of x.literal k)) (at_push_before entries e d k h) (p.slot k d (omega (arith, length_push entries e)));
+        ∙ subst (λ (x : SetLiteral). get_or slots x.literal.variable None ≡ Some (literal_slot x.literal k)) (at_push_before entries e d k h) (p.slot k d (omega (arith, length_push entries e)));
     entry = λ n s is. elim (cases_eq n e.literal.variable) [
       | inl same ↦
           let gone : get_or (set slots e.literal.variable None) n None ≡ None = ap (λ m. get_or (set slots e.literal.variable None) m None) same ∙ get_or-set_same slots e.literal.variable None None last_within in
@@ -205,5 +205,5 @@ module _ {variables : ℕ} {literals : List Literal} (entries : List SetLiteral)
           ] in
           (before, λ d. sym (ap (λ (x : SetLiteral). x.literal) (at_push_before entries e d s.place before)) ∙ there.1 d)
     ];
-    count = omega (arith, p.count, length_push entries e, count_empties slots e.literal.variable (slot_of e.literal (length entries)) last_within last_slot, length-set slots e.literal.variable None);
+    count = omega (arith, p.count, length_push entries e, count_empties slots e.literal.variable (literal_slot e.literal (length entries)) last_within last_slot, length-set slots e.literal.variable None);
   }

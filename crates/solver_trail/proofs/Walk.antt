@@ -14,10 +14,10 @@ use Rattle.clause_pool.proofs.ProperLemmas.{same_variable}
 use Rattle.solver_trail.specs.declared.propagation.Attached.{Attached}
 use Rattle.solver_trail.specs.declared.watches.Watches.{Watches}
 use Rattle.solver_trail.specs.declared.set_literals.SetLiteral.{SetLiteral}
-use Rattle.solver_trail.specs.Assignment.{Assignment, held, IsTrail, Propagates}
+use Rattle.solver_trail.specs.Assignment.{Assignment, assigned_literals, IsTrail, Propagates}
 use Rattle.solver_trail.specs.Trail.{AreAttached, AreReasons}
-use Rattle.solver_trail.specs.Watches.{partner, watched, EachWatch, AreWatched, AreWatching, IsAmong, AreInLists, IsRewatched, IsKept, AreKept, owner, other_watched, head_of, WatchesIn}
-use Rattle.solver_trail.specs.Propagation.{HasWatches, IsWalk, IsRewatch, numbers_of}
+use Rattle.solver_trail.specs.Watches.{partner, watched, EachWatch, AreWatched, AreWatching, IsWatchAmong, AreInLists, IsRewatched, IsPartnerTrue, AreKept, owner, other_watched, head_of, WatchesIn}
+use Rattle.solver_trail.specs.Propagation.{HasWatches, IsWatchWalk, IsRewatch, numbers_attached}
 use Rattle.solver_trail.proofs.Held.{held_at, place_of, not_both}
 use Rattle.solver_trail.proofs.Forced.{held_more}
 use Rattle.solver_trail.proofs.Kept.{kept_more}
@@ -39,9 +39,9 @@ watches_same {attached = attached} {clauses = clauses} h new literals firsts = r
 
 -- more literals are set
 pub watches_more : {attached : Attached} {clauses : List Clause} {a b : Assignment} {w : Watches} → HasWatches attached clauses a w → Propagates a b
-    → AreReasons (numbers_of attached) clauses b.literals → HasWatches attached clauses b w
+    → AreReasons (numbers_attached attached) clauses b.literals → HasWatches attached clauses b w
 watches_more {attached = attached} {clauses = clauses} h step reasons = record {
-  in_pool = subst (λ n. AreAttached n (numbers_of attached) clauses) (sym step.variables) h.in_pool;
+  in_pool = subst (λ n. AreAttached n (numbers_attached attached) clauses) (sym step.variables) h.in_pool;
   reasons = reasons;
   watching = h.watching;
   size = h.size;
@@ -49,8 +49,8 @@ watches_more {attached = attached} {clauses = clauses} h step reasons = record {
 }
 
 pub walk_more : {attached : Attached} {clauses : List Clause} {lit : Literal} {a b : Assignment} {w : Watches} {first : Option ℕ}
-    → IsWalk attached clauses lit a w first → Propagates a b → AreReasons (numbers_of attached) clauses b.literals
-    → IsWalk attached clauses lit b w first
+    → IsWatchWalk attached clauses lit a w first → Propagates a b → AreReasons (numbers_attached attached) clauses b.literals
+    → IsWatchWalk attached clauses lit b w first
 walk_more {w = w} h step reasons = record {
   watches = watches_more h.watches step reasons;
   ahead = h.ahead;
@@ -63,7 +63,7 @@ walk_more {w = w} h step reasons = record {
 -- ---- at a watch
 
 module _ {attached : Attached} {clauses : List Clause} {lit : Literal} {a : Assignment} {w : Watches} {first : Option ℕ}
-    (h : IsWalk attached clauses lit a w first) {watch : ℕ} (at : IsAtWatch h.ahead watch) where
+    (h : IsWatchWalk attached clauses lit a w first) {watch : ℕ} (at : IsAtWatch h.ahead watch) where
   -- the number of the watch's clause, and the literal of the clause's other watch
   abbrev pub number : ℕ
   number = owner attached.long.items watch
@@ -77,11 +77,11 @@ module _ {attached : Attached} {clauses : List Clause} {lit : Literal} {a : Assi
   pub other_within : partner watch < length w.literals.items
   other_within = partner_within watch (length attached.long.items) (length w.literals.items) h.watches.size at.within
 
-  pub number_in : Contains (numbers_of attached) number
+  pub number_in : Contains (numbers_attached attached) number
   number_in = Contains-append_right attached.short.items attached.long.items number (Contains-get_or attached.long.items (watch / 2) 0 half_within)
 
   pub number_bounds : (0 < number) × (number ≤ length clauses)
-  number_bounds = All-contains (λ n. (0 < n) × (n ≤ length clauses)) (numbers_of attached) number h.watches.in_pool.numbered number_in
+  number_bounds = All-contains (λ n. (0 < n) × (n ≤ length clauses)) (numbers_attached attached) number h.watches.in_pool.numbered number_in
 
   module _ (clause : Clause) (found : numbered_clause clauses number ≡ Some clause) where
     pub clause_proper : IsProper a.variables clause
@@ -95,8 +95,8 @@ module _ {attached : Attached} {clauses : List Clause} {lit : Literal} {a : Assi
 
   -- ---- one watch further
 
-  module _ {b : Assignment} (step : Propagates a b) (trail : IsTrail b) (false_now : Contains (held b) (opposite lit)) (clause : Clause)
-      (found : numbered_clause clauses number ≡ Some clause) (target : Literal) (t : IsRewatch (held b) clause lit other target) where
+  module _ {b : Assignment} (step : Propagates a b) (trail : IsTrail b) (false_now : Contains (assigned_literals b) (opposite lit)) (clause : Clause)
+      (found : numbered_clause clauses number ≡ Some clause) (target : Literal) (t : IsRewatch (assigned_literals b) clause lit other target) where
     two : AreWatched clause lit other
     two = both_watched clause found
 
@@ -107,7 +107,7 @@ module _ {attached : Attached} {clauses : List Clause} {lit : Literal} {a : Assi
     still_watched : AreWatched clause target other
     still_watched = by t
       where
-        by : IsRewatch (held b) clause lit other target
+        by : IsRewatch (assigned_literals b) clause lit other target
             → AreWatched clause target other
         by (inl same) = subst (λ l. AreWatched clause l other) (sym same.0) two
         by (inr opened) = record {
@@ -136,40 +136,40 @@ module _ {attached : Attached} {clauses : List Clause} {lit : Literal} {a : Assi
       kept_step visited reached le kept =
           let k = kept_more step visited reached w.literals.items le kept in
           subst (AreKept b.literals visited reached) (sym r.literals)
-          (each_set (λ m l o. IsKept b.literals visited reached l o) w.literals.items watch target at.within
-          (by t (λ j d below e. subst (λ l. IsKept b.literals visited reached l other) at.is (k watch at.within) j d below e))
+          (each_set (λ m l o. IsPartnerTrue b.literals visited reached l o) w.literals.items watch target at.within
+          (by t (λ j d below e. subst (λ l. IsPartnerTrue b.literals visited reached l other) at.is (k watch at.within) j d below e))
           (λ j d below e.
           let back = k (partner watch) (other_within) j d below e in
           let lit_true : (get_or b.literals back.place d).literal ≡ lit = back.is_true ∙ (ap (watched w.literals.items) (partner_back watch) ∙ at.is) in
           absurd (not_both b lit trail (held_at b.literals back.place d lit back.within lit_true) false_now))
           (λ m less ne apart. k m less))
         where
-          by : IsRewatch (held b) clause lit other target
-              → IsKept b.literals visited reached lit other
-              → IsKept b.literals visited reached target other
-          by (inl same) was = subst (λ l. IsKept b.literals visited reached l other) (sym same.0) was
+          by : IsRewatch (assigned_literals b) clause lit other target
+              → IsPartnerTrue b.literals visited reached lit other
+              → IsPartnerTrue b.literals visited reached target other
+          by (inl same) was = subst (λ l. IsPartnerTrue b.literals visited reached l other) (sym same.0) was
           by (inr opened) was = λ j d below e. absurd (opened.not_false (held_at b.literals j d (opposite target) (omega (arith, below, le, ap length step.added, length-append a.literals step.more)) e))
 
-      seen_later : EachWatch (λ m l o. l ≡ lit → Contains (held b) o ⊎ IsAmong at.later m) new.literals.items
-      seen_later = subst (EachWatch (λ m l o. l ≡ lit → Contains (held b) o ⊎ IsAmong at.later m)) (sym r.literals)
-          (each_set (λ m l o. l ≡ lit → Contains (held b) o ⊎ IsAmong at.later m) w.literals.items watch target at.within
+      seen_later : EachWatch (λ m l o. l ≡ lit → Contains (assigned_literals b) o ⊎ IsWatchAmong at.later m) new.literals.items
+      seen_later = subst (EachWatch (λ m l o. l ≡ lit → Contains (assigned_literals b) o ⊎ IsWatchAmong at.later m)) (sym r.literals)
+          (each_set (λ m l o. l ≡ lit → Contains (assigned_literals b) o ⊎ IsWatchAmong at.later m) w.literals.items watch target at.within
           (by t)
           (λ e. absurd (not_other e))
           (λ m less ne apart is. elim (h.seen m less is) [
             | inl true_before ↦ inl (held_more step (other_watched w.literals.items m) true_before)
-            | inr ahead ↦ elim (subst (λ rest. IsAmong rest m) at.rest ahead) [
+            | inr ahead ↦ elim (subst (λ rest. IsWatchAmong rest m) at.rest ahead) [
               | inl e ↦ absurd (ne (sym e))
               | inr later ↦ inr later
             ]
           ]))
         where
-          by : IsRewatch (held b) clause lit other target → target ≡ lit
-              → Contains (held b) other ⊎ IsAmong at.later watch
+          by : IsRewatch (assigned_literals b) clause lit other target → target ≡ lit
+              → Contains (assigned_literals b) other ⊎ IsWatchAmong at.later watch
           by (inl same) e = inl same.1
-          by (inr opened) e = absurd (opened.not_false (subst (λ l. Contains (held b) (opposite l)) (sym e) false_now))
+          by (inr opened) e = absurd (opened.not_false (subst (λ l. Contains (assigned_literals b) (opposite l)) (sym e) false_now))
 
-      pub walk_step : AreReasons (numbers_of attached) clauses b.literals → (next : Option ℕ) → next ≡ get_or w.nexts.items watch None
-          → (n : IsWalk attached clauses lit b new next) × (n.ahead.rest ≡ at.later)
+      pub walk_step : AreReasons (numbers_attached attached) clauses b.literals → (next : Option ℕ) → next ≡ get_or w.nexts.items watch None
+          → (n : IsWatchWalk attached clauses lit b new next) × (n.ahead.rest ≡ at.later)
       walk_step reasons next is =
           let moved = moved_ahead h.ahead at target target_code new r next is in
           let more = watches_more h.watches step reasons in (
@@ -184,7 +184,7 @@ module _ {attached : Attached} {clauses : List Clause} {lit : Literal} {a : Assi
               ahead = moved.0;
               seen = λ m less is. elim (seen_later m less is) [
                 | inl true_now ↦ inl true_now
-                | inr later ↦ inr (subst (λ rest. IsAmong rest m) (sym moved.1) later)
+                | inr later ↦ inr (subst (λ rest. IsWatchAmong rest m) (sym moved.1) later)
               ];
             },
             moved.1,
@@ -196,21 +196,21 @@ module _ {attached : Attached} {clauses : List Clause} {lit : Literal} {a : Assi
 pub walk_start : {attached : Attached} {clauses : List Clause} {a : Assignment} (w : Watches) → HasWatches attached clauses a w
     → (listed : AreInLists w []) (lit : Literal) → (below : code_of lit < length w.firsts.items)
     → (new : Watches) → new.firsts.items ≡ set w.firsts.items (code_of lit) None → new.nexts ≡ w.nexts → new.literals ≡ w.literals
-    → (first : Option ℕ) → first ≡ head_of w.firsts.items lit → IsWalk attached clauses lit a new first
+    → (first : Option ℕ) → first ≡ head_of w.firsts.items lit → IsWatchWalk attached clauses lit a new first
 walk_start {a = a} w h listed lit below new firsts nexts literals first is =
     let taken = ahead_taken w listed lit below new firsts nexts literals first is in
     record {
       watches = watches_same h new (ap (λ v. v.items) literals) (ap length firsts ∙ length-set w.firsts.items (code_of lit) None);
       ahead = taken.0;
-      seen = subst (EachWatch (λ m l other. l ≡ lit → Contains (held a) other ⊎ IsAmong taken.0.rest m)) (sym (ap (λ v. v.items) literals))
+      seen = subst (EachWatch (λ m l other. l ≡ lit → Contains (assigned_literals a) other ⊎ IsWatchAmong taken.0.rest m)) (sym (ap (λ v. v.items) literals))
           (λ m less is. elim ((listed.lists (code_of lit) below).whole m less (ap code_of is)) [
-            | inl there ↦ inr (subst (λ rest. IsAmong rest m) (sym taken.1) there)
+            | inl there ↦ inr (subst (λ rest. IsWatchAmong rest m) (sym taken.1) there)
             | inr none ↦ absurd none
           ]);
     }
 
 -- once no watch is ahead the literal is gone through
-pub walk_end : {attached : Attached} {clauses : List Clause} {lit : Literal} {a : Assignment} {w : Watches} {first : Option ℕ} (h : IsWalk attached clauses lit a w first)
+pub walk_end : {attached : Attached} {clauses : List Clause} {lit : Literal} {a : Assignment} {w : Watches} {first : Option ℕ} (h : IsWatchWalk attached clauses lit a w first)
     → first ≡ None
     → (place visited : ℕ) → ((d : SetLiteral) → (get_or a.literals place d).literal ≡ opposite lit) → visited ≤ place
     → AreKept a.literals visited place w.literals.items → AreKept a.literals visited (place + 1) w.literals.items
@@ -222,13 +222,13 @@ walk_end {lit = lit} {a = a} {w = w} h none place visited at_place le k m less j
         | inl true_now ↦
             let p = place_of a.literals (other_watched w.literals.items m) true_now in
             record { place = p.0; within = p.1; is_true = p.2 d; level = λ v. absurd (omega (arith, v, is, le)) }
-        | inr ahead ↦ absurd (subst (λ rest. IsAmong rest m) (none_ahead h.ahead none) ahead)
+        | inr ahead ↦ absurd (subst (λ rest. IsWatchAmong rest m) (none_ahead h.ahead none) ahead)
       ]
   | inr ne ↦ k m less j d (omega arith) e
 ]
 
 -- the literal is gone through where no clause was false
-pub walk_kept : {attached : Attached} {clauses : List Clause} {lit : Literal} {a : Assignment} {w : Watches} {first : Option ℕ} (h : IsWalk attached clauses lit a w first) (found : Option ℕ)
+pub walk_kept : {attached : Attached} {clauses : List Clause} {lit : Literal} {a : Assignment} {w : Watches} {first : Option ℕ} (h : IsWatchWalk attached clauses lit a w first) (found : Option ℕ)
     → (IsNone found → first ≡ None)
     → (place visited : ℕ) → ((d : SetLiteral) → (get_or a.literals place d).literal ≡ opposite lit) → visited ≤ place
     → AreKept a.literals visited place w.literals.items

@@ -26,8 +26,8 @@ decision a l = record { literal = l; level = a.level + 1; reason = None }
 abbrev pub literals_of : List SetLiteral → List Literal
 literals_of literals = map (λ (s : SetLiteral). s.literal) literals
 
-abbrev pub held : Assignment → List Literal
-held a = literals_of a.literals
+abbrev pub assigned_literals : Assignment → List Literal
+assigned_literals a = literals_of a.literals
 
 -- No literal of the variable is set.
 abbrev pub IsUnset : Assignment → ℕ → Type 0
@@ -40,18 +40,18 @@ IsSetAt a variable (Some s) = Contains a.literals s × (s.literal.variable ≡ v
 
 -- whether a literal is true, or false, or neither
 abbrev pub IsValueOf : Assignment → Literal → Option Bool → Type 0
-IsValueOf a l None = IsUndetermined (held a) l
-IsValueOf a l (Some true) = Contains (held a) l
-IsValueOf a l (Some false) = Contains (held a) (opposite l)
+IsValueOf a l None = IsUndetermined (assigned_literals a) l
+IsValueOf a l (Some true) = Contains (assigned_literals a) l
+IsValueOf a l (Some false) = Contains (assigned_literals a) (opposite l)
 
 -- A decided literal begins the next level. One with a reason has the level of the one before it.
 abbrev pub FollowsLevel : ℕ → SetLiteral → Type 0
 FollowsLevel before s = MatchOption s.reason (s.level ≡ before + 1) (λ _. s.level ≡ before)
 
 -- The levels follow one another, from the one before the first literal up to that of the last one.
-abbrev pub AreLevels : ℕ → List SetLiteral → ℕ → Type 0
-AreLevels before [] last = before ≡ last
-AreLevels before (s ∷ rest) last = FollowsLevel before s × AreLevels s.level rest last
+abbrev pub AreInLevels : ℕ → List SetLiteral → ℕ → Type 0
+AreInLevels before [] last = before ≡ last
+AreInLevels before (s ∷ rest) last = FollowsLevel before s × AreInLevels s.level rest last
 
 abbrev pub IsInside : ℕ → SetLiteral → Type 0
 IsInside variables s = (0 < s.literal.variable) × (s.literal.variable ≤ variables)
@@ -62,7 +62,7 @@ pub record IsTrail (a : Assignment) : Type 0 where
   pub inside : All (IsInside a.variables) a.literals
   pub once : AllPairs (λ (s t : SetLiteral). s.literal.variable ≢ t.literal.variable) a.literals
   pub few : length a.literals ≤ a.variables
-  pub levels : AreLevels 0 a.literals a.level
+  pub levels : AreInLevels 0 a.literals a.level
 
 -- All literals from a place on are of the present level.
 abbrev pub IsSteady : Assignment → ℕ → Type 0

@@ -6,27 +6,27 @@ use Rattle.clause_pool.specs.Partial.{IsSatisfied}
 use Rattle.solver_trail.specs.declared.propagation.Attached.{Attached}
 use Rattle.solver_trail.specs.declared.set_literals.SetLiteral.{SetLiteral}
 use Rattle.solver_trail.specs.declared.watches.Watches.{Watches}
-use Rattle.solver_trail.specs.Assignment.{Assignment, held}
+use Rattle.solver_trail.specs.Assignment.{Assignment, assigned_literals}
 use Rattle.solver_trail.specs.Trail.{TrailState, AreAttached, AreReasons, IsFalseClause}
-use Rattle.solver_trail.specs.Watches.{AreWatching, EachWatch, IsAhead, IsAmong}
+use Rattle.solver_trail.specs.Watches.{AreWatching, EachWatch, IsAhead, IsWatchAmong}
 
 -- the numbers of the attached clauses
-abbrev pub numbers_of : Attached → List ℕ
-numbers_of attached = attached.short.items ++ attached.long.items
+abbrev pub numbers_attached : Attached → List ℕ
+numbers_attached attached = attached.short.items ++ attached.long.items
 
 -- what a trail shows
-abbrev pub state_of : Assignment → Attached → Watches → TrailState
-state_of a attached w = record { assignment = a; short = attached.short.items; long = attached.long.items; watched = w.literals.items }
+abbrev pub trail_state : Assignment → Attached → Watches → TrailState
+trail_state a attached w = record { assignment = a; short = attached.short.items; long = attached.long.items; watched = w.literals.items }
 
 -- The clauses of these numbers are satisfied.
 abbrev pub AreSatisfied : List Literal → List ℕ → List Clause → Type 0
-AreSatisfied held numbers clauses = (number : ℕ) (clause : Clause) → Contains numbers number → numbered_clause clauses number ≡ Some clause
-    → IsSatisfied held clause
+AreSatisfied assigned_literals numbers clauses = (number : ℕ) (clause : Clause) → Contains numbers number → numbered_clause clauses number ≡ Some clause
+    → IsSatisfied assigned_literals clause
 
 -- The number is of an attached clause that is false.
 abbrev pub IsConflict : List ℕ → List Clause → List Literal → ℕ → Type 0
-IsConflict numbers clauses held number =
-    Contains numbers number × ((clause : Clause) → numbered_clause clauses number ≡ Some clause → IsFalseClause held clause)
+IsConflict numbers clauses assigned_literals number =
+    Contains numbers number × ((clause : Clause) → numbered_clause clauses number ≡ Some clause → IsFalseClause assigned_literals clause)
 
 -- Reasons that were among some numbers, this one with them, are so again.
 abbrev pub KeepsReasons : ℕ → List Clause → List SetLiteral → List SetLiteral → Type 0
@@ -34,34 +34,34 @@ KeepsReasons number clauses old new = (attached : List ℕ) → Contains attache
 
 -- All literals of the clause but this one are false.
 abbrev pub AreOthersFalse : List Literal → Clause → Literal → Type 0
-AreOthersFalse held clause other = (l : Literal) → Contains clause l → l ≢ other → Contains held (opposite l)
+AreOthersFalse assigned_literals clause other = (l : Literal) → Contains clause l → l ≢ other → Contains assigned_literals (opposite l)
 
 -- Another literal of the clause is not false.
-pub record IsOpenOther (held : List Literal) (clause : Clause) (other l : Literal) : Type 0 where
+pub record IsOpenOther (assigned_literals : List Literal) (clause : Clause) (other l : Literal) : Type 0 where
   pub inside : Contains clause l
   pub apart : l ≢ other
-  pub not_false : ¬ Contains held (opposite l)
+  pub not_false : ¬ Contains assigned_literals (opposite l)
 
 -- What is watched in place of a false literal: the same one, while the clause's other watched literal is true, or an open one.
 abbrev pub IsRewatch : List Literal → Clause → Literal → Literal → Literal → Type 0
-IsRewatch held clause lit other target = ((target ≡ lit) × Contains held other) ⊎ IsOpenOther held clause other target
+IsRewatch assigned_literals clause lit other target = ((target ≡ lit) × Contains assigned_literals other) ⊎ IsOpenOther assigned_literals clause other target
 
 -- What a visit gives for the clause of a number: what is watched from now on, or none where the clause is false.
 abbrev pub IsVisited : List Clause → ℕ → List Literal → Literal → Literal → Option Literal → Type 0
-IsVisited clauses number held lit other target = (clause : Clause) → numbered_clause clauses number ≡ Some clause
-    → MatchOption target (IsFalseClause held clause) (IsRewatch held clause lit other)
+IsVisited clauses number assigned_literals lit other target = (clause : Clause) → numbered_clause clauses number ≡ Some clause
+    → MatchOption target (IsFalseClause assigned_literals clause) (IsRewatch assigned_literals clause lit other)
 
 -- The attached clauses are in the pool, with the reasons of the set literals among them. Two literals of each clause of two
 -- or more are watched.
 pub record HasWatches (attached : Attached) (clauses : List Clause) (a : Assignment) (w : Watches) : Type 0 where
-  pub in_pool : AreAttached a.variables (numbers_of attached) clauses
-  pub reasons : AreReasons (numbers_of attached) clauses a.literals
+  pub in_pool : AreAttached a.variables (numbers_attached attached) clauses
+  pub reasons : AreReasons (numbers_attached attached) clauses a.literals
   pub watching : AreWatching attached.long.items clauses w.literals.items
   pub size : length w.literals.items ≡ 2 * length attached.long.items
   pub codes : length w.firsts.items ≡ 2 * a.variables + 2
 
 -- The watches of a literal are gone through: at each that isn't ahead the partner's literal is true.
-pub record IsWalk (attached : Attached) (clauses : List Clause) (lit : Literal) (a : Assignment) (w : Watches) (first : Option ℕ) : Type 0 where
+pub record IsWatchWalk (attached : Attached) (clauses : List Clause) (lit : Literal) (a : Assignment) (w : Watches) (first : Option ℕ) : Type 0 where
   pub watches : HasWatches attached clauses a w
   pub ahead : IsAhead w lit first
-  pub seen : EachWatch (λ watch l other. l ≡ lit → Contains (held a) other ⊎ IsAmong ahead.rest watch) w.literals.items
+  pub seen : EachWatch (λ watch l other. l ≡ lit → Contains (assigned_literals a) other ⊎ IsWatchAmong ahead.rest watch) w.literals.items

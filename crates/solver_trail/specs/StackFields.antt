@@ -4,11 +4,11 @@ use Rattle.std.specs.List.{HoldsAt, count_by}
 use Rattle.clause_pool.specs.Literal.{Literal}
 use Rattle.solver_trail.specs.declared.set_literals.SetLiteral.{SetLiteral}
 use Rattle.solver_trail.specs.declared.set_literals.Slot.{Slot}
-use Rattle.solver_trail.specs.Assignment.{literals_of, IsInside, AreLevels}
+use Rattle.solver_trail.specs.Assignment.{literals_of, IsInside, AreInLevels}
 
 -- the slot of a literal at a place
-abbrev pub slot_of : Literal → ℕ → Slot
-slot_of l place = record { positive = l.positive; place = place }
+abbrev pub literal_slot : Literal → ℕ → Slot
+literal_slot l place = record { positive = l.positive; place = place }
 
 -- Each set literal has its place in the slot of its variable, and the slots have no other places.
 pub record ArePlaced (variables : ℕ) (literals : List Literal) (entries : List SetLiteral) (slots : List (Option Slot)) : Type 0 where
@@ -16,7 +16,7 @@ pub record ArePlaced (variables : ℕ) (literals : List Literal) (entries : List
   pub table : length slots ≡ variables + 1
   pub inside : All (IsInside variables) entries
   pub slot : (k : ℕ) (d : SetLiteral) → k < length entries
-      → slice_index_or slots (slice_index_or entries k d).literal.variable None ≡ Some (slot_of (slice_index_or entries k d).literal k)
+      → slice_index_or slots (slice_index_or entries k d).literal.variable None ≡ Some (literal_slot (slice_index_or entries k d).literal k)
   pub entry : (variable : ℕ) (s : Slot) → slice_index_or slots variable None ≡ Some s
       → (s.place < length entries) × HoldsAt (λ (e : SetLiteral). e.literal ≡ record { variable = variable; positive = s.positive }) entries s.place
   pub count : length entries + count_by is_none slots ≡ length slots
@@ -24,6 +24,6 @@ pub record ArePlaced (variables : ℕ) (literals : List Literal) (entries : List
 -- The set literals are in their slots, their levels follow one another up to the present one, and there is room for each variable.
 pub record IsStack (variables level : ℕ) (literals : List Literal) (entries : List SetLiteral) (slots : List (Option Slot)) (literal_capacity entry_capacity : ℕ) : Type 0 where
   pub placed : ArePlaced variables literals entries slots
-  pub levels : AreLevels 0 entries level
+  pub levels : AreInLevels 0 entries level
   pub literal_room : variables < literal_capacity
   pub entry_room : variables < entry_capacity

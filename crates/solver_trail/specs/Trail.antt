@@ -7,7 +7,7 @@ use Rattle.clause_pool.specs.Proper.{IsProper}
 use Rattle.solver_trail.specs.declared.set_literals.SetLiteral.{SetLiteral}
 use Rattle.solver_trail.specs.declared.trail.Propagated.{Propagated}
 use Rattle.solver_trail.specs.declared.trail.Propagated.TheVariants.{Quiet, Conflict}
-use Rattle.solver_trail.specs.Assignment.{Assignment, held, literals_of}
+use Rattle.solver_trail.specs.Assignment.{Assignment, assigned_literals, literals_of}
 use Rattle.solver_trail.specs.Watches.{AreWatching}
 
 -- the set literals; the numbers of the attached clauses of fewer than two literals, and of the others, each in the order of
@@ -66,15 +66,15 @@ pub record Fits (trail : TrailState) (clauses : List Clause) : Type 0 where
 
 -- All literals of the clause are false.
 abbrev pub IsFalseClause : List Literal → Clause → Type 0
-IsFalseClause held clause = All (λ (l : Literal). Contains held (opposite l)) clause
+IsFalseClause assigned_literals clause = All (λ (l : Literal). Contains assigned_literals (opposite l)) clause
 
 -- what propagation ends with
-abbrev pub IsFound : TrailState → List Clause → Propagated → Type 0
-IsFound trail clauses Quiet = (number : ℕ) (clause : Clause) → Contains (attached_numbers trail) number
-    → numbered_clause clauses number ≡ Some clause → IsQuiet (held trail.assignment) clause
-IsFound trail clauses (Conflict number) =
+abbrev pub IsPropagated : TrailState → List Clause → Propagated → Type 0
+IsPropagated trail clauses Quiet = (number : ℕ) (clause : Clause) → Contains (attached_numbers trail) number
+    → numbered_clause clauses number ≡ Some clause → IsQuiet (assigned_literals trail.assignment) clause
+IsPropagated trail clauses (Conflict number) =
     Contains (attached_numbers trail) number
-    × ((clause : Clause) → numbered_clause clauses number ≡ Some clause → IsFalseClause (held trail.assignment) clause)
+    × ((clause : Clause) → numbered_clause clauses number ≡ Some clause → IsFalseClause (assigned_literals trail.assignment) clause)
 
 -- Something holds of the literal that is set of a variable.
 abbrev pub HasLiteral : Assignment → ℕ → (SetLiteral → Type 0) → Type 0

@@ -6,7 +6,7 @@ use Rattle.solver_trail.specs.Watches.{AreInLists, AreKept}
 
 -- The watches are in their lists. Where one watches a literal that is false by one of those that were visited for good, its
 -- partner's literal is true and of no higher level.
-pub record IsPrepared (a : Assignment) (w : Watches) (visited : ℕ) : Type 0 where
+pub record AreWatchesReady (a : Assignment) (w : Watches) (visited : ℕ) : Type 0 where
   pub trail : IsTrail a
   pub listed : AreInLists w []
   pub codes : length w.firsts.items ≡ 2 * a.variables + 2

@@ -53,32 +53,32 @@ IsChain nexts first [] = first ≡ None
 IsChain nexts first (watch ∷ rest) = (first ≡ Some watch) × IsChain nexts (slice_index_or nexts watch None) rest
 
 -- The watch is one of these.
-abbrev pub IsAmong : List ℕ → ℕ → Type 0
-IsAmong [] watch = ⊥
-IsAmong (i ∷ rest) watch = (i ≡ watch) ⊎ IsAmong rest watch
+abbrev pub IsWatchAmong : List ℕ → ℕ → Type 0
+IsWatchAmong [] watch = ⊥
+IsWatchAmong (i ∷ rest) watch = (i ≡ watch) ⊎ IsWatchAmong rest watch
 
 -- None is there twice.
-abbrev pub AreApart : List ℕ → Type 0
-AreApart [] = ⊤
-AreApart (watch ∷ rest) = ¬ IsAmong rest watch × AreApart rest
+abbrev pub AreListedOnce : List ℕ → Type 0
+AreListedOnce [] = ⊤
+AreListedOnce (watch ∷ rest) = ¬ IsWatchAmong rest watch × AreListedOnce rest
 
 -- The list of the literal with this code has exactly the watches of that literal which aren't taken out.
 pub record IsListOf (firsts nexts : List (Option ℕ)) (literals : List Literal) (out : List ℕ) (code : ℕ) : Type 0 where
   pub members : List ℕ
   pub chain : IsChain nexts (slice_index_or firsts code None) members
-  pub apart : AreApart members
-  pub owned : (watch : ℕ) → IsAmong members watch
-      → (watch < length literals) × (code_of (watched literals watch) ≡ code) × ¬ IsAmong out watch
+  pub apart : AreListedOnce members
+  pub owned : (watch : ℕ) → IsWatchAmong members watch
+      → (watch < length literals) × (code_of (watched literals watch) ≡ code) × ¬ IsWatchAmong out watch
   pub whole : (watch : ℕ) → watch < length literals → code_of (watched literals watch) ≡ code
-      → IsAmong members watch ⊎ IsAmong out watch
+      → IsWatchAmong members watch ⊎ IsWatchAmong out watch
 
-pub record AreListed (firsts nexts : List (Option ℕ)) (literals : List Literal) (out : List ℕ) : Type 0 where
+pub record AreWatchesListed (firsts nexts : List (Option ℕ)) (literals : List Literal) (out : List ℕ) : Type 0 where
   pub size : length nexts ≡ length literals
   pub lists : (code : ℕ) → code < length firsts → IsListOf firsts nexts literals out code
 
 -- Each watch is in the list of its literal, but for those that are taken out.
 abbrev pub AreInLists : Watches → List ℕ → Type 0
-AreInLists w out = AreListed w.firsts.items w.nexts.items w.literals.items out
+AreInLists w out = AreWatchesListed w.firsts.items w.nexts.items w.literals.items out
 
 -- A watch is put to the front of the list of the literal that it watches now.
 pub record IsRewatched (old new : Watches) (watch : ℕ) (lit : Literal) : Type 0 where
@@ -94,8 +94,8 @@ IsWatchOf literals watch lit = (watch < length literals) × (watched literals wa
 pub record IsAhead (w : Watches) (lit : Literal) (first : Option ℕ) : Type 0 where
   pub rest : List ℕ
   pub chain : IsChain w.nexts.items first rest
-  pub apart : AreApart rest
-  pub owned : (watch : ℕ) → IsAmong rest watch → IsWatchOf w.literals.items watch lit
+  pub apart : AreListedOnce rest
+  pub owned : (watch : ℕ) → IsWatchAmong rest watch → IsWatchOf w.literals.items watch lit
   pub listed : AreInLists w rest
 
 -- ---- what propagation has gone through
@@ -108,10 +108,10 @@ pub record IsTrueBy (literals : List SetLiteral) (visited : ℕ) (l : Literal) (
   pub level : j < visited → (slice_index_or literals place d).level ≤ (slice_index_or literals j d).level
 
 -- Where the literal is false by one of the first set literals, the partner's is true.
-abbrev pub IsKept : List SetLiteral → ℕ → ℕ → Literal → Literal → Type 0
-IsKept literals visited reached l other = (j : ℕ) (d : SetLiteral) → j < reached → (slice_index_or literals j d).literal ≡ opposite l
+abbrev pub IsPartnerTrue : List SetLiteral → ℕ → ℕ → Literal → Literal → Type 0
+IsPartnerTrue literals visited reached l other = (j : ℕ) (d : SetLiteral) → j < reached → (slice_index_or literals j d).literal ≡ opposite l
     → IsTrueBy literals visited other j d
 
 -- The first literals have been gone through, and those before the visited places will stay so until they are unset.
 abbrev pub AreKept : List SetLiteral → ℕ → ℕ → List Literal → Type 0
-AreKept literals visited reached watched = EachWatch (λ watch l other. IsKept literals visited reached l other) watched
+AreKept literals visited reached watched = EachWatch (λ watch l other. IsPartnerTrue literals visited reached l other) watched

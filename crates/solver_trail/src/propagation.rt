@@ -5,10 +5,10 @@ ghost use Rattle.std.specs.Prelude.{◌≡◌, ℕ, ◌+◌, ◌<◌, ◌≤◌,
 ghost use Rattle.clause_pool.specs.Literal.{opposite};
 ghost use Rattle.clause_pool.specs.Clauses.{Clause, numbered_clause};
 ghost use Rattle.clause_pool.specs.Proper.{IsProper};
-ghost use Rattle.solver_trail.specs.Assignment.{IsTrail, Propagates, held};
-ghost use Rattle.solver_trail.specs.Trail.{AreAttached, AreReasons, AreShort, IsFound};
+ghost use Rattle.solver_trail.specs.Assignment.{IsTrail, Propagates, assigned_literals};
+ghost use Rattle.solver_trail.specs.Trail.{AreAttached, AreReasons, AreShort, IsPropagated};
 ghost use Rattle.solver_trail.specs.Watches.{AreInLists, AreKept};
-ghost use Rattle.solver_trail.specs.Propagation.{numbers_of, state_of, AreSatisfied, AreOthersFalse, IsOpenOther, IsVisited, IsConflict, KeepsReasons, HasWatches, IsWalk};
+ghost use Rattle.solver_trail.specs.Propagation.{numbers_attached, trail_state, AreSatisfied, AreOthersFalse, IsOpenOther, IsVisited, IsConflict, KeepsReasons, HasWatches, IsWatchWalk};
 
 use crate::set_literals::SetLiterals;
 use crate::trail::Propagated;
@@ -39,7 +39,7 @@ pub(crate) fn propagate(
     requires listed { AreInLists watches.old [] }
     requires short { AreShort attached.now.short.items pool.now.clauses }
     requires kept { AreKept set.old.literals place.old place.old watches.old.literals.items }
-    ensures found { IsFound (state_of set.new attached.now watches.new) pool.now.clauses result }
+    ensures found { IsPropagated (trail_state set.new attached.now watches.new) pool.now.clauses result }
     ensures set { Propagates set.old set.new }
     ensures trail { IsTrail set.new }
     ensures watches { HasWatches attached.now pool.now.clauses set.new watches.new }
@@ -60,14 +60,14 @@ pub(crate) fn propagate(
 // Sets the literals of the clauses of one literal, or answers the number of one of no literal or whose literal is false.
 fn set_units(set: &mut SetLiterals, attached: &Attached, pool: &Pool) -> Option<u32>
     requires trail { IsTrail set.old }
-    requires attached { AreAttached set.old.variables (numbers_of attached.now) pool.now.clauses }
-    requires reasons { AreReasons (numbers_of attached.now) pool.now.clauses set.old.literals }
+    requires attached { AreAttached set.old.variables (numbers_attached attached.now) pool.now.clauses }
+    requires reasons { AreReasons (numbers_attached attached.now) pool.now.clauses set.old.literals }
     requires short { AreShort attached.now.short.items pool.now.clauses }
     ensures set { Propagates set.old set.new }
     ensures trail { IsTrail set.new }
-    ensures reasons { AreReasons (numbers_of attached.now) pool.now.clauses set.new.literals }
-    ensures units { IsNone result → AreSatisfied (held set.new) attached.now.short.items pool.now.clauses }
-    ensures conflict { IfSome result (IsConflict (numbers_of attached.now) pool.now.clauses (held set.new)) }
+    ensures reasons { AreReasons (numbers_attached attached.now) pool.now.clauses set.new.literals }
+    ensures units { IsNone result → AreSatisfied (assigned_literals set.new) attached.now.short.items pool.now.clauses }
+    ensures conflict { IfSome result (IsConflict (numbers_attached attached.now) pool.now.clauses (assigned_literals set.new)) }
 {
     let level = set.level();
     for number in &attached.short {
@@ -103,7 +103,7 @@ fn follow(
     ensures watches { HasWatches attached.now pool.now.clauses set.new watches.new }
     ensures listed { AreInLists watches.new [] }
     ensures kept { AreKept set.old.literals place.old place.old watches.old.literals.items → AreKept set.new.literals place.old place.new watches.new.literals.items }
-    ensures conflict { IfSome result (IsConflict (numbers_of attached.now) pool.now.clauses (held set.new)) }
+    ensures conflict { IfSome result (IsConflict (numbers_attached attached.now) pool.now.clauses (assigned_literals set.new)) }
 {
     while *place < set.literals().len() {
         match visit_list(set, watches, attached, pool, *place) {
@@ -131,7 +131,7 @@ fn visit_list(
     ensures watches { HasWatches attached.now pool.now.clauses set.new watches.new }
     ensures listed { AreInLists watches.new [] }
     ensures kept { (visited : ℕ) → visited ≤ place → AreKept set.old.literals visited place watches.old.literals.items → AreKept set.new.literals visited (if is_none result then place + 1 else place) watches.new.literals.items }
-    ensures conflict { IfSome result (IsConflict (numbers_of attached.now) pool.now.clauses (held set.new)) }
+    ensures conflict { IfSome result (IsConflict (numbers_attached attached.now) pool.now.clauses (assigned_literals set.new)) }
 {
     let lit = set.literals()[place].opposite();
     let mut ahead = watches.take(lit);
@@ -150,14 +150,14 @@ fn visit_ahead(
     ahead: &mut Option<usize>,
 ) -> Option<u32>
     requires trail { IsTrail set.old }
-    requires lit { Contains (held set.old) (opposite lit) }
-    requires walk { IsWalk attached.now pool.now.clauses lit set.old watches.old ahead.old }
+    requires lit { Contains (assigned_literals set.old) (opposite lit) }
+    requires walk { IsWatchWalk attached.now pool.now.clauses lit set.old watches.old ahead.old }
     ensures set { Propagates set.old set.new }
     ensures trail { IsTrail set.new }
-    ensures walk { IsWalk attached.now pool.now.clauses lit set.new watches.new ahead.new }
+    ensures walk { IsWatchWalk attached.now pool.now.clauses lit set.new watches.new ahead.new }
     ensures kept { (visited reached : ℕ) → reached ≤ length set.old.literals → AreKept set.old.literals visited reached watches.old.literals.items → AreKept set.new.literals visited reached watches.new.literals.items }
     ensures done { IsNone result → ahead.new ≡ None }
-    ensures conflict { IfSome result (IsConflict (numbers_of attached.now) pool.now.clauses (held set.new)) }
+    ensures conflict { IfSome result (IsConflict (numbers_attached attached.now) pool.now.clauses (assigned_literals set.new)) }
 {
     for _ in 0..watches.literals.len() {
         let watch = (*ahead)?;
@@ -182,7 +182,7 @@ fn visit(set: &mut SetLiterals, pool: &Pool, number: u32, lit: Lit, other: Lit) 
     ensures set { Propagates set.old set.new }
     ensures trail { IsTrail set.new }
     ensures reasons { KeepsReasons number pool.now.clauses set.old.literals set.new.literals }
-    ensures target { IsVisited pool.now.clauses number (held set.new) lit other result }
+    ensures target { IsVisited pool.now.clauses number (assigned_literals set.new) lit other result }
 {
     match set.value_of(other) {
         Some(true) => Some(lit),
@@ -202,7 +202,7 @@ fn visit(set: &mut SetLiterals, pool: &Pool, number: u32, lit: Lit, other: Lit) 
 fn open_other(set: &SetLiterals, clause: &[Lit], other: Lit) -> Option<Lit>
     requires trail { IsTrail set.now }
     requires proper { IsProper set.now.variables clause.now }
-    ensures { MatchOption result (AreOthersFalse (held set.now) clause.now other) (IsOpenOther (held set.now) clause.now other) }
+    ensures { MatchOption result (AreOthersFalse (assigned_literals set.now) clause.now other) (IsOpenOther (assigned_literals set.now) clause.now other) }
 {
     for lit in clause {
         if *lit != other && set.value_of(*lit) != Some(false) {

@@ -2,7 +2,7 @@
 
 ghost use Rattle.std.specs.Prelude.{◌≡◌, ◌<◌, ◌≤◌, ◌+◌, ◌-◌, [], None, Some, IsTrue, IsFalse, IfOk, length, take, vec_capacity};
 ghost use Rattle.std.specs.List.{HoldsAt};
-ghost use Rattle.solver_trail.specs.Assignment.{IsUnset, IsSetAt, IsValueOf, IsTrail, FollowsLevel, CutsAbove, IsSteady, IsNotFalseBefore, with_literal, decision, held};
+ghost use Rattle.solver_trail.specs.Assignment.{IsUnset, IsSetAt, IsValueOf, IsTrail, FollowsLevel, CutsAbove, IsSteady, IsNotFalseBefore, with_literal, decision, assigned_literals};
 ghost use Rattle.solver_trail.specs.declared.set_literals.SetLiteral.{SetLiteral};
 ghost use Rattle.solver_trail.specs.StackFields.{ArePlaced};
 
@@ -70,7 +70,7 @@ impl SetLiterals {
     }
 
     pub(crate) fn literals(&self) -> &[Lit]
-        ensures literals { result.now ≡ held self.now }
+        ensures literals { result.now ≡ assigned_literals self.now }
         ensures trail { IsTrail self.now }
     {
         self.literals.as_slice()

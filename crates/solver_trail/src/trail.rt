@@ -3,8 +3,8 @@
 ghost use Rattle.std.specs.Prelude.{◌≡◌, ◌≤◌, ◌<◌, ◌⊎◌, List, None, Some, IfOk, OnOk, OnErr, MatchOption, length};
 ghost use Rattle.clause_pool.specs.Clauses.{Clause, numbered_clause};
 ghost use Rattle.clause_pool.specs.Proper.{IsProper};
-ghost use Rattle.solver_trail.specs.Assignment.{IsUnset, IsTrail, Propagates, CutsAbove, with_literal, decision, held};
-ghost use Rattle.solver_trail.specs.Trail.{empty_trail, attached_numbers, Attaches, Fits, IsFound, HasLiteral};
+ghost use Rattle.solver_trail.specs.Assignment.{IsUnset, IsTrail, Propagates, CutsAbove, with_literal, decision, assigned_literals};
+ghost use Rattle.solver_trail.specs.Trail.{empty_trail, attached_numbers, Attaches, Fits, IsPropagated, HasLiteral};
 
 use crate::choice::two_to_watch;
 use crate::propagation::{Attached, propagate};
@@ -48,14 +48,14 @@ impl Drop for Trail {
 
 impl Model for Trail {
     ghost use Rattle.solver_trail.specs.Trail.{TrailState};
-    ghost use Rattle.solver_trail.specs.Propagation.{state_of};
-    ghost use Rattle.solver_trail.specs.TrailFields.{IsPrepared};
+    ghost use Rattle.solver_trail.specs.Propagation.{trail_state};
+    ghost use Rattle.solver_trail.specs.TrailFields.{AreWatchesReady};
 
     ghost Value = { TrailState };
 
-    ghost view = { λ t. state_of t.set t.attached t.watches };
+    ghost view = { λ t. trail_state t.set t.attached t.watches };
 
-    ghost invariant = { λ t. IsPrepared t.set t.watches t.visited };
+    ghost invariant = { λ t. AreWatchesReady t.set t.watches t.visited };
 }
 
 impl Trail {
@@ -121,7 +121,7 @@ impl Trail {
     /// Sets the literals that unit propagation over the attached clauses asks for, at the present level. It takes no memory.
     pub fn propagate(&mut self, pool: &Pool) -> Propagated
         requires { Fits self.old pool.now.clauses }
-        ensures found { IsFound self.new pool.now.clauses result }
+        ensures found { IsPropagated self.new pool.now.clauses result }
         ensures assignment { Propagates self.old.assignment self.new.assignment }
         ensures attached { attached_numbers self.new ≡ attached_numbers self.old }
         ensures fits { Fits self.new pool.now.clauses }
@@ -194,7 +194,7 @@ impl Trail {
 
     /// The set literals in the order in which they were set.
     pub fn set_literals(&self) -> &[Lit]
-        ensures literals { result.now ≡ held self.now.assignment }
+        ensures literals { result.now ≡ assigned_literals self.now.assignment }
         ensures trail { IsTrail self.now.assignment }
     {
         self.set.literals()

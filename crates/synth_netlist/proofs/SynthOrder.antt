@@ -11,7 +11,7 @@ use Rattle.net_model.proofs.Orders.{Contains-range}
 use Rattle.bench_reader.specs.declared.statement.Statement.{Statement}
 use Rattle.bench_reader.specs.declared.statement.Statement.TheVariants.{Input, Output, Drive, Flop}
 use Rattle.bench_reader.specs.Grammar.{gate_driver, driver_of}
-use Rattle.bench_reader.specs.Reading.{number_in}
+use Rattle.bench_reader.specs.Reading.{name_number}
 use Rattle.bench_reader.specs.Spelled.{Written, written_input, written_output, written_gate, ReadsAs}
 use Rattle.scan_cut.specs.Cut.{input_of, flop_output, source_names}
 use Rattle.scan_cut.specs.Laws.{ReadsKnown, AreOrdered}
@@ -44,11 +44,11 @@ HasKind (written_gate n word pins) = (kind : Kind) × (driver_of word ≡ Some (
 
 module _ (names : List (List ℕ)) where
   abbrev pub numbers : List (List ℕ) → List ℕ
-  numbers texts = map (number_in names) texts
+  numbers texts = map (name_number names) texts
 
   known_numbers : (known pins : List (List ℕ)) → All (Contains known) pins → All (Contains (numbers known)) (numbers pins)
   known_numbers known pins all =
-      All-map (Contains (numbers known)) (number_in names) pins (All-weaker (Contains known) (λ t. Contains (numbers known) (number_in names t)) (λ t has. Contains-map (number_in names) known t has) pins all)
+      All-map (Contains (numbers known)) (name_number names) pins (All-weaker (Contains known) (λ t. Contains (numbers known) (name_number names t)) (λ t has. Contains-map (name_number names) known t has) pins all)
 
   pub reads_known : (ws : List Written) (ss : List Statement) (known : List (List ℕ)) → AllZip (ReadsAs names) ws ss → All HasKind ws → KnownBefore known ws → ReadsKnown (numbers known) ss
   reads_known [] [] known a kinds k = tt
@@ -65,7 +65,7 @@ module _ (names : List (List ℕ)) where
   reads_known (written_gate n word pins ∷ ws) (Input q ∷ ss) known a kinds k = absurd a.0
   reads_known (written_gate n word pins ∷ ws) (Output q ∷ ss) known a kinds k = absurd a.0
   reads_known (written_gate n word pins ∷ ws) (Drive q kind ps ∷ ss) known a kinds k =
-      let longer : numbers (known ++ n ∷ []) ≡ numbers known ++ q.name ∷ [] = map-append (number_in names) known (n ∷ []) ∙ ap (λ (x : ℕ). numbers known ++ x ∷ []) (sym a.0.1) in (
+      let longer : numbers (known ++ n ∷ []) ≡ numbers known ++ q.name ∷ [] = map-append (name_number names) known (n ∷ []) ∙ ap (λ (x : ℕ). numbers known ++ x ∷ []) (sym a.0.1) in (
         each_word (Contains (numbers known)) ps (subst (λ (xs : List ℕ). All (Contains (numbers known)) xs) (sym a.0.2) (known_numbers known pins k.0)),
         subst (λ (xs : List ℕ). ReadsKnown xs ss) longer (reads_known ws ss (known ++ n ∷ []) a.1 (All-tail HasKind (written_gate n word pins) ws kinds) k.1),
       )

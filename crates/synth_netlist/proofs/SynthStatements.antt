@@ -16,8 +16,8 @@ use Rattle.net_model.proofs.Elements.{Contains-map}
 use Rattle.net_model.proofs.Orders.{Contains-range}
 use Rattle.bench_reader.specs.Tokens.{is_name_byte}
 use Rattle.bench_reader.specs.Grammar.{gate_driver, driver_of, takes}
-use Rattle.bench_reader.specs.Spelled.{Written, written_input, written_output, written_gate, written_driven, written_used, HasRightWord, AreRight, IsRun, HasRuns, written_line}
-use Rattle.synth_netlist.specs.Synth.{signal, input_line, output_line, gate_line, output_from, gate_words, gate_word, ports_text, p_gate, q_gate, s_gate, c_gate, numbered_cell, synth_text}
+use Rattle.bench_reader.specs.Spelled.{Written, written_input, written_output, written_gate, written_driven, written_used, HasRightWord, AreRightTogether, IsRun, HasRuns, written_line}
+use Rattle.synth_netlist.specs.Synth.{signal, input_line, output_line, gate_line, output_from, cell_words, gate_word, ports_text, p_gate, q_gate, s_gate, c_gate, numbered_cell, synth_text}
 
 -- ---- names: the carry into the first cell, then six of each cell
 
@@ -113,7 +113,7 @@ synth_lines n =
 abbrev pub IsGateWord : List ℕ → Type 0
 IsGateWord word = (kind : Kind) × (driver_of word ≡ Some (gate_driver kind)) × IsTrue (takes (gate_driver kind) 2) × IsRun word × (length word ≤ 4)
 
-listed_word : (r : ℕ) → r < 8 → IsGateWord (slice_index_or gate_words r [])
+listed_word : (r : ℕ) → r < 8 → IsGateWord (slice_index_or cell_words r [])
 unfolding driver_of is_name_byte
 listed_word zero h = (And, refl, refl, (omega arith, refl), omega arith)
 listed_word (suc zero) h = (Nand, refl, refl, (omega arith, refl), omega arith)
@@ -270,7 +270,7 @@ uses_driven n = record {
   gate = λ name word first second is at fa sa. both (Contains (all_places n)) first second (placed_driven n first fa) (placed_driven n second sa);
 }
 
-pub are_right : (n : ℕ) → n ≤ 2000 → AreRight (synth_statements n)
+pub are_right : (n : ℕ) → n ≤ 2000 → AreRightTogether (synth_statements n)
 are_right n small = record {
   words = all_statements n HasRightWord (right_words n);
   once = subst (λ (ts : List (List ℕ)). AllPairs (λ a b. a ≢ b) ts) (sym (driven_are n)) (places_differ n small);

@@ -32,12 +32,12 @@ state_from seed (suc k) = next_state (state_from seed k)
 abbrev pub output_from : ℕ → ℕ → ℕ
 output_from seed k = (mix_u64 (state_from seed k)).0
 
-abbrev pub gate_words : List (List ℕ)
-gate_words = codes "AND" ∷ codes "NAND" ∷ codes "OR" ∷ codes "NOR" ∷ codes "XOR" ∷ codes "XNOR" ∷ codes "NAND" ∷ codes "NOR" ∷ []
+abbrev pub cell_words : List (List ℕ)
+cell_words = codes "AND" ∷ codes "NAND" ∷ codes "OR" ∷ codes "NOR" ∷ codes "XOR" ∷ codes "XNOR" ∷ codes "NAND" ∷ codes "NOR" ∷ []
 
 -- the word of a gate of a cell: three bits of the cell's output choose it
 unfoldable pub gate_word : ℕ → ℕ → List ℕ
-gate_word output gate = slice_index_or gate_words (output / 2 ^ (3 * gate) % 8) []
+gate_word output gate = slice_index_or cell_words (output / 2 ^ (3 * gate) % 8) []
 
 -- ---- the text
 

@@ -23,7 +23,7 @@ use Rattle.table_dicts.proofs.EntryLemmas.{same_bits-Decides}
 use Rattle.table_dicts.specs.AnswerTable.{Answers, answer_to, answer_bit, HasSizes, IsTable, AreAnswers}
 use Rattle.table_dicts.specs.declared.simulating.Kept.{Kept}
 use Rattle.table_dicts.specs.declared.simulating.Kept.TheVariants.{Bits, Fails}
-use Rattle.table_dicts.specs.Blocks.{IsAnswerBit, IsFailBit, IsKeptBit, IsListedBit, IsNumberSet, AreNumbersSet, AreRightTo}
+use Rattle.table_dicts.specs.Blocks.{IsAnswerBit, IsFailBit, IsKeptBit, IsListedBit, IsNumberSet, AreNumbersSet, AreRightBits}
 
 -- ---- what is written
 
@@ -70,12 +70,12 @@ lane_pattern patterns first end lane h = get_or-take (end - first) (drop first p
 pub block_length : (patterns : List (List Bool)) (first end : ℕ) → first ≤ end → end ≤ length patterns → length (slice_range patterns first end) ≡ end - first
 block_length patterns first end order within = length-take-le (end - first) (drop first patterns) (omega (arith, length-drop first patterns, order, within))
 
-pub right_none : (right : ℕ → ℕ → ℕ → Bool → Type 0) (patterns numbers positions : ℕ) (t : Answers) → HasSizes t patterns numbers positions → AreRightTo right patterns numbers positions 0 t
+pub right_none : (right : ℕ → ℕ → ℕ → Bool → Type 0) (patterns numbers positions : ℕ) (t : Answers) → HasSizes t patterns numbers positions → AreRightBits right patterns numbers positions 0 t
 right_none right patterns numbers positions t sizes = record { sizes = sizes; each = λ p n k hp hn hk. absurd (omega (arith, hp)) }
 
 -- a block more, whose bits are right where they stand
-pub right_more : {right over : ℕ → ℕ → ℕ → Bool → Type 0} {patterns numbers positions count first : ℕ} {old new : Answers} (end : ℕ) → AreRightTo over patterns numbers positions first old → AreNumbersSet right count old new numbers first
-    → ((lane n k : ℕ) (bit : Bool) → lane < count → right lane n k bit → over (first + lane) n k bit) → end ≡ first + count → end ≤ patterns → AreRightTo over patterns numbers positions end new
+pub right_more : {right over : ℕ → ℕ → ℕ → Bool → Type 0} {patterns numbers positions count first : ℕ} {old new : Answers} (end : ℕ) → AreRightBits over patterns numbers positions first old → AreNumbersSet right count old new numbers first
+    → ((lane n k : ℕ) (bit : Bool) → lane < count → right lane n k bit → over (first + lane) n k bit) → end ≡ first + count → end ≤ patterns → AreRightBits over patterns numbers positions end new
 right_more {right} {over} {patterns} {numbers} {positions} {count} {first} {old} {new} end so_far one moved is within = record {
   sizes = record {
     patterns_are = one.sizes.patterns_are ∙ so_far.sizes.patterns_are;
@@ -116,7 +116,7 @@ module _ (c : Circuit) (patterns vectors : List (List Bool)) (first end : ℕ) (
   listed_moved kept numbers lane place k bit h right = kept_moved kept lane (get_or numbers place 0) k bit h right
 
 -- a table whose bits are all right has the circuit's answers
-pub right_all : {c : Circuit} {patterns : List (List Bool)} {t : Answers} (end : ℕ) → IsCircuit c → IsTable t → AreRightTo (IsAnswerBit c patterns) (length patterns) (fault_count c) (length c.positions) end t → length patterns ≤ end → AreAnswers c patterns t
+pub right_all : {c : Circuit} {patterns : List (List Bool)} {t : Answers} (end : ℕ) → IsCircuit c → IsTable t → AreRightBits (IsAnswerBit c patterns) (length patterns) (fault_count c) (length c.positions) end t → length patterns ≤ end → AreAnswers c patterns t
 right_all {c} {patterns} {t} end is table right over =
     let rows = rows_exist c is patterns in
     let many : length rows.0 ≡ length patterns = AllZip-long (IsAnswerRow c) patterns rows.0 rows.1 in

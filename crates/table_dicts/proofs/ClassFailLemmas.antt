@@ -12,7 +12,7 @@ use Rattle.class_refine.specs.Fields.{IsWhole}
 use Rattle.class_refine.proofs.Refined.{representative-member}
 use Rattle.kept_vectors.proofs.KeepLemmas.{table_numbers}
 use Rattle.table_dicts.specs.AnswerTable.{Answers, IsTable, AreAnswers}
-use Rattle.table_dicts.specs.Blocks.{IsListedBit, AreRightTo}
+use Rattle.table_dicts.specs.Blocks.{IsListedBit, AreRightBits}
 use Rattle.table_dicts.specs.ByClass.{AreEntriesOfClasses}
 use Rattle.table_dicts.specs.Entries.{differences, full_entry, free_baselines, pass_fail_entry}
 use Rattle.table_dicts.specs.declared.simulating.Kept.TheVariants.{Fails}
@@ -28,7 +28,7 @@ module _ (c : Circuit) (is : IsCircuit c) (patterns : List (List Bool)) (t : Ans
 
   module _ (classes : ClassTable) (of : IsTableOf c patterns classes) (whole : IsWhole classes) (lowest : List ℕ) (lowest_are : lowest ≡ map (representative classes) (range_with_len 0 (class_count classes)))
       (within : All (λ number. number < fault_count c) lowest) (bits : Answers) (table : IsTable bits)
-      (right : AreRightTo (IsListedBit Fails c patterns lowest) (length patterns) (length lowest) 1 (length patterns) bits) (cells : List (List Bool)) (cells_are : cells ≡ map (full_entry bits.rows) (range_with_len 0 bits.numbers)) where
+      (right : AreRightBits (IsListedBit Fails c patterns lowest) (length patterns) (length lowest) 1 (length patterns) bits) (cells : List (List Bool)) (cells_are : cells ≡ map (full_entry bits.rows) (range_with_len 0 bits.numbers)) where
     pub fails_of_classes : AreEntriesOfClasses classes cells (pass_fail_entry t.rows)
     fails_of_classes = record {
       own = λ n h.

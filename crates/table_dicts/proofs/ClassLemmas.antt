@@ -20,7 +20,7 @@ use Rattle.net_model.specs.Rows.{row_at}
 use Rattle.table_dicts.specs.Rows.{AreRows}
 use Rattle.table_dicts.specs.AnswerTable.{Answers, answer_in, IsTable, AreAnswers}
 use Rattle.table_dicts.specs.Entries.{answers_of, full_entry}
-use Rattle.table_dicts.specs.Blocks.{IsListedBit, AreRightTo}
+use Rattle.table_dicts.specs.Blocks.{IsListedBit, AreRightBits}
 use Rattle.table_dicts.specs.declared.simulating.Kept.TheVariants.{Bits}
 use Rattle.table_dicts.specs.ByClass.{AreRowsOfClasses}
 use Rattle.table_dicts.specs.Grouped.{AreFirstsOf}
@@ -164,7 +164,7 @@ module _ (c : Circuit) (is : IsCircuit c) (patterns : List (List Bool)) (t : Ans
 
   -- right bits of listed numbers are the entries of these numbers
   module _ (numbers : List ℕ) (inside : All (λ number. number < fault_count c) numbers) (listed : Answers) (whole : IsTable listed)
-      (right : AreRightTo (IsListedBit Bits c patterns numbers) (length patterns) (length numbers) (length c.positions) (length patterns) listed) where
+      (right : AreRightBits (IsListedBit Bits c patterns numbers) (length patterns) (length numbers) (length c.positions) (length patterns) listed) where
     pub entry_listed : (place : ℕ) → place < length numbers → full_entry listed.rows place ≡ full_entry t.rows (get_or numbers place 0)
     entry_listed place h =
         entry_of_answers listed.rows place ∙ (ap joined (answers_listed c patterns t are numbers inside listed whole right place h) ∙ sym (entry_of_answers t.rows (get_or numbers place 0)))

@@ -3,7 +3,7 @@ use Rattle.std.proofs.Common.{◌≡◌, ◌∙◌, ℕ, ◌+◌, ◌<◌, ◌�
 use Rattle.std.proofs.lemmas.Bool.{cases_eq, false≢true, false_from_ne_true}
 use Rattle.net_model.specs.Answer.{bit_at}
 use Rattle.word_sim.specs.declared.lanes.TheConstants.{LANES}
-use Rattle.table_dicts.specs.AnswerTable.{Answers, answer_bit, IsSetAt}
+use Rattle.table_dicts.specs.AnswerTable.{Answers, answer_bit, HasBitSet}
 use Rattle.table_dicts.specs.Blocks.{IsNumberSet, IsColumnSet, HasLanes}
 use Rattle.table_dicts.proofs.BlockLemmas.{same_sizes, sizes_later, number_as}
 
@@ -12,7 +12,7 @@ use Rattle.table_dicts.proofs.BlockLemmas.{same_sizes, sizes_later, number_as}
 pub column_none : (lanes : List Bool) (t : Answers) (number first position : ℕ) → IsColumnSet lanes 0 t t number first position
 column_none lanes t number first position = record { sizes = same_sizes t; here = λ lane h. absurd (omega (arith, h)); others = λ p n k hp hn hk apart. refl }
 
-pub column_more : {lanes : List Bool} {lane : ℕ} {old mid new : Answers} {number first position : ℕ} {bit : Bool} → IsColumnSet lanes lane old mid number first position → IsSetAt mid new (first + lane) number position bit → bit ≡ bit_at lanes lane
+pub column_more : {lanes : List Bool} {lane : ℕ} {old mid new : Answers} {number first position : ℕ} {bit : Bool} → IsColumnSet lanes lane old mid number first position → HasBitSet mid new (first + lane) number position bit → bit ≡ bit_at lanes lane
     → first + lane < length old.rows → number < old.numbers → position < old.positions → IsColumnSet lanes (lane + 1) old new number first position
 column_more {lanes} {lane} {old} {mid} {new} {number} {first} {position} {bit} so_far one is hp hn hk = record {
   sizes = sizes_later old mid new so_far.sizes one.sizes;

@@ -17,7 +17,7 @@ use Rattle.class_refine.proofs.Ranges.{zip_at}
 use Rattle.kept_vectors.proofs.AnswerLemmas.{answer_width, answer_in_row}
 use Rattle.table_dicts.specs.AnswerTable.{Answers, answer_in, answer_to, answer_bit, IsTable, AreAnswers}
 use Rattle.table_dicts.specs.Entries.{answers_of, full_entry, free_baselines, pass_fail_entry}
-use Rattle.table_dicts.specs.Blocks.{IsListedBit, AreRightTo}
+use Rattle.table_dicts.specs.Blocks.{IsListedBit, AreRightBits}
 use Rattle.table_dicts.specs.declared.simulating.Kept.TheVariants.{Bits, Fails}
 use Rattle.table_dicts.proofs.EntryLemmas.{length-answers, answer_at, answers_are, length-entry, entry_bit}
 
@@ -70,7 +70,7 @@ module _ (c : Circuit) (patterns : List (List Bool)) (t : Answers) (are : AreAns
 
   -- right answers of listed numbers are the answers of these numbers
   module _ (numbers : List ℕ) (inside : All (λ number. number < fault_count c) numbers) (listed : Answers) (whole : IsTable listed)
-      (right : AreRightTo (IsListedBit Bits c patterns numbers) (length patterns) (length numbers) (length c.positions) (length patterns) listed) where
+      (right : AreRightBits (IsListedBit Bits c patterns numbers) (length patterns) (length numbers) (length c.positions) (length patterns) listed) where
     pub answer_listed : (p place : ℕ) → p < length patterns → place < length numbers → answer_to listed p place ≡ answer_to t p (get_or numbers place 0)
     answer_listed p place hp h =
         let number = get_or numbers place 0 in
@@ -86,12 +86,12 @@ module _ (c : Circuit) (patterns : List (List Bool)) (t : Answers) (are : AreAns
         answer_at listed p place (omega (arith, live, right.sizes.patterns_are)) ∙ (answer_listed p place live h ∙ sym (answer_at t p number (omega (arith, live, patterns_are)))))
 
   -- right answers of number 0 are the fault-free baselines
-  pub baselines_are : (free : Answers) → IsTable free → AreRightTo (IsListedBit Bits c patterns (0 ∷ [])) (length patterns) 1 (length c.positions) (length patterns) free → answers_of free.rows 0 ≡ free_baselines t.rows
+  pub baselines_are : (free : Answers) → IsTable free → AreRightBits (IsListedBit Bits c patterns (0 ∷ [])) (length patterns) 1 (length c.positions) (length patterns) free → answers_of free.rows 0 ≡ free_baselines t.rows
   baselines_are free is right = answers_listed (0 ∷ []) (λ k d h. let zero : k ≡ 0 = omega (arith, h) in rw zero (some_number c)) free is right 0 (omega arith)
 
   -- right bits of listed numbers are the pass/fail entries of these numbers
   module _ (numbers : List ℕ) (within : All (λ number. number < fault_count c) numbers) (bits : Answers) (is : IsTable bits)
-      (right : AreRightTo (IsListedBit Fails c patterns numbers) (length patterns) (length numbers) 1 (length patterns) bits) where
+      (right : AreRightBits (IsListedBit Fails c patterns numbers) (length patterns) (length numbers) 1 (length patterns) bits) where
     pub fails_are : (place : ℕ) → place < length numbers → full_entry bits.rows place ≡ pass_fail_entry t.rows (get_or numbers place 0)
     fails_are place h =
         let sizes = right.sizes in

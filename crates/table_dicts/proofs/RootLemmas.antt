@@ -7,11 +7,11 @@ use Rattle.net_model.specs.Circuit.{Circuit}
 use Rattle.net_model.specs.Answer.{bit_at, AreEqual}
 use Rattle.net_model.specs.FaultList.{fault_count, fault_numbered}
 use Rattle.fault_collapse.specs.Forest.{Forest, IsForestOf, forest_with}
-use Rattle.fault_collapse.specs.ForestFields.{IsSettled}
+use Rattle.fault_collapse.specs.ForestFields.{AreForestFields}
 use Rattle.fault_collapse.proofs.Settled.{is_settled, same_equal}
 use Rattle.kept_vectors.proofs.AnswerLemmas.{answer_exists}
 use Rattle.table_dicts.specs.AnswerTable.{Answers, ArePicked}
-use Rattle.table_dicts.specs.Blocks.{IsAnswerBit, IsListedBit, AreRightTo}
+use Rattle.table_dicts.specs.Blocks.{IsAnswerBit, IsListedBit, AreRightBits}
 use Rattle.table_dicts.specs.declared.simulating.Kept.TheVariants.{Bits}
 use Rattle.table_dicts.specs.ByRoot.{AreGroupsByRoot}
 use Rattle.table_dicts.proofs.GroupLemmas.{firsts_with}
@@ -77,7 +77,7 @@ module _ (roots : List ℕ) (i : ℕ) (groups firsts : List ℕ) (are : AreGroup
 
 -- ---- their answers
 
-pub settled : {c : Circuit} {forest : Forest} → IsForestOf c forest → IsSettled (forest_with forest.successors forest.roots)
+pub settled : {c : Circuit} {forest : Forest} → IsForestOf c forest → AreForestFields (forest_with forest.successors forest.roots)
 settled {c} {forest} of = is_settled c of.circuit forest.successors forest.roots of.successors of.roots
 
 module _ (c : Circuit) (patterns : List (List Bool)) (forest : Forest) (of : IsForestOf c forest) (groups firsts : List ℕ) (are : AreGroupsByRoot forest.roots (length forest.roots) groups firsts) where
@@ -90,8 +90,8 @@ module _ (c : Circuit) (patterns : List (List Bool)) (forest : Forest) (of : IsF
       same_equal c forest of first n (are.inside (get_or groups n 0) (are.known n inside)) inside (get_or forest.roots first 0 == get_or forest.roots n 0) refl same
 
   -- so answers of the firsts, as many times as they have numbers, are those of all numbers
-  pub right_of_firsts : (listed all : Answers) → All (λ v. length v ≡ c.sources) patterns → AreRightTo (IsListedBit Bits c patterns firsts) (length patterns) (length firsts) (length c.positions) (length patterns) listed → ArePicked listed groups all
-      → AreRightTo (IsAnswerBit c patterns) (length patterns) (fault_count c) (length c.positions) (length patterns) all
+  pub right_of_firsts : (listed all : Answers) → All (λ v. length v ≡ c.sources) patterns → AreRightBits (IsListedBit Bits c patterns firsts) (length patterns) (length firsts) (length c.positions) (length patterns) listed → ArePicked listed groups all
+      → AreRightBits (IsAnswerBit c patterns) (length patterns) (fault_count c) (length c.positions) (length patterns) all
   right_of_firsts listed all widths right picked = record {
     sizes = record {
       patterns_are = picked.sizes.patterns_are ∙ right.sizes.patterns_are;

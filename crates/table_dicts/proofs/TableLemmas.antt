@@ -13,7 +13,7 @@ use Rattle.net_model.specs.Answer.{bit_at}
 use Rattle.table_dicts.specs.declared.answer_table.AnswerTable.TheInside.{Inside}
 use Rattle.net_model.specs.Rows.{row_at, row_bit}
 use Rattle.table_dicts.specs.Rows.{IsBitSet}
-use Rattle.table_dicts.specs.AnswerTable.{Answers, answer_in, answer_to, answer_bit, IsTable, IsSetAt, ArePicked}
+use Rattle.table_dicts.specs.AnswerTable.{Answers, answer_in, answer_to, answer_bit, IsTable, HasBitSet, ArePicked}
 use Rattle.table_dicts.specs.AnswerTableFields.{answer_part, table_of, AreCells}
 use Rattle.table_dicts.specs.Entries.{full_entry}
 use Rattle.table_dicts.proofs.RowLemmas.{rows_later, width_at}
@@ -116,7 +116,7 @@ module _ (a : Inside) (are : AreCells a) (new : List (List Bool)) (pattern numbe
   pub cells_after : AreCells (record a { cells = new })
   cells_after = rows_later is.shape are
 
-  pub set_at : IsSetAt (table_of a) (table_of (record a { cells = new })) pattern number position bit
+  pub set_at : HasBitSet (table_of a) (table_of (record a { cells = new })) pattern number position bit
   set_at = record {
     sizes = record { patterns_are = patterns_are (record a { cells = new }) cells_after ∙ sym (patterns_are a are); numbers_are = refl; positions_are = refl };
     here = bit_is (record a { cells = new }) cells_after pattern number position hp hn hk ∙ is.here;

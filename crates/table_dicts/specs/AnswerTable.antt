@@ -35,7 +35,7 @@ pub record IsTable (t : Answers) : Type 0 where
   pub positions : (pattern number : ℕ) → pattern < length t.rows → number < t.numbers → length (answer_to t pattern number) ≡ t.positions
 
 -- The new table has this bit at one place, and all else as the old one.
-pub record IsSetAt (old new : Answers) (pattern number position : ℕ) (bit : Bool) : Type 0 where
+pub record HasBitSet (old new : Answers) (pattern number position : ℕ) (bit : Bool) : Type 0 where
   pub sizes : HasSizes new (length old.rows) old.numbers old.positions
   pub here : answer_bit new pattern number position ≡ bit
   pub others : (p n k : ℕ) → p < length old.rows → n < old.numbers → k < old.positions → (p ≢ pattern) ⊎ ((n ≢ number) ⊎ (k ≢ position)) → answer_bit new p n k ≡ answer_bit old p n k

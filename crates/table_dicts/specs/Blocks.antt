@@ -20,7 +20,7 @@ pub record IsBench (c : Circuit) (b : Bench) : Type 0 where
   pub sim : b.sim.circuit ≡ c
 
 -- The bench has run the patterns of its block.
-pub record HasRun (b : Bench) : Type 0 where
+pub record HasRunPatterns (b : Bench) : Type 0 where
   pub bench : IsBench b.good.circuit b
   pub ran : b.good.ran ≡ Some b.block.vectors
   pub few : length b.block.vectors ≤ LANES
@@ -80,6 +80,6 @@ pub record AreNumbersSet (right : ℕ → ℕ → ℕ → Bool → Type 0) (coun
   pub others : (p n k : ℕ) → p < first → p < length old.rows → n < old.numbers → k < old.positions → answer_bit new p n k ≡ answer_bit old p n k
 
 -- There is a bit for each pattern, number and position, and those of the patterns before the end are right.
-pub record AreRightTo (right : ℕ → ℕ → ℕ → Bool → Type 0) (patterns numbers positions end : ℕ) (t : Answers) : Type 0 where
+pub record AreRightBits (right : ℕ → ℕ → ℕ → Bool → Type 0) (patterns numbers positions end : ℕ) (t : Answers) : Type 0 where
   pub sizes : HasSizes t patterns numbers positions
   pub each : (p n k : ℕ) → p < end → n < numbers → k < positions → right p n k (answer_bit t p n k)

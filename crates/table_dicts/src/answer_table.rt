@@ -5,7 +5,7 @@ ghost use Rattle.std.specs.List.{range_with_len};
 ghost use Rattle.net_model.specs.Answer.{bit_at};
 ghost use Rattle.net_model.specs.ClassTable.{same_bits};
 ghost use Rattle.net_model.specs.Rows.{row_at};
-ghost use Rattle.table_dicts.specs.AnswerTable.{HasSizes, IsTable, IsSetAt, ArePicked, answer_to, answer_bit};
+ghost use Rattle.table_dicts.specs.AnswerTable.{HasSizes, IsTable, HasBitSet, ArePicked, answer_to, answer_bit};
 ghost use Rattle.table_dicts.specs.Rows.{AreRows, IsRowSet, IsWordOf};
 ghost use Rattle.table_dicts.specs.Entries.{full_entry};
 ghost use Rattle.table_dicts.specs.Blocks.{IsNumberSet};
@@ -125,7 +125,7 @@ impl AnswerTable {
         requires pattern { pattern < length self.old.rows }
         requires number { number < self.old.numbers }
         requires position { position < self.old.positions }
-        ensures { IsSetAt self.old self.new pattern number position bit }
+        ensures { HasBitSet self.old self.new pattern number position bit }
     {
         let at = place(pattern, self.positions, position);
         set_bit(&mut self.cells, number as usize, at, bit);

@@ -3,7 +3,7 @@
 ghost use Rattle.std.specs.Prelude.{◌≡◌, ◌<◌, ◌^◌, ℕ, length, slice_index, All, IfOk};
 ghost use Rattle.net_model.specs.FaultList.{fault_count};
 ghost use Rattle.table_dicts.specs.AnswerTable.{Answers, AreAnswerable, AreAnswers, ArePicked, HasSizes, IsTable, answer_to};
-ghost use Rattle.table_dicts.specs.Blocks.{IsListedBit, AreRightTo};
+ghost use Rattle.table_dicts.specs.Blocks.{IsListedBit, AreRightBits};
 
 use crate::answer_table::AnswerTable;
 use crate::by_root::root_groups;
@@ -43,7 +43,7 @@ fn spread(
     requires few { length sorted.now.firsts.items < 2 ^ 32 }
     requires groups { All (λ group. group < length sorted.now.firsts.items) sorted.now.groups }
     requires many { length sorted.now.groups < 2 ^ 32 }
-    ensures { IfOk result (λ table. (listed : Answers) × IsTable table × AreRightTo (IsListedBit Kept.Bits circuit.now patterns.now sorted.now.firsts.items) (length patterns.now) (length sorted.now.firsts.items) (length circuit.now.positions) (length patterns.now) listed × ArePicked listed sorted.now.groups table) }
+    ensures { IfOk result (λ table. (listed : Answers) × IsTable table × AreRightBits (IsListedBit Kept.Bits circuit.now patterns.now sorted.now.firsts.items) (length patterns.now) (length sorted.now.firsts.items) (length circuit.now.positions) (length patterns.now) listed × ArePicked listed sorted.now.groups table) }
 {
     let lowest = sorted.firsts.as_slice();
     let listed = tabulate(alloc, circuit, faults, patterns, Kept::Bits, lowest)?;

@@ -5,7 +5,7 @@ ghost use Rattle.net_model.specs.Circuit.{Circuit};
 ghost use Rattle.net_model.specs.FaultList.{faults as faults_of, fault_count, fault_numbered};
 ghost use Rattle.net_model.specs.Answer.{bit_at};
 ghost use Rattle.fault_sim.specs.FaultSim.{AreDifferences};
-ghost use Rattle.table_dicts.specs.Blocks.{IsBench, HasRun, IsAnswerBit, IsFailBit, IsKeptBit, kept_width};
+ghost use Rattle.table_dicts.specs.Blocks.{IsBench, HasRunPatterns, IsAnswerBit, IsFailBit, IsKeptBit, kept_width};
 
 use crate::simulating::Kept;
 use fault_list::FaultList;
@@ -58,7 +58,7 @@ impl<'a> Bench<'a> {
         requires bench { IsBench self.old.good.circuit self.old }
         requires widths { All (λ v. length v ≡ self.old.good.circuit.sources) patterns.now }
         requires first { first ≤ length patterns.now }
-        ensures run { HasRun self.new }
+        ensures run { HasRunPatterns self.new }
         ensures circuit { self.new.good.circuit ≡ self.old.good.circuit }
         ensures vectors { self.new.block.vectors ≡ slice_range patterns.now first result }
         ensures end { result ≡ min (first + LANES) (length patterns.now) }
@@ -71,10 +71,10 @@ impl<'a> Bench<'a> {
 
     /// Injects the fault of a number into the patterns that were run.
     pub(crate) fn inject(&mut self, number: u32)
-        requires run { HasRun self.old }
+        requires run { HasRunPatterns self.old }
         requires number { number < fault_count self.old.good.circuit }
         ensures kept { self.new ≡ record self.old { sim = self.new.sim } }
-        ensures run { HasRun self.new }
+        ensures run { HasRunPatterns self.new }
         ensures differ { AreDifferences self.new.good.circuit (fault_numbered self.new.good.circuit number) self.new.block.vectors self.new.sim.differences }
     {
         self.sim.inject(&self.good, &self.faults.get(number));
@@ -82,7 +82,7 @@ impl<'a> Bench<'a> {
 
     /// What is kept of the injected number's answers at a position, a lane for each pattern that was run.
     pub(crate) fn lanes(&self, kept: Kept, number: u32, position: u32) -> Lanes
-        requires run { HasRun self.now }
+        requires run { HasRunPatterns self.now }
         requires position { position < kept_width kept (length self.now.good.circuit.positions) }
         requires differ { AreDifferences self.now.good.circuit (fault_numbered self.now.good.circuit number) self.now.block.vectors self.now.sim.differences }
         ensures { (lane : ℕ) → lane < length self.now.block.vectors → IsKeptBit kept self.now.good.circuit self.now.block.vectors lane number position (bit_at result lane) }
@@ -95,7 +95,7 @@ impl<'a> Bench<'a> {
 
     // The bits of the injected number's answers at a position, a lane for each pattern that was run.
     fn shown(&self, number: u32, position: u32) -> Lanes
-        requires run { HasRun self.now }
+        requires run { HasRunPatterns self.now }
         requires position { position < length self.now.good.circuit.positions }
         requires differ { AreDifferences self.now.good.circuit (fault_numbered self.now.good.circuit number) self.now.block.vectors self.now.sim.differences }
         ensures { (lane : ℕ) → lane < length self.now.block.vectors → IsAnswerBit self.now.good.circuit self.now.block.vectors lane number position (bit_at result lane) }
@@ -106,7 +106,7 @@ impl<'a> Bench<'a> {
 
     // Whether the injected number's answers differ from the fault-free ones, a lane for each pattern that was run.
     fn failing(&self, number: u32) -> Lanes
-        requires run { HasRun self.now }
+        requires run { HasRunPatterns self.now }
         requires differ { AreDifferences self.now.good.circuit (fault_numbered self.now.good.circuit number) self.now.block.vectors self.now.sim.differences }
         ensures { (lane : ℕ) → lane < length self.now.block.vectors → IsFailBit self.now.good.circuit self.now.block.vectors lane number 0 (bit_at result lane) }
     {

@@ -5,7 +5,7 @@ ghost use Rattle.net_model.specs.Answer.{bit_at};
 ghost use Rattle.net_model.specs.FaultList.{fault_numbered};
 ghost use Rattle.fault_sim.specs.FaultSim.{AreDifferences};
 ghost use Rattle.table_dicts.specs.AnswerTable.{answer_bit};
-ghost use Rattle.table_dicts.specs.Blocks.{HasRun, HasLanes, FitsAt, IsKeptBit, kept_width, IsNumberSet, IsColumnSet};
+ghost use Rattle.table_dicts.specs.Blocks.{HasRunPatterns, HasLanes, FitsAt, IsKeptBit, kept_width, IsNumberSet, IsColumnSet};
 
 use crate::answer_table::AnswerTable;
 use crate::bench::Bench;
@@ -29,10 +29,10 @@ impl FreeBlock {
         kept: Kept,
         width: u32,
     ) -> Result<FreeBlock, AllocError>
-        requires run { HasRun bench.old }
+        requires run { HasRunPatterns bench.old }
         requires width { width ≡ kept_width kept (length bench.old.good.circuit.positions) }
         ensures bench { bench.new ≡ record bench.old { sim = bench.new.sim } }
-        ensures run { HasRun bench.new }
+        ensures run { HasRunPatterns bench.new }
         ensures width { IfOk result (λ free. length free.lanes.items ≡ width) }
     {
         let mut lanes = Vec::with_capacity(alloc, width as usize)?;
@@ -55,7 +55,7 @@ impl FreeBlock {
         place: u32,
         first: u32,
     )
-        requires run { HasRun bench.now }
+        requires run { HasRunPatterns bench.now }
         requires differ { AreDifferences bench.now.good.circuit (fault_numbered bench.now.good.circuit number) bench.now.block.vectors bench.now.sim.differences }
         requires place { place < table.old.numbers }
         requires fits { FitsAt kept bench.now table.old first }

@@ -3,7 +3,7 @@
 ghost use Rattle.std.specs.Prelude.{◌≡◌, ◌<◌, ◌^◌, length, All, IfOk};
 ghost use Rattle.net_model.specs.FaultList.{fault_count};
 ghost use Rattle.table_dicts.specs.AnswerTable.{AreAnswerable};
-ghost use Rattle.table_dicts.specs.Blocks.{HasRun, FitsAt, IsKeptBit, IsListedBit, kept_width, IsNumberSet, AreNumbersSet, AreRightTo};
+ghost use Rattle.table_dicts.specs.Blocks.{HasRunPatterns, FitsAt, IsKeptBit, IsListedBit, kept_width, IsNumberSet, AreNumbersSet, AreRightBits};
 
 use crate::answer_table::AnswerTable;
 use crate::bench::Bench;
@@ -31,7 +31,7 @@ pub(crate) fn tabulate(
     requires answerable { AreAnswerable circuit.now faults.now patterns.now }
     requires numbers { All (λ number. number < fault_count circuit.now) numbers.now }
     requires count { length numbers.now < 2 ^ 32 }
-    ensures { IfOk result (AreRightTo (IsListedBit kept circuit.now patterns.now numbers.now) (length patterns.now) (length numbers.now) (kept_width kept (length circuit.now.positions)) (length patterns.now)) }
+    ensures { IfOk result (AreRightBits (IsListedBit kept circuit.now patterns.now numbers.now) (length patterns.now) (length numbers.now) (kept_width kept (length circuit.now.positions)) (length patterns.now)) }
 {
     let width = width_of(kept, circuit.positions().len() as u32);
     let mut table = AnswerTable::zeros(alloc, patterns.len() as u32, numbers.len() as u32, width)?;
@@ -65,14 +65,14 @@ fn write_block(
     free: &FreeBlock,
     table: &mut AnswerTable,
 )
-    requires run { HasRun bench.old }
+    requires run { HasRunPatterns bench.old }
     requires numbers { All (λ number. number < fault_count bench.old.good.circuit) numbers.now }
     requires count { length numbers.now < 2 ^ 32 }
     requires rows { table.old.numbers ≡ length numbers.now }
     requires fits { FitsAt kept bench.old table.old first }
     requires free { length free.now.lanes.items ≡ table.old.positions }
     ensures bench { bench.new ≡ record bench.old { sim = bench.new.sim } }
-    ensures run { HasRun bench.new }
+    ensures run { HasRunPatterns bench.new }
     ensures set { AreNumbersSet (IsListedBit kept bench.old.good.circuit bench.old.block.vectors numbers.now) (length bench.old.block.vectors) table.old table.new (length numbers.now) first }
 {
     for (place, number) in numbers.iter().enumerate() {
@@ -90,13 +90,13 @@ fn write_number(
     free: &FreeBlock,
     table: &mut AnswerTable,
 )
-    requires run { HasRun bench.old }
+    requires run { HasRunPatterns bench.old }
     requires number { number < fault_count bench.old.good.circuit }
     requires place { place < table.old.numbers }
     requires fits { FitsAt kept bench.old table.old first }
     requires free { length free.now.lanes.items ≡ table.old.positions }
     ensures bench { bench.new ≡ record bench.old { sim = bench.new.sim } }
-    ensures run { HasRun bench.new }
+    ensures run { HasRunPatterns bench.new }
     ensures set { IsNumberSet (λ lane at. IsKeptBit kept bench.old.good.circuit bench.old.block.vectors lane number) (length bench.old.block.vectors) table.old table.new place first table.old.positions }
 {
     bench.inject(number);

@@ -12,7 +12,7 @@ use Rattle.std.proofs.lemmas.Nat.Bits.{bit_at_lowest, bit_at-suc, bit_at-lt, bit
 use Rattle.net_model.specs.Answer.{bit_at}
 use Rattle.net_model.specs.Rows.{bit_of}
 use Rattle.word_sim.specs.Lanes.{low_digits, lanes_of}
-use Rattle.word_sim.specs.LanesFields.{AreWords, length-low_digits}
+use Rattle.word_sim.specs.LanesFields.{AreFourWords, length-low_digits}
 use Rattle.word_sim.specs.declared.lanes.TheConstants.{LANES}
 
 pub low_digit : (n word lane : ℕ) → lane < n → bit_at (low_digits n word) lane ≡ bit_of word lane
@@ -83,7 +83,7 @@ digit_xor a b lane = ap (λ d. d == 1) (bit_at_xor a b lane) ∙ odd_test (digit
 
 -- words put together digit by digit are so lane by lane
 pub both_lanes : (op : ℕ → ℕ → ℕ) (test : Bool → Bool → Bool) → ((a b lane : ℕ) → bit_of (op a b) lane ≡ test (bit_of a lane) (bit_of b lane))
-    → (a b : List ℕ) → AreWords a → AreWords b → (lane : ℕ) → lane < LANES → bit_at (lanes_of (zip2 op a b)) lane ≡ test (bit_at (lanes_of a) lane) (bit_at (lanes_of b) lane)
+    → (a b : List ℕ) → AreFourWords a → AreFourWords b → (lane : ℕ) → lane < LANES → bit_at (lanes_of (zip2 op a b)) lane ≡ test (bit_at (lanes_of a) lane) (bit_at (lanes_of b) lane)
 both_lanes op test digits a b first second lane h =
     let long : length (zip2 op a b) ≡ 4 = omega (arith, length-zip2 op a b (first.four ∙ sym second.four), first.four) in
     let word : get_or (zip2 op a b) (lane / 64) 0 ≡ op (get_or a (lane / 64) 0) (get_or b (lane / 64) 0) =
@@ -91,7 +91,7 @@ both_lanes op test digits a b first second lane h =
     lane_digit (zip2 op a b) lane (omega arith) ∙ ap (λ w. bit_of w (lane % 64)) word ∙ digits (get_or a (lane / 64) 0) (get_or b (lane / 64) 0) (lane % 64)
     ∙ sym (λ i. test (lane_digit a lane (omega (arith, h, first.four)) i) (lane_digit b lane (omega (arith, h, second.four)) i))
 
-pub both_words : (op : ℕ → ℕ → ℕ) → ((a b : ℕ) → a < 2 ^ 64 → b < 2 ^ 64 → op a b < 2 ^ 64) → (a b : List ℕ) → AreWords a → AreWords b → AreWords (zip2 op a b)
+pub both_words : (op : ℕ → ℕ → ℕ) → ((a b : ℕ) → a < 2 ^ 64 → b < 2 ^ 64 → op a b < 2 ^ 64) → (a b : List ℕ) → AreFourWords a → AreFourWords b → AreFourWords (zip2 op a b)
 both_words op keeps a b first second = record {
   four = length-zip2 op a b (first.four ∙ sym second.four) ∙ first.four;
   small = λ at h.
@@ -104,7 +104,7 @@ both_words op keeps a b first second = record {
 pub digit_not : (a lane : ℕ) → a < 2 ^ 64 → lane < 64 → bit_of (bit_not w64 a) lane ≡ not (bit_of a lane)
 digit_not a lane h k = ap (λ d. d == 1) (bit_at_not w64 a lane h k) ∙ not_test (digit_at a lane) (bit_at-lt a lane)
 
-pub not_words : (words : List ℕ) → AreWords words → AreWords (map (bit_not w64) words)
+pub not_words : (words : List ℕ) → AreFourWords words → AreFourWords (map (bit_not w64) words)
 not_words words is = record {
   four = length-map words (bit_not w64) ∙ is.four;
   small = λ at h.
@@ -113,7 +113,7 @@ not_words words is = record {
       omega (arith, word);
 }
 
-pub not_lane : (words : List ℕ) → AreWords words → (lane : ℕ) → lane < LANES → bit_at (lanes_of (map (bit_not w64) words)) lane ≡ not (bit_at (lanes_of words) lane)
+pub not_lane : (words : List ℕ) → AreFourWords words → (lane : ℕ) → lane < LANES → bit_at (lanes_of (map (bit_not w64) words)) lane ≡ not (bit_at (lanes_of words) lane)
 not_lane words is lane h =
     let inside : lane / 64 < length words = omega (arith, h, is.four) in
     lane_digit (map (bit_not w64) words) lane (omega (arith, h, is.four, length-map words (bit_not w64)))
@@ -123,7 +123,7 @@ not_lane words is lane h =
 
 -- ---- the same word four times, four words, and one word written
 
-pub splat_words : (word : ℕ) → word < 2 ^ 64 → AreWords (replicate 4 word)
+pub splat_words : (word : ℕ) → word < 2 ^ 64 → AreFourWords (replicate 4 word)
 splat_words word h = record {
   four = length-replicate 4 word;
   small = λ at l. subst (λ n. n < 2 ^ 64) (sym (get_or-replicate 4 at word 0 (omega (arith, l, length-replicate 4 word)))) h;
@@ -149,7 +149,7 @@ four_lanes bit a b c d first second third fourth lane h =
     let place : 64 * (lane / 64) + lane % 64 ≡ lane = omega arith in
     lane_digit (a ∷ b ∷ c ∷ d ∷ []) lane h ∙ four_digits bit a b c d first second third fourth (lane / 64) (lane % 64) (omega arith) (omega arith) ∙ ap bit place
 
-pub four_words : (a b c d : ℕ) → a < 2 ^ 64 → b < 2 ^ 64 → c < 2 ^ 64 → d < 2 ^ 64 → AreWords (a ∷ b ∷ c ∷ d ∷ [])
+pub four_words : (a b c d : ℕ) → a < 2 ^ 64 → b < 2 ^ 64 → c < 2 ^ 64 → d < 2 ^ 64 → AreFourWords (a ∷ b ∷ c ∷ d ∷ [])
 four_words a b c d first second third fourth = record { four = refl; small = below }
   where
     below : (at : ℕ) → at < 4 → get_or (a ∷ b ∷ c ∷ d ∷ []) at 0 < 2 ^ 64
@@ -159,7 +159,7 @@ four_words a b c d first second third fourth = record { four = refl; small = bel
     below (suc (suc (suc zero))) h = fourth
     below (suc (suc (suc (suc k)))) h = absurd (omega arith)
 
-pub set_words : (words : List ℕ) (at word : ℕ) → AreWords words → word < 2 ^ 64 → AreWords (set words at word)
+pub set_words : (words : List ℕ) (at word : ℕ) → AreFourWords words → word < 2 ^ 64 → AreFourWords (set words at word)
 set_words words at word is h = record {
   four = length-set words at word ∙ is.four;
   small = λ k l.
@@ -170,13 +170,13 @@ set_words words at word is h = record {
       ];
 }
 
-pub set_here : (words : List ℕ) (at word : ℕ) → AreWords words → (lane : ℕ) → lane < LANES → lane / 64 ≡ at → bit_at (lanes_of (set words at word)) lane ≡ bit_of word (lane % 64)
+pub set_here : (words : List ℕ) (at word : ℕ) → AreFourWords words → (lane : ℕ) → lane < LANES → lane / 64 ≡ at → bit_at (lanes_of (set words at word)) lane ≡ bit_of word (lane % 64)
 set_here words at word is lane h e =
     lane_digit (set words at word) lane (omega (arith, h, is.four, length-set words at word))
     ∙ ap (λ k. bit_of (get_or (set words at word) k 0) (lane % 64)) e
     ∙ ap (λ w. bit_of w (lane % 64)) (get_or-set_same words at word 0 (omega (arith, h, e, is.four)))
 
-pub set_beside : (words : List ℕ) (at word : ℕ) → AreWords words → (lane : ℕ) → lane < LANES → lane / 64 ≢ at → bit_at (lanes_of (set words at word)) lane ≡ bit_at (lanes_of words) lane
+pub set_beside : (words : List ℕ) (at word : ℕ) → AreFourWords words → (lane : ℕ) → lane < LANES → lane / 64 ≢ at → bit_at (lanes_of (set words at word)) lane ≡ bit_at (lanes_of words) lane
 set_beside words at word is lane h ne =
     lane_digit (set words at word) lane (omega (arith, h, is.four, length-set words at word))
     ∙ ap (λ w. bit_of w (lane % 64)) (get_or-set_other words at (lane / 64) word 0 ne)
@@ -232,7 +232,7 @@ some_or_none (word ∷ words) = elim (cases_eq word 0) [
     none_before word words e none zero h = e
     none_before word words e none (suc at) h = none at (omega arith)
 
-pub some_lane : (words : List ℕ) → AreWords words → IsTrue (not (fold_l bit_or 0 words == 0)) ↔ ((lane : ℕ) × (lane < LANES) × IsTrue (bit_at (lanes_of words) lane))
+pub some_lane : (words : List ℕ) → AreFourWords words → IsTrue (not (fold_l bit_or 0 words == 0)) ↔ ((lane : ℕ) × (lane < LANES) × IsTrue (bit_at (lanes_of words) lane))
 some_lane words is = elim (some_or_none words) [
   | inr none ↦ (
     λ t. absurd (false≢true (subst IsTrue (test_of_zero (fold_l bit_or 0 words) (fold_none 0 words refl none)) t)),

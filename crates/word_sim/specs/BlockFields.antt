@@ -17,6 +17,6 @@ columns rows live = map (column rows) (range_with_len 0 live)
 abbrev pub block_of : Inside → Block
 block_of a = block_with (length a.rows.items) (columns a.rows.items a.live)
 
-pub record IsSound (a : Inside) : Type 0 where
+pub record AreBlockFields (a : Inside) : Type 0 where
   pub few : a.live ≤ LANES
   pub short : length a.rows.items < 2 ^ 32

@@ -15,7 +15,7 @@ source_rows circuit rows = take circuit.sources rows
 abbrev pub good_sim_of : Inside → GoodSim
 good_sim_of a = good_sim_with a.circuit.now (option_map (columns (source_rows a.circuit.now a.rows.items)) a.live)
 
-pub record IsSettled (a : Inside) : Type 0 where
+pub record AreGoodSimFields (a : Inside) : Type 0 where
   pub circuit : IsCircuit a.circuit.now
   pub wide : length a.rows.items ≡ line_count a.circuit.now
   pub few : unwrap_or a.live 0 ≤ LANES

@@ -18,12 +18,12 @@ word_of-low_digits (suc n) word h =
     omega (arith, rest, digit_value word)
 
 -- Four words of 64 digits.
-pub record AreWords (words : List ℕ) : Type 0 where
+pub record AreFourWords (words : List ℕ) : Type 0 where
   pub four : length words ≡ 4
   pub small : (at : ℕ) → at < length words → get_or words at 0 < 2 ^ 64
 
-abbrev pub bits_of : Inside → List Bool
-bits_of a = lanes_of a.words
+abbrev pub lane_bits : Inside → List Bool
+lane_bits a = lanes_of a.words
 
 pub length-low_digits : (n word : ℕ) → length (low_digits n word) ≡ n
 length-low_digits zero word = refl
@@ -42,5 +42,5 @@ numbers_of-lanes_of (suc n) (word ∷ words) e small =
     let more : numbers_of n (lanes_of words) ≡ words = numbers_of-lanes_of n words (omega arith) (λ at h. small (suc at) (omega arith)) in
     λ i. (ap word_of first ∙ word_of-low_digits 64 word (small 0 (omega arith))) i ∷ (ap (numbers_of n) rest ∙ more) i
 
-pub words_of-bits_of : (a : Inside) → AreWords a.words → words_of (bits_of a) ≡ a.words
+pub words_of-bits_of : (a : Inside) → AreFourWords a.words → words_of (lane_bits a) ≡ a.words
 words_of-bits_of a h = numbers_of-lanes_of 4 a.words h.four h.small

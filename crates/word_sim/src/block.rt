@@ -19,13 +19,13 @@ pub struct Block {
 
 impl Model for Block {
     ghost use Rattle.word_sim.specs.Block as spec;
-    ghost use Rattle.word_sim.specs.BlockFields.{block_of, IsSound};
+    ghost use Rattle.word_sim.specs.BlockFields.{block_of, AreBlockFields};
 
     ghost Value = { spec.Block };
 
     ghost view = { block_of };
 
-    ghost invariant = { IsSound };
+    ghost invariant = { AreBlockFields };
 }
 
 impl Block {

@@ -27,11 +27,11 @@ impl<'a> Model for GoodSim<'a> {
 
     ghost Value = { spec.GoodSim };
 
-    ghost use Rattle.word_sim.specs.GoodSimFields.{good_sim_of, IsSettled};
+    ghost use Rattle.word_sim.specs.GoodSimFields.{good_sim_of, AreGoodSimFields};
 
     ghost view = { good_sim_of };
 
-    ghost invariant = { IsSettled };
+    ghost invariant = { AreGoodSimFields };
 }
 
 impl<'a> GoodSim<'a> {

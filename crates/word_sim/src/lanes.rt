@@ -25,11 +25,11 @@ impl Model for Lanes {
     ghost Value = { List Bool };
 
     ghost use Rattle.word_sim.specs.Lanes.{words_of};
-    ghost use Rattle.word_sim.specs.LanesFields.{bits_of, AreWords, words_of-bits_of};
+    ghost use Rattle.word_sim.specs.LanesFields.{lane_bits, AreFourWords, words_of-bits_of};
 
-    ghost view = { bits_of };
+    ghost view = { lane_bits };
 
-    ghost invariant = { λ l. AreWords l.words };
+    ghost invariant = { λ l. AreFourWords l.words };
 
     ghost inverse = { λ bits. record { words = words_of bits } };
 

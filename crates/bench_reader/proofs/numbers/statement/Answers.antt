@@ -3,7 +3,7 @@ use Rattle.std.specs.Prelude.{map, All, IsTrue}
 use Rattle.std.proofs.lemmas.List.{length-map}
 use Rattle.bench_reader.specs.Grammar.{phrase_names, takes}
 use Rattle.bench_reader.specs.Names.{texts_in}
-use Rattle.bench_reader.specs.Reading.{word_of, statement_of}
+use Rattle.bench_reader.specs.Reading.{named_word, statement_of}
 use Rattle.bench_reader.specs.Scanning.{named_in, IsLexeme}
 use Rattle.bench_reader.specs.Shapes.{phrase_in, driver_in}
 use Rattle.bench_reader.specs.Numbering.{is_one_of, with_names, port_statement, gate_statement}
@@ -33,11 +33,11 @@ returns-in_ok-pins-in-Gate-clause-statement c =
     let driver = driver_in c.in-Gate.driver in
     let grown = names_grow first pins in
     let all : names ≡ with_names first pins = rw c.as_slice.ensures.value at c.in_ok-pins-in-Gate.ensures.names in
-    let words : c.in_ok-pins-in-Gate.pins ≡ map (word_of text names) pins = rw c.as_slice.ensures.value at c.in_ok-pins-in-Gate.ensures.words in
+    let words : c.in_ok-pins-in-Gate.pins ≡ map (named_word text names) pins = rw c.as_slice.ensures.value at c.in_ok-pins-in-Gate.ensures.words in
     let longer : names ≡ first ++ grown.0 = all ∙ grown.1 in
     let member : is_one_of first n.0 ≡ true = rw c.in_ok-word-in-Gate.ensures.names (name_grows (texts_in c.args.names.now) n.0).2 in
-    let word : c.in_ok-word-in-Gate.word ≡ word_of text names n = c.in_ok-word-in-Gate.ensures.word ∙ word_stays text first grown.0 n member ∙ sym (ap (λ ns. word_of text ns n) longer) in
-    c.gate_statement.ensures ∙ ap (λ w. gate_statement driver w c.in_ok-pins-in-Gate.pins) word ∙ ap (gate_statement driver (word_of text names n)) words ∙ gate_words text names driver n (named_in text c.in-Gate.field-2) pins
+    let word : c.in_ok-word-in-Gate.word ≡ named_word text names n = c.in_ok-word-in-Gate.ensures.word ∙ word_stays text first grown.0 n member ∙ sym (ap (λ ns. named_word text ns n) longer) in
+    c.gate_statement.ensures ∙ ap (λ w. gate_statement driver w c.in_ok-pins-in-Gate.pins) word ∙ ap (gate_statement driver (named_word text names n)) words ∙ gate_words text names driver n (named_in text c.in-Gate.field-2) pins
     ∙ ap (λ shape. statement_of text names (phrase_in text shape)) (sym c.in-Gate.is)
 
 pub word-requires-clause-few : goal.word-requires-clause-few
@@ -71,8 +71,8 @@ gate_statement-requires c =
     let pins = map (named_in text) c.in-Gate.pins.items in
     let driver = driver_in c.in-Gate.driver in
     let right : IsTrue (takes driver (length pins)) = rw c.in-Gate.is at c.requires.pins in
-    let words : c.in_ok-pins-in-Gate.pins ≡ map (word_of text (texts_in c.words.new.names)) pins = rw c.as_slice.ensures.value at c.in_ok-pins-in-Gate.ensures.words in
-    subst (λ n. IsTrue (takes driver n)) (sym (ap length words ∙ length-map pins (word_of text (texts_in c.words.new.names)))) right
+    let words : c.in_ok-pins-in-Gate.pins ≡ map (named_word text (texts_in c.words.new.names)) pins = rw c.as_slice.ensures.value at c.in_ok-pins-in-Gate.ensures.words in
+    subst (λ n. IsTrue (takes driver n)) (sym (ap length words ∙ length-map pins (named_word text (texts_in c.words.new.names)))) right
 
 pub returns-in_ok-pins-in-Gate-clause-names : goal.returns-in_ok-pins-in-Gate-clause-names
 returns-in_ok-pins-in-Gate-clause-names c =

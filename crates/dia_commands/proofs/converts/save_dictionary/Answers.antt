@@ -1,6 +1,6 @@
 use Rattle.std.proofs.Common.{◌≡◌, ◌∙◌, ap, refl, inl, length}
 use Rattle.dict_file.specs.declared.fault.DictVersion.TheVariants.{Two}
-use Rattle.dict_file.specs.Spelling.{spelling}
+use Rattle.dict_file.specs.Spelling.{dict_spelling}
 use Rattle.dia_commands.specs.Texts.{groups_text}
 use Rattle.dia_commands.specs.Dictionaries.{IsConverted}
 use Rattle.dia_commands.proofs.Followed.{follows_nothing}
@@ -25,6 +25,6 @@ returns-in_default-groups_text g c = λ old. follows_nothing (g.S.Shelf.state c.
 pub returns : goal.returns
 returns g c = λ old.
     let d = c.args.dict.now in
-    let file : c.deref.result.now ≡ spelling Two d = c.deref.ensures.value ∙ c.in-Ok.ensures in
+    let file : c.deref.result.now ≡ dict_spelling Two d = c.deref.ensures.value ∙ c.in-Ok.ensures in
     let text : c.as_bytes.result.now ≡ groups_text d.numbers d.patterns (length d.entries) = c.as_bytes.ensures.value ∙ (c.in-Ok-groups_text.ensures ∙ ap (λ k. groups_text d.numbers d.patterns k) c.group_count.ensures) in
     makes_follows (IsConverted d) dictionary_read.breaks (inl refl) (inl refl) (record { file_is = file; text_is = text }) c.save.ensures

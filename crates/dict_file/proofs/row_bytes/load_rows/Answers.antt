@@ -1,6 +1,6 @@
 use Rattle.std.proofs.Common.{◌∙◌, ◌<◌, refl, arith}
 use Rattle.table_dicts.proofs.RowLemmas.{zeros_begun, width_at, rows_more, rows_all}
-use Rattle.dict_file.specs.Places.{rows_of}
+use Rattle.dict_file.specs.Places.{first_rows}
 use Rattle.dict_file.specs.Reading.{row_of}
 use Rattle.dict_file.proofs.FieldLemmas.{length-rows_of, get_or-rows_of}
 use Rattle.dict_file.proofs.PlaceLemmas.{no_bits, start_below}
@@ -30,4 +30,4 @@ pub returns : goal.returns
 returns c =
     let bytes = c.args.bytes.now in
     let rows = c.args.rows in
-    rows_all (rows_of bytes rows c.args.count) c.loop-row.invariant (omega arith) (length-rows_of bytes rows c.args.count) (λ row h. get_or-rows_of bytes rows c.args.count row h)
+    rows_all (first_rows bytes rows c.args.count) c.loop-row.invariant (omega arith) (length-rows_of bytes rows c.args.count) (λ row h. get_or-rows_of bytes rows c.args.count row h)

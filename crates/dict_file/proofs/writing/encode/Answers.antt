@@ -1,10 +1,10 @@
 use Rattle.std.proofs.Common.{◌∙◌, ◌++◌, ap}
-use Rattle.dict_file.specs.Spelling.{spelling, head_bytes, body_bytes}
+use Rattle.dict_file.specs.Spelling.{dict_spelling, head_bytes, body_bytes}
 use Rattle.dict_file.proofs.PushLemmas.{joined}
 use Rattle.dict_file.proofs.writing.encode.Goals as goal
 
 pub returns : goal.returns
-unfolding spelling
+unfolding dict_spelling
 returns c =
     let d = c.args.dict.now in
     let v = c.args.version in

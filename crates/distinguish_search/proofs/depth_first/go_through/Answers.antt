@@ -2,9 +2,9 @@ use Rattle.std.proofs.Common.{◌≡◌, ◌∙◌, ◌+◌, sym, ap, subst}
 use Rattle.std.specs.Prelude.{◌==◌, if◌then◌else◌}
 use Rattle.net_model.specs.Circuit.{Circuit}
 use Rattle.pair_sets.specs.Cube.{FixesOnce}
-use Rattle.distinguish_search.specs.End.{IsEnd}
+use Rattle.distinguish_search.specs.End.{IsSearchEnd}
 use Rattle.distinguish_search.specs.Found.{IsFound}
-use Rattle.distinguish_search.specs.Frames.{cube_of, IsClimbed}
+use Rattle.distinguish_search.specs.Frames.{tried_cube, IsClimbed}
 use Rattle.distinguish_search.proofs.SearchSteps.{more_then, more_else, once_here, cube_found, leaf_here, tree_found, goes_on}
 use Rattle.distinguish_search.proofs.depth_first.go_through.Goals as goal
 use Rattle.distinguish_search.proofs.depth_first.go_through.Goals.{After-climb, then-not-full, else-not-full}
@@ -12,7 +12,7 @@ use Rattle.distinguish_search.proofs.depth_first.go_through.Goals.{After-climb, 
 pub cube-requires : goal.cube-requires
 cube-requires c =
     let loop = c.loop-stack in
-    subst (λ n. FixesOnce n (cube_of c.descend.new.stack)) (sym (c.sources.ensures.value ∙ ap (λ (k : Circuit). k.sources) c.circuit-circuit.ensures.value))
+    subst (λ n. FixesOnce n (tried_cube c.descend.new.stack)) (sym (c.sources.ensures.value ∙ ap (λ (k : Circuit). k.sources) c.circuit-circuit.ensures.value))
     (once_here c.args.sim.now.circuit c.args.sim.now.f c.args.sim.now.g c.args.leaves loop.closed loop.sim loop.stack loop.invariant c.descend.new.sim c.descend.new.stack c.in_ok-descend.ensures.under_way)
 
 pub returns-in-Apart-clause-found : goal.returns-in-Apart-clause-found
@@ -21,7 +21,7 @@ returns-in-Apart-clause-found c =
     let new = c.descend.new.sim in
     let full = loop.closed == c.args.leaves in
     cube_found c.args.sim.now.circuit c.args.sim.now.f c.args.sim.now.g c.args.leaves loop.closed loop.sim loop.stack loop.invariant new c.descend.new.stack c.in_ok-descend.ensures.under_way full
-    c.in_ok-cube-in-Apart.field-0.items c.circuit-circuit.ensures.circuit (subst (IsEnd loop.sim.circuit loop.sim.f loop.sim.g new.cube full) c.in-Apart.is c.in_ok-descend.ensures.ends)
+    c.in_ok-cube-in-Apart.field-0.items c.circuit-circuit.ensures.circuit (subst (IsSearchEnd loop.sim.circuit loop.sim.f loop.sim.g new.cube full) c.in-Apart.is c.in_ok-descend.ensures.ends)
     (c.in_ok-cube-in-Apart.ensures.width ∙ c.sources.ensures.value ∙ ap (λ (k : Circuit). k.sources) c.circuit-circuit.ensures.value) c.in_ok-cube-in-Apart.ensures.bits
 
 pub climb-requires-clause-tree : goal.climb-requires-clause-tree
@@ -30,7 +30,7 @@ climb-requires-clause-tree c =
     let new = c.descend.new.sim in
     let full = loop.closed == c.args.leaves in
     leaf_here c.args.sim.now.circuit c.args.sim.now.f c.args.sim.now.g c.args.leaves loop.closed loop.sim loop.stack loop.invariant new c.descend.new.stack c.in_ok-descend.ensures.under_way full
-    c.in_ok-tree.tree (subst (IsEnd loop.sim.circuit loop.sim.f loop.sim.g new.cube full) c.in-Leaf.is c.in_ok-descend.ensures.ends) c.in_ok-tree.ensures
+    c.in_ok-tree.tree (subst (IsSearchEnd loop.sim.circuit loop.sim.f loop.sim.g new.cube full) c.in-Leaf.is c.in_ok-descend.ensures.ends) c.in_ok-tree.ensures
 
 -- a leaf more is closed, if there was one left
 closed_now : (c : After-climb) → c.if-not-full.closed ≡ (if c.loop-stack.closed == c.args.leaves then c.loop-stack.closed else c.loop-stack.closed + 1)

@@ -2,7 +2,7 @@ use Rattle.std.proofs.Common.{◌≡◌, ◌∙◌, ℕ, ◌+◌, List, length, 
 use Rattle.std.specs.Prelude.{Bool, true, false, not, IfSome, None, Some, Option, is_some, ◌||◌}
 use Rattle.net_model.specs.Circuit.{IsCircuit, Feeds}
 use Rattle.net_model.proofs.Wired.{few_pins}
-use Rattle.distinguish_search.specs.Open.{IsOpen}
+use Rattle.distinguish_search.specs.Open.{IsLineOpen}
 use Rattle.distinguish_search.proofs.Walks.{NoneSeveral, pin_found, pin_passed, pins_are, some_several}
 use Rattle.distinguish_search.proofs.step.open_pin.Goals as goal
 use Rattle.distinguish_search.proofs.step.open_pin.Goals.{then-has_several+then-is_none-is_heavier, then-has_several+else-is_none-is_heavier, else-has_several}
@@ -25,7 +25,7 @@ loop-pin-preserved c =
     let pins = c.as_slice-pins.result.now in
     let pin = c.loop-pin.pin in
     let circuit : IsCircuit sim.circuit = c.circuit.ensures.circuit in
-    let so_far : Option ℕ → Type 0 = λ found. IfSome found (λ read. Feeds sim.circuit read c.args.line × IsOpen sim.circuit sim.f sim.g sim.cube read) × (found ≡ None → NoneSeveral sim.circuit sim.f sim.g sim.cube c.args.line pins (pin + 1)) in
+    let so_far : Option ℕ → Type 0 = λ found. IfSome found (λ read. Feeds sim.circuit read c.args.line × IsLineOpen sim.circuit sim.f sim.g sim.cube read) × (found ≡ None → NoneSeveral sim.circuit sim.f sim.g sim.cube c.args.line pins (pin + 1)) in
     elim c.if-has_several.branch [
       | then-has_several+then-is_none-is_heavier w ↦ subst so_far (sym w.found-is) (
         pin_found sim.circuit sim.f sim.g sim.cube c.args.line pin pins c.pin_pairs-pairs.result circuit c.requires.open

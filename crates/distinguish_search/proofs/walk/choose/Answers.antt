@@ -1,7 +1,7 @@
 use Rattle.std.proofs.Common.{◌≡◌, ◌<◌, ◌∙◌, ℕ, get_or, sym, ap, arith, subst}
 use Rattle.net_model.specs.Circuit.{Circuit, line_count}
 use Rattle.net_model.specs.Scope.{reached_positions}
-use Rattle.distinguish_search.specs.Open.{IsOpen}
+use Rattle.distinguish_search.specs.Open.{IsLineOpen}
 use Rattle.distinguish_search.proofs.Walks.{open_is_free}
 use Rattle.distinguish_search.proofs.walk.choose.Goals as goal
 
@@ -15,7 +15,7 @@ loop-step-init c =
     let positions : c.positions.result.now ≡ sim.circuit.positions = c.positions.ensures.value ∙ ap (λ (circuit : Circuit). circuit.positions) c.circuit-circuit.ensures.value in
     let line : get_or c.positions.result.now (get_or c.reached.result.now c.open_place-place.result 0) 0 ≡ get_or sim.circuit.positions (get_or (reached_positions sim.circuit sim.f sim.g) c.open_place-place.result 0) 0 =
     λ i. get_or (positions i) (get_or (c.reached.ensures.value i) c.open_place-place.result 0) 0 in (
-      subst (IsOpen sim.circuit sim.f sim.g sim.cube) (sym line) c.open_place-place.ensures.shows,
+      subst (IsLineOpen sim.circuit sim.f sim.g sim.cube) (sym line) c.open_place-place.ensures.shows,
       λ w. omega (arith, w.acyclic.bounded (get_or c.positions.result.now (get_or c.reached.result.now c.open_place-place.result 0) 0)),
     )
 

@@ -1,6 +1,6 @@
 use Rattle.std.proofs.Common.{◌≡◌, ◌∙◌, subst, arith}
 use Rattle.net_model.specs.Circuit.{line_count}
-use Rattle.fault_list.specs.Scope.{AreMarks, begins_at}
+use Rattle.fault_list.specs.Scope.{AreMarksOfTest, begins_at}
 use Rattle.fault_list.proofs.Marks.{marks_none, marks_more}
 use Rattle.fault_list.proofs.scope.first_lines.Goals as goal
 
@@ -25,4 +25,4 @@ loop-line-preserved c = record {
 pub returns : goal.returns
 returns c =
     let all : c.loop-line.line ≡ line_count c.args.circuit.now = omega (arith, c.loop-line-test.false, c.loop-line.auto.line-end, c.lines-line-end.ensures.value) in
-    subst (λ n. AreMarks (begins_at c.args.f.now c.args.g.now) n c.loop-line.marks.items) all c.loop-line.invariant.marks
+    subst (λ n. AreMarksOfTest (begins_at c.args.f.now c.args.g.now) n c.loop-line.marks.items) all c.loop-line.invariant.marks

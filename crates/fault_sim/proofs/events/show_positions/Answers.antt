@@ -7,7 +7,7 @@ use Rattle.net_model.specs.Circuit.{Circuit, line_count}
 use Rattle.word_sim.specs.GoodSim.{GoodSim}
 use Rattle.event_queue.specs.Pending.{is_pending, IsLowest}
 use Rattle.fault_sim.specs.Rows.{Rows, IsFalse, IsTrueSomewhere}
-use Rattle.fault_sim.specs.Events.{IsShown}
+use Rattle.fault_sim.specs.Events.{IsPositionShown}
 use Rattle.event_queue.proofs.Marks.{lowest_left, not_before}
 use Rattle.fault_sim.proofs.SettledLemmas.{none_true}
 use Rattle.net_model.proofs.Elements.{none_in}
@@ -59,14 +59,14 @@ loop-at-preserved c =
     let inside : at < count = c.loop-at.invariant.within at lowest.was in
     let low : c.loop-at.from ≤ at = not_before c.loop-at.marks c.loop-at.from at c.loop-at.invariant.low lowest.was in
     let pos_is : c.positions-shown.result.now ≡ good.circuit.positions = positions_are good c.circuit.result.now c.positions-shown.result.now c.circuit.ensures c.positions-shown.ensures.value in
-    let here : IsShown good c.args.fault lines at row =
+    let here : IsPositionShown good c.args.fault lines at row =
     record { live = rw pos_is at c.position_change-row.ensures.live; past = c.position_change-row.ensures.past } in
     let rest : (position : ℕ) → is_pending c.take_lowest.new.self position ≡ true → (at < position) × (is_pending c.loop-at.marks position ≡ true) = lowest_left c.loop-at.marks c.take_lowest.new.self at lowest in
     let Facts : Rows → Type 0 =
     λ p. (length p.rows ≡ length rows) × (p.room ≡ c.loop-at.positions.room) × (length p.listed ≤ length c.loop-at.positions.listed + 1)
     × ((position : ℕ) → at + 1 ≤ position → position < count → IsFalse (get_or p.rows position []))
     × All (λ position. position < at + 1) p.listed × All (λ position. IsTrueSomewhere (get_or p.rows position [])) p.listed × AllPairs ◌<◌ p.listed
-    × ((position : ℕ) → position < count → is_pending c.take_lowest.new.self position ≡ false → IsShown good c.args.fault lines position (get_or p.rows position [])) in
+    × ((position : ℕ) → position < count → is_pending c.take_lowest.new.self position ≡ false → IsPositionShown good c.args.fault lines position (get_or p.rows position [])) in
     let set_at : at < length rows = omega (arith, c.loop-at.invariant.whole, c.requires.whole) in
     let facts : Facts c.if-any.positions = elim c.if-any.branch [
       | then-any w ↦ subst Facts (sym (w.positions-is ∙ w.set.ensures)) (

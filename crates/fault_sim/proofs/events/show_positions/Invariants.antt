@@ -2,7 +2,7 @@ use Rattle.std.proofs.Common.{◌≡◌, ◌<◌, ◌≤◌, ◌-◌, ℕ, true,
 use Rattle.std.specs.Prelude.{All, AllPairs}
 use Rattle.event_queue.specs.Pending.{is_pending}
 use Rattle.fault_sim.specs.Rows.{IsFalse, IsTrueSomewhere}
-use Rattle.fault_sim.specs.Events.{IsShown}
+use Rattle.fault_sim.specs.Events.{IsPositionShown}
 use Rattle.fault_sim.proofs.events.show_positions.Given as goal
 
 abbrev pub invariant-loop-at : goal.invariant-loop-at
@@ -18,7 +18,7 @@ invariant-loop-at l = record {
   below : All (λ position. position < l.from) l.positions.listed;
   some : All (λ position. IsTrueSomewhere (get_or l.positions.rows position [])) l.positions.listed;
   ascending : AllPairs ◌<◌ l.positions.listed;
-  shown : (position : ℕ) → position < length l.good.circuit.positions → is_pending l.marks position ≡ false → IsShown l.good l.fault l.lines position (get_or l.positions.rows position []);
+  shown : (position : ℕ) → position < length l.good.circuit.positions → is_pending l.marks position ≡ false → IsPositionShown l.good l.fault l.lines position (get_or l.positions.rows position []);
 }
 
 abbrev pub decreases-loop-at : goal.decreases-loop-at

@@ -7,7 +7,7 @@ use Rattle.word_sim.specs.GoodSim.{vectors_of}
 use Rattle.fault_sim.specs.FaultyLanes.{vector_at}
 use Rattle.kept_vectors.specs.declared.notes.Note.{Note}
 use Rattle.kept_vectors.specs.Kept.{with_vector}
-use Rattle.kept_vectors.specs.Notes.{AreRight, is_noted}
+use Rattle.kept_vectors.specs.Notes.{AreRightNotes, is_noted}
 use Rattle.kept_vectors.specs.Scan.{kept_now, IsOffered}
 use Rattle.kept_vectors.specs.Spans.{lane_notes}
 use Rattle.kept_vectors.proofs.KeepLemmas.{ran_vectors, offered_lane, skipped_lane}
@@ -19,8 +19,8 @@ use Rattle.kept_vectors.proofs.scan.judge_lane.Goals.{After-as_slice-shown}
 shown : (c : After-as_slice-shown) → c.as_slice-shown.result.now ≡ lane_notes c.args.spans.now c.args.notes.now c.args.lane
 shown c = c.as_slice-shown.ensures.value ∙ c.in_ok-picked.ensures
 
-right : (c : After-as_slice-shown) → AreRight c.args.good.now c.as_slice-shown.result.now
-right c = subst (AreRight c.args.good.now) (sym (shown c)) (right_shown c.args.good.now c.args.spans.now c.args.notes.now c.args.lane c.requires.told.right)
+right : (c : After-as_slice-shown) → AreRightNotes c.args.good.now c.as_slice-shown.result.now
+right c = subst (AreRightNotes c.args.good.now) (sym (shown c)) (right_shown c.args.good.now c.args.spans.now c.args.notes.now c.args.lane c.requires.told.right)
 
 pub notes_at-requires-clause-lane : goal.notes_at-requires-clause-lane
 notes_at-requires-clause-lane c = omega (arith, c.requires.lane, c.requires.few)

@@ -8,8 +8,8 @@ use Rattle.clause_pool.specs.Literal.{Literal}
 use Rattle.clause_pool.specs.Clauses.{Clause}
 use Rattle.solver_trail.specs.declared.set_literals.SetLiteral.{SetLiteral}
 use Rattle.learn_solver.specs.Marks.{MarksClause}
-use Rattle.learn_solver.specs.Places.{set_at, IsFalseAt}
-use Rattle.learn_solver.specs.Walk.{IsWalk}
+use Rattle.learn_solver.specs.Places.{set_literal_at, IsFalseAt}
+use Rattle.learn_solver.specs.Walk.{IsTrailWalk}
 use Rattle.learn_solver.proofs.WalkEnds.{walk_start, walk_over, clear_end, learned_end}
 use Rattle.learn_solver.proofs.analysis.analyze.Goals as goal
 use Rattle.learn_solver.proofs.analysis.analyze.Goals.{then-loop-place-test+else-not-are_clear, else-loop-place-test}
@@ -24,9 +24,9 @@ loop-place-init c =
     let start = walk_start trail clauses c.requires.ready c.args.conflict conflict c.args.marks.now c.mark_clause.new.marks opened c.requires.clear
     (subst (λ k. MarksClause trail.assignment c.args.marks.now c.mark_clause.new.marks k opened) same c.in_ok-mark_clause.ensures) in
     let long : length trail.assignment.literals ≡ length c.set_literals-place.result.now = sym (ap length c.set_literals-place.ensures.literals ∙ length-map trail.assignment.literals (λ (s : SetLiteral). s.literal)) in
-    subst (λ n. IsWalk trail.assignment clauses c.mark_clause.new.marks c.new.result c.new-2.result.items opened n) long
-    (subst (λ ls. IsWalk trail.assignment clauses c.mark_clause.new.marks c.new.result ls opened (length trail.assignment.literals)) (sym c.new-2.ensures.items)
-    (subst (λ x. IsWalk trail.assignment clauses c.mark_clause.new.marks x [] opened (length trail.assignment.literals)) (sym c.new.ensures) start))
+    subst (λ n. IsTrailWalk trail.assignment clauses c.mark_clause.new.marks c.new.result c.new-2.result.items opened n) long
+    (subst (λ ls. IsTrailWalk trail.assignment clauses c.mark_clause.new.marks c.new.result ls opened (length trail.assignment.literals)) (sym c.new-2.ensures.items)
+    (subst (λ x. IsTrailWalk trail.assignment clauses c.mark_clause.new.marks x [] opened (length trail.assignment.literals)) (sym c.new.ensures) start))
 
 -- ---- the end
 
@@ -36,16 +36,16 @@ returns c =
     let clauses = c.args.pool.now.clauses in
     let l = c.loop-place in
     let kept = l.analysis.kept.items in
-    let over : IsWalk a clauses l.marks l.analysis.chain kept l.analysis.left 0 = elim c.loop-place-test.branch [
+    let over : IsTrailWalk a clauses l.marks l.analysis.chain kept l.analysis.left 0 = elim c.loop-place-test.branch [
       | then-loop-place-test+else-not-are_clear w ↦ walk_over a clauses l.marks l.analysis.chain kept l.analysis.left l.place (w.are_clear.ensures w.if-not-are_clear.false) l.invariant
-      | else-loop-place-test w ↦ let none : l.place ≡ 0 = omega (arith, w.loop-place-test.false) in subst (IsWalk a clauses l.marks l.analysis.chain kept l.analysis.left) none l.invariant
+      | else-loop-place-test w ↦ let none : l.place ≡ 0 = omega (arith, w.loop-place-test.false) in subst (IsTrailWalk a clauses l.marks l.analysis.chain kept l.analysis.left) none l.invariant
     ] in
     let value = c.as_slice.ensures.value in
     record {
       learned =
           learned_end a c.requires.ready.is_trail clauses l.marks l.analysis.chain kept l.analysis.left over c.back_level-back.result
           (subst (λ (ls : List Literal). length ls ≤ 1 → c.back_level-back.result ≡ 0) value c.back_level-back.ensures.none)
-          (subst (λ (ls : List Literal). (d : Literal) (place : ℕ) → 1 < length ls → IsFalseAt a (get_or ls 1 d) place → c.back_level-back.result ≡ (set_at a place).level) value c.back_level-back.ensures.some);
+          (subst (λ (ls : List Literal). (d : Literal) (place : ℕ) → 1 < length ls → IsFalseAt a (get_or ls 1 d) place → c.back_level-back.result ≡ (set_literal_at a place).level) value c.back_level-back.ensures.some);
       clear = clear_end a clauses l.marks l.analysis.chain kept l.analysis.left over;
     }
 

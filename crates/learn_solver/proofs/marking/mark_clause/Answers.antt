@@ -6,7 +6,7 @@ use Rattle.net_model.specs.Answer.{bit_at}
 use Rattle.std.proofs.lemmas.List.Elements.{Contains-get_or}
 use Rattle.solver_trail.specs.Assignment.{no_literal}
 use Rattle.clause_pool.specs.Literal.{Literal}
-use Rattle.learn_solver.specs.Places.{set_at}
+use Rattle.learn_solver.specs.Places.{set_literal_at}
 use Rattle.learn_solver.proofs.Counts.{one_if}
 use Rattle.learn_solver.proofs.MarkingSteps.{IsMarking, marking_again, marking_now, marking_all}
 use Rattle.learn_solver.proofs.marking.mark_clause.Goals as goal
@@ -35,11 +35,11 @@ loop-lit-preserved c =
     elim c.if-not-has.branch [
       | then-not-has+in_ok-add+then-is_present w ↦
           let unmarked : bit_at new v ≡ false = sym c.has.ensures ∙ w.if-not-has.true in
-          let more = marking_now a old new clause at c.loop-lit.opened inv within v is 1 c.requires.trail room unmarked (omega arith) (λ k h e. counted_yes (set_at a k).level a.level w.is_present.result (w.is_present.ensures (set_at a k) (Contains-get_or a.literals k no_literal h) e) w.if-is_present.true) in
+          let more = marking_now a old new clause at c.loop-lit.opened inv within v is 1 c.requires.trail room unmarked (omega arith) (λ k h e. counted_yes (set_literal_at a k).level a.level w.is_present.result (w.is_present.ensures (set_literal_at a k) (Contains-get_or a.literals k no_literal h) e) w.if-is_present.true) in
           subst (λ ms. IsMarking a old ms clause (at + 1) c.if-not-has.opened) (sym (w.marks-is ∙ w.in_ok-add.ensures.ok)) (subst (IsMarking a old (set new v true) clause (at + 1)) (sym w.opened-is) more)
       | then-not-has+in_ok-add+else-is_present w ↦
           let unmarked : bit_at new v ≡ false = sym c.has.ensures ∙ w.if-not-has.true in
-          let more = marking_now a old new clause at c.loop-lit.opened inv within v is 0 c.requires.trail room unmarked (omega arith) (λ k h e. counted_no (set_at a k).level a.level w.is_present.result (w.is_present.ensures (set_at a k) (Contains-get_or a.literals k no_literal h) e) w.if-is_present.false) in
+          let more = marking_now a old new clause at c.loop-lit.opened inv within v is 0 c.requires.trail room unmarked (omega arith) (λ k h e. counted_no (set_literal_at a k).level a.level w.is_present.result (w.is_present.ensures (set_literal_at a k) (Contains-get_or a.literals k no_literal h) e) w.if-is_present.false) in
           let none : c.loop-lit.opened + 0 ≡ c.if-not-has.opened = omega (arith, w.opened-is) in
           subst (λ ms. IsMarking a old ms clause (at + 1) c.if-not-has.opened) (sym (w.marks-is ∙ w.in_ok-add.ensures.ok)) (subst (IsMarking a old (set new v true) clause (at + 1)) none more)
       | else-not-has w ↦

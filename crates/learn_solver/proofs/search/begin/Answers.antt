@@ -1,5 +1,5 @@
 use Rattle.std.proofs.Common.{◌∙◌, sym, subst}
-use Rattle.learn_solver.specs.Walk.{AreClear}
+use Rattle.learn_solver.specs.Walk.{AreUnmarked}
 use Rattle.learn_solver.proofs.Attaching.{clear_zeros}
 use Rattle.learn_solver.proofs.search.begin.Goals as goal
 
@@ -9,5 +9,5 @@ returns-clause-prepared c =
     record {
       ready = c.in_ok-trail.ensures.ready;
       decider = c.in_ok-decider.ensures ∙ sym same;
-      clear = subst (λ n. AreClear n c.in_ok-marks.marks) (sym same) (subst (AreClear c.args.variables) (sym c.in_ok-marks.ensures) (clear_zeros c.args.variables));
+      clear = subst (λ n. AreUnmarked n c.in_ok-marks.marks) (sym same) (subst (AreUnmarked c.args.variables) (sym c.in_ok-marks.ensures) (clear_zeros c.args.variables));
     }

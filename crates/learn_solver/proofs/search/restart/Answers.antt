@@ -1,5 +1,5 @@
 use Rattle.std.proofs.Common.{◌∙◌, sym, subst, arith}
-use Rattle.learn_solver.specs.Walk.{AreClear}
+use Rattle.learn_solver.specs.Walk.{AreUnmarked}
 use Rattle.learn_solver.proofs.Ready.{ready_cut}
 use Rattle.learn_solver.proofs.search.restart.Goals as goal
 
@@ -12,5 +12,5 @@ returns-clause-prepared c =
     record {
       ready = ready_cut old.trail c.back_to.new.self clauses 0 (omega arith) c.requires.ready e.assignment e.attached (e.fits clauses c.requires.ready.fits) e.trail;
       decider = c.leave.ensures ∙ (c.requires.decider ∙ sym same);
-      clear = subst (λ n. AreClear n old.marks) (sym same) c.requires.clear;
+      clear = subst (λ n. AreUnmarked n old.marks) (sym same) c.requires.clear;
     }

@@ -1,7 +1,7 @@
 use Rattle.std.proofs.Common.{◌∙◌, ◌<◌, ◌≤◌, length, sym, subst, arith}
 use Rattle.std.proofs.lemmas.List.Elements.{All-weaker}
 use Rattle.std.proofs.lemmas.Result.{on_ok_weaker}
-use Rattle.learn_solver.specs.Walk.{AreClear}
+use Rattle.learn_solver.specs.Walk.{AreUnmarked}
 use Rattle.learn_solver.proofs.search.take_in.Goals as goal
 
 pub renew-requires : goal.renew-requires
@@ -18,6 +18,6 @@ returns-clause-prepared c =
     (λ ready. record {
       ready = ready;
       decider = c.leave.ensures ∙ (c.renew.ensures ∙ (c.requires.prepared.decider ∙ sym e.variables));
-      clear = subst (AreClear c.learn.new.trail.assignment.variables) (sym c.clear_met.ensures) (subst (λ v. AreClear v c.args.search.now.marks) (sym e.variables) c.requires.prepared.clear);
+      clear = subst (AreUnmarked c.learn.new.trail.assignment.variables) (sym c.clear_met.ensures) (subst (λ v. AreUnmarked v c.args.search.now.marks) (sym e.variables) c.requires.prepared.clear);
     })
     e.ready

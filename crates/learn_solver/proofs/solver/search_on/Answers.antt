@@ -1,7 +1,7 @@
 use Rattle.std.proofs.Common.{◌≡◌, refl, length, sym, subst, arith}
-use Rattle.solver_trail.specs.Assignment.{held}
+use Rattle.solver_trail.specs.Assignment.{assigned_literals}
 use Rattle.learn_solver.specs.declared.aim.Aim.TheVariants.{Model}
-use Rattle.learn_solver.specs.Search.{EndsStep, clauses_of}
+use Rattle.learn_solver.specs.Search.{EndsStep, miter_clauses}
 use Rattle.learn_solver.specs.Solved.{HasSpentLog}
 use Rattle.learn_solver.proofs.Attaching.{quiet_first}
 use Rattle.learn_solver.proofs.Searching.{restarted}
@@ -18,11 +18,11 @@ vector-requires-clause-quiet c =
     let new = c.take_step.new.search in
     let pool = c.take_step.new.pool.clauses in
     let end = subst (EndsStep c.args.miter.now c.args.conflicts Model c.conflicts.search new pool) c.in-Open.is c.in_ok-take_step.ensures.ends in
-    quiet_first (held new.trail.assignment) pool (clauses_of c.args.miter.now) end.0.begins end.1
+    quiet_first (assigned_literals new.trail.assignment) pool (miter_clauses c.args.miter.now) end.0.begins end.1
 
 pub returns-clause-solved : goal.returns-clause-solved
 returns-clause-solved c =
-    let first = clauses_of c.args.miter.now in
+    let first = miter_clauses c.args.miter.now in
     let search = c.conflicts.search in
     let all : length search.chains.items ≡ c.args.conflicts = omega (arith, c.conflicts-test.false, c.len.ensures, c.conflicts.invariant.few, search.chains.ok.0) in
     subst (HasSpentLog first c.args.conflicts c.conflicts.pool.clauses) (sym c.in_ok-log_of.ensures)

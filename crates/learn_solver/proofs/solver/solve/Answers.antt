@@ -4,7 +4,7 @@ use Rattle.clause_pool.specs.Clauses.{BeginsWith}
 use Rattle.clause_pool.specs.Proper.{IsProper}
 use Rattle.clause_pool.proofs.Numbered.{begins_itself}
 use Rattle.learn_solver.specs.Learning.{IsLearning}
-use Rattle.learn_solver.specs.Search.{clauses_of}
+use Rattle.learn_solver.specs.Search.{miter_clauses}
 use Rattle.learn_solver.proofs.Solving.{learning_none}
 use Rattle.learn_solver.proofs.solver.solve.Goals as goal
 
@@ -13,7 +13,7 @@ begin-requires-clause-proper c = subst (All (IsProper c.variables.result)) (sym 
 
 pub run-requires-clause-search : goal.run-requires-clause-search
 run-requires-clause-search c =
-    let first = clauses_of c.args.miter.now in
+    let first = miter_clauses c.args.miter.now in
     let e = c.in_ok-search.ensures in
     record {
       prepared = e.prepared;

@@ -1,6 +1,6 @@
 use Rattle.std.proofs.Common.{◌∙◌, ◌++◌, length, ap, sym, subst}
 use Rattle.net_model.specs.Fault.{IsFaultOf}
-use Rattle.pair_miter.specs.Adds.{Adds, Keeps}
+use Rattle.pair_miter.specs.Adds.{Adds, KeepsClauses}
 use Rattle.pair_miter.specs.Miter.{miter}
 use Rattle.pair_miter.specs.MiterView.{Miter}
 use Rattle.pair_miter.proofs.AddSteps.{writes_err}
@@ -25,7 +25,7 @@ invariant_of-result c =
 pub returns-in_err-variables-clause-written : goal.returns-in_err-variables-clause-written
 returns-in_err-variables-clause-written c =
     writes_err c.from_residual-in_err-variables.result c.from_residual-in_err-variables.ensures.0
-    (subst (λ (p : Miter). Keeps c.args.pool.now c.write_parts.new.pool (miter p.circuit p.f p.g)) c.in_ok-numbering.ensures c.in_err-variables.ensures.written)
+    (subst (λ (p : Miter). KeepsClauses c.args.pool.now c.write_parts.new.pool (miter p.circuit p.f p.g)) c.in_ok-numbering.ensures c.in_err-variables.ensures.written)
 
 pub returns-clause-miter : goal.returns-clause-miter
 returns-clause-miter c = c.in_ok-numbering.ensures

@@ -1,6 +1,6 @@
 use Rattle.std.proofs.Common.{length, arith, ap, sym, subst}
 use Rattle.std.proofs.lemmas.Result.{IfOk-from_err}
-use Rattle.pair_miter.specs.Adds.{Adds, Keeps}
+use Rattle.pair_miter.specs.Adds.{Adds, KeepsClauses}
 use Rattle.pair_miter.proofs.AddSteps.{first_few, first_fails, left_fails, left_few, both_parts, writes_err}
 use Rattle.pair_miter.proofs.Bounds.{few_variables_of}
 use Rattle.pair_miter.proofs.MiterParts.{miter_parts, parts_few, parts_of_miter}
@@ -67,13 +67,13 @@ pub returns-in_err-write_lines-clause-written : goal.returns-in_err-write_lines-
 returns-in_err-write_lines-clause-written c =
     let q = c.args.numbering.now in
     let keeps = first_fails (parts_of_miter q.circuit q.f q.g) c.in_err-write_lines.ensures.written in
-    writes_err c.from_residual-in_err-write_lines.result c.from_residual-in_err-write_lines.ensures.0 (subst (Keeps c.args.pool.now c.write_lines.new.pool) (sym (miter_parts q.circuit q.f q.g)) keeps)
+    writes_err c.from_residual-in_err-write_lines.result c.from_residual-in_err-write_lines.ensures.0 (subst (KeepsClauses c.args.pool.now c.write_lines.new.pool) (sym (miter_parts q.circuit q.f q.g)) keeps)
 
 pub returns-in_err-write_differences-clause-written : goal.returns-in_err-write_differences-clause-written
 returns-in_err-write_differences-clause-written c =
     let q = c.args.numbering.now in
     let keeps = left_fails (parts_of_miter q.circuit q.f q.g) c.in_ok-write_lines.ensures.written c.in_err-write_differences.ensures.written in
-    writes_err c.from_residual-in_err-write_differences.result c.from_residual-in_err-write_differences.ensures.0 (subst (Keeps c.args.pool.now c.write_differences.new.pool) (sym (miter_parts q.circuit q.f q.g)) keeps)
+    writes_err c.from_residual-in_err-write_differences.result c.from_residual-in_err-write_differences.ensures.0 (subst (KeepsClauses c.args.pool.now c.write_differences.new.pool) (sym (miter_parts q.circuit q.f q.g)) keeps)
 
 pub returns-in_err-write_lines-clause-variables : goal.returns-in_err-write_lines-clause-variables
 returns-in_err-write_lines-clause-variables c = IfOk-from_err c.from_residual-in_err-write_lines.result _ c.from_residual-in_err-write_lines.ensures.0

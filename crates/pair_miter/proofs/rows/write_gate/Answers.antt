@@ -8,7 +8,7 @@ use Rattle.net_model.specs.Gate.{operation_of, inverts}
 use Rattle.clause_pool.specs.Literal.{Literal}
 use Rattle.clause_pool.specs.Clauses.{Clause, Clauses}
 use Rattle.pair_miter.specs.Operand.{Operand}
-use Rattle.pair_miter.specs.Adds.{Writes}
+use Rattle.pair_miter.specs.Adds.{WritesClauses}
 use Rattle.pair_miter.specs.Miter.{tidy}
 use Rattle.pair_miter.specs.Rows.{decided_rows, operation_rows, gate_rows}
 use Rattle.pair_miter.proofs.RowParts.{rows_of_gate}
@@ -35,24 +35,24 @@ write_chosen-requires-clause-few c = few c.args.pool.now (rows c.args.kind Chose
 
 pub returns-in-Folded-AllOf-clause-written : goal.returns-in-Folded-AllOf-clause-written
 returns-in-Folded-AllOf-clause-written c =
-    subst (λ (xs : List Clause). Writes c.write_decided.result c.args.pool.now c.write_decided.new.pool (tidy xs))
+    subst (λ (xs : List Clause). WritesClauses c.write_decided.result c.args.pool.now c.write_decided.new.pool (tidy xs))
     (ap (λ (l : Literal). decided_rows false l c.args.operands.now) c.opposite.ensures ∙ rows c.args.kind (Folded AllOf) c.args.output c.args.helper c.args.operands.now c.operation.ensures (c.in-Folded-AllOf.is ∙ ap (λ f. Folded f) c.in-Folded-AllOf.field-0-is) c.inverts.ensures c.literal-y.ensures)
     c.write_decided.ensures.written
 
 pub returns-in-Folded-AnyOf-clause-written : goal.returns-in-Folded-AnyOf-clause-written
 returns-in-Folded-AnyOf-clause-written c =
-    subst (λ (xs : List Clause). Writes c.write_decided-in-Folded-AnyOf.result c.args.pool.now c.write_decided-in-Folded-AnyOf.new.pool (tidy xs))
+    subst (λ (xs : List Clause). WritesClauses c.write_decided-in-Folded-AnyOf.result c.args.pool.now c.write_decided-in-Folded-AnyOf.new.pool (tidy xs))
     (rows c.args.kind (Folded AnyOf) c.args.output c.args.helper c.args.operands.now c.operation.ensures (c.in-Folded-AnyOf.is ∙ ap (λ f. Folded f) c.in-Folded-AnyOf.field-0-is) c.inverts.ensures c.literal-y.ensures)
     c.write_decided-in-Folded-AnyOf.ensures.written
 
 pub returns-in-Folded-OddOf-clause-written : goal.returns-in-Folded-OddOf-clause-written
 returns-in-Folded-OddOf-clause-written c =
-    subst (λ (xs : List Clause). Writes c.write_odd.result c.args.pool.now c.write_odd.new.pool (tidy xs))
+    subst (λ (xs : List Clause). WritesClauses c.write_odd.result c.args.pool.now c.write_odd.new.pool (tidy xs))
     (rows c.args.kind (Folded OddOf) c.args.output c.args.helper c.args.operands.now c.operation.ensures (c.in-Folded-OddOf.is ∙ ap (λ f. Folded f) c.in-Folded-OddOf.field-0-is) c.inverts.ensures c.literal-y.ensures)
     c.write_odd.ensures.written
 
 pub returns-in-Chosen-clause-written : goal.returns-in-Chosen-clause-written
-returns-in-Chosen-clause-written c = subst (λ (xs : List Clause). Writes c.write_chosen.result c.args.pool.now c.write_chosen.new.pool (tidy xs)) (rows c.args.kind Chosen c.args.output c.args.helper c.args.operands.now c.operation.ensures c.in-Chosen.is c.inverts.ensures c.literal-y.ensures) c.write_chosen.ensures.written
+returns-in-Chosen-clause-written c = subst (λ (xs : List Clause). WritesClauses c.write_chosen.result c.args.pool.now c.write_chosen.new.pool (tidy xs)) (rows c.args.kind Chosen c.args.output c.args.helper c.args.operands.now c.operation.ensures c.in-Chosen.is c.inverts.ensures c.literal-y.ensures) c.write_chosen.ensures.written
 
 pub write_decided-requires-clause-operands : goal.write_decided-requires-clause-operands
 write_decided-requires-clause-operands c = c.requires.operands

@@ -4,7 +4,7 @@ use Rattle.std.proofs.lemmas.List.{take_all, take_more, get_or_read}
 use Rattle.net_model.specs.Answer.{bit_at}
 use Rattle.clause_pool.specs.Literal.{Literal, opposite}
 use Rattle.clause_pool.specs.LiteralCode.{code_of}
-use Rattle.pair_miter.specs.Marks.{AreMarks}
+use Rattle.pair_miter.specs.Marks.{AreMarksOfClause}
 use Rattle.pair_miter.specs.Miter.{without_repeats, is_tautology}
 use Rattle.pair_miter.proofs.TidyParts.{is_tautology-push}
 use Rattle.pair_miter.proofs.MarkSteps.{marks_again, marks_more, keeps_new, keeps_old, code_within}
@@ -39,16 +39,16 @@ loop-lit-preserved c =
     let place = c.code-at.ensures in
     let inside : c.code-at.result < length marks = omega (arith, room, place) in
     let read : c.index.result.now ≡ bit_at marks (code_of m) = get_or_read marks c.code-at.result c.index.result.now inside c.index.ensures false ∙ ap (bit_at marks) place in
-    let both : (c.if-not-index.kept.items ≡ without_repeats (xs ++ m ∷ [])) × AreMarks c.if-not-index.marks.items (xs ++ m ∷ []) =
+    let both : (c.if-not-index.kept.items ≡ without_repeats (xs ++ m ∷ [])) × AreMarksOfClause c.if-not-index.marks.items (xs ++ m ∷ []) =
     elim c.if-not-index.branch [
       | then-not-index w ↦
           let there : c.if-not-index.marks.items ≡ set marks (code_of m) true = ap (λ (v : Vec Bool Global). v.items) w.marks-is ∙ ap (λ n. set marks n true) place in
           let kept = ap (λ (v : Vec Literal Global). v.items) w.kept-is ∙ w.push_reserved.ensures.items in
-          (kept ∙ keeps_new marks c.loop-lit.kept.items xs m h.marked h.kept (sym read ∙ w.if-not-index.true), subst (λ ms. AreMarks ms (xs ++ m ∷ [])) (sym there) (marks_more marks xs m h.marked room))
+          (kept ∙ keeps_new marks c.loop-lit.kept.items xs m h.marked h.kept (sym read ∙ w.if-not-index.true), subst (λ ms. AreMarksOfClause ms (xs ++ m ∷ [])) (sym there) (marks_more marks xs m h.marked room))
       | else-not-index w ↦
           let there = ap (λ (v : Vec Bool Global). v.items) w.marks-is in
           let kept = ap (λ (v : Vec Literal Global). v.items) w.kept-is in
-          (kept ∙ keeps_old marks c.loop-lit.kept.items xs m h.marked h.kept (sym read ∙ w.if-not-index.false), subst (λ ms. AreMarks ms (xs ++ m ∷ [])) (sym there) (marks_again marks xs m h.marked (sym read ∙ w.if-not-index.false)))
+          (kept ∙ keeps_old marks c.loop-lit.kept.items xs m h.marked h.kept (sym read ∙ w.if-not-index.false), subst (λ ms. AreMarksOfClause ms (xs ++ m ∷ [])) (sym there) (marks_again marks xs m h.marked (sym read ∙ w.if-not-index.false)))
     ] in
     let other = c.code.ensures ∙ ap code_of c.opposite.ensures in
     let places : length c.if-not-index.marks.items ≡ length c.args.marks.now.items =
@@ -72,7 +72,7 @@ loop-lit-preserved c =
       room = sizes.1;
       opposites = (λ j. h.opposites j || (others_read ∙ both.1 (opposite m)) j) ∙ (sym (is_tautology-push xs m) ∙ ap is_tautology (sym more));
       places = places;
-      marked = subst (AreMarks c.if-not-index.marks.items) (sym more) both.1;
+      marked = subst (AreMarksOfClause c.if-not-index.marks.items) (sym more) both.1;
     }
 
 pub returns-clause-kept : goal.returns-clause-kept
@@ -82,4 +82,4 @@ pub returns-clause-opposites : goal.returns-clause-opposites
 returns-clause-opposites c = c.loop-lit.invariant.opposites ∙ ap is_tautology (take_all c.loop-lit.lit-index c.args.clause.now c.loop-lit-test.false)
 
 pub returns-clause-marked : goal.returns-clause-marked
-returns-clause-marked c = subst (AreMarks c.loop-lit.marks.items) (take_all c.loop-lit.lit-index c.args.clause.now c.loop-lit-test.false) c.loop-lit.invariant.marked
+returns-clause-marked c = subst (AreMarksOfClause c.loop-lit.marks.items) (take_all c.loop-lit.lit-index c.args.clause.now c.loop-lit-test.false) c.loop-lit.invariant.marked

@@ -1,5 +1,5 @@
 use Rattle.std.proofs.Common.{◌≡◌, ◌≤◌, length, take, vec_len, vec_capacity}
-use Rattle.pair_miter.specs.Marks.{AreMarks}
+use Rattle.pair_miter.specs.Marks.{AreMarksOfClause}
 use Rattle.pair_miter.specs.Miter.{without_repeats, is_tautology}
 use Rattle.pair_miter.proofs.tidier.keep_once.Given as goal
 
@@ -10,5 +10,5 @@ invariant-loop-lit l = record {
   room : length l.clause ≤ vec_capacity l.kept;
   opposites : l.opposites ≡ is_tautology (take l.lit-index l.clause);
   places : length l.marks.items ≡ length l.initial.marks.items;
-  marked : AreMarks l.marks.items (take l.lit-index l.clause);
+  marked : AreMarksOfClause l.marks.items (take l.lit-index l.clause);
 }

@@ -1,7 +1,7 @@
 use Rattle.std.proofs.Common.{◌<◌, ◌∙◌, length, sym, ap, arith, subst}
 use Rattle.net_model.proofs.Places.{places_are_gates}
 use Rattle.pair_sets.specs.CubeState.{set_at}
-use Rattle.pair_sets.specs.Events.{AreSettled, AreLoose, gate_line_pairs}
+use Rattle.pair_sets.specs.Events.{ArePairsSettled, AreLoose, gate_line_pairs}
 use Rattle.pair_sets.proofs.EventLemmas.{settled_after, loose_after}
 use Rattle.pair_sets.proofs.PairLemmas.{within_same}
 use Rattle.pair_sets.proofs.TrailLemmas.{longer_more}
@@ -24,7 +24,7 @@ follow-requires-clause-settled c =
     let wiring = c.wiring-wiring.result.now in
     let sets = c.args.trail.now.sets.items in
     let inside : c.args.source < length sets = omega (arith, c.requires.width, c.requires.source) in
-    subst (AreSettled circuit f g wiring.order c.settle.new.queue) (sym c.settle.ensures.sets)
+    subst (ArePairsSettled circuit f g wiring.order c.settle.new.queue) (sym c.settle.ensures.sets)
     (settled_after circuit f g c.wiring-wiring.ensures.circuit sets c.args.source c.args.pairs inside (λ h. absurd (omega (arith, h, c.requires.source))) wiring c.wiring-wiring.ensures c.args.queue.now c.settle.new.queue c.settle.ensures.wakes
     (λ l over under ne idle. c.requires.right l over under))
 

@@ -5,7 +5,7 @@ use Rattle.event_queue.specs.Pending.{IsLowest, IsIdle}
 use Rattle.event_queue.proofs.Marks.{not_before, pending_within}
 use Rattle.pair_sets.specs.PairSet.{free_pairs, IsWithin}
 use Rattle.pair_sets.specs.CubeState.{set_at}
-use Rattle.pair_sets.specs.Events.{AreSettled, AreLoose, gate_line_pairs}
+use Rattle.pair_sets.specs.Events.{ArePairsSettled, AreLoose, gate_line_pairs}
 use Rattle.pair_sets.proofs.EventLemmas.{loose_after, settled_after, ordered_line, none_before, waiting_line}
 use Rattle.net_model.proofs.Places.{few_places}
 use Rattle.pair_sets.proofs.TrailLemmas.{longer_more}
@@ -70,7 +70,7 @@ loop-place-preserved c =
       low = none_before circuit wiring c.requires.wiring place line c.loop-place.queue taken c.settle.new.queue within at.2 lowest c.settle.ensures.wakes.others;
       longer = longer_more c.args.trail.now c.loop-place.trail c.settle.new.trail c.loop-place.invariant.longer c.settle.ensures.longer;
       room = c.settle.ensures.room;
-      settled = subst (AreSettled circuit f g order c.settle.new.queue) (sym c.settle.ensures.sets)
+      settled = subst (ArePairsSettled circuit f g order c.settle.new.queue) (sym c.settle.ensures.sets)
           (settled_after circuit f g c.requires.wiring.circuit sets line pairs inside (λ h. is) wiring c.requires.wiring taken c.settle.new.queue c.settle.ensures.wakes others);
       loose = subst (AreLoose circuit f g) (sym c.settle.ensures.sets)
           (loose_after circuit f g c.requires.wiring.circuit sets line pairs inside (λ h. is) fewer c.loop-place.invariant.loose);

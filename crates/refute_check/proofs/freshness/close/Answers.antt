@@ -4,8 +4,8 @@ use Rattle.std.proofs.lemmas.List.Elements.{All-weaker, All-contains_itself}
 use Rattle.clause_pool.specs.Literal.{Literal}
 use Rattle.clause_pool.specs.LiteralCode.{code_of}
 use Rattle.clause_pool.proofs.Literals.{code_within}
-use Rattle.refute_check.specs.Index.{IsNumber, list_at}
-use Rattle.refute_check.specs.Propagation.{AreSettled}
+use Rattle.refute_check.specs.Index.{IsClauseNumber, list_at}
+use Rattle.refute_check.specs.Propagation.{AreClausesSettled}
 use Rattle.refute_check.proofs.AssignmentLemmas.{true_within}
 use Rattle.refute_check.proofs.ClosureLemmas.{two_steps}
 use Rattle.refute_check.proofs.SettledLemmas.{first_settled, turn, all_quiet}
@@ -15,7 +15,7 @@ pub visit-requires-clause-numbers : goal.visit-requires-clause-numbers
 visit-requires-clause-numbers c =
     let count = length c.args.pool.now.clauses in
     let short = c.args.index.now.short.items in
-    subst (All (IsNumber count)) (sym c.as_slice.ensures.value) (All-weaker (Contains short) (IsNumber count) c.requires.index.short_numbers short (All-contains_itself short))
+    subst (All (IsClauseNumber count)) (sym c.as_slice.ensures.value) (All-weaker (Contains short) (IsClauseNumber count) c.requires.index.short_numbers short (All-contains_itself short))
 
 pub loop-head-init : goal.loop-head-init
 loop-head-init c =
@@ -27,7 +27,7 @@ loop-head-init c =
       inside = omega arith;
       looks = c.visit.ensures.looked c.if-not-visit.false;
       settled = c.visit.ensures.settled c.if-not-visit.false
-          (subst (AreSettled clauses c.args.held.now 0) (sym c.as_slice.ensures.value) (first_settled c.args.variables clauses index.lists index.short.items c.requires.index c.args.held.now c.requires.assignment));
+          (subst (AreClausesSettled clauses c.args.held.now 0) (sym c.as_slice.ensures.value) (first_settled c.args.variables clauses index.lists index.short.items c.requires.index c.args.held.now c.requires.assignment));
     }
 
 pub at-requires : goal.at-requires
@@ -46,7 +46,7 @@ visit-requires-in-loop-head-clause-numbers c =
     let count = length c.args.pool.now.clauses in
     let place = code_of c.opposite-falsified.result in
     let list = list_at c.args.index.now.lists place in
-    subst (All (IsNumber count)) (sym c.at.ensures) (All-weaker (Contains list) (IsNumber count) (c.requires.index.numbers place) list (All-contains_itself list))
+    subst (All (IsClauseNumber count)) (sym c.at.ensures) (All-weaker (Contains list) (IsClauseNumber count) (c.requires.index.numbers place) list (All-contains_itself list))
 
 pub visit-requires-in-loop-head-clause-from : goal.visit-requires-in-loop-head-clause-from
 visit-requires-in-loop-head-clause-from c = omega (arith, c.loop-head-test.true, c.len.ensures, c.loop-head.held.trail.ok.0)
@@ -74,7 +74,7 @@ loop-head-preserved c =
       inside = omega (arith, here, c.visit-in-loop-head.ensures.longer);
       looks = c.visit-in-loop-head.ensures.looked c.if-not-visit-2.false;
       settled = c.visit-in-loop-head.ensures.settled c.if-not-visit-2.false
-          (subst (AreSettled clauses a (head + 1)) (sym c.at.ensures)
+          (subst (AreClausesSettled clauses a (head + 1)) (sym c.at.ensures)
           (turn c.args.variables clauses index.lists index.short.items c.requires.index a head c.index.result.now c.opposite-falsified.result here c.index.ensures c.opposite-falsified.ensures c.loop-head.invariant.settled));
     }
 

@@ -6,7 +6,7 @@ use Rattle.clause_pool.specs.LiteralCode.{code_of}
 use Rattle.clause_pool.proofs.Literals.{same_by_code}
 use Rattle.refute_check.specs.declared.assignment.Assignment.{Assignment}
 use Rattle.refute_check.specs.Assignment.{IsAssignment}
-use Rattle.refute_check.specs.Held.{IsTrueAt, IsFalseAt, IsOpenAt}
+use Rattle.refute_check.specs.Held.{IsTrueAt, IsLiteralFalse, IsLiteralOpen}
 use Rattle.refute_check.proofs.HeldLemmas.{hold, open_not_true, opposite_open}
 use Rattle.refute_check.proofs.ClosureLemmas.{AreOthersFalseBefore, not_of_at, not_true, others_more, others_same}
 use Rattle.refute_check.proofs.freshness.hold_others.Goals as goal
@@ -55,14 +55,14 @@ loop-lit-preserved c =
     let within : l.variable < length values = omega (arith, inside, c.loop-lit.invariant.size) in
     elim c.match-value.branch [
       | in-Some-false w ↦
-          let no : IsFalseAt values l = sym c.value.ensures ∙ (w.in-Some-false.is ∙ ap Some w.in-Some-false.field-0-test) in
+          let no : IsLiteralFalse values l = sym c.value.ensures ∙ (w.in-Some-false.is ∙ ap Some w.in-Some-false.field-0-test) in
           record {
             assignment = subst IsAssignment (sym w.held-is) c.loop-lit.invariant.assignment;
             size = ap (λ (a : Assignment). length a.values.items) w.held-is ∙ c.loop-lit.invariant.size;
             others = subst (λ (a : Assignment). AreOthersFalseBefore clause at (k + 1) a.values.items) (sym w.held-is) (others_same clause at k values c.loop-lit.invariant.others l c.loop-lit-test.true c.lit-item.is (λ other. no));
           }
       | in-None w ↦
-          let open_yet : IsOpenAt values l = sym c.value.ensures ∙ w.in-None.is in
+          let open_yet : IsLiteralOpen values l = sym c.value.ensures ∙ w.in-None.is in
           let now : c.match-value.held.values.items ≡ hold values (opposite l) = ap (λ (a : Assignment). a.values.items) w.held-is ∙ (w.hold.ensures.values ∙ ap (hold values) w.opposite.ensures) in
           record {
             assignment = subst IsAssignment (sym w.held-is) w.hold.ensures.assignment;
@@ -74,4 +74,4 @@ loop-lit-preserved c =
 pub hold-requires-clause-undetermined : goal.hold-requires-clause-undetermined
 hold-requires-clause-undetermined c =
     let values = c.loop-lit.held.values.items in
-    subst (IsOpenAt values) (sym c.opposite.ensures) (opposite_open values c.lit-item.result (sym c.value.ensures ∙ c.in-None.is))
+    subst (IsLiteralOpen values) (sym c.opposite.ensures) (opposite_open values c.lit-item.result (sym c.value.ensures ∙ c.in-None.is))

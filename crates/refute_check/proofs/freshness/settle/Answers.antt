@@ -5,13 +5,13 @@ use Rattle.clause_pool.specs.Clauses.{Clause, numbered_clause}
 use Rattle.clause_pool.proofs.Numbered.{all_at_number, numbered_in, numbered_at, same_clause}
 use Rattle.refute_check.specs.Closure.{IsStep}
 use Rattle.refute_check.specs.Held.{IsQuietAt, IsUnitAt, satisfied}
-use Rattle.refute_check.specs.Index.{IsNumber}
+use Rattle.refute_check.specs.Index.{IsClauseNumber}
 use Rattle.refute_check.specs.Propagation.{nothing, one}
 use Rattle.refute_check.proofs.HeldLemmas.{hold, hold_holds}
 use Rattle.refute_check.proofs.ClosureLemmas.{no_step, not_false, not_at, unit_step, unit_within}
 use Rattle.refute_check.proofs.freshness.settle.Goals as goal
 
-is_clause : (clauses : List Clause) (number k : ℕ) (clause : Clause) → IsNumber (length clauses) number → numbered_clause clauses number ≡ Some clause → number ≡ k + 1 → clause ≡ get_or clauses k []
+is_clause : (clauses : List Clause) (number k : ℕ) (clause : Clause) → IsClauseNumber (length clauses) number → numbered_clause clauses number ≡ Some clause → number ≡ k + 1 → clause ≡ get_or clauses k []
 is_clause clauses number k clause is named e =
     same_clause clauses (k + 1) clause (get_or clauses k []) (ap (numbered_clause clauses) (sym e) ∙ named) (numbered_at clauses k [] (omega (arith, is.1, e)))
 

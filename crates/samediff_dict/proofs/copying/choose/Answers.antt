@@ -4,7 +4,7 @@ use Rattle.std.specs.List.{range_with_len}
 use Rattle.std.proofs.lemmas.List.FromFn.{length-map-range_with_len}
 use Rattle.net_model.specs.ClassTable.{class_count, representative}
 use Rattle.samediff_dict.specs.declared.numbering.Candidates.{Candidates}
-use Rattle.samediff_dict.specs.Numbered.{AreNumbered}
+use Rattle.samediff_dict.specs.Numbered.{HaveCandidates}
 use Rattle.samediff_dict.proofs.MadeLemmas.{numbered_none, numbered_more, numbered_all, leads_known, leads_answer}
 use Rattle.samediff_dict.proofs.copying.choose.Goals as goal
 use Rattle.samediff_dict.proofs.copying.choose.Goals.{After-as_slice}
@@ -25,6 +25,6 @@ chosen_rows-requires c =
     let t = c.args.classes.now in
     let table = c.args.table.now in
     let leads = leads_are (goal.at.chosen_rows-requires c).After-as_slice in
-    let numbered : AreNumbered t table.rows c.add_candidates.new.patterns.items =
+    let numbered : HaveCandidates t table.rows c.add_candidates.new.patterns.items =
     numbered_all (numbered_more (length table.rows) (omega arith) (leads_answer t table c.as_slice.result.now leads) (numbered_none t table.rows c.in_ok-patterns.patterns.items c.in_ok-patterns.ensures.items) c.in_ok-add_candidates.ensures) refl in
-    (refl, (c.requires.numbers, subst (λ (xs : List Candidates). AreNumbered t table.rows xs) (sym c.as_slice-2.ensures.value) numbered))
+    (refl, (c.requires.numbers, subst (λ (xs : List Candidates). HaveCandidates t table.rows xs) (sym c.as_slice-2.ensures.value) numbered))

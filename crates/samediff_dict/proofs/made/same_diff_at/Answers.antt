@@ -6,7 +6,7 @@ use Rattle.table_dicts.specs.Setting.{AreAnswersAt}
 use Rattle.table_dicts.proofs.OneTable.{one_answers}
 use Rattle.samediff_dict.specs.declared.numbering.Candidates.{Candidates}
 use Rattle.samediff_dict.specs.Chosen.{chosen_baselines}
-use Rattle.samediff_dict.specs.Numbered.{AreNumbered}
+use Rattle.samediff_dict.specs.Numbered.{HaveCandidates}
 use Rattle.samediff_dict.proofs.EvaluatedLemmas.{evaluated_answers, evaluated_are}
 use Rattle.samediff_dict.proofs.made.same_diff_at.Goals as goal
 
@@ -15,7 +15,7 @@ dict_among-requires c =
     let setting = c.args.setting.now in
     let t = evaluated_answers setting.circuit.now setting.patterns.now in
     let are = evaluated_are setting.circuit.now c.sources-sources.ensures.circuit setting.patterns.now in
-    (c.requires, (are, subst (λ (xs : List Candidates). AreNumbered setting.classes.now t.rows xs) (sym c.as_slice.ensures.value) (c.in_ok-found.ensures t are)))
+    (c.requires, (are, subst (λ (xs : List Candidates). HaveCandidates setting.classes.now t.rows xs) (sym c.as_slice.ensures.value) (c.in_ok-found.ensures t are)))
 
 pub returns : goal.returns
 returns c =

@@ -1,8 +1,8 @@
 use Rattle.std.proofs.Common.{length, refl, sym, ap, subst, arith, length-append}
-use Rattle.solver_trail.specs.Assignment.{held}
+use Rattle.solver_trail.specs.Assignment.{assigned_literals}
 use Rattle.solver_trail.specs.Trail.{AreAttached}
 use Rattle.solver_trail.specs.Watches.{AreKept}
-use Rattle.solver_trail.specs.Propagation.{AreSatisfied, HasWatches, numbers_of}
+use Rattle.solver_trail.specs.Propagation.{AreSatisfied, HasWatches, numbers_attached}
 use Rattle.solver_trail.proofs.Forced.{held_more, propagates_two}
 use Rattle.solver_trail.proofs.Kept.{kept_more}
 use Rattle.solver_trail.proofs.Quiet.{all_quiet}
@@ -15,7 +15,7 @@ watches c =
     let w = c.requires.watches in
     let e = c.set_units.ensures in
     record {
-      in_pool = subst (λ n. AreAttached n (numbers_of c.args.attached.now) c.args.pool.now.clauses) (sym e.set.variables) w.in_pool;
+      in_pool = subst (λ n. AreAttached n (numbers_attached c.args.attached.now) c.args.pool.now.clauses) (sym e.set.variables) w.in_pool;
       reasons = e.reasons;
       watching = w.watching;
       size = w.size;
@@ -67,7 +67,7 @@ returns-in-None-follow-clause-found c =
     let short = c.args.attached.now.short.items in
     let w = c.follow.ensures.watches in
     let literals = c.follow.new.watches.literals.items in
-    let units : AreSatisfied (held a) short c.args.pool.now.clauses = λ number clause is_in e.
+    let units : AreSatisfied (assigned_literals a) short c.args.pool.now.clauses = λ number clause is_in e.
     let s = c.in-None.ensures.units refl number clause is_in e in
     record { literal = s.literal; inside = s.inside; is_held = held_more c.follow.ensures.set s.literal s.is_held } in
     let all = subst (λ n. AreKept a.literals c.args.place.now n literals) (c.in-None-follow.ensures.done refl) (kept (goal.at.returns-in-None-follow-clause-found c).After-follow) in

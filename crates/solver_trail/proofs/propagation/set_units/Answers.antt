@@ -9,9 +9,9 @@ use Rattle.clause_pool.specs.Clauses.{Clause, numbered_clause}
 use Rattle.clause_pool.specs.Partial.{IsSatisfied}
 use Rattle.clause_pool.specs.Proper.{IsVariable}
 use Rattle.clause_pool.proofs.Numbered.{same_clause}
-use Rattle.solver_trail.specs.Assignment.{Assignment, Propagates, IsValueOf, held}
+use Rattle.solver_trail.specs.Assignment.{Assignment, Propagates, IsValueOf, assigned_literals}
 use Rattle.solver_trail.specs.Trail.{IsFalseClause}
-use Rattle.solver_trail.specs.Propagation.{numbers_of}
+use Rattle.solver_trail.specs.Propagation.{numbers_attached}
 use Rattle.solver_trail.proofs.Forced.{IsForced, IsUnit, propagates_none, propagates_two, propagates_forced, held_forced, held_more, reasons_forced, single_unit, undetermined_unset}
 use Rattle.solver_trail.proofs.propagation.set_units.Goals as goal
 use Rattle.solver_trail.proofs.propagation.set_units.Goals.{In-Some, in-Some-true, in-None-value_of}
@@ -30,7 +30,7 @@ pub get-requires : goal.get-requires
 get-requires c =
     let attached = c.args.attached.now in
     let is_in = number_attached attached.short.items attached.long.items c.deref-number-items.result.now c.loop-number.number-index c.deref-number-items.ensures.value c.loop-number-test.true in
-    let b = All-contains (λ number. (0 < number) × (number ≤ length c.args.pool.now.clauses)) (numbers_of attached) (get_or c.deref-number-items.result.now c.loop-number.number-index 0) c.requires.attached.numbered is_in in
+    let b = All-contains (λ number. (0 < number) × (number ≤ length c.args.pool.now.clauses)) (numbers_attached attached) (get_or c.deref-number-items.result.now c.loop-number.number-index 0) c.requires.attached.numbered is_in in
     record { from = b.0; below = b.1 }
 
 single : (c : In-Some) → IsUnit c.loop-number.set c.get.result.now c.in-Some.lit.now
@@ -62,18 +62,18 @@ pub put-requires-clause-level : goal.put-requires-clause-level
 put-requires-clause-level c = c.level-level.ensures.level ∙ sym c.loop-number.invariant.step.level
 
 -- a clause of no literal is false
-none_false : (held : List Literal) (clause : Clause) → slice_get clause 0 ≡ None → IsFalseClause held clause
-none_false held clause none = elim (slice_get_cases clause 0).1 [
+none_false : (assigned_literals : List Literal) (clause : Clause) → slice_get clause 0 ≡ None → IsFalseClause assigned_literals clause
+none_false assigned_literals clause none = elim (slice_get_cases clause 0).1 [
   | inl some ↦ absurd (let e = sym some.2 ∙ none in cc)
   | inr short ↦ λ k d less. absurd (omega (arith, less, short.0))
 ]
 
 -- so is one of a false literal
-single_false : (held : List Literal) (clause : Clause) (l : Literal) → length clause < 2 → slice_get clause 0 ≡ Some l → Contains held (opposite l) → IsFalseClause held clause
-single_false held clause l short first is_false = λ k d less.
+single_false : (assigned_literals : List Literal) (clause : Clause) (l : Literal) → length clause < 2 → slice_get clause 0 ≡ Some l → Contains assigned_literals (opposite l) → IsFalseClause assigned_literals clause
+single_false assigned_literals clause l short first is_false = λ k d less.
     let zero : k ≡ 0 = omega (arith, less, short) in
     let is : get_or clause k d ≡ l = ap (λ n. get_or clause n d) zero ∙ get_or_from_slice_get clause 0 l d first in
-    subst (λ m. Contains held (opposite m)) (sym is) is_false
+    subst (λ m. Contains assigned_literals (opposite m)) (sym is) is_false
 
 pub returns-in-None-clause-conflict : goal.returns-in-None-clause-conflict
 returns-in-None-clause-conflict c =
@@ -82,8 +82,8 @@ returns-in-None-clause-conflict c =
     let items = c.deref-number-items.result.now in (
       number_attached attached.short.items attached.long.items items k c.deref-number-items.ensures.value c.loop-number-test.true,
       λ clause e.
-          subst (IsFalseClause (held c.loop-number.set)) (same_clause c.args.pool.now.clauses (get_or items k 0) c.get.result.now clause c.get.ensures e)
-          (none_false (held c.loop-number.set) c.get.result.now (sym c.in-None.ensures.value)),
+          subst (IsFalseClause (assigned_literals c.loop-number.set)) (same_clause c.args.pool.now.clauses (get_or items k 0) c.get.result.now clause c.get.ensures e)
+          (none_false (assigned_literals c.loop-number.set) c.get.result.now (sym c.in-None.ensures.value)),
     )
 
 pub returns-in-Some-false-clause-conflict : goal.returns-in-Some-false-clause-conflict
@@ -98,8 +98,8 @@ returns-in-Some-false-clause-conflict c =
     let is_false = subst (λ sign. IsValueOf set c.in-Some.lit.now (Some sign)) c.in-Some-false.field-0-test c.in-Some-false.ensures.value in (
       number_attached attached.short.items attached.long.items items k read c.loop-number-test.true,
       λ clause e.
-          subst (IsFalseClause (held set)) (same_clause c.args.pool.now.clauses number c.get.result.now clause c.get.ensures e)
-          (single_false (held set) c.get.result.now c.in-Some.lit.now (c.requires.short number c.get.result.now is_in c.get.ensures) (sym c.in-Some.ensures.value) is_false),
+          subst (IsFalseClause (assigned_literals set)) (same_clause c.args.pool.now.clauses number c.get.result.now clause c.get.ensures e)
+          (single_false (assigned_literals set) c.get.result.now c.in-Some.lit.now (c.requires.short number c.get.result.now is_in c.get.ensures) (sym c.in-Some.ensures.value) is_false),
     )
 
 pub put-requires-clause-unset : goal.put-requires-clause-unset
@@ -107,13 +107,13 @@ put-requires-clause-unset c = undetermined_unset c.loop-number.set c.in-Some.lit
 
 -- the clause in hand is satisfied too
 units_more : {a b : Assignment} → Propagates a b → (short : List ℕ) (clauses : List Clause) (k : ℕ) (clause : Clause) (l : Literal)
-    → numbered_clause clauses (get_or short k 0) ≡ Some clause → Contains clause l → Contains (held b) l
-    → ((j : ℕ) (c : Clause) → j < k → numbered_clause clauses (get_or short j 0) ≡ Some c → IsSatisfied (held a) c) → (j : ℕ) (c : Clause) → j < k + 1
-    → numbered_clause clauses (get_or short j 0) ≡ Some c → IsSatisfied (held b) c
+    → numbered_clause clauses (get_or short k 0) ≡ Some clause → Contains clause l → Contains (assigned_literals b) l
+    → ((j : ℕ) (c : Clause) → j < k → numbered_clause clauses (get_or short j 0) ≡ Some c → IsSatisfied (assigned_literals a) c) → (j : ℕ) (c : Clause) → j < k + 1
+    → numbered_clause clauses (get_or short j 0) ≡ Some c → IsSatisfied (assigned_literals b) c
 units_more {b = b} step short clauses k clause l found inside now units j c less e = elim (cases_eq j k) [
   | inl same ↦
       let there : numbered_clause clauses (get_or short k 0) ≡ Some c = ap (λ n. numbered_clause clauses (get_or short n 0)) (sym same) ∙ e in
-      subst (IsSatisfied (held b)) (same_clause clauses (get_or short k 0) clause c found there) (record { literal = l; inside = inside; is_held = now })
+      subst (IsSatisfied (assigned_literals b)) (same_clause clauses (get_or short k 0) clause c found there) (record { literal = l; inside = inside; is_held = now })
   | inr ne ↦ let s = units j c (omega arith) e in record { literal = s.literal; inside = s.inside; is_held = held_more step s.literal s.is_held }
 ]
 

@@ -4,7 +4,7 @@ use Rattle.std.proofs.lemmas.List.Elements.{All-contains}
 use Rattle.clause_pool.specs.Literal.{Literal}
 use Rattle.clause_pool.specs.Proper.{IsVariable}
 use Rattle.clause_pool.proofs.Numbered.{has_numbered, same_clause}
-use Rattle.solver_trail.specs.Assignment.{IsValueOf, held}
+use Rattle.solver_trail.specs.Assignment.{IsValueOf, assigned_literals}
 use Rattle.solver_trail.specs.Trail.{IsFalseClause}
 use Rattle.solver_trail.specs.Propagation.{IsRewatch}
 use Rattle.solver_trail.proofs.Forced.{IsForced, propagates_forced, held_forced, reasons_forced, undetermined_unset, false_or_open}
@@ -39,8 +39,8 @@ pub returns-in-Some-false-clause-target : goal.returns-in-Some-false-clause-targ
 returns-in-Some-false-clause-target c = λ clause e.
     let same = same_clause c.args.pool.now.clauses c.args.number c.get.result.now clause c.get.ensures e in
     let f = subst (λ sign. IsValueOf c.args.set.now c.args.other (Some sign)) c.in-Some-false.field-0-test c.in-Some-false.ensures.value in
-    subst (λ clause. MatchOption c.open_other.result (IsFalseClause (held c.args.set.now) clause) (IsRewatch (held c.args.set.now) clause c.args.lit c.args.other)) same
-    (false_or_open (held c.args.set.now) c.get.result.now c.args.lit c.args.other c.open_other.result f c.open_other.ensures)
+    subst (λ clause. MatchOption c.open_other.result (IsFalseClause (assigned_literals c.args.set.now) clause) (IsRewatch (assigned_literals c.args.set.now) clause c.args.lit c.args.other)) same
+    (false_or_open (assigned_literals c.args.set.now) c.get.result.now c.args.lit c.args.other c.open_other.result f c.open_other.ensures)
 
 forced : (c : After-put) → IsForced c.args.set.now c.put.new.self c.args.other c.level-level.result c.args.number
 forced c = record { present = c.level-level.ensures.level; is = c.put.ensures.literals }

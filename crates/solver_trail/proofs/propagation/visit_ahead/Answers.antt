@@ -4,9 +4,9 @@ use Rattle.std.proofs.lemmas.List.{get_or_read, length-set, nil_from_length}
 use Rattle.clause_pool.specs.Literal.{Literal, opposite, pos_literal}
 use Rattle.clause_pool.specs.Clauses.{Clause, numbered_clause}
 use Rattle.clause_pool.proofs.Numbered.{has_numbered}
-use Rattle.solver_trail.specs.Assignment.{Assignment, held}
+use Rattle.solver_trail.specs.Assignment.{Assignment, assigned_literals}
 use Rattle.solver_trail.specs.Watches.{partner, watched, owner}
-use Rattle.solver_trail.specs.Propagation.{IsRewatch, numbers_of}
+use Rattle.solver_trail.specs.Propagation.{IsRewatch, numbers_attached}
 use Rattle.solver_trail.proofs.Forced.{propagates_none, propagates_two, held_more}
 use Rattle.solver_trail.proofs.Kept.{kept_more}
 use Rattle.solver_trail.proofs.Ahead.{IsAtWatch, ahead_few, ahead_none, at_watch}
@@ -47,8 +47,8 @@ other_is c =
     let read = c.index-other.ensures ∙ ap (λ n. get_or c.loop.watches.literals.items n c.index-other.result.now) c.partner.ensures in
     get_or_read c.loop.watches.literals.items (partner c.in_ok-watch.watch) c.index-other.result.now (other_within c.loop.invariant.walk (at c)) read (pos_literal 0)
 
-number_attached : (c : After-index-other) → Contains (numbers_of c.args.attached.now) c.index-number.result.now
-number_attached c = subst (Contains (numbers_of c.args.attached.now)) (sym (number_is c)) (number_in c.loop.invariant.walk (at c))
+number_attached : (c : After-index-other) → Contains (numbers_attached c.args.attached.now) c.index-number.result.now
+number_attached c = subst (Contains (numbers_attached c.args.attached.now)) (sym (number_is c)) (number_in c.loop.invariant.walk (at c))
 
 pub visit-requires-clause-from : goal.visit-requires-clause-from
 visit-requires-clause-from c = let d = (goal.at.visit-requires-clause-from c).After-index-other in omega (arith, number_is d, (number_bounds c.loop.invariant.walk (at d)).0)
@@ -72,16 +72,16 @@ found : (c : After-index-other)
     → (clause : Clause) × (numbered_clause c.args.pool.now.clauses (owner c.args.attached.now.long.items c.in_ok-watch.watch) ≡ Some clause)
 found c = let b = number_bounds c.loop.invariant.walk (at c) in has_numbered c.args.pool.now.clauses (owner c.args.attached.now.long.items c.in_ok-watch.watch) b.0 b.1
 
-still_false : (c : After-visit) → Contains (held c.visit.new.set) (opposite c.args.lit)
+still_false : (c : After-visit) → Contains (assigned_literals c.visit.new.set) (opposite c.args.lit)
 still_false c = held_more (propagates_two c.loop.invariant.step c.visit.ensures.set) (opposite c.args.lit) c.requires.lit
 
 -- what is watched from now on
 target_is : (c : After-index-other) (a : Assignment) (target : Literal)
-    → ((clause : Clause) → numbered_clause c.args.pool.now.clauses c.index-number.result.now ≡ Some clause → IsRewatch (held a) clause c.args.lit c.index-other.result.now target)
-    → IsRewatch (held a) (found c).0 c.args.lit (watched c.loop.watches.literals.items (partner c.in_ok-watch.watch)) target
+    → ((clause : Clause) → numbered_clause c.args.pool.now.clauses c.index-number.result.now ≡ Some clause → IsRewatch (assigned_literals a) clause c.args.lit c.index-other.result.now target)
+    → IsRewatch (assigned_literals a) (found c).0 c.args.lit (watched c.loop.watches.literals.items (partner c.in_ok-watch.watch)) target
 target_is c a target h =
     let clause = (found c).0 in
-    subst (λ other. IsRewatch (held a) clause c.args.lit other target) (other_is c) (h clause (ap (numbered_clause c.args.pool.now.clauses) (number_is c) ∙ (found c).1))
+    subst (λ other. IsRewatch (assigned_literals a) clause c.args.lit other target) (other_is c) (h clause (ap (numbered_clause c.args.pool.now.clauses) (number_is c) ∙ (found c).1))
 
 pub rewatch-requires-clause-at : goal.rewatch-requires-clause-at
 rewatch-requires-clause-at c = (at (goal.at.rewatch-requires-clause-at c).After-index-other).within
@@ -105,7 +105,7 @@ loop-preserved c =
     let false_now = still_false (goal.at.loop-preserved c).After-visit in
     let t = target_is d c.visit.new.set c.in-Some.target c.in-Some.ensures.target in
     let r = c.rewatch.ensures.rewatched in
-    let reasons = e.reasons (numbers_of c.args.attached.now) (number_attached d) h.walk.watches.reasons in
+    let reasons = e.reasons (numbers_attached c.args.attached.now) (number_attached d) h.walk.watches.reasons in
     let w = walk_step h.walk (at d) e.set e.trail false_now f.0 f.1 c.in-Some.target t r reasons c.rewatch.result c.rewatch.ensures.followed in
     let longer = ap length h.step.added ∙ length-append c.args.set.now.literals h.step.more in
     record {
@@ -129,7 +129,7 @@ pub returns-in-None-clause-walk : goal.returns-in-None-clause-walk
 returns-in-None-clause-walk c =
     let h = c.loop.invariant.walk in
     let is_in = number_attached (goal.at.returns-in-None-clause-walk c).After-index-other in
-    walk_more h c.visit.ensures.set (c.visit.ensures.reasons (numbers_of c.args.attached.now) is_in h.watches.reasons)
+    walk_more h c.visit.ensures.set (c.visit.ensures.reasons (numbers_attached c.args.attached.now) is_in h.watches.reasons)
 
 pub returns-in-None-clause-set : goal.returns-in-None-clause-set
 returns-in-None-clause-set c = propagates_two c.loop.invariant.step c.visit.ensures.set

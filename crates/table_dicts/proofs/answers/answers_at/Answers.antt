@@ -5,7 +5,7 @@ use Rattle.std.proofs.lemmas.List.Elements.{All-from_get_or}
 use Rattle.net_model.specs.FaultList.{fault_count}
 use Rattle.table_dicts.specs.declared.simulating.Kept.TheVariants.{Bits}
 use Rattle.table_dicts.specs.AnswerTable.{Answers, AreAnswerable, AreAnswers, ArePicked, IsTable}
-use Rattle.table_dicts.specs.Blocks.{IsListedBit, AreRightTo}
+use Rattle.table_dicts.specs.Blocks.{IsListedBit, AreRightBits}
 use Rattle.table_dicts.specs.ByRoot.{AreGroupsByRoot}
 use Rattle.table_dicts.proofs.BlockLemmas.{right_all}
 use Rattle.table_dicts.proofs.RootLemmas.{settled, right_of_firsts}
@@ -53,7 +53,7 @@ returns c =
     let patterns = c.args.patterns.now in
     let firsts = c.in_ok-sorted.sorted.firsts.items in
     let groups = c.in_ok-sorted.sorted.groups in
-    let Right : List (List Bool) → Answers → Type 0 = λ ps listed. AreRightTo (IsListedBit Bits circuit ps firsts) (length ps) (length firsts) (length circuit.positions) (length ps) listed in
+    let Right : List (List Bool) → Answers → Type 0 = λ ps listed. AreRightBits (IsListedBit Bits circuit ps firsts) (length ps) (length firsts) (length circuit.positions) (length ps) listed in
     IfOk-weaker c.spread.result (λ table. (listed : Answers) × IsTable table × Right c.as_slice.result.now listed × ArePicked listed groups table) (AreAnswers circuit patterns)
     (λ table made. right_all (length patterns) c.in_ok-forest.ensures.circuit made.1
     (right_of_firsts circuit patterns c.in_ok-forest.forest c.in_ok-forest.ensures groups firsts (by_root at) made.0 table c.requires.widths (subst (λ (ps : List (List Bool)). Right ps made.0) c.as_slice.ensures made.2) made.3) (omega arith))

@@ -1,7 +1,7 @@
 use Rattle.std.proofs.Common.{◌≡◌, ◌∙◌, ℕ, List, length, ap, subst, arith}
 use Rattle.table_dicts.specs.declared.simulating.Kept.TheVariants.{Bits}
 use Rattle.table_dicts.specs.AnswerTable.{ArePicked}
-use Rattle.table_dicts.specs.Blocks.{IsListedBit, AreRightTo}
+use Rattle.table_dicts.specs.Blocks.{IsListedBit, AreRightBits}
 use Rattle.table_dicts.proofs.answers.spread.Goals as goal
 
 pub tabulate-requires : goal.tabulate-requires
@@ -23,6 +23,6 @@ returns c =
     let listed = c.in_ok-listed.listed in (
       listed,
       c.numbers.ensures.table,
-      subst (λ (ns : List ℕ). AreRightTo (IsListedBit Bits circuit patterns ns) (length patterns) (length ns) (length circuit.positions) (length patterns) listed) c.as_slice-lowest.ensures.value c.in_ok-listed.ensures,
+      subst (λ (ns : List ℕ). AreRightBits (IsListedBit Bits circuit patterns ns) (length patterns) (length ns) (length circuit.positions) (length patterns) listed) c.as_slice-lowest.ensures.value c.in_ok-listed.ensures,
       subst (λ (ns : List ℕ). ArePicked listed ns c.in_ok-table.table) c.as_slice.ensures c.in_ok-table.ensures,
     )

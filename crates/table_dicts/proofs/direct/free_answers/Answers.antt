@@ -3,7 +3,7 @@ use Rattle.std.proofs.lemmas.Result.{IfOk-weaker}
 use Rattle.net_model.proofs.Listed.{some_number}
 use Rattle.table_dicts.specs.declared.simulating.Kept.TheVariants.{Bits}
 use Rattle.table_dicts.specs.AnswerTable.{Answers, AreAnswerable, AreAnswers}
-use Rattle.table_dicts.specs.Blocks.{IsListedBit, AreRightTo}
+use Rattle.table_dicts.specs.Blocks.{IsListedBit, AreRightBits}
 use Rattle.table_dicts.specs.Entries.{answers_of, free_baselines}
 use Rattle.table_dicts.specs.Rows.{AreRows}
 use Rattle.table_dicts.proofs.FailLemmas.{baselines_are}
@@ -19,10 +19,10 @@ tabulate-requires-clause-numbers c = λ k d h. let zero : k ≡ 0 = omega (arith
 pub answers_of-requires : goal.answers_of-requires
 answers_of-requires c = omega (arith, c.in_ok-free.ensures.sizes.numbers_are)
 
-right : (c : In_ok-free) → AreRightTo (IsListedBit Bits c.args.setting.now.circuit.now c.args.setting.now.patterns.now (0 ∷ [])) (length c.args.setting.now.patterns.now) 1 (length c.args.setting.now.circuit.now.positions) (length c.args.setting.now.patterns.now) c.in_ok-free.free
+right : (c : In_ok-free) → AreRightBits (IsListedBit Bits c.args.setting.now.circuit.now c.args.setting.now.patterns.now (0 ∷ [])) (length c.args.setting.now.patterns.now) 1 (length c.args.setting.now.circuit.now.positions) (length c.args.setting.now.patterns.now) c.in_ok-free.free
 right c =
     let circuit = c.args.setting.now.circuit.now in
-    subst (λ (ps : List (List Bool)). AreRightTo (IsListedBit Bits circuit ps (0 ∷ [])) (length ps) 1 (length circuit.positions) (length ps) c.in_ok-free.free) c.as_slice-patterns.ensures c.in_ok-free.ensures
+    subst (λ (ps : List (List Bool)). AreRightBits (IsListedBit Bits circuit ps (0 ∷ [])) (length ps) 1 (length circuit.positions) (length ps) c.in_ok-free.free) c.as_slice-patterns.ensures c.in_ok-free.ensures
 
 pub returns-clause-shape : goal.returns-clause-shape
 returns-clause-shape c =

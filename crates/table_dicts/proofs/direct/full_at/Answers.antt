@@ -7,7 +7,7 @@ use Rattle.table_dicts.specs.declared.dict.DictKind.TheVariants.{Full}
 use Rattle.table_dicts.specs.declared.simulating.Kept.TheVariants.{Bits}
 use Rattle.table_dicts.specs.AnswerTable.{AreAnswerable}
 use Rattle.table_dicts.specs.Entries.{full_entry}
-use Rattle.table_dicts.specs.Blocks.{IsListedBit, AreRightTo}
+use Rattle.table_dicts.specs.Blocks.{IsListedBit, AreRightBits}
 use Rattle.table_dicts.proofs.EntryLemmas.{dictionary_of, no_rows}
 use Rattle.table_dicts.proofs.FailLemmas.{patterns_are}
 use Rattle.table_dicts.proofs.GroupLemmas.{grouped_by}
@@ -54,8 +54,8 @@ returns c = λ t are.
     let groups = c.in_ok-sorted.sorted.groups in
     let lowest = c.as_slice-lowest.result.now in
     let same = c.as_slice-patterns.ensures in
-    let right_at = subst (λ (ps : List (List Bool)). AreRightTo (IsListedBit Bits circuit ps lowest) (length ps) (length lowest) (length circuit.positions) (length ps) table) same c.in_ok-table.ensures in
-    let right = subst (λ (ns : List ℕ). AreRightTo (IsListedBit Bits circuit patterns ns) (length patterns) (length ns) (length circuit.positions) (length patterns) table) c.as_slice-lowest.ensures.value right_at in
+    let right_at = subst (λ (ps : List (List Bool)). AreRightBits (IsListedBit Bits circuit ps lowest) (length ps) (length lowest) (length circuit.positions) (length ps) table) same c.in_ok-table.ensures in
+    let right = subst (λ (ns : List ℕ). AreRightBits (IsListedBit Bits circuit patterns ns) (length patterns) (length ns) (length circuit.positions) (length patterns) table) c.as_slice-lowest.ensures.value right_at in
     let are_firsts = firsts_by circuit is patterns c.args.setting.now.classes.now c.requires.classes c.len-numbers.result (numbers_are at) groups firsts c.in_ok-sorted.ensures t are in
     let cells = cells_listed circuit is patterns t are firsts (inside at) table c.positions.ensures.table right c.into_cells.result c.into_cells.ensures.entries in
     let d : Dict = record { kind = Full; positions = c.positions.result; patterns = c.patterns.result; numbers = c.len-numbers.result; baselines = c.in_ok-zeros.field-0; groups = groups; entries = c.into_cells.result } in

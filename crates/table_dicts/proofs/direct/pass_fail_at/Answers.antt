@@ -8,7 +8,7 @@ use Rattle.kept_vectors.proofs.KeepLemmas.{table_numbers}
 use Rattle.table_dicts.specs.declared.dict.DictKind.TheVariants.{PassFail}
 use Rattle.table_dicts.specs.declared.simulating.Kept.TheVariants.{Fails}
 use Rattle.table_dicts.specs.AnswerTable.{Answers, AreAnswerable, AreAnswers, HasSizes}
-use Rattle.table_dicts.specs.Blocks.{IsListedBit, AreRightTo}
+use Rattle.table_dicts.specs.Blocks.{IsListedBit, AreRightBits}
 use Rattle.table_dicts.specs.ByClass.{AreEntriesOfClasses}
 use Rattle.table_dicts.specs.Dictionary.{IsDictionary, IsPassFail}
 use Rattle.table_dicts.specs.Entries.{same_diff_entry}
@@ -73,8 +73,8 @@ returns c =
     let bits = c.in_ok-fails.fails in
     let lowest = c.in_ok-lowest.lowest.items in
     let same = c.as_slice-patterns.ensures in
-    let ran = subst (λ (ps : List (List Bool)). AreRightTo (IsListedBit Fails circuit ps c.as_slice-lowest.result.now) (length ps) (length c.as_slice-lowest.result.now) 1 (length ps) bits) same c.in_ok-fails.ensures in
-    let right = subst (λ (ns : List ℕ). AreRightTo (IsListedBit Fails circuit patterns ns) (length patterns) (length ns) 1 (length patterns) bits) c.as_slice-lowest.ensures.value ran in
+    let ran = subst (λ (ps : List (List Bool)). AreRightBits (IsListedBit Fails circuit ps c.as_slice-lowest.result.now) (length ps) (length c.as_slice-lowest.result.now) 1 (length ps) bits) same c.in_ok-fails.ensures in
+    let right = subst (λ (ns : List ℕ). AreRightBits (IsListedBit Fails circuit patterns ns) (length patterns) (length ns) 1 (length patterns) bits) c.as_slice-lowest.ensures.value ran in
     IfOk-weaker c.dict_of_classes.result
     (λ dict. (t : Answers) → HasSizes t (length baselines) numbers positions → AreEntriesOfClasses classes cells (same_diff_entry t.rows baselines) → IsDictionary dict PassFail t baselines (same_diff_entry t.rows baselines))
     (λ dict. (t : Answers) → AreAnswers circuit patterns t → IsPassFail t dict) (λ dict is t are.

@@ -3,7 +3,7 @@ use Rattle.std.specs.Prelude.{slice_range}
 use Rattle.net_model.specs.Circuit.{Circuit}
 use Rattle.net_model.specs.FaultList.{fault_count}
 use Rattle.table_dicts.specs.declared.bench.Bench.{Bench}
-use Rattle.table_dicts.specs.Blocks.{IsListedBit, kept_width, AreNumbersSet, AreRightTo}
+use Rattle.table_dicts.specs.Blocks.{IsListedBit, kept_width, AreNumbersSet, AreRightBits}
 use Rattle.table_dicts.proofs.BlockLemmas.{block_length, block_end, listed_moved, right_none, right_more}
 use Rattle.table_dicts.proofs.simulating.tabulate.Goals as goal
 use Rattle.table_dicts.proofs.simulating.tabulate.Goals.{After-new-in-loop-first}
@@ -89,4 +89,4 @@ returns c =
     let patterns = c.args.patterns.now in
     let numbers = c.args.numbers.now in
     let all : c.loop-first.first ≡ length patterns = omega (arith, c.loop-first.invariant.within) in
-    subst (λ n. AreRightTo (IsListedBit c.args.kept c.args.circuit.now patterns numbers) (length patterns) (length numbers) (kept_width c.args.kept (length c.args.circuit.now.positions)) n c.loop-first.table) all c.loop-first.invariant.right
+    subst (λ n. AreRightBits (IsListedBit c.args.kept c.args.circuit.now patterns numbers) (length patterns) (length numbers) (kept_width c.args.kept (length c.args.circuit.now.positions)) n c.loop-first.table) all c.loop-first.invariant.right

@@ -1,5 +1,5 @@
 use Rattle.std.proofs.Common.{◌<◌, ◌≤◌, ◌-◌, ◌%◌, ◌≡◌, length}
-use Rattle.table_dicts.specs.Blocks.{IsBench, IsListedBit, kept_width, AreRightTo}
+use Rattle.table_dicts.specs.Blocks.{IsBench, IsListedBit, kept_width, AreRightBits}
 use Rattle.table_dicts.proofs.simulating.tabulate.Given as goal
 
 abbrev pub invariant-loop-first : goal.invariant-loop-first
@@ -8,7 +8,7 @@ invariant-loop-first l = record {
   circuit : l.bench.good.circuit ≡ l.circuit;
   within : l.first ≤ length l.patterns;
   aligned : l.first < length l.patterns → l.first % 64 ≡ 0;
-  right : AreRightTo (IsListedBit l.kept l.circuit l.patterns l.numbers) (length l.patterns) (length l.numbers) (kept_width l.kept (length l.circuit.positions)) l.first l.table;
+  right : AreRightBits (IsListedBit l.kept l.circuit l.patterns l.numbers) (length l.patterns) (length l.numbers) (kept_width l.kept (length l.circuit.positions)) l.first l.table;
 }
 
 abbrev pub decreases-loop-first : goal.decreases-loop-first

@@ -4,7 +4,7 @@ use Rattle.std.specs.Vec.{with_items}
 use Rattle.std.proofs.lemmas.List.{with_items_is, length-map}
 use Rattle.std.proofs.lemmas.Result.{IfOk-from_err}
 use Rattle.net_model.specs.ClassTable.{ClassTable, class_at, class_count, new_lowest, class_after, refined_table}
-use Rattle.class_refine.specs.Fields.{IsKept, table_with}
+use Rattle.class_refine.specs.Fields.{HasGroups, table_with}
 use Rattle.class_refine.specs.Steps.{piece_of, AreLeaving}
 use Rattle.class_refine.proofs.Refined.{few_classes, count-refined}
 use Rattle.class_refine.proofs.Cut.{AreJoined, Adds, few_joined, joined, joined_inside, parents_inside, moves, table_after, kept_after, adds}
@@ -24,14 +24,14 @@ added c row are =
 
 adding : (c : After-len-added) (row : List (List Bool)) → Leave c row → Adds c.args.self.now row c.len-added.result
 adding c row are =
-    let kept : IsKept c.args.self.now c.self.inside.members.items = subst (λ t. IsKept t c.self.inside.members.items) c.self.view_is c.self.invariant in
+    let kept : HasGroups c.args.self.now c.self.inside.members.items = subst (λ t. HasGroups t c.self.inside.members.items) c.self.view_is c.self.invariant in
     adds c.args.self.now row c.len-added.result kept.whole (added c row are)
 
 groups : (c : In_ok-append) (row : List (List Bool)) → AreLeaving c.args.self.now row c.args.pieces.now.groups.items c.args.pieces.now.parents.items → AreJoined c.args.self.now row c.append.new.self.items
 groups c row are =
     let old = c.self.inside.members.items in
     rw c.in_ok-append.ensures.items
-    (joined c.args.self.now row old c.args.pieces.now.groups.items c.args.pieces.now.parents.items (subst (λ t. IsKept t old) c.self.view_is c.self.invariant) are)
+    (joined c.args.self.now row old c.args.pieces.now.groups.items c.args.pieces.now.parents.items (subst (λ t. HasGroups t old) c.self.view_is c.self.invariant) are)
 
 table : (c : After-enter_classes) (row : List (List Bool)) → AreLeaving c.args.self.now row c.args.pieces.now.groups.items c.args.pieces.now.parents.items → AreJoined c.args.self.now row c.append.new.self.items
     → table_with (with_items c.self.inside.class_of c.enter_classes.new.class_of).items c.add_births.new.births.items (c.self.inside.patterns + 1) ≡ refined_table c.args.self.now row

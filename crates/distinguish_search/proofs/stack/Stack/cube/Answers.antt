@@ -4,12 +4,12 @@ use Rattle.std.proofs.lemmas.List.{take_all, length-replicate}
 use Rattle.net_model.proofs.Elements.{get_or-replicate_anywhere}
 use Rattle.pair_sets.specs.Cube.{fixed_bit, FixesOnce}
 use Rattle.distinguish_search.specs.declared.frames.Frame.{Frame}
-use Rattle.distinguish_search.specs.Frames.{cube_of}
+use Rattle.distinguish_search.specs.Frames.{tried_cube}
 use Rattle.distinguish_search.proofs.FrameLemmas.{source_within, bits_more}
 use Rattle.distinguish_search.proofs.stack.Stack.cube.Goals as goal
 
-once_of_items : (sources : ℕ) (items own frames : List Frame) → items ≡ own → reverse own ≡ frames → FixesOnce sources (cube_of frames) → FixesOnce sources (cube_of (reverse items))
-once_of_items sources items own frames e d once = subst (λ xs. FixesOnce sources (cube_of xs)) (sym (ap reverse e ∙ d)) once
+once_of_items : (sources : ℕ) (items own frames : List Frame) → items ≡ own → reverse own ≡ frames → FixesOnce sources (tried_cube frames) → FixesOnce sources (tried_cube (reverse items))
+once_of_items sources items own frames e d once = subst (λ xs. FixesOnce sources (tried_cube xs)) (sym (ap reverse e ∙ d)) once
 
 pub loop-frame-init : goal.loop-frame-init
 loop-frame-init c =
@@ -37,4 +37,4 @@ pub returns-clause-bits : goal.returns-clause-bits
 returns-clause-bits c source =
     let items = c.deref-frame-items.result.now in
     let all : length items ≤ c.loop-frame.frame-index = c.loop-frame-test.false in
-    c.loop-frame.invariant.1 source ∙ ap (λ xs. fixed_bit (cube_of xs) source) (ap reverse (take_all c.loop-frame.frame-index items all ∙ c.deref-frame-items.ensures.value) ∙ c.self.view_is)
+    c.loop-frame.invariant.1 source ∙ ap (λ xs. fixed_bit (tried_cube xs) source) (ap reverse (take_all c.loop-frame.frame-index items all ∙ c.deref-frame-items.ensures.value) ∙ c.self.view_is)

@@ -5,7 +5,7 @@ use Rattle.std.proofs.lemmas.List.FromFn.{length-range_with_len}
 use Rattle.std.specs.Prelude.{filter, ◌==◌}
 use Rattle.std.specs.List.{list_any, range_with_len}
 use Rattle.fault_collapse.specs.Forest.{Forest, number_count, root_of}
-use Rattle.fault_collapse.specs.ForestFields.{IsSettled}
+use Rattle.fault_collapse.specs.ForestFields.{AreForestFields}
 use Rattle.fault_collapse.proofs.Settled.{one_more, no_more}
 use Rattle.fault_collapse.proofs.forest.Forest.root_count.Goals as goal
 use Rattle.fault_collapse.proofs.forest.Forest.root_count.Goals.{then-index-number, else-index-number}
@@ -19,7 +19,7 @@ pub loop-number-preserved : goal.loop-number-preserved
 loop-number-preserved c =
     let forest = c.args.self.now in
     let number = c.loop-number.number in
-    let is : IsSettled forest = subst IsSettled c.self.view_is c.self.invariant in
+    let is : AreForestFields forest = subst AreForestFields c.self.view_is c.self.invariant in
     let inside : number < length c.self.inside.roots.items = omega (arith, c.len-number-end.ensures, c.loop-number-test.true) in
     let within : number < number_count forest = omega (arith, inside, ap number_count c.self.view_is) in
     let read : c.index.result.now ≡ root_of forest number = get_or_read c.self.inside.roots.items number c.index.result.now inside c.index.ensures 0 ∙ ap (λ (f : Forest). root_of f number) c.self.view_is in

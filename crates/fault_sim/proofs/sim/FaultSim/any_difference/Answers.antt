@@ -5,7 +5,7 @@ use Rattle.std.proofs.lemmas.List.Elements.{Contains-push_cases}
 use Rattle.net_model.specs.Answer.{bit_at}
 use Rattle.net_model.proofs.Elements.{true_false}
 use Rattle.word_sim.specs.declared.lanes.TheConstants.{LANES}
-use Rattle.fault_sim.specs.FaultSim.{FaultSim, row_at}
+use Rattle.fault_sim.specs.FaultSim.{FaultSim, lanes_at}
 use Rattle.fault_sim.proofs.sim.FaultSim.any_difference.Goals as goal
 
 either : (a b : Bool) → IsTrue (a || b) → IsTrue a ⊎ IsTrue b
@@ -31,20 +31,20 @@ loop-position-preserved c =
     let i = c.loop-position.position-index in
     let at = get_or items i 0 in
     let lanes = c.loop-position.lanes in
-    let row_is : c.row.result ≡ row_at sim at = c.row.ensures ∙ ap (λ (s : FaultSim). row_at s at) c.self.view_is in
+    let row_is : c.row.result ≡ lanes_at sim at = c.row.ensures ∙ ap (λ (s : FaultSim). lanes_at s at) c.self.view_is in
     let whole : length c.self.inside.positions.rows ≡ length sim.circuit.positions = c.self.invariant.positions_whole ∙ ap (λ (s : FaultSim). length s.circuit.positions) c.self.view_is in
     let inside : at < length sim.circuit.positions = omega (arith, whole, c.listed-position-items.ensures.within i 0 c.loop-position-test.true) in
-    let or_is : (lane : ℕ) → lane < LANES → bit_at c.or-lanes.result lane ≡ (bit_at lanes lane || bit_at (row_at sim at) lane) =
+    let or_is : (lane : ℕ) → lane < LANES → bit_at c.or-lanes.result lane ≡ (bit_at lanes lane || bit_at (lanes_at sim at) lane) =
     λ lane h. c.or-lanes.ensures lane h ∙ ap (λ row. bit_at lanes lane || bit_at row lane) row_is in
     record {
-      some = λ lane h t. elim (either (bit_at lanes lane) (bit_at (row_at sim at) lane) (subst IsTrue (or_is lane h) t)) [
+      some = λ lane h t. elim (either (bit_at lanes lane) (bit_at (lanes_at sim at) lane) (subst IsTrue (or_is lane h) t)) [
         | inl was ↦ c.loop-position.invariant.some lane h was
         | inr here ↦ (at, inside, here)
       ];
       all = λ lane position h has t. subst IsTrue (sym (or_is lane h))
           (elim (Contains-push_cases (take i items) at position (subst (λ ls. Contains ls position) (take_more items i 0 c.loop-position-test.true) has)) [
-            | inl earlier ↦ left_one (bit_at lanes lane) (bit_at (row_at sim at) lane) (c.loop-position.invariant.all lane position h earlier t)
-            | inr same ↦ right_one (bit_at lanes lane) (bit_at (row_at sim at) lane) (subst (λ k. IsTrue (bit_at (row_at sim k) lane)) (sym same) t)
+            | inl earlier ↦ left_one (bit_at lanes lane) (bit_at (lanes_at sim at) lane) (c.loop-position.invariant.all lane position h earlier t)
+            | inr same ↦ right_one (bit_at lanes lane) (bit_at (lanes_at sim at) lane) (subst (λ k. IsTrue (bit_at (lanes_at sim k) lane)) (sym same) t)
           ]);
     }
 
@@ -64,6 +64,6 @@ returns c = λ lane h.
           let dark : bit ≡ false → ⊥ =
           λ e.
           let row_false = c.listed-position-items.ensures.others position (omega (arith, whole, inside)) (unlisted e) lane h in
-          true_false (bit_at (row_at sim position) lane) t (sym (ap (λ (s : FaultSim). bit_at (row_at s position) lane) c.self.view_is) ∙ row_false) in
+          true_false (bit_at (lanes_at sim position) lane) t (sym (ap (λ (s : FaultSim). bit_at (lanes_at s position) lane) c.self.view_is) ∙ row_false) in
           true_or bit dark,
     )

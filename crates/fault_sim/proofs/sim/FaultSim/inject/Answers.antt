@@ -2,7 +2,7 @@ use Rattle.std.proofs.Common.{◌≡◌, ◌<◌, ◌≤◌, ◌∙◌, ℕ, fal
 use Rattle.net_model.specs.Circuit.{Circuit, line_count, IsCircuit}
 use Rattle.event_queue.specs.Pending.{is_pending}
 use Rattle.word_sim.specs.GoodSim.{vectors_of}
-use Rattle.fault_sim.specs.Events.{IsShown, IsUntouched, AreFalsePast}
+use Rattle.fault_sim.specs.Events.{IsPositionShown, IsPositionUntouched, AreFalsePast}
 use Rattle.fault_sim.specs.FaultSim.{FaultSim, AreDifferences}
 use Rattle.fault_sim.proofs.DifferenceLemmas.{differences_are}
 use Rattle.fault_sim.proofs.sim.FaultSim.inject.Goals as goal
@@ -19,7 +19,7 @@ returns-clause-differences c =
     let width : length lines ≡ line_count good.circuit = c.change_lines.ensures.width in
     let whole : length rows ≡ length good.circuit.positions =
     c.show_positions.ensures.whole ∙ c.clear-2.ensures.count ∙ c.self.invariant.positions_whole ∙ ap (λ (n : Circuit). length n.positions) same in
-    let shown : (position : ℕ) → position < length good.circuit.positions → IsShown good fault lines position (get_or rows position []) = rw c.as_slice-lines.ensures.value at c.show_positions.ensures.shown in
+    let shown : (position : ℕ) → position < length good.circuit.positions → IsPositionShown good fault lines position (get_or rows position []) = rw c.as_slice-lines.ensures.value at c.show_positions.ensures.shown in
     subst (λ (n : Circuit). AreDifferences n fault (vectors_of good) rows) (sym same) (differences_are good is c.live-live.ensures.few fault lines rows width c.change_lines.ensures.settled whole shown)
 
 pub show_positions-requires-clause-past : goal.show_positions-requires-clause-past
@@ -29,7 +29,7 @@ pub show_positions-requires-clause-others : goal.show_positions-requires-clause-
 show_positions-requires-clause-others c =
     let others = rw (← c.as_slice-lines.ensures.value) at c.mark_positions.ensures.others in
     let marks = c.mark_positions.new.marks in
-    subst (λ (n : Circuit). (position : ℕ) → position < length n.positions → is_pending marks position ≡ false → IsUntouched n c.args.fault.now c.as_slice-lines.result.now position)
+    subst (λ (n : Circuit). (position : ℕ) → position < length n.positions → is_pending marks position ≡ false → IsPositionUntouched n c.args.fault.now c.as_slice-lines.result.now position)
     (ap (λ (s : FaultSim). s.circuit) c.self.view_is ∙ sym c.requires.circuit) others
 
 pub invariant_of-self : goal.invariant_of-self

@@ -8,7 +8,7 @@ use Rattle.net_model.specs.FaultList.{fault_count, fault_numbered}
 use Rattle.word_sim.specs.GoodSim.{vectors_of}
 use Rattle.fault_sim.specs.FaultSim.{FaultSim, AreDifferences}
 use Rattle.kept_vectors.specs.declared.notes.Note.{Note}
-use Rattle.kept_vectors.specs.Notes.{AreRight, IsUnnoted, IsWholeOf, AreAlikeAt}
+use Rattle.kept_vectors.specs.Notes.{AreRightNotes, IsUnnoted, IsWholeOf, AreAlikeAt}
 use Rattle.kept_vectors.proofs.NoteLemmas.{right_more, whole_later, whole_here, alike_itself, alike_by_third, alike_by_roots}
 use Rattle.kept_vectors.proofs.differences.Differences.note_class.Goals as goal
 
@@ -67,7 +67,7 @@ loop-at-init c =
       of = made.of;
       kept = made.kept;
       lead = made.lead;
-      right = subst (AreRight good) (sym noted.1) (right_more good old noted.0 first inside noted.2 c.requires.right);
+      right = subst (AreRightNotes good) (sym noted.1) (right_more good old noted.0 first inside noted.2 c.requires.right);
       more = (noted.0, noted.1, λ k d h. subst (λ n. Contains group n) (sym (noted.2.numbers k d h)) (Contains-get_or group 0 0 some));
       spans = made.spans;
       start = made.start;
@@ -92,7 +92,7 @@ loop-at-preserved c =
       of = ensures.of;
       kept = ensures.kept ∙ so_far.kept;
       lead = subst (λ (s : FaultSim). AreDifferences good.circuit (fault_numbered good.circuit (get_or group 0 0)) (vectors_of good) s.differences) (sym ensures.lead) so_far.lead;
-      right = subst (AreRight good) (sym more.1) (right_more good old more.0 number inside more.2 so_far.right);
+      right = subst (AreRightNotes good) (sym more.1) (right_more good old more.0 number inside more.2 so_far.right);
       more = (
         so_far.more.0 ++ more.0,
         more.1 ∙ (ap (λ (ns : List Note). ns ++ more.0) so_far.more.1 ∙ append_assoc before so_far.more.0 more.0),

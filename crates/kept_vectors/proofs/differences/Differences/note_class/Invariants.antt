@@ -5,7 +5,7 @@ use Rattle.net_model.specs.Answer.{bit_at}
 use Rattle.word_sim.specs.GoodSim.{vectors_of}
 use Rattle.fault_sim.specs.FaultSim.{AreDifferences}
 use Rattle.kept_vectors.specs.declared.notes.Note.{Note}
-use Rattle.kept_vectors.specs.Notes.{AreOf, AreRight, AreSpans, IsWholeOf, AreAlikeAt}
+use Rattle.kept_vectors.specs.Notes.{AreOf, AreRightNotes, AreSpans, IsWholeOf, AreAlikeAt}
 use Rattle.kept_vectors.proofs.differences.Differences.note_class.Given as goal
 
 abbrev pub invariant-loop-at : goal.invariant-loop-at
@@ -13,7 +13,7 @@ invariant-loop-at l = record {
   of : AreOf l.good.circuit l.self;
   kept : l.self.spans ≡ l.fn.self.spans;
   lead : AreDifferences l.good.circuit (fault_numbered l.good.circuit (get_or l.group 0 0)) (vectors_of l.good) l.self.lead.differences;
-  right : AreRight l.good l.self.notes.items;
+  right : AreRightNotes l.good l.self.notes.items;
   more : (more : List Note) × (l.self.notes.items ≡ l.fn.self.notes.items ++ more) × All (λ note. Contains l.group note.number) more;
   spans : AreSpans l.good l.group l.at l.self.starts.items l.self.notes.items;
   start : get_or l.self.starts.items l.at 0 ≡ length l.self.notes.items;

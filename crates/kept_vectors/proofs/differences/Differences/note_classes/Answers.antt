@@ -7,7 +7,7 @@ use Rattle.net_model.specs.ClassTable.{class_at, members}
 use Rattle.class_refine.proofs.Pieces.{members-All, members-contains}
 use Rattle.word_sim.specs.declared.lanes.TheConstants.{LANES}
 use Rattle.word_sim.specs.GoodSim.{vectors_of}
-use Rattle.kept_vectors.specs.Notes.{AreNoted, AreRight, IsUnnoted}
+use Rattle.kept_vectors.specs.Notes.{AreNoted, AreRightNotes, IsUnnoted}
 use Rattle.kept_vectors.specs.Spans.{ArePartsOf}
 use Rattle.kept_vectors.proofs.NoteLemmas.{unnoted_other, unnoted_later, noted_later}
 use Rattle.kept_vectors.proofs.KeepLemmas.{few_members}
@@ -101,7 +101,7 @@ loop-class-init c =
     let no_notes = sym c.clear.ensures.items in
     record {
       of = record { lead = of.lead; member = of.member; places = of.places; starts = of.starts };
-      right = subst (AreRight good) no_notes (record { numbers = λ k d h. absurd (omega (arith, h)); positions = λ k d h. absurd (omega (arith, h)); differ = λ number position lane h live e. absurd (true≢false (sym e)) });
+      right = subst (AreRightNotes good) no_notes (record { numbers = λ k d h. absurd (omega (arith, h)); positions = λ k d h. absurd (omega (arith, h)); differ = λ number position lane h live e. absurd (true≢false (sym e)) });
       fresh = λ number h above. subst (λ ns. IsUnnoted good ns number) no_notes (λ position lane inside live. refl);
       noted = λ m n hm hn same below. absurd (omega (arith, below));
       alike = λ m n lane hm hn same below. absurd (omega (arith, below));

@@ -5,7 +5,7 @@ use Rattle.net_model.specs.PatternRows.{SplitsClass}
 use Rattle.word_sim.specs.Block.{Block}
 use Rattle.kept_vectors.specs.Kept.{KeepsRun}
 use Rattle.kept_vectors.specs.Keeper.{Keeper, keeper_with, IsKeeper}
-use Rattle.kept_vectors.specs.Scan.{kept_now, HasJudged, IsEnded}
+use Rattle.kept_vectors.specs.Scan.{kept_now, HasJudged, IsScanEnd}
 use Rattle.kept_vectors.proofs.KeepLemmas.{table_numbers}
 use Rattle.kept_vectors.proofs.JudgeLemmas.{keeper_judged, run_judged, splits_none}
 use Rattle.kept_vectors.proofs.keeper.Keeper.keep_run.Goals as goal
@@ -67,5 +67,5 @@ returns-clause-stops c = λ below splits.
     let circuit = c.self.inside.scan.good.circuit in
     let new = kept_now c.judge.new.kept in
     let v = get_or c.args.vectors.now count [] in
-    let ended = subst (λ (vs : List (List Bool)). IsEnded circuit vs true count new) (vectors_are at) c.in_ok-count.ensures.ended in
+    let ended = subst (λ (vs : List (List Bool)). IsScanEnd circuit vs true count new) (vectors_are at) c.in_ok-count.ensures.ended in
     splits_none circuit new v (keeper at count c.in_ok-count.ensures.ok) (ended.stops below) (subst (λ (k : Keeper). SplitsClass k.circuit new.vectors v) (sym c.self.view_is) splits)

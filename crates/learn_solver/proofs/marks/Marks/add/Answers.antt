@@ -1,5 +1,5 @@
 use Rattle.std.proofs.lemmas.List.Elements.{All-push}
-use Rattle.learn_solver.specs.Marks.{AreCounted}
+use Rattle.learn_solver.specs.Marks.{AreMetCounted}
 use Rattle.std.proofs.Common.{◌≡◌, ◌+◌, ◌<◌, ◌∷◌, [], ◌++◌, set, length, sym, subst, arith}
 use Rattle.std.specs.Prelude.{All, List, Bool, true, false}
 use Rattle.std.proofs.lemmas.List.{length-set}
@@ -23,9 +23,9 @@ invariant_of-self-2 c =
     let met = c.self.inside.met.items in
     let within = subst (λ (ms : List Bool). c.args.variable < length ms) (sym c.self.view_is) c.requires.inside in
     let unmarked = subst (λ (ms : List Bool). bit_at ms c.args.variable ≡ false) (sym c.self.view_is) c.requires.unmarked in
-    let counted : AreCounted (set bits c.args.variable true) (met ++ c.args.variable ∷ []) (c.self.inside.left + 1) = record {
+    let counted : AreMetCounted (set bits c.args.variable true) (met ++ c.args.variable ∷ []) (c.self.inside.left + 1) = record {
       count = omega (arith, c.self.invariant.count, marked_more bits c.args.variable within unmarked);
       inside = subst (λ n. All (λ x. x < n) (met ++ c.args.variable ∷ [])) (sym (length-set bits c.args.variable true)) (All-push (λ x. x < length bits) met c.args.variable c.self.invariant.inside within);
     } in
-    subst (λ ms. AreCounted ms c.push.new.self.items (c.self.inside.left + 1)) (sym c.set.ensures)
-    (subst (λ met. AreCounted (set bits c.args.variable true) met (c.self.inside.left + 1)) (sym c.in_ok-push.ensures.items) counted)
+    subst (λ ms. AreMetCounted ms c.push.new.self.items (c.self.inside.left + 1)) (sym c.set.ensures)
+    (subst (λ met. AreMetCounted (set bits c.args.variable true) met (c.self.inside.left + 1)) (sym c.in_ok-push.ensures.items) counted)

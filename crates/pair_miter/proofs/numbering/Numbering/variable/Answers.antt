@@ -5,12 +5,12 @@ use Rattle.pair_miter.specs.declared.numbering.Numbering.TheInside.{Inside}
 use Rattle.pair_miter.specs.MiterView.{Miter}
 use Rattle.pair_miter.specs.Variables.{line_variable}
 use Rattle.pair_miter.specs.declared.side.Side.TheVariants.{First}
-use Rattle.pair_miter.specs.Numbering.{AreFirstVariables, numbering_of, IsNumbered}
+use Rattle.pair_miter.specs.Numbering.{AreFirstVariables, numbering_of, HasVariables}
 use Rattle.pair_miter.proofs.Numbers.{first_variable, few_line_variables, own_variable, shared_variable}
 use Rattle.pair_miter.proofs.numbering.Numbering.variable.Goals as goal
 
 -- what is read is the line's variable in the first copy
-first_is : (p : Miter) (a : Inside) → numbering_of a ≡ p → IsNumbered a → (line read : ℕ) → line < line_count p.circuit → read ≡ get_or a.firsts.items line read
+first_is : (p : Miter) (a : Inside) → numbering_of a ≡ p → HasVariables a → (line read : ℕ) → line < line_count p.circuit → read ≡ get_or a.firsts.items line read
     → read ≡ line_variable p.circuit p.f p.g First line
 first_is p a view is line read h at =
     let firsts = subst (λ (q : Miter). AreFirstVariables q.circuit q.f q.g (line_count q.circuit) a.firsts.items) view is.firsts in

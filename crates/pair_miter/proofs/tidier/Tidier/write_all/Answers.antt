@@ -1,7 +1,7 @@
 use Rattle.std.proofs.Common.{◌-◌, ◌+◌, ◌<◌, ◌≤◌, ◌^◌, ◌∙◌, [], ◌∷◌, length, get_or, sym, subst, arith}
 use Rattle.std.specs.Prelude.{All}
 use Rattle.pair_miter.specs.Marks.{IsOperand, HavePlaces}
-use Rattle.pair_miter.specs.Adds.{Writes}
+use Rattle.pair_miter.specs.Adds.{WritesClauses}
 use Rattle.pair_miter.specs.Miter.{tidy}
 use Rattle.pair_miter.specs.Rows.{variables, with_all}
 use Rattle.pair_miter.proofs.AddSteps.{keeps_all, writes_err}
@@ -27,7 +27,7 @@ write_once-requires-clause-few c =
 
 pub returns-clause-written : goal.returns-clause-written
 returns-clause-written c =
-    subst (λ row. Writes c.write_once.result c.args.pool.now c.write_once.new.pool (tidy (row ∷ []))) (c.as_slice.ensures.value ∙ c.in_ok-fill.ensures) c.write_once.ensures.written
+    subst (λ row. WritesClauses c.write_once.result c.args.pool.now c.write_once.new.pool (tidy (row ∷ []))) (c.as_slice.ensures.value ∙ c.in_ok-fill.ensures) c.write_once.ensures.written
 
 pub invariant_of-self : goal.invariant_of-self
 invariant_of-self c = c.self.invariant

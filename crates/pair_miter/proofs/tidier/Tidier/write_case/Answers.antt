@@ -4,7 +4,7 @@ use Rattle.std.proofs.Math.Bool.{or-true}
 use Rattle.clause_pool.specs.Literal.{Literal}
 use Rattle.clause_pool.specs.Clauses.{Clause}
 use Rattle.pair_miter.specs.Operand.{Operand, is_constant}
-use Rattle.pair_miter.specs.Adds.{Adds, Writes}
+use Rattle.pair_miter.specs.Adds.{Adds, WritesClauses}
 use Rattle.pair_miter.specs.Miter.{tidy}
 use Rattle.pair_miter.specs.Rows.{case_clause, operand_literals}
 use Rattle.pair_miter.proofs.AddSteps.{adds_none, keeps_all, writes_err}
@@ -52,7 +52,7 @@ write_once-requires-clause-few c =
 pub returns-clause-written : goal.returns-clause-written
 returns-clause-written c =
     let left = one_left c.args.l c.args.unless c.args.chooser.now c.args.positive c.args.chosen.now (sym c.is_constant.ensures ∙ c.if-is_constant.false) (sym c.is_constant-else-is_constant.ensures ∙ c.if-is_constant-2.false) (c.as_slice.ensures.value ∙ c.in_ok-fill_case.ensures) in
-    subst (λ rows. Writes c.write_once.result c.args.pool.now c.write_once.new.pool (tidy rows)) (sym left) c.write_once.ensures.written
+    subst (λ rows. WritesClauses c.write_once.result c.args.pool.now c.write_once.new.pool (tidy rows)) (sym left) c.write_once.ensures.written
 
 pub invariant_of-self : goal.invariant_of-self
 invariant_of-self c = c.self.invariant

@@ -12,7 +12,7 @@ use Rattle.clause_pool.specs.Literal.{Literal}
 use Rattle.clause_pool.specs.Clauses.{Clause}
 use Rattle.clause_pool.specs.Proper.{IsVariable}
 use Rattle.pair_miter.specs.Operand.{Operand}
-use Rattle.pair_miter.specs.Adds.{Adds, Keeps, Writes}
+use Rattle.pair_miter.specs.Adds.{Adds, KeepsClauses, WritesClauses}
 use Rattle.pair_miter.specs.Marks.{IsOperand, AreHelpers}
 use Rattle.pair_miter.specs.Miter.{copy_clauses, gate_operands, tidy}
 use Rattle.pair_miter.specs.Rows.{variables}
@@ -55,7 +55,7 @@ write-requires-clause-few c =
 pub returns-in-Some-clause-written : goal.returns-in-Some-clause-written
 returns-in-Some-clause-written c =
     let p = c.args.numbering.now in
-    subst (λ (xs : List Clause). Writes c.write.result c.args.pool.now c.write.new.pool (tidy xs)) (sym (clauses_of_stuck p.circuit p.f p.g c.args.side c.args.line (stem c.args.line c.fault.ensures c.stuck_stem.ensures c.in-Some.is) c.variable.ensures c.literal-unit.ensures)) c.write.ensures.written
+    subst (λ (xs : List Clause). WritesClauses c.write.result c.args.pool.now c.write.new.pool (tidy xs)) (sym (clauses_of_stuck p.circuit p.f p.g c.args.side c.args.line (stem c.args.line c.fault.ensures c.stuck_stem.ensures c.in-Some.is) c.variable.ensures c.literal-unit.ensures)) c.write.ensures.written
 
 pub returns-in-Some-clause-helper : goal.returns-in-Some-clause-helper
 returns-in-Some-clause-helper c =
@@ -139,7 +139,7 @@ returns-in_err-write_gate-clause-written c =
     let p = c.args.numbering.now in
     let rows = rows_of_driven p.circuit p.f p.g c.args.side c.args.line (stem c.args.line c.fault.ensures c.stuck_stem.ensures c.in_default.is) (gate_there c.args.line c.circuit-circuit.ensures.value c.gate-gate.ensures.value)
     c.variable-output.ensures c.requires.helper (c.as_slice.ensures.value ∙ c.in_ok-read_pins.ensures) in
-    writes_err c.from_residual-in_err-write_gate.result c.from_residual-in_err-write_gate.ensures.0 (subst (λ (xs : List Clause). Keeps c.args.pool.now c.write_gate.new.pool (tidy xs)) (sym rows) c.in_err-write_gate.ensures.written)
+    writes_err c.from_residual-in_err-write_gate.result c.from_residual-in_err-write_gate.ensures.0 (subst (λ (xs : List Clause). KeepsClauses c.args.pool.now c.write_gate.new.pool (tidy xs)) (sym rows) c.in_err-write_gate.ensures.written)
 
 pub returns-clause-written : goal.returns-clause-written
 returns-clause-written c =

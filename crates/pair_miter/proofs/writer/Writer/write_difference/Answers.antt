@@ -4,7 +4,7 @@ use Rattle.std.proofs.lemmas.List.Elements.{All-cons}
 use Rattle.net_model.specs.declared.gate.Kind.TheVariants.{Xor}
 use Rattle.net_model.specs.Fault.{stuck_position}
 use Rattle.clause_pool.specs.Clauses.{Clause}
-use Rattle.pair_miter.specs.Adds.{Writes}
+use Rattle.pair_miter.specs.Adds.{WritesClauses}
 use Rattle.pair_miter.specs.Marks.{IsOperand}
 use Rattle.pair_miter.specs.Miter.{difference_clauses, tidy}
 use Rattle.pair_miter.specs.Rows.{gate_rows}
@@ -48,4 +48,4 @@ returns-clause-written c =
     let p = c.args.numbering.now in
     let rows : difference_clauses p.circuit p.f p.g c.args.position ≡ gate_rows Xor c.args.difference 0 (c.shown.result ∷ c.shown-2.result ∷ []) =
     (λ i. gate_rows Xor (sym c.requires.difference i) 0 (sym c.shown.ensures.value i ∷ sym c.shown-2.ensures.value i ∷ [])) in
-    subst (λ (xs : List Clause). Writes c.write_gate.result c.args.pool.now c.write_gate.new.pool (tidy xs)) (sym rows) c.write_gate.ensures.written
+    subst (λ (xs : List Clause). WritesClauses c.write_gate.result c.args.pool.now c.write_gate.new.pool (tidy xs)) (sym rows) c.write_gate.ensures.written

@@ -13,7 +13,7 @@ use Rattle.pair_sets.specs.PairSet.{forced_pairs, fixed_pairs, IsWithin}
 use Rattle.pair_sets.specs.CubeState.{set_at}
 use Rattle.pair_sets.specs.Trail.{IsLonger}
 use Rattle.pair_sets.specs.PairSim.{PairSim, with_cube}
-use Rattle.pair_sets.specs.PairSimFields.{cube_of, pair_sim_of, IsLevelRight, AreLevels}
+use Rattle.pair_sets.specs.PairSimFields.{cube_of, pair_sim_of, IsLevelRight, AreCubeLevels}
 use Rattle.pair_sets.proofs.TallyLemmas.{shown_after}
 use Rattle.pair_sets.proofs.LevelLemmas.{right_of, fewer_fixed, pairs_fixed, gates_right, levels_more, levels_few}
 use Rattle.pair_sets.proofs.sim.PairSim.assign.Goals as goal
@@ -111,7 +111,7 @@ invariant_of-self c =
       room_left = omega (arith, c.change_source.ensures.room, longer.capacity);
     } in
     let start : c.len-start.result ≡ length a.trail.changes.items = omega (arith, c.len-start.ensures) in
-    let more : AreLevels circuit a.pair.f a.pair.g room (level ∷ reverse a.levels.items) new.changes.items new.sets.items =
+    let more : AreCubeLevels circuit a.pair.f a.pair.g room (level ∷ reverse a.levels.items) new.changes.items new.sets.items =
     levels_more circuit a.pair.f a.pair.g room (reverse a.levels.items) a.trail.changes.items a.trail.sets.items level longer.added new.changes.items new.sets.items
     c.self.invariant.levels inside free start longer.extends longer.before right in
     let P : Change → Type 0 = λ change. change.line < length new.sets.items in
@@ -120,8 +120,8 @@ invariant_of-self c =
       none_waits = c.change_source.ensures.none;
       queue_room = c.change_source.ensures.queue ∙ c.self.invariant.queue_room;
       levels =
-          subst (λ levels. AreLevels circuit a.pair.f a.pair.g (vec_capacity new.changes) levels new.changes.items new.sets.items) (sym (ap reverse c.push_reserved.ensures.items ∙ reverse-append a.levels.items (level ∷ [])))
-          (subst (λ n. AreLevels circuit a.pair.f a.pair.g n (level ∷ reverse a.levels.items) new.changes.items new.sets.items) (sym longer.capacity) more);
+          subst (λ levels. AreCubeLevels circuit a.pair.f a.pair.g (vec_capacity new.changes) levels new.changes.items new.sets.items) (sym (ap reverse c.push_reserved.ensures.items ∙ reverse-append a.levels.items (level ∷ [])))
+          (subst (λ n. AreCubeLevels circuit a.pair.f a.pair.g n (level ∷ reverse a.levels.items) new.changes.items new.sets.items) (sym longer.capacity) more);
       within =
           subst (All P) (sym longer.extends)
           (All-append P a.trail.changes.items longer.added (subst (λ n. All (λ (change : Change). change.line < n) a.trail.changes.items) (sym longer.whole) c.self.invariant.within) longer.within);

@@ -5,7 +5,7 @@ use Rattle.net_model.specs.declared.fault.Fault.TheVariants.{Free}
 use Rattle.net_model.specs.Circuit.{line_count}
 use Rattle.pair_sets.specs.declared.trail.Change.{Change}
 use Rattle.pair_sets.specs.CubeState.{set_at, ArePairSets}
-use Rattle.pair_sets.specs.Tally.{HasPlaces}
+use Rattle.pair_sets.specs.Tally.{HasTallyPlaces}
 use Rattle.pair_sets.proofs.BlankLemmas.{back_to_base, blank_but, blank_shown, blank_tally, lowest_level}
 use Rattle.pair_sets.proofs.LevelLemmas.{first_level, right_of}
 use Rattle.pair_sets.proofs.SpreadLemmas.{none_split}
@@ -67,6 +67,6 @@ invariant_of-self c =
       levels_room = subst (λ n. circuit.sources ≤ n) (sym c.clear-2.ensures.capacity) ready.levels_room;
       base = ready.base;
       cone = record { whole = c.unmark_all.ensures.whole ∙ ready.cone.whole; each = λ line h. c.unmark_all.ensures.none line ∙ sym (none_split circuit line) };
-      tally = blank_tally circuit c.clear-3.new.self c.clear-3.ensures.blank (subst (λ n. HasPlaces n c.clear-3.new.self) ready.tally.places.whole places);
+      tally = blank_tally circuit c.clear-3.new.self c.clear-3.ensures.blank (subst (λ n. HasTallyPlaces n c.clear-3.new.self) ready.tally.places.whole places);
       shown = blank_shown circuit c.clear-3.new.self new.sets.items c.clear-3.ensures.blank;
     }

@@ -6,19 +6,19 @@ use Rattle.pair_sets.specs.declared.sim.PairSim.TheInside.{Inside}
 use Rattle.pair_sets.specs.Cube.{Cube}
 use Rattle.pair_sets.specs.CubeState.{ArePairSets}
 use Rattle.pair_sets.specs.PairSim.{PairSim, pair_sim}
-use Rattle.pair_sets.specs.PairSimFields.{cube_of, pair_sim_of, IsReady}
-use Rattle.pair_sets.specs.Tally.{IsBlank, IsShown, IsTally}
+use Rattle.pair_sets.specs.PairSimFields.{cube_of, pair_sim_of, ArePairSimFields}
+use Rattle.pair_sets.specs.Tally.{IsTallyBlank, ArePairsShown, IsTally}
 use Rattle.pair_sets.proofs.BlankLemmas.{free_blank, lowest_level, no_levels, unfixed}
 use Rattle.net_model.specs.Circuit.{line_count}
 use Rattle.net_model.specs.Fault.{IsFaultOf}
 use Rattle.net_model.specs.Scope.{is_split}
 use Rattle.net_model.proofs.Places.{places_are_gates}
-use Rattle.fault_list.specs.Scope.{AreMarks}
+use Rattle.fault_list.specs.Scope.{AreMarksOfTest}
 use Rattle.pair_sets.proofs.LevelLemmas.{right_of}
 use Rattle.pair_sets.proofs.sim.PairSim.enter.Goals as goal
 
 -- The simulation is that of the circuit without faults.
-module _ (a : Inside) (ready : IsReady a) (sim : PairSim) (view : pair_sim_of a ≡ sim) (free : sim ≡ pair_sim sim.circuit Free Free []) where
+module _ (a : Inside) (ready : ArePairSimFields a) (sim : PairSim) (view : pair_sim_of a ≡ sim) (free : sim ≡ pair_sim sim.circuit Free Free []) where
   first_free : a.pair.f ≡ Free
   first_free = ap (λ (s : PairSim). s.f) (view ∙ free)
 
@@ -36,13 +36,13 @@ module _ (a : Inside) (ready : IsReady a) (sim : PairSim) (view : pair_sim_of a 
       (subst (λ (g : Fault). ArePairSets c Free g (cube_of (reverse a.levels.items)) sets) second_free
       (subst (λ (f : Fault). ArePairSets c f a.pair.g (cube_of (reverse a.levels.items)) sets) first_free (right_of a ready).right))
 
-  tally_blank : IsBlank a.tally
+  tally_blank : IsTallyBlank a.tally
   tally_blank =
       let c = a.pair.circuit.now in
       let sets = a.trail.sets.items in
       free_blank c a.tally sets
       (subst (λ (g : Fault). IsTally c Free g a.tally) second_free (subst (λ (f : Fault). IsTally c f a.pair.g a.tally) first_free ready.tally))
-      (subst (λ (g : Fault). IsShown c Free g sets a.tally.shown) second_free (subst (λ (f : Fault). IsShown c f a.pair.g sets a.tally.shown) first_free ready.shown))
+      (subst (λ (g : Fault). ArePairsShown c Free g sets a.tally.shown) second_free (subst (λ (f : Fault). ArePairsShown c f a.pair.g sets a.tally.shown) first_free ready.shown))
 
 pub spread-requires-clause-first : goal.spread-requires-clause-first
 spread-requires-clause-first c = subst (λ (sim : PairSim). IsFaultOf sim.circuit c.args.f.now) (sym c.self.view_is) c.requires.first
@@ -54,8 +54,8 @@ pub spread-requires-clause-unmarked : goal.spread-requires-clause-unmarked
 spread-requires-clause-unmarked c =
     let a = c.self.inside in
     let circuit = a.pair.circuit.now in
-    subst (λ (g : Fault). AreMarks (is_split circuit Free g) (line_count circuit) a.cone) (second_free a c.self.invariant c.args.self.now c.self.view_is c.requires.free)
-    (subst (λ (f : Fault). AreMarks (is_split circuit f a.pair.g) (line_count circuit) a.cone) (first_free a c.self.invariant c.args.self.now c.self.view_is c.requires.free) c.self.invariant.cone)
+    subst (λ (g : Fault). AreMarksOfTest (is_split circuit Free g) (line_count circuit) a.cone) (second_free a c.self.invariant c.args.self.now c.self.view_is c.requires.free)
+    (subst (λ (f : Fault). AreMarksOfTest (is_split circuit f a.pair.g) (line_count circuit) a.cone) (first_free a c.self.invariant c.args.self.now c.self.view_is c.requires.free) c.self.invariant.cone)
 
 pub spread-requires-clause-none : goal.spread-requires-clause-none
 spread-requires-clause-none c = c.self.invariant.none_waits
@@ -103,5 +103,5 @@ invariant_of-self c =
       base = ready.base;
       cone = c.spread.ensures.cone;
       tally = c.fill.ensures.tally;
-      shown = subst (λ xs. IsShown circuit c.args.f.now c.args.g.now xs c.fill.new.self.shown) c.as_slice.ensures.value c.fill.ensures.shown;
+      shown = subst (λ xs. ArePairsShown circuit c.args.f.now c.args.g.now xs c.fill.new.self.shown) c.as_slice.ensures.value c.fill.ensures.shown;
     }

@@ -5,7 +5,7 @@ use Rattle.net_model.specs.Circuit.{line_count}
 use Rattle.net_model.proofs.Orders.{order_count}
 use Rattle.net_model.proofs.SetSoFar.{fits_from}
 use Rattle.pair_sets.specs.CubeState.{ArePairSets}
-use Rattle.pair_sets.specs.Tally.{HasPlaces}
+use Rattle.pair_sets.specs.Tally.{HasTallyPlaces}
 use Rattle.pair_sets.proofs.BlankLemmas.{blank_shown, blank_tally, lowest_level}
 use Rattle.pair_sets.proofs.SpreadLemmas.{none_split}
 use Rattle.pair_sets.proofs.sim.PairSim.free.Goals as goal
@@ -37,6 +37,6 @@ invariant_of-result c =
         whole = c.in_ok-none.ensures.whole ∙ c.lines-lines.ensures.value;
         each = λ line h. c.in_ok-none.ensures.none line ∙ sym (none_split circuit line);
       };
-      tally = blank_tally circuit c.in_ok-none-2.field-0 c.in_ok-none-2.ensures.blank (subst (λ n. HasPlaces n c.in_ok-none-2.field-0) (ap length c.positions.ensures.value) c.in_ok-none-2.ensures.places);
+      tally = blank_tally circuit c.in_ok-none-2.field-0 c.in_ok-none-2.ensures.blank (subst (λ n. HasTallyPlaces n c.in_ok-none-2.field-0) (ap length c.positions.ensures.value) c.in_ok-none-2.ensures.places);
       shown = blank_shown circuit c.in_ok-none-2.field-0 trail.sets.items c.in_ok-none-2.ensures.blank;
     }

@@ -8,12 +8,12 @@ use Rattle.pair_sets.specs.declared.state.PairState.TheVariants.{AllSame, Apart,
 use Rattle.pair_sets.specs.PairSet.{free_pairs, only_equal, only_unequal}
 use Rattle.pair_sets.specs.CubeState.{position_pairs, IsState}
 use Rattle.pair_sets.specs.PairSim.{PairSim}
-use Rattle.pair_sets.specs.PairSimFields.{cube_of, IsReady}
+use Rattle.pair_sets.specs.PairSimFields.{cube_of, ArePairSimFields}
 use Rattle.pair_sets.proofs.LevelLemmas.{right_of, reached_within, state_same, state_other}
 use Rattle.pair_sets.proofs.TallyLemmas.{all_of_shown, none_found}
 use Rattle.pair_sets.proofs.sim.PairSim.state.Goals as goal
 
-module _ (a : Inside) (ready : IsReady a) where
+module _ (a : Inside) (ready : ArePairSimFields a) where
   -- what is kept says the same of the positions
   all_of : (test : PairSet → Bool) → test free_pairs ≡ true → list_all test a.tally.shown ≡ list_all (λ at. test (position_pairs a.pair.circuit.now a.pair.f a.pair.g a.trail.sets.items at)) a.tally.reached.items
   all_of test free =

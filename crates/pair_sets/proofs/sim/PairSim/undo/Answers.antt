@@ -9,7 +9,7 @@ use Rattle.pair_sets.specs.declared.sim.PairSim.TheInside.{Inside}
 use Rattle.pair_sets.specs.declared.trail.Change.{Change}
 use Rattle.pair_sets.specs.Trail.{undone}
 use Rattle.pair_sets.specs.PairSim.{PairSim, with_cube}
-use Rattle.pair_sets.specs.PairSimFields.{AreLevels, IsReady, cube_of, pair_sim_of}
+use Rattle.pair_sets.specs.PairSimFields.{AreCubeLevels, ArePairSimFields, cube_of, pair_sim_of}
 use Rattle.pair_sets.proofs.LevelLemmas.{right_of}
 use Rattle.pair_sets.proofs.TallyLemmas.{shown_before}
 use Rattle.pair_sets.proofs.TrailLemmas.{length-undone}
@@ -24,17 +24,17 @@ invariant_of-self c =
     let changes = a.trail.changes.items in
     let sets = a.trail.sets.items in
     let parts : reverse a.levels.items ≡ level ∷ reverse rest = ap reverse c.in-Some.ensures.items ∙ reverse-append rest (level ∷ []) in
-    let was : AreLevels circuit a.pair.f a.pair.g (vec_capacity a.trail.changes) (level ∷ reverse rest) changes sets =
-    subst (λ levels. AreLevels circuit a.pair.f a.pair.g (vec_capacity a.trail.changes) levels changes sets) parts c.self.invariant.levels in
-    let below : AreLevels circuit a.pair.f a.pair.g (vec_capacity a.trail.changes) (reverse rest) (take level.start changes) (undone (drop level.start changes) sets) = was.4 in
+    let was : AreCubeLevels circuit a.pair.f a.pair.g (vec_capacity a.trail.changes) (level ∷ reverse rest) changes sets =
+    subst (λ levels. AreCubeLevels circuit a.pair.f a.pair.g (vec_capacity a.trail.changes) levels changes sets) parts c.self.invariant.levels in
+    let below : AreCubeLevels circuit a.pair.f a.pair.g (vec_capacity a.trail.changes) (reverse rest) (take level.start changes) (undone (drop level.start changes) sets) = was.4 in
     let new = c.truncate.new.self in
     let capacity : vec_capacity new ≡ vec_capacity a.trail.changes = c.truncate.ensures.capacity ∙ ap vec_capacity c.restore.ensures.changes in
     let changes_are : new.items ≡ take level.start changes = c.truncate.ensures.items ∙ ap (λ (v : Vec Change Global). take level.start v.items) c.restore.ensures.changes in
     let sets_are = c.restore.ensures.sets in
-    let kept : AreLevels circuit a.pair.f a.pair.g (vec_capacity new) (reverse rest) new.items c.restore.new.self.sets.items =
-    subst (λ room. AreLevels circuit a.pair.f a.pair.g room (reverse rest) new.items c.restore.new.self.sets.items) (sym capacity)
-    (subst (λ xs. AreLevels circuit a.pair.f a.pair.g (vec_capacity a.trail.changes) (reverse rest) xs c.restore.new.self.sets.items) (sym changes_are)
-    (subst (λ xs. AreLevels circuit a.pair.f a.pair.g (vec_capacity a.trail.changes) (reverse rest) (take level.start changes) xs) (sym sets_are) below)) in
+    let kept : AreCubeLevels circuit a.pair.f a.pair.g (vec_capacity new) (reverse rest) new.items c.restore.new.self.sets.items =
+    subst (λ room. AreCubeLevels circuit a.pair.f a.pair.g room (reverse rest) new.items c.restore.new.self.sets.items) (sym capacity)
+    (subst (λ xs. AreCubeLevels circuit a.pair.f a.pair.g (vec_capacity a.trail.changes) (reverse rest) xs c.restore.new.self.sets.items) (sym changes_are)
+    (subst (λ xs. AreCubeLevels circuit a.pair.f a.pair.g (vec_capacity a.trail.changes) (reverse rest) (take level.start changes) xs) (sym sets_are) below)) in
     record {
       circuit = c.self.invariant.circuit;
       none_waits = c.self.invariant.none_waits;
@@ -78,9 +78,9 @@ recount-requires-clause-others c = λ at h none.
     c.restore.ensures.sets
 
 -- a level begins at one of the changes
-level_start : (a : Inside) (ready : IsReady a) (rest : List Level) (level : Level) → a.levels.items ≡ rest ++ level ∷ [] → level.start ≤ length a.trail.changes.items
+level_start : (a : Inside) (ready : ArePairSimFields a) (rest : List Level) (level : Level) → a.levels.items ≡ rest ++ level ∷ [] → level.start ≤ length a.trail.changes.items
 level_start a ready rest level e =
-    let levels = subst (λ levels. AreLevels a.pair.circuit.now a.pair.f a.pair.g (vec_capacity a.trail.changes) levels a.trail.changes.items a.trail.sets.items) (ap reverse e ∙ reverse-append rest (level ∷ [])) ready.levels in
+    let levels = subst (λ levels. AreCubeLevels a.pair.circuit.now a.pair.f a.pair.g (vec_capacity a.trail.changes) levels a.trail.changes.items a.trail.sets.items) (ap reverse e ∙ reverse-append rest (level ∷ [])) ready.levels in
     levels.3
 
 pub restore-requires-clause-start : goal.restore-requires-clause-start

@@ -1,5 +1,5 @@
 use Rattle.std.proofs.Common.{◌<◌, length}
-use Rattle.samediff_dict.specs.Choice.{AreStarts}
+use Rattle.samediff_dict.specs.Choice.{ArePartitionsBefore}
 use Rattle.samediff_dict.specs.Numbered.{baselines_at}
 use Rattle.samediff_dict.proofs.SearchLemmas.{NoneBefore}
 use Rattle.samediff_dict.proofs.choosing.Choice.improvement.Given as goal
@@ -9,7 +9,7 @@ ghost-add_start g a = g.rows
 
 abbrev pub invariant-loop-pattern : goal.invariant-loop-pattern
 invariant-loop-pattern g l = record {
-  starts : AreStarts g.rows l.self l.chosen l.starts.items;
+  starts : ArePartitionsBefore g.rows l.self l.chosen l.starts.items;
   there : l.pattern < length l.starts.items;
   none : NoneBefore l.self.classes.now g.rows (baselines_at l.self.classes.now g.rows l.chosen) l.pattern;
 }

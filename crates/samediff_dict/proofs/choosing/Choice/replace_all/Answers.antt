@@ -2,7 +2,7 @@ use Rattle.std.proofs.Common.{◌≡◌, List, None, set, sym, subst}
 use Rattle.std.proofs.lemmas.Option.{MatchOption-at_none, MatchOption-at_some}
 use Rattle.samediff_dict.specs.declared.partition.Partition.{Partition}
 use Rattle.samediff_dict.specs.Chosen.{improvement}
-use Rattle.samediff_dict.specs.Choice.{AreSomeEnds, AreStarts, IsFirstBetter}
+use Rattle.samediff_dict.specs.Choice.{AreSomeEnds, ArePartitionsBefore, IsFirstBetter}
 use Rattle.samediff_dict.specs.Numbered.{baselines_at}
 use Rattle.samediff_dict.proofs.ChoiceLemmas.{replacing_none, replacing_step, replacing_done, fewer_left}
 use Rattle.samediff_dict.proofs.EndLemmas.{ends_stay, starts_stay}
@@ -46,5 +46,5 @@ replacing-preserved g c =
     record {
       so_far = replacing_step self.classes.now g.rows chosen at.pattern at.answer c.replacing.invariant.so_far first.pattern_within first.answer_within first.is;
       ends = subst (λ (xs : List Partition). AreSomeEnds g.rows self (set chosen at.pattern at.answer) xs) (sym c.truncate.ensures.items) (ends_stay g.rows self chosen ends at.pattern at.answer c.in_ok-add_ends.ensures first.pattern_within);
-      starts = subst (λ (xs : List Partition). AreStarts g.rows self (set chosen at.pattern at.answer) xs) (sym c.truncate-in-replacing.ensures.items) (starts_stay g.rows self chosen starts at.pattern at.answer c.in_ok-better.ensures.starts first.pattern_within);
+      starts = subst (λ (xs : List Partition). ArePartitionsBefore g.rows self (set chosen at.pattern at.answer) xs) (sym c.truncate-in-replacing.ensures.items) (starts_stay g.rows self chosen starts at.pattern at.answer c.in_ok-better.ensures.starts first.pattern_within);
     }

@@ -2,7 +2,7 @@ use Rattle.std.proofs.Common.{◌*◌, ◌-◌}
 use Rattle.net_model.specs.ClassTable.{class_count}
 use Rattle.samediff_dict.specs.Chosen.{pairs_apart}
 use Rattle.samediff_dict.specs.Numbered.{baselines_at}
-use Rattle.samediff_dict.specs.Choice.{AreSomeEnds, AreStarts}
+use Rattle.samediff_dict.specs.Choice.{AreSomeEnds, ArePartitionsBefore}
 use Rattle.samediff_dict.proofs.ChoiceLemmas.{IsReplacing}
 use Rattle.samediff_dict.proofs.choosing.Choice.replace_all.Given as goal
 
@@ -10,7 +10,7 @@ abbrev pub invariant-replacing : goal.invariant-replacing
 invariant-replacing g l = record {
   so_far : IsReplacing l.self.classes.now g.rows l.chosen;
   ends : AreSomeEnds g.rows l.self l.chosen l.ends.items;
-  starts : AreStarts g.rows l.self l.chosen l.starts.items;
+  starts : ArePartitionsBefore g.rows l.self l.chosen l.starts.items;
 }
 
 abbrev pub decreases-replacing : goal.decreases-replacing

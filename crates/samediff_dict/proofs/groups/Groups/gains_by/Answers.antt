@@ -1,6 +1,6 @@
 use Rattle.std.proofs.Common.{◌≡◌, ◌∙◌, ◌<◌, ◌+◌, ◌*◌, ◌^◌, ℕ, cond, eqb, List, length, get_or, replicate, refl, sym, ap, subst, arith}
 use Rattle.std.proofs.lemmas.List.{length-replicate, length-set, get_or_read, get_or-replicate}
-use Rattle.samediff_dict.specs.Groups.{AreWithin}
+use Rattle.samediff_dict.specs.Groups.{AreBelow}
 use Rattle.samediff_dict.proofs.PairLemmas.{others_of}
 use Rattle.samediff_dict.proofs.TallyLemmas.{sum_to_none}
 use Rattle.samediff_dict.proofs.GainLemmas.{size_split, others-few, gain_to, gain_all, gains_more, gains_bound}
@@ -13,7 +13,7 @@ size_of-size-requires-clause-place c = omega (arith, ap length c.as_slice-groups
 pub size_of-size-requires-clause-within : goal.size_of-size-requires-clause-within
 size_of-size-requires-clause-within c =
     let long : length c.as_slice-sizes.result.now ≡ c.args.self.now.count = ap length c.as_slice-sizes.ensures.value ∙ c.requires.all.count_is in
-    subst (λ n. AreWithin c.as_slice-groups.result.now n) (sym long) (subst (λ (gs : List ℕ). AreWithin gs c.args.self.now.count) (sym c.as_slice-groups.ensures.value) c.requires.within)
+    subst (λ n. AreBelow c.as_slice-groups.result.now n) (sym long) (subst (λ (gs : List ℕ). AreBelow gs c.args.self.now.count) (sym c.as_slice-groups.ensures.value) c.requires.within)
 
 pub size_of-part-requires-clause-place : goal.size_of-part-requires-clause-place
 size_of-part-requires-clause-place c = omega (arith, ap length c.as_slice-parts.ensures.value, c.requires.cells.one_each)
@@ -21,7 +21,7 @@ size_of-part-requires-clause-place c = omega (arith, ap length c.as_slice-parts.
 pub size_of-part-requires-clause-within : goal.size_of-part-requires-clause-within
 size_of-part-requires-clause-within c =
     let long : length c.as_slice-part_sizes.result.now ≡ c.args.cells.now.count = ap length c.as_slice-part_sizes.ensures.value ∙ c.requires.alike.count_is in
-    subst (λ n. AreWithin c.as_slice-parts.result.now n) (sym long) (subst (λ (gs : List ℕ). AreWithin gs c.args.cells.now.count) (sym c.as_slice-parts.ensures.value) c.requires.cells.within)
+    subst (λ n. AreBelow c.as_slice-parts.result.now n) (sym long) (subst (λ (gs : List ℕ). AreBelow gs c.args.cells.now.count) (sym c.as_slice-parts.ensures.value) c.requires.cells.within)
 
 -- the size of a group is that of the part with the others that answer otherwise
 split : (c : After-size_of-part) → c.size_of-size.result ≡ c.size_of-part.result + others_of c.args.self.now.group_of.items c.args.answers.now (length c.args.answers.now) c.loop-place.place

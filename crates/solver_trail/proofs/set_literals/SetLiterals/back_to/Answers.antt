@@ -2,7 +2,7 @@ use Rattle.std.proofs.Common.{◌≡◌, ◌∙◌, ◌<◌, ◌≤◌, ◌-◌,
 use Rattle.std.specs.Prelude.{All, drop, false}
 use Rattle.std.specs.List.{HoldsAt}
 use Rattle.solver_trail.specs.declared.set_literals.SetLiteral.{SetLiteral}
-use Rattle.solver_trail.specs.Assignment.{Assignment, AreLevels}
+use Rattle.solver_trail.specs.Assignment.{Assignment, AreInLevels}
 use Rattle.solver_trail.specs.StackFields.{ArePlaced}
 use Rattle.solver_trail.proofs.Placed.{placed_trail}
 use Rattle.solver_trail.proofs.BackTo.{IsBackTo, back_to_start, back_to_step, back_to_end, levels_below}
@@ -31,7 +31,7 @@ loop-self-preserved c =
       entry_room = omega (arith, c.loop-self.invariant.entry_room, c.unset_last.ensures.entry_room);
     }
 
-levels : (c : After-ends_above) → c.ends_above.result ≡ false → AreLevels 0 c.loop-self.self-inside.entries.items c.args.level
+levels : (c : After-ends_above) → c.ends_above.result ≡ false → AreInLevels 0 c.loop-self.self-inside.entries.items c.args.level
 levels c not =
     let entries = c.loop-self.self-inside.entries.items in
     let last = subst (λ es. 0 < length es → HoldsAt (λ (s : SetLiteral). s.level ≤ c.args.level) es (length es - 1)) c.as_slice.ensures.value (c.ends_above.ensures.not not) in

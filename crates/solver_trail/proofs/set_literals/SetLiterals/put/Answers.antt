@@ -1,8 +1,8 @@
 use Rattle.std.proofs.Common.{◌≡◌, ◌∙◌, [], ◌∷◌, ◌++◌, length, get_or, None, Some, sym, ap, subst, arith}
 use Rattle.std.specs.Prelude.{set, All, ◌≢◌}
 use Rattle.solver_trail.specs.declared.set_literals.SetLiteral.{SetLiteral}
-use Rattle.solver_trail.specs.Assignment.{Assignment, FollowsLevel, AreLevels}
-use Rattle.solver_trail.specs.StackFields.{ArePlaced, slot_of}
+use Rattle.solver_trail.specs.Assignment.{Assignment, FollowsLevel, AreInLevels}
+use Rattle.solver_trail.specs.StackFields.{ArePlaced, literal_slot}
 use Rattle.solver_trail.proofs.Held.{length-literals_of}
 use Rattle.solver_trail.proofs.Levels.{AreLevels-push}
 use Rattle.solver_trail.proofs.Placed.{unset_slot, length_le, placed_push, placed_trail}
@@ -38,13 +38,13 @@ placed c =
     let e : SetLiteral = record { literal = c.args.lit; level = c.args.level; reason = c.args.reason } in
     let variables = ap (λ (a : Assignment). a.variables) c.self.view_is in
     let pushed = placed_push c.self.invariant.placed e (free c) (omega (arith, c.variable.ensures.value, c.variable.ensures.from)) (omega (arith, variables, c.requires.inside)) in
-    let slot : slot_of c.args.lit (length i.entries.items) ≡ record { positive = c.positive.result; place = c.len.result } =
+    let slot : literal_slot c.args.lit (length i.entries.items) ≡ record { positive = c.positive.result; place = c.len.result } =
     λ j. record { positive = sym c.positive.ensures j; place = sym (c.len.ensures ∙ i.entries.ok.0) j } in
     rw (c.push_reserved.ensures.items, c.push_reserved-2.ensures.items)
     (subst (λ v. ArePlaced i.variables (i.literals.items ++ c.args.lit ∷ []) (i.entries.items ++ e ∷ []) (set i.slots.items v (Some (record { positive = c.positive.result; place = c.len.result })))) (sym c.variable.ensures.value)
     (subst (λ s. ArePlaced i.variables (i.literals.items ++ c.args.lit ∷ []) (i.entries.items ++ e ∷ []) (set i.slots.items c.args.lit.variable (Some s))) slot pushed))
 
-levels : (c : After-push_reserved-2) → AreLevels 0 c.push_reserved-2.new.self.items c.args.level
+levels : (c : After-push_reserved-2) → AreInLevels 0 c.push_reserved-2.new.self.items c.args.level
 levels c =
     let i = c.self.inside in
     let e : SetLiteral = record { literal = c.args.lit; level = c.args.level; reason = c.args.reason } in

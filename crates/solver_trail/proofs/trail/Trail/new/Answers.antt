@@ -2,11 +2,11 @@ use Rattle.std.proofs.Common.{ℕ, ◌+◌, ◌*◌, [], length, refl, ap, arith
 use Rattle.std.specs.Prelude.{Option, None, replicate}
 use Rattle.std.proofs.lemmas.List.{length-replicate, get_or-replicate}
 use Rattle.solver_trail.specs.Assignment.{Assignment}
-use Rattle.solver_trail.specs.Watches.{AreListed}
+use Rattle.solver_trail.specs.Watches.{AreWatchesListed}
 use Rattle.solver_trail.proofs.trail.Trail.new.Goals as goal
 
 -- where nothing is watched, all lists are empty
-none_listed : (n : ℕ) → AreListed (replicate n None) [] [] []
+none_listed : (n : ℕ) → AreWatchesListed (replicate n None) [] [] []
 none_listed n = record {
   size = refl;
   lists = λ code below. record {

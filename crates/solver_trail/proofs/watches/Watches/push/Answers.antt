@@ -2,7 +2,7 @@ use Rattle.std.proofs.Common.{◌≡◌, ◌∙◌, ◌<◌, [], ◌∷◌, ◌+
 use Rattle.std.specs.Prelude.{None, set}
 use Rattle.std.proofs.lemmas.List.{get_or_push, length_push, set-get_or}
 use Rattle.clause_pool.specs.Literal.{pos_literal}
-use Rattle.solver_trail.specs.Watches.{AreListed}
+use Rattle.solver_trail.specs.Watches.{AreWatchesListed}
 use Rattle.solver_trail.proofs.Lists.{pushed_listed, rewatched_listed}
 use Rattle.solver_trail.proofs.watches.Watches.push.Goals as goal
 
@@ -20,5 +20,5 @@ returns-clause-listed c =
     let at : c.len-at.result ≡ length w.literals.items = c.len-at.ensures ∙ w.literals.ok.0 in
     let all = w.literals.items ++ c.args.lit ∷ [] in
     let within : c.len-at.result < length all = omega (arith, at, length_push w.literals.items c.args.lit) in
-    let pushed = subst (λ n. AreListed w.firsts.items (w.nexts.items ++ None ∷ []) all (n ∷ [])) (sym at) (pushed_listed c.requires.listed c.args.lit) in
+    let pushed = subst (λ n. AreWatchesListed w.firsts.items (w.nexts.items ++ None ∷ []) all (n ∷ [])) (sym at) (pushed_listed c.requires.listed c.args.lit) in
     rw (r.firsts, r.nexts, r.literals, c.push_reserved.ensures.items, c.push_reserved-2.ensures.items) (rewatched_listed pushed (λ none. none) within c.args.lit c.requires.lit)

@@ -1,6 +1,6 @@
 use Rattle.std.proofs.Common.{◌+◌, ◌*◌, ◌<◌, ◌≤◌, subst, ap, arith}
 use Rattle.table_dicts.specs.Rows.{IsBitSet}
-use Rattle.table_dicts.specs.AnswerTable.{Answers, IsSetAt}
+use Rattle.table_dicts.specs.AnswerTable.{Answers, HasBitSet}
 use Rattle.table_dicts.specs.AnswerTableFields.{table_of}
 use Rattle.table_dicts.proofs.RowLemmas.{rows_later}
 use Rattle.table_dicts.proofs.TableLemmas.{in_fields, bit_inside, set_at}
@@ -26,5 +26,5 @@ invariant_of-self c = rows_later c.set_bit.ensures.shape c.self.invariant
 
 pub returns : goal.returns
 returns c =
-    subst (λ (t : Answers). IsSetAt t (table_of (record c.self.inside { cells = c.set_bit.new.rows })) c.args.pattern c.args.number c.args.position c.args.bit) c.self.view_is
+    subst (λ (t : Answers). HasBitSet t (table_of (record c.self.inside { cells = c.set_bit.new.rows })) c.args.pattern c.args.number c.args.position c.args.bit) c.self.view_is
     (set_at c.self.inside c.self.invariant c.set_bit.new.rows c.args.pattern c.args.number c.args.position c.args.bit (omega (arith, (inside c).0)) (inside c).1 (in_positions c) (bit_set c))
