@@ -1,5 +1,5 @@
 -- What the solver answers for a pair of faults.
-use Rattle.std.specs.Prelude.{ℕ, List, ◌++◌}
+use Rattle.std.specs.Prelude.{ℕ, ◌≤◌, Bool, List, ◌++◌, length}
 use Rattle.net_model.specs.declared.fault.Fault.{Fault}
 use Rattle.net_model.specs.Circuit.{Circuit}
 use Rattle.net_model.specs.Answer.{Separates}
@@ -23,8 +23,17 @@ pub record HasSpentLog (clauses : List Clause) (conflicts : ℕ) (pool : List Cl
   pub spent : IsSpentLog clauses conflicts log
   pub alike : AreAlike (clauses ++ spent.ends) pool
 
+-- The vector separates the faults, and the clauses in the pool behind the miter's are the fresh ends of a log within the budget.
+pub record HasVector (c : Circuit) (f g : Fault) (conflicts : ℕ) (pool : List Clause) (v : List Bool) : Type 0 where
+  pub separates : Separates c v f g
+  -- the chains of what was learned before the vector was found
+  pub log : List ChainView
+  pub few : length log ≤ conflicts
+  -- Each of them ends fresh, and the pool has their ends and no other clause behind the miter's.
+  pub learned : HasSpentLog (miter c f g) (length log) pool log
+
 -- what the solver answers for a pair of faults and a budget, with the clauses that the pool then has
 abbrev pub IsSolved : Circuit → Fault → Fault → ℕ → List Clause → Solved → Type 0
-IsSolved c f g conflicts pool (Vector v) = Separates c v f g
+IsSolved c f g conflicts pool (Vector v) = HasVector c f g conflicts pool v
 IsSolved c f g conflicts pool (Refuted log) = HasRefutation (miter c f g) conflicts pool log
 IsSolved c f g conflicts pool (Spent log) = HasSpentLog (miter c f g) conflicts pool log

@@ -20,6 +20,18 @@ vector-requires-clause-quiet c =
     let end = subst (EndsStep c.args.miter.now c.args.conflicts Model c.conflicts.search new pool) c.in-Open.is c.in_ok-take_step.ensures.ends in
     quiet_first (assigned_literals new.trail.assignment) pool (miter_clauses c.args.miter.now) end.0.begins end.1
 
+pub returns-in-Open-clause-solved : goal.returns-in-Open-clause-solved
+returns-in-Open-clause-solved c =
+    let new = c.take_step.new.search in
+    let pool = c.take_step.new.pool.clauses in
+    let end = subst (EndsStep c.args.miter.now c.args.conflicts Model c.conflicts.search new pool) c.in-Open.is c.in_ok-take_step.ensures.ends in
+    record {
+      separates = c.in_ok-vector-in-Open.ensures;
+      log = new.chains.items;
+      few = end.0.few;
+      learned = spends (miter_clauses c.args.miter.now) pool new.chains.items (length new.chains.items) end.0.learning refl;
+    }
+
 pub returns-clause-solved : goal.returns-clause-solved
 returns-clause-solved c =
     let first = miter_clauses c.args.miter.now in
