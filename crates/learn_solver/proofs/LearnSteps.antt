@@ -9,13 +9,13 @@ use Rattle.net_model.proofs.Copies.{later}
 use Rattle.clause_pool.specs.Literal.{Literal}
 use Rattle.clause_pool.specs.Clauses.{Clause}
 use Rattle.clause_pool.specs.Partial.{IsQuiet}
-use Rattle.clause_pool.specs.Proper.{HasVariablesUpTo}
+use Rattle.clause_pool.specs.Proper.{HasNoVariableTwice, HasVariablesUpTo}
 use Rattle.pair_miter.specs.Fresh.{IsFresh}
 use Rattle.solver_trail.specs.Assignment.{Assignment, IsTrail, CutsAbove}
 use Rattle.solver_trail.specs.Trail.{TrailState, Fits, Attaches, attached_numbers}
 use Rattle.learn_solver.specs.Places.{set_literal_at, IsFalseOf, up_to}
 use Rattle.learn_solver.specs.Ready.{IsSolverReady, AreQuietBelow}
-use Rattle.learn_solver.specs.Learned.{IsLower, IsAsserting}
+use Rattle.learn_solver.specs.Learned.{IsLower, IsAsserting, IsQuietBelow}
 use Rattle.learn_solver.proofs.Levels.{inside_at, same_place}
 use Rattle.learn_solver.proofs.Falsity.{place_up_to, undetermined_above, consistent_up_to}
 use Rattle.learn_solver.proofs.Quiet.{quiet_cut, cut_up_to}
@@ -41,7 +41,7 @@ module _ (a : Assignment) (trail : IsTrail a) (clause : Clause) (back : ℕ) (as
   literal_cases_of : (l : Literal) → Contains clause l → (asserts.asserting ≡ l) ⊎ Contains asserts.others l
   literal_cases_of l h = first_or_later asserts.asserting asserts.others l (subst (λ c. Contains c l) asserts.is h)
 
-  pub variables_inside : HasVariablesUpTo a.variables clause
+  variables_inside : HasVariablesUpTo a.variables clause
   variables_inside =
       subst (λ c. All (λ (l : Literal). (0 < l.variable) × (l.variable ≤ a.variables)) c) (sym asserts.is)
       (All-cons (λ (l : Literal). (0 < l.variable) × (l.variable ≤ a.variables)) asserts.asserting asserts.others
@@ -49,7 +49,7 @@ module _ (a : Assignment) (trail : IsTrail a) (clause : Clause) (back : ℕ) (as
       (All-weaker (IsLower a back) (λ (l : Literal). (0 < l.variable) × (l.variable ≤ a.variables)) (λ l h. false_variable a trail l h.level h.false_of) asserts.others asserts.lower))
 
   -- at each level below the back-jump level two of its literals are undetermined
-  pub learned_quiet : (level : ℕ) → level < back → IsQuiet (up_to a.literals level) clause
+  learned_quiet : (level : ℕ) → level < back → IsQuiet (up_to a.literals level) clause
   learned_quiet level h =
       let other = asserts.highest (omega arith) in
       inr (record {
@@ -61,6 +61,13 @@ module _ (a : Assignment) (trail : IsTrail a) (clause : Clause) (back : ℕ) (as
         first_undetermined = undetermined_above a trail asserts.asserting a.level level asserts.first (omega (arith, asserts.below));
         second_undetermined = undetermined_above a trail other.0 back level other.2 h;
       })
+
+  pub quiet_below : HasNoVariableTwice clause → IsQuietBelow a back clause
+  quiet_below once = record {
+    proper = record { inside = variables_inside; once = once };
+    below = omega (arith, asserts.below);
+    quiet = learned_quiet;
+  }
 
   -- the clause is fresh: the literals below the present level hold the opposites of the others
   pub learned_fresh : (clauses : List Clause) → AreQuietBelow a clauses → IsFresh clauses clause asserts.asserting
@@ -82,10 +89,10 @@ module _ (a : Assignment) (trail : IsTrail a) (clause : Clause) (back : ℕ) (as
       }
 
 -- the trail is ready again once the clause is in the pool and attached
-pub ready_learned : (old cut new : TrailState) (clauses more : List Clause) (clause : Clause) (back number : ℕ) → IsSolverReady old clauses → IsAsserting old.assignment back clause
+pub ready_learned : (old cut new : TrailState) (clauses more : List Clause) (clause : Clause) (back number : ℕ) → IsSolverReady old clauses → IsQuietBelow old.assignment back clause
     → more ≡ clauses ++ clause ∷ [] → number ≡ length more → CutsAbove old.assignment cut.assignment back → attached_numbers cut ≡ attached_numbers old
     → Attaches (attached_numbers cut) (attached_numbers new) number → new.assignment ≡ cut.assignment → Fits new more → IsTrail new.assignment → IsSolverReady new more
-ready_learned old cut new clauses more clause back number ready asserts added count cuts kept attached same fits trail = record {
+ready_learned old cut new clauses more clause back number ready below added count cuts kept attached same fits trail = record {
   fits = fits;
   is_trail = trail;
   attached = λ n from below. elim (cases_lt (length clauses) n) [
@@ -102,5 +109,5 @@ ready_learned old cut new clauses more clause back number ready asserts added co
     both level h =
         let less : level < back = omega (arith, h, cuts.present) in
         All-push (IsQuiet (up_to cut.assignment.literals level)) clauses clause
-        (quiet_cut old.assignment cut.assignment clauses back (omega (arith, asserts.below)) cuts ready.quiet level h)
-        (subst (λ ls. IsQuiet ls clause) (cut_up_to old.assignment cut.assignment back level cuts (omega arith)) (learned_quiet old.assignment ready.is_trail clause back asserts level less))
+        (quiet_cut old.assignment cut.assignment clauses back below.below cuts ready.quiet level h)
+        (subst (λ ls. IsQuiet ls clause) (cut_up_to old.assignment cut.assignment back level cuts (omega arith)) (below.quiet level less))

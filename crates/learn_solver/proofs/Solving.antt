@@ -14,7 +14,7 @@ use Rattle.pair_miter.specs.Log.{EndsFresh}
 use Rattle.pair_miter.specs.Fresh.{IsFresh}
 use Rattle.pair_miter.specs.Resolution.{SameLiterals, AreAlike, chain_end, log_ends}
 use Rattle.solver_trail.specs.Assignment.{Assignment}
-use Rattle.learn_solver.specs.Learned.{IsLearned}
+use Rattle.learn_solver.specs.Learned.{EndsIn, IsLearned}
 use Rattle.learn_solver.specs.Learning.{IsLearning}
 use Rattle.learn_solver.specs.Logs.{without_literal}
 use Rattle.learn_solver.specs.Solved.{HasRefutation, HasSpentLog}
@@ -50,6 +50,9 @@ named_end : (clauses : List Clause) (chain : ChainView) (at : Option Literal) �
 unfolding chain_end
 named_end clauses chain at = refl
 
+pub ends_named : (clauses : List Clause) (chain : ChainView) (at : Literal) (clause : Clause) → EndsIn clauses chain clause → EndsIn clauses (named_at chain at) clause
+ends_named clauses chain at clause e = record { end = e.end; ends = named_end clauses chain (Some at) ∙ e.ends; same = e.same }
+
 -- a log has the same ends without literals
 bare_ends : (clauses : List Clause) (chains : List ChainView) → log_ends clauses (map without_literal chains) ≡ log_ends clauses chains
 bare_ends clauses [] = refl
@@ -58,41 +61,41 @@ bare_ends clauses (chain ∷ chains) =
     ∙ (λ i. option_and_then (λ end. option_map (λ ends. end ∷ ends) (bare_ends (clauses ++ end ∷ []) chains i)) (chain_end clauses chain))
 
 module _ (clauses pool : List Clause) (chains : List ChainView) (h : IsLearning clauses pool chains)
-    (a : Assignment) (chain : ChainView) (clause : Clause) (back : ℕ) (learned : IsLearned a pool chain clause back) where
+    (chain : ChainView) (clause : Clause) (own : EndsIn pool chain clause) where
   -- the chain's end over the clauses and the ends
-  own_end : (end : Clause) × (chain_end (clauses ++ h.ends) chain ≡ Some end) × SameLiterals end learned.end
-  own_end = alike_some (chain_end (clauses ++ h.ends) chain) (chain_end pool chain) learned.end (chain_alike (clauses ++ h.ends) pool h.alike chain) learned.ends
+  own_end : (end : Clause) × (chain_end (clauses ++ h.ends) chain ≡ Some end) × SameLiterals end own.end
+  own_end = alike_some (chain_end (clauses ++ h.ends) chain) (chain_end pool chain) own.end (chain_alike (clauses ++ h.ends) pool h.alike chain) own.ends
 
   own_same : SameLiterals own_end.0 clause
-  own_same = same_trans own_end.0 learned.end clause own_end.2 learned.same
+  own_same = same_trans own_end.0 own.end clause own_end.2 own.same
 
   -- an empty clause ends a refutation
-  pub refutes : clause ≡ [] → (limit : ℕ) → length chains ≤ limit → HasRefutation clauses limit pool (map without_literal chains ++ chain ∷ [])
-  refutes empty limit few = record {
+  pub refutes : chain.fresh_at ≡ None → clause ≡ [] → (limit : ℕ) → length chains ≤ limit → HasRefutation clauses limit pool (map without_literal chains ++ chain ∷ [])
+  refutes bare empty limit few = record {
     refutation = record {
       ends = h.ends;
       are = log_more clauses (map without_literal chains) chain h.ends [] (bare_ends clauses chains ∙ h.are) (own_end.1 ∙ ap Some (empty_alike own_end.0 clause own_same empty));
       nonempty = h.nonempty;
       few = omega (arith, log_long clauses chains h.ends h.are, few);
     };
-    bare = All-push (λ (c : ChainView). c.fresh_at ≡ None) (map without_literal chains) chain (All-map (λ (c : ChainView). c.fresh_at ≡ None) without_literal chains (λ k d within. refl)) learned.bare;
+    bare = All-push (λ (c : ChainView). c.fresh_at ≡ None) (map without_literal chains) chain (All-map (λ (c : ChainView). c.fresh_at ≡ None) without_literal chains (λ k d within. refl)) bare;
     alike = h.alike;
   }
 
-  -- a clause that isn't empty is fresh at its asserting literal
-  pub learning_more : (at : Literal) → IsFresh pool clause at → IsLearning clauses (pool ++ clause ∷ []) (chains ++ named_at chain at ∷ [])
-  learning_more at fresh = record {
+  -- a fresh clause is learned
+  pub learning_more : EndsFresh pool chain clause → IsLearning clauses (pool ++ clause ∷ []) (chains ++ chain ∷ [])
+  learning_more fresh = record {
     ends = h.ends ++ own_end.0 ∷ [];
-    are = log_more clauses chains (named_at chain at) h.ends own_end.0 h.are (named_end (clauses ++ h.ends) chain (Some at) ∙ own_end.1);
+    are = log_more clauses chains chain h.ends own_end.0 h.are own_end.1;
     alike = subst (λ cs. AreAlike cs (pool ++ clause ∷ [])) (append_assoc clauses h.ends (own_end.0 ∷ [])) (alike_more (clauses ++ h.ends) pool own_end.0 clause h.alike own_same);
     nonempty = All-push (λ end. end ≢ []) h.ends own_end.0 h.nonempty not_empty;
     fresh = λ k c e c_is e_is. elim (pushed_cases h.ends own_end.0 k e e_is) [
-      | inl old ↦ elim (pushed_cases chains (named_at chain at) k c c_is) [
+      | inl old ↦ elim (pushed_cases chains chain k c c_is) [
         | inl there ↦
             subst (λ ends. EndsFresh (clauses ++ ends) c e) (sym (take-append-le k h.ends (own_end.0 ∷ []) (omega (arith, old.0)))) (h.fresh k c e there.1 old.1)
         | inr end ↦ absurd (omega (arith, end.0, old.0, log_long clauses chains h.ends h.are))
       ]
-      | inr new ↦ elim (pushed_cases chains (named_at chain at) k c c_is) [
+      | inr new ↦ elim (pushed_cases chains chain k c c_is) [
         | inl there ↦ absurd (omega (arith, there.0, new.0, log_long clauses chains h.ends h.are))
         | inr end ↦
             let front : take k (h.ends ++ own_end.0 ∷ []) ≡ h.ends = take-append-le k h.ends (own_end.0 ∷ []) (omega (arith, new.0)) ∙ take_all k h.ends (omega (arith, new.0)) in
@@ -102,10 +105,10 @@ module _ (clauses pool : List Clause) (chains : List ChainView) (h : IsLearning 
   }
     where
       not_empty : own_end.0 ≢ []
-      not_empty e = none_in at (subst (λ c. Contains c at) e ((own_same at).1 fresh.inside))
+      not_empty e = none_in fresh.at (subst (λ c. Contains c fresh.at) e ((own_same fresh.at).1 fresh.fresh.inside))
 
-      ends_fresh : EndsFresh (clauses ++ h.ends) (named_at chain at) own_end.0
-      ends_fresh = record { nonempty = not_empty; at = at; is_at = refl; fresh = fresh_alike (clauses ++ h.ends) pool h.alike own_end.0 clause at own_same fresh }
+      ends_fresh : EndsFresh (clauses ++ h.ends) chain own_end.0
+      ends_fresh = record { nonempty = not_empty; at = fresh.at; is_at = fresh.is_at; fresh = fresh_alike (clauses ++ h.ends) pool h.alike own_end.0 clause fresh.at own_same fresh.fresh }
 
 -- as many chains as the budget allows
 pub spends : (clauses pool : List Clause) (chains : List ChainView) (conflicts : ℕ) → IsLearning clauses pool chains → length chains ≡ conflicts → HasSpentLog clauses conflicts pool chains

@@ -202,9 +202,7 @@ module _ (a : Assignment) (trail : IsTrail a) (clauses : List Clause) (marks : L
   pub learned_end : IsLearned a clauses chain kept back
   learned_end = record {
     bare = w.bare;
-    end = w.end;
-    ends = w.ends;
-    same = λ l. (only_kept l, w.kept_inside l);
+    ends_in = record { end = w.end; ends = w.ends; same = λ l. (only_kept l, w.kept_inside l) };
     once = λ i j d less within.
         let b = w.order i j d less within in
         λ e. let same = same_place a trail b.first b.second b.first_at.within b.second_at.within (ap (λ (x : Literal). x.variable) b.first_at.is ∙ (e ∙ sym (ap (λ (x : Literal). x.variable) b.second_at.is))) in omega (arith, b.order, same);

@@ -2,11 +2,12 @@
 use Rattle.std.specs.Prelude.{◌≡◌, ℕ, ◌<◌, ◌≤◌, List, [], ◌∷◌, All, Contains, None, Some}
 use Rattle.clause_pool.specs.Literal.{Literal}
 use Rattle.clause_pool.specs.Clauses.{Clause}
-use Rattle.clause_pool.specs.Proper.{HasNoVariableTwice}
+use Rattle.clause_pool.specs.Partial.{IsQuiet}
+use Rattle.clause_pool.specs.Proper.{HasNoVariableTwice, IsProper}
 use Rattle.pair_miter.specs.ChainView.{ChainView}
 use Rattle.pair_miter.specs.Resolution.{SameLiterals, chain_end}
 use Rattle.solver_trail.specs.Assignment.{Assignment}
-use Rattle.learn_solver.specs.Places.{IsFalseOf}
+use Rattle.learn_solver.specs.Places.{IsFalseOf, up_to}
 
 -- The literal is false, by one of a level above 0 and up to this one.
 pub record IsLower (a : Assignment) (highest : ℕ) (l : Literal) : Type 0 where
@@ -25,12 +26,22 @@ pub record IsAsserting (a : Assignment) (back : ℕ) (clause : Clause) : Type 0 
   pub below : back < a.level
   pub highest : 0 < back → (l : Literal) × Contains others l × IsFalseOf a back l
 
--- The chain ends in the clause. It is empty at level 0, and asserting at any other one.
-pub record IsLearned (a : Assignment) (clauses : List Clause) (chain : ChainView) (clause : Clause) (back : ℕ) : Type 0 where
-  pub bare : chain.fresh_at ≡ None
+-- The chain ends in the literals of the clause.
+pub record EndsIn (clauses : List Clause) (chain : ChainView) (clause : Clause) : Type 0 where
   pub end : Clause
   pub ends : chain_end clauses chain ≡ Some end
   pub same : SameLiterals end clause
+
+-- The clause is proper, and at each level below the one that is gone back to, unit propagation has nothing to do at it.
+pub record IsQuietBelow (a : Assignment) (back : ℕ) (clause : Clause) : Type 0 where
+  pub proper : IsProper a.variables clause
+  pub below : back ≤ a.level
+  pub quiet : (level : ℕ) → level < back → IsQuiet (up_to a.literals level) clause
+
+-- The chain ends in the clause. It is empty at level 0, and asserting at any other one.
+pub record IsLearned (a : Assignment) (clauses : List Clause) (chain : ChainView) (clause : Clause) (back : ℕ) : Type 0 where
+  pub bare : chain.fresh_at ≡ None
+  pub ends_in : EndsIn clauses chain clause
   pub once : HasNoVariableTwice clause
   pub empty : a.level ≡ 0 → clause ≡ []
   pub asserting : 0 < a.level → IsAsserting a back clause

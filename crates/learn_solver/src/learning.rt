@@ -2,9 +2,8 @@
 
 ghost use Rattle.std.specs.Prelude.{◌≡◌, ◌+◌, ◌<◌, ◌^◌, ◌∷◌, ◌++◌, [], OnOk, length};
 ghost use Rattle.clause_pool.specs.Clauses.{BeginsWith};
-ghost use Rattle.clause_pool.specs.Proper.{HasNoVariableTwice};
 ghost use Rattle.learn_solver.specs.Ready.{IsSolverReady};
-ghost use Rattle.learn_solver.specs.Learned.{IsAsserting};
+ghost use Rattle.learn_solver.specs.Learned.{IsQuietBelow};
 
 use clause_pool::{Lit, Pool};
 use solver_trail::{Trail, longer_pool_fits};
@@ -18,8 +17,7 @@ pub(crate) fn learn(
     back: u32,
 ) -> Result<(), AllocError>
     requires ready { IsSolverReady trail.old pool.old.clauses }
-    requires asserting { IsAsserting trail.old.assignment back clause.now }
-    requires once { HasNoVariableTwice clause.now }
+    requires quiet { IsQuietBelow trail.old.assignment back clause.now }
     requires few { length pool.old.clauses + 1 < 2 ^ 32 }
     ensures added { OnOk result (pool.new.clauses ≡ pool.old.clauses ++ clause.now ∷ []) }
     ensures ready { OnOk result (IsSolverReady trail.new pool.new.clauses) }

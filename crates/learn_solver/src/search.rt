@@ -2,10 +2,11 @@
 
 ghost use Rattle.std.specs.Prelude.{[], ◌≡◌, ◌∷◌, ◌+◌, ◌++◌, ◌<◌, ◌^◌, All, IfOk, OnOk, length};
 ghost use Rattle.clause_pool.specs.Clauses.{BeginsWith};
-ghost use Rattle.clause_pool.specs.Proper.{HasNoVariableTwice, IsProper};
-ghost use Rattle.learn_solver.specs.Learned.{IsAsserting};
+ghost use Rattle.clause_pool.specs.Proper.{IsProper};
+ghost use Rattle.pair_miter.specs.Log.{EndsFresh};
+ghost use Rattle.learn_solver.specs.Learned.{EndsIn, IsQuietBelow};
 ghost use Rattle.learn_solver.specs.Ready.{IsSolverReady, IsConflictClause};
-ghost use Rattle.learn_solver.specs.Search.{IsSearchReady, Learns};
+ghost use Rattle.learn_solver.specs.Search.{IsSearchReady, Learns, LearnsClause};
 
 use crate::analysis::{Learned, analyze};
 use crate::decider::Decider;
@@ -80,9 +81,31 @@ pub(crate) fn learn_from(
         return Ok(Some(chain));
     }
     chain.set_at(Some(clause[0]));
-    search.chains.push(chain)?;
-    take_in(alloc, search, pool, clause.as_slice(), back)?;
+    add(alloc, search, pool, chain, clause.as_slice(), back)?;
     Ok(None)
+}
+
+// Adds a clause to the pool and its chain to the log, and goes back to a level.
+fn add(
+    alloc: Global,
+    search: &mut Search,
+    pool: &mut Pool,
+    chain: Chain,
+    clause: &[Lit],
+    back: u32,
+) -> Result<(), AllocError>
+    requires prepared { IsSearchReady search.old pool.old.clauses }
+    requires ends { EndsIn pool.old.clauses chain clause.now }
+    // The clause is fresh at the literal that the chain names.
+    requires fresh { EndsFresh pool.old.clauses chain clause.now }
+    requires quiet { IsQuietBelow search.old.trail.assignment back clause.now }
+    requires few { length pool.old.clauses + 1 < 2 ^ 32 }
+    ensures learned { OnOk result (LearnsClause search.old pool.old.clauses search.new pool.new.clauses) }
+    ensures begins { BeginsWith pool.new.clauses pool.old.clauses }
+{
+    take_in(alloc, search, pool, clause, back)?;
+    search.chains.push(chain)?;
+    Ok(())
 }
 
 // Learns this clause, and decides the variables that its analysis met before all others.
@@ -94,8 +117,7 @@ fn take_in(
     back: u32,
 ) -> Result<(), AllocError>
     requires prepared { IsSearchReady search.old pool.old.clauses }
-    requires asserting { IsAsserting search.old.trail.assignment back clause.now }
-    requires once { HasNoVariableTwice clause.now }
+    requires quiet { IsQuietBelow search.old.trail.assignment back clause.now }
     requires few { length pool.old.clauses + 1 < 2 ^ 32 }
     ensures prepared { OnOk result (IsSearchReady search.new pool.new.clauses) }
     ensures added { OnOk result (pool.new.clauses ≡ pool.old.clauses ++ clause.now ∷ []) }

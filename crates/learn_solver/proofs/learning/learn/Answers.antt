@@ -5,7 +5,7 @@ use Rattle.clause_pool.specs.Clauses.{numbered_clause}
 use Rattle.clause_pool.specs.Proper.{IsProper}
 use Rattle.clause_pool.proofs.Numbered.{begins_appended, numbered_last, same_clause}
 use Rattle.solver_trail.specs.Trail.{Fits}
-use Rattle.learn_solver.proofs.LearnSteps.{ready_learned, variables_inside}
+use Rattle.learn_solver.proofs.LearnSteps.{ready_learned}
 use Rattle.learn_solver.proofs.learning.learn.Goals as goal
 
 pub attach-requires-clause-fits : goal.attach-requires-clause-fits
@@ -18,21 +18,19 @@ attach-requires-clause-fits c =
 pub attach-requires-clause-proper : goal.attach-requires-clause-proper
 attach-requires-clause-proper c = λ other is.
     let clauses = c.args.pool.now.clauses in
-    let old = c.args.trail.now.assignment in
     let clause = c.args.clause.now in
     let added = c.in_ok-number.ensures.clauses in
     let there = ap (λ cs. numbered_clause cs c.in_ok-number.number) added ∙ numbered_last clauses clause c.in_ok-number.number (c.in_ok-number.ensures.number ∙ ap length added) in
     let same = same_clause c.add.new.self.clauses c.in_ok-number.number clause other there is in
-    let inside = variables_inside old c.requires.ready.is_trail clause c.args.back c.requires.asserting in
     subst (IsProper c.back_to.new.self.assignment.variables) same
-    (subst (λ n. IsProper n clause) (sym c.back_to.ensures.assignment.variables) (record { inside = inside; once = c.requires.once }))
+    (subst (λ n. IsProper n clause) (sym c.back_to.ensures.assignment.variables) c.requires.quiet.proper)
 
 pub returns-clause-ready : goal.returns-clause-ready
 returns-clause-ready c =
     let old = c.args.trail.now in
     let a = c.attach.ensures in
     on_ok_weaker c.attach.result
-    (λ attached. ready_learned old c.back_to.new.self c.attach.new.self c.args.pool.now.clauses c.add.new.self.clauses c.args.clause.now c.args.back c.in_ok-number.number c.requires.ready c.requires.asserting
+    (λ attached. ready_learned old c.back_to.new.self c.attach.new.self c.args.pool.now.clauses c.add.new.self.clauses c.args.clause.now c.args.back c.in_ok-number.number c.requires.ready c.requires.quiet
     c.in_ok-number.ensures.clauses c.in_ok-number.ensures.number c.back_to.ensures.assignment c.back_to.ensures.attached attached a.assignment a.fits a.trail)
     a.attached
 
