@@ -14,7 +14,7 @@ use Rattle.pair_miter.specs.Log.{EndsFresh}
 use Rattle.pair_miter.specs.Fresh.{IsFresh}
 use Rattle.pair_miter.specs.Resolution.{SameLiterals, AreAlike, chain_end, log_ends}
 use Rattle.solver_trail.specs.Assignment.{Assignment}
-use Rattle.learn_solver.specs.Learned.{EndsIn, IsLearned}
+use Rattle.learn_solver.specs.Learned.{ChainEndsIn, IsLearned}
 use Rattle.learn_solver.specs.Learning.{IsLearning}
 use Rattle.learn_solver.specs.Logs.{without_literal}
 use Rattle.learn_solver.specs.Solved.{HasRefutation, HasSpentLog}
@@ -50,7 +50,7 @@ named_end : (clauses : List Clause) (chain : ChainView) (at : Option Literal) �
 unfolding chain_end
 named_end clauses chain at = refl
 
-pub ends_named : (clauses : List Clause) (chain : ChainView) (at : Literal) (clause : Clause) → EndsIn clauses chain clause → EndsIn clauses (named_at chain at) clause
+pub ends_named : (clauses : List Clause) (chain : ChainView) (at : Literal) (clause : Clause) → ChainEndsIn clauses chain clause → ChainEndsIn clauses (named_at chain at) clause
 ends_named clauses chain at clause e = record { end = e.end; ends = named_end clauses chain (Some at) ∙ e.ends; same = e.same }
 
 -- a log has the same ends without literals
@@ -61,7 +61,7 @@ bare_ends clauses (chain ∷ chains) =
     ∙ (λ i. option_and_then (λ end. option_map (λ ends. end ∷ ends) (bare_ends (clauses ++ end ∷ []) chains i)) (chain_end clauses chain))
 
 module _ (clauses pool : List Clause) (chains : List ChainView) (h : IsLearning clauses pool chains)
-    (chain : ChainView) (clause : Clause) (own : EndsIn pool chain clause) where
+    (chain : ChainView) (clause : Clause) (own : ChainEndsIn pool chain clause) where
   -- the chain's end over the clauses and the ends
   own_end : (end : Clause) × (chain_end (clauses ++ h.ends) chain ≡ Some end) × SameLiterals end own.end
   own_end = alike_some (chain_end (clauses ++ h.ends) chain) (chain_end pool chain) own.end (chain_alike (clauses ++ h.ends) pool h.alike chain) own.ends

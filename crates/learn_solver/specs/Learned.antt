@@ -27,7 +27,7 @@ pub record IsAsserting (a : Assignment) (back : ℕ) (clause : Clause) : Type 0 
   pub highest : 0 < back → (l : Literal) × Contains others l × IsFalseOf a back l
 
 -- The chain ends in the literals of the clause.
-pub record EndsIn (clauses : List Clause) (chain : ChainView) (clause : Clause) : Type 0 where
+pub record ChainEndsIn (clauses : List Clause) (chain : ChainView) (clause : Clause) : Type 0 where
   pub end : Clause
   pub ends : chain_end clauses chain ≡ Some end
   pub same : SameLiterals end clause
@@ -41,7 +41,7 @@ pub record IsQuietBelow (a : Assignment) (back : ℕ) (clause : Clause) : Type 0
 -- The chain ends in the clause. It is empty at level 0, and asserting at any other one.
 pub record IsLearned (a : Assignment) (clauses : List Clause) (chain : ChainView) (clause : Clause) (back : ℕ) : Type 0 where
   pub bare : chain.fresh_at ≡ None
-  pub ends_in : EndsIn clauses chain clause
+  pub ends_in : ChainEndsIn clauses chain clause
   pub once : HasNoVariableTwice clause
   pub empty : a.level ≡ 0 → clause ≡ []
   pub asserting : 0 < a.level → IsAsserting a back clause

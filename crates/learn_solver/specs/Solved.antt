@@ -24,7 +24,7 @@ pub record HasSpentLog (clauses : List Clause) (conflicts : ℕ) (pool : List Cl
   pub alike : AreAlike (clauses ++ spent.ends) pool
 
 -- The vector separates the faults, and the clauses in the pool behind the miter's are the fresh ends of a log within the budget.
-pub record HasVector (c : Circuit) (f g : Fault) (conflicts : ℕ) (pool : List Clause) (v : List Bool) : Type 0 where
+pub record HasSeparatingVector (c : Circuit) (f g : Fault) (conflicts : ℕ) (pool : List Clause) (v : List Bool) : Type 0 where
   pub separates : Separates c v f g
   -- the chains of what was learned before the vector was found
   pub log : List ChainView
@@ -34,6 +34,6 @@ pub record HasVector (c : Circuit) (f g : Fault) (conflicts : ℕ) (pool : List 
 
 -- what the solver answers for a pair of faults and a budget, with the clauses that the pool then has
 abbrev pub IsSolved : Circuit → Fault → Fault → ℕ → List Clause → Solved → Type 0
-IsSolved c f g conflicts pool (Vector v) = HasVector c f g conflicts pool v
+IsSolved c f g conflicts pool (Vector v) = HasSeparatingVector c f g conflicts pool v
 IsSolved c f g conflicts pool (Refuted log) = HasRefutation (miter c f g) conflicts pool log
 IsSolved c f g conflicts pool (Spent log) = HasSpentLog (miter c f g) conflicts pool log

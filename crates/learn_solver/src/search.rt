@@ -4,7 +4,7 @@ ghost use Rattle.std.specs.Prelude.{[], ◌≡◌, ◌∷◌, ◌+◌, ◌++◌,
 ghost use Rattle.clause_pool.specs.Clauses.{BeginsWith};
 ghost use Rattle.clause_pool.specs.Proper.{IsProper};
 ghost use Rattle.pair_miter.specs.Log.{EndsFresh};
-ghost use Rattle.learn_solver.specs.Learned.{EndsIn, IsQuietBelow};
+ghost use Rattle.learn_solver.specs.Learned.{ChainEndsIn, IsQuietBelow};
 ghost use Rattle.learn_solver.specs.Ready.{IsSolverReady, IsConflictClause};
 ghost use Rattle.learn_solver.specs.Search.{IsSearchReady, Learns, LearnsClause};
 
@@ -95,7 +95,7 @@ fn add(
     back: u32,
 ) -> Result<(), AllocError>
     requires prepared { IsSearchReady search.old pool.old.clauses }
-    requires ends { EndsIn pool.old.clauses chain clause.now }
+    requires ends { ChainEndsIn pool.old.clauses chain clause.now }
     // The clause is fresh at the literal that the chain names.
     requires fresh { EndsFresh pool.old.clauses chain clause.now }
     requires quiet { IsQuietBelow search.old.trail.assignment back clause.now }
