@@ -1,5 +1,5 @@
 -- The pieces into which a row of answers cuts the classes of a table.
-use Rattle.std.proofs.Common.{◌≡◌, ◌≢◌, ◌∙◌, ℕ, ◌+◌, ◌<◌, ◌≤◌, Bool, true, false, not, eqb, ◌⊎◌, List, length, get_or, refl, sym, ap, arith, inl, inr, Option, None, filter, MatchOption, All, Contains}
+use Rattle.std.proofs.Common.{◌≡◌, ◌≢◌, ◌∙◌, ℕ, ◌+◌, ◌<◌, ◌≤◌, Bool, true, false, not, eqb, ◌⊎◌, List, length, get_or, refl, sym, ap, arith, inl, inr, Option, None, filter, MatchOption, All, AllPairs, Contains}
 use Rattle.std.specs.Bool.{Decides}
 use Rattle.std.specs.Cmp.{booleans_Decides}
 use Rattle.std.specs.List.{range_with_len}
@@ -11,7 +11,8 @@ use Rattle.std.proofs.lemmas.List.Kept.{AllPairs-filter}
 use Rattle.std.proofs.lemmas.Slice.Eq.{slice_eq-Decides}
 use Rattle.net_model.specs.ClassTable.{ClassTable, same_bits, number_range, class_count, class_at, members, representative, answer_at, stay_together, piece_lowest, begins_class, new_lowest, class_after}
 use Rattle.net_model.proofs.Elements.{true_false, Contains-filter, Contains-flat_map}
-use Rattle.class_refine.proofs.Ranges.{IsLowest, found_lowest, lowest_once, range_below, range-contains, Ascends, range_ascends, AreDistinct, distinct_from_ascending, same_place, from_parts, parts-distinct, position_cases}
+use Rattle.class_refine.specs.Laws.{ComesBefore}
+use Rattle.class_refine.proofs.Ranges.{IsLowest, found_lowest, lowest_once, range_below, range-contains, Ascends, range_ascends, AreDistinct, same_place, from_parts, parts-pairs, position_cases}
 
 -- each number has a class that is counted, and each class but class 0 was cut from a lower one by one of the patterns
 pub record IsSound (t : ClassTable) : Type 0 where
@@ -128,11 +129,19 @@ module _ (t : ClassTable) where
         let w = from_parts part (range_with_len 0 (class_count t)) n (Contains-get_or (new_lowest t row) k d h) in
         (All-contains (λ n. Begins n × (class_at t n ≡ w.0)) (part w.0) n (part-All w.0) w.2).0
 
-    pub new_lowest_distinct : AreDistinct (new_lowest t row)
+    pub new_lowest_ordered : AllPairs (ComesBefore t) (new_lowest t row)
     unfolding new_lowest
-    new_lowest_distinct =
-        parts-distinct part (class_at t) (range_with_len 0 (class_count t)) (λ class. distinct_from_ascending (part class) (AllPairs-filter (λ x y. x < y) (begins_class t row) (members t class) (members_ascend class)))
-        (λ class k d h. (part-All class k d h).1) (distinct_from_ascending (range_with_len 0 (class_count t)) (range_ascends (class_count t)))
+    new_lowest_ordered =
+        parts-pairs (ComesBefore t) (λ b c. b < c) part (range_with_len 0 (class_count t))
+        (λ class i j d l h. inr (
+          (part-All class i d (omega (arith, l, h))).1 ∙ sym (part-All class j d h).1,
+          AllPairs-filter (λ x y. x < y) (begins_class t row) (members t class) (members_ascend class) i j d l h,
+        ))
+        (λ b c x y l in_x in_y. let class_of : (d z : ℕ) → Contains (part d) z → class_at t z ≡ d = λ d z m. (All-contains (λ n. Begins n × (class_at t n ≡ d)) (part d) z (part-All d) m).1 in inl (omega (arith, l, class_of b x in_x, class_of c y in_y)))
+        (range_ascends (class_count t))
+
+    pub new_lowest_distinct : AreDistinct (new_lowest t row)
+    new_lowest_distinct = λ i j d l h e. elim (new_lowest_ordered i j d l h) [ inl class ↦ let same = ap (class_at t) e in omega (arith, class, same) | inr (class, less) ↦ omega (arith, less, e) ]
 
     new_lowest-contains : (n : ℕ) → class_at t n < class_count t → Begins n → Contains (new_lowest t row) n
     unfolding new_lowest

@@ -30,7 +30,7 @@ module _ (t : ClassTable) (row : List (List Bool)) where
   unfolding refined_table
   class-refined n h = get_or-map-range_with_len (class_after t row) 0 (length t.class_of) n n 0 h (omega arith)
 
-  patterns-refined : (refined_table t row).patterns ≡ t.patterns + 1
+  pub patterns-refined : (refined_table t row).patterns ≡ t.patterns + 1
   unfolding refined_table
   patterns-refined = refl
 
