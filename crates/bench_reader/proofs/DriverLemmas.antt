@@ -1,5 +1,5 @@
 -- What the drivers of a text's names say of the text.
-use Rattle.std.proofs.Common.{◌≡◌, ◌∙◌, ℕ, ◌<◌, ◌≤◌, List, [], ◌∷◌, length, refl, sym, ap}
+use Rattle.std.proofs.Common.{◌≡◌, ◌∙◌, ℕ, ◌<◌, ◌≤◌, List, [], ◌∷◌, length, refl, sym, ap, arith}
 use Rattle.std.specs.Prelude.{map, filter_map, flat_map, sum_by, All, IsTrue, Option, None, Some, option_map}
 use Rattle.std.proofs.lemmas.List.{length-map}
 use Rattle.std.proofs.lemmas.List.Elements.{All-nil, All-cons, All-head, All-tail, All-map}
@@ -19,6 +19,7 @@ use Rattle.bench_reader.specs.Parsed.{IsParsed}
 use Rattle.bench_reader.specs.Drivers.{driven_word, used_words, second_driver, missing_driver, fault_by, driver_fault, AreNumbered}
 use Rattle.bench_reader.proofs.AllLemmas.{All-parts, All-from_contained}
 use Rattle.bench_reader.proofs.NumberLemmas.{drivers_once, drivers_named, uses_driven}
+use Rattle.bench_reader.proofs.SizeLemmas.{few_names, small_statements}
 use Rattle.bench_reader.proofs.PhraseLemmas.{word, number_is, words_driven, words_used, right_pins, driven_known, used_known, second_is, missing_is}
 
 -- ---- nothing stands against the drivers
@@ -112,6 +113,10 @@ module _ (text : Text) (n : Netlist) (p : IsParsed text n) where
         small = small;
       }
 
+  -- names that are each driven once, and all those that are used
+  pub none_at_fault : driven_twice p.phrases ≡ None → undriven p.phrases ≡ None → driver_fault n.statements ≡ None
+  none_at_fault once driven = λ i. fault_by ((second ∙ ap (option_map as_word) once) i) ((missing ∙ ap (option_map as_word) driven) i)
+
   -- ---- refused
 
   refused_by : (twice other : Option Named) → driven_twice p.phrases ≡ twice → undriven p.phrases ≡ other → (kind : NetKind) (place : Place) → fault_by (option_map as_word twice) (option_map as_word other) ≡ Some (kind, place)
@@ -129,3 +134,9 @@ module _ (text : Text) (n : Netlist) (p : IsParsed text n) where
   refused kind place is =
       refused_by (driven_twice p.phrases) (undriven p.phrases) refl refl kind place
       (sym (ap (λ o. fault_by o (missing_driver n.statements)) second ∙ ap (fault_by (option_map as_word (driven_twice p.phrases))) missing) ∙ is)
+
+-- the statements of a netlist that is read drive and use their names
+pub netlist_driven : (text : Text) (n : Netlist) → IsNetlist text n → IsDriven n
+netlist_driven text n is =
+    let p : IsParsed text n = record { phrases = is.phrases; is_text = is.is_text; netlist_is = is.netlist_is } in
+    all_driven text n p (none_at_fault text n p is.once is.all_driven) (omega (arith, few_names text n p, p.is_text.short)) (omega (arith, small_statements text n p, p.is_text.short))

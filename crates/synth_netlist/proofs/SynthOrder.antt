@@ -16,8 +16,8 @@ use Rattle.bench_reader.specs.Spelled.{Written, written_input, written_output, w
 use Rattle.scan_cut.specs.Cut.{input_of, flop_output, source_names}
 use Rattle.scan_cut.specs.Laws.{ReadsKnown, AreOrdered}
 use Rattle.scan_cut.proofs.FitLemmas.{each_word}
-use Rattle.synth_netlist.specs.Synth.{signal}
-use Rattle.synth_netlist.proofs.SynthStatements.{first_carry, all_statements, statements_of_cell, cells, synth_statements}
+use Rattle.synth_netlist.specs.Synth.{signal, statements_of_cell, synth_statements}
+use Rattle.synth_netlist.proofs.SynthStatements.{first_carry, all_statements, cells}
 
 -- ---- written statements, and those that they read as
 

@@ -17,7 +17,7 @@ use Rattle.net_model.proofs.Orders.{Contains-range}
 use Rattle.bench_reader.specs.Tokens.{is_name_byte}
 use Rattle.bench_reader.specs.Grammar.{gate_driver, driver_of, takes}
 use Rattle.bench_reader.specs.Spelled.{Written, written_input, written_output, written_gate, written_driven, written_used, HasRightWord, AreRightTogether, IsRun, HasRuns, written_line}
-use Rattle.synth_netlist.specs.Synth.{signal, input_line, output_line, gate_line, output_from, cell_words, gate_word, ports_text, p_gate, q_gate, s_gate, c_gate, numbered_cell, synth_text}
+use Rattle.synth_netlist.specs.Synth.{signal, input_line, output_line, gate_line, output_from, cell_words, gate_word, ports_text, p_gate, q_gate, s_gate, c_gate, numbered_cell, synth_text, statements_of_cell, synth_statements}
 
 -- ---- names: the carry into the first cell, then six of each cell
 
@@ -73,22 +73,8 @@ module _ (cell : ℕ) where
 
 -- ---- statements
 
-abbrev pub cell_statements : ℕ → ℕ → List Written
-cell_statements output cell =
-    written_input (signal (codes "x") cell) ∷ written_input (signal (codes "y") cell) ∷ written_output (signal (codes "s") cell)
-    ∷ written_gate (signal (codes "p") cell) (gate_word output 0) (signal (codes "x") cell ∷ signal (codes "y") cell ∷ [])
-    ∷ written_gate (signal (codes "q") cell) (gate_word output 1) (signal (codes "x") cell ∷ signal (codes "c") cell ∷ [])
-    ∷ written_gate (signal (codes "s") cell) (gate_word output 2) (signal (codes "p") cell ∷ signal (codes "q") cell ∷ [])
-    ∷ written_gate (signal (codes "c") (cell + 1)) (gate_word output 3) (signal (codes "p") cell ∷ signal (codes "c") cell ∷ []) ∷ []
-
-abbrev pub statements_of_cell : ℕ → ℕ → List Written
-statements_of_cell n cell = cell_statements (output_from n cell) cell
-
 abbrev pub cells : ℕ → List ℕ → List Written
 cells n numbers = flat_map (statements_of_cell n) numbers
-
-abbrev pub synth_statements : ℕ → List Written
-synth_statements n = written_input (codes "c0") ∷ (cells n (range_with_len 0 n) ++ written_output (signal (codes "c") n) ∷ [])
 
 -- ---- the text is theirs
 

@@ -3,7 +3,7 @@
 use Rattle.std.specs.Prelude.{ℕ, zero, suc, ◌+◌, ◌*◌, ◌/◌, ◌%◌, ◌^◌, List, [], ◌∷◌, ◌++◌, codes, decimal, flat_map, slice_index_or}
 use Rattle.std.specs.List.{range_with_len}
 use Rattle.rand_xoshiro.specs.SplitMix64.{next_state, mix_u64}
-use Rattle.bench_reader.specs.Spelled.{written_input, written_output, written_gate, written_line}
+use Rattle.bench_reader.specs.Spelled.{Written, written_input, written_output, written_gate, written_line}
 
 -- ---- statements, each with its LF
 
@@ -70,3 +70,21 @@ numbered_cell n cell = cell_text (output_from n cell) cell
 -- the carry into the first cell, so many cells, and the carry out of the last
 unfoldable pub synth_text : ℕ → List ℕ
 synth_text n = input_line (codes "c0") ++ (flat_map (numbered_cell n) (range_with_len 0 n) ++ output_line (signal (codes "c") n))
+
+-- ---- the statements of the text
+
+-- those of a cell with this output
+abbrev pub cell_statements : ℕ → ℕ → List Written
+cell_statements output cell =
+    written_input (signal (codes "x") cell) ∷ written_input (signal (codes "y") cell) ∷ written_output (signal (codes "s") cell)
+    ∷ written_gate (signal (codes "p") cell) (gate_word output 0) (signal (codes "x") cell ∷ signal (codes "y") cell ∷ [])
+    ∷ written_gate (signal (codes "q") cell) (gate_word output 1) (signal (codes "x") cell ∷ signal (codes "c") cell ∷ [])
+    ∷ written_gate (signal (codes "s") cell) (gate_word output 2) (signal (codes "p") cell ∷ signal (codes "q") cell ∷ [])
+    ∷ written_gate (signal (codes "c") (cell + 1)) (gate_word output 3) (signal (codes "p") cell ∷ signal (codes "c") cell ∷ []) ∷ []
+
+-- those of a cell of this number's chain
+abbrev pub statements_of_cell : ℕ → ℕ → List Written
+statements_of_cell n cell = cell_statements (output_from n cell) cell
+
+abbrev pub synth_statements : ℕ → List Written
+synth_statements n = written_input (codes "c0") ∷ (flat_map (statements_of_cell n) (range_with_len 0 n) ++ written_output (signal (codes "c") n) ∷ [])

@@ -2,10 +2,11 @@
 
 ghost use Rattle.std.specs.Prelude.{◌≡◌, ◌++◌, ◌<◌, ◌≤◌, IfOk, OnOk, flat_map, string_bytes};
 ghost use Rattle.std.specs.List.{range_with_len};
-ghost use Rattle.synth_netlist.specs.Laws.{NumbersNeverRefused};
+ghost use Rattle.synth_netlist.specs.Laws.{NumbersAccepted, NumbersNeverRefused};
 ghost use Rattle.synth_netlist.specs.Synth.{signal, gate_line, gate_word, ports_text, gates_text, cell_text, numbered_cell, synth_text};
 
 use bench_reader::{lines_spell, never_accepted_and_refused, one_netlist, spelled_is_accepted};
+use net_model::no_loop_is_circuit;
 use rand_core::SeedableRng;
 use rand_core::utils::NextWord;
 use rand_xoshiro::SplitMix64;
@@ -25,6 +26,17 @@ pub fn synth_text(alloc: Global, n: u32) -> Result<Vec<u8>, AllocError>
     let end = format!(in alloc; "OUTPUT(c{n})\n")?;
     text.extend_from_slice(end.as_bytes())?;
     Ok(text)
+}
+
+/// The netlist of a number is accepted: its text spells statements that are right together, and each gate reads what is
+/// known before it. So the cut of what it reads as is a circuit.
+pub fn each_number_is_accepted()
+    ensures { NumbersAccepted }
+{
+    spelled_is_accepted();
+    lines_spell();
+    ordered_has_no_loop();
+    no_loop_is_circuit();
 }
 
 /// The netlist of a number is never refused: its text spells statements that are right together, and each gate reads what

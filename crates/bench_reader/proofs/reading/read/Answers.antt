@@ -1,13 +1,11 @@
-use Rattle.std.proofs.Common.{◌≡◌, ◌≤◌, length, None, sym, subst, arith}
-use Rattle.std.specs.Prelude.{sum_by}
+use Rattle.std.proofs.Common.{◌≡◌, None, sym, subst}
 use Rattle.std.proofs.lemmas.Result.{err_from_is_err_and}
 use Rattle.bench_reader.specs.Netlist.{Netlist}
 use Rattle.bench_reader.specs.Names.{texts_of_names}
 use Rattle.bench_reader.specs.Reading.{IsNetlist}
-use Rattle.bench_reader.specs.Driven.{IsDriven, statement_size}
+use Rattle.bench_reader.specs.Driven.{IsDriven}
 use Rattle.bench_reader.specs.Drivers.{driver_fault}
-use Rattle.bench_reader.proofs.SizeLemmas.{few_names, small_statements}
-use Rattle.bench_reader.proofs.DriverLemmas.{numbered, accepted, all_driven}
+use Rattle.bench_reader.proofs.DriverLemmas.{numbered, accepted, netlist_driven}
 use Rattle.bench_reader.proofs.reading.read.Goals as goal
 
 pub judge-requires : goal.judge-requires
@@ -17,11 +15,8 @@ pub invariant_of-result : goal.invariant_of-result
 invariant_of-result c =
     let text = c.args.bytes.now in
     let n = c.in_ok-parsed.parsed in
-    let p = c.in_ok-parsed.ensures.ok in
     let none : driver_fault n.statements ≡ None = c.in_ok-judge.ensures.ok in
-    let few : length n.names ≤ 16777216 = omega (arith, few_names text n p, p.is_text.short) in
-    let small : sum_by statement_size n.statements ≤ 16777216 = omega (arith, small_statements text n p, p.is_text.short) in
-    let driven : IsDriven n = all_driven text n p none few small in
+    let driven : IsDriven n = netlist_driven text n (accepted text n c.in_ok-parsed.ensures.ok none) in
     let e : ◌≡◌ {A = Netlist} (record { statements = c.parsed.inside.statements.items; names = texts_of_names c.parsed.inside.names.items }) n = c.parsed.view_is in
     subst (λ (m : Netlist). IsDriven m) (sym e) driven
 
