@@ -1,8 +1,8 @@
 -- The vectors of a block, judged one after another.
-use Rattle.std.proofs.Common.{◌≡◌, ℕ, ◌+◌, ◌<◌, Bool, true, false, List, [], ◌∷◌, ◌++◌, length, length-append, get_or, take, drop, Some, sym, ap, subst, ◌∙◌, arith, IsTrue}
+use Rattle.std.proofs.Common.{◌≡◌, ℕ, ◌+◌, ◌<◌, Bool, true, false, List, [], ◌∷◌, ◌++◌, length, length-append, get_or, take, Some, sym, ap, subst, ◌∙◌, arith, IsTrue}
 use Rattle.std.specs.Prelude.{All, if◌then◌else◌}
 use Rattle.std.proofs.lemmas.Bool.{false≢true}
-use Rattle.std.proofs.lemmas.List.{append-nil, append_assoc, take-take, take-append-drop, take_more, get_or-take, get_or-append-add, length-take-le}
+use Rattle.std.proofs.lemmas.List.{append-nil, append_assoc, take-take, take_more, get_or-take, get_or-append-add, length-take-le}
 use Rattle.std.proofs.lemmas.List.Elements.{All-take}
 use Rattle.std.proofs.Math.Seq.{take-append-add}
 use Rattle.net_model.specs.Circuit.{Circuit}
@@ -76,9 +76,9 @@ judged_more {old} {mid} {new} good all run splits lane ran inside before one off
     }
 
 module _ {c : Circuit} {vectors : List (List Bool)} {run : Bool} {count : ℕ} {old new : KeptSoFar} (judged : HasJudged c vectors run count old new) where
-  -- those that were judged are a beginning
-  pub first_judged : KeepsFirst c vectors old new
-  first_judged = record { first = take count vectors; rest = drop count vectors; parts = sym (take-append-drop count vectors); kept = judged.keeps }
+  -- those that were judged are the first, where they are not all
+  pub first_judged : count < length vectors → KeepsFirst c vectors old new
+  first_judged short = record { count = count; short = short; keeps = judged.keeps }
 
   module _ (is : IsKeeper (keeper_with c old)) (widths : All (λ v. length v ≡ c.sources) vectors) where
     pub keeper_judged : IsKeeper (keeper_with c new)

@@ -3,12 +3,12 @@ use Rattle.std.proofs.Common.{◌≡◌, ℕ, zero, suc, ◌+◌, ◌<◌, ◌�
 use Rattle.std.specs.Prelude.{All, unwrap_or, Result, Ok, Err, OnOk, OnErr}
 use Rattle.std.specs.List.{AllZip, zip, fold, range_with_len}
 use Rattle.std.proofs.lemmas.Bool.{cases_lt}
-use Rattle.std.proofs.lemmas.List.{append_assoc, take_more, length-replicate, get_or-replicate, take-append-le, get_or_append_left}
+use Rattle.std.proofs.lemmas.List.{take_more, length-replicate, get_or-replicate, take-append-le, get_or_append_left}
 use Rattle.std.proofs.lemmas.List.FromFn.{length-range_with_len}
 use Rattle.std.proofs.lemmas.Slice.Zip.{AllZip-long}
-use Rattle.std.proofs.Math.Seq.{take-append_seam, get_or-append_seam}
+use Rattle.std.proofs.Math.Seq.{take-append_seam, take-append-add, get_or-append_seam}
 use Rattle.std.proofs.lemmas.List.Sums.{fold-append, length-filter, count_by-le-length}
-use Rattle.std.proofs.lemmas.List.Elements.{All-append, All-head, All-tail}
+use Rattle.std.proofs.lemmas.List.Elements.{All-append, All-head, All-tail, All-take}
 use Rattle.net_model.specs.Circuit.{Circuit, IsCircuit}
 use Rattle.net_model.specs.FaultList.{fault_count}
 use Rattle.net_model.specs.ClassTable.{ClassTable, first_table, refined_table, cuts_class, class_at, members, representative, SplitBy}
@@ -97,23 +97,18 @@ keeps_more {c} {xs} {ys} {old} {mid} {new} one two = record {
 }
 
 pub first_more : {c : Circuit} {xs ys : List (List Bool)} {old mid new : KeptSoFar} → Keeps c xs old mid → KeepsFirst c ys mid new → KeepsFirst c (xs ++ ys) old new
-first_more {c} {xs} one two = record {
-  first = xs ++ two.first;
-  rest = two.rest;
-  parts = ap (λ (vs : List (List Bool)). xs ++ vs) two.parts ∙ sym (append_assoc xs two.first two.rest);
-  kept = keeps_more one two.kept;
+first_more {c} {xs} {ys} {old} {mid} {new} one two = record {
+  count = length xs + two.count;
+  short = omega (arith, two.short, length-append xs ys);
+  keeps = subst (λ (vs : List (List Bool)). Keeps c vs old new) (sym (take-append-add xs ys two.count)) (keeps_more one two.keeps);
 }
 
 pub first_longer : {c : Circuit} {xs : List (List Bool)} {old new : KeptSoFar} (ys : List (List Bool)) → KeepsFirst c xs old new → KeepsFirst c (xs ++ ys) old new
-first_longer ys some = record {
-  first = some.first;
-  rest = some.rest ++ ys;
-  parts = ap (λ (vs : List (List Bool)). vs ++ ys) some.parts ∙ append_assoc some.first some.rest ys;
-  kept = some.kept;
+first_longer {c} {xs} {old} {new} ys some = record {
+  count = some.count;
+  short = omega (arith, some.short, length-append xs ys);
+  keeps = subst (λ (vs : List (List Bool)). Keeps c vs old new) (sym (take-append-le some.count xs ys (omega (arith, some.short)))) some.keeps;
 }
-
-pub first_none : (c : Circuit) (vectors : List (List Bool)) (k : KeptSoFar) → KeepsFirst c vectors k k
-first_none c vectors k = record { first = []; rest = vectors; parts = refl; kept = keeps_none c k }
 
 -- what holds of a keeper after a call, with and without an error
 pub either_way : {T E P Q R : Type 0} (r : Result T E) → OnOk r P → OnErr r Q → (P → R) → (Q → R) → R
@@ -211,8 +206,7 @@ keeper_after c vectors old new is widths keeps =
 
 -- and after a beginning of vectors
 pub keeper_first_after : (c : Circuit) (vectors : List (List Bool)) (old new : KeptSoFar) → IsKeeper (keeper_with c old) → All (λ v. length v ≡ c.sources) vectors → KeepsFirst c vectors old new → IsKeeper (keeper_with c new)
-keeper_first_after c vectors old new is widths some =
-    keeper_after c some.first old new is (λ k d below. rw (get_or_append_left some.first some.rest d k below) at (rw some.parts at widths k d (omega (arith, below, length-append some.first some.rest, ap length some.parts)))) some.kept
+keeper_first_after c vectors old new is widths some = keeper_after c (take some.count vectors) old new is (All-take (λ v. length v ≡ c.sources) some.count vectors widths) some.keeps
 
 whole_fold : (k : KeptSoFar) (pairs : List (List Bool × List (List Bool))) → IsWhole k.table → IsWhole (fold with_vector k pairs).table × IsFiner k.table (fold with_vector k pairs).table
 whole_fold k [] whole = (whole, record { numbers = refl; together = λ m n hm hn e. e })

@@ -32,12 +32,13 @@ pub record IsKept (c : Circuit) (blocks : ℕ) (kept : List (List Bool)) : Type 
 pub record Keeps (c : Circuit) (vectors : List (List Bool)) (old new : KeptSoFar) : Type 0 where
   pub by_rows : (rows : List (List (List Bool))) → AreAnswerRows c vectors rows → new ≡ fold with_vector old (zip vectors rows)
 
--- The same of a beginning of these vectors.
+-- The same of the first of these vectors, as if no others had come.
 pub record KeepsFirst (c : Circuit) (vectors : List (List Bool)) (old new : KeptSoFar) : Type 0 where
-  pub first : List (List Bool)
-  pub rest : List (List Bool)
-  pub parts : vectors ≡ first ++ rest
-  pub kept : Keeps c first old new
+  -- So many came.
+  pub count : ℕ
+  -- They are not all of them.
+  pub short : count < length vectors
+  pub keeps : Keeps c (take count vectors) old new
 
 -- So many of these vectors stand behind the old ones, and each of them splits a class of those before it.
 pub record KeepsRun (c : Circuit) (vectors : List (List Bool)) (count : ℕ) (old new : KeptSoFar) : Type 0 where

@@ -75,8 +75,8 @@ impl<'a> Keeper<'a> {
         })
     }
 
-    /// Keeps of the vectors of the first blocks of the stream those that split a class. After an error the first of them
-    /// have been looked at, as if no others had come.
+    /// Keeps of the vectors of the first blocks of the stream those that split a class. After an error some of the first
+    /// vectors, and not all, have been looked at, as if no others had come.
     pub fn keep_stream(&mut self, blocks: u32) -> Result<(), AllocError>
         ensures circuit { self.new.circuit ≡ self.old.circuit }
         ensures ok { OnOk result (Keeps self.old.circuit (stream self.old.circuit.sources blocks) self.old.kept self.new.kept) }
@@ -94,12 +94,12 @@ impl<'a> Keeper<'a> {
         Ok(())
     }
 
-    /// Keeps a vector if it splits a class.
+    /// Keeps a vector if it splits a class. After an error nothing has changed.
     pub fn keep(&mut self, v: &Vector) -> Result<(), AllocError>
         requires { length v.now ≡ self.old.circuit.sources }
         ensures circuit { self.new.circuit ≡ self.old.circuit }
         ensures ok { OnOk result (Keeps self.old.circuit (v.now ∷ []) self.old.kept self.new.kept) }
-        ensures err { OnErr result (KeepsFirst self.old.circuit (v.now ∷ []) self.old.kept self.new.kept) }
+        ensures err { OnErr result (self.new.kept ≡ self.old.kept) }
     {
         self.scan.block.clear();
         self.scan.block.push(v);
@@ -107,7 +107,8 @@ impl<'a> Keeper<'a> {
     }
 
     /// Keeps a vector of a cube if it splits a class: of the next block of the stream, with the bits of the cube in each
-    /// vector, the one at which most members of classes answer otherwise than their representatives.
+    /// vector, the one at which most members of classes answer otherwise than their representatives. After an error what is
+    /// kept has not changed.
     pub fn keep_of_cube(&mut self, cube: &[Option<bool>]) -> Result<(), AllocError>
         requires { length cube.now ≡ self.old.circuit.sources }
         ensures circuit { self.new.circuit ≡ self.old.circuit }
@@ -121,14 +122,14 @@ impl<'a> Keeper<'a> {
     }
 
     /// Keeps the vectors of a run, one after another, up to the first that splits no class. Answers how many are kept. After
-    /// an error the first of them are kept, as if no others had come.
+    /// an error the first of them are kept, and not all: as many as stand behind the old vectors.
     pub fn keep_run(&mut self, vectors: &[Vector]) -> Result<usize, AllocError>
         requires few { length vectors.now ≤ LANES }
         requires widths { All (λ v. length v ≡ self.old.circuit.sources) vectors.now }
         ensures circuit { self.new.circuit ≡ self.old.circuit }
         ensures ok { IfOk result (λ count. KeepsRun self.old.circuit vectors.now count self.old.kept self.new.kept) }
         ensures stops { IfOk result (λ count. count < length vectors.now → ¬ SplitsClass self.old.circuit self.new.kept.vectors (slice_index_or vectors.now count [])) }
-        ensures err { OnErr result ((count : ℕ) × KeepsRun self.old.circuit vectors.now count self.old.kept self.new.kept) }
+        ensures err { OnErr result ((count : ℕ) × (count < length vectors.now) × KeepsRun self.old.circuit vectors.now count self.old.kept self.new.kept) }
     {
         fill(&mut self.scan.block, vectors);
         let count = self.scan.judge(&mut self.kept, true)?;

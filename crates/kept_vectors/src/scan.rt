@@ -190,7 +190,7 @@ impl<'a> Scan<'a> {
         ensures circuit { self.new.good.circuit ≡ self.old.good.circuit }
         ensures ok { IfOk result (λ count. HasJudged self.old.good.circuit self.old.block.vectors run count (kept_now kept.old) (kept_now kept.new)) }
         ensures ended { IfOk result (λ count. IsScanEnd self.old.good.circuit self.old.block.vectors run count (kept_now kept.new)) }
-        ensures err { OnErr result ((count : ℕ) × HasJudged self.old.good.circuit self.old.block.vectors run count (kept_now kept.old) (kept_now kept.new)) }
+        ensures err { OnErr result ((count : ℕ) × (count < length self.old.block.vectors) × HasJudged self.old.good.circuit self.old.block.vectors run count (kept_now kept.old) (kept_now kept.new)) }
     {
         if self.block.live() == 0 {
             return Ok(0);
@@ -243,7 +243,7 @@ fn judge_lanes(
     ensures blank { IsRowBlank good.now.circuit row.new }
     ensures ok { IfOk result (λ count. HasJudged good.now.circuit block.now.vectors run count (kept_now kept.old) (kept_now kept.new)) }
     ensures ended { IfOk result (λ count. IsScanEnd good.now.circuit block.now.vectors run count (kept_now kept.new)) }
-    ensures err { OnErr result ((count : ℕ) × HasJudged good.now.circuit block.now.vectors run count (kept_now kept.old) (kept_now kept.new)) }
+    ensures err { OnErr result ((count : ℕ) × (count < length block.now.vectors) × HasJudged good.now.circuit block.now.vectors run count (kept_now kept.old) (kept_now kept.new)) }
 {
     let live = block.live();
     for lane in 0..live {

@@ -40,7 +40,7 @@ invariant_of-self c =
     let some = c.in_err-count.ensures.err in
     record {
       scan = c.judge.ensures.scan;
-      keeper = rw c.judge.ensures.circuit (keeper ((goal.at.invariant_of-self c).After-judge) some.0 some.1);
+      keeper = rw c.judge.ensures.circuit (keeper ((goal.at.invariant_of-self c).After-judge) some.0 some.2);
       stream = rw c.judge.ensures.circuit c.self.invariant.stream;
     }
 
@@ -55,7 +55,7 @@ pub returns-in_err-count-clause-err : goal.returns-in_err-count-clause-err
 returns-in_err-count-clause-err c =
     let p = err_from_is_err_and c.from_residual.result c.from_residual.ensures.1 in
     let some = c.in_err-count.ensures.err in
-    rw p.1 (some.0, run ((goal.at.returns-in_err-count-clause-err c).After-judge) some.0 some.1)
+    rw p.1 (some.0, rw (vectors_are ((goal.at.returns-in_err-count-clause-err c).After-judge)) at some.1, run ((goal.at.returns-in_err-count-clause-err c).After-judge) some.0 some.2)
 
 pub returns-clause-ok : goal.returns-clause-ok
 returns-clause-ok c = run ((goal.at.returns-clause-ok c).After-judge) c.in_ok-count.count c.in_ok-count.ensures.ok

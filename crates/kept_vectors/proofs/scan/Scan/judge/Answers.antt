@@ -1,3 +1,4 @@
+use Rattle.std.proofs.Common.{◌<◌, length, arith}
 use Rattle.std.proofs.lemmas.Result.{err_from_is_err_and}
 use Rattle.kept_vectors.specs.Scan.{kept_now}
 use Rattle.kept_vectors.proofs.JudgeLemmas.{judged_none}
@@ -23,4 +24,5 @@ returns-clause-err c = rw (c.note.ensures.circuit, c.note.ensures.block) at c.ju
 pub returns-in_err-splitting-clause-err : goal.returns-in_err-splitting-clause-err
 returns-in_err-splitting-clause-err c =
     let p = err_from_is_err_and c.from_residual.result c.from_residual.ensures.1 in
-    rw p.1 (0, judged_none c.args.self.now.good.circuit c.args.self.now.block.vectors c.args.run (kept_now c.args.kept.now))
+    let live : 0 < length c.args.self.now.block.vectors = omega (arith, c.live.ensures.value, c.if-live-eq0.false) in
+    rw p.1 (0, live, judged_none c.args.self.now.good.circuit c.args.self.now.block.vectors c.args.run (kept_now c.args.kept.now))

@@ -9,7 +9,8 @@ use Rattle.kept_vectors.proofs.scan.Scan.keep_block.Goals as goal
 pub returns-in_err-judge-clause-err : goal.returns-in_err-judge-clause-err
 returns-in_err-judge-clause-err c =
     let p = err_from_is_err_and c.from_residual.result c.from_residual.ensures.1 in
-    rw p.1 (first_judged c.in_err-judge.ensures.err.1)
+    let some = c.in_err-judge.ensures.err in
+    rw p.1 (first_judged some.2 some.1)
 
 pub returns-clause-ok : goal.returns-clause-ok
 returns-clause-ok c =
