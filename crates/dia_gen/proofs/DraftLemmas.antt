@@ -23,7 +23,7 @@ use Rattle.result_file.proofs.RightLines.{IsNextLine, right_next, right_head, ri
 use Rattle.kept_vectors.specs.Kept.{SplitInTurn}
 use Rattle.dia_gen.specs.Settled.{IsApartBy, IsProofFor}
 use Rattle.dia_gen.specs.Draft.{AreDraftLines}
-use Rattle.dia_gen.specs.Made.{head_lines, lines_with, SeparatesNext, HasNoSearch}
+use Rattle.dia_gen.specs.Made.{head_lines, lines_with, SeparatesNext, HasNoSearch, HasNoRefutation}
 
 -- ---- one element more
 
@@ -83,7 +83,7 @@ module _ (c : Circuit) (budgets : Budgets) (kept : List (List Bool)) where
     -- one line more
     pub draft_more : AreDraftLines c budgets kept later → (r : Record) → IsNextLine c (lines_with c budgets kept later) r → IsTrue (is_body_record r)
         → ((v : List Bool) → r ≡ Pattern v → SeparatesNext c (lines_with c budgets kept later) v × (budgets.cubes ≡ 0 → budgets.conflicts ≡ 0 → ⊥))
-        → ((e : Evidence) → r ≡ Same e → budgets.cubes ≡ 0 → HasNoSearch e.proof)
+        → ((e : Evidence) → r ≡ Same e → (budgets.cubes ≡ 0 → HasNoSearch e.proof) × (budgets.conflicts ≡ 0 → HasNoRefutation e.proof))
         → AreDraftLines c budgets kept (later ++ r ∷ [])
     draft_more so_far r next isbody pattern evidence = record {
       right = rw (lines_more r) (right_next so_far.right next);
@@ -94,7 +94,11 @@ module _ (c : Circuit) (budgets : Budgets) (kept : List (List Bool)) where
       ];
       no_search = λ at e none there. elim (last_cases later r (Same e) at there) [
         | inl old ↦ so_far.no_search at e none old
-        | inr last ↦ evidence e last.1 none
+        | inr last ↦ (evidence e last.1).0 none
+      ];
+      no_refutation = λ at e none there. elim (last_cases later r (Same e) at there) [
+        | inl old ↦ so_far.no_refutation at e none old
+        | inr last ↦ (evidence e last.1).1 none
       ];
       no_choice = λ at v none unlearned there. elim (last_cases later r (Pattern v) at there) [
         | inl old ↦ so_far.no_choice at v none unlearned old
@@ -121,7 +125,9 @@ module _ (c : Circuit) (budgets : Budgets) (kept : List (List Bool)) where
               place = (lines_two, no_class);
               content = record { next = record { member = rw lines_evidence next; partner = lead }; roots = right.roots; right = right.right };
             };
-          }) refl (λ v is. absurd (cc)) (λ x is none. let same : e ≡ x = same_evidence e x is in subst (λ (y : Evidence). HasNoSearch y.proof) same (right.no_search none))
+          }) refl (λ v is. absurd (cc)) (λ x is.
+          let same : e ≡ x = same_evidence e x is in
+          (λ none. subst (λ (y : Evidence). HasNoSearch y.proof) same (right.no_search none), λ none. subst (λ (y : Evidence). HasNoRefutation y.proof) same (right.no_refutation none)))
         where
           same_evidence : (e x : Evidence) → Same e ≡ Same x → e ≡ x
           same_evidence e x is = cc
@@ -138,7 +144,7 @@ module _ (c : Circuit) (budgets : Budgets) (kept : List (List Bool)) where
           let same : v ≡ w = same_pattern v w is in
           let separates : SeparatesNext c (lines_with c budgets kept later) v = record { t = t; table = lines_table; member = member; member_is = rw lines_evidence next; separates = apart.separates } in
           (subst (SeparatesNext c (lines_with c budgets kept later)) same separates, λ cubes conflicts. elim apart.budget [ inl some ↦ some cubes | inr some ↦ some conflicts ]))
-          (λ x is none. absurd (cc))
+          (λ x is. absurd (cc))
         where
           same_pattern : (v w : List Bool) → Pattern v ≡ Pattern w → v ≡ w
           same_pattern v w is = cc
@@ -152,5 +158,6 @@ module _ (c : Circuit) (budgets : Budgets) (kept : List (List Bool)) where
         body = λ k d below. absurd (omega arith);
         patterns = λ at v there. absurd (cc);
         no_search = λ at e none there. absurd (cc);
+        no_refutation = λ at e none there. absurd (cc);
         no_choice = λ at v none unlearned there. absurd (cc);
       }

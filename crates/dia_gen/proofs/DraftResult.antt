@@ -22,7 +22,7 @@ use Rattle.result_file.specs.declared.record.Record.{Record}
 use Rattle.result_file.specs.declared.record.Record.TheVariants.{Pattern, Same, Class, Member, End}
 use Rattle.result_file.specs.Spelling.{HasBirthSpelling}
 use Rattle.result_file.specs.Marks.{pattern_of, evidence_of, patterns_in, evidence_in, is_class, is_member, is_end, class_lines, member_lines}
-use Rattle.result_file.specs.Valid.{AreRightLines}
+use Rattle.result_file.specs.Valid.{AreRightLines, IsValid}
 use Rattle.result_file.specs.Summary.{is_equal, is_open, summary_of}
 use Rattle.result_file.specs.Meaning.{StatedResult, stated_records, class_records, member_records, is_body_record, IsTrueResult}
 use Rattle.result_file.proofs.RecordLists.{read_none, read_all, read_kept, count_kept, count_more}
@@ -30,11 +30,10 @@ use Rattle.result_file.proofs.RightLines.{IsBody, HasSmallClasses, AreMembers, r
 use Rattle.result_file.proofs.SoundLemmas.{first_by, later_by}
 use Rattle.result_file.proofs.Truth.{AreSound, IsSoundTable, lines_true}
 use Rattle.member_marks.specs.declared.marks.Given.{Given}
-use Rattle.kept_vectors.specs.Kept.{IsKept}
 use Rattle.member_marks.specs.Given.{given_mark, AreGiven, AreAllMarked}
 use Rattle.dia_gen.specs.Marked.{member_for}
 use Rattle.dia_gen.specs.Draft.{AreDraftLines}
-use Rattle.dia_gen.specs.Made.{head_lines, lines_with, MayState}
+use Rattle.dia_gen.specs.Made.{head_lines, lines_with}
 use Rattle.kept_vectors.proofs.KeepLemmas.{table_numbers, table_patterns}
 use Rattle.member_marks.proofs.MarkLemmas.{all_marked_none, lead_inside}
 use Rattle.dia_gen.proofs.DraftLemmas.{lines_patterns, lines_evidence, lines_two, lines_count}
@@ -58,7 +57,7 @@ some_mark None some = absurd (cc)
 some_mark (Some m) some = refl
 
 -- one end behind other records
-count_end : (p : Record → Bool) (rs : List Record) → p End ≡ false → count_by p (rs ++ End ∷ []) ≡ count_by p rs
+pub count_end : (p : Record → Bool) (rs : List Record) → p End ≡ false → count_by p (rs ++ End ∷ []) ≡ count_by p rs
 count_end p rs refused =
     let e : ◌≡◌ {A = ℕ} (cond (p End) 1 0) 0 = ap (λ (b : Bool). cond {A = ℕ} b 1 0) refused in
     omega (arith, sum_by-append (λ r. cond (p r) 1 0) rs (End ∷ []), e)
@@ -115,17 +114,8 @@ module _ (c : Circuit) (budgets : Budgets) (kept : List (List Bool)) (later : Li
     pub result_right : AreRightLines c (stated_records c stated)
     result_right = right_table body small (all_members (evidence_in (lines_with c budgets kept later)) (lines_evidence c budgets kept later))
 
-    pub result_made : IsKept c budgets.blocks kept → MayState c stated
-    result_made first = record {
-      valid = record { lines = result_right; before = lines_with c budgets kept later ++ classes ++ members; ended = refl };
-      kept = kept;
-      later = later;
-      body = refl;
-      kept_are = first;
-      patterns = lines.patterns;
-      no_search = lines.no_search;
-      no_choice = lines.no_choice;
-    }
+    pub result_valid : IsValid c (stated_records c stated)
+    result_valid = record { lines = result_right; before = lines_with c budgets kept later ++ classes ++ members; ended = refl }
 
     abbrev pub Widths : Type 0
     Widths = All (λ v. length v ≡ c.sources) (kept ++ patterns_in later)

@@ -22,7 +22,7 @@ use Rattle.dia_gen.specs.Made.{lines_with, IsMade}
 use Rattle.dia_gen.specs.Writing.{HasWritten, WritesText, BrokeOff}
 use Rattle.dia_gen.specs.Draft.{IsDraft}
 use Rattle.dia_gen.proofs.WritingLemmas.{written_then, written_ok, broken}
-use Rattle.dia_gen.proofs.DraftResult.{stated, result_right, result_made, result_true, result_summary}
+use Rattle.dia_gen.proofs.DraftResult.{stated, result_right, result_valid, result_true, result_summary}
 
 -- what the table and the counts of marks amount to
 abbrev pub summary_with : ClassTable → Marked → Summary
@@ -67,6 +67,14 @@ module _ {s : Setting} {d : Draft} {start now : State} (draft : IsDraft s d star
         budgets_are = refl;
         is_true = result_true s.circuit s.budgets draft.kept draft.later t d.marks draft.is.lines (rw draft.is.patterns at draft.is.keeper.table) draft.is.keeper.whole draft.is.few draft.is.marks all sound named (rw draft.is.patterns at draft.is.keeper.splits.widths);
       };
-      made = result_made s.circuit s.budgets draft.kept draft.later t d.marks draft.is.lines (rw draft.is.patterns at draft.is.keeper.table) draft.is.keeper.whole draft.is.few draft.is.marks all draft.is.first;
+      valid = result_valid s.circuit s.budgets draft.kept draft.later t d.marks draft.is.lines (rw draft.is.patterns at draft.is.keeper.table) draft.is.keeper.whole draft.is.few draft.is.marks all;
+      kept = draft.kept;
+      later = draft.later;
+      body = refl;
+      kept_are = draft.is.first;
+      patterns = draft.is.lines.patterns;
+      no_search = draft.is.lines.no_search;
+      no_refutation = draft.is.lines.no_refutation;
+      no_choice = draft.is.lines.no_choice;
       summary_is = rw (counted.equal, counted.spent) (result_summary s.circuit s.budgets draft.kept draft.later t d.marks draft.is.lines (rw draft.is.patterns at draft.is.keeper.table) draft.is.keeper.whole draft.is.few draft.is.marks all);
     }

@@ -58,7 +58,7 @@ module _ (c : Circuit) (is : IsCircuit c) (f g : Fault) (budgets : Budgets) (tok
   sources = let small = is.small in omega (arith, small)
 
   pub covered_by : IsSearched c f g budgets (found.Covered tokens) → IsProofBy c f g budgets (proof.Covered tokens)
-  covered_by s = record { roots = λ apart. apart; spelled = tree_spelling c f g sources tokens s.is_found.tree; right = s.is_found; no_search = λ none. absurd (let e = s.none none in cc) }
+  covered_by s = record { roots = λ apart. apart; spelled = tree_spelling c f g sources tokens s.is_found.tree; right = s.is_found; no_search = λ none. absurd (let e = s.none none in cc); no_refutation = λ none. tt }
 
   pub open_for : IsSearched c f g budgets (found.Spent tokens) → IsOpenFor c f g budgets tokens
   open_for s = record { spending = s.is_found; none = λ none. (let e = s.none none in cc) }
@@ -74,6 +74,7 @@ module _ (c : Circuit) (is : IsCircuit c) (f g : Fault) (budgets : Budgets) (tok
       spelled = (spelled_tree, All-nil IsFreshChain);
       right = (left.spending, record { ends = []; are = refl; full = sym none; fresh = λ at chain end there. absurd (cc) });
       no_search = left.none;
+      no_refutation = λ none. tt;
     }
 
     module _ (limits : AreWithinLimits budgets) (pool : List Clause) (log : List ChainView) where
@@ -83,8 +84,8 @@ module _ (c : Circuit) (is : IsCircuit c) (f g : Fault) (budgets : Budgets) (tok
       few : length (miter c f g) + (budgets.conflicts + 1) < 2 ^ 32
       few = omega (arith, few_clauses c f g is, limits.conflicts)
 
-      pub refuted_by : HasRefutation (miter c f g) budgets.conflicts pool log → IsProofBy c f g budgets (proof.Refuted tokens log)
-      refuted_by r =
+      pub refuted_by : budgets.conflicts ≢ 0 → HasRefutation (miter c f g) budgets.conflicts pool log → IsProofBy c f g budgets (proof.Refuted tokens log)
+      refuted_by some r =
           let long = log_long (miter c f g) log (r.refutation.ends ++ [] ∷ []) r.refutation.are in
           let count = length-append r.refutation.ends ([] ∷ []) in
           record {
@@ -101,6 +102,7 @@ module _ (c : Circuit) (is : IsCircuit c) (f g : Fault) (budgets : Budgets) (tok
             );
             right = (left.spending, r.refutation);
             no_search = left.none;
+            no_refutation = some;
           }
 
       pub spent_by : HasSpentLog (miter c f g) budgets.conflicts pool log → IsProofBy c f g budgets (proof.Spent tokens log)
@@ -116,6 +118,7 @@ module _ (c : Circuit) (is : IsCircuit c) (f g : Fault) (budgets : Budgets) (tok
         );
         right = (left.spending, r.spent);
         no_search = left.none;
+        no_refutation = λ none. tt;
       }
 
 module _ (c : Circuit) (f g : Fault) (budgets : Budgets) where
@@ -140,7 +143,7 @@ module _ (c : Circuit) (f g : Fault) (budgets : Budgets) where
   }
 
 pub proof_for : {c : Circuit} {budgets : Budgets} {m n : ℕ} {p : Proof} → root c (fault_numbered c m) ≢ root c (fault_numbered c n) → IsProofBy c (fault_numbered c m) (fault_numbered c n) budgets p → IsProofFor c budgets m n p
-proof_for apart is = record { roots = is.roots apart; spelled = is.spelled; right = is.right; no_search = is.no_search }
+proof_for apart is = record { roots = is.roots apart; spelled = is.spelled; right = is.right; no_search = is.no_search; no_refutation = is.no_refutation }
 
 -- what settles a pair whose roots differ
 pub settled_for : (c : Circuit) (budgets : Budgets) (m n : ℕ) → root c (fault_numbered c m) ≢ root c (fault_numbered c n) → (result : Result Settled AllocError) → IfOk result (IsSettledBy c (fault_numbered c m) (fault_numbered c n) budgets) → IfOk result (IsSettledFor c budgets m n)

@@ -24,7 +24,7 @@ made_closed {c} {budgets} sound made enough =
     let s = made.is_true.stated in
     let rest = s.body ++ class_records s.births ++ member_records s.members ++ End ∷ [] in
     ap (λ (x : Summary). x.spent) made.summary_is
-    ∙ none_open c s.budgets sound c.sources (length c.positions) (fault_count c) rest made.made.valid.lines (rw made.is_true.budgets_are enough)
+    ∙ none_open c s.budgets sound c.sources (length c.positions) (fault_count c) rest made.valid.lines (rw made.is_true.budgets_are enough)
 
 -- writing nothing changes nothing
 none_appended : (written : Option (List ℕ)) (files : Files) → files ≡ appended written files []

@@ -18,7 +18,7 @@ use Rattle.kept_vectors.specs.Keeper.{keeper_with, IsKeeper}
 use Rattle.dia_gen.specs.declared.draft.Draft.{Draft}
 use Rattle.dia_gen.specs.Setting.{Setting}
 use Rattle.member_marks.specs.Given.{AreGiven}
-use Rattle.dia_gen.specs.Made.{lines_with, SeparatesNext, HasNoSearch}
+use Rattle.dia_gen.specs.Made.{lines_with, SeparatesNext, HasNoSearch, HasNoRefutation}
 use Rattle.dia_gen.specs.Writing.{HasWritten}
 
 -- The lines are right, and come about in the generator's way.
@@ -27,6 +27,7 @@ pub record AreDraftLines (c : Circuit) (budgets : Budgets) (kept : List (List Bo
   pub body : All (λ r. IsTrue (is_body_record r)) later
   pub patterns : (at : ℕ) (v : List Bool) → slice_get later at ≡ Some (Pattern v) → SeparatesNext c (lines_with c budgets kept (take at later)) v
   pub no_search : (at : ℕ) (e : Evidence) → budgets.cubes ≡ 0 → slice_get later at ≡ Some (Same e) → HasNoSearch e.proof
+  pub no_refutation : (at : ℕ) (e : Evidence) → budgets.conflicts ≡ 0 → slice_get later at ≡ Some (Same e) → HasNoRefutation e.proof
   pub no_choice : (at : ℕ) (v : List Bool) → budgets.cubes ≡ 0 → budgets.conflicts ≡ 0 → slice_get later at ≡ Some (Pattern v) → ⊥
 
 -- What the lines are made from: these vectors of the stream are kept, and then the patterns of the later lines. The marks are those of

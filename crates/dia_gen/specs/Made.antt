@@ -17,7 +17,7 @@ use Rattle.result_file.specs.Spelling.{Text, text_of}
 use Rattle.result_file.specs.Marks.{patterns_in, evidence_in, next_member}
 use Rattle.result_file.specs.Summary.{summary_of}
 use Rattle.result_file.specs.Valid.{AreRightLines, IsValid}
-use Rattle.result_file.specs.Meaning.{StatedResult, stated_records, IsTrueFile}
+use Rattle.result_file.specs.Meaning.{stated_records, IsTrueFile}
 use Rattle.kept_vectors.specs.Kept.{IsKept}
 
 -- the first two lines
@@ -43,21 +43,34 @@ HasNoSearch (proof.Covered tree) = tree ≡ Rest ∷ []
 HasNoSearch (proof.Refuted tree log) = tree ≡ Rest ∷ []
 HasNoSearch (proof.Spent tree log) = tree ≡ Rest ∷ []
 
--- The generator may state this: its lines are valid, and the patterns and evidence come about in the generator's way.
-pub record MayState (c : Circuit) (s : StatedResult) : Type 0 where
-  pub valid : IsValid c (stated_records c s)
+-- The proof isn't a refutation.
+abbrev pub HasNoRefutation : Proof → Type 0
+HasNoRefutation proof.Collapse = ⊤
+HasNoRefutation (proof.Covered tree) = ⊤
+HasNoRefutation (proof.Refuted tree log) = ⊥
+HasNoRefutation (proof.Spent tree log) = ⊤
+
+-- The generator may write this file for the circuit and the budgets, and the file amounts to this summary.
+pub record IsMade (c : Circuit) (budgets : Budgets) (summary : Summary) (file : Text) : Type 0 where
+  -- The file states these budgets, and what it states is true of the circuit.
+  pub is_true : IsTrueFile c budgets file
+  -- Its lines are valid.
+  pub valid : IsValid c (stated_records c is_true.stated)
+  -- Its first patterns are the kept ones of the stream, and stand before any evidence.
   pub kept : List (List Bool)
   pub later : List Record
-  pub body : s.body ≡ map Pattern kept ++ later
-  pub kept_are : IsKept c s.budgets.blocks kept
-  pub patterns : (at : ℕ) (v : List Bool) → slice_get later at ≡ Some (Pattern v) → SeparatesNext c (lines_with c s.budgets kept (take at later)) v
-  pub no_search : (at : ℕ) (e : Evidence) → s.budgets.cubes ≡ 0 → slice_get later at ≡ Some (Same e) → HasNoSearch e.proof
-  pub no_choice : (at : ℕ) (v : List Bool) → s.budgets.cubes ≡ 0 → s.budgets.conflicts ≡ 0 → slice_get later at ≡ Some (Pattern v) → ⊥
-
--- The file states these budgets and is true, comes about in the generator's way, and amounts to this.
-pub record IsMade (c : Circuit) (budgets : Budgets) (summary : Summary) (file : Text) : Type 0 where
-  pub is_true : IsTrueFile c budgets file
-  pub made : MayState c is_true.stated
+  pub body : is_true.stated.body ≡ map Pattern kept ++ later
+  pub kept_are : IsKept c budgets.blocks kept
+  -- Each later pattern separates a number from its representative: the lowest number that is, at that place, neither a
+  -- representative nor marked.
+  pub patterns : (at : ℕ) (v : List Bool) → slice_get later at ≡ Some (Pattern v) → SeparatesNext c (lines_with c budgets kept (take at later)) v
+  -- Without a budget of cubes each tree is one open leaf.
+  pub no_search : (at : ℕ) (e : Evidence) → budgets.cubes ≡ 0 → slice_get later at ≡ Some (Same e) → HasNoSearch e.proof
+  -- Without a budget of conflicts no evidence is a refutation.
+  pub no_refutation : (at : ℕ) (e : Evidence) → budgets.conflicts ≡ 0 → slice_get later at ≡ Some (Same e) → HasNoRefutation e.proof
+  -- Without either budget there is no later pattern. Then the file is a function of the circuit and the budget of blocks.
+  pub no_choice : (at : ℕ) (v : List Bool) → budgets.cubes ≡ 0 → budgets.conflicts ≡ 0 → slice_get later at ≡ Some (Pattern v) → ⊥
+  -- The summary is what the lines amount to.
   pub summary_is : summary ≡ summary_of (stated_records c is_true.stated)
 
 -- A beginning of right lines, the last perhaps cut.

@@ -22,11 +22,16 @@ use Rattle.result_file.specs.Spelling.{HasProofSpelling}
 use Rattle.result_file.specs.Lines.{HasRightRoots, IsRightProof}
 use Rattle.dia_gen.specs.declared.pair.Settled.{Settled}
 use Rattle.dia_gen.specs.declared.pair.Settled.TheVariants.{Apart, By}
-use Rattle.dia_gen.specs.Made.{HasNoSearch}
+use Rattle.dia_gen.specs.Made.{HasNoSearch, HasNoRefutation}
 
 -- The cube has the vector's bit at each source that is relevant for the two.
 abbrev pub HasRelevant : Circuit → Fault → Fault → List Bool → List (Option Bool) → Type 0
 HasRelevant c f g v cube = (source : ℕ) → source < length v → is_relevant c f g source ≡ true → slice_index_or cube source None ≡ Some (bit_at v source)
+
+-- The solver answers this for the two within so many conflicts, with the clauses that a pool then has.
+pub record IsSolvedFor (c : Circuit) (f g : Fault) (conflicts : ℕ) (solved : Solved) : Type 0 where
+  pub clauses : List Clause
+  pub is : IsSolved c f g conflicts clauses solved
 
 module _ (c : Circuit) (f g : Fault) (budgets : Budgets) where
   -- What a search finds within the budget of cubes: without one, a tree of one open leaf.
@@ -38,11 +43,6 @@ module _ (c : Circuit) (f g : Fault) (budgets : Budgets) where
   pub record IsOpenFor (tree : List Token) : Type 0 where
     pub spending : IsSpending c f g budgets.cubes tree
     pub none : budgets.cubes ≡ 0 → tree ≡ Rest ∷ []
-
-  -- The solver answers this for the two within the budget of conflicts, with the clauses that a pool then has.
-  pub record IsSolvedFor (solved : Solved) : Type 0 where
-    pub clauses : List Clause
-    pub is : IsSolved c f g budgets.conflicts clauses solved
 
   -- The vector separates the two, and there is a budget to find it.
   pub record IsApartBy (v : List Bool) : Type 0 where
@@ -61,6 +61,7 @@ module _ (c : Circuit) (f g : Fault) (budgets : Budgets) where
     pub spelled : HasProofSpelling proof
     pub right : IsRightProof c f g budgets proof
     pub no_search : budgets.cubes ≡ 0 → HasNoSearch proof
+    pub no_refutation : budgets.conflicts ≡ 0 → HasNoRefutation proof
 
   abbrev pub IsSettledBy : Settled → Type 0
   IsSettledBy (Apart cube) = AreApartBy cube.items
@@ -72,6 +73,7 @@ pub record IsProofFor (c : Circuit) (budgets : Budgets) (lead member : ℕ) (pro
   pub spelled : HasProofSpelling proof
   pub right : IsRightProof c (fault_numbered c lead) (fault_numbered c member) budgets proof
   pub no_search : budgets.cubes ≡ 0 → HasNoSearch proof
+  pub no_refutation : budgets.conflicts ≡ 0 → HasNoRefutation proof
 
 abbrev pub IsSettledFor : Circuit → Budgets → ℕ → ℕ → Settled → Type 0
 IsSettledFor c budgets lead member (Apart cube) = AreApartBy c (fault_numbered c lead) (fault_numbered c member) budgets cube.items

@@ -1,6 +1,6 @@
 //! What becomes of a number and its representative.
 
-ghost use Rattle.std.specs.Prelude.{◌≡◌, ◌≢◌, ◌<◌, [], IfOk, OnOk, length};
+ghost use Rattle.std.specs.Prelude.{◌≡◌, ◌≢◌, ◌<◌, ◌≤◌, [], IfOk, OnOk, length};
 ghost use Rattle.net_model.specs.Circuit.{IsCircuit};
 ghost use Rattle.net_model.specs.Fault.{IsFaultOf};
 ghost use Rattle.net_model.specs.FaultList.{fault_count};
@@ -99,7 +99,7 @@ fn learn(
     if conflicts == 0 {
         return Ok(Settled::By(Proof::Spent(tree, Log::new(alloc))));
     }
-    let solved = solve_pair(alloc, setting, f, g, pool)?;
+    let solved = solve_pair(alloc, circuit, f, g, conflicts, pool)?;
     match solved {
         Solved::Vector(v) => Ok(Settled::Apart(cube_of(alloc, circuit, f, g, &v)?)),
         Solved::Refuted(log) => Ok(Settled::By(Proof::Refuted(tree, log))),
@@ -107,24 +107,27 @@ fn learn(
     }
 }
 
-// What the solver answers for a pair within the budget of conflicts.
+// What the solver answers for a pair within so many conflicts.
 fn solve_pair(
     alloc: Global,
-    setting: &Setting,
+    circuit: &Circuit,
     f: &Fault,
     g: &Fault,
+    conflicts: u32,
     pool: &mut Pool,
 ) -> Result<Solved, AllocError>
-    requires first { IsFaultOf setting.now.circuit f.now }
-    requires second { IsFaultOf setting.now.circuit g.now }
-    requires some { setting.now.budgets.conflicts ≢ 0 }
+    requires circuit { IsCircuit circuit.now }
+    requires first { IsFaultOf circuit.now f.now }
+    requires second { IsFaultOf circuit.now g.now }
+    requires some { conflicts ≢ 0 }
+    requires limit { conflicts ≤ 100000 }
     requires empty { pool.old.clauses ≡ [] }
-    ensures solved { IfOk result (IsSolvedFor setting.now.circuit f.now g.now setting.now.budgets) }
+    ensures solved { IfOk result (IsSolvedFor circuit.now f.now g.now conflicts) }
     ensures emptied { OnOk result (pool.new.clauses ≡ []) }
 {
     let empty = pool.mark();
-    let miter = build(alloc, setting.circuit(), f, g, pool)?;
-    let solved = solve(alloc, &miter, pool, setting.budgets().conflicts)?;
+    let miter = build(alloc, circuit, f, g, pool)?;
+    let solved = solve(alloc, &miter, pool, conflicts)?;
     pool.release(empty);
     Ok(solved)
 }
