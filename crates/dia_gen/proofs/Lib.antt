@@ -1,4 +1,3 @@
-pub mod LineLemmas
 pub mod DraftLemmas
 pub mod PairLemmas
 pub mod DraftResult

@@ -13,7 +13,7 @@ use Rattle.result_file.specs.Summary.{is_equal, is_open}
 use Rattle.dia_gen.specs.declared.counts.Marked.{Marked}
 use Rattle.member_marks.specs.declared.marks.Given.{Given}
 use Rattle.dia_gen.specs.Marked.{member_for, marked_with, members_below, AreMarkedBelow}
-use Rattle.dia_gen.proofs.LineLemmas.{member_lines_more}
+use Rattle.result_file.proofs.LineLemmas.{member_lines_more}
 
 module _ (t : ClassTable) (given : List (Option Given)) where
   -- no more member lines pass than there are numbers

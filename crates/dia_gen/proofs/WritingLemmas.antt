@@ -1,8 +1,7 @@
 -- Texts that are written one after another, and writing that breaks off.
 use Rattle.std.proofs.Common.{◌≡◌, ◌∙◌, ℕ, ◌+◌, ◌≤◌, List, [], ◌∷◌, ◌++◌, length, take, drop, length-append, Some, Result, Ok, Err, refl, sym, ap, arith, append_assoc}
 use Rattle.std.specs.List.{slice_get}
-use Rattle.std.proofs.lemmas.List.{take-append-le, append-nil, take_more, take_all, take-append-drop}
-use Rattle.std.proofs.lemmas.Option.{get_or_from_slice_get, slice_get_within}
+use Rattle.std.proofs.lemmas.List.{take-append-le, append-nil, take_all, take-append-drop}
 use Rattle.std.proofs.Math.Seq.{take-append-add}
 use Rattle.diag_shelf.specs.World.{World, State}
 use Rattle.diag_shelf.specs.Calls.{SameFacts, OfSome, Writes, IsWriteCall}
@@ -14,6 +13,7 @@ use Rattle.result_file.specs.declared.record.Record.{Record}
 use Rattle.result_file.specs.Spelling.{Text, text_of}
 use Rattle.result_file.specs.Valid.{AreRightLines}
 use Rattle.result_file.proofs.RecordLists.{text-append}
+use Rattle.result_file.proofs.LineLemmas.{next_text}
 use Rattle.dia_gen.specs.Writing.{HasWritten, WritesText, BrokeOff}
 use Rattle.dia_gen.proofs.Written.{nothing_right, writes_none}
 
@@ -73,20 +73,14 @@ written_last {text} {line} (Err fault) h w = text_broken text line [] (text ++ l
 -- ---- line by line
 
 module _ (all : List Record) (k : ℕ) (r : Record) (at : slice_get all k ≡ Some r) where
-  next_line : take (k + 1) all ≡ take k all ++ r ∷ []
-  next_line = take_more all k r (slice_get_within all k r at) ∙ ap (λ (x : Record). take k all ++ x ∷ []) (get_or_from_slice_get all k r r at)
-
-  next_text : text_of (take (k + 1) all) ≡ text_of (take k all) ++ text_of (r ∷ [])
-  next_text = ap text_of next_line ∙ text-append (take k all) (r ∷ [])
-
   pub line_written : {x : Unit {0}} {a b c : State} → HasWritten (text_of (take k all)) a b → WritesText (text_of (r ∷ [])) (Ok x) b c → HasWritten (text_of (take (k + 1) all)) a c
-  line_written h w = rw next_text (written_then h (written_ok w))
+  line_written h w = rw (next_text all k r at) (written_then h (written_ok w))
 
   pub line_broken : {fault : ShelfFault} {a b c : State} → HasWritten (text_of (take k all)) a b → WritesText (text_of (r ∷ [])) (Err fault) b c → WritesText (text_of all) (Err fault) a c
   line_broken h w =
       let rest = drop (k + 1) all in
       let is : text_of all ≡ text_of (take k all) ++ text_of (r ∷ []) ++ text_of rest =
-      ap text_of (sym (take-append-drop (k + 1) all)) ∙ text-append (take (k + 1) all) rest ∙ ap (λ (t : Text). t ++ text_of rest) next_text in
+      ap text_of (sym (take-append-drop (k + 1) all)) ∙ text-append (take (k + 1) all) rest ∙ ap (λ (t : Text). t ++ text_of rest) (next_text all k r at) in
       text_broken (text_of (take k all)) (text_of (r ∷ [])) (text_of rest) (text_of all) is h w
 
 pub lines_written : (all : List Record) (k : ℕ) → length all ≤ k → {a b : State} → HasWritten (text_of (take k all)) a b → WritesText (text_of all) (Ok tt) a b

@@ -1,10 +1,10 @@
 //! Lines that are written to a shelf as they are made.
 
-ghost use Rattle.std.specs.Prelude.{◌≡◌, ◌∷◌, ◌<◌, ◌-◌, [], map, length, slice_index_or};
-ghost use Rattle.net_model.specs.ClassTable.{number_range};
+ghost use Rattle.std.specs.Prelude.{◌≡◌, ◌∷◌, ◌<◌, ◌-◌, [], None, map, length, slice_index_or};
+ghost use Rattle.net_model.specs.ClassTable.{class_at, class_count, number_range};
 ghost use Rattle.result_file.specs.Meaning.{class_records, member_records};
 ghost use Rattle.result_file.specs.Spelling.{text_of};
-ghost use Rattle.result_file.specs.declared.record.Record.TheVariants.{Pattern};
+ghost use Rattle.result_file.specs.declared.record.Record.TheVariants.{Pattern, Class, Member};
 ghost use Rattle.member_marks.specs.Given.{AreAllMarked};
 ghost use Rattle.dia_gen.specs.Made.{head_lines};
 ghost use Rattle.dia_gen.specs.Marked.{member_for};
@@ -15,7 +15,7 @@ use class_refine::Classes;
 use diag_shelf::{Shelf, ShelfFault, write_all};
 use member_marks::Marks;
 use net_model::Vector;
-use result_file::{Record, push_pattern, write_record};
+use result_file::{Mark, Record, push_class_line, push_member_line, push_pattern, write_record};
 use std::alloc::Global;
 
 // Writes the line of a record, and lets the record go, so that none of those who make one has to.
@@ -88,6 +88,23 @@ pub(crate) fn write_patterns<S: Shelf>(
     Ok(())
 }
 
+// Writes the line of a class.
+fn write_class<S: Shelf>(
+    alloc: Global,
+    shelf: &mut S,
+    classes: &Classes,
+    class: u32,
+) -> Result<(), ShelfFault>
+    requires { class < class_count classes.now }
+    ensures { WritesText (text_of (Class class (slice_index_or classes.now.births class None) ∷ [])) result (S.state shelf.old) (S.state shelf.new) }
+{
+    let mut text = String::new(alloc);
+    match push_class_line(&mut text, classes, class) {
+        Ok(()) => write_all(shelf, text.as_bytes()),
+        Err(_) => Err(ShelfFault::NoMemory),
+    }
+}
+
 // Writes a line for each class.
 pub(crate) fn write_classes<S: Shelf>(
     alloc: Global,
@@ -97,10 +114,27 @@ pub(crate) fn write_classes<S: Shelf>(
     ensures { WritesText (text_of (class_records classes.now.births)) result (S.state shelf.old) (S.state shelf.new) }
 {
     for class in 0..classes.count() {
-        let line = Record::Class(class, classes.born(class));
-        write_line(alloc, shelf, line)?;
+        write_class(alloc, shelf, classes, class)?;
     }
     Ok(())
+}
+
+// Writes the line of a number with its mark.
+fn write_member<S: Shelf>(
+    alloc: Global,
+    shelf: &mut S,
+    classes: &Classes,
+    number: u32,
+    mark: Mark,
+) -> Result<(), ShelfFault>
+    requires { number < length classes.now.class_of }
+    ensures { WritesText (text_of (Member number (class_at classes.now number) mark ∷ [])) result (S.state shelf.old) (S.state shelf.new) }
+{
+    let mut text = String::new(alloc);
+    match push_member_line(&mut text, classes, number, mark) {
+        Ok(()) => write_all(shelf, text.as_bytes()),
+        Err(_) => Err(ShelfFault::NoMemory),
+    }
 }
 
 // Writes a line for each number.
@@ -118,8 +152,7 @@ pub(crate) fn write_members<S: Shelf>(
 {
     for number in 0..numbers {
         let mark = marks.of(classes, number).unwrap();
-        let line = Record::Member(number, classes.class_of(number), mark);
-        write_line(alloc, shelf, line)?;
+        write_member(alloc, shelf, classes, number, mark)?;
     }
     Ok(())
 }

@@ -1,4 +1,5 @@
 pub mod RecordLists
+pub mod LineLemmas
 pub mod RightLines
 pub mod Marked
 pub mod RightEvidence
@@ -19,7 +20,7 @@ pub mod HeldLemmas
 mod PieceLemmas
 pub mod FirstLine
 pub mod RefusalLemmas
-mod FileLemmas
+pub mod FileLemmas
 -- Valid is true
 mod ShapeLemmas
 pub mod ValidTrue

@@ -7,6 +7,7 @@ mod laws;
 mod lines;
 mod read;
 mod record;
+mod tables;
 mod words;
 mod write;
 mod write_log;
@@ -18,5 +19,6 @@ pub use laws::{
 pub use lines::Lines;
 pub use read::read_record;
 pub use record::{Budgets, Evidence, Mark, Proof, Record, Summary};
+pub use tables::{push_class_line, push_classes, push_member_line, push_members};
 pub use words::number_of;
 pub use write::{push_pattern, push_record, write_record};

@@ -1,14 +1,18 @@
--- The text of one line more.
-use Rattle.std.proofs.Common.{◌≡◌, ℕ, ◌+◌, ◌<◌, List, [], ◌∷◌, ◌++◌, map, length, get_or, Option, None, Some, ap, ◌∙◌, arith}
-use Rattle.std.specs.List.{slice_get, enumerate_from, range_with_len}
-use Rattle.std.proofs.lemmas.List.{map-append, length-map}
+-- The lines of classes and of members, one by one, and the text of one line more.
+use Rattle.std.proofs.Common.{◌≡◌, ℕ, ◌+◌, ◌<◌, List, [], ◌∷◌, ◌++◌, map, length, get_or, Option, None, Some, take, sym, ap, ◌∙◌, arith, append_assoc}
+use Rattle.std.specs.List.{slice_get, enumerate_from, range_with_len, zip}
+use Rattle.std.proofs.lemmas.List.{map-append, length-map, take_more}
+use Rattle.std.proofs.lemmas.Slice.Zip.{length-zip, get_or-zip}
 use Rattle.std.specs.Option.{option_map}
-use Rattle.std.proofs.lemmas.Option.{slice_get-map, slice_get-get_or}
+use Rattle.std.proofs.lemmas.Option.{slice_get-map, slice_get-get_or, get_or_from_slice_get, slice_get_within}
 use Rattle.std.proofs.lemmas.List.FromFn.{length-range_with_len, map-range_with_len_more, length-enumerate_from, get_or-enumerate_from, length-map-range_with_len, get_or-map-range_with_len}
 use Rattle.result_file.specs.declared.record.Mark.{Mark}
+use Rattle.result_file.specs.declared.record.Mark.TheVariants.{Rep}
 use Rattle.result_file.specs.declared.record.Record.{Record}
 use Rattle.result_file.specs.declared.record.Record.TheVariants.{Class, Member}
+use Rattle.result_file.specs.Spelling.{Text, text_of}
 use Rattle.result_file.specs.Meaning.{class_records, member_records}
+use Rattle.result_file.proofs.RecordLists.{text-append}
 
 enumerate_more : {X : Type 0} (n k : ℕ) (xs : List X) (x : X) → n + length xs ≡ k → enumerate_from n (xs ++ x ∷ []) ≡ enumerate_from n xs ++ (k, x) ∷ []
 enumerate_more {X} n k [] x at = ap (λ (m : ℕ). let one : List (ℕ × X) = (m, x) ∷ [] in one) (let e : n ≡ k = omega arith in e)
@@ -45,3 +49,28 @@ class_count_lines births = length-map (enumerate_from 0 births) (λ x. let r : R
 pub member_count_lines : (g : ℕ → ℕ × Mark) (n : ℕ) → length (member_records (map g (range_with_len 0 n))) ≡ n
 member_count_lines g n =
     length-map (enumerate_from 0 (map g (range_with_len 0 n))) (λ x. let r : Record = Member x.0 x.1.0 x.1.1 in r) ∙ length-enumerate_from 0 (map g (range_with_len 0 n)) ∙ length-map-range_with_len g 0 n
+
+-- ---- from a class and a mark of each number
+
+pub marked_at_place : (classes : List ℕ) (marks : List Mark) (k : ℕ) → k < length classes → k < length marks → slice_get (member_records (zip classes marks)) k ≡ Some (Member k (get_or classes k 0) (get_or marks k Rep))
+marked_at_place classes marks k low below =
+    numbered_at (λ x. Member x.0 x.1.0 x.1.1) (zip classes marks) k (0, Rep) (omega (arith, length-zip classes marks))
+    ∙ ap (λ (x : ℕ × Mark). Some (Member k x.0 x.1)) (get_or-zip classes marks k (0, Rep) low below)
+
+pub marked_count_lines : (classes : List ℕ) (marks : List Mark) → length marks ≡ length classes → length (member_records (zip classes marks)) ≡ length marks
+marked_count_lines classes marks same =
+    length-map (enumerate_from 0 (zip classes marks)) (λ x. let r : Record = Member x.0 x.1.0 x.1.1 in r) ∙ length-enumerate_from 0 (zip classes marks) ∙ omega (arith, length-zip classes marks)
+
+-- ---- one line more
+
+module _ (all : List Record) (k : ℕ) (r : Record) (at : slice_get all k ≡ Some r) where
+  next_line : take (k + 1) all ≡ take k all ++ r ∷ []
+  next_line = take_more all k r (slice_get_within all k r at) ∙ ap (λ (x : Record). take k all ++ x ∷ []) (get_or_from_slice_get all k r r at)
+
+  pub next_text : text_of (take (k + 1) all) ≡ text_of (take k all) ++ text_of (r ∷ [])
+  next_text = ap text_of next_line ∙ text-append (take k all) (r ∷ [])
+
+  -- behind a text that has the lines before it
+  pub text_more : (first : Text) {so_far text : Text} → so_far ≡ first ++ text_of (take k all) → text ≡ so_far ++ text_of (r ∷ []) → text ≡ first ++ text_of (take (k + 1) all)
+  text_more first {so_far} {text} before line =
+      line ∙ ap (λ (t : Text). t ++ text_of (r ∷ [])) before ∙ append_assoc first (text_of (take k all)) (text_of (r ∷ [])) ∙ ap (λ (t : Text). first ++ t) (sym next_text)
