@@ -1,5 +1,5 @@
 -- Texts that are written one after another, and writing that breaks off.
-use Rattle.std.proofs.Common.{◌≡◌, ◌∙◌, ℕ, ◌+◌, ◌≤◌, List, [], ◌∷◌, ◌++◌, length, take, drop, length-append, Some, Result, Ok, Err, refl, sym, ap, arith, append_assoc}
+use Rattle.std.proofs.Common.{◌≡◌, ◌∙◌, ℕ, ◌+◌, ◌≤◌, Bool, true, false, IsTrue, List, [], ◌∷◌, ◌++◌, length, take, drop, length-append, Some, Result, Ok, Err, refl, sym, ap, arith, append_assoc}
 use Rattle.std.specs.List.{slice_get}
 use Rattle.std.proofs.lemmas.List.{take-append-le, append-nil, take_all, take-append-drop}
 use Rattle.std.proofs.Math.Seq.{take-append-add}
@@ -88,17 +88,24 @@ lines_written all k past h = whole_written (rw (take_all k all past) at h)
 
 -- ---- results
 
+-- some beginning of a text, which is what was written where the shelf tells
+told_some : (tells : Bool) (text : Text) {u v : World} → (IsTrue tells → OfSome Writes text u v) → (n : ℕ) × (IsTrue tells → Writes (take n text) u v)
+told_some true text some = let w = some refl in (w.0, λ told. w.2)
+told_some false text some = (0, λ told. absurd (cc))
+
 -- right lines were broken off by a fault of the next ones
 pub broken : {c : Circuit} {fault : ShelfFault} (lines more rest : List Record) {start mid now : State} → AreRightLines c (lines ++ more ++ rest) → HasWritten (text_of lines) start mid → WritesText (text_of more) (Err fault) mid now → BrokeOff c fault start now
-broken {c} {fault} lines more rest {start} {mid} {now} right h w = record {
-  call = call_after h.facts w.call;
-  part = λ told.
-      let all = text_of (lines ++ more ++ rest) in
-      let is : all ≡ text_of lines ++ text_of more ++ text_of rest = text-append (lines ++ more) rest ∙ ap (λ (t : Text). t ++ text_of rest) (text-append lines more) in
-      let p = part_of (text_of lines) (text_of more) (text_of rest) all is (h.written told) (w.err (h.facts.tells ∙ told)) in
-      (take p.0 all, record { records = lines ++ more ++ rest; right = right; count = p.0; cut = refl }, p.2);
-  sure = λ s told e. sym (h.written told).written ∙ w.sure (h.facts.sure ∙ s) (h.facts.tells ∙ told) (ap Err e);
-}
+broken {c} {fault} lines more rest {start} {mid} {now} right h w =
+    let all = text_of (lines ++ more ++ rest) in
+    let is : all ≡ text_of lines ++ text_of more ++ text_of rest = text-append (lines ++ more) rest ∙ ap (λ (t : Text). t ++ text_of rest) (text-append lines more) in
+    let some = told_some start.tells all (λ told. part_of (text_of lines) (text_of more) (text_of rest) all is (h.written told) (w.err (h.facts.tells ∙ told))) in
+    record {
+      call = call_after h.facts w.call;
+      part = take some.0 all;
+      cut = record { records = lines ++ more ++ rest; right = right; count = some.0; cut = refl };
+      written = some.1;
+      sure = λ s told e. sym (h.written told).written ∙ w.sure (h.facts.sure ∙ s) (h.facts.tells ∙ told) (ap Err e);
+    }
 
 -- nothing is written where there is no memory
 no_text : (a : State) → WritesText [] (Err NoMemory) a a

@@ -20,8 +20,11 @@ pub record WritesText (text : Text) (result : Result (Unit {0}) ShelfFault) (old
   pub err : OnErr result (Told old new (OfSome Writes text))
   pub sure : IsTrue old.sure → IsTrue old.tells → IsErrOf result Failed → old.world.written ≡ None
 
--- A fault ended the writing of a result: a beginning of right lines was written, the last perhaps cut.
+-- A fault ended the writing of a result. There is a beginning of right lines, the last perhaps cut, that was written where the
+-- shelf tells what was.
 pub record BrokeOff (c : Circuit) (fault : ShelfFault) (old new : State) : Type 0 where
   pub call : IsWriteCall {T = Unit {0}} (Err fault) old new
-  pub part : Told old new (λ u v. (part : Text) × IsCutFile c part × Writes part u v)
+  pub part : Text
+  pub cut : IsCutFile c part
+  pub written : Told old new (Writes part)
   pub sure : IsTrue old.sure → IsTrue old.tells → fault ≡ Failed → old.world.written ≡ None

@@ -34,11 +34,23 @@ pub fn generate<S: Shelf>(
     shelf: &mut S,
 ) -> Result<Summary, ShelfFault>
     requires limits { AreWithinLimits budgets }
+
+    // A shelf that tells its files has one that is written.
     requires created { IsTrue (S.state shelf.old).tells → IsSome (S.state shelf.old).world.written }
+
+    // It is a call that writes: where it answers `Failed` the count of write faults rose, and no other count changed.
     ensures call { IsWriteCall result (S.state shelf.old) (S.state shelf.new) }
-    ensures written { IfOk result (λ summary. Told (S.state shelf.old) (S.state shelf.new) (λ old new. (file : List ℕ) × IsMade circuit.now budgets summary file × Writes file old new)) }
+
+    // A file is made that amounts to the summary. Where the shelf tells, it is what was appended.
+    ensures written { IfOk result (λ summary. (file : List ℕ) × IsMade circuit.now budgets summary file × Told (S.state shelf.old) (S.state shelf.new) (Writes file)) }
+
+    // With as many cubes as there are vectors no member is left open.
     ensures complete { IfOk result (λ summary. 2 ^ circuit.now.sources ≤ budgets.cubes → summary.spent ≡ 0) }
-    ensures err { OnErr result (Told (S.state shelf.old) (S.state shelf.new) (λ old new. (part : List ℕ) × IsCutFile circuit.now part × Writes part old new)) }
+
+    // After an error there is a beginning of right lines, the last perhaps cut. Where the shelf tells, it is what was appended.
+    ensures err { OnErr result ((part : List ℕ) × IsCutFile circuit.now part × Told (S.state shelf.old) (S.state shelf.new) (Writes part)) }
+
+    // A sure shelf never fails.
     ensures never { IsTrue (S.state shelf.old).sure → ¬ (IsErrOf result ShelfFault.Failed) }
 {
     let listed = list(alloc, circuit)?;

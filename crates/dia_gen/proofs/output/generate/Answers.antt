@@ -15,9 +15,9 @@ no_call : {T : Type 0} (r : Result T ShelfFault) (a : State) → IsErrAnd r (λ 
 no_call (Ok x) a is = absurd is
 no_call (Err fault) a is = record { tells = refl; sure = refl; reads = refl; later = omega arith; ok = tt; failed = λ e. absurd (cc); memory = λ sure e. refl }
 
-no_line : {T : Type 0} (r : Result T ShelfFault) (c : Circuit) (a : State) → IsErrAnd r (λ fault. fault ≡ NoMemory) → OnErr r (Told a a (λ old new. (part : List ℕ) × IsCutFile c part × Writes part old new))
+no_line : {T : Type 0} (r : Result T ShelfFault) (c : Circuit) (a : State) → IsErrAnd r (λ fault. fault ≡ NoMemory) → OnErr r ((part : List ℕ) × IsCutFile c part × Told a a (Writes part))
 no_line (Ok x) c a is = absurd is
-no_line (Err fault) c a is = λ told. ([], nothing_cut, writes_none a.world)
+no_line (Err fault) c a is = ([], nothing_cut, λ told. writes_none a.world)
 
 pub returns-in_err-listed-clause-call : goal.returns-in_err-listed-clause-call
 returns-in_err-listed-clause-call g c = no_call c.from_residual.result (g.S.Shelf.state c.args.shelf.now) c.from_residual.ensures.1
