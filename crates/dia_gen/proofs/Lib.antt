@@ -10,3 +10,4 @@ pub mod DraftSteps
 pub mod EndLemmas
 pub mod FallenLemmas
 pub mod FreeSources
+mod OneFile

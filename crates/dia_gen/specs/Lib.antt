@@ -1,4 +1,5 @@
 pub mod Made
+pub mod Laws
 pub mod Setting
 pub mod Settled
 pub mod Draft

@@ -4,9 +4,11 @@
 mod counts;
 mod draft;
 mod fallen;
+mod laws;
 mod output;
 mod pair;
 mod setting;
 mod writing;
 
+pub use laws::file_of_stream_is_one;
 pub use output::generate;
