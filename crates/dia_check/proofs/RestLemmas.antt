@@ -1,5 +1,5 @@
 -- The rest of a file, piece by piece.
-use Rattle.std.proofs.Common.{◌≡◌, ◌∙◌, ℕ, ◌+◌, ◌<◌, ◌≤◌, ◌^◌, List, [], ◌++◌, length, take, Option, None, Some, inl, inr, refl, sym, ap, subst, append_assoc, arith}
+use Rattle.std.proofs.Common.{◌≡◌, ◌∙◌, Bool, true, false, IsTrue, ℕ, ◌+◌, ◌<◌, ◌≤◌, ◌^◌, List, [], ◌++◌, length, take, Option, None, Some, inl, inr, refl, sym, ap, subst, append_assoc, arith}
 use Rattle.std.specs.Prelude.{unwrap_or, IsSome, drop}
 use Rattle.std.proofs.lemmas.List.{append-nil}
 use Rattle.std.proofs.Math.Seq.{drop_at}
@@ -73,3 +73,8 @@ module _ {fed : Text} {old new : World} (all : TakesAll fed old new) where
         | inl full ↦ subst P (sym all.taken.rest) ((is.beyond (omega (arith, full))).refused (rest_of new))
         | inr none ↦ subst P (sym (all.taken.rest ∙ ap (λ (t : Text). fed ++ t) none ∙ append-nil fed)) is.whole
       ]
+
+-- some text is refused so, and it is the rest where the shelf tells
+pub text_refused : (tells : Bool) {fed : Text} {old new : World} {c : Circuit} {fault : ResultFault} → (IsTrue tells → TakesAll fed old new) → IsRefusedEnd c fed fault → (text : Text) × FileRefused c text fault × (IsTrue tells → rest_of old ≡ text)
+text_refused true {fed} {old} {new} all is = (rest_of old, rest_refused (all refl) is, λ told. refl)
+text_refused false {fed} {old} {new} all is = (fed, is.whole, λ told. absurd (cc))

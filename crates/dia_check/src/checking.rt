@@ -1,6 +1,6 @@
 //! The check of the opened file.
 
-ghost use Rattle.std.specs.Prelude.{◌≡◌, ◌≤◌, ◌<◌, ◌+◌, ◌^◌, [], List, IfOk, OnOk, IsErrOf, IsTrue, IsSome};
+ghost use Rattle.std.specs.Prelude.{◌≡◌, ℕ, ◌≤◌, ◌<◌, ◌+◌, ◌^◌, [], List, IfOk, OnOk, IsErrOf, IsTrue, IsSome};
 ghost use Rattle.diag_shelf.specs.Calls.{IsReadCall, Told, OnlyReads};
 ghost use Rattle.result_file.specs.declared.record.Record.{Record};
 ghost use Rattle.result_file.specs.declared.fault.ResultFault.{ResultFault};
@@ -28,12 +28,23 @@ pub fn check<S: Shelf>(
     circuit: &Circuit,
     shelf: &mut S,
 ) -> Result<Checked, FileFault>
+    // A shelf that tells its files has one that is opened.
     requires opened { IsTrue (S.state shelf.old).tells → IsSome (S.state shelf.old).world.rest }
+
+    // It is a call that reads: where it answers `Failed` the count of read faults rose, and no other count changed.
     ensures call { IsReadCall (as_shelf result) (S.state shelf.old) (S.state shelf.new) }
+
+    // Nothing is changed but the rest of the opened file, which is read to its end or to one byte beyond the limit.
     ensures others { Told (S.state shelf.old) (S.state shelf.new) OnlyReads }
     ensures read { OnOk (as_shelf result) (Told (S.state shelf.old) (S.state shelf.new) ReadsRest) }
+
+    // Some records are accepted with the answer. Where the shelf tells, their text is the rest of the file.
     ensures valid { IfOk result (λ checked. (records : List Record) × IsAccepted circuit.now records checked × Told (S.state shelf.old) (S.state shelf.new) (λ old new. rest_of old ≡ text_of records)) }
-    ensures refused { (fault : ResultFault) → IsErrOf result (FileFault.Result fault) → Told (S.state shelf.old) (S.state shelf.new) (λ old new. FileRefused circuit.now (rest_of old) fault) }
+
+    // Some text is refused for the fault that is answered. Where the shelf tells, it is the rest of the file.
+    ensures refused { (fault : ResultFault) → IsErrOf result (FileFault.Result fault) → (text : List ℕ) × FileRefused circuit.now text fault × Told (S.state shelf.old) (S.state shelf.new) (λ old new. rest_of old ≡ text) }
+
+    // A sure shelf never fails.
     ensures never { IsTrue (S.state shelf.old).sure → ¬ IsErrOf result FileFault.Failed }
 {
     let listed = list(alloc, circuit)?;
@@ -51,7 +62,7 @@ fn check_for<S: Shelf>(
     ensures call { IsReadCall (as_shelf result) (S.state shelf.old) (S.state shelf.new) × (IsTrue (S.state shelf.old).sure → ¬ IsErrOf result FileFault.Failed) }
     ensures read { Told (S.state shelf.old) (S.state shelf.new) OnlyReads × OnOk (as_shelf result) (Told (S.state shelf.old) (S.state shelf.new) ReadsRest) }
     ensures valid { IfOk result (λ checked. (records : List Record) × IsAccepted subject.now records checked × Told (S.state shelf.old) (S.state shelf.new) (λ old new. rest_of old ≡ text_of records)) }
-    ensures refused { (fault : ResultFault) → IsErrOf result (FileFault.Result fault) → Told (S.state shelf.old) (S.state shelf.new) (λ old new. FileRefused subject.now (rest_of old) fault) }
+    ensures refused { (fault : ResultFault) → IsErrOf result (FileFault.Result fault) → (text : List ℕ) × FileRefused subject.now text fault × Told (S.state shelf.old) (S.state shelf.new) (λ old new. rest_of old ≡ text) }
 {
     let mut reader = Reader::start(alloc, subject)?;
     read_rest(alloc, subject, &mut reader, shelf)?;

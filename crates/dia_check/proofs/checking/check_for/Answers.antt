@@ -6,7 +6,7 @@ use Rattle.dia_check.specs.Accepted.{ReadsRest}
 use Rattle.dia_check.specs.declared.answer.FileFault.{FileFault}
 use Rattle.dia_check.specs.declared.answer.FileFault.TheVariants as file
 use Rattle.std.proofs.lemmas.Result.{err_from_is_err_and}
-use Rattle.dia_check.proofs.RestLemmas.{rest_refused}
+use Rattle.dia_check.proofs.RestLemmas.{text_refused}
 use Rattle.dia_check.proofs.AnswerLemmas.{on_any, on_no_result, memory_is_no_failure, call_after, told_read, valid_after}
 use Rattle.dia_check.proofs.checking.check_for.Goals as goal
 
@@ -18,7 +18,7 @@ returns-in_err-read_rest-clause-call g c =
 pub returns-in_err-read_rest-clause-refused : goal.returns-in_err-read_rest-clause-refused
 returns-in_err-read_rest-clause-refused g c =
     let p = err_from_is_err_and c.from_residual-in_err-read_rest.result c.from_residual-in_err-read_rest.ensures.1 in
-    rw (p.1, p.2) (λ fault same told.
+    rw (p.1, p.2) (λ fault same.
     let e : c.in_err-read_rest.field-0.0 ≡ file.Result fault = cc in
     absurd (c.in_err-read_rest.ensures.result fault (ap (λ (x : FileFault). let r : Result (Unit {0}) FileFault = Err x in r) e)))
 
@@ -29,9 +29,9 @@ pub returns-clause-valid : goal.returns-clause-valid
 returns-clause-valid g c = valid_after c.in_ok-read_rest.ensures.read c.finish.result c.finish.ensures.valid
 
 pub returns-clause-refused : goal.returns-clause-refused
-returns-clause-refused g c = λ fault same told.
+returns-clause-refused g c = λ fault same.
     let read = c.in_ok-read_rest.ensures.read in
-    rest_refused (read.all told) (c.finish.ensures.refused fault same read.fed read.reading)
+    text_refused (g.S.Shelf.state c.args.shelf.now).tells read.all (c.finish.ensures.refused fault same read.fed read.reading)
 
 pub returns-in_err-reader-clause-call : goal.returns-in_err-reader-clause-call
 returns-in_err-reader-clause-call g c =
