@@ -11,7 +11,7 @@ use Rattle.table_dicts.specs.Entries.{free_baselines}
 use Rattle.samediff_dict.specs.declared.numbering.Candidates.{Candidates}
 use Rattle.samediff_dict.specs.declared.partition.Partition.{Partition}
 use Rattle.samediff_dict.specs.Chosen.{candidates, pairs_apart, with_next, greedy_baselines, better_baselines, improvement, improved_baselines, chosen_baselines}
-use Rattle.samediff_dict.specs.Groups.{AreBelow, IsFirstMost, gain_at}
+use Rattle.samediff_dict.specs.PlaceGroups.{AreBelow, IsFirstMost, gain_at}
 use Rattle.samediff_dict.specs.Partition.{IsPartition, TogetherAt, are_together}
 use Rattle.samediff_dict.specs.Numbered.{AreCandidates, AreChosen, HasBaselines, AlikeFrom, answers_base, baselines_at}
 use Rattle.samediff_dict.proofs.CandidateLemmas.{code_is, candidate, length-baselines, base_at, chosen_push, chosen_set}

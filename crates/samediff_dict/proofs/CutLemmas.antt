@@ -10,7 +10,7 @@ use Rattle.std.proofs.lemmas.List.FromFn.{get_or-range_with_len, length-range_wi
 use Rattle.std.specs.Cmp.Derive.{one_truth}
 use Rattle.class_refine.proofs.Ranges.{range_ascends}
 use Rattle.samediff_dict.specs.declared.partition.Partition.{Partition}
-use Rattle.samediff_dict.specs.Groups.{AreBelow, AreGroups, InBoth, InBothAt, in_one, is_shared, gain_at, pairs_where, tells_apart, IsFoundAbove}
+use Rattle.samediff_dict.specs.PlaceGroups.{AreBelow, AreGroups, InBoth, InBothAt, in_one, is_shared, gain_at, pairs_where, tells_apart, IsFoundAbove}
 use Rattle.samediff_dict.specs.Partition.{group_in, are_together, together_in_both, TogetherAt, TogetherInBoth, AreMatched, IsListed, IsPartition, pairs_between}
 use Rattle.samediff_dict.proofs.PairLemmas.{pairs_to, pairs_are, pairs_same}
 use Rattle.samediff_dict.proofs.TallyLemmas.{pairs_all}

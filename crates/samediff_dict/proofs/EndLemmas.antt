@@ -6,7 +6,7 @@ use Rattle.samediff_dict.specs.declared.numbering.Candidates.{Candidates}
 use Rattle.samediff_dict.specs.declared.partition.Partition.{Partition}
 use Rattle.samediff_dict.specs.declared.choosing.Choice.{Choice}
 use Rattle.samediff_dict.specs.Chosen.{candidates, improvement}
-use Rattle.samediff_dict.specs.Groups.{IsFirstAbove, NoneAbove, gain_at}
+use Rattle.samediff_dict.specs.PlaceGroups.{IsFirstAbove, NoneAbove, gain_at}
 use Rattle.samediff_dict.specs.Partition.{IsPartition, TogetherAt, together_in_both}
 use Rattle.samediff_dict.specs.Numbered.{AreCandidates, AlikeFrom, answers_base, baselines_at}
 use Rattle.samediff_dict.specs.Choice.{IsChosen, IsPartitionFrom, ArePartitionsBehind, AreSomeEnds, ArePartitionsBefore}

@@ -3,7 +3,7 @@ use Rattle.std.proofs.Common.{◌≡◌, ◌∙◌, ℕ, ◌+◌, ◌<◌, ◌�
 use Rattle.std.proofs.lemmas.Bool.{cases_eq, eqb-true, eq-eqb, ne_eqb, and_parts, and_from}
 use Rattle.std.proofs.lemmas.List.{get_or-set_same, get_or-set_other}
 use Rattle.std.specs.Cmp.Derive.{one_truth}
-use Rattle.samediff_dict.specs.Groups.{AreGroups, InBoth, IsTallyOf, AreGains, IsFirstMost, gain_at, in_one, size_to, pairs_where, tells_apart}
+use Rattle.samediff_dict.specs.PlaceGroups.{AreGroups, InBoth, IsTallyOf, AreGains, IsFirstMost, gain_at, in_one, size_to, pairs_where, tells_apart}
 use Rattle.samediff_dict.proofs.PairLemmas.{sum_to, sum_to_more, sum_to_where, sum_to_both, sum_to-few, sum_by-range, one_if, one_if-one, pairs_are, others_of, gain_by_place}
 
 pub size_is : (group_of : List ℕ) (n group : ℕ) → size_to group_of n group ≡ sum_to (λ place. one_if (eqb (get_or group_of place 0) group)) n

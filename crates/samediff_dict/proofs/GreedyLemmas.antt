@@ -9,7 +9,7 @@ use Rattle.net_model.specs.ClassTable.{ClassTable, class_count}
 use Rattle.samediff_dict.specs.declared.numbering.Candidates.{Candidates}
 use Rattle.samediff_dict.specs.declared.partition.Partition.{Partition}
 use Rattle.samediff_dict.specs.Chosen.{candidates, pairs_apart, first_best, with_next}
-use Rattle.samediff_dict.specs.Groups.{IsFirstMost, gain_at}
+use Rattle.samediff_dict.specs.PlaceGroups.{IsFirstMost, gain_at}
 use Rattle.samediff_dict.specs.Partition.{IsPartition, are_together, pairs_between}
 use Rattle.samediff_dict.specs.Numbered.{AreCandidates, AlikeFrom, baselines_at}
 use Rattle.samediff_dict.proofs.CandidateLemmas.{code_is, length-baselines, baselines_push}

@@ -7,7 +7,7 @@ use Rattle.std.proofs.lemmas.Bool.{cases_eq, cases_lt, eqb-true, eq-eqb, ne_eqb,
 use Rattle.std.proofs.lemmas.List.{get_or_default, get_or_past}
 use Rattle.std.proofs.lemmas.List.Sums.{position_or_len_is, passes_at_first}
 use Rattle.samediff_dict.specs.declared.partition.Partition.{Partition}
-use Rattle.samediff_dict.specs.Groups.{AreBelow, gain_at, in_one, tells_apart}
+use Rattle.samediff_dict.specs.PlaceGroups.{AreBelow, gain_at, in_one, tells_apart}
 use Rattle.samediff_dict.specs.Partition.{group_in, are_together, IsListed, IsPartition}
 use Rattle.samediff_dict.proofs.PairLemmas.{sum_to, sum_to-zero, one_if, pairs_to, pairs_are, pairs_same}
 

@@ -8,7 +8,7 @@ use Rattle.std.proofs.lemmas.Bool.{cases_eq, cases_lt}
 use Rattle.std.proofs.lemmas.List.{length_push, get_or_append_left, get_or_push, get_or_default}
 use Rattle.std.proofs.lemmas.List.Quantifiers.{all_pairs_push}
 use Rattle.std.proofs.lemmas.List.Sorted.{searched}
-use Rattle.samediff_dict.specs.Groups.{AreBelow}
+use Rattle.samediff_dict.specs.PlaceGroups.{AreBelow}
 use Rattle.samediff_dict.specs.Partition.{AreMatched}
 
 ascending_up : (xs : List ℕ) → AllPairs (λ low high. low < high) xs → (i j : ℕ) → i ≤ j → j < length xs → get_or xs i 0 ≤ get_or xs j 0

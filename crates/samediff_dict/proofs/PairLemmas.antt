@@ -7,7 +7,7 @@ use Rattle.std.proofs.lemmas.Bool.{cases_Bool, eqb-true, eq-eqb}
 use Rattle.std.proofs.lemmas.List.Sums.{sum_by_push}
 use Rattle.std.specs.Cmp.Derive.{one_truth}
 use Rattle.net_model.proofs.Ranges.{range_more}
-use Rattle.samediff_dict.specs.Groups.{pairs_where, in_one, tells_apart}
+use Rattle.samediff_dict.specs.PlaceGroups.{pairs_where, in_one, tells_apart}
 
 -- the sum of the values at the numbers below a limit
 unfoldable pub sum_to : (ℕ → ℕ) → ℕ → ℕ

@@ -11,7 +11,7 @@ use Rattle.net_model.specs.ClassTable.{ClassTable, class_count}
 use Rattle.samediff_dict.specs.declared.numbering.Candidates.{Candidates}
 use Rattle.samediff_dict.specs.declared.partition.Partition.{Partition}
 use Rattle.samediff_dict.specs.Chosen.{candidates, pairs_apart, replacements, improvement}
-use Rattle.samediff_dict.specs.Groups.{IsFirstAbove, NoneAbove, gain_at}
+use Rattle.samediff_dict.specs.PlaceGroups.{IsFirstAbove, NoneAbove, gain_at}
 use Rattle.samediff_dict.specs.Partition.{IsPartition, together_in_both, pairs_between}
 use Rattle.samediff_dict.specs.Numbered.{AreCandidates, AlikeFrom}
 use Rattle.samediff_dict.proofs.CandidateLemmas.{code_is}

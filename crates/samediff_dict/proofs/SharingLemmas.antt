@@ -10,7 +10,7 @@ use Rattle.std.proofs.lemmas.List.Kept.{AllPairs-filter}
 use Rattle.net_model.proofs.Elements.{Contains-filter}
 use Rattle.net_model.proofs.Ranges.{filter-range_more}
 use Rattle.class_refine.proofs.Ranges.{range_ascends, range_below, range-contains}
-use Rattle.samediff_dict.specs.Groups.{is_shared, size_to}
+use Rattle.samediff_dict.specs.PlaceGroups.{is_shared, size_to}
 use Rattle.samediff_dict.proofs.PairLemmas.{sum_to, one_if}
 use Rattle.samediff_dict.proofs.GainLemmas.{size_is}
 

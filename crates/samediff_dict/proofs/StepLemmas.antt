@@ -6,7 +6,7 @@ use Rattle.net_model.specs.ClassTable.{ClassTable, class_count, representative, 
 use Rattle.table_dicts.specs.AnswerTable.{answer_in}
 use Rattle.samediff_dict.specs.declared.partition.Partition.{Partition}
 use Rattle.samediff_dict.specs.Chosen.{pairs_apart}
-use Rattle.samediff_dict.specs.Groups.{gain_at}
+use Rattle.samediff_dict.specs.PlaceGroups.{gain_at}
 use Rattle.samediff_dict.specs.Partition.{are_together, together_in_both, TogetherAt, IsPartition, pairs_between}
 use Rattle.samediff_dict.specs.Numbered.{answers_base, AlikeFrom}
 use Rattle.samediff_dict.proofs.ToldLemmas.{together_decides, both_decide, apart_by_gain}

@@ -14,7 +14,7 @@ use Rattle.table_dicts.proofs.EntryLemmas.{same_bits-Decides, length-differences
 use Rattle.samediff_dict.specs.Chosen.{pairs_apart}
 use Rattle.samediff_dict.specs.Numbered.{answers_base, AlikeFrom}
 use Rattle.samediff_dict.specs.declared.partition.Partition.{Partition}
-use Rattle.samediff_dict.specs.Groups.{gain_at, pairs_where, tells_apart}
+use Rattle.samediff_dict.specs.PlaceGroups.{gain_at, pairs_where, tells_apart}
 use Rattle.samediff_dict.specs.Partition.{group_in, are_together, together_in_both, IsPartition, pairs_between}
 use Rattle.samediff_dict.proofs.PairLemmas.{one_if, pairs_to, pairs_are, pairs_same, pairs_both}
 use Rattle.samediff_dict.proofs.ImproveLemmas.{pairs_apart_are}

@@ -1,5 +1,5 @@
 pub mod Chosen
-pub mod Groups
+pub mod PlaceGroups
 pub mod Cells
 pub mod Partition
 pub mod Numbered

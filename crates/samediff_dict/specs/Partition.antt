@@ -2,8 +2,8 @@
 use Rattle.std.specs.Prelude.{◌≡◌, ℕ, ◌+◌, ◌<◌, ◌==◌, ◌&&◌, Bool, not, List, length, AllPairs, Contains, slice_index, slice_index_or}
 use Rattle.std.specs.List.{position_or_len}
 use Rattle.samediff_dict.specs.declared.partition.Partition.{Partition}
-use Rattle.samediff_dict.specs.declared.groups.Groups.{Groups}
-use Rattle.samediff_dict.specs.Groups.{AreBelow, HaveOrLackNumber, pairs_where, shared_places}
+use Rattle.samediff_dict.specs.declared.groups.PlaceGroups.{PlaceGroups}
+use Rattle.samediff_dict.specs.PlaceGroups.{AreBelow, HaveOrLackNumber, pairs_where, shared_places}
 
 -- the group of a class. One that isn't listed has a group of its own behind those of the others.
 unfoldable pub group_in : Partition → ℕ → ℕ
@@ -40,7 +40,7 @@ pub record IsPartition (classes : ℕ) (together : ℕ → ℕ → Type 0) (p : 
   pub together_are : (low high : ℕ) → low < classes → high < classes → AreTogether p low high → together low high
 
 -- The listed classes are those of these that aren't alone in their groups.
-pub record AreShared (classes : List ℕ) (groups : Groups) (p : Partition) : Type 0 where
+pub record AreShared (classes : List ℕ) (groups : PlaceGroups) (p : Partition) : Type 0 where
   pub long : length p.classes.items ≡ length (shared_places groups.group_of.items)
   pub groups_long : length p.groups.group_of.items ≡ length (shared_places groups.group_of.items)
   pub classes_are : (k : ℕ) → k < length (shared_places groups.group_of.items) → slice_index p.classes.items k ≡ slice_index classes (slice_index (shared_places groups.group_of.items) k)

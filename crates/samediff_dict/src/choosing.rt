@@ -6,7 +6,7 @@ ghost use Rattle.table_dicts.specs.Entries.{free_baselines};
 ghost use Rattle.samediff_dict.specs.Chosen.{pairs_apart, greedy_baselines, better_baselines, chosen_baselines};
 ghost use Rattle.samediff_dict.specs.Numbered.{HaveCandidates, HasBaselines, baselines_at};
 ghost use Rattle.samediff_dict.specs.Choice.{IsChoice, IsChosen};
-ghost use Rattle.samediff_dict.specs.Groups.{IsFirstMost, gain_at};
+ghost use Rattle.samediff_dict.specs.PlaceGroups.{IsFirstMost, gain_at};
 ghost use Rattle.samediff_dict.specs.Partition.{IsListed, IsPartition, TogetherAt, are_together};
 ghost use Rattle.samediff_dict.specs.declared.numbering.Candidates.{Candidates};
 
@@ -30,9 +30,7 @@ pub(crate) fn choose_numbers(
         count: classes.count(),
         patterns,
     };
-    let mut chosen = choice.better(alloc)?;
-    choice.improve(alloc, chosen.as_mut_slice())?;
-    Ok(chosen)
+    choice.chosen(alloc)
 }
 
 /// What the baselines are chosen from: for each pattern the number of candidates, and which of them each class answers.
@@ -44,6 +42,17 @@ pub(crate) struct Choice<'a> {
 }
 
 impl Choice<'_> {
+    // What the three steps choose.
+    fn chosen(&self, alloc: Global) -> Result<Vec<u32>, AllocError>
+        ghost rows: { List (List (List Bool)) }
+        requires { IsChoice rows self.now }
+        ensures { IfOk result (λ chosen. HasBaselines self.now.classes.now rows chosen.items (chosen_baselines self.now.classes.now rows)) }
+    {
+        let mut chosen = self.better(alloc)?;
+        self.improve(alloc, chosen.as_mut_slice())?;
+        Ok(chosen)
+    }
+
     // Pattern by pattern the candidate that adds most pairs.
     fn greedy(&self, alloc: Global) -> Result<Vec<u32>, AllocError>
         ghost rows: { List (List (List Bool)) }

@@ -1,14 +1,14 @@
 //! How many pairs of classes each candidate tells apart.
 
 ghost use Rattle.std.specs.Prelude.{◌≡◌, ◌<◌, ◌^◌, length, IfOk, slice_index};
-ghost use Rattle.samediff_dict.specs.Groups.{AreBelow, AreGains, AreGroups, InBoth, IsTallyOf, gain_at, in_one, IsFirstMost, IsFoundAbove};
+ghost use Rattle.samediff_dict.specs.PlaceGroups.{AreBelow, AreGains, AreGroups, InBoth, IsTallyOf, gain_at, in_one, IsFirstMost, IsFoundAbove};
 ghost use Rattle.samediff_dict.specs.Partition.{IsListed, are_together};
 
-use crate::groups::{Groups, Tally};
+use crate::groups::{PlaceGroups, Tally};
 use crate::partition::{Partition, picked};
 use std::alloc::{AllocError, Global};
 
-impl Groups {
+impl PlaceGroups {
     // How many pairs of places of one group each candidate tells apart. The list has the candidate that each place answers.
     fn gains(
         &self,
@@ -34,7 +34,7 @@ impl Groups {
         alloc: Global,
         answers: &[u32],
         candidates: usize,
-        cells: &Groups,
+        cells: &PlaceGroups,
         all: &Tally,
         alike: &Tally,
     ) -> Result<Vec<u64>, AllocError>

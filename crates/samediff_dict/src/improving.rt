@@ -6,7 +6,7 @@ ghost use Rattle.samediff_dict.specs.Chosen.{better_baselines, candidates, impro
 ghost use Rattle.samediff_dict.specs.Numbered.{HasBaselines, baselines_at};
 ghost use Rattle.samediff_dict.specs.Choice.{IsChoice, IsChosen, ArePartitionsBehind, AreSomeEnds, ArePartitionsBefore, IsFirstBetter};
 ghost use Rattle.samediff_dict.specs.Partition.{IsListed, IsPartition, TogetherAt, together_in_both};
-ghost use Rattle.samediff_dict.specs.Groups.{IsFoundAbove, gain_at};
+ghost use Rattle.samediff_dict.specs.PlaceGroups.{IsFoundAbove, gain_at};
 ghost use Rattle.samediff_dict.specs.declared.numbering.Candidates.{Candidates};
 ghost use Rattle.samediff_dict.specs.declared.partition.Partition.{Partition};
 

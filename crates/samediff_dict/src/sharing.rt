@@ -1,10 +1,10 @@
 //! The search for a candidate among the classes that two partitions leave together.
 
 ghost use Rattle.std.specs.Prelude.{◌≡◌, ◌<◌, ◌^◌, ◌++◌, ◌∷◌, [], ℕ, length, AllPairs, Contains, slice_index, IfOk, OnOk, MatchOption};
-ghost use Rattle.samediff_dict.specs.Groups.{AreBelow, gain_at, IsFoundAbove};
+ghost use Rattle.samediff_dict.specs.PlaceGroups.{AreBelow, gain_at, IsFoundAbove};
 ghost use Rattle.samediff_dict.specs.Partition.{AreMatched, IsListed, IsPartition, TogetherInBoth, together_in_both};
 
-use crate::groups::Groups;
+use crate::groups::PlaceGroups;
 use crate::partition::{Partition, picked};
 use std::alloc::{AllocError, Global};
 
@@ -76,7 +76,7 @@ impl Partition {
     {
         let classes = self.classes.as_slice();
         let here = places.here.as_slice();
-        let ours = Groups {
+        let ours = PlaceGroups {
             group_of: picked(alloc, self.groups.group_of.as_slice(), here)?,
             count: self.groups.count,
         };

@@ -1,7 +1,4 @@
 use Rattle.samediff_dict.proofs.choosing.choose_numbers.Given as goal
 
-abbrev pub ghost-better : goal.ghost-better
-ghost-better g a = g.rows
-
-abbrev pub ghost-improve : goal.ghost-improve
-ghost-improve g a = g.rows
+abbrev pub ghost-chosen : goal.ghost-chosen
+ghost-chosen g a = g.rows

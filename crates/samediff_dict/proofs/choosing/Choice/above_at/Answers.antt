@@ -4,7 +4,7 @@ use Rattle.std.proofs.lemmas.Result.{IfOk-weaker}
 use Rattle.net_model.specs.ClassTable.{class_count}
 use Rattle.samediff_dict.specs.declared.numbering.Candidates.{Candidates}
 use Rattle.samediff_dict.specs.declared.partition.Partition.{Partition}
-use Rattle.samediff_dict.specs.Groups.{IsFoundAbove, gain_at}
+use Rattle.samediff_dict.specs.PlaceGroups.{IsFoundAbove, gain_at}
 use Rattle.samediff_dict.specs.Numbered.{AreCandidates}
 use Rattle.samediff_dict.specs.Partition.{IsListed, together_in_both}
 use Rattle.samediff_dict.proofs.ChoiceLemmas.{numbers_within}

@@ -2,7 +2,7 @@ use Rattle.std.proofs.Common.{◌≡◌, ◌∙◌, ℕ, List, [], length, get_o
 use Rattle.std.proofs.lemmas.List.{get_or_default}
 use Rattle.net_model.specs.ClassTable.{class_count}
 use Rattle.samediff_dict.specs.declared.numbering.Candidates.{Candidates}
-use Rattle.samediff_dict.specs.Groups.{IsFirstMost, gain_at}
+use Rattle.samediff_dict.specs.PlaceGroups.{IsFirstMost, gain_at}
 use Rattle.samediff_dict.specs.Numbered.{AreCandidates}
 use Rattle.samediff_dict.specs.Partition.{IsListed, IsPartition, TogetherAt, are_together}
 use Rattle.samediff_dict.proofs.ChoiceLemmas.{some_candidate, numbers_within}

@@ -3,7 +3,7 @@ use Rattle.net_model.specs.ClassTable.{class_count}
 use Rattle.std.proofs.lemmas.Option.{MatchOption-at_none, MatchOption-at_some}
 use Rattle.samediff_dict.specs.declared.numbering.Candidates.{Candidates}
 use Rattle.samediff_dict.specs.declared.partition.Partition.{Partition}
-use Rattle.samediff_dict.specs.Groups.{IsFirstAbove, NoneAbove, gain_at}
+use Rattle.samediff_dict.specs.PlaceGroups.{IsFirstAbove, NoneAbove, gain_at}
 use Rattle.samediff_dict.specs.Partition.{IsListed, together_in_both}
 use Rattle.samediff_dict.specs.Choice.{IsPartitionFrom}
 use Rattle.samediff_dict.specs.Numbered.{AreCandidates}

@@ -1,11 +1,11 @@
 use Rattle.std.proofs.Common.{◌≡◌, ◌∙◌, ◌<◌, ◌+◌, ◌*◌, ◌^◌, ℕ, cond, eqb, List, length, get_or, replicate, refl, sym, ap, subst, arith}
 use Rattle.std.proofs.lemmas.List.{length-replicate, length-set, get_or_read, get_or-replicate}
-use Rattle.samediff_dict.specs.Groups.{AreBelow}
+use Rattle.samediff_dict.specs.PlaceGroups.{AreBelow}
 use Rattle.samediff_dict.proofs.PairLemmas.{others_of}
 use Rattle.samediff_dict.proofs.TallyLemmas.{sum_to_none}
 use Rattle.samediff_dict.proofs.GainLemmas.{size_split, others-few, gain_to, gain_all, gains_more, gains_bound}
-use Rattle.samediff_dict.proofs.groups.Groups.gains_by.Goals as goal
-use Rattle.samediff_dict.proofs.groups.Groups.gains_by.Goals.{After-size_of-part}
+use Rattle.samediff_dict.proofs.groups.PlaceGroups.gains_by.Goals as goal
+use Rattle.samediff_dict.proofs.groups.PlaceGroups.gains_by.Goals.{After-size_of-part}
 
 pub size_of-size-requires-clause-place : goal.size_of-size-requires-clause-place
 size_of-size-requires-clause-place c = omega (arith, ap length c.as_slice-groups.ensures.value, c.requires.long)

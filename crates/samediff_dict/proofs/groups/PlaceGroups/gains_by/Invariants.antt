@@ -1,6 +1,6 @@
 use Rattle.std.proofs.Common.{◌≡◌, ℕ, ◌*◌, ◌<◌, ◌≤◌, ◌^◌, length, get_or}
 use Rattle.samediff_dict.proofs.GainLemmas.{gain_to}
-use Rattle.samediff_dict.proofs.groups.Groups.gains_by.Given as goal
+use Rattle.samediff_dict.proofs.groups.PlaceGroups.gains_by.Given as goal
 
 abbrev pub invariant-loop-place : goal.invariant-loop-place
 invariant-loop-place l = record {

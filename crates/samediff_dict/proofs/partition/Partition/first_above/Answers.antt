@@ -1,6 +1,6 @@
 use Rattle.std.proofs.Common.{◌≡◌, ◌∙◌, ℕ, [], length, refl, sym, arith}
 use Rattle.samediff_dict.specs.Partition.{are_together}
-use Rattle.samediff_dict.specs.Groups.{gain_at, in_one}
+use Rattle.samediff_dict.specs.PlaceGroups.{gain_at, in_one}
 use Rattle.std.proofs.lemmas.Bool.Decides.{nat_tests}
 use Rattle.samediff_dict.proofs.GainLemmas.{long_is, gain_none}
 use Rattle.samediff_dict.proofs.ListedLemmas.{gain_placed}

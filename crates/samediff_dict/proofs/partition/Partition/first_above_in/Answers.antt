@@ -1,6 +1,6 @@
 use Rattle.std.proofs.Common.{ℕ, Bool, List, Option, length}
 use Rattle.std.proofs.lemmas.Result.{IfOk-weaker}
-use Rattle.samediff_dict.specs.Groups.{gain_at, IsFoundAbove}
+use Rattle.samediff_dict.specs.PlaceGroups.{gain_at, IsFoundAbove}
 use Rattle.samediff_dict.specs.Partition.{are_together, together_in_both}
 use Rattle.samediff_dict.proofs.CutLemmas.{found_met, found_turned}
 use Rattle.samediff_dict.proofs.partition.Partition.first_above_in.Goals as goal

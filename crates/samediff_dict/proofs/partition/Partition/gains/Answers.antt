@@ -1,7 +1,7 @@
 use Rattle.std.proofs.Common.{◌≡◌, ◌∙◌, ◌<◌, ℕ, List, length, get_or, ap, arith}
 use Rattle.std.proofs.lemmas.List.{get_or_default}
 use Rattle.std.proofs.lemmas.Result.{IfOk-weaker}
-use Rattle.samediff_dict.specs.Groups.{AreGains, in_one}
+use Rattle.samediff_dict.specs.PlaceGroups.{AreGains, in_one}
 use Rattle.samediff_dict.specs.Partition.{are_together}
 use Rattle.samediff_dict.proofs.GainLemmas.{gains_where}
 use Rattle.samediff_dict.proofs.ListedLemmas.{listed_few, gain_placed}

@@ -1,6 +1,6 @@
 use Rattle.std.proofs.Common.{◌≡◌, ◌∙◌, ◌<◌, ◌^◌, ℕ, List, length, get_or, ap, subst, arith}
 use Rattle.std.proofs.lemmas.List.{get_or_default}
-use Rattle.samediff_dict.specs.Groups.{AreGroups, InBoth}
+use Rattle.samediff_dict.specs.PlaceGroups.{AreGroups, InBoth}
 use Rattle.samediff_dict.proofs.ListedLemmas.{ascending_few, listed_few}
 use Rattle.samediff_dict.proofs.CutLemmas.{met_partition}
 use Rattle.samediff_dict.proofs.partition.Partition.meet_at.Goals as goal

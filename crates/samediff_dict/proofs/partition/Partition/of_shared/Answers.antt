@@ -1,5 +1,5 @@
 use Rattle.std.proofs.Common.{◌≡◌, ◌∙◌, ◌<◌, ℕ, List, length, get_or, refl, ap, sym, subst, arith}
-use Rattle.samediff_dict.specs.Groups.{is_shared, shared_places}
+use Rattle.samediff_dict.specs.PlaceGroups.{is_shared, shared_places}
 use Rattle.samediff_dict.proofs.SharingLemmas.{filter_below}
 use Rattle.samediff_dict.proofs.partition.Partition.of_shared.Goals as goal
 use Rattle.samediff_dict.proofs.partition.Partition.of_shared.Goals.{After-as_slice-shared}

@@ -2,11 +2,11 @@ use Rattle.std.proofs.Common.{◌≡◌, ◌∙◌, ◌++◌, ℕ, List, length,
 use Rattle.std.proofs.Math.Seq.{take-append_seam}
 use Rattle.samediff_dict.specs.Chosen.{chosen_baselines}
 use Rattle.samediff_dict.specs.Numbered.{HasBaselines}
-use Rattle.samediff_dict.proofs.choosing.choose_numbers.Goals as goal
+use Rattle.samediff_dict.proofs.choosing.Choice.chosen.Goals as goal
 
 pub returns : goal.returns
 returns g c =
-    let t = c.args.classes.now in
+    let t = c.args.self.now.classes.now in
     let old = c.in_ok-chosen.chosen in
     let new = c.improve.new.chosen in
     let rest = drop (length new) old.items in
