@@ -12,7 +12,7 @@ use Rattle.result_file.specs.declared.fault.ResultFault.{ResultFault}
 use Rattle.result_file.specs.Spelling.{Text, spelling, text_of, HasSpelling}
 use Rattle.result_file.specs.Marks.{pattern_of, evidence_of, patterns_in, evidence_in, class_lines, next_member}
 use Rattle.result_file.specs.Lines.{IsInPlace, IsRightContent}
-use Rattle.result_file.specs.Refusal.{line_length, ContentRefused, RestRefused, FileRefused}
+use Rattle.result_file.specs.Refusal.{line_length, ContentRefused, BeginsWithRecord, RestRefused, FileRefused}
 use Rattle.result_file.specs.Refusal.RestRefused.{misplaced, wrong}
 use Rattle.result_file.specs.Refusal.FileRefused.{at_line}
 use Rattle.result_file.proofs.FirstLine.{ended_length}
@@ -68,17 +68,20 @@ module _ {c : Circuit} {text : Text} {k : Checker} (is : IsCheckOf c text k) whe
           let whole : (text ++ (line ++ 10 ∷ [])) ++ more ≡ text_of is.seen ++ (line ++ 10 ∷ more) =
           append_assoc text (line ++ 10 ∷ []) more ∙ ap (λ (t : Text). text ++ t) (append_assoc line (10 ∷ []) more) ∙ ap (λ (t : Text). t ++ (line ++ 10 ∷ more)) text_seen in
           let long : line_length (line ++ 10 ∷ more) ≡ length line + 1 = ended_length line more one in
-          at_line is.seen (line ++ 10 ∷ more) reason whole is.is.lines
+          at_line is.seen (line ++ 10 ∷ more) reason (record { text = whole; right = is.is.lines })
           (omega (arith, short, long, length-append text (line ++ 10 ∷ []), length-append line (10 ∷ []), ap length text_seen)) (rest more)
           (λ i. fault_behind reason (is.is.progress.lines i));
     }
 
     module _ (r : Record) (spelled : HasSpelling r) (one : ¬ Contains (spelling r) 10) (short : length (text ++ record_line r) ≤ 2 ^ 40) where
+      begins : (more : Text) → BeginsWithRecord (spelling r ++ 10 ∷ more) r
+      begins more = record { spelled = spelled; more = more; text_is = refl }
+
       pub misplaced_line : ¬ IsInPlace k.keeper.kept.table is.seen r → IsRefusedText c (text ++ record_line r) (fault_behind why.Order k.progress.lines)
-      misplaced_line out = refused_line (spelling r) why.Order one short (λ more. misplaced r more k.keeper.kept.table refl spelled table_seen out refl)
+      misplaced_line out = refused_line (spelling r) why.Order one short (λ more. misplaced r (begins more) (record { table = k.keeper.kept.table; table_is = table_seen; out = out }) refl)
 
       pub wrong_line : (reason : ResultKind) → IsInPlace k.keeper.kept.table is.seen r → ContentRefused c k.keeper.kept.table is.seen r reason → IsRefusedText c (text ++ record_line r) (fault_behind reason k.progress.lines)
-      wrong_line reason place refused = refused_line (spelling r) reason one short (λ more. wrong r more k.keeper.kept.table refl spelled table_seen place refused)
+      wrong_line reason place refused = refused_line (spelling r) reason one short (λ more. wrong r (begins more) (record { table = k.keeper.kept.table; table_is = table_seen; place = place; refused = refused }))
 
     -- the line is one more
     pub taken_line : (r : Record) (new : Checker) → length (text ++ record_line r) ≤ 2 ^ 40 → new.waiting.items ≡ [] → IsChecker c (is.seen ++ r ∷ []) new → IsCheckOf c (text ++ record_line r) new

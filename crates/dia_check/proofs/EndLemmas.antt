@@ -29,16 +29,16 @@ module _ {c : Circuit} {text : Text} {k : Checker} (is : IsCheckOf c text k) (no
   pub end_syntax : ¬ Contains rest 10 → length (text ++ rest) ≤ 2 ^ 40 → rest ≢ [] → FileRefused c (text ++ rest) (fault_behind why.Syntax k.progress.lines)
   end_syntax one short some =
       let long : line_length rest ≡ length rest = unended_length rest one in
-      at_line is.seen rest why.Syntax (ap (λ (t : Text). t ++ rest) (text_seen is none)) is.is.lines
-      (omega (arith, short, long, length-append text rest, ap length (text_seen is none))) (no_record some (unended rest one) refl)
+      at_line is.seen rest why.Syntax (record { text = ap (λ (t : Text). t ++ rest) (text_seen is none); right = is.is.lines })
+      (omega (arith, short, long, length-append text rest, ap length (text_seen is none))) (no_record (record { some = some; none = unended rest one }) refl)
       (λ i. fault_behind why.Syntax (is.is.progress.lines i))
 
   -- or the end doesn't stand
   pub end_order : rest ≡ [] → k.progress.ended ≡ false → FileRefused c (text ++ rest) (fault_behind why.Order k.progress.lines)
   end_order nothing going =
       let zero : line_length [] ≡ 0 = omega arith in
-      at_line is.seen [] why.Order (ap (λ (t : Text). t ++ rest) (text_seen is none) ∙ ap (λ (t : Text). text_of is.seen ++ t) nothing) is.is.lines
-      (omega (arith, zero, is.short, ap length (text_seen is none))) (no_line refl (is.is.progress.unended going) refl)
+      at_line is.seen [] why.Order (record { text = ap (λ (t : Text). t ++ rest) (text_seen is none) ∙ ap (λ (t : Text). text_of is.seen ++ t) nothing; right = is.is.lines })
+      (omega (arith, zero, is.short, ap length (text_seen is none))) (no_line (record { nothing = refl; unended = is.is.progress.unended going }) refl)
       (λ i. fault_behind why.Order (is.is.progress.lines i))
 
 -- what the lines state, once the end stands

@@ -86,7 +86,7 @@ module _ {c : Circuit} {text : Text} (held : Text) {k : Checker} (is : IsCheckOf
         let file : ((text ++ held) ++ over) ++ more ≡ text_of is.seen ++ rest =
         append_assoc (text ++ held) over more ∙ append_assoc text held (over ++ more) ∙ ap (λ (t : Text). t ++ rest) (text_seen is none) in
         let long = line_longer held (over ++ more) one (omega (arith, some, length-append over more)) in
-        too_long is.seen rest file is.is.lines (omega (arith, is.short, ap length (text_seen is none)))
+        too_long is.seen rest (record { text = file; right = is.is.lines }) (omega (arith, is.short, ap length (text_seen is none)))
         (omega (arith, full, long, length-append text held, ap length (text_seen is none)))
         (λ i. fault_behind why.TooLong (is.is.progress.lines i));
   }

@@ -161,9 +161,10 @@ module _ {c : Circuit} {text : Text} {k : Checker} (is : IsCheckOf c text k) (so
             ∙ append_assoc (text_of seen) (record_line (Pattern v) ++ text_of later) more
             ∙ ap (λ (t : Text). text_of seen ++ t) (append_assoc (record_line (Pattern v)) (text_of later) more ∙ append_assoc (spelling (Pattern v)) (10 ∷ []) (text_of later ++ more)) in
             let long : line_length rest ≡ length (spelling (Pattern v)) + 1 = ended_length (spelling (Pattern v)) (text_of later ++ more) one in
-            at_line seen rest why.Pattern file lines_then
+            at_line seen rest why.Pattern (record { text = file; right = lines_then })
             (omega (arith, long, is.short, ap length whole, length-append (text_of seen) (record_line (Pattern v) ++ text_of later), length-append (record_line (Pattern v)) (text_of later), length-append (spelling (Pattern v)) (10 ∷ [])))
-            (wrong (Pattern v) (text_of later ++ more) keeper.kept.table refl tt table (two_then, no_class_then) (λ right. unsplit (rw (sym patterns_then) at right.splits), refl))
+            (wrong (Pattern v) (record { spelled = tt; more = text_of later ++ more; text_is = refl })
+            (record { table = keeper.kept.table; table_is = table; place = (two_then, no_class_then); refused = (λ right. unsplit (rw (sym patterns_then) at right.splits), refl) }))
             (λ i. record { kind = why.Pattern; line = lines_are i + 1 });
       }
     where

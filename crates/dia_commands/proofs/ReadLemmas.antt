@@ -59,7 +59,7 @@ text_read : {line : LineForm} {width : ℕ} {Rest : RestRule} {all bytes : Text}
 text_read {line} {width} {Rest} {all} {bytes} {kind} {number} e refused = elim (cases_lt 1073741824 (length all)) [
   | inl long ↦ elim refused [
     | too_long over is at ↦ too_long long is (at ∙ ap (λ (t : Text). line_number t 1073741824) e ∙ line_read 1073741824 all)
-    | at_line rows rest short wide text wrong at ↦ absurd (long_read 1073741824 all bytes e long short)
+    | at_line rows rest short begins wrong at ↦ absurd (long_read 1073741824 all bytes e long short)
   ]
   | inr short ↦ subst (λ (b : Text). LinesRefused line width Rest b kind number) (e ∙ read_whole 1073741824 all short) refused
 ]

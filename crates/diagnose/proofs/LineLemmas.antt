@@ -118,18 +118,18 @@ module _ (line : LineForm) (width : ℕ) where
     -- a text is refused by one rule at one line
     pub refused_once : OneRule → KeepsRight → (text : Text) (kind other : LogKind) (number place : ℕ) → LinesRefused line width Rest text kind number → LinesRefused line width Rest text other place → (kind ≡ other) × (number ≡ place)
     refused_once once keeps text kind other number place (too_long long k l) (too_long again k' l') = (k ∙ sym k', l ∙ sym l')
-    refused_once once keeps text kind other number place (too_long long k l) (at_line rows rest short wide is refused l') = absurd (omega (arith, long, short))
-    refused_once once keeps text kind other number place (at_line rows rest short wide is refused l) (too_long long k' l') = absurd (omega (arith, long, short))
-    refused_once once keeps text kind other number place (at_line rows rest short wide is refused l) (at_line others other_rest short' wide' is' refused' l') =
-        let both = at_lines once keeps rows others rest other_rest kind other wide wide' (sym is ∙ is') refused refused' in
+    refused_once once keeps text kind other number place (too_long long k l) (at_line rows rest short begins refused l') = absurd (omega (arith, long, short))
+    refused_once once keeps text kind other number place (at_line rows rest short begins refused l) (too_long long k' l') = absurd (omega (arith, long, short))
+    refused_once once keeps text kind other number place (at_line rows rest short begins refused l) (at_line others other_rest short' begins' refused' l') =
+        let both = at_lines once keeps rows others rest other_rest kind other begins.wide begins'.wide (sym begins.text_is ∙ begins'.text_is) refused refused' in
         (both.0, l ∙ both.1 ∙ sym l')
 
     -- a refused text isn't the lines of rows at whose end nothing is refused, nor one of whose lines
     pub refused_wrong : (text : Text) (kind : LogKind) (number : ℕ) (rows : List (List Bool)) → LinesRefused line width Rest text kind number → length text ≤ text_limit → AreWide width rows → text ≡ lines_from line 0 rows
         → (Rest (length rows) [] kind → ⊥) → ((n : ℕ) (row : List Bool) (more : Text) → n < length rows → length row ≡ width → Rest n (line n row ++ 10 ∷ more) kind → ⊥) → ⊥
     refused_wrong text kind number rows (too_long long k l) short wide is last each = omega (arith, long, short)
-    refused_wrong text kind number rows (at_line others rest short' wide' is' refused l) short wide is last each =
-        elim (compare tells 0 others rows rest [] wide' wide (sym is' ∙ is ∙ sym (append-nil (lines_from line 0 rows)))) [
+    refused_wrong text kind number rows (at_line others rest short' begins refused l) short wide is last each =
+        elim (compare tells 0 others rows rest [] begins.wide wide (sym begins.text_is ∙ is ∙ sym (append-nil (lines_from line 0 rows)))) [
           | inl same ↦
               let count = ap (λ (xs : List (List Bool)). length xs) same.0 in
               last (subst (λ (text : Text). Rest (length rows) text kind) same.1 (subst (λ (k : ℕ). Rest k rest kind) count refused))

@@ -9,7 +9,7 @@ use Rattle.net_model.specs.BitText.{bits_text}
 use Rattle.diagnose.specs.declared.fault.LogKind.{LogKind}
 use Rattle.diagnose.specs.declared.fault.LogKind.TheVariants.{Syntax, Order, Width, Missing}
 use Rattle.diagnose.specs.Lines.{Text, text_limit, lines_from, digit_bits, IsCutAt, at_line}
-use Rattle.diagnose.specs.LogText.{log_line, IsLog, BeginsWithLine, HasNoLine, LogRestRefused, missing, no_line, too_many, misplaced, wrong_width, TesterLogRefused, IsRightLogLine}
+use Rattle.diagnose.specs.LogText.{log_line, IsLog, BeginsWithLine, HasNoLine, FirstLogLine, LogRestRefused, missing, no_line, too_many, misplaced, wrong_width, TesterLogRefused, IsRightLogLine}
 use Rattle.result_file.proofs.Cuts.{tails}
 use Rattle.result_file.proofs.NumberLemmas.{number_bytes}
 use Rattle.result_file.proofs.BitLemmas.{bits_once}
@@ -50,21 +50,34 @@ tells_row width n row other rest more e =
     let cut = cut_once 10 (bits_text row) (bits_text other) rest more (bits_without_feed row) (bits_without_feed other) (tails behind).1 in
     (bits_once row other cut.0, cut.1)
 
+-- a text that begins with a line isn't empty, and begins with one
+line_stands : {text : Text} → FirstLogLine text → text ≡ [] → ⊥
+line_stands line none = not_empty (log_line line.pattern line.bits) line.more 10 (sym line.begins.1 ∙ none)
+
+one_first : {text : Text} (line other : FirstLogLine text) → line.pattern ≡ other.pattern
+one_first line other = (line_once line.pattern other.pattern line.bits other.bits line.more other.more line.begins.0 other.begins.0 (sym line.begins.1 ∙ other.begins.1)).0
+
 module _ (patterns positions : ℕ) (small : patterns < 2 ^ 32) where
+  -- it is the one that is known
+  same_line : (n : ℕ) (bits : List Bool) (more : Text) → n < patterns → (line : FirstLogLine (log_line n bits ++ 10 ∷ more)) → (n ≡ line.pattern) × (bits ≡ line.bits)
+  same_line n bits more below line =
+      let same = line_once n line.pattern bits line.bits more line.more (omega (arith, below, small)) line.begins.0 line.begins.1 in
+      (same.0, same.1.0)
+
   -- a right line is never refused
   right_line : (n : ℕ) (bits : List Bool) (more : Text) (kind : LogKind) → n < patterns → length bits ≡ positions → LogRestRefused patterns positions n (log_line n bits ++ 10 ∷ more) kind → ⊥
   right_line n bits more kind below wide (missing e l k) = not_empty (log_line n bits) more 10 e
-  right_line n bits more kind below wide (no_line e l none k) = none n bits more (omega (arith, below, small), refl)
-  right_line n bits more kind below wide (too_many p b m begins all k) = omega (arith, below, all)
-  right_line n bits more kind below wide (misplaced p b m begins l other k) = other (sym (line_once n p bits b more m (omega (arith, below, small)) begins.0 begins.1).0)
-  right_line n bits more kind below wide (wrong_width b m begins l other k) = other (sym (ap (λ (xs : List Bool). length xs) (line_once n n bits b more m (omega (arith, below, small)) begins.0 begins.1).1.0) ∙ wide)
+  right_line n bits more kind below wide (no_line unreadable l k) = unreadable.none n bits more (omega (arith, below, small), refl)
+  right_line n bits more kind below wide (too_many line all k) = omega (arith, below, all)
+  right_line n bits more kind below wide (misplaced line l other k) = other (sym (same_line n bits more below line).0)
+  right_line n bits more kind below wide (wrong_width line l same other k) = other (sym (ap (λ (xs : List Bool). length xs) (same_line n bits more below line).1) ∙ wide)
 
   rest_within : (n : ℕ) (rest : Text) (kind : LogKind) → LogRestRefused patterns positions n rest kind → n ≤ patterns
   rest_within n rest kind (missing e l k) = omega (arith, l)
-  rest_within n rest kind (no_line e l none k) = l
-  rest_within n rest kind (too_many p b m begins all k) = omega (arith, all)
-  rest_within n rest kind (misplaced p b m begins l other k) = omega (arith, l)
-  rest_within n rest kind (wrong_width b m begins l other k) = omega (arith, l)
+  rest_within n rest kind (no_line unreadable l k) = l
+  rest_within n rest kind (too_many line all k) = omega (arith, all)
+  rest_within n rest kind (misplaced line l other k) = omega (arith, l)
+  rest_within n rest kind (wrong_width line l same other k) = omega (arith, l)
 
   keeps_right : KeepsRight log_line positions (tells_row positions) (LogRestRefused patterns positions)
   keeps_right n m row more rest kind other before wide refused behind =
@@ -72,56 +85,56 @@ module _ (patterns positions : ℕ) (small : patterns < 2 ^ 32) where
 
   from_missing : (n : ℕ) (rest : Text) (kind : LogKind) → rest ≡ [] → n < patterns → LogRestRefused patterns positions n rest kind → kind ≡ Missing
   from_missing n rest kind none below (missing e l k) = k
-  from_missing n rest kind none below (no_line some l never k) = absurd (some none)
-  from_missing n rest kind none below (too_many p b m begins all k) = absurd (omega (arith, below, all))
-  from_missing n rest kind none below (misplaced p b m begins l other k) = absurd (not_empty (log_line p b) m 10 (sym begins.1 ∙ none))
-  from_missing n rest kind none below (wrong_width b m begins l other k) = absurd (not_empty (log_line n b) m 10 (sym begins.1 ∙ none))
+  from_missing n rest kind none below (no_line unreadable l k) = absurd (unreadable.some none)
+  from_missing n rest kind none below (too_many line all k) = absurd (omega (arith, below, all))
+  from_missing n rest kind none below (misplaced line l other k) = absurd (line_stands line none)
+  from_missing n rest kind none below (wrong_width line l same other k) = absurd (line_stands line none)
 
   from_no_line : (n : ℕ) (rest : Text) (kind : LogKind) → (rest ≡ [] → ⊥) → HasNoLine rest → LogRestRefused patterns positions n rest kind → kind ≡ Syntax
   from_no_line n rest kind some never (missing e l k) = absurd (some e)
-  from_no_line n rest kind some never (no_line e l none k) = k
-  from_no_line n rest kind some never (too_many p b m begins all k) = absurd (never p b m begins)
-  from_no_line n rest kind some never (misplaced p b m begins l other k) = absurd (never p b m begins)
-  from_no_line n rest kind some never (wrong_width b m begins l other k) = absurd (never n b m begins)
+  from_no_line n rest kind some never (no_line unreadable l k) = k
+  from_no_line n rest kind some never (too_many line all k) = absurd (never line.pattern line.bits line.more line.begins)
+  from_no_line n rest kind some never (misplaced line l other k) = absurd (never line.pattern line.bits line.more line.begins)
+  from_no_line n rest kind some never (wrong_width line l same other k) = absurd (never line.pattern line.bits line.more line.begins)
 
-  module _ (n : ℕ) (rest : Text) (kind : LogKind) (p : ℕ) (b : List Bool) (m : Text) (begins : BeginsWithLine rest p b m) where
+  module _ (n : ℕ) (rest : Text) (kind : LogKind) (first : FirstLogLine rest) where
     from_too_many : n ≡ patterns → LogRestRefused patterns positions n rest kind → kind ≡ Order
     from_too_many all (missing e l k) = absurd (omega (arith, all, l))
-    from_too_many all (no_line e l none k) = absurd (none p b m begins)
-    from_too_many all (too_many p' b' m' begins' all' k) = k
-    from_too_many all (misplaced p' b' m' begins' l other k) = k
-    from_too_many all (wrong_width b' m' begins' l other k) = absurd (omega (arith, all, l))
+    from_too_many all (no_line unreadable l k) = absurd (unreadable.none first.pattern first.bits first.more first.begins)
+    from_too_many all (too_many line all' k) = k
+    from_too_many all (misplaced line l other k) = k
+    from_too_many all (wrong_width line l same other k) = absurd (omega (arith, all, l))
 
-    from_misplaced : n < patterns → (p ≡ n → ⊥) → LogRestRefused patterns positions n rest kind → kind ≡ Order
-    from_misplaced below apart (missing e l k) = absurd (not_empty (log_line p b) m 10 (sym begins.1 ∙ e))
-    from_misplaced below apart (no_line e l none k) = absurd (none p b m begins)
-    from_misplaced below apart (too_many p' b' m' begins' all' k) = k
-    from_misplaced below apart (misplaced p' b' m' begins' l other k) = k
-    from_misplaced below apart (wrong_width b' m' begins' l other k) = absurd (apart (line_once p n b b' m m' begins.0 begins'.0 (sym begins.1 ∙ begins'.1)).0)
+    from_misplaced : n < patterns → first.pattern ≢ n → LogRestRefused patterns positions n rest kind → kind ≡ Order
+    from_misplaced below apart (missing e l k) = absurd (line_stands first e)
+    from_misplaced below apart (no_line unreadable l k) = absurd (unreadable.none first.pattern first.bits first.more first.begins)
+    from_misplaced below apart (too_many line all k) = k
+    from_misplaced below apart (misplaced line l other k) = k
+    from_misplaced below apart (wrong_width line l same other k) = absurd (apart (one_first first line ∙ same))
 
-    from_wrong_width : n < patterns → p ≡ n → (length b ≡ positions → ⊥) → LogRestRefused patterns positions n rest kind → kind ≡ Width
-    from_wrong_width below same wide (missing e l k) = absurd (not_empty (log_line p b) m 10 (sym begins.1 ∙ e))
-    from_wrong_width below same wide (no_line e l none k) = absurd (none p b m begins)
-    from_wrong_width below same wide (too_many p' b' m' begins' all' k) = absurd (omega (arith, below, all'))
-    from_wrong_width below same wide (misplaced p' b' m' begins' l other k) = absurd (other (sym (line_once p p' b b' m m' begins.0 begins'.0 (sym begins.1 ∙ begins'.1)).0 ∙ same))
-    from_wrong_width below same wide (wrong_width b' m' begins' l other k) = k
+    from_wrong_width : n < patterns → first.pattern ≡ n → length first.bits ≢ positions → LogRestRefused patterns positions n rest kind → kind ≡ Width
+    from_wrong_width below same wide (missing e l k) = absurd (line_stands first e)
+    from_wrong_width below same wide (no_line unreadable l k) = absurd (unreadable.none first.pattern first.bits first.more first.begins)
+    from_wrong_width below same wide (too_many line all k) = absurd (omega (arith, below, all))
+    from_wrong_width below same wide (misplaced line l other k) = absurd (other (sym (one_first first line) ∙ same))
+    from_wrong_width below same wide (wrong_width line l same' other k) = k
 
   one_rule : OneRule log_line positions (tells_row positions) (LogRestRefused patterns positions)
   one_rule n rest kind other (missing e l k) again = k ∙ sym (from_missing n rest other e l again)
-  one_rule n rest kind other (no_line e l none k) again = k ∙ sym (from_no_line n rest other e none again)
-  one_rule n rest kind other (too_many p b m begins all k) again = k ∙ sym (from_too_many n rest other p b m begins all again)
-  one_rule n rest kind other (misplaced p b m begins l apart k) again = k ∙ sym (from_misplaced n rest other p b m begins l apart again)
-  one_rule n rest kind other (wrong_width b m begins l wide k) again = k ∙ sym (from_wrong_width n rest other n b m begins l refl wide again)
+  one_rule n rest kind other (no_line unreadable l k) again = k ∙ sym (from_no_line n rest other unreadable.some unreadable.none again)
+  one_rule n rest kind other (too_many line all k) again = k ∙ sym (from_too_many n rest other line all again)
+  one_rule n rest kind other (misplaced line l apart k) again = k ∙ sym (from_misplaced n rest other line l apart again)
+  one_rule n rest kind other (wrong_width line l same wide k) again = k ∙ sym (from_wrong_width n rest other line l same wide again)
 
   pub log_refused_once : (text : Text) (kind other : LogKind) (line number : ℕ) → TesterLogRefused patterns positions text kind line → TesterLogRefused patterns positions text other number → (kind ≡ other) × (line ≡ number)
   log_refused_once = refused_once log_line positions (tells_row positions) (LogRestRefused patterns positions) one_rule keeps_right
 
   end_is_right : (n : ℕ) (kind : LogKind) → n ≡ patterns → LogRestRefused patterns positions n [] kind → ⊥
   end_is_right n kind all (missing e l k) = omega (arith, all, l)
-  end_is_right n kind all (no_line e l none k) = e refl
-  end_is_right n kind all (too_many p b m begins all' k) = not_empty (log_line p b) m 10 (sym begins.1)
-  end_is_right n kind all (misplaced p b m begins l other k) = omega (arith, all, l)
-  end_is_right n kind all (wrong_width b m begins l other k) = omega (arith, all, l)
+  end_is_right n kind all (no_line unreadable l k) = unreadable.some refl
+  end_is_right n kind all (too_many line all' k) = line_stands line refl
+  end_is_right n kind all (misplaced line l other k) = omega (arith, all, l)
+  end_is_right n kind all (wrong_width line l same other k) = omega (arith, all, l)
 
   pub log_refused_wrong : (text : Text) (observed : List (List Bool)) (kind : LogKind) (line : ℕ) → TesterLogRefused patterns positions text kind line → ¬ IsLog patterns positions text observed
   log_refused_wrong text observed kind line refused is =
@@ -169,7 +182,7 @@ pub log_refused : (patterns positions : ℕ) (text : Text) (place : ℕ) (observ
     → LogRestRefused patterns positions place rest kind → TesterLogRefused patterns positions text kind (place + 1)
 log_refused patterns positions text place observed rest kind so_far within short refused =
     let front : length (take place observed) ≡ place = length-take-le place observed (omega (arith, within, so_far.rows.count_is)) in
-    at_line (take place observed) rest short (All-take (λ row. length row ≡ positions) place observed so_far.rows.width_is) so_far.text_is
+    at_line (take place observed) rest short (record { wide = All-take (λ row. length row ≡ positions) place observed so_far.rows.width_is; text_is = so_far.text_is })
     (subst (λ (k : ℕ). LogRestRefused patterns positions k rest kind) (sym front) refused) (omega (arith, front))
 
 pub log_refused_at : (patterns positions : ℕ) (text : Text) (place : ℕ) (observed : List (List Bool)) (rest : Text) (kind : LogKind) → IsLogSoFar patterns positions text place observed rest → place ≡ patterns → length text ≤ text_limit
@@ -182,14 +195,14 @@ log_refused_at patterns positions text place observed rest kind so_far same shor
 
 module _ (patterns positions before : ℕ) (rest : Text) where
   pub refuse_order : (pattern : ℕ) (digits more : Text) → BeginsWithLine rest pattern (digit_bits digits) more → before < patterns → (pattern ≡ before → ⊥) → LogRestRefused patterns positions before rest Order
-  refuse_order pattern digits more begins below other = misplaced pattern (digit_bits digits) more begins below other refl
+  refuse_order pattern digits more begins below other = misplaced (record { pattern = pattern; bits = digit_bits digits; more = more; begins = begins }) below other refl
 
   pub refuse_more : (pattern : ℕ) (digits more : Text) → BeginsWithLine rest pattern (digit_bits digits) more → before ≡ patterns → LogRestRefused patterns positions before rest Order
-  refuse_more pattern digits more begins all = too_many pattern (digit_bits digits) more begins all refl
+  refuse_more pattern digits more begins all = too_many (record { pattern = pattern; bits = digit_bits digits; more = more; begins = begins }) all refl
 
   pub refuse_width : (pattern : ℕ) (digits more : Text) → BeginsWithLine rest pattern (digit_bits digits) more → before < patterns → pattern ≡ before → (length digits ≡ positions → ⊥) → LogRestRefused patterns positions before rest Width
   refuse_width pattern digits more begins below same other =
-      wrong_width (digit_bits digits) more (subst (λ (n : ℕ). BeginsWithLine rest n (digit_bits digits) more) same begins) below (λ e. other (sym (length-map digits (λ digit. eqb digit 49)) ∙ e)) refl
+      wrong_width (record { pattern = pattern; bits = digit_bits digits; more = more; begins = begins }) below same (λ e. other (sym (length-map digits (λ digit. eqb digit 49)) ∙ e)) refl
 
 -- ---- a line and its fields
 

@@ -8,7 +8,7 @@ use Rattle.net_model.specs.Rows.{AreWide}
 use Rattle.diagnose.specs.declared.fault.LogKind.{LogKind}
 use Rattle.diagnose.specs.declared.fault.LogKind.TheVariants.{Syntax, Width}
 use Rattle.diagnose.specs.Lines.{Text, text_limit, lines_from, digit_bits, IsCutAt, at_line}
-use Rattle.diagnose.specs.VectorText.{listed_vector, IsVectorList, HasNoVector, VectorRestRefused, no_vector, wrong_width, VectorsRefused, IsRightVector}
+use Rattle.diagnose.specs.VectorText.{listed_vector, IsVectorList, HasNoVector, VectorRestRefused, FirstVectorLine, no_vector, wrong_width, VectorsRefused, IsRightVector}
 use Rattle.diagnose.proofs.Cuts.{cut_once, not_empty}
 use Rattle.result_file.proofs.BitLemmas.{bits_once}
 use Rattle.diagnose.proofs.LogLemmas.{bits_without_feed}
@@ -25,30 +25,30 @@ tells_vector width n row other rest more e = tells_bits row other rest more e
 module _ (sources : ℕ) where
   -- a right line is never refused
   right_vector : (n : ℕ) (bits : List Bool) (more : Text) (kind : LogKind) → length bits ≡ sources → VectorRestRefused sources n (bits_text bits ++ 10 ∷ more) kind → ⊥
-  right_vector n bits more kind wide (no_vector e none k) = none bits more refl
-  right_vector n bits more kind wide (wrong_width b m begins other k) = other (sym (ap (λ (xs : List Bool). length xs) (tells_bits bits b more m begins).0) ∙ wide)
+  right_vector n bits more kind wide (no_vector unreadable k) = unreadable.none bits more refl
+  right_vector n bits more kind wide (wrong_width line other k) = other (sym (ap (λ (xs : List Bool). length xs) (tells_bits bits line.bits more line.more line.begins).0) ∙ wide)
 
   keeps_right : KeepsRight listed_vector sources (tells_vector sources) (VectorRestRefused sources)
   keeps_right n m row more rest kind other before wide refused behind = right_vector n row more kind wide refused
 
   from_no_vector : (n : ℕ) (rest : Text) (kind : LogKind) → HasNoVector rest → VectorRestRefused sources n rest kind → kind ≡ Syntax
-  from_no_vector n rest kind never (no_vector e none k) = k
-  from_no_vector n rest kind never (wrong_width b m begins other k) = absurd (never b m begins)
+  from_no_vector n rest kind never (no_vector unreadable k) = k
+  from_no_vector n rest kind never (wrong_width line other k) = absurd (never line.bits line.more line.begins)
 
-  from_width : (n : ℕ) (rest : Text) (kind : LogKind) (b : List Bool) (m : Text) → rest ≡ bits_text b ++ 10 ∷ m → VectorRestRefused sources n rest kind → kind ≡ Width
-  from_width n rest kind b m begins (no_vector e none k) = absurd (none b m begins)
-  from_width n rest kind b m begins (wrong_width b' m' begins' other k) = k
+  from_width : (n : ℕ) (rest : Text) (kind : LogKind) → FirstVectorLine rest → VectorRestRefused sources n rest kind → kind ≡ Width
+  from_width n rest kind line (no_vector unreadable k) = absurd (unreadable.none line.bits line.more line.begins)
+  from_width n rest kind line (wrong_width line' other k) = k
 
   one_rule : OneRule listed_vector sources (tells_vector sources) (VectorRestRefused sources)
-  one_rule n rest kind other (no_vector e none k) again = k ∙ sym (from_no_vector n rest other none again)
-  one_rule n rest kind other (wrong_width b m begins wide k) again = k ∙ sym (from_width n rest other b m begins again)
+  one_rule n rest kind other (no_vector unreadable k) again = k ∙ sym (from_no_vector n rest other unreadable.none again)
+  one_rule n rest kind other (wrong_width line wide k) again = k ∙ sym (from_width n rest other line again)
 
   pub list_refused_once : (text : Text) (kind other : LogKind) (line number : ℕ) → VectorsRefused sources text kind line → VectorsRefused sources text other number → (kind ≡ other) × (line ≡ number)
   list_refused_once = refused_once listed_vector sources (tells_vector sources) (VectorRestRefused sources) one_rule keeps_right
 
   end_is_right : (n : ℕ) (kind : LogKind) → VectorRestRefused sources n [] kind → ⊥
-  end_is_right n kind (no_vector e none k) = e refl
-  end_is_right n kind (wrong_width b m begins other k) = not_empty (bits_text b) m 10 (sym begins)
+  end_is_right n kind (no_vector unreadable k) = unreadable.some refl
+  end_is_right n kind (wrong_width line other k) = not_empty (bits_text line.bits) line.more 10 (sym line.begins)
 
   pub list_refused_wrong : (text : Text) (vectors : List (List Bool)) (kind : LogKind) (line : ℕ) → VectorsRefused sources text kind line → ¬ IsVectorList sources text vectors
   list_refused_wrong text vectors kind line refused is =
@@ -91,7 +91,7 @@ list_done sources text number vectors (b ∷ rest) so_far short none = absurd (o
 pub list_refused : (sources : ℕ) (text : Text) (number : ℕ) (vectors : List (List Bool)) (rest : Text) (kind : LogKind) → IsListSoFar sources text number vectors rest → length text ≤ text_limit
     → ((before : ℕ) → VectorRestRefused sources before rest kind) → VectorsRefused sources text kind number
 list_refused sources text number vectors rest kind so_far short refused =
-    at_line vectors rest short so_far.wide so_far.text_is (refused (length vectors)) so_far.number_is
+    at_line vectors rest short (record { wide = so_far.wide; text_is = so_far.text_is }) (refused (length vectors)) so_far.number_is
 
 -- ---- the first line of a list
 
@@ -103,4 +103,4 @@ no_bits_vector text line more cut none bits behind e =
     none bits (sym (cut_once 10 line (bits_text bits) more behind cut.first (bits_without_feed bits) (sym cut.text_is ∙ e)).0)
 
 pub refuse_wide_vector : (sources before : ℕ) (rest digits more : Text) → rest ≡ bits_text (digit_bits digits) ++ 10 ∷ more → (length digits ≡ sources → ⊥) → VectorRestRefused sources before rest Width
-refuse_wide_vector sources before rest digits more begins other = wrong_width (digit_bits digits) more begins (λ e. other (sym (length-map digits (λ digit. eqb digit 49)) ∙ e)) refl
+refuse_wide_vector sources before rest digits more begins other = wrong_width (record { bits = digit_bits digits; more = more; begins = begins }) (λ e. other (sym (length-map digits (λ digit. eqb digit 49)) ∙ e)) refl

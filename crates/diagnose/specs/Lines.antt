@@ -44,14 +44,21 @@ abbrev pub lines_from : LineForm → ℕ → List (List Bool) → Text
 lines_from line n [] = []
 lines_from line n (row ∷ rows) = line n row ++ 10 ∷ lines_from line (n + 1) rows
 
+-- The text begins with the lines of rows of this width, and the rest stands behind them.
+pub record BeginsWithRows (line : LineForm) (width : ℕ) (text : Text) (rows : List (List Bool)) (rest : Text) : Type 0 where
+  pub wide : AreWide width rows
+  pub text_is : text ≡ lines_from line 0 rows ++ rest
+
 -- Why what stands behind so many right lines is refused.
 abbrev pub RestRule : Type 1
 RestRule = ℕ → Text → LogKind → Type 0
 
--- A text of lines is refused by this rule at this line: by its length, or since what stands behind some right lines is refused.
+-- A text of lines is refused by this rule at this line.
 pub data LinesRefused (line : LineForm) (width : ℕ) (Rest : RestRule) (text : Text) (kind : LogKind) (number : ℕ) : Type 0 where
+  -- It is too long: the line is that at which it goes beyond the limit.
   too_long : text_limit < length text → kind ≡ TooLong → number ≡ line_number text text_limit → LinesRefused line width Rest text kind number
-  at_line : (rows : List (List Bool)) (rest : Text) → length text ≤ text_limit → AreWide width rows → text ≡ lines_from line 0 rows ++ rest → Rest (length rows) rest kind → number ≡ length rows + 1
+  -- What stands behind some right lines is refused: the line is the next one.
+  at_line : (rows : List (List Bool)) (rest : Text) → length text ≤ text_limit → BeginsWithRows line width text rows rest → Rest (length rows) rest kind → number ≡ length rows + 1
       → LinesRefused line width Rest text kind number
 
 -- A fault tells the rule and the line of a refusal, or want of memory.

@@ -24,13 +24,30 @@ BeginsWithLine text pattern bits more = (pattern < 2 ^ 32) × (text ≡ log_line
 abbrev pub HasNoLine : Text → Type 0
 HasNoLine text = (pattern : ℕ) (bits : List Bool) (more : Text) → BeginsWithLine text pattern bits more → ⊥
 
+-- The line of a log with which a text begins.
+pub record FirstLogLine (text : Text) : Type 0 where
+  pub pattern : ℕ
+  pub bits : List Bool
+  pub more : Text
+  pub begins : BeginsWithLine text pattern bits more
+
+-- Something stands there, and it begins with no line of a log.
+pub record IsUnreadableLog (text : Text) : Type 0 where
+  pub some : text ≢ []
+  pub none : HasNoLine text
+
 -- What stands behind the lines of the patterns before this one is refused so.
 pub data LogRestRefused (patterns positions before : ℕ) (rest : Text) (kind : LogKind) : Type 0 where
+  -- Nothing does, though there is a pattern more.
   missing : rest ≡ [] → before < patterns → kind ≡ Missing → LogRestRefused patterns positions before rest kind
-  no_line : rest ≢ [] → before ≤ patterns → HasNoLine rest → kind ≡ Syntax → LogRestRefused patterns positions before rest kind
-  too_many : (pattern : ℕ) (bits : List Bool) (more : Text) → BeginsWithLine rest pattern bits more → before ≡ patterns → kind ≡ Order → LogRestRefused patterns positions before rest kind
-  misplaced : (pattern : ℕ) (bits : List Bool) (more : Text) → BeginsWithLine rest pattern bits more → before < patterns → pattern ≢ before → kind ≡ Order → LogRestRefused patterns positions before rest kind
-  wrong_width : (bits : List Bool) (more : Text) → BeginsWithLine rest before bits more → before < patterns → length bits ≢ positions → kind ≡ Width → LogRestRefused patterns positions before rest kind
+  -- It begins with no line, wherever it stands.
+  no_line : IsUnreadableLog rest → before ≤ patterns → kind ≡ Syntax → LogRestRefused patterns positions before rest kind
+  -- It begins with a line, though there is no pattern more.
+  too_many : FirstLogLine rest → before ≡ patterns → kind ≡ Order → LogRestRefused patterns positions before rest kind
+  -- It begins with the line of another pattern than the next one.
+  misplaced : (line : FirstLogLine rest) → before < patterns → line.pattern ≢ before → kind ≡ Order → LogRestRefused patterns positions before rest kind
+  -- It begins with the line of the next pattern, which has too few or too many bits.
+  wrong_width : (line : FirstLogLine rest) → before < patterns → line.pattern ≡ before → length line.bits ≢ positions → kind ≡ Width → LogRestRefused patterns positions before rest kind
 
 -- The log is refused by this rule at this line.
 abbrev pub TesterLogRefused : ℕ → ℕ → Text → LogKind → ℕ → Type 0

@@ -20,10 +20,23 @@ pub record IsVectorList (sources : ℕ) (text : Text) (vectors : List (List Bool
 abbrev pub HasNoVector : Text → Type 0
 HasNoVector text = (bits : List Bool) (more : Text) → text ≢ bits_text bits ++ 10 ∷ more
 
+-- The line of bits with which a text begins.
+pub record FirstVectorLine (text : Text) : Type 0 where
+  pub bits : List Bool
+  pub more : Text
+  pub begins : text ≡ bits_text bits ++ 10 ∷ more
+
+-- Something stands there, and it begins with no line of bits.
+pub record IsUnreadableVector (text : Text) : Type 0 where
+  pub some : text ≢ []
+  pub none : HasNoVector text
+
 -- What stands behind some right lines is refused so.
 pub data VectorRestRefused (sources before : ℕ) (rest : Text) (kind : LogKind) : Type 0 where
-  no_vector : rest ≢ [] → HasNoVector rest → kind ≡ Syntax → VectorRestRefused sources before rest kind
-  wrong_width : (bits : List Bool) (more : Text) → rest ≡ bits_text bits ++ 10 ∷ more → length bits ≢ sources → kind ≡ Width → VectorRestRefused sources before rest kind
+  -- It begins with no line of bits.
+  no_vector : IsUnreadableVector rest → kind ≡ Syntax → VectorRestRefused sources before rest kind
+  -- It begins with too few bits, or too many.
+  wrong_width : (line : FirstVectorLine rest) → length line.bits ≢ sources → kind ≡ Width → VectorRestRefused sources before rest kind
 
 -- The list is refused by this rule at this line.
 abbrev pub VectorsRefused : ℕ → Text → LogKind → ℕ → Type 0

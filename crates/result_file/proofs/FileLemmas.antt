@@ -15,12 +15,12 @@ use Rattle.result_file.specs.declared.fault.ResultFault.{ResultFault}
 use Rattle.result_file.specs.Spelling.{Text, spelling, text_of, HasSpelling}
 use Rattle.result_file.specs.Marks.{is_end, end_lines}
 use Rattle.result_file.specs.Valid.{AreRightLines, record_at, IsValid, IsValidFile}
-use Rattle.result_file.specs.Refusal.{line_length, RestRefused, FileRefused}
+use Rattle.result_file.specs.Refusal.{line_length, RestRefused, BeginsWithRightLines, FileRefused}
 use Rattle.result_file.specs.Refusal.RestRefused.{no_line, no_record, misplaced, wrong}
 use Rattle.result_file.specs.Refusal.FileRefused.{at_line, too_long}
 use Rattle.result_file.proofs.FieldLemmas.{no_line_feed}
 use Rattle.result_file.proofs.FirstLine.{ended_length}
-use Rattle.result_file.proofs.RefusalLemmas.{record_once, empty_line, rest_wrong, rest_once}
+use Rattle.result_file.proofs.RefusalLemmas.{record_once, empty_line, record_stands, rest_wrong, rest_once}
 use Rattle.result_file.proofs.RightLines.{IsNextLine}
 
 -- Two cuts of a text into lines of records and a rest: they are the same, or one has a record more where the other has its rest.
@@ -77,7 +77,7 @@ module _ {c : Circuit} where
 module _ (c : Circuit) (is : IsCircuit c) where
   -- a line is refused, and no right lines have a record there
   never_more : {ls ms : List Record} {x : Text} (reason : ResultKind) (r : Record) (more : List Record) (rest : Text) → RestRefused c ls x reason → AreRightLines c ms → ms ≡ ls ++ r ∷ more → x ≡ spelling r ++ 10 ∷ rest → ⊥
-  never_more {ls} {ms} {x} reason r more rest refused right e line = let next = next_right ls r more right e in rest_wrong c is ls x reason r rest refused line next.spelled next.right
+  never_more {ls} {ms} {x} reason r more rest refused right e line = let next = next_right ls r more right e in rest_wrong c is ls x reason r refused (record { spelled = next.spelled; more = rest; text_is = line }) next.right
 
   -- a line that goes beyond the limit is on no lines within it
   never_within : (ls ms : List Record) (x : Text) (r : Record) (more : List Record) (rest : Text) → 2 ^ 40 < length (text_of ls) + line_length x → AreRightLines c ms → length (text_of ms) ≤ 2 ^ 40
@@ -109,18 +109,22 @@ module _ (c : Circuit) (is : IsCircuit c) where
   one_length ls ms x y right right' within within' beyond beyond' (shorter r more es line) = absurd (never_within ls ms x r more (text_of more ++ y) beyond right' within' es line)
   one_length ls ms x y right right' within within' beyond beyond' (longer r more es line) = absurd (never_within ms ls y r more (text_of more ++ x) beyond' right within es line)
 
-  compared_lines : {file : Text} (ls ms : List Record) (x y : Text) → AreRightLines c ls → AreRightLines c ms → file ≡ text_of ls ++ x → file ≡ text_of ms ++ y → Compared ls ms x y
-  compared_lines ls ms x y right right' first second = compared ls ms x y (spelled_lines right) (spelled_lines right') (sym first ∙ second)
+  compared_lines : {file : Text} (ls ms : List Record) (x y : Text) → BeginsWithRightLines c file ls x → BeginsWithRightLines c file ms y → Compared ls ms x y
+  compared_lines ls ms x y first second = compared ls ms x y (spelled_lines first.right) (spelled_lines second.right) (sym first.text ∙ second.text)
+
+  -- those of a valid file are all of it
+  all_lines : {file : Text} (valid : IsValidFile c file) → BeginsWithRightLines c file valid.records []
+  all_lines valid = record { text = valid.text ∙ sym (append-nil (text_of valid.records)); right = valid.valid.lines }
 
   pub file_once : (file : Text) (fault other : ResultFault) → FileRefused c file fault → FileRefused c file other → fault ≡ other
-  file_once file fault other (at_line ls x reason text right within refused fault_is) (at_line ms y reason' text' right' within' refused' other_is) =
-      fault_is ∙ lines_once ls ms x y reason reason' right right' refused refused' (compared_lines ls ms x y right right' text text') ∙ sym other_is
-  file_once file fault other (at_line ls x reason text right within refused fault_is) (too_long ms y text' right' short beyond other_is) =
-      absurd (never_both ls ms x y reason right right' refused within beyond (compared_lines ls ms x y right right' text text'))
-  file_once file fault other (too_long ls x text right short beyond fault_is) (at_line ms y reason text' right' within refused other_is) =
-      absurd (never_both ms ls y x reason right' right refused within beyond (compared_lines ms ls y x right' right text' text))
-  file_once file fault other (too_long ls x text right short beyond fault_is) (too_long ms y text' right' short' beyond' other_is) =
-      let es = one_length ls ms x y right right' short short' beyond beyond' (compared_lines ls ms x y right right' text text') in
+  file_once file fault other (at_line ls x reason begins within refused fault_is) (at_line ms y reason' begins' within' refused' other_is) =
+      fault_is ∙ lines_once ls ms x y reason reason' begins.right begins'.right refused refused' (compared_lines ls ms x y begins begins') ∙ sym other_is
+  file_once file fault other (at_line ls x reason begins within refused fault_is) (too_long ms y begins' short beyond other_is) =
+      absurd (never_both ls ms x y reason begins.right begins'.right refused within beyond (compared_lines ls ms x y begins begins'))
+  file_once file fault other (too_long ls x begins short beyond fault_is) (at_line ms y reason begins' within refused other_is) =
+      absurd (never_both ms ls y x reason begins'.right begins.right refused within beyond (compared_lines ms ls y x begins' begins))
+  file_once file fault other (too_long ls x begins short beyond fault_is) (too_long ms y begins' short' beyond' other_is) =
+      let es = one_length ls ms x y begins.right begins'.right short short' beyond beyond' (compared_lines ls ms x y begins begins') in
       fault_is ∙ (λ i. record { kind = why.TooLong; line = length (es i) + 1 }) ∙ sym other_is
 
   -- ---- valid files
@@ -131,10 +135,10 @@ module _ (c : Circuit) (is : IsCircuit c) where
       omega (arith, none, sum_by-append (λ r. cond (is_end r) 1 0) before (End ∷ []))
 
   empty_rest : (ls : List Record) (x : Text) (reason : ResultKind) → IsValid c ls → x ≡ [] → RestRefused c ls x reason → ⊥
-  empty_rest ls x reason valid nothing (no_line e unended is_order) = ended valid.before (ap end_lines (sym valid.ended) ∙ unended)
-  empty_rest ls x reason valid nothing (no_record some never is_syntax) = some nothing
-  empty_rest ls x reason valid nothing (misplaced r more t line spelled table out is_order) = empty_line (spelling r) more (sym nothing ∙ line)
-  empty_rest ls x reason valid nothing (wrong r more t line spelled table place refused) = empty_line (spelling r) more (sym nothing ∙ line)
+  empty_rest ls x reason valid nothing (no_line early is_order) = ended valid.before (ap end_lines (sym valid.ended) ∙ early.unended)
+  empty_rest ls x reason valid nothing (no_record unreadable is_syntax) = unreadable.some nothing
+  empty_rest ls x reason valid nothing (misplaced r begins out is_order) = record_stands begins nothing
+  empty_rest ls x reason valid nothing (wrong r begins there) = record_stands begins nothing
 
   line_not_valid : (ls records : List Record) (x : Text) (reason : ResultKind) → AreRightLines c ls → IsValid c records → RestRefused c ls x reason → Compared ls records x [] → ⊥
   line_not_valid ls records x reason right valid refused (same es rest) = empty_rest ls x reason (subst (IsValid c) (sym es) valid) rest refused
@@ -148,8 +152,6 @@ module _ (c : Circuit) (is : IsCircuit c) where
   length_not_valid ls records x right valid within short beyond (longer r more es line) = empty_line (spelling r) (text_of more ++ x) line
 
   pub file_wrong : (file : Text) (fault : ResultFault) → FileRefused c file fault → ¬ IsValidFile c file
-  file_wrong file fault (at_line ls x reason text right within refused fault_is) valid =
-      line_not_valid ls valid.records x reason right valid.valid refused (compared_lines ls valid.records x [] right valid.valid.lines text (valid.text ∙ sym (append-nil (text_of valid.records))))
-  file_wrong file fault (too_long ls x text right within beyond fault_is) valid =
-      length_not_valid ls valid.records x right valid.valid within (omega (arith, valid.short, ap length valid.text)) beyond
-      (compared_lines ls valid.records x [] right valid.valid.lines text (valid.text ∙ sym (append-nil (text_of valid.records))))
+  file_wrong file fault (at_line ls x reason begins within refused fault_is) valid = line_not_valid ls valid.records x reason begins.right valid.valid refused (compared_lines ls valid.records x [] begins (all_lines valid))
+  file_wrong file fault (too_long ls x begins within beyond fault_is) valid =
+      length_not_valid ls valid.records x begins.right valid.valid within (omega (arith, valid.short, ap length valid.text)) beyond (compared_lines ls valid.records x [] begins (all_lines valid))

@@ -23,7 +23,7 @@ use Rattle.result_file.specs.declared.fault.ResultKind.{ResultKind}
 use Rattle.result_file.specs.declared.fault.ResultKind.TheVariants as why
 use Rattle.result_file.specs.Spelling.{Text, spelling, HasSpelling}
 use Rattle.result_file.specs.Lines.{budgets_in, IsRightContent, IsRightProof, IsRightLine}
-use Rattle.result_file.specs.Refusal.{PairRefused, ProofRefused, EvidenceRefused, ContentRefused, RestRefused, partner_fault, member_fault}
+use Rattle.result_file.specs.Refusal.{PairRefused, ProofRefused, EvidenceRefused, ContentRefused, BeginsWithRecord, IsMisplaced, IsWrongThere, RestRefused, partner_fault, member_fault}
 use Rattle.result_file.specs.Refusal.PairRefused.{by_tree, by_log}
 use Rattle.result_file.specs.Refusal.EvidenceRefused.{by_name, by_roots, by_proof}
 use Rattle.result_file.specs.Refusal.RestRefused.{no_line, no_record, misplaced, wrong}
@@ -99,39 +99,42 @@ pub empty_line : (text more : Text) → [] ≡ text ++ 10 ∷ more → ⊥
 empty_line [] more e = cc
 empty_line (b ∷ text) more e = cc
 
+-- a text that begins with a record isn't empty, and begins with one
+pub record_stands : {text : Text} {r : Record} → BeginsWithRecord text r → text ≡ [] → ⊥
+record_stands {text} {r} begins none = empty_line (spelling r) begins.more (sym none ∙ begins.text_is)
+
+one_first : {text : Text} {r other : Record} → BeginsWithRecord text r → BeginsWithRecord text other → r ≡ other
+one_first {text} {r} {other} first second = (record_once r other first.more second.more first.spelled second.spelled (sym first.text_is ∙ second.text_is)).0
+
 module _ (c : Circuit) (is : IsCircuit c) (before : List Record) (rest : Text) where
+  -- a record is in its place or not, by whichever table
+  never_there : {r other : Record} {reason : ResultKind} → BeginsWithRecord rest r → BeginsWithRecord rest other → IsMisplaced c before r → IsWrongThere c before other reason → ⊥
+  never_there first second out there = out.out (rw (one_first first second, one_table c is out.table_is there.table_is) there.place)
+
   -- a refused line isn't right
-  pub rest_wrong : (reason : ResultKind) (r : Record) (more : Text) → RestRefused c before rest reason → rest ≡ spelling r ++ 10 ∷ more → HasSpelling r → IsRightLine c before r → ⊥
-  rest_wrong reason r more (no_line nothing unended is_order) line spelled right = empty_line (spelling r) more (sym nothing ∙ line)
-  rest_wrong reason r more (no_record some never is_syntax) line spelled right = never r more spelled line
-  rest_wrong reason r more (misplaced r' more' t line' spelled' table out is_order) line spelled right =
-      let same = (record_once r' r more' more spelled' spelled (sym line' ∙ line)).0 in
-      out (rw (same, one_table c is table right.table) right.place)
-  rest_wrong reason r more (wrong r' more' t line' spelled' table place refused) line spelled right =
-      let same = (record_once r' r more' more spelled' spelled (sym line' ∙ line)).0 in
-      content_wrong c t before r' reason refused (rw (same, one_table c is table right.table) right.content)
+  pub rest_wrong : (reason : ResultKind) (r : Record) → RestRefused c before rest reason → BeginsWithRecord rest r → IsRightLine c before r → ⊥
+  rest_wrong reason r (no_line early is_order) begins right = record_stands begins early.nothing
+  rest_wrong reason r (no_record unreadable is_syntax) begins right = unreadable.none r begins.more begins.spelled begins.text_is
+  rest_wrong reason r (misplaced other first out is_order) begins right = out.out (rw (one_first first begins, one_table c is out.table_is right.table) right.place)
+  rest_wrong reason r (wrong other first there) begins right =
+      content_wrong c there.table before other reason there.refused (rw (one_first first begins, one_table c is there.table_is right.table) right.content)
 
   -- the rule that it breaks is one
   pub rest_once : (reason other : ResultKind) → RestRefused c before rest reason → RestRefused c before rest other → reason ≡ other
-  rest_once reason other (no_line nothing unended why_first) (no_line nothing' unended' why_second) = why_first ∙ sym why_second
-  rest_once reason other (no_line nothing unended why_first) (no_record some never why_second) = absurd (some nothing)
-  rest_once reason other (no_line nothing unended why_first) (misplaced r more t line spelled table out why_second) = absurd (empty_line (spelling r) more (sym nothing ∙ line))
-  rest_once reason other (no_line nothing unended why_first) (wrong r more t line spelled table place refused) = absurd (empty_line (spelling r) more (sym nothing ∙ line))
-  rest_once reason other (no_record some never why_first) (no_line nothing unended why_second) = absurd (some nothing)
-  rest_once reason other (no_record some never why_first) (no_record some' never' why_second) = why_first ∙ sym why_second
-  rest_once reason other (no_record some never why_first) (misplaced r more t line spelled table out why_second) = absurd (never r more spelled line)
-  rest_once reason other (no_record some never why_first) (wrong r more t line spelled table place refused) = absurd (never r more spelled line)
-  rest_once reason other (misplaced r more t line spelled table out why_first) (no_line nothing unended why_second) = absurd (empty_line (spelling r) more (sym nothing ∙ line))
-  rest_once reason other (misplaced r more t line spelled table out why_first) (no_record some never why_second) = absurd (never r more spelled line)
-  rest_once reason other (misplaced r more t line spelled table out why_first) (misplaced r' more' t' line' spelled' table' out' why_second) = why_first ∙ sym why_second
-  rest_once reason other (misplaced r more t line spelled table out why_first) (wrong r' more' t' line' spelled' table' place refused) =
-      let same = (record_once r r' more more' spelled spelled' (sym line ∙ line')).0 in
-      absurd (out (rw (same, one_table c is table table') place))
-  rest_once reason other (wrong r more t line spelled table place refused) (no_line nothing unended why_second) = absurd (empty_line (spelling r) more (sym nothing ∙ line))
-  rest_once reason other (wrong r more t line spelled table place refused) (no_record some never why_second) = absurd (never r more spelled line)
-  rest_once reason other (wrong r more t line spelled table place refused) (misplaced r' more' t' line' spelled' table' out why_second) =
-      let same = (record_once r r' more more' spelled spelled' (sym line ∙ line')).0 in
-      absurd (out (rw (sym same, sym (one_table c is table table')) place))
-  rest_once reason other (wrong r more t line spelled table place refused) (wrong r' more' t' line' spelled' table' place' refused') =
-      let same = (record_once r r' more more' spelled spelled' (sym line ∙ line')).0 in
-      content_once c t before r reason other refused (rw (same, one_table c is table table') refused')
+  rest_once reason other (no_line early why_first) (no_line early' why_second) = why_first ∙ sym why_second
+  rest_once reason other (no_line early why_first) (no_record unreadable why_second) = absurd (unreadable.some early.nothing)
+  rest_once reason other (no_line early why_first) (misplaced r begins out why_second) = absurd (record_stands begins early.nothing)
+  rest_once reason other (no_line early why_first) (wrong r begins there) = absurd (record_stands begins early.nothing)
+  rest_once reason other (no_record unreadable why_first) (no_line early why_second) = absurd (unreadable.some early.nothing)
+  rest_once reason other (no_record unreadable why_first) (no_record unreadable' why_second) = why_first ∙ sym why_second
+  rest_once reason other (no_record unreadable why_first) (misplaced r begins out why_second) = absurd (unreadable.none r begins.more begins.spelled begins.text_is)
+  rest_once reason other (no_record unreadable why_first) (wrong r begins there) = absurd (unreadable.none r begins.more begins.spelled begins.text_is)
+  rest_once reason other (misplaced r begins out why_first) (no_line early why_second) = absurd (record_stands begins early.nothing)
+  rest_once reason other (misplaced r begins out why_first) (no_record unreadable why_second) = absurd (unreadable.none r begins.more begins.spelled begins.text_is)
+  rest_once reason other (misplaced r begins out why_first) (misplaced r' begins' out' why_second) = why_first ∙ sym why_second
+  rest_once reason other (misplaced r begins out why_first) (wrong r' begins' there) = absurd (never_there begins begins' out there)
+  rest_once reason other (wrong r begins there) (no_line early why_second) = absurd (record_stands begins early.nothing)
+  rest_once reason other (wrong r begins there) (no_record unreadable why_second) = absurd (unreadable.none r begins.more begins.spelled begins.text_is)
+  rest_once reason other (wrong r begins there) (misplaced r' begins' out why_second) = absurd (never_there begins' begins out there)
+  rest_once reason other (wrong r begins there) (wrong r' begins' there') =
+      content_once c there.table before r reason other there.refused (rw (one_first begins begins', one_table c is there.table_is there'.table_is) there'.refused)

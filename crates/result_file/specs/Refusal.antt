@@ -73,16 +73,52 @@ line_length rest = min (length rest) (length (take_while (λ byte. not (byte == 
 abbrev pub IsNoRecord : Text → Type 0
 IsNoRecord rest = (r : Record) (more : Text) → HasSpelling r → rest ≢ spelling r ++ 10 ∷ more
 
+-- The lines end before one says so.
+pub record EndsTooEarly (before : List Record) (rest : Text) : Type 0 where
+  pub nothing : rest ≡ []
+  pub unended : end_lines before ≡ 0
+
+-- Something stands there, and its first line is no record.
+pub record IsUnreadableRecord (text : Text) : Type 0 where
+  pub some : text ≢ []
+  pub none : IsNoRecord text
+
+-- The first line of the text spells this record.
+pub record BeginsWithRecord (text : Text) (r : Record) : Type 0 where
+  pub spelled : HasSpelling r
+  pub more : Text
+  pub text_is : text ≡ spelling r ++ 10 ∷ more
+
+-- A record of this kind may not stand behind these lines.
+pub record IsMisplaced (c : Circuit) (before : List Record) (r : Record) : Type 0 where
+  pub table : ClassTable
+  pub table_is : IsTableOf c (patterns_in before) table
+  pub out : ¬ IsInPlace table before r
+
+-- The record may stand there, and is refused so for what it says.
+pub record IsWrongThere (c : Circuit) (before : List Record) (r : Record) (reason : ResultKind) : Type 0 where
+  pub table : ClassTable
+  pub table_is : IsTableOf c (patterns_in before) table
+  pub place : IsInPlace table before r
+  pub refused : ContentRefused c table before r reason
+
 -- What stands behind right lines is refused so.
 pub data RestRefused (c : Circuit) (before : List Record) (rest : Text) (reason : ResultKind) : Type 0 where
-  no_line : rest ≡ [] → end_lines before ≡ 0 → reason ≡ why.Order → RestRefused c before rest reason
-  no_record : rest ≢ [] → IsNoRecord rest → reason ≡ why.Syntax → RestRefused c before rest reason
-  misplaced : (r : Record) (more : Text) (t : ClassTable) → rest ≡ spelling r ++ 10 ∷ more → HasSpelling r → IsTableOf c (patterns_in before) t → ¬ IsInPlace t before r → reason ≡ why.Order → RestRefused c before rest reason
-  wrong : (r : Record) (more : Text) (t : ClassTable) → rest ≡ spelling r ++ 10 ∷ more → HasSpelling r → IsTableOf c (patterns_in before) t → IsInPlace t before r → ContentRefused c t before r reason → RestRefused c before rest reason
+  no_line : EndsTooEarly before rest → reason ≡ why.Order → RestRefused c before rest reason
+  no_record : IsUnreadableRecord rest → reason ≡ why.Syntax → RestRefused c before rest reason
+  misplaced : (r : Record) → BeginsWithRecord rest r → IsMisplaced c before r → reason ≡ why.Order → RestRefused c before rest reason
+  wrong : (r : Record) → BeginsWithRecord rest r → IsWrongThere c before r reason → RestRefused c before rest reason
 
 -- ---- files: 2^40 bytes are the most
 
+-- The file begins with these right lines, and the rest stands behind them.
+pub record BeginsWithRightLines (c : Circuit) (file : Text) (before : List Record) (rest : Text) : Type 0 where
+  pub text : file ≡ text_of before ++ rest
+  pub right : AreRightLines c before
+
 -- The file is refused so: at its first line that isn't right, or at the line that goes beyond the limit.
 pub data FileRefused (c : Circuit) (file : Text) (fault : ResultFault) : Type 0 where
-  at_line : (before : List Record) (rest : Text) (reason : ResultKind) → file ≡ text_of before ++ rest → AreRightLines c before → length (text_of before) + line_length rest ≤ 2 ^ 40 → RestRefused c before rest reason → fault ≡ record { kind = reason; line = length before + 1 } → FileRefused c file fault
-  too_long : (before : List Record) (rest : Text) → file ≡ text_of before ++ rest → AreRightLines c before → length (text_of before) ≤ 2 ^ 40 → 2 ^ 40 < length (text_of before) + line_length rest → fault ≡ record { kind = why.TooLong; line = length before + 1 } → FileRefused c file fault
+  at_line : (before : List Record) (rest : Text) (reason : ResultKind) → BeginsWithRightLines c file before rest → length (text_of before) + line_length rest ≤ 2 ^ 40 → RestRefused c before rest reason
+      → fault ≡ record { kind = reason; line = length before + 1 } → FileRefused c file fault
+  too_long : (before : List Record) (rest : Text) → BeginsWithRightLines c file before rest → length (text_of before) ≤ 2 ^ 40 → 2 ^ 40 < length (text_of before) + line_length rest
+      → fault ≡ record { kind = why.TooLong; line = length before + 1 } → FileRefused c file fault

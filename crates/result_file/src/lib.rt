@@ -21,4 +21,4 @@ pub use read::read_record;
 pub use record::{Budgets, Evidence, Mark, Proof, Record, Summary};
 pub use tables::{push_class_line, push_classes, push_member_line, push_members};
 pub use words::number_of;
-pub use write::{push_pattern, push_record, write_record};
+pub use write::{push_pattern, write_record};

@@ -1,6 +1,6 @@
 //! Records as lines of text.
 
-ghost use Rattle.std.specs.Prelude.{◌≡◌, ◌++◌, ◌∷◌, [], IfOk, OnOk, map, flat_map, codes, decimal};
+ghost use Rattle.std.specs.Prelude.{◌≡◌, ◌++◌, ◌∷◌, ℕ, List, [], IfOk, OnOk, OnErr, map, flat_map, codes, decimal};
 ghost use Rattle.std.specs.String.{string_bytes};
 ghost use Rattle.std.specs.List.{join_with_byte};
 ghost use Rattle.net_model.specs.BitText.{bits_text};
@@ -24,7 +24,7 @@ pub fn write_record(alloc: Global, r: &Record) -> Result<Vec<u8>, AllocError>
 }
 
 /// Appends the line of a record, with its LF. Nothing is said of the text after an error.
-pub fn push_record(text: &mut String, r: &Record) -> Result<(), AllocError>
+pub(crate) fn push_record(text: &mut String, r: &Record) -> Result<(), AllocError>
     ensures { OnOk result (string_bytes text.new ≡ string_bytes text.old ++ text_of (r.now ∷ [])) }
 {
     match r {
@@ -64,19 +64,34 @@ fn push_budget(text: &mut String, budgets: Budgets) -> Result<(), AllocError>
     writeln!(text, "budget {blocks} {cubes} {conflicts}")
 }
 
-/// Appends the line of a pattern, with its LF. Nothing is said of the text after an error.
+/// Appends the line of a pattern, with its LF. After an error the text is as it was.
 #[tactic(auto, unfolding(crate::specs::Spelling::spelling))]
 pub fn push_pattern(text: &mut String, bits: &Bits) -> Result<(), AllocError>
-    ensures { OnOk result (string_bytes text.new ≡ string_bytes text.old ++ text_of (Pattern bits.now ∷ [])) }
+    ensures ok { OnOk result (string_bytes text.new ≡ string_bytes text.old ++ text_of (Pattern bits.now ∷ [])) }
+    ensures err { OnErr result (string_bytes text.new ≡ string_bytes text.old) }
 {
+    let len = text.len();
     text.push_str("pattern ")?;
+    let pushed = push_digits(text, bits);
+    if pushed.is_err() {
+        text.truncate(len);
+    }
+    pushed
+}
+
+// Appends bits and the LF. After an error something of it may stand behind the text.
+fn push_digits(text: &mut String, bits: &Bits) -> Result<(), AllocError>
+    ensures ok { OnOk result (string_bytes text.new ≡ string_bytes text.old ++ bits_text bits.now ++ 10 ∷ []) }
+    ensures err { OnErr result ((some : List ℕ) × (string_bytes text.new ≡ string_bytes text.old ++ some)) }
+{
     push_bits(text, bits)?;
     text.push('\n')
 }
 
 // Appends the digits of bits, or a dash where there are none.
 fn push_bits(text: &mut String, bits: &Bits) -> Result<(), AllocError>
-    ensures { OnOk result (string_bytes text.new ≡ string_bytes text.old ++ bits_text bits.now) }
+    ensures ok { OnOk result (string_bytes text.new ≡ string_bytes text.old ++ bits_text bits.now) }
+    ensures err { OnErr result ((some : List ℕ) × (string_bytes text.new ≡ string_bytes text.old ++ some)) }
 {
     if bits.len() == 0 {
         text.push('-')?;

@@ -20,5 +20,5 @@ returns c =
     rw c.refused.ensures (judged_then c.in_ok-flush.ensures.judged (record {
       judged = λ text is short.
           refused_line is c.in_ok-flush.ensures.none line why.Syntax c.requires.one short
-          (λ more. no_record (λ e. omega (arith, ap length e, length-append line (10 ∷ more))) (syntax_line line more c.requires.one c.requires.wrong) refl);
+          (λ more. no_record (record { some = λ e. omega (arith, ap length e, length-append line (10 ∷ more)); none = syntax_line line more c.requires.one c.requires.wrong }) refl);
     }))
