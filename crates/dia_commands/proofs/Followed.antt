@@ -1,12 +1,18 @@
 -- A run follows its plan file by file.
 use Rattle.std.proofs.Common.{◌≡◌, ℕ, ◌<◌, ◌⊎◌, Bool, List, [], Option, Some, None, Ok, Err, IsTrue, refl, sym, ap, subst, ◌∙◌, inl, inr, arith}
 use Rattle.std.specs.Prelude.{IsSome}
+use Rattle.std.specs.Result.{IsErrAnd}
 use Rattle.std.specs.FinMap.{get}
 use Rattle.diag_shelf.specs.declared.shelf.ShelfFault.{ShelfFault}
 use Rattle.diag_shelf.specs.declared.shelf.ShelfFault.TheVariants.{Failed, NoMemory}
+use Rattle.dia_commands.specs.declared.ending.FileKind.{FileKind}
+use Rattle.dia_commands.specs.declared.ending.FileKind.TheVariants as kind
+use Rattle.dia_commands.specs.declared.ending.RunFault.{RunFault}
+use Rattle.dia_commands.specs.declared.ending.RunFault.TheVariants as run
+use Rattle.dia_commands.specs.Ending.{Ending, refused, read_failed, write_failed, no_memory, IsDecided, read_fault}
 use Rattle.diag_shelf.specs.World.{Files, World, State}
-use Rattle.diag_shelf.specs.Calls.{IsReadCall, SameFacts, OnlyReads, Told, Rose}
-use Rattle.diag_shelf.proofs.Steps.{facts_same, facts_after_read, read_failed}
+use Rattle.diag_shelf.specs.Calls.{IsReadCall, SameFacts, OnlyReads, Told, Rose, read_of}
+use Rattle.diag_shelf.proofs.Steps.{facts_same, facts_after_read, read_failed as failed_after}
 use Rattle.request_words.specs.Request.{Text}
 use Rattle.dia_commands.specs.Outcome.{said, IsPartOf, IsUntouched}
 use Rattle.dia_commands.specs.Plan.{Plan, judged, refused_file, accepted_file, CallsFor, MayLeave, AreHeld}
@@ -18,14 +24,15 @@ use Rattle.table_dicts.specs.declared.dict.Dict.{Dict}
 use Rattle.dia_commands.specs.Dictionaries.{IsDictionaryFile, IsRefusedDictionary}
 use Rattle.dia_commands.specs.Logs.{IsLogFor, IsRefusedLog, IsListFor, IsRefusedList}
 use Rattle.dia_commands.specs.Plans.{with_netlist, with_result, with_dictionary, with_log, with_vectors}
-use Rattle.dia_commands.specs.Ran.{IsAmong, Ends, Follows}
-use Rattle.dia_commands.specs.Steps.{IsReadStatus, HasOnlyRead, WasAccepted, IsOver, by_refusal, by_failure, by_memory}
+use Rattle.dia_commands.specs.Ran.{IsAmong, IsBroken, Ends, Follows}
+use Rattle.dia_commands.specs.Steps.{HasOnlyRead, HasRead, CouldNotRead, by_failure, by_memory, WasAccepted, IsOver, by_refusal, by_reading}
+use Rattle.dia_commands.proofs.HandedOn.{handed_on}
 use Rattle.dia_commands.proofs.Runs.{MayBreak, cut_among, ran, ends_moved, leaves_moved, stays_same, stays_then, stays_facts, stays_read}
 
 -- a run may fail to read
-pub record MayRead (statuses : List ℕ) : Type 0 where
-  pub failed : IsAmong 7 statuses
-  pub breaks : MayBreak statuses
+pub record MayRead (endings : List Ending) : Type 0 where
+  pub failed : IsAmong read_failed endings
+  pub breaks : MayBreak endings
 
 untouched_read : {u v w : World} → OnlyReads u v → IsUntouched v w → IsUntouched u w
 untouched_read r s = record { kept = record { files = s.kept.files ∙ r.files; written = s.kept.written ∙ r.written }; console = s.console ∙ r.console }
@@ -40,18 +47,18 @@ not_held (Some x) none some = cc
 -- ---- nothing is done
 
 -- memory was wanting behind the last read
-pub follows_nothing : {plan : Plan} {statuses : List ℕ} {outputs : List Text} (a : State) → MayBreak statuses → Follows plan statuses outputs 9 a a
-follows_nothing {plan} {statuses} {outputs} a breaks = record {
-  answers = breaks.memory;
+pub follows_nothing : {plan : Plan} {endings : List Ending} {outputs : List Text} (a : State) → MayBreak endings → Follows plan endings outputs no_memory a a
+follows_nothing {plan} {endings} {outputs} a breaks = record {
+  ends = breaks.memory;
   stays = stays_same a;
   causes = record {
-    read_fault = λ e. absurd (omega arith);
-    write_fault = λ e. absurd (omega arith);
+    read_fault = λ e. absurd (cc);
+    write_fault = λ e. absurd (cc);
     reads_failed = λ h. inr refl;
     writes_failed = λ h. inr refl;
   };
-  done = λ told below. absurd (omega arith);
-  unread = λ told e. absurd (omega arith);
+  done = λ told decided. absurd decided;
+  unread = λ failed told. untouched a.world;
   broken_off = λ told broke. inl (untouched a.world);
   others = λ told name off. refl;
   sure = λ s held. record { reads = refl; writes = refl };
@@ -59,63 +66,70 @@ follows_nothing {plan} {statuses} {outputs} a breaks = record {
 
 -- ---- a file that ends the run
 
-neither : {T : Type 0} {status : ℕ} → (status ≡ 7) ⊎ (status ≡ 9) → ¬ (status ≡ 7) → ¬ (status ≡ 9) → T
-neither {T} {status} (inl e) n m = absurd (n e)
-neither {T} {status} (inr e) n m = absurd (m e)
+-- a failed read or want of memory is no ending that words and files decide, and no failed write
+undecided : {ending : Ending} → (ending ≡ read_failed) ⊎ (ending ≡ no_memory) → IsDecided ending → ⊥
+undecided {ending} (inl e) decided = subst IsDecided e decided
+undecided {ending} (inr e) decided = subst IsDecided e decided
 
-module _ {statuses : List ℕ} {outputs : List Text} {status : ℕ} {a b : State} (may : MayRead statuses) (name : Text) (meant : ℕ) (X : Type 0) (Refused : Text → Text → Type 0) (Accepted : Text → X → Type 0) (next : X → Plan) where
-  by_no_read : HasOnlyRead a b → (IsTrue a.sure → IsSome (get a.world.files name) → b.read_faults ≡ a.read_faults) → (status ≡ 7 → Rose a.read_faults b.read_faults) → (status ≡ 7) ⊎ (status ≡ 9) → IsAmong status statuses
-      → Follows (judged name meant X Refused Accepted next) statuses outputs status a b
-  by_no_read only same rose is among = record {
-    answers = among;
+unwritten : {ending : Ending} → (ending ≡ read_failed) ⊎ (ending ≡ no_memory) → ending ≡ write_failed → ⊥
+unwritten {ending} (inl e) is = cc
+unwritten {ending} (inr e) is = cc
+
+module _ {endings : List Ending} {outputs : List Text} {a b : State} (may : MayRead endings) (name : Text) (kind : FileKind) (X : Type 0) (Refused : Text → Text → Type 0) (Accepted : Text → X → Type 0) (next : X → Plan) where
+  by_no_read : {ending : Ending} → HasOnlyRead a b → (IsTrue a.sure → IsSome (get a.world.files name) → b.read_faults ≡ a.read_faults) → (ending ≡ read_failed → Rose a.read_faults b.read_faults) → (ending ≡ read_failed) ⊎ (ending ≡ no_memory) → IsAmong ending endings
+      → Follows (judged name kind X Refused Accepted next) endings outputs ending a b
+  by_no_read {ending} only same rose is among = record {
+    ends = among;
     stays = only.stays;
     causes = record {
       read_fault = rose;
-      write_fault = λ e. neither is (λ seven. omega arith) (λ nine. omega arith);
+      write_fault = λ e. absurd (unwritten is e);
       reads_failed = λ h. is;
       writes_failed = λ h. absurd (omega (arith, h, only.writes));
     };
-    done = λ told below. neither is (λ seven. omega arith) (λ nine. omega arith);
-    unread = λ told e. untouched_read (only.only told) (untouched b.world);
+    done = λ told decided. absurd (undecided is decided);
+    unread = λ failed told. untouched_read (only.only told) (untouched b.world);
     broken_off = λ told broke. inl (untouched_read (only.only told) (untouched b.world));
     others = λ told n off. ap (λ (f : Files). get f n) (only.only told).files;
     sure = λ s held. record { reads = same s held.0; writes = only.writes };
   }
 
-  follows_over : meant < 7 → IsAmong meant statuses → IsOver name meant Refused status a b → Follows (judged name meant X Refused Accepted next) statuses outputs status a b
-  follows_over below among (by_refusal console held ends) =
+  follows_over : {why : RunFault} → IsAmong (refused kind) endings → IsOver name kind Refused why a b → Follows (judged name kind X Refused Accepted next) endings outputs (Err why) a b
+  follows_over {why} among (by_refusal console held ends) =
       let called = λ (told : IsTrue a.tells).
       (let h = held told in
-      let calls : CallsFor a.world.files (judged name meant X Refused Accepted next) (said meant console) = refused_file h.0 console h.1 h.2 refl in
+      let calls : CallsFor a.world.files (judged name kind X Refused Accepted next) (said (refused kind) console) = refused_file h.0 console h.1 h.2 refl in
       calls) in
-      ran (record { below = below; answers = among; breaks = may.breaks; names = λ made t part. cut_among made [] outputs part.files tt }) (λ s told. called told)
+      ran (record { decided = tt; among = among; breaks = may.breaks; names = λ made t part. cut_among made [] outputs part.files tt }) (λ s told. called told)
       (λ told made t part. let h = held told in refused_file h.0 console h.1 h.2 part) ends
-  follows_over below among (by_failure is rose only absent) = by_no_read only (λ s some. absurd (not_held (get a.world.files name) (absent s) some)) (λ _. rose) (inl is) (subst (λ (n : ℕ). IsAmong n statuses) (sym is) may.failed)
-  follows_over below among (by_memory is only same) = by_no_read only (λ s some. same s) (λ e. absurd (omega (arith, e, is))) (inr is) (subst (λ (n : ℕ). IsAmong n statuses) (sym is) may.breaks.memory)
+  follows_over {why} among (by_reading (by_failure is rose only absent)) =
+      by_no_read only (λ s some. absurd (not_held (get a.world.files name) (absent s) some)) (λ _. rose) (inl (ap Err is)) (subst (λ (w : RunFault). IsAmong (Err w) endings) (sym is) may.failed)
+  follows_over {why} among (by_reading (by_memory is only same)) =
+      by_no_read only (λ s some. same s) (λ e. absurd (cc)) (inr (ap Err is)) (subst (λ (w : RunFault). IsAmong (Err w) endings) (sym is) may.breaks.memory)
 
 -- the netlist ended the run, or the result did
-pub netlist_over : {statuses : List ℕ} {outputs : List Text} {status : ℕ} {bench : Text} {a b : State} → MayRead statuses → IsAmong 3 statuses → (next : Design → Plan) → IsOver bench 3 IsRefused status a b → Follows (with_netlist bench next) statuses outputs status a b
-netlist_over {statuses} {outputs} {status} {bench} {a} {b} may among next over = follows_over may bench 3 Design IsRefused IsDesign next (omega arith) among over
+pub netlist_over : {endings : List Ending} {outputs : List Text} {why : RunFault} {bench : Text} {a b : State} → MayRead endings → IsAmong (refused kind.Netlist) endings → (next : Design → Plan) → IsOver bench kind.Netlist IsRefused why a b → Follows (with_netlist bench next) endings outputs (Err why) a b
+netlist_over {endings} {outputs} {why} {bench} {a} {b} may among next over = follows_over may bench kind.Netlist Design IsRefused IsDesign next among over
 
-pub result_over : {statuses : List ℕ} {outputs : List Text} {status : ℕ} {result : Text} {c : Circuit} {a b : State} → MayRead statuses → IsAmong 4 statuses → (next : Text → Plan) → IsOver result 4 (IsRefusedResult c) status a b → Follows (with_result result c next) statuses outputs status a b
-result_over {statuses} {outputs} {status} {result} {c} {a} {b} may among next over = follows_over may result 4 Text (IsRefusedResult c) (IsResult c) next (omega arith) among over
+pub result_over : {endings : List Ending} {outputs : List Text} {why : RunFault} {result : Text} {c : Circuit} {a b : State} → MayRead endings → IsAmong (refused kind.Result) endings → (next : Text → Plan) → IsOver result kind.Result (IsRefusedResult c) why a b → Follows (with_result result c next) endings outputs (Err why) a b
+result_over {endings} {outputs} {why} {result} {c} {a} {b} may among next over = follows_over may result kind.Result Text (IsRefusedResult c) (IsResult c) next among over
 
 -- or a dictionary, a log or a list of vectors
-pub dictionary_over : {statuses : List ℕ} {outputs : List Text} {status : ℕ} {dict : Text} {a b : State} → MayRead statuses → IsAmong 5 statuses → (next : Dict → Plan) → IsOver dict 5 IsRefusedDictionary status a b → Follows (with_dictionary dict next) statuses outputs status a b
-dictionary_over {statuses} {outputs} {status} {dict} {a} {b} may among next over = follows_over may dict 5 Dict IsRefusedDictionary IsDictionaryFile next (omega arith) among over
+pub dictionary_over : {endings : List Ending} {outputs : List Text} {why : RunFault} {dict : Text} {a b : State} → MayRead endings → IsAmong (refused kind.Dictionary) endings → (next : Dict → Plan) → IsOver dict kind.Dictionary IsRefusedDictionary why a b → Follows (with_dictionary dict next) endings outputs (Err why) a b
+dictionary_over {endings} {outputs} {why} {dict} {a} {b} may among next over = follows_over may dict kind.Dictionary Dict IsRefusedDictionary IsDictionaryFile next among over
 
-pub log_over : (d : Dict) {statuses : List ℕ} {outputs : List Text} {status : ℕ} {log : Text} {a b : State} → MayRead statuses → IsAmong 6 statuses → (next : List (List Bool) → Plan) → IsOver log 6 (IsRefusedLog d) status a b → Follows (with_log log d next) statuses outputs status a b
-log_over d {statuses} {outputs} {status} {log} {a} {b} may among next over = follows_over may log 6 (List (List Bool)) (IsRefusedLog d) (IsLogFor d) next (omega arith) among over
+pub log_over : (d : Dict) {endings : List Ending} {outputs : List Text} {why : RunFault} {log : Text} {a b : State} → MayRead endings → IsAmong (refused kind.Log) endings → (next : List (List Bool) → Plan) → IsOver log kind.Log (IsRefusedLog d) why a b → Follows (with_log log d next) endings outputs (Err why) a b
+log_over d {endings} {outputs} {why} {log} {a} {b} may among next over = follows_over may log kind.Log (List (List Bool)) (IsRefusedLog d) (IsLogFor d) next among over
 
-pub list_over : (c : Circuit) {statuses : List ℕ} {outputs : List Text} {status : ℕ} {vectors : Text} {a b : State} → MayRead statuses → IsAmong 6 statuses → (next : List (List Bool) → Plan) → IsOver vectors 6 (IsRefusedList c) status a b → Follows (with_vectors vectors c next) statuses outputs status a b
-list_over c {statuses} {outputs} {status} {vectors} {a} {b} may among next over = follows_over may vectors 6 (List (List Bool)) (IsRefusedList c) (IsListFor c) next (omega arith) among over
+pub list_over : (c : Circuit) {endings : List Ending} {outputs : List Text} {why : RunFault} {vectors : Text} {a b : State} → MayRead endings → IsAmong (refused kind.Log) endings → (next : List (List Bool) → Plan) → IsOver vectors kind.Log (IsRefusedList c) why a b → Follows (with_vectors vectors c next) endings outputs (Err why) a b
+list_over c {endings} {outputs} {why} {vectors} {a} {b} may among next over = follows_over may vectors kind.Log (List (List Bool)) (IsRefusedList c) (IsListFor c) next among over
 
 -- ---- a file that is accepted
 
-follows_then : {statuses : List ℕ} {outputs : List Text} {status : ℕ} {a b c : State} (name : Text) (meant : ℕ) (X : Type 0) (Refused : Text → Text → Type 0) (Accepted : Text → X → Type 0) (next : X → Plan) (x : X) → (IsTrue a.sure → IsTrue a.tells)
-    → WasAccepted name Accepted x a b → Follows (next x) statuses outputs status b c → Follows (judged name meant X Refused Accepted next) statuses outputs status a c
-follows_then {statuses} {outputs} {status} {a} {b} {c} name meant X Refused Accepted next x law was r = record {
-  answers = r.answers;
+follows_then : {endings : List Ending} {outputs : List Text} {ending : Ending} {a b c : State} (name : Text) (kind : FileKind) (X : Type 0) (Refused : Text → Text → Type 0) (Accepted : Text → X → Type 0) (next : X → Plan) (x : X) → (IsTrue a.sure → IsTrue a.tells)
+    → WasAccepted name Accepted x a b → Follows (next x) endings outputs ending b c → Follows (judged name kind X Refused Accepted next) endings outputs ending a c
+follows_then {endings} {outputs} {ending} {a} {b} {c} name kind X Refused Accepted next x law was r = record {
+  ends = r.ends;
   stays = stays_then (stays_facts was.facts) r.stays;
   causes = record {
     read_fault = λ e. omega (arith, r.causes.read_fault e, was.facts.reads);
@@ -123,12 +137,14 @@ follows_then {statuses} {outputs} {status} {a} {b} {c} name meant X Refused Acce
     reads_failed = λ h. r.causes.reads_failed (omega (arith, h, was.facts.reads));
     writes_failed = λ h. r.causes.writes_failed (omega (arith, h, was.facts.writes));
   };
-  done = λ told lt.
+  done = λ told decided.
       let h = was.held told in
       let only = was.only told in
-      let d = r.done (was.facts.tells ∙ told) lt in
+      let d = r.done (was.facts.tells ∙ told) decided in
       (d.0, accepted_file h.0 x h.1 h.2 (subst (λ (f : Files). CallsFor f (next x) d.0) only.files d.1), d.2, leaves_moved only d.3);
-  unread = λ told e. untouched_read (was.only told) (r.unread (was.facts.tells ∙ told) e);
+  unread = λ failed told.
+      let later : (ending ≡ read_failed) ⊎ (b.read_faults < c.read_faults) = elim failed [ inl is ↦ inl is | inr rose ↦ inr (omega (arith, rose, was.facts.reads)) ] in
+      untouched_read (was.only told) (r.unread later (was.facts.tells ∙ told));
   broken_off = λ told broke.
       let h = was.held told in
       let only = was.only told in
@@ -144,45 +160,54 @@ follows_then {statuses} {outputs} {status} {a} {b} {c} name meant X Refused Acce
       record { reads = none.reads ∙ was.facts.reads; writes = none.writes ∙ was.facts.writes };
 }
 
-pub netlist_then : {statuses : List ℕ} {outputs : List Text} {status : ℕ} {bench : Text} {design : Design} {a b c : State} → (next : Design → Plan) → (IsTrue a.sure → IsTrue a.tells) → WasAccepted bench IsDesign design a b → Follows (next design) statuses outputs status b c → Follows (with_netlist bench next) statuses outputs status a c
-netlist_then {statuses} {outputs} {status} {bench} {design} {a} {b} {c} next law was r = follows_then bench 3 Design IsRefused IsDesign next design law was r
+pub netlist_then : {endings : List Ending} {outputs : List Text} {ending : Ending} {bench : Text} {design : Design} {a b c : State} → (next : Design → Plan) → (IsTrue a.sure → IsTrue a.tells) → WasAccepted bench IsDesign design a b → Follows (next design) endings outputs ending b c → Follows (with_netlist bench next) endings outputs ending a c
+netlist_then {endings} {outputs} {ending} {bench} {design} {a} {b} {c} next law was r = follows_then bench kind.Netlist Design IsRefused IsDesign next design law was r
 
-pub result_then : {statuses : List ℕ} {outputs : List Text} {status : ℕ} {result file : Text} {circuit : Circuit} {a b c : State} → (next : Text → Plan) → (IsTrue a.sure → IsTrue a.tells) → WasAccepted result (IsResult circuit) file a b → Follows (next file) statuses outputs status b c → Follows (with_result result circuit next) statuses outputs status a c
-result_then {statuses} {outputs} {status} {result} {file} {circuit} {a} {b} {c} next law was r = follows_then result 4 Text (IsRefusedResult circuit) (IsResult circuit) next file law was r
+pub result_then : {endings : List Ending} {outputs : List Text} {ending : Ending} {result file : Text} {circuit : Circuit} {a b c : State} → (next : Text → Plan) → (IsTrue a.sure → IsTrue a.tells) → WasAccepted result (IsResult circuit) file a b → Follows (next file) endings outputs ending b c → Follows (with_result result circuit next) endings outputs ending a c
+result_then {endings} {outputs} {ending} {result} {file} {circuit} {a} {b} {c} next law was r = follows_then result kind.Result Text (IsRefusedResult circuit) (IsResult circuit) next file law was r
 
-pub dictionary_then : {statuses : List ℕ} {outputs : List Text} {status : ℕ} {dict : Text} {d : Dict} {a b c : State} → (next : Dict → Plan) → (IsTrue a.sure → IsTrue a.tells) → WasAccepted dict IsDictionaryFile d a b → Follows (next d) statuses outputs status b c → Follows (with_dictionary dict next) statuses outputs status a c
-dictionary_then {statuses} {outputs} {status} {dict} {d} {a} {b} {c} next law was r = follows_then dict 5 Dict IsRefusedDictionary IsDictionaryFile next d law was r
+pub dictionary_then : {endings : List Ending} {outputs : List Text} {ending : Ending} {dict : Text} {d : Dict} {a b c : State} → (next : Dict → Plan) → (IsTrue a.sure → IsTrue a.tells) → WasAccepted dict IsDictionaryFile d a b → Follows (next d) endings outputs ending b c → Follows (with_dictionary dict next) endings outputs ending a c
+dictionary_then {endings} {outputs} {ending} {dict} {d} {a} {b} {c} next law was r = follows_then dict kind.Dictionary Dict IsRefusedDictionary IsDictionaryFile next d law was r
 
-pub log_then : (d : Dict) {statuses : List ℕ} {outputs : List Text} {status : ℕ} {log : Text} {observed : List (List Bool)} {a b c : State} → (next : List (List Bool) → Plan) → (IsTrue a.sure → IsTrue a.tells) → WasAccepted log (IsLogFor d) observed a b → Follows (next observed) statuses outputs status b c → Follows (with_log log d next) statuses outputs status a c
-log_then d {statuses} {outputs} {status} {log} {observed} {a} {b} {c} next law was r = follows_then log 6 (List (List Bool)) (IsRefusedLog d) (IsLogFor d) next observed law was r
+pub log_then : (d : Dict) {endings : List Ending} {outputs : List Text} {ending : Ending} {log : Text} {observed : List (List Bool)} {a b c : State} → (next : List (List Bool) → Plan) → (IsTrue a.sure → IsTrue a.tells) → WasAccepted log (IsLogFor d) observed a b → Follows (next observed) endings outputs ending b c → Follows (with_log log d next) endings outputs ending a c
+log_then d {endings} {outputs} {ending} {log} {observed} {a} {b} {c} next law was r = follows_then log kind.Log (List (List Bool)) (IsRefusedLog d) (IsLogFor d) next observed law was r
 
-pub list_then : (circuit : Circuit) {statuses : List ℕ} {outputs : List Text} {status : ℕ} {vectors : Text} {list : List (List Bool)} {a b c : State} → (next : List (List Bool) → Plan) → (IsTrue a.sure → IsTrue a.tells) → WasAccepted vectors (IsListFor circuit) list a b → Follows (next list) statuses outputs status b c → Follows (with_vectors vectors circuit next) statuses outputs status a c
-list_then circuit {statuses} {outputs} {status} {vectors} {list} {a} {b} {c} next law was r = follows_then vectors 6 (List (List Bool)) (IsRefusedList circuit) (IsListFor circuit) next list law was r
+pub list_then : (circuit : Circuit) {endings : List Ending} {outputs : List Text} {ending : Ending} {vectors : Text} {list : List (List Bool)} {a b c : State} → (next : List (List Bool) → Plan) → (IsTrue a.sure → IsTrue a.tells) → WasAccepted vectors (IsListFor circuit) list a b → Follows (next list) endings outputs ending b c → Follows (with_vectors vectors circuit next) endings outputs ending a c
+list_then circuit {endings} {outputs} {ending} {vectors} {list} {a} {b} {c} next law was r = follows_then vectors kind.Log (List (List Bool)) (IsRefusedList circuit) (IsListFor circuit) next list law was r
 
 -- ---- how a file ends the run
 
-module _ {name : Text} {meant : ℕ} {Refused : Text → Text → Type 0} {a b : State} where
-  -- a call that read it failed
-  pub over_fault : {T : Type 0} (fault : ShelfFault) {status : ℕ} → IsReadCall {T = T} (Err fault) a b → Told a b OnlyReads → (IsTrue a.sure → fault ≡ Failed → get a.world.files name ≡ None) → IsReadStatus fault status → IsOver name meant Refused status a b
-  over_fault {T} Failed {status} call only absent is = by_failure (is.failed refl) (call.failed refl) (record { stays = stays_read call; writes = call.writes; only = only }) (λ s. absent s refl)
-  over_fault {T} NoMemory {status} call only absent is = by_memory (is.memory refl) (record { stays = stays_read call; writes = call.writes; only = only }) (λ s. call.memory s refl)
+-- a call that read it failed
+pub fault_read : {T : Type 0} {name : Text} {a b : State} (fault : ShelfFault) → IsReadCall {T = T} (Err fault) a b → Told a b OnlyReads → (IsTrue a.sure → fault ≡ Failed → get a.world.files name ≡ None) → CouldNotRead name (read_fault fault) a b
+fault_read {T} {name} {a} {b} Failed call only absent = by_failure refl (call.failed refl) (record { stays = stays_read call; writes = call.writes; only = only }) (λ s. absent s refl)
+fault_read {T} {name} {a} {b} NoMemory call only absent = by_memory refl (record { stays = stays_read call; writes = call.writes; only = only }) (λ s. call.memory s refl)
 
+module _ {name : Text} {kind : FileKind} {Refused : Text → Text → Type 0} {a b : State} where
   -- memory was wanting to judge it
-  pub over_memory : SameFacts a b → Told a b OnlyReads → IsOver name meant Refused 9 a b
-  over_memory facts only = by_memory refl (record { stays = stays_facts facts; writes = facts.writes; only = only }) (λ s. facts.reads)
+  pub over_memory : SameFacts a b → Told a b OnlyReads → IsOver name kind Refused run.NoMemory a b
+  over_memory facts only = by_reading (by_memory refl (record { stays = stays_facts facts; writes = facts.writes; only = only }) (λ s. facts.reads))
 
   -- it is refused
-  pub over_refused : {console : Text} {status : ℕ} {c : State} → SameFacts a b → Told a b OnlyReads → (IsTrue a.tells → (bytes : Text) × (get a.world.files name ≡ Some bytes) × Refused bytes console) → Ends (said meant console) (IsPartOf (said meant console)) status b c → IsOver name meant Refused status a c
-  over_refused {console} {status} {c} facts only held ends = by_refusal console held (ends_moved facts only ends)
+  pub over_refused : {console : Text} {why : RunFault} {c : State} → SameFacts a b → Told a b OnlyReads → (IsTrue a.tells → (bytes : Text) × (get a.world.files name ≡ Some bytes) × Refused bytes console) → Ends (said (refused kind) console) (IsPartOf (said (refused kind) console)) (Err why) b c → IsOver name kind Refused why a c
+  over_refused {console} {why} {c} facts only held ends = by_refusal console held (ends_moved facts only ends)
+
+-- what was read is accepted
+pub was_accepted : {X : Type 0} {name bytes : Text} {limit : ℕ} {Accepted : Text → X → Type 0} {x : X} {a b : State} → HasRead name limit bytes a b → ((all : Text) → bytes ≡ read_of limit all → Accepted all x) → WasAccepted name Accepted x a b
+was_accepted {X} {name} {bytes} {limit} {Accepted} {x} {a} {b} read accepted = record { facts = read.facts; only = read.only; held = λ told. let r = read.held told in (r.0, r.1, accepted r.0 r.2) }
+
+-- or refused
+pub read_refused : {name bytes console : Text} {limit : ℕ} {kind : FileKind} {Refused : Text → Text → Type 0} {why : RunFault} {a b c : State} → HasRead name limit bytes a b → ((all : Text) → bytes ≡ read_of limit all → Refused all console)
+    → Ends (said (refused kind) console) (IsPartOf (said (refused kind) console)) (Err why) b c → IsOver name kind Refused why a c
+read_refused {name} {bytes} {console} {limit} {kind} {Refused} {why} {a} {b} {c} read wrong ends = over_refused read.facts read.only (λ told. let r = read.held told in (r.0, r.1, wrong r.0 r.2)) ends
 
 -- a call that read leaves the facts
 pub facts_read : {T : Type 0} {x : T} {a b : State} → IsReadCall (Ok x) a b → SameFacts a b
 facts_read {T} {x} {a} {b} call = facts_after_read x a a b (facts_same a) call
 
--- a file was read by one call, and it is accepted
-pub was_accepted : {T X : Type 0} {y : T} {name : Text} {Accepted : Text → X → Type 0} {x : X} {a b : State} → IsReadCall (Ok y) a b → Told a b OnlyReads → (IsTrue a.tells → (bytes : Text) × (get a.world.files name ≡ Some bytes) × Accepted bytes x) → WasAccepted name Accepted x a b
-was_accepted {T} {X} {y} {name} {Accepted} {x} {a} {b} call only held = record { facts = facts_read call; only = only; held = held }
-
 -- a call that opened the file, and then one that failed
 pub read_after : {T U : Type 0} {x : U} {fault : ShelfFault} {a b c : State} → IsReadCall (Ok x) a b → IsReadCall {T = T} (Err fault) b c → IsReadCall {T = T} (Err fault) a c
-read_after {T} {U} {x} {fault} {a} {b} {c} opened call = read_failed (Err fault) fault a b c (facts_read opened) call refl
+read_after {T} {U} {x} {fault} {a} {b} {c} opened call = failed_after (Err fault) fault a b c (facts_read opened) call refl
+
+-- `?` hands on why a run is over
+pub handed_follows : {plan : Plan} {endings : List Ending} {outputs : List Text} {why : RunFault} {a b : State} (ending : Ending) → IsErrAnd ending (λ x. x ≡ why) → Follows plan endings outputs (Err why) a b → Follows plan endings outputs ending a b
+handed_follows {plan} {endings} {outputs} {why} {a} {b} ending is follows = subst (λ (e : Ending). Follows plan endings outputs e a b) (sym (handed_on ending is)) follows

@@ -1,5 +1,5 @@
 -- The ends of plans: results, and texts that are printed.
-use Rattle.std.proofs.Common.{◌≡◌, ℕ, List, [], ◌∷◌, ◌++◌, None, Ok, Err, IsTrue, refl, sym, ap, subst, inl, inr, arith}
+use Rattle.std.proofs.Common.{◌≡◌, ℕ, List, [], ◌∷◌, ◌++◌, None, Ok, Err, IsTrue, refl, sym, ap, subst, ◌∙◌, inl, inr, arith}
 use Rattle.diag_shelf.specs.declared.shelf.ShelfFault.{ShelfFault}
 use Rattle.diag_shelf.specs.declared.shelf.ShelfFault.TheVariants.{Failed}
 use Rattle.diag_shelf.specs.World.{State}
@@ -15,56 +15,57 @@ use Rattle.dia_commands.specs.Texts.{summary_text, not_understood_text}
 use Rattle.dia_commands.specs.Netlists.{IsDesign}
 use Rattle.dia_commands.specs.Outcome.{Outcome, said, saved, IsCut, IsPartOf}
 use Rattle.dia_commands.specs.Plans.{MakesResult, IsResultPart, makes_file, makes_result, makes_both, says, plan_of}
-use Rattle.dia_commands.specs.Ran.{IsAmong, Ends, SavesResult, Follows, Ran}
-use Rattle.dia_commands.specs.Steps.{IsWriteStatus}
-use Rattle.dia_commands.proofs.Runs.{MayBreak, Fits, MadeAmong, cut_among, cut_after, part_after, ran, ends_unmade, ends_cut, status_of, not_done}
+use Rattle.dia_commands.specs.declared.ending.FileKind.TheVariants as kind
+use Rattle.dia_commands.specs.Ending.{Ending, done, not_understood, refused, write_fault}
+use Rattle.dia_commands.specs.Ran.{IsAmong, broken_endings, read_endings, Ends, SavesResult, Follows, Ran}
+use Rattle.dia_commands.proofs.Runs.{MayBreak, Fits, MadeAmong, cut_among, cut_after, part_after, ran, ends_unmade, ends_cut, ends_after, told_file, write_broken, not_done}
 use Rattle.dia_commands.proofs.Followed.{MayRead}
 
--- ---- statuses of requests that read no file, one, and a result too
+-- ---- endings of requests that read no file, one, and a result too
 
-pub no_read : MayBreak (0 ∷ 8 ∷ 9 ∷ [])
+pub no_read : MayBreak (done ∷ broken_endings)
 no_read = record { write = inr (inl refl); memory = inr (inr (inl refl)) }
 
-pub one_read : MayRead (0 ∷ 3 ∷ 7 ∷ 8 ∷ 9 ∷ [])
+pub one_read : MayRead (done ∷ refused kind.Netlist ∷ read_endings)
 one_read = record { failed = inr (inr (inl refl)); breaks = record { write = inr (inr (inr (inl refl))); memory = inr (inr (inr (inr (inl refl)))) } }
 
-pub two_read : MayRead (0 ∷ 3 ∷ 4 ∷ 7 ∷ 8 ∷ 9 ∷ [])
+pub two_read : MayRead (done ∷ refused kind.Netlist ∷ refused kind.Result ∷ read_endings)
 two_read = record { failed = inr (inr (inr (inl refl))); breaks = record { write = inr (inr (inr (inr (inl refl)))); memory = inr (inr (inr (inr (inr (inl refl))))) } }
 
--- ---- statuses of requests that read a dictionary, a log too, or a netlist and a list of vectors
+-- ---- endings of requests that read a dictionary, a log too, or a netlist and a list of vectors
 
-pub dictionary_read : MayRead (0 ∷ 5 ∷ 7 ∷ 8 ∷ 9 ∷ [])
+pub dictionary_read : MayRead (done ∷ refused kind.Dictionary ∷ read_endings)
 dictionary_read = record { failed = inr (inr (inl refl)); breaks = record { write = inr (inr (inr (inl refl))); memory = inr (inr (inr (inr (inl refl)))) } }
 
-pub log_read : MayRead (0 ∷ 5 ∷ 6 ∷ 7 ∷ 8 ∷ 9 ∷ [])
+pub log_read : MayRead (done ∷ refused kind.Dictionary ∷ refused kind.Log ∷ read_endings)
 log_read = record { failed = inr (inr (inr (inl refl))); breaks = record { write = inr (inr (inr (inr (inl refl)))); memory = inr (inr (inr (inr (inr (inl refl))))) } }
 
-pub list_read : MayRead (0 ∷ 3 ∷ 6 ∷ 7 ∷ 8 ∷ 9 ∷ [])
+pub list_read : MayRead (done ∷ refused kind.Netlist ∷ refused kind.Log ∷ read_endings)
 list_read = record { failed = inr (inr (inr (inl refl))); breaks = record { write = inr (inr (inr (inr (inl refl)))); memory = inr (inr (inr (inr (inr (inl refl))))) } }
 
 -- ---- a file and a text
 
 -- a file is made under a name, and a text is printed
-pub makes_follows : (AreMade : Text → Text → Type 0) {name file text : Text} {statuses : List ℕ} {outputs : List Text} {status : ℕ} {a b : State} → MayBreak statuses → IsAmong 0 statuses → IsAmong name outputs → AreMade file text
-    → Ends (saved ((name, file) ∷ []) text) (IsPartOf (saved ((name, file) ∷ []) text)) status a b → Follows (makes_file name AreMade) statuses outputs status a b
-makes_follows AreMade {name} {file} {text} {statuses} {outputs} {status} {a} {b} breaks zero among is ends =
-    ran (record { below = omega arith; answers = zero; breaks = breaks; names = λ made t part. cut_among made ((name, file) ∷ []) outputs part.files (among, tt) })
+pub makes_follows : (AreMade : Text → Text → Type 0) {name file text : Text} {endings : List Ending} {outputs : List Text} {ending : Ending} {a b : State} → MayBreak endings → IsAmong done endings → IsAmong name outputs → AreMade file text
+    → Ends (saved ((name, file) ∷ []) text) (IsPartOf (saved ((name, file) ∷ []) text)) ending a b → Follows (makes_file name AreMade) endings outputs ending a b
+makes_follows AreMade {name} {file} {text} {endings} {outputs} {ending} {a} {b} breaks zero among is ends =
+    ran (record { decided = tt; among = zero; breaks = breaks; names = λ made t part. cut_among made ((name, file) ∷ []) outputs part.files (among, tt) })
     (λ s told. (file, text, is, refl)) (λ told made t part. inl (saved ((name, file) ∷ []) text, (file, text, is, refl), part)) ends
 
 -- ---- texts
 
 -- a text is printed
-pub says_follows : (IsText : Text → Type 0) {text : Text} {statuses : List ℕ} {outputs : List Text} {status : ℕ} {a b : State} → MayBreak statuses → IsAmong 0 statuses → IsText text → Ends (said 0 text) (IsPartOf (said 0 text)) status a b → Follows (says IsText) statuses outputs status a b
-says_follows IsText {text} {statuses} {outputs} {status} {a} {b} breaks zero is ends =
-    ran (record { below = omega arith; answers = zero; breaks = breaks; names = λ made t part. cut_among made [] outputs part.files tt }) (λ s told. (text, is, refl)) (λ told made t part. inl (said 0 text, (text, is, refl), part)) ends
+pub says_follows : (IsText : Text → Type 0) {text : Text} {endings : List Ending} {outputs : List Text} {ending : Ending} {a b : State} → MayBreak endings → IsAmong done endings → IsText text → Ends (said done text) (IsPartOf (said done text)) ending a b → Follows (says IsText) endings outputs ending a b
+says_follows IsText {text} {endings} {outputs} {ending} {a} {b} breaks zero is ends =
+    ran (record { decided = tt; among = zero; breaks = breaks; names = λ made t part. cut_among made [] outputs part.files tt }) (λ s told. (text, is, refl)) (λ told made t part. inl (said done text, (text, is, refl), part)) ends
 
-abbrev not_understood : Outcome
-not_understood = said 2 not_understood_text
+abbrev words_refused : Outcome
+words_refused = said not_understood not_understood_text
 
-pub refused_words : {status : ℕ} {a b : State} → Ends not_understood (IsPartOf not_understood) status a b → Ran None status a b
-refused_words {status} {a} {b} ends =
-    ran {plan = plan_of None} (record { below = omega arith; answers = inl refl; breaks = record { write = inr (inl refl); memory = inr (inr (inl refl)) }; names = λ made t part. cut_among made [] [] part.files tt }) (λ s told. refl)
-    (λ told made t part. inl (not_understood, refl, part)) ends
+pub refused_words : {ending : Ending} {a b : State} → Ends words_refused (IsPartOf words_refused) ending a b → Ran None ending a b
+refused_words {ending} {a} {b} ends =
+    ran {plan = plan_of None} (record { decided = tt; among = inl refl; breaks = record { write = inr (inl refl); memory = inr (inr (inl refl)) }; names = λ made t part. cut_among made [] [] part.files tt }) (λ s told. refl)
+    (λ told made t part. inl (words_refused, refl, part)) ends
 
 -- ---- results
 
@@ -93,38 +94,51 @@ module _ {c : Circuit} {budgets : Budgets} {before : List (Text × Text)} {resul
   result_after name bytes made t (inr cut) = inr (record { part = cut.part; lines = cut.lines; files = cut_after name bytes made (before ++ (result, cut.part) ∷ []) cut.files; silent = cut.silent })
 
 -- no file was made
-pub saves_none : {T : Type 0} {c : Circuit} {budgets : Budgets} {before : List (Text × Text)} {result : Text} {fault : ShelfFault} {status : ℕ} {a b : State} → IsWriteCall {T = T} (Err fault) a b → Told a b Same → (IsTrue a.sure → fault ≡ Failed → ⊥) → IsWriteStatus fault status → SavesResult c budgets before result status a b
-saves_none {T} {c} {budgets} {before} {result} {fault} {status} {a} {b} call same never is = record {
+pub saves_none : {T : Type 0} {c : Circuit} {budgets : Budgets} {before : List (Text × Text)} {result : Text} {fault : ShelfFault} {ending : Ending} {a b : State} → IsWriteCall {T = T} (Err fault) a b → Told a b Same → (IsTrue a.sure → fault ≡ Failed → ⊥) → ending ≡ Err (write_fault fault) → SavesResult c budgets before result ending a b
+saves_none {T} {c} {budgets} {before} {result} {fault} {ending} {a} {b} call same never is = record {
   file = [];
   text = [];
   ends = ends_unmade (cut_result [] nothing_cut tt) call same never is;
-  made = λ z. absurd (not_done status (status_of fault status is) z);
+  made = λ z. absurd (not_done (write_broken fault is) z);
 }
 
 -- the first file was made, and a part of it was written
-pub saves_cut : {T U : Type 0} {x : T} {c : Circuit} {budgets : Budgets} {before : List (Text × Text)} {name result : Text} {fault : ShelfFault} {status : ℕ} {a b d : State} → (IsTrue b.sure → IsTrue b.tells) → IsWriteCall (Ok x) a b → Told a b (Creates name) → IsWriteCall {T = U} (Err fault) b d
-    → Told b d (λ u v. (part : List ℕ) × IsResultPart c budgets before result ((name, part) ∷ []) [] × Writes part u v) → (IsTrue b.sure → fault ≡ Failed → b.world.written ≡ None) → IsWriteStatus fault status → SavesResult c budgets before result status a d
-saves_cut {T} {U} {x} {c} {budgets} {before} {name} {result} {fault} {status} {a} {b} {d} law made created wrote cut absent is = record {
+pub saves_cut : {T U : Type 0} {x : T} {c : Circuit} {budgets : Budgets} {before : List (Text × Text)} {name result : Text} {fault : ShelfFault} {ending : Ending} {a b d : State} → (IsTrue b.sure → IsTrue b.tells) → IsWriteCall (Ok x) a b → Told a b (Creates name) → IsWriteCall {T = U} (Err fault) b d
+    → Told b d (λ u v. (part : List ℕ) × IsResultPart c budgets before result ((name, part) ∷ []) [] × Writes part u v) → (IsTrue b.sure → fault ≡ Failed → b.world.written ≡ None) → ending ≡ Err (write_fault fault) → SavesResult c budgets before result ending a d
+saves_cut {T} {U} {x} {c} {budgets} {before} {name} {result} {fault} {ending} {a} {b} {d} law made created wrote cut absent is = record {
   file = [];
   text = [];
   ends = ends_cut law made created wrote cut absent is;
-  made = λ z. absurd (not_done status (status_of fault status is) z);
+  made = λ z. absurd (not_done (write_broken fault is) z);
 }
 
-fits_result : {c : Circuit} {budgets : Budgets} {statuses : List ℕ} {outputs : List Text} (before : List (Text × Text)) (result file text : Text) → MayBreak statuses → IsAmong 0 statuses → ((file : Text) → MadeAmong (before ++ (result, file) ∷ []) outputs) → Fits statuses outputs (saved (before ++ (result, file) ∷ []) text) (IsResultPart c budgets before result)
-fits_result {c} {budgets} {statuses} {outputs} before result file text breaks zero among = record { below = omega arith; answers = zero; breaks = breaks; names = λ made t part. part_among outputs among made t part }
+-- a whole file was made, and its summary was printed, or a beginning of it
+pub saves_whole : {T : Type 0} {x : T} {c : Circuit} {budgets : Budgets} {result : Text} {summary : Summary} {ending : Ending} {a b d e : State} → IsWriteCall (Ok x) a b → Told a b (Creates result) → IsWriteCall (Ok summary) b d
+    → Told b d (λ u v. (file : Text) × IsMade c budgets summary file × Writes file u v) → Ends (said done (summary_text summary)) (IsPartOf (said done (summary_text summary))) ending d e → SavesResult c budgets [] result ending a e
+saves_whole {T} {x} {c} {budgets} {result} {summary} {ending} {a} {b} {d} {e} made created wrote written says =
+    let f = told_file (λ (file : Text). IsMade c budgets summary file) b d written in
+    let text = summary_text summary in
+    record {
+      file = f.0;
+      text = text;
+      ends = ends_after (λ told m t part. whole_result summary f.0 (f.2 (made.tells ∙ told)) (part_after result f.0 text [] m t part)) made created wrote f.1 says;
+      made = λ z told. (summary, f.2 (made.tells ∙ told), refl);
+    }
+
+fits_result : {c : Circuit} {budgets : Budgets} {endings : List Ending} {outputs : List Text} (before : List (Text × Text)) (result file text : Text) → MayBreak endings → IsAmong done endings → ((file : Text) → MadeAmong (before ++ (result, file) ∷ []) outputs) → Fits endings outputs (saved (before ++ (result, file) ∷ []) text) (IsResultPart c budgets before result)
+fits_result {c} {budgets} {endings} {outputs} before result file text breaks zero among = record { decided = tt; among = zero; breaks = breaks; names = λ made t part. part_among outputs among made t part }
 
 -- a result of the circuit was saved
-pub saved_follows : {c : Circuit} {budgets : Budgets} {statuses : List ℕ} {outputs : List Text} {status : ℕ} {a b : State} (before : List (Text × Text)) (result : Text) → MayBreak statuses → IsAmong 0 statuses → ((file : Text) → MadeAmong (before ++ (result, file) ∷ []) outputs) → SavesResult c budgets before result status a b → Follows (makes_result before result budgets c) statuses outputs status a b
-saved_follows {c} {budgets} {statuses} {outputs} {status} {a} {b} before result breaks zero among saves =
+pub saved_follows : {c : Circuit} {budgets : Budgets} {endings : List Ending} {outputs : List Text} {ending : Ending} {a b : State} (before : List (Text × Text)) (result : Text) → MayBreak endings → IsAmong done endings → ((file : Text) → MadeAmong (before ++ (result, file) ∷ []) outputs) → SavesResult c budgets before result ending a b → Follows (makes_result before result budgets c) endings outputs ending a b
+saved_follows {c} {budgets} {endings} {outputs} {ending} {a} {b} before result breaks zero among saves =
     ran (fits_result before result saves.file saves.text breaks zero among)
     (λ z told. let m = saves.made z told in makes m.0 saves.file saves.text m.1 m.2)
     (λ told made t part. part) saves.ends
 
 -- a netlist was saved, and a result of its circuit
-pub both_follows : {budgets : Budgets} {design : Design} {statuses : List ℕ} {outputs : List Text} {status : ℕ} {a b : State} (bench netlist result : Text) → MayBreak statuses → IsAmong 0 statuses → ((file : Text) → MadeAmong ((bench, netlist) ∷ (result, file) ∷ []) outputs) → IsDesign netlist design
-    → SavesResult design.circuit budgets ((bench, netlist) ∷ []) result status a b → Follows (makes_both bench netlist result budgets) statuses outputs status a b
-both_follows {budgets} {design} {statuses} {outputs} {status} {a} {b} bench netlist result breaks zero among accepted saves =
+pub both_follows : {budgets : Budgets} {design : Design} {endings : List Ending} {outputs : List Text} {ending : Ending} {a b : State} (bench netlist result : Text) → MayBreak endings → IsAmong done endings → ((file : Text) → MadeAmong ((bench, netlist) ∷ (result, file) ∷ []) outputs) → IsDesign netlist design
+    → SavesResult design.circuit budgets ((bench, netlist) ∷ []) result ending a b → Follows (makes_both bench netlist result budgets) endings outputs ending a b
+both_follows {budgets} {design} {endings} {outputs} {ending} {a} {b} bench netlist result breaks zero among accepted saves =
     ran (fits_result ((bench, netlist) ∷ []) result saves.file saves.text breaks zero among)
     (λ z told. let m = saves.made z told in (design, accepted, makes m.0 saves.file saves.text m.1 m.2))
     (λ told made t part. elim part [

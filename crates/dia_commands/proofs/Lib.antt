@@ -1,3 +1,4 @@
+pub mod HandedOn
 pub mod Runs
 pub mod Followed
 pub mod ReadLemmas
@@ -5,6 +6,7 @@ pub mod NetlistLemmas
 pub mod Refusals
 pub mod Generated
 pub mod SimLemmas
+mod WrittenLemmas
 pub mod MadeLemmas
 pub mod FullApart
 pub mod MostApart

@@ -1,9 +1,12 @@
 -- From what the last steps of a run do to what the whole run promises.
 use Rattle.std.proofs.Common.{◌≡◌, ◌≢◌, ℕ, Bool, true, false, ◌<◌, ◌≤◌, ◌⊎◌, List, [], ◌∷◌, ◌++◌, take, length, Option, Some, None, Result, Ok, Err, refl, sym, ap, subst, ◌∙◌, inl, inr, arith, zero-le, IsTrue}
+use Rattle.std.specs.Result.{IsErrAnd}
 use Rattle.std.specs.FinMap.{get, insert}
 use Rattle.diag_shelf.specs.World.{Files, World, State, appended}
 use Rattle.diag_shelf.specs.declared.shelf.ShelfFault.{ShelfFault}
 use Rattle.diag_shelf.specs.declared.shelf.ShelfFault.TheVariants.{Failed, NoMemory}
+use Rattle.dia_commands.specs.declared.ending.RunFault.{RunFault}
+use Rattle.dia_commands.specs.Ending.{Ending, done, write_failed, no_memory, read_failed, IsDecided, write_fault}
 use Rattle.std.proofs.Math.Nat.{le_refl}
 use Rattle.std.proofs.lemmas.List.{append-nil, take_all}
 use Rattle.diag_shelf.specs.Calls.{Told, OfSome, Same, SameFacts, OnlyReads, Creates, Writes, Prints, IsReadCall, IsWriteCall}
@@ -11,8 +14,8 @@ use Rattle.diag_shelf.proofs.FileMaps.{get_off_insert, insert_again, held_at_ins
 use Rattle.request_words.specs.Request.{Text}
 use Rattle.dia_commands.specs.Outcome.{Outcome, IsCut, IsPartOf, Leaves, after_made, written_after, said, saved}
 use Rattle.dia_commands.specs.Plan.{Plan, CallsFor, MayLeave}
-use Rattle.dia_commands.specs.Ran.{IsAmong, Stays, Ends, Follows}
-use Rattle.dia_commands.specs.Steps.{IsWriteStatus}
+use Rattle.dia_commands.specs.Ran.{IsAmong, IsBroken, Stays, Ends, Follows}
+use Rattle.dia_commands.proofs.HandedOn.{handed_on}
 
 -- all files of the outcome have these names
 abbrev pub MadeAmong : List (Text × List ℕ) → List Text → Type 0
@@ -20,20 +23,16 @@ MadeAmong [] names = Unit {0}
 MadeAmong (m ∷ made) names = IsAmong m.0 names × MadeAmong made names
 
 -- a run may break off
-pub record MayBreak (statuses : List ℕ) : Type 0 where
-  pub write : IsAmong 8 statuses
-  pub memory : IsAmong 9 statuses
+pub record MayBreak (endings : List Ending) : Type 0 where
+  pub write : IsAmong write_failed endings
+  pub memory : IsAmong no_memory endings
 
--- an outcome that a run may have which answers one of these statuses and makes files of these names
-pub record Fits (statuses : List ℕ) (outputs : List Text) (o : Outcome) (Part : List (Text × List ℕ) → List ℕ → Type 0) : Type 0 where
-  pub below : o.status < 7
-  pub answers : IsAmong o.status statuses
-  pub breaks : MayBreak statuses
+-- an outcome that a run may have which ends in one of these ways and makes files of these names
+pub record Fits (endings : List Ending) (outputs : List Text) (o : Outcome) (Part : List (Text × List ℕ) → List ℕ → Type 0) : Type 0 where
+  pub decided : IsDecided o.ending
+  pub among : IsAmong o.ending endings
+  pub breaks : MayBreak endings
   pub names : (made : List (Text × List ℕ)) (text : List ℕ) → Part made text → MadeAmong made outputs
-
-pub not_broken : (status : ℕ) → status < 8 → (status ≡ 8) ⊎ (status ≡ 9) → ⊥
-not_broken status low (inl e) = omega arith
-not_broken status low (inr e) = omega arith
 
 -- ---- what stays
 
@@ -74,8 +73,8 @@ pub leaves_moved : {made : List (Text × List ℕ)} {text : List ℕ} {u v w : W
 leaves_moved {made} {text} only l = record { files = l.files ∙ ap (after_made made) only.files; written = l.written ∙ ap (written_after made) only.written; console = l.console ∙ ap (λ (x : List ℕ). x ++ text) only.console }
 
 -- what was read before doesn't matter
-pub ends_moved : {o : Outcome} {Part : List (Text × List ℕ) → List ℕ → Type 0} {status : ℕ} {a b c : State} → SameFacts a b → Told a b OnlyReads → Ends o Part status b c → Ends o Part status a c
-ends_moved {o} {Part} {status} {a} {b} {c} s r e = record {
+pub ends_moved : {o : Outcome} {Part : List (Text × List ℕ) → List ℕ → Type 0} {ending : Ending} {a b c : State} → SameFacts a b → Told a b OnlyReads → Ends o Part ending b c → Ends o Part ending a c
+ends_moved {o} {Part} {ending} {a} {b} {c} s r e = record {
   stays = stays_then (stays_facts s) e.stays;
   reads = e.reads ∙ s.reads;
   answered = e.answered;
@@ -103,33 +102,40 @@ leaves_after {name} {bytes} {text} {made} k w l = record {
   console = l.console ∙ ap (λ (s : List ℕ). s ++ text) (w.console ∙ k.console);
 }
 
-pub status_of : (fault : ShelfFault) (status : ℕ) → IsWriteStatus fault status → (status ≡ 8) ⊎ (status ≡ 9)
-status_of Failed status h = inl (h.failed refl)
-status_of NoMemory status h = inr (h.memory refl)
+fault_broken : (fault : ShelfFault) → IsBroken (Err (write_fault fault))
+fault_broken Failed = inl refl
+fault_broken NoMemory = inr refl
 
-failed_of : (fault : ShelfFault) (status : ℕ) → IsWriteStatus fault status → status ≡ 8 → fault ≡ Failed
-failed_of Failed status h e = refl
-failed_of NoMemory status h e = let n = h.memory refl in absurd (omega arith)
+-- a run breaks off where a write failed
+pub write_broken : (fault : ShelfFault) {ending : Ending} → ending ≡ Err (write_fault fault) → IsBroken ending
+write_broken fault {ending} is = subst IsBroken (sym is) (fault_broken fault)
 
-pub not_done : (status : ℕ) → (status ≡ 8) ⊎ (status ≡ 9) → status ≡ 0 → ⊥
-not_done status (inl a) z = omega arith
-not_done status (inr a) z = omega arith
+fault_failed : (fault : ShelfFault) → ◌≡◌ {A = Ending} (Err (write_fault fault)) write_failed → fault ≡ Failed
+fault_failed Failed e = refl
+fault_failed NoMemory e = absurd (cc)
 
-apart_from : (meant status : ℕ) → meant < 7 → (status ≡ 8) ⊎ (status ≡ 9) → status ≡ meant → ⊥
-apart_from meant status lt (inl a) z = omega arith
-apart_from meant status lt (inr a) z = omega arith
+failed_of : {fault : ShelfFault} {ending : Ending} → ending ≡ Err (write_fault fault) → ending ≡ write_failed → fault ≡ Failed
+failed_of {fault} {ending} is e = fault_failed fault (sym is ∙ e)
+
+-- such an ending isn't one that words and files decide
+pub apart_from : {meant ending : Ending} → IsDecided meant → IsBroken ending → ending ≡ meant → ⊥
+apart_from {meant} {ending} decided (inl a) z = subst IsDecided (sym z ∙ a) decided
+apart_from {meant} {ending} decided (inr a) z = subst IsDecided (sym z ∙ a) decided
+
+pub not_done : {ending : Ending} → IsBroken ending → ending ≡ done → ⊥
+not_done {ending} broken z = apart_from {meant = done} tt broken z
 
 still : {T : Type 0} (fault : ShelfFault) (a b : State) → IsWriteCall {T = T} (Err fault) a b → IsTrue a.sure → ¬ (fault ≡ Failed) → b.write_faults ≡ a.write_faults
 still Failed a b call s n = absurd (n refl)
 still NoMemory a b call s n = call.memory s refl
 
 -- a text was said
-pub ends_said : {T : Type 0} {x : T} {status : ℕ} {text : List ℕ} {a b : State} → status < 7 → IsWriteCall (Ok x) a b → Told a b (Prints text) → Ends (said status text) (IsPartOf (said status text)) status a b
-ends_said {T} {x} {status} {text} {a} {b} below call printed = record {
+pub ends_said : {T : Type 0} {x : T} {ending : Ending} {text : List ℕ} {a b : State} → IsDecided ending → IsWriteCall (Ok x) a b → Told a b (Prints text) → Ends (said ending text) (IsPartOf (said ending text)) ending a b
+ends_said {T} {x} {ending} {text} {a} {b} decided call printed = record {
   stays = stays_written call;
   reads = call.reads;
   answered = inl refl;
-  write_fault = λ e. absurd (omega arith);
+  write_fault = λ e. absurd (subst IsDecided e decided);
   writes_failed = λ h. absurd (omega (arith, call.ok));
   whole = λ e told. let p = printed told in record { files = p.files; written = p.written; console = p.console };
   part = λ told.
@@ -139,14 +145,14 @@ ends_said {T} {x} {status} {text} {a} {b} below call printed = record {
 }
 
 -- a beginning of a text was said
-pub ends_said_part : {T : Type 0} {fault : ShelfFault} {meant status : ℕ} {text : List ℕ} {a b : State} → meant < 7 → IsWriteCall {T = T} (Err fault) a b → Told a b (OfSome Prints text) → (IsTrue a.sure → fault ≡ Failed → ⊥) → IsWriteStatus fault status → Ends (said meant text) (IsPartOf (said meant text)) status a b
-ends_said_part {T} {fault} {meant} {status} {text} {a} {b} below call printed never is = record {
+pub ends_said_part : {T : Type 0} {fault : ShelfFault} {meant ending : Ending} {text : List ℕ} {a b : State} → IsDecided meant → IsWriteCall {T = T} (Err fault) a b → Told a b (OfSome Prints text) → (IsTrue a.sure → fault ≡ Failed → ⊥) → ending ≡ Err (write_fault fault) → Ends (said meant text) (IsPartOf (said meant text)) ending a b
+ends_said_part {T} {fault} {meant} {ending} {text} {a} {b} decided call printed never is = record {
   stays = stays_written call;
   reads = call.reads;
-  answered = inr (status_of fault status is);
-  write_fault = λ e. call.failed (ap Err (failed_of fault status is e));
-  writes_failed = λ _. status_of fault status is;
-  whole = λ e. absurd (apart_from meant status below (status_of fault status is) e);
+  answered = inr (write_broken fault is);
+  write_fault = λ e. call.failed (ap Err (failed_of is e));
+  writes_failed = λ _. write_broken fault is;
+  whole = λ e. absurd (apart_from decided (write_broken fault is) e);
   part = λ told.
       let p = printed told in
       ([], take p.0 text, record { files = tt; console = (p.0, p.1, refl); order = λ _. refl }, record { files = p.2.files; written = p.2.written; console = p.2.console });
@@ -154,27 +160,27 @@ ends_said_part {T} {fault} {meant} {status} {text} {a} {b} below call printed ne
 }
 
 -- no file was made
-pub ends_unmade : {T : Type 0} {fault : ShelfFault} {whole : List (Text × List ℕ)} {text : List ℕ} {Part : List (Text × List ℕ) → List ℕ → Type 0} {status : ℕ} {a b : State} → Part [] [] → IsWriteCall {T = T} (Err fault) a b → Told a b Same → (IsTrue a.sure → fault ≡ Failed → ⊥) → IsWriteStatus fault status → Ends (saved whole text) Part status a b
-ends_unmade {T} {fault} {whole} {text} {Part} {status} {a} {b} none call same never is = record {
+pub ends_unmade : {T : Type 0} {fault : ShelfFault} {whole : List (Text × List ℕ)} {text : List ℕ} {Part : List (Text × List ℕ) → List ℕ → Type 0} {ending : Ending} {a b : State} → Part [] [] → IsWriteCall {T = T} (Err fault) a b → Told a b Same → (IsTrue a.sure → fault ≡ Failed → ⊥) → ending ≡ Err (write_fault fault) → Ends (saved whole text) Part ending a b
+ends_unmade {T} {fault} {whole} {text} {Part} {ending} {a} {b} none call same never is = record {
   stays = stays_written call;
   reads = call.reads;
-  answered = inr (status_of fault status is);
-  write_fault = λ e. call.failed (ap Err (failed_of fault status is e));
-  writes_failed = λ _. status_of fault status is;
-  whole = λ e. absurd (not_done status (status_of fault status is) e);
+  answered = inr (write_broken fault is);
+  write_fault = λ e. call.failed (ap Err (failed_of is e));
+  writes_failed = λ _. write_broken fault is;
+  whole = λ e. absurd (not_done (write_broken fault is) e);
   part = λ told. let p = same told in ([], [], none, record { files = p.files; written = p.written; console = p.console ∙ sym (append-nil a.world.console) });
   sure = λ s. still fault a b call s (never s);
 }
 
 -- a new file was made, and a part of it was written
-pub ends_cut : {T U : Type 0} {x : T} {fault : ShelfFault} {name : Text} {whole : List (Text × List ℕ)} {text : List ℕ} {Part : List (Text × List ℕ) → List ℕ → Type 0} {status : ℕ} {a b c : State} → (IsTrue b.sure → IsTrue b.tells) → IsWriteCall (Ok x) a b → Told a b (Creates name) → IsWriteCall {T = U} (Err fault) b c → Told b c (λ u v. (part : List ℕ) × Part ((name, part) ∷ []) [] × Writes part u v) → (IsTrue b.sure → fault ≡ Failed → b.world.written ≡ None) → IsWriteStatus fault status → Ends (saved whole text) Part status a c
-ends_cut {T} {U} {x} {fault} {name} {whole} {text} {Part} {status} {a} {b} {c} law made created wrote cut absent is = record {
+pub ends_cut : {T U : Type 0} {x : T} {fault : ShelfFault} {name : Text} {whole : List (Text × List ℕ)} {text : List ℕ} {Part : List (Text × List ℕ) → List ℕ → Type 0} {ending : Ending} {a b c : State} → (IsTrue b.sure → IsTrue b.tells) → IsWriteCall (Ok x) a b → Told a b (Creates name) → IsWriteCall {T = U} (Err fault) b c → Told b c (λ u v. (part : List ℕ) × Part ((name, part) ∷ []) [] × Writes part u v) → (IsTrue b.sure → fault ≡ Failed → b.world.written ≡ None) → ending ≡ Err (write_fault fault) → Ends (saved whole text) Part ending a c
+ends_cut {T} {U} {x} {fault} {name} {whole} {text} {Part} {ending} {a} {b} {c} law made created wrote cut absent is = record {
   stays = stays_then (stays_written made) (stays_written wrote);
   reads = wrote.reads ∙ made.reads;
-  answered = inr (status_of fault status is);
-  write_fault = λ e. omega (arith, wrote.failed (ap Err (failed_of fault status is e)), made.ok);
-  writes_failed = λ _. status_of fault status is;
-  whole = λ e. absurd (not_done status (status_of fault status is) e);
+  answered = inr (write_broken fault is);
+  write_fault = λ e. omega (arith, wrote.failed (ap Err (failed_of is e)), made.ok);
+  writes_failed = λ _. write_broken fault is;
+  whole = λ e. absurd (not_done (write_broken fault is) e);
   part = λ told.
       let k = created told in
       let w = cut (made.tells ∙ told) in
@@ -186,8 +192,8 @@ ends_cut {T} {U} {x} {fault} {name} {whole} {text} {Part} {status} {a} {b} {c} l
 }
 
 -- a new file was made whole before the rest was done
-pub ends_after : {T U : Type 0} {x : T} {y : U} {name bytes text : List ℕ} {made : List (Text × List ℕ)} {Part Whole : List (Text × List ℕ) → List ℕ → Type 0} {status : ℕ} {a b c d : State} → (IsTrue a.tells → (m : List (Text × List ℕ)) (t : List ℕ) → Part m t → Whole ((name, bytes) ∷ m) t) → IsWriteCall (Ok x) a b → Told a b (Creates name) → IsWriteCall (Ok y) b c → Told b c (Writes bytes) → Ends (saved made text) Part status c d → Ends (saved ((name, bytes) ∷ made) text) Whole status a d
-ends_after {T} {U} {x} {y} {name} {bytes} {text} {made} {Part} {Whole} {status} {a} {b} {c} {d} parts create created write written e = record {
+pub ends_after : {T U : Type 0} {x : T} {y : U} {name bytes text : List ℕ} {made : List (Text × List ℕ)} {Part Whole : List (Text × List ℕ) → List ℕ → Type 0} {ending : Ending} {a b c d : State} → (IsTrue a.tells → (m : List (Text × List ℕ)) (t : List ℕ) → Part m t → Whole ((name, bytes) ∷ m) t) → IsWriteCall (Ok x) a b → Told a b (Creates name) → IsWriteCall (Ok y) b c → Told b c (Writes bytes) → Ends (saved made text) Part ending c d → Ends (saved ((name, bytes) ∷ made) text) Whole ending a d
+ends_after {T} {U} {x} {y} {name} {bytes} {text} {made} {Part} {Whole} {ending} {a} {b} {c} {d} parts create created write written e = record {
   stays = stays_then (stays_written create) (stays_then (stays_written write) e.stays);
   reads = e.reads ∙ write.reads ∙ create.reads;
   answered = e.answered;
@@ -221,32 +227,40 @@ part_written {name} {bytes} {text} n h = record { files = (refl, (n, h, refl)); 
 
 -- ---- the whole run
 
-done_status : (o : Outcome) (status : ℕ) → (status ≡ o.status) ⊎ ((status ≡ 8) ⊎ (status ≡ 9)) → status < 8 → status ≡ o.status
-done_status o status (inl e) lt = e
-done_status o status (inr (inl e)) lt = absurd (omega arith)
-done_status o status (inr (inr e)) lt = absurd (omega arith)
+meant_ending : {meant ending : Ending} → (ending ≡ meant) ⊎ IsBroken ending → IsDecided ending → ending ≡ meant
+meant_ending {meant} {ending} (inl e) decided = e
+meant_ending {meant} {ending} (inr broken) decided = absurd (apart_from decided broken refl)
 
-answered_among : {statuses : List ℕ} {meant status : ℕ} → MayBreak statuses → IsAmong meant statuses → (status ≡ meant) ⊎ ((status ≡ 8) ⊎ (status ≡ 9)) → IsAmong status statuses
-answered_among {statuses} {meant} {status} breaks among (inl e) = subst (λ (n : ℕ). IsAmong n statuses) (sym e) among
-answered_among {statuses} {meant} {status} breaks among (inr (inl e)) = subst (λ (n : ℕ). IsAmong n statuses) (sym e) breaks.write
-answered_among {statuses} {meant} {status} breaks among (inr (inr e)) = subst (λ (n : ℕ). IsAmong n statuses) (sym e) breaks.memory
+-- no read failed
+not_unread : {meant ending : Ending} → IsDecided meant → (ending ≡ meant) ⊎ IsBroken ending → ending ≡ read_failed → ⊥
+not_unread {meant} {ending} decided (inl e) is = subst IsDecided (sym e ∙ is) decided
+not_unread {meant} {ending} decided (inr (inl e)) is = cc
+not_unread {meant} {ending} decided (inr (inr e)) is = cc
+
+ended_among : {endings : List Ending} {meant ending : Ending} → MayBreak endings → IsAmong meant endings → (ending ≡ meant) ⊎ IsBroken ending → IsAmong ending endings
+ended_among {endings} {meant} {ending} breaks among (inl e) = subst (λ (x : Ending). IsAmong x endings) (sym e) among
+ended_among {endings} {meant} {ending} breaks among (inr (inl e)) = subst (λ (x : Ending). IsAmong x endings) (sym e) breaks.write
+ended_among {endings} {meant} {ending} breaks among (inr (inr e)) = subst (λ (x : Ending). IsAmong x endings) (sym e) breaks.memory
 
 -- what the last steps do is what the plan promises
-pub ran : {plan : Plan} {statuses : List ℕ} {outputs : List Text} {o : Outcome} {Part : List (Text × List ℕ) → List ℕ → Type 0} {status : ℕ} {a b : State} → Fits statuses outputs o Part → (status ≡ o.status → IsTrue a.tells → CallsFor a.world.files plan o)
-    → (IsTrue a.tells → (made : List (Text × List ℕ)) (text : List ℕ) → Part made text → MayLeave a.world.files plan made text) → Ends o Part status a b → Follows plan statuses outputs status a b
-ran {plan} {statuses} {outputs} {o} {Part} {status} {a} {b} fits called may e = record {
-  answers = answered_among fits.breaks fits.answers e.answered;
+pub ran : {plan : Plan} {endings : List Ending} {outputs : List Text} {o : Outcome} {Part : List (Text × List ℕ) → List ℕ → Type 0} {ending : Ending} {a b : State} → Fits endings outputs o Part → (ending ≡ o.ending → IsTrue a.tells → CallsFor a.world.files plan o)
+    → (IsTrue a.tells → (made : List (Text × List ℕ)) (text : List ℕ) → Part made text → MayLeave a.world.files plan made text) → Ends o Part ending a b → Follows plan endings outputs ending a b
+ran {plan} {endings} {outputs} {o} {Part} {ending} {a} {b} fits called may e = record {
+  ends = ended_among fits.breaks fits.among e.answered;
   stays = e.stays;
   causes = record {
-    read_fault = λ h. let s = done_status o status e.answered (omega arith) in absurd (omega (arith, fits.below));
+    read_fault = λ h. absurd (not_unread fits.decided e.answered h);
     write_fault = e.write_fault;
     reads_failed = λ h. absurd (omega (arith, e.reads));
     writes_failed = e.writes_failed;
   };
-  done = λ told lt.
-      let s = done_status o status e.answered (omega arith) in
+  done = λ told decided.
+      let s = meant_ending e.answered decided in
       (o, called s told, sym s, e.whole s told);
-  unread = λ told h. let s = done_status o status e.answered (omega arith) in absurd (omega (arith, fits.below));
+  unread = λ failed told. elim failed [
+    | inl is ↦ absurd (not_unread fits.decided e.answered is)
+    | inr rose ↦ absurd (omega (arith, rose, e.reads))
+  ];
   broken_off = λ told broke. let l = e.part told in inr (l.0, l.1, may told l.0 l.1 l.2, l.3);
   others = λ told name off.
       let l = e.part told in
@@ -263,14 +277,18 @@ pub told_file : (P : List ℕ → Type 0) (a b : State) → Told a b (λ u v. (f
 told_file P a b written = file_by P a b a.tells refl written
 
 -- memory was wanting for a text, and nothing was said
-pub ends_silent : {meant : ℕ} {text : List ℕ} {a : State} → meant < 7 → Ends (said meant text) (IsPartOf (said meant text)) 9 a a
-ends_silent {meant} {text} {a} below = record {
+pub ends_silent : {meant : Ending} {text : List ℕ} {a : State} → IsDecided meant → Ends (said meant text) (IsPartOf (said meant text)) no_memory a a
+ends_silent {meant} {text} {a} decided = record {
   stays = stays_same a;
   reads = refl;
   answered = inr (inr refl);
-  write_fault = λ e. absurd (omega arith);
+  write_fault = λ e. absurd (cc);
   writes_failed = λ h. inr refl;
-  whole = λ e. absurd (omega arith);
+  whole = λ e. absurd (subst IsDecided (sym e) decided);
   part = λ told. ([], [], record { files = tt; console = (0, zero-le, refl); order = λ n. absurd (n refl) }, record { files = refl; written = refl; console = sym (append-nil a.world.console) });
   sure = λ s. refl;
 }
+
+-- `?` hands on why a run ends
+pub handed_ends : {o : Outcome} {Part : List (Text × List ℕ) → List ℕ → Type 0} {why : RunFault} {a b : State} (ending : Ending) → IsErrAnd ending (λ x. x ≡ why) → Ends o Part (Err why) a b → Ends o Part ending a b
+handed_ends {o} {Part} {why} {a} {b} ending is ends = subst (λ (e : Ending). Ends o Part e a b) (sym (handed_on ending is)) ends

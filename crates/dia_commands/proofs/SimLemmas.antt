@@ -11,33 +11,34 @@ use Rattle.sim_listing.specs.SimText.{IsSimTextFrom, IsSimText}
 use Rattle.sim_listing.proofs.TextLemmas.{text_joined, no_text, one_text}
 use Rattle.request_words.specs.Request.{Text}
 use Rattle.dia_commands.specs.Outcome.{IsCut, IsPartOf, Leaves, after_made, written_after, said}
-use Rattle.dia_commands.specs.Ran.{Ends}
+use Rattle.dia_commands.specs.Ending.{Ending, done, IsDecided}
+use Rattle.dia_commands.specs.Ran.{IsBroken, Ends}
 use Rattle.dia_commands.proofs.Runs.{stays_same, stays_then, not_done}
 
 -- ---- texts that are printed one after another
 
--- a text was printed, or where the status is 8 or 9 a part of it
-abbrev Says : Text → ℕ → State → State → Type 0
-Says text status a b = Ends (said 0 text) (IsPartOf (said 0 text)) status a b
+-- a text was printed, or where the run breaks off a part of it
+abbrev Says : Text → Ending → State → State → Type 0
+Says text ending a b = Ends (said done text) (IsPartOf (said done text)) ending a b
 
 same_leaves : (u : World) → Leaves [] [] u u
 same_leaves u = record { files = refl; written = refl; console = sym (append-nil u.console) }
 
-says_nothing : (a : State) → Says [] 0 a a
+says_nothing : (a : State) → Says [] done a a
 says_nothing a = record {
   stays = stays_same a;
   reads = refl;
   answered = inl refl;
-  write_fault = λ e. absurd (omega arith);
+  write_fault = λ e. absurd (subst IsDecided e tt);
   writes_failed = λ h. absurd (omega (arith, h));
   whole = λ e told. same_leaves a.world;
   part = λ told. ([], [], record { files = tt; console = (0, zero-le, refl); order = λ n. absurd (n refl) }, same_leaves a.world);
   sure = λ s. refl;
 }
 
-still_written : {front : Text} {a b : State} → Says front 0 a b → b.write_faults ≡ a.write_faults
+still_written : {front : Text} {a b : State} → Says front done a b → b.write_faults ≡ a.write_faults
 still_written {front} {a} {b} e = elim (cases_lt a.write_faults b.write_faults) [
-  | inl rose ↦ absurd (not_done 0 (e.writes_failed rose) refl)
+  | inl rose ↦ absurd (not_done (e.writes_failed rose) refl)
   | inr not ↦ omega (arith, not, e.stays.writes)
 ]
 
@@ -53,7 +54,7 @@ none_made [] cut = refl
 none_made (m ∷ []) cut = absurd cut
 none_made (m ∷ k ∷ made) cut = absurd cut
 
-part_behind : {back t : Text} {made : List (Text × Text)} (front : Text) → IsPartOf (said 0 back) made t → IsPartOf (said 0 (front ++ back)) made (front ++ t)
+part_behind : {back t : Text} {made : List (Text × Text)} (front : Text) → IsPartOf (said done back) made t → IsPartOf (said done (front ++ back)) made (front ++ t)
 part_behind {back} {t} {made} front part =
     let cut = part.console in
     record {
@@ -62,7 +63,7 @@ part_behind {back} {t} {made} front part =
       order = λ some. none_made made part.files;
     }
 
-longer_part : {text t : Text} {made : List (Text × Text)} (more : Text) → IsPartOf (said 0 text) made t → IsPartOf (said 0 (text ++ more)) made t
+longer_part : {text t : Text} {made : List (Text × Text)} (more : Text) → IsPartOf (said done text) made t → IsPartOf (said done (text ++ more)) made t
 longer_part {text} {t} {made} more part =
     let cut = part.console in
     record {
@@ -72,8 +73,8 @@ longer_part {text} {t} {made} more part =
     }
 
 -- a whole text, and then another
-says_then : {front back : Text} {status : ℕ} {a b d : State} → Says front 0 a b → Says back status b d → Says (front ++ back) status a d
-says_then {front} {back} {status} {a} {b} {d} one two = record {
+says_then : {front back : Text} {ending : Ending} {a b d : State} → Says front done a b → Says back ending b d → Says (front ++ back) ending a d
+says_then {front} {back} {ending} {a} {b} {d} one two = record {
   stays = stays_then one.stays two.stays;
   reads = two.reads ∙ one.reads;
   answered = two.answered;
@@ -86,13 +87,13 @@ says_then {front} {back} {status} {a} {b} {d} one two = record {
   sure = λ s. two.sure (one.stays.sure ∙ s) ∙ still_written one;
 }
 
-broken : {status : ℕ} → status ≢ 0 → (status ≡ 0) ⊎ ((status ≡ 8) ⊎ (status ≡ 9)) → (status ≡ 8) ⊎ (status ≡ 9)
+broken : {ending : Ending} → ending ≢ done → (ending ≡ done) ⊎ IsBroken ending → IsBroken ending
 broken ne (inl z) = absurd (ne z)
 broken ne (inr broke) = broke
 
 -- a part of a text is a part of a longer one
-says_part : {text : Text} {status : ℕ} {a b : State} (more : Text) → status ≢ 0 → Says text status a b → Says (text ++ more) status a b
-says_part {text} {status} {a} {b} more ne e = record {
+says_part : {text : Text} {ending : Ending} {a b : State} (more : Text) → ending ≢ done → Says text ending a b → Says (text ++ more) ending a b
+says_part {text} {ending} {a} {b} more ne e = record {
   stays = e.stays;
   reads = e.reads;
   answered = inr (broken ne e.answered);
@@ -112,11 +113,11 @@ pub record ArePrinted (c : Circuit) (vectors : List (List Bool)) (count : ℕ) (
   pub within : count ≤ length vectors
   pub text : Text
   pub simulated : IsSimText c (take count vectors) text
-  pub says : Ends (said 0 text) (IsPartOf (said 0 text)) 0 a b
+  pub says : Ends (said done text) (IsPartOf (said done text)) done a b
 
 -- What is printed of a simulation, or a part of it.
-abbrev pub PrintsText : Circuit → List (List Bool) → ℕ → State → State → Type 0
-PrintsText c vectors status a b = (text : List ℕ) × IsSimText c vectors text × Ends (said 0 text) (IsPartOf (said 0 text)) status a b
+abbrev pub PrintsText : Circuit → List (List Bool) → Ending → State → State → Type 0
+PrintsText c vectors ending a b = (text : List ℕ) × IsSimText c vectors text × Ends (said done text) (IsPartOf (said done text)) ending a b
 
 pub none_printed : (c : Circuit) (vectors : List (List Bool)) (a : State) → ArePrinted c vectors 0 a a
 none_printed c vectors a = record { within = zero-le; text = []; simulated = no_text c 0; says = says_nothing a }
@@ -130,7 +131,7 @@ text_further {c} vectors {count} {end} {text} {more} order within one two =
     subst (λ (vs : List (List Bool)). IsSimText c vs (text ++ more)) all
     (text_joined one (subst (λ (n : ℕ). IsSimTextFrom c n (slice_range vectors count end) more) first two))
 
-pub more_printed : {c : Circuit} {vectors : List (List Bool)} {count end : ℕ} {text : Text} {a b d : State} → count ≤ end → end ≤ length vectors → ArePrinted c vectors count a b → IsSimTextFrom c count (slice_range vectors count end) text → Ends (said 0 text) (IsPartOf (said 0 text)) 0 b d
+pub more_printed : {c : Circuit} {vectors : List (List Bool)} {count end : ℕ} {text : Text} {a b d : State} → count ≤ end → end ≤ length vectors → ArePrinted c vectors count a b → IsSimTextFrom c count (slice_range vectors count end) text → Ends (said done text) (IsPartOf (said done text)) done b d
     → ArePrinted c vectors end a d
 more_printed {c} {vectors} {count} {end} {text} {a} {b} {d} order within so_far simulated says = record {
   within = within;
@@ -140,13 +141,13 @@ more_printed {c} {vectors} {count} {end} {text} {a} {b} {d} order within so_far 
 }
 
 -- all blocks
-pub all_printed : {c : Circuit} {vectors : List (List Bool)} {count : ℕ} {a b : State} → length vectors ≤ count → ArePrinted c vectors count a b → PrintsText c vectors 0 a b
+pub all_printed : {c : Circuit} {vectors : List (List Bool)} {count : ℕ} {a b : State} → length vectors ≤ count → ArePrinted c vectors count a b → PrintsText c vectors done a b
 all_printed {c} {vectors} {count} {a} {b} all so_far = (so_far.text, subst (λ (vs : List (List Bool)). IsSimText c vs so_far.text) (take_all count vectors all) so_far.simulated, so_far.says)
 
 -- a block that breaks off
-pub broken_off : {c : Circuit} {vectors : List (List Bool)} {count end status : ℕ} {text : Text} {a b d : State} → IsCircuit c → count ≤ end → end ≤ length vectors → status ≢ 0 → ArePrinted c vectors count a b → IsSimTextFrom c count (slice_range vectors count end) text
-    → Ends (said 0 text) (IsPartOf (said 0 text)) status b d → PrintsText c vectors status a d
-broken_off {c} {vectors} {count} {end} {status} {text} {a} {b} {d} is order within ne so_far simulated says =
+pub broken_off : {c : Circuit} {vectors : List (List Bool)} {count end : ℕ} {ending : Ending} {text : Text} {a b d : State} → IsCircuit c → count ≤ end → end ≤ length vectors → ending ≢ done → ArePrinted c vectors count a b → IsSimTextFrom c count (slice_range vectors count end) text
+    → Ends (said done text) (IsPartOf (said done text)) ending b d → PrintsText c vectors ending a d
+broken_off {c} {vectors} {count} {end} {ending} {text} {a} {b} {d} is order within ne so_far simulated says =
     let rest = one_text c is end (drop end vectors) in
     let long : length (take end vectors) ≡ end = length-take-le end vectors within in
     let first : end ≡ 0 + length (take end vectors) = omega (arith, long) in

@@ -5,8 +5,10 @@ pub mod Netlists
 pub mod Results
 pub mod Dictionaries
 pub mod Logs
+pub mod Ending
 pub mod Outcome
 pub mod Plan
 pub mod Plans
+pub mod WrittenOut
 pub mod Ran
 pub mod Steps

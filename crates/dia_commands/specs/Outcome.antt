@@ -1,19 +1,20 @@
--- How a run ends that isn't kept from it: its status, the files that it makes, in order, and what it prints.
+-- What a run does that isn't kept from it: its ending, the files that it makes, in order, and what it prints.
 use Rattle.std.specs.Prelude.{◌≡◌, ℕ, ◌≤◌, List, [], ◌∷◌, ◌++◌, length, take, Option, Some}
 use Rattle.std.specs.FinMap.{insert}
 use Rattle.diag_shelf.specs.World.{Files, World}
 use Rattle.request_words.specs.Request.{Text}
+use Rattle.dia_commands.specs.Ending.{Ending, done}
 
 pub record Outcome : Type 0 where
-  pub status : ℕ
+  pub ending : Ending
   pub made : List (Text × Text)
   pub console : Text
 
-abbrev pub said : ℕ → Text → Outcome
-said status console = record { status = status; made = []; console = console }
+abbrev pub said : Ending → Text → Outcome
+said ending console = record { ending = ending; made = []; console = console }
 
 abbrev pub saved : List (Text × Text) → Text → Outcome
-saved made console = record { status = 0; made = made; console = console }
+saved made console = record { ending = done; made = made; console = console }
 
 -- ---- what may stand where a run breaks off: the files that were made, and what was printed
 

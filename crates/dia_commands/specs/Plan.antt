@@ -1,8 +1,10 @@
 -- What a run does with the files that it reads, and what these call for.
-use Rattle.std.specs.Prelude.{◌≡◌, ℕ, ◌<◌, ◌⊎◌, List, Some, IsSome, ⊤}
+use Rattle.std.specs.Prelude.{◌≡◌, ◌⊎◌, List, Some, IsSome, ⊤}
 use Rattle.std.specs.FinMap.{get}
 use Rattle.diag_shelf.specs.World.{Files}
 use Rattle.request_words.specs.Request.{Text}
+use Rattle.dia_commands.specs.declared.ending.FileKind.{FileKind}
+use Rattle.dia_commands.specs.Ending.{done, refused}
 use Rattle.dia_commands.specs.Outcome.{Outcome, said, IsPartOf}
 
 -- Files are read in order, and each is judged before the next is read.
@@ -10,20 +12,19 @@ pub data Plan : Type 1 where
   -- Nothing more is read, and one of these outcomes comes about. Where the run breaks off, a part of one may be left, or these files
   -- and this text.
   finish : (Done : Outcome → Type 0) (Cut : List (Text × Text) → Text → Type 0) → Plan
-  -- The file of this name is read. It is refused, and the run ends with this status and the text of the refusal; or it is accepted as
-  -- something, with which the plan goes on.
-  judged : (name : Text) (status : ℕ) (X : Type 0) (Refused : Text → Text → Type 0) (Accepted : Text → X → Type 0) (next : X → Plan) → Plan
+  -- The file of this name is read. It is refused as one of this kind, and the console gains the text of the refusal; or it is accepted
+  -- as something, with which the plan goes on.
+  judged : (name : Text) (kind : FileKind) (X : Type 0) (Refused : Text → Text → Type 0) (Accepted : Text → X → Type 0) (next : X → Plan) → Plan
 
--- No file is both refused and accepted, nor accepted as two things, and a refusal's status is above 0.
-pub record IsClearFile (status : ℕ) (X : Type 0) (Refused : Text → Text → Type 0) (Accepted : Text → X → Type 0) : Type 0 where
-  pub above : 0 < status
+-- No file is both refused and accepted, nor accepted as two things.
+pub record IsClearFile (X : Type 0) (Refused : Text → Text → Type 0) (Accepted : Text → X → Type 0) : Type 0 where
   pub apart : (bytes console : Text) (x : X) → Accepted bytes x → Refused bytes console → ⊥
   pub once : (bytes : Text) (x y : X) → Accepted bytes x → Accepted bytes y → x ≡ y
 
--- That of each file that a plan reads, and what is done at its end has status 0.
+-- That of each file that a plan reads, and at its end the work is done.
 abbrev pub IsClear : Plan → Type 0
-IsClear (finish Done Cut) = (o : Outcome) → Done o → o.status ≡ 0
-IsClear (judged name status X Refused Accepted next) = IsClearFile status X Refused Accepted × ((bytes : Text) (x : X) → Accepted bytes x → IsClear (next x))
+IsClear (finish Done Cut) = (o : Outcome) → Done o → o.ending ≡ done
+IsClear (judged name kind X Refused Accepted next) = IsClearFile X Refused Accepted × ((bytes : Text) (x : X) → Accepted bytes x → IsClear (next x))
 
 -- The file of this name is refused with a text of which the one is true, or accepted as something of which the other is.
 pub data Judges (files : Files) (name : Text) (X : Type 0) (Refused : Text → Text → Type 0) (Accepted : Text → X → Type 0) (OfText : Text → Type 0) (OfThing : X → Type 0) : Type 0 where
@@ -35,28 +36,28 @@ abbrev pub IsLeftBy : (Outcome → Type 0) → (List (Text × Text) → Text →
 IsLeftBy Done Cut made text = ((o : Outcome) × Done o × IsPartOf o made text) ⊎ Cut made text
 
 module _ (files : Files) where
-  -- The plan ends with a refusal, of whose status and text the one is true, or with its end, of which the other is.
-  abbrev pub EndsIn : (ℕ → Text → Type 0) → ((Outcome → Type 0) → (List (Text × Text) → Text → Type 0) → Type 0) → Plan → Type 0
+  -- The plan ends with a refusal, of whose kind of file and text the one is true, or with its end, of which the other is.
+  abbrev pub EndsIn : (FileKind → Text → Type 0) → ((Outcome → Type 0) → (List (Text × Text) → Text → Type 0) → Type 0) → Plan → Type 0
   EndsIn AtRefusal AtEnd (finish Done Cut) = AtEnd Done Cut
-  EndsIn AtRefusal AtEnd (judged name status X Refused Accepted next) = Judges files name X Refused Accepted (AtRefusal status) (λ x. EndsIn AtRefusal AtEnd (next x))
+  EndsIn AtRefusal AtEnd (judged name kind X Refused Accepted next) = Judges files name X Refused Accepted (AtRefusal kind) (λ x. EndsIn AtRefusal AtEnd (next x))
 
   -- This outcome is called for.
   abbrev pub CallsFor : Plan → Outcome → Type 0
-  CallsFor plan o = EndsIn (λ status console. o ≡ said status console) (λ Done Cut. Done o) plan
+  CallsFor plan o = EndsIn (λ kind console. o ≡ said (refused kind) console) (λ Done Cut. Done o) plan
 
   -- These files and this text may be left where the run breaks off.
   abbrev pub MayLeave : Plan → List (Text × Text) → Text → Type 0
-  MayLeave plan made text = EndsIn (λ status console. IsPartOf (said status console) made text) (λ Done Cut. IsLeftBy Done Cut made text) plan
+  MayLeave plan made text = EndsIn (λ kind console. IsPartOf (said (refused kind) console) made text) (λ Done Cut. IsLeftBy Done Cut made text) plan
 
-  -- A file that is read is refused, with this status and text.
-  abbrev pub IsRefusedWith : Plan → ℕ → Text → Type 0
-  IsRefusedWith plan status console = EndsIn (λ s text. (status ≡ s) × (console ≡ text)) (λ Done Cut. ⊥) plan
+  -- A file of this kind is read and refused, with this text.
+  abbrev pub IsRefusedWith : Plan → FileKind → Text → Type 0
+  IsRefusedWith plan kind console = EndsIn (λ k text. (kind ≡ k) × (console ≡ text)) (λ Done Cut. ⊥) plan
 
   -- Each file that is read is accepted.
   abbrev pub AreAccepted : Plan → Type 0
-  AreAccepted plan = EndsIn (λ status console. ⊥) (λ Done Cut. ⊤) plan
+  AreAccepted plan = EndsIn (λ kind console. ⊥) (λ Done Cut. ⊤) plan
 
   -- Each file that is read is there, up to the first that is refused.
   abbrev pub AreHeld : Plan → Type 0
   AreHeld (finish Done Cut) = ⊤
-  AreHeld (judged name status X Refused Accepted next) = IsSome (get files name) × ((bytes : Text) (x : X) → get files name ≡ Some bytes → Accepted bytes x → AreHeld (next x))
+  AreHeld (judged name kind X Refused Accepted next) = IsSome (get files name) × ((bytes : Text) (x : X) → get files name ≡ Some bytes → Accepted bytes x → AreHeld (next x))

@@ -16,6 +16,8 @@ use Rattle.dia_commands.specs.Results.{IsResult, IsRefusedResult, IsValidText}
 use Rattle.table_dicts.specs.declared.dict.Dict.{Dict}
 use Rattle.dia_commands.specs.Dictionaries.{IsDictionaryFile, IsRefusedDictionary, IsMadeDictionary, IsConverted, IsDiagnosis}
 use Rattle.dia_commands.specs.Logs.{IsLogFor, IsRefusedLog, IsListFor, IsRefusedList}
+use Rattle.dia_commands.specs.declared.ending.FileKind.TheVariants as kind
+use Rattle.dia_commands.specs.Ending.{done, not_understood}
 use Rattle.dia_commands.specs.Outcome.{Outcome, said, saved, IsCut}
 use Rattle.dia_commands.specs.Plan.{Plan, finish, judged, IsLeftBy}
 
@@ -23,23 +25,23 @@ use Rattle.dia_commands.specs.Plan.{Plan, finish, judged, IsLeftBy}
 
 -- a netlist
 abbrev pub with_netlist : Text → (Design → Plan) → Plan
-with_netlist bench next = judged bench 3 Design IsRefused IsDesign next
+with_netlist bench next = judged bench kind.Netlist Design IsRefused IsDesign next
 
 -- a result for a circuit
 abbrev pub with_result : Text → Circuit → (Text → Plan) → Plan
-with_result result c next = judged result 4 Text (IsRefusedResult c) (IsResult c) next
+with_result result c next = judged result kind.Result Text (IsRefusedResult c) (IsResult c) next
 
 -- a dictionary
 abbrev pub with_dictionary : Text → (Dict → Plan) → Plan
-with_dictionary dict next = judged dict 5 Dict IsRefusedDictionary IsDictionaryFile next
+with_dictionary dict next = judged dict kind.Dictionary Dict IsRefusedDictionary IsDictionaryFile next
 
 -- a log for a dictionary
 abbrev pub with_log : Text → Dict → (List (List Bool) → Plan) → Plan
-with_log log d next = judged log 6 (List (List Bool)) (IsRefusedLog d) (IsLogFor d) next
+with_log log d next = judged log kind.Log (List (List Bool)) (IsRefusedLog d) (IsLogFor d) next
 
 -- a list of vectors for a circuit
 abbrev pub with_vectors : Text → Circuit → (List (List Bool) → Plan) → Plan
-with_vectors vectors c next = judged vectors 6 (List (List Bool)) (IsRefusedList c) (IsListFor c) next
+with_vectors vectors c next = judged vectors kind.Log (List (List Bool)) (IsRefusedList c) (IsListFor c) next
 
 -- ---- what is done with them
 
@@ -49,7 +51,7 @@ never_cut made text = ⊥
 
 -- a text is printed
 abbrev pub says : (Text → Type 0) → Plan
-says IsText = finish (λ o. (text : Text) × IsText text × (o ≡ said 0 text)) never_cut
+says IsText = finish (λ o. (text : Text) × IsText text × (o ≡ said done text)) never_cut
 
 -- a file is made under a name, and a text is printed
 abbrev pub makes_file : Text → (Text → Text → Type 0) → Plan
@@ -84,7 +86,7 @@ makes_both bench netlist result budgets = finish (λ o. (design : Design) × IsD
 -- ---- each request
 
 abbrev pub plan_of : Option Request → Plan
-plan_of None = finish (λ o. o ≡ said 2 not_understood_text) never_cut
+plan_of None = finish (λ o. o ≡ said not_understood not_understood_text) never_cut
 plan_of (Some (gen bench result budgets)) = with_netlist bench (λ design. makes_result [] result budgets design.circuit)
 plan_of (Some (check bench result)) = with_netlist bench (λ design. with_result result design.circuit (λ file. says (IsValidText design.circuit file)))
 plan_of (Some (make_dict kind bench result dict)) = with_netlist bench (λ design. with_result result design.circuit (λ file. makes_file dict (IsMadeDictionary design.circuit kind file)))

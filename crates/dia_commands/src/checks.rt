@@ -6,7 +6,8 @@ ghost use Rattle.dia_commands.specs.Plans.{says, with_result};
 ghost use Rattle.dia_commands.specs.Ran.{Ran, RanOn};
 ghost use Rattle.dia_commands.specs.Results.{IsValidText};
 
-use crate::ends::say_text;
+use crate::ending::RunFault;
+use crate::ends::say;
 use crate::netlists::read_design;
 use crate::results::read_result;
 use crate::texts::valid_text;
@@ -15,21 +16,28 @@ use net_model::Circuit;
 use std::alloc::Global;
 
 /// Reads and judges the netlist and then the result, and prints what the result amounts to.
-pub fn check_result<S: Shelf>(alloc: Global, shelf: &mut S, bench: &str, output: &str) -> u8
+pub fn check_result<S: Shelf>(
+    alloc: Global,
+    shelf: &mut S,
+    bench: &str,
+    output: &str,
+) -> Result<(), RunFault>
     ensures { Ran (Some (check bench.now output.now)) result (S.state shelf.old) (S.state shelf.new) }
 {
-    match read_design(alloc, shelf, bench) {
-        Ok(design) => check_for(alloc, shelf, &design.circuit, output),
-        Err(status) => status,
-    }
+    let design = read_design(alloc, shelf, bench)?;
+    check_for(alloc, shelf, &design.circuit, output)
 }
 
 // Reads and judges the result for a circuit, and says what a valid one amounts to.
-fn check_for<S: Shelf>(alloc: Global, shelf: &mut S, circuit: &Circuit, output: &str) -> u8
+fn check_for<S: Shelf>(
+    alloc: Global,
+    shelf: &mut S,
+    circuit: &Circuit,
+    output: &str,
+) -> Result<(), RunFault>
     ensures { (bench : List ℕ) → RanOn (check bench output.now) (with_result output.now circuit.now (λ (file : List ℕ). says (IsValidText circuit.now file))) result (S.state shelf.old) (S.state shelf.new) }
 {
-    match read_result(alloc, shelf, circuit, output) {
-        Ok(checked) => say_text(shelf, 0, valid_text(alloc, checked.summary)),
-        Err(status) => status,
-    }
+    let checked = read_result(alloc, shelf, circuit, output)?;
+    let text = valid_text(alloc, checked.summary)?;
+    say(shelf, text.as_bytes())
 }

@@ -8,6 +8,7 @@ ghost use Rattle.dia_commands.specs.Plans.{makes_file};
 ghost use Rattle.dia_commands.specs.Ran.{Ran, RanOn};
 
 use crate::dictionaries::read_dictionary;
+use crate::ending::RunFault;
 use crate::ends::save;
 use crate::texts::groups_text;
 use diag_shelf::Shelf;
@@ -16,25 +17,29 @@ use std::alloc::Global;
 use table_dicts::Dict;
 
 /// Reads and judges a dictionary of either version, and writes it in version 2 under the new name.
-pub fn convert_file<S: Shelf>(alloc: Global, shelf: &mut S, old: &str, new: &str) -> u8
+pub fn convert_file<S: Shelf>(
+    alloc: Global,
+    shelf: &mut S,
+    old: &str,
+    new: &str,
+) -> Result<(), RunFault>
     ensures { Ran (Some (convert old.now new.now)) result (S.state shelf.old) (S.state shelf.new) }
 {
-    match read_dictionary(alloc, shelf, old) {
-        Ok(dict) => save_dictionary(alloc, shelf, &dict, new),
-        Err(status) => status,
-    }
+    let dict = read_dictionary(alloc, shelf, old)?;
+    save_dictionary(alloc, shelf, &dict, new)
 }
 
 // Writes a dictionary in version 2 under this name, and prints what it amounts to.
-fn save_dictionary<S: Shelf>(alloc: Global, shelf: &mut S, dict: &Dict, new: &str) -> u8
+fn save_dictionary<S: Shelf>(
+    alloc: Global,
+    shelf: &mut S,
+    dict: &Dict,
+    new: &str,
+) -> Result<(), RunFault>
     requires { HasDictSpelling dict.now }
     ensures { (old : List ℕ) → RanOn (convert old new.now) (makes_file new.now (IsConverted dict.now)) result (S.state shelf.old) (S.state shelf.new) }
 {
-    let Ok(file) = encode(alloc, dict, DictVersion::Two) else {
-        return 9;
-    };
-    let Ok(text) = groups_text(alloc, dict.numbers, dict.patterns, dict.group_count()) else {
-        return 9;
-    };
+    let file = encode(alloc, dict, DictVersion::Two)?;
+    let text = groups_text(alloc, dict.numbers, dict.patterns, dict.group_count())?;
     save(shelf, new, &file, text.as_bytes())
 }

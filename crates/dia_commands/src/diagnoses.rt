@@ -10,6 +10,7 @@ ghost use Rattle.dia_commands.specs.Ran.{Ran, RanOn};
 ghost use Rattle.dia_commands.specs.Texts.{number_line};
 
 use crate::dictionaries::read_dictionary;
+use crate::ending::RunFault;
 use crate::ends::say;
 use crate::logs::read_observed;
 use crate::texts::{listed_text, number_line};
@@ -20,28 +21,31 @@ use std::alloc::{AllocError, Global};
 use table_dicts::Dict;
 
 /// Reads and judges the dictionary and then the log, and prints the numbers that they point to.
-pub fn diagnose_log<S: Shelf>(alloc: Global, shelf: &mut S, dict: &str, log: &str) -> u8
+pub fn diagnose_log<S: Shelf>(
+    alloc: Global,
+    shelf: &mut S,
+    dict: &str,
+    log: &str,
+) -> Result<(), RunFault>
     ensures { Ran (Some (diagnose dict.now log.now)) result (S.state shelf.old) (S.state shelf.new) }
 {
-    match read_dictionary(alloc, shelf, dict) {
-        Ok(dict) => diagnose_by(alloc, shelf, &dict, log),
-        Err(status) => status,
-    }
+    let dict = read_dictionary(alloc, shelf, dict)?;
+    diagnose_by(alloc, shelf, &dict, log)
 }
 
 // Reads and judges the log, and prints the numbers that the dictionary and the log point to.
-fn diagnose_by<S: Shelf>(alloc: Global, shelf: &mut S, dict: &Dict, log: &str) -> u8
+fn diagnose_by<S: Shelf>(
+    alloc: Global,
+    shelf: &mut S,
+    dict: &Dict,
+    log: &str,
+) -> Result<(), RunFault>
     requires { HasDictSpelling dict.now }
     ensures { (name : List ℕ) → RanOn (diagnose name log.now) (with_log log.now dict.now (λ (observed : List (List Bool)). says (IsDiagnosis dict.now observed))) result (S.state shelf.old) (S.state shelf.new) }
 {
-    let observed = match read_observed(alloc, shelf, dict, log) {
-        Ok(observed) => observed,
-        Err(status) => return status,
-    };
-    match diagnosis(alloc, dict, &observed) {
-        Ok(text) => say(shelf, 0, &text),
-        Err(_) => 9,
-    }
+    let observed = read_observed(alloc, shelf, dict, log)?;
+    let text = diagnosis(alloc, dict, &observed)?;
+    say(shelf, &text)
 }
 
 // A line for each number whose entry is that of the observed answers, and how many they are.

@@ -1,16 +1,19 @@
 //! From a dictionary's name to the dictionary, or to the end of the run.
 
-ghost use Rattle.std.specs.Prelude.{◌≡◌, IfErr, IfOk, option_map};
+ghost use Rattle.std.specs.Prelude.{◌≡◌, Err, IfErr, IfOk, option_map};
 ghost use Rattle.dict_file.specs.Spelling.{HasDictSpelling};
 ghost use Rattle.dia_commands.specs.Dictionaries.{IsDictionaryFile, IsRefusedDictionary};
+ghost use Rattle.dia_commands.specs.declared.ending.FileKind.TheVariants as kind;
+ghost use Rattle.dia_commands.specs.Ending.{refused};
 ghost use Rattle.dia_commands.specs.Outcome.{said, IsPartOf};
 ghost use Rattle.dia_commands.specs.Ran.{Ends};
 ghost use Rattle.dia_commands.specs.Steps.{WasAccepted, IsOver};
 ghost use Rattle.dia_commands.specs.Texts.{dictionary_rule, dictionary_text};
 
-use crate::ends::{read_status, say_text};
+use crate::ending::{FileKind, RunFault};
+use crate::ends::{read_file, refuse_by};
 use crate::texts::dictionary_text;
-use diag_shelf::{Shelf, read_all};
+use diag_shelf::Shelf;
 use dict_file::{DictFault, decode};
 use std::alloc::Global;
 use table_dicts::Dict;
@@ -18,28 +21,24 @@ use table_dicts::Dict;
 // The most bytes that a dictionary may have.
 const DICTIONARY_LIMIT: u64 = 1_099_511_627_776;
 
-/// Reads and judges the dictionary under a name. Where it isn't accepted, the console says why, and the run ends with the
-/// status that is answered.
+/// Reads and judges the dictionary under a name. Where it isn't accepted, the console says why, and the run is over.
 pub(crate) fn read_dictionary<S: Shelf>(
     alloc: Global,
     shelf: &mut S,
     name: &str,
-) -> Result<Dict, u8>
+) -> Result<Dict, RunFault>
     ensures spelled { IfOk result HasDictSpelling }
     ensures ok { IfOk result (λ dict. WasAccepted name.now IsDictionaryFile dict (S.state shelf.old) (S.state shelf.new)) }
-    ensures err { IfErr result (λ status. IsOver name.now 5 IsRefusedDictionary status (S.state shelf.old) (S.state shelf.new)) }
+    ensures err { IfErr result (λ why. IsOver name.now kind.Dictionary IsRefusedDictionary why (S.state shelf.old) (S.state shelf.new)) }
 {
-    let bytes = match read_all(alloc, shelf, name, DICTIONARY_LIMIT) {
-        Ok(bytes) => bytes,
-        Err(fault) => return Err(read_status(fault)),
-    };
+    let bytes = read_file(alloc, shelf, name, DICTIONARY_LIMIT)?;
     let fault = match decode(alloc, &bytes) {
         Ok(dict) => return Ok(dict),
         Err(fault) => fault,
     };
     match rule_of(&fault) {
         Some((rule, byte)) => Err(say_refusal(alloc, shelf, rule, byte)),
-        None => Err(9),
+        None => Err(RunFault::NoMemory),
     }
 }
 
@@ -60,8 +59,12 @@ fn rule_of(fault: &DictFault) -> Option<(&'static str, u64)>
 }
 
 // Says why a dictionary is refused.
-fn say_refusal<S: Shelf>(alloc: Global, shelf: &mut S, rule: &str, byte: u64) -> u8
-    ensures { Ends (said 5 (dictionary_text rule.now byte)) (IsPartOf (said 5 (dictionary_text rule.now byte))) result (S.state shelf.old) (S.state shelf.new) }
+fn say_refusal<S: Shelf>(alloc: Global, shelf: &mut S, rule: &str, byte: u64) -> RunFault
+    ensures { Ends (said (refused kind.Dictionary) (dictionary_text rule.now byte)) (IsPartOf (said (refused kind.Dictionary) (dictionary_text rule.now byte))) (Err result) (S.state shelf.old) (S.state shelf.new) }
 {
-    say_text(shelf, 5, dictionary_text(alloc, rule, byte))
+    refuse_by(
+        shelf,
+        RunFault::Refused(FileKind::Dictionary),
+        dictionary_text(alloc, rule, byte),
+    )
 }

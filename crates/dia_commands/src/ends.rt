@@ -1,64 +1,92 @@
-//! The last steps of a run: a file is written, a text is printed, and the status follows.
+//! The steps at either end of a run: a file is read, and at last one is written, or a text printed, and the ending follows.
 
-ghost use Rattle.std.specs.Prelude.{◌≡◌, ◌<◌, ℕ, List, [], ◌∷◌, IfOk, string_bytes};
+ghost use Rattle.std.specs.Prelude.{◌≡◌, ◌≤◌, ◌+◌, ℕ, List, [], ◌∷◌, Err, IfOk, IfErr, length, string_bytes};
+ghost use Rattle.dia_commands.specs.Ending.{done, IsDecided, read_fault, write_fault};
 ghost use Rattle.dia_commands.specs.Outcome.{said, saved, IsPartOf};
 ghost use Rattle.dia_commands.specs.Ran.{Ends};
-ghost use Rattle.dia_commands.specs.Steps.{IsReadStatus, IsWriteStatus};
+ghost use Rattle.dia_commands.specs.Steps.{HasRead, CouldNotRead};
 
-use diag_shelf::{Shelf, ShelfFault, print_all, write_all};
-use std::alloc::AllocError;
+use crate::ending::RunFault;
+use diag_shelf::{Shelf, ShelfFault, print_all, read_all, write_all};
+use std::alloc::{AllocError, Global};
 
-/// The status of a failed read.
-pub(crate) fn read_status(fault: ShelfFault) -> u8
-    ensures { IsReadStatus fault result }
+/// Why a run ends after a fault of a read.
+pub(crate) fn read_fault(fault: ShelfFault) -> RunFault
+    ensures { result ≡ read_fault fault }
 {
     match fault {
-        ShelfFault::Failed => 7,
-        ShelfFault::NoMemory => 9,
+        ShelfFault::Failed => RunFault::ReadFailed,
+        ShelfFault::NoMemory => RunFault::NoMemory,
     }
 }
 
-/// The status of a failed write.
-pub(crate) fn write_status(fault: ShelfFault) -> u8
-    ensures { IsWriteStatus fault result }
+/// Why a run ends after a fault of a write.
+pub(crate) fn write_fault(fault: ShelfFault) -> RunFault
+    ensures { result ≡ write_fault fault }
 {
     match fault {
-        ShelfFault::Failed => 8,
-        ShelfFault::NoMemory => 9,
+        ShelfFault::Failed => RunFault::WriteFailed,
+        ShelfFault::NoMemory => RunFault::NoMemory,
     }
 }
 
-/// Prints a text and ends with a status.
-pub(crate) fn say<S: Shelf>(shelf: &mut S, status: u8, text: &[u8]) -> u8
-    requires { status < 7 }
-    ensures { Ends (said status text.now) (IsPartOf (said status text.now)) result (S.state shelf.old) (S.state shelf.new) }
+/// The bytes of a file, up to one beyond a limit.
+pub(crate) fn read_file<S: Shelf>(
+    alloc: Global,
+    shelf: &mut S,
+    name: &str,
+    limit: u64,
+) -> Result<Vec<u8>, RunFault>
+    ensures ok { IfOk result (λ bytes. HasRead name.now limit bytes.items (S.state shelf.old) (S.state shelf.new)) }
+    ensures bound { IfOk result (λ bytes. length bytes.items ≤ limit + 1) }
+    ensures err { IfErr result (λ why. CouldNotRead name.now why (S.state shelf.old) (S.state shelf.new)) }
+{
+    read_all(alloc, shelf, name, limit).map_err(read_fault)
+}
+
+/// Prints a text.
+pub(crate) fn say<S: Shelf>(shelf: &mut S, text: &[u8]) -> Result<(), RunFault>
+    ensures { Ends (said done text.now) (IsPartOf (said done text.now)) result (S.state shelf.old) (S.state shelf.new) }
+{
+    print_all(shelf, text).map_err(write_fault)
+}
+
+/// Prints why nothing is done. Answers that, or why it couldn't be printed.
+pub(crate) fn refuse<S: Shelf>(shelf: &mut S, why: RunFault, text: &[u8]) -> RunFault
+    requires { IsDecided (Err why) }
+    ensures { Ends (said (Err why) text.now) (IsPartOf (said (Err why) text.now)) (Err result) (S.state shelf.old) (S.state shelf.new) }
 {
     match print_all(shelf, text) {
-        Ok(()) => status,
-        Err(fault) => write_status(fault),
+        Ok(()) => why,
+        Err(fault) => write_fault(fault),
     }
 }
 
-/// Prints a text and ends with a status, or ends for want of memory where there is no text.
-pub(crate) fn say_text<S: Shelf>(shelf: &mut S, status: u8, text: Result<String, AllocError>) -> u8
-    requires { status < 7 }
-    ensures { (said_text : List ℕ) → IfOk text (λ t. string_bytes t ≡ said_text) → Ends (said status said_text) (IsPartOf (said status said_text)) result (S.state shelf.old) (S.state shelf.new) }
+/// The same, or want of memory where there is no text.
+pub(crate) fn refuse_by<S: Shelf>(
+    shelf: &mut S,
+    why: RunFault,
+    text: Result<String, AllocError>,
+) -> RunFault
+    requires { IsDecided (Err why) }
+    ensures { (said_text : List ℕ) → IfOk text (λ t. string_bytes t ≡ said_text) → Ends (said (Err why) said_text) (IsPartOf (said (Err why) said_text)) (Err result) (S.state shelf.old) (S.state shelf.new) }
 {
     match text {
-        Ok(text) => say(shelf, status, text.as_bytes()),
-        Err(_) => 9,
+        Ok(text) => refuse(shelf, why, text.as_bytes()),
+        Err(_) => RunFault::NoMemory,
     }
 }
 
 /// Makes a file under a name, and then prints a text.
-pub(crate) fn save<S: Shelf>(shelf: &mut S, name: &str, bytes: &[u8], text: &[u8]) -> u8
+pub(crate) fn save<S: Shelf>(
+    shelf: &mut S,
+    name: &str,
+    bytes: &[u8],
+    text: &[u8],
+) -> Result<(), RunFault>
     ensures { Ends (saved ((name.now, bytes.now) ∷ []) text.now) (IsPartOf (saved ((name.now, bytes.now) ∷ []) text.now)) result (S.state shelf.old) (S.state shelf.new) }
 {
-    if let Err(fault) = shelf.create_file(name) {
-        return write_status(fault);
-    }
-    if let Err(fault) = write_all(shelf, bytes) {
-        return write_status(fault);
-    }
-    say(shelf, 0, text)
+    shelf.create_file(name).map_err(write_fault)?;
+    write_all(shelf, bytes).map_err(write_fault)?;
+    say(shelf, text)
 }

@@ -5,7 +5,8 @@ ghost use Rattle.result_file.specs.Lines.{AreWithinLimits};
 ghost use Rattle.request_words.specs.Request.{gen};
 ghost use Rattle.dia_commands.specs.Ran.{Ran, SavesResult};
 
-use crate::ends::{say_text, write_status};
+use crate::ending::RunFault;
+use crate::ends::{say, write_fault};
 use crate::netlists::read_design;
 use crate::texts::summary_text;
 use dia_gen::generate;
@@ -21,14 +22,12 @@ pub fn generate_file<S: Shelf>(
     bench: &str,
     output: &str,
     budgets: Budgets,
-) -> u8
+) -> Result<(), RunFault>
     requires { AreWithinLimits budgets }
     ensures { Ran (Some (gen bench.now output.now budgets)) result (S.state shelf.old) (S.state shelf.new) }
 {
-    match read_design(alloc, shelf, bench) {
-        Ok(design) => save_result(alloc, shelf, &design.circuit, output, budgets),
-        Err(status) => status,
-    }
+    let design = read_design(alloc, shelf, bench)?;
+    save_result(alloc, shelf, &design.circuit, output, budgets)
 }
 
 /// Generates a result of the circuit under this name, and prints what it amounts to.
@@ -38,15 +37,12 @@ pub(crate) fn save_result<S: Shelf>(
     circuit: &Circuit,
     output: &str,
     budgets: Budgets,
-) -> u8
+) -> Result<(), RunFault>
     requires { AreWithinLimits budgets }
     ensures { SavesResult circuit.now budgets [] output.now result (S.state shelf.old) (S.state shelf.new) }
 {
-    if let Err(fault) = shelf.create_file(output) {
-        return write_status(fault);
-    }
-    match generate(alloc, circuit, budgets, shelf) {
-        Ok(summary) => say_text(shelf, 0, summary_text(alloc, summary)),
-        Err(fault) => write_status(fault),
-    }
+    shelf.create_file(output).map_err(write_fault)?;
+    let summary = generate(alloc, circuit, budgets, shelf).map_err(write_fault)?;
+    let text = summary_text(alloc, summary)?;
+    say(shelf, text.as_bytes())
 }

@@ -12,6 +12,7 @@ ghost use Rattle.dia_commands.specs.Faults.{IsFaultsText, faults_text, fault_lin
 ghost use Rattle.dia_commands.specs.Plans.{says};
 ghost use Rattle.dia_commands.specs.Ran.{Ran, RanOn};
 
+use crate::ending::RunFault;
 use crate::ends::say;
 use crate::netlists::read_design;
 use crate::texts::{count_text, line_start};
@@ -22,24 +23,28 @@ use net_model::{Design, Fault};
 use std::alloc::{AllocError, Global};
 
 /// Reads and judges the netlist, and prints the faults of its circuit.
-pub fn list_faults<S: Shelf>(alloc: Global, shelf: &mut S, bench: &str) -> u8
+pub fn list_faults<S: Shelf>(
+    alloc: Global,
+    shelf: &mut S,
+    bench: &str,
+) -> Result<(), RunFault>
     ensures { Ran (Some (list_faults bench.now)) result (S.state shelf.old) (S.state shelf.new) }
 {
-    match read_design(alloc, shelf, bench) {
-        Ok(design) => print_faults(alloc, shelf, &design),
-        Err(status) => status,
-    }
+    let design = read_design(alloc, shelf, bench)?;
+    print_faults(alloc, shelf, &design)
 }
 
 // Prints the faults of a circuit.
-fn print_faults<S: Shelf>(alloc: Global, shelf: &mut S, design: &Design) -> u8
+fn print_faults<S: Shelf>(
+    alloc: Global,
+    shelf: &mut S,
+    design: &Design,
+) -> Result<(), RunFault>
     requires { length design.now.names ≡ line_count design.now.circuit }
     ensures { (bench : List ℕ) → RanOn (list_faults bench) (says (IsFaultsText design.now)) result (S.state shelf.old) (S.state shelf.new) }
 {
-    match faults_text(alloc, design) {
-        Ok(text) => say(shelf, 0, &text),
-        Err(_) => 9,
-    }
+    let text = faults_text(alloc, design)?;
+    say(shelf, &text)
 }
 
 // A line for each fault, and how many faults and roots there are.

@@ -1,17 +1,20 @@
 //! From the name of a log or a list of vectors to what it has, or to the end of the run.
 
-ghost use Rattle.std.specs.Prelude.{IfErr, IfOk};
+ghost use Rattle.std.specs.Prelude.{Err, IfErr, IfOk};
 ghost use Rattle.table_dicts.specs.Rows.{AreRows};
 ghost use Rattle.net_model.specs.Rows.{AreWide};
 ghost use Rattle.dia_commands.specs.Logs.{IsLogFor, IsRefusedLog, IsListFor, IsRefusedList};
+ghost use Rattle.dia_commands.specs.declared.ending.FileKind.TheVariants as file;
+ghost use Rattle.dia_commands.specs.Ending.{refused};
 ghost use Rattle.dia_commands.specs.Outcome.{said, IsPartOf};
 ghost use Rattle.dia_commands.specs.Ran.{Ends};
 ghost use Rattle.dia_commands.specs.Steps.{WasAccepted, IsOver};
 ghost use Rattle.dia_commands.specs.Texts.{log_text};
 
-use crate::ends::{read_status, say_text};
+use crate::ending::{FileKind, RunFault};
+use crate::ends::{read_file, refuse_by};
 use crate::texts::log_text;
-use diag_shelf::{Shelf, read_all};
+use diag_shelf::Shelf;
 use diagnose::{LogFault, LogKind, read_log, read_vectors};
 use net_model::{AnswerRows, Circuit, Vectors};
 use std::alloc::Global;
@@ -20,55 +23,52 @@ use table_dicts::Dict;
 // The most bytes that a log or a list of vectors may have.
 const TEXT_LIMIT: u64 = 1_073_741_824;
 
-/// Reads and judges the log under a name. Where it isn't accepted, the console says why, and the run ends with the status
-/// that is answered.
+/// Reads and judges the log under a name. Where it isn't accepted, the console says why, and the run is over.
 pub(crate) fn read_observed<S: Shelf>(
     alloc: Global,
     shelf: &mut S,
     dict: &Dict,
     name: &str,
-) -> Result<AnswerRows, u8>
+) -> Result<AnswerRows, RunFault>
     ensures rows { IfOk result (AreRows dict.now.patterns dict.now.positions) }
     ensures ok { IfOk result (λ observed. WasAccepted name.now (IsLogFor dict.now) observed (S.state shelf.old) (S.state shelf.new)) }
-    ensures err { IfErr result (λ status. IsOver name.now 6 (IsRefusedLog dict.now) status (S.state shelf.old) (S.state shelf.new)) }
+    ensures err { IfErr result (λ why. IsOver name.now file.Log (IsRefusedLog dict.now) why (S.state shelf.old) (S.state shelf.new)) }
 {
-    let bytes = match read_all(alloc, shelf, name, TEXT_LIMIT) {
-        Ok(bytes) => bytes,
-        Err(fault) => return Err(read_status(fault)),
-    };
+    let bytes = read_file(alloc, shelf, name, TEXT_LIMIT)?;
     match read_log(alloc, dict, &bytes) {
         Ok(observed) => Ok(observed),
         Err(LogFault::At(kind, line)) => Err(say_refusal(alloc, shelf, kind, line)),
-        Err(LogFault::NoMemory) => Err(9),
+        Err(LogFault::NoMemory) => Err(RunFault::NoMemory),
     }
 }
 
-/// Reads and judges the list of vectors under a name. Where it isn't accepted, the console says why, and the run ends with
-/// the status that is answered.
+/// Reads and judges the list of vectors under a name. Where it isn't accepted, the console says why, and the run is
+/// over.
 pub(crate) fn read_list<S: Shelf>(
     alloc: Global,
     shelf: &mut S,
     circuit: &Circuit,
     name: &str,
-) -> Result<Vectors, u8>
+) -> Result<Vectors, RunFault>
     ensures wide { IfOk result (AreWide circuit.now.sources) }
     ensures ok { IfOk result (λ vectors. WasAccepted name.now (IsListFor circuit.now) vectors (S.state shelf.old) (S.state shelf.new)) }
-    ensures err { IfErr result (λ status. IsOver name.now 6 (IsRefusedList circuit.now) status (S.state shelf.old) (S.state shelf.new)) }
+    ensures err { IfErr result (λ why. IsOver name.now file.Log (IsRefusedList circuit.now) why (S.state shelf.old) (S.state shelf.new)) }
 {
-    let bytes = match read_all(alloc, shelf, name, TEXT_LIMIT) {
-        Ok(bytes) => bytes,
-        Err(fault) => return Err(read_status(fault)),
-    };
+    let bytes = read_file(alloc, shelf, name, TEXT_LIMIT)?;
     match read_vectors(alloc, circuit.sources(), &bytes) {
         Ok(vectors) => Ok(vectors),
         Err(LogFault::At(kind, line)) => Err(say_refusal(alloc, shelf, kind, line)),
-        Err(LogFault::NoMemory) => Err(9),
+        Err(LogFault::NoMemory) => Err(RunFault::NoMemory),
     }
 }
 
 // Says why a log or a list is refused.
-fn say_refusal<S: Shelf>(alloc: Global, shelf: &mut S, kind: LogKind, line: u64) -> u8
-    ensures { Ends (said 6 (log_text kind line)) (IsPartOf (said 6 (log_text kind line))) result (S.state shelf.old) (S.state shelf.new) }
+fn say_refusal<S: Shelf>(alloc: Global, shelf: &mut S, kind: LogKind, line: u64) -> RunFault
+    ensures { Ends (said (refused file.Log) (log_text kind line)) (IsPartOf (said (refused file.Log) (log_text kind line))) (Err result) (S.state shelf.old) (S.state shelf.new) }
 {
-    say_text(shelf, 6, log_text(alloc, kind, line))
+    refuse_by(
+        shelf,
+        RunFault::Refused(FileKind::Log),
+        log_text(alloc, kind, line),
+    )
 }

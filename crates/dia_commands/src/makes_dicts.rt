@@ -13,6 +13,7 @@ ghost use Rattle.dia_commands.specs.Dictionaries.{IsOfPatterns, KeepsMostApart, 
 ghost use Rattle.dia_commands.specs.Plans.{makes_file, with_result};
 ghost use Rattle.dia_commands.specs.Ran.{Ran, RanOn};
 
+use crate::ending::RunFault;
 use crate::ends::save;
 use crate::netlists::read_design;
 use crate::results::read_result;
@@ -36,13 +37,11 @@ pub fn make_dictionary<S: Shelf>(
     bench: &str,
     results: &str,
     output: &str,
-) -> u8
+) -> Result<(), RunFault>
     ensures { Ran (Some (make_dict kind bench.now results.now output.now)) result (S.state shelf.old) (S.state shelf.new) }
 {
-    match read_design(alloc, shelf, bench) {
-        Ok(design) => make_for(alloc, shelf, kind, &design.circuit, results, output),
-        Err(status) => status,
-    }
+    let design = read_design(alloc, shelf, bench)?;
+    make_for(alloc, shelf, kind, &design.circuit, results, output)
 }
 
 // Reads and judges the result for a circuit, and makes a dictionary of this kind under the dictionary's name.
@@ -53,16 +52,11 @@ fn make_for<S: Shelf>(
     circuit: &Circuit,
     results: &str,
     output: &str,
-) -> u8
+) -> Result<(), RunFault>
     ensures { (bench : List ℕ) → RanOn (make_dict kind bench results.now output.now) (with_result results.now circuit.now (λ (file : List ℕ). makes_file output.now (IsMadeDictionary circuit.now kind file))) result (S.state shelf.old) (S.state shelf.new) }
 {
-    let checked = match read_result(alloc, shelf, circuit, results) {
-        Ok(checked) => checked,
-        Err(status) => return status,
-    };
-    let Ok(made) = made_of(alloc, kind, circuit, &checked) else {
-        return 9;
-    };
+    let checked = read_result(alloc, shelf, circuit, results)?;
+    let made = made_of(alloc, kind, circuit, &checked)?;
     save(shelf, output, &made.file, made.text.as_bytes())
 }
 

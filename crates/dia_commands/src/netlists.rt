@@ -3,14 +3,16 @@
 ghost use Rattle.std.specs.Prelude.{◌≡◌, ◌++◌, ℕ, Vec, Err, IfOk, IfErr, OnOk, Some, flat_map, length};
 ghost use Rattle.std.specs.declared.alloc.Global.{Global};
 ghost use Rattle.net_model.specs.Circuit.{line_count};
+ghost use Rattle.dia_commands.specs.declared.ending.FileKind.TheVariants as kind;
 ghost use Rattle.dia_commands.specs.Texts.{after_blank, loop_text};
 ghost use Rattle.dia_commands.specs.Netlists.{IsDesign, IsRefused};
 ghost use Rattle.dia_commands.specs.Steps.{fault_text, WasAccepted, IsOver};
 
-use crate::ends::{read_status, say};
+use crate::ending::{FileKind, RunFault};
+use crate::ends::{read_file, refuse};
 use crate::texts::{loop_start, refusal_text};
 use bench_reader::{NetFault, Place, read};
-use diag_shelf::{Shelf, read_all};
+use diag_shelf::Shelf;
 use net_model::{Design, Names};
 use scan_cut::cut;
 use std::alloc::{AllocError, Global};
@@ -25,21 +27,21 @@ pub(crate) enum Stop {
     NoMemory,
 }
 
-/// Reads and judges the netlist under a name. Where it isn't accepted, the console says why, and the run ends with the
-/// status that is answered.
-pub(crate) fn read_design<S: Shelf>(alloc: Global, shelf: &mut S, bench: &str) -> Result<Design, u8>
+/// Reads and judges the netlist under a name. Where it isn't accepted, the console says why, and the run is over.
+pub(crate) fn read_design<S: Shelf>(
+    alloc: Global,
+    shelf: &mut S,
+    bench: &str,
+) -> Result<Design, RunFault>
     ensures named { IfOk result (λ design. length design.names ≡ line_count design.circuit) }
     ensures ok { IfOk result (λ design. WasAccepted bench.now IsDesign design (S.state shelf.old) (S.state shelf.new)) }
-    ensures err { IfErr result (λ status. IsOver bench.now 3 IsRefused status (S.state shelf.old) (S.state shelf.new)) }
+    ensures err { IfErr result (λ why. IsOver bench.now kind.Netlist IsRefused why (S.state shelf.old) (S.state shelf.new)) }
 {
-    let bytes = match read_all(alloc, shelf, bench, NETLIST_LIMIT) {
-        Ok(bytes) => bytes,
-        Err(fault) => return Err(read_status(fault)),
-    };
+    let bytes = read_file(alloc, shelf, bench, NETLIST_LIMIT)?;
     match judge(alloc, &bytes) {
         Ok(design) => Ok(design),
-        Err(Stop::Refused(text)) => Err(say(shelf, 3, &text)),
-        Err(Stop::NoMemory) => Err(9),
+        Err(Stop::Refused(text)) => Err(refuse(shelf, RunFault::Refused(FileKind::Netlist), &text)),
+        Err(Stop::NoMemory) => Err(RunFault::NoMemory),
     }
 }
 

@@ -4,10 +4,12 @@ ghost use Rattle.std.specs.Prelude.{◌≡◌, ◌+◌, ◌≤◌, ℕ, Bool, Li
 ghost use Rattle.net_model.specs.FaultList.{faults as faults_of};
 ghost use Rattle.sim_listing.specs.SimText.{IsSimTextFrom, IsSimText};
 ghost use Rattle.request_words.specs.Request.{simulate};
+ghost use Rattle.dia_commands.specs.Ending.{done};
 ghost use Rattle.dia_commands.specs.Outcome.{said, IsPartOf};
 ghost use Rattle.dia_commands.specs.Plans.{says, with_vectors};
 ghost use Rattle.dia_commands.specs.Ran.{Ends, Ran, RanOn};
 
+use crate::ending::RunFault;
 use crate::ends::say;
 use crate::logs::read_list;
 use crate::netlists::read_design;
@@ -19,23 +21,29 @@ use std::alloc::Global;
 use word_sim::LANES;
 
 /// Reads and judges the netlist and then the list of vectors, and prints what the netlist's circuit answers to each.
-pub fn simulate<S: Shelf>(alloc: Global, shelf: &mut S, bench: &str, vectors: &str) -> u8
+pub fn simulate<S: Shelf>(
+    alloc: Global,
+    shelf: &mut S,
+    bench: &str,
+    vectors: &str,
+) -> Result<(), RunFault>
     ensures { Ran (Some (simulate bench.now vectors.now)) result (S.state shelf.old) (S.state shelf.new) }
 {
-    match read_design(alloc, shelf, bench) {
-        Ok(design) => simulate_list(alloc, shelf, &design.circuit, vectors),
-        Err(status) => status,
-    }
+    let design = read_design(alloc, shelf, bench)?;
+    simulate_list(alloc, shelf, &design.circuit, vectors)
 }
 
 // Reads and judges the list of vectors, and prints what the circuit answers to each.
-fn simulate_list<S: Shelf>(alloc: Global, shelf: &mut S, circuit: &Circuit, vectors: &str) -> u8
+fn simulate_list<S: Shelf>(
+    alloc: Global,
+    shelf: &mut S,
+    circuit: &Circuit,
+    vectors: &str,
+) -> Result<(), RunFault>
     ensures { (bench : List ℕ) → RanOn (simulate bench vectors.now) (with_vectors vectors.now circuit.now (λ (list : List (List Bool)). says (IsSimText circuit.now list))) result (S.state shelf.old) (S.state shelf.new) }
 {
-    match read_list(alloc, shelf, circuit, vectors) {
-        Ok(vectors) => print_simulation(alloc, shelf, circuit, vectors.as_slice()),
-        Err(status) => status,
-    }
+    let vectors = read_list(alloc, shelf, circuit, vectors)?;
+    print_simulation(alloc, shelf, circuit, vectors.as_slice())
 }
 
 // Prints the text of the simulation, block after block.
@@ -44,23 +52,18 @@ fn print_simulation<S: Shelf>(
     shelf: &mut S,
     circuit: &Circuit,
     vectors: &[Vector],
-) -> u8
+) -> Result<(), RunFault>
     requires { All (λ v. length v ≡ circuit.now.sources) vectors.now }
-    ensures { (text : List ℕ) × IsSimText circuit.now vectors.now text × Ends (said 0 text) (IsPartOf (said 0 text)) result (S.state shelf.old) (S.state shelf.new) }
+    ensures { (text : List ℕ) × IsSimText circuit.now vectors.now text × Ends (said done text) (IsPartOf (said done text)) result (S.state shelf.old) (S.state shelf.new) }
 {
     let _ = circuit.sources();
-    let Ok(faults) = list(alloc, circuit) else {
-        return 9;
-    };
+    let faults = list(alloc, circuit)?;
     let mut first = 0;
     while first < vectors.len() {
-        let status = print_block(alloc, shelf, circuit, &faults, vectors, first);
-        if status != 0 {
-            return status;
-        }
+        print_block(alloc, shelf, circuit, &faults, vectors, first)?;
         first += (vectors.len() - first).min(LANES as usize);
     }
-    0
+    Ok(())
 }
 
 // Prints the lines of the vectors from the first one on, as many as there are lanes.
@@ -71,15 +74,13 @@ fn print_block<S: Shelf>(
     faults: &FaultList,
     vectors: &[Vector],
     first: usize,
-) -> u8
+) -> Result<(), RunFault>
     requires faults { faults.now ≡ faults_of circuit.now }
     requires widths { All (λ v. length v ≡ circuit.now.sources) vectors.now }
     requires first { first ≤ length vectors.now }
-    ensures { (text : List ℕ) × IsSimTextFrom circuit.now first (slice_range vectors.now first (min (first + LANES) (length vectors.now))) text × Ends (said 0 text) (IsPartOf (said 0 text)) result (S.state shelf.old) (S.state shelf.new) }
+    ensures { (text : List ℕ) × IsSimTextFrom circuit.now first (slice_range vectors.now first (min (first + LANES) (length vectors.now))) text × Ends (said done text) (IsPartOf (said done text)) result (S.state shelf.old) (S.state shelf.new) }
 {
     let _ = circuit.sources();
-    let Ok(text) = block_text(alloc, circuit, faults, vectors, first) else {
-        return 9;
-    };
-    say(shelf, 0, text.as_bytes())
+    let text = block_text(alloc, circuit, faults, vectors, first)?;
+    say(shelf, text.as_bytes())
 }

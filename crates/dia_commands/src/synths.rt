@@ -5,7 +5,8 @@ ghost use Rattle.request_words.specs.Request.{synth};
 ghost use Rattle.dia_commands.specs.Outputs.{synth_budgets};
 ghost use Rattle.dia_commands.specs.Ran.{Ran, SavesResult};
 
-use crate::ends::write_status;
+use crate::ending::RunFault;
+use crate::ends::write_fault;
 use crate::generates::save_result;
 use crate::netlists::{Stop, judge};
 use diag_shelf::{Shelf, write_all};
@@ -23,19 +24,23 @@ const SYNTH_BUDGETS: Budgets = Budgets {
 
 /// Judges the netlist of a number, writes it under its name, and generates a result for its circuit under the result's
 /// name.
-pub fn synthesize<S: Shelf>(alloc: Global, shelf: &mut S, n: u32, bench: &str, output: &str) -> u8
+pub fn synthesize<S: Shelf>(
+    alloc: Global,
+    shelf: &mut S,
+    n: u32,
+    bench: &str,
+    output: &str,
+) -> Result<(), RunFault>
     requires least { 1 ≤ n }
     requires most { n ≤ 2000 }
     ensures { Ran (Some (synth n bench.now output.now)) result (S.state shelf.old) (S.state shelf.new) }
 {
-    let Ok(text) = synth_text(alloc, n) else {
-        return 9;
-    };
+    let text = synth_text(alloc, n)?;
     no_number_is_refused();
     match judge(alloc, &text) {
         Ok(design) => save_both(alloc, shelf, &text, &design.circuit, bench, output),
         Err(Stop::Refused(_)) => unreachable!(),
-        Err(Stop::NoMemory) => 9,
+        Err(Stop::NoMemory) => Err(RunFault::NoMemory),
     }
 }
 
@@ -47,14 +52,10 @@ fn save_both<S: Shelf>(
     circuit: &Circuit,
     bench: &str,
     output: &str,
-) -> u8
+) -> Result<(), RunFault>
     ensures { SavesResult circuit.now synth_budgets ((bench.now, text.now) ∷ []) output.now result (S.state shelf.old) (S.state shelf.new) }
 {
-    if let Err(fault) = shelf.create_file(bench) {
-        return write_status(fault);
-    }
-    if let Err(fault) = write_all(shelf, text) {
-        return write_status(fault);
-    }
+    shelf.create_file(bench).map_err(write_fault)?;
+    write_all(shelf, text).map_err(write_fault)?;
     save_result(alloc, shelf, circuit, output, SYNTH_BUDGETS)
 }

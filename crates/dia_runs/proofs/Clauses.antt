@@ -1,8 +1,5 @@
 -- What follows from a run's record, clause by clause.
-use Rattle.std.proofs.Common.{IsTrue, ◌≡◌, ◌<◌, ◌≤◌, ◌⊎◌, ℕ, Bool, true, List, [], ◌∷◌, ◌++◌, Option, Some, None, refl, sym, ap, subst, ◌∙◌, ◌==◌, inl, inr, arith}
-use Rattle.std.specs.Prelude.{nat_lt, not}
-use Rattle.std.specs.List.{list_all}
-use Rattle.std.proofs.lemmas.Bool.{cases_lt, ltb-true, and_parts}
+use Rattle.std.proofs.Common.{IsTrue, ◌≡◌, ◌≢◌, ◌⊎◌, ℕ, List, [], ◌∷◌, ◌++◌, Option, Some, None, Ok, Err, refl, sym, ap, subst, ◌∙◌, inl, inr, arith}
 use Rattle.std.specs.FinMap.{get, insert}
 use Rattle.diag_shelf.specs.World.{Files, World, State}
 use Rattle.diag_shelf.proofs.FileMaps.{get_at_insert, get_off_insert}
@@ -20,22 +17,27 @@ use Rattle.synth_netlist.specs.Synth.{synth_text}
 use Rattle.dia_commands.specs.Texts.{valid_text}
 use Rattle.dia_commands.specs.Netlists.{IsDesign}
 use Rattle.dia_commands.specs.Results.{IsResult}
+use Rattle.dia_commands.specs.declared.ending.FileKind.{FileKind}
+use Rattle.dia_commands.specs.declared.ending.RunFault.TheVariants.{NotUnderstood, Refused, ReadFailed, WriteFailed, NoMemory}
+use Rattle.dia_commands.specs.Ending.{Ending, done, not_understood, refused, read_failed, write_failed, no_memory, IsRefusal, IsDecided}
 use Rattle.dia_commands.specs.Outcome.{Outcome, said, IsCut, IsPartOf, Leaves, KeepsFiles, after_made, written_after}
 use Rattle.dia_commands.specs.Plan.{Judges, refused_file, accepted_file, CallsFor, MayLeave, IsLeftBy, IsRefusedWith, AreAccepted}
 use Rattle.dia_commands.specs.Plans.{MakesResult, plan_of}
-use Rattle.dia_commands.specs.Ran.{IsAmong, statuses_of, Ran, IsDone}
+use Rattle.dia_commands.specs.Ran.{IsAmong, IsBroken, endings_of, Ran, IsDone}
 use Rattle.dia_runs.specs.Promises.{KeepsUnlessDone, WasRead, LeavesResult, GeneratesResult, HoldsTrueResult, ChecksResult, Synthesizes, PrintsFaults, FilesAreJudgedOnce, DecidedByFiles, IsRefusedRequest, KeepsRefused, IsComplete}
 use Rattle.dia_runs.proofs.Judged.{EvidenceLaws, sound_design, circuit_of}
-use Rattle.dia_runs.proofs.PlanLemmas.{both_end, ends_by}
+use Rattle.dia_runs.proofs.PlanLemmas.{both_end, refused_where}
 
--- What was read and accepted before what was done with status 0.
+-- What was read and accepted before the work was done.
 pub record WasDone (files : Files) (name : Text) {X : Type 0} (Accepted : Text → X → Type 0) (Then : X → Type 0) : Type 0 where
   pub read : WasRead files name Accepted
   pub then : Then read.thing
 
-pub accepted_by : {files : Files} {name : Text} {status : ℕ} {X : Type 0} {Refused : Text → Text → Type 0} {Accepted : Text → X → Type 0} {Then : X → Type 0} {o : Outcome} → 0 < status → Judges files name X Refused Accepted (λ console. o ≡ said status console) Then → o.status ≡ 0 → WasDone files name Accepted Then
-accepted_by {files} {name} {status} {X} {Refused} {Accepted} {Then} {o} above (refused_file bytes console held refused is) z = absurd (omega (arith, above, ap (λ (p : Outcome). p.status) is))
-accepted_by {files} {name} {status} {X} {Refused} {Accepted} {Then} {o} above (accepted_file bytes x held accepted then) z = record { read = record { bytes = bytes; held = held; thing = x; accepted = accepted }; then = then }
+pub accepted_by : {files : Files} {name : Text} {kind : FileKind} {X : Type 0} {Refused : Text → Text → Type 0} {Accepted : Text → X → Type 0} {Then : X → Type 0} {o : Outcome} → Judges files name X Refused Accepted (λ console. o ≡ said (refused kind) console) Then → o.ending ≡ done → WasDone files name Accepted Then
+accepted_by {files} {name} {kind} {X} {Refused} {Accepted} {Then} {o} (refused_file bytes console held wrong is) z =
+    let bad : refused kind ≡ done = sym (ap (λ (p : Outcome). p.ending) is) ∙ z in
+    absurd (cc)
+accepted_by {files} {name} {kind} {X} {Refused} {Accepted} {Then} {o} (accepted_file bytes x held accepted then) z = record { read = record { bytes = bytes; held = held; thing = x; accepted = accepted }; then = then }
 
 last_made : (before : List (Text × Text)) (result file : Text) (files : Files) → get (after_made (before ++ (result, file) ∷ []) files) result ≡ Some file
 last_made [] result file files = get_at_insert files result file
@@ -75,20 +77,20 @@ true_result {files} {bench} {result} {bytes} {read} {spelled} {design} {records}
       is_true = record { stated = true_of.0; text = is ∙ ap text_of true_of.1; budgets_are = refl; is_true = true_of.2 };
     }
 
-module _ {asked : Option Request} {status : ℕ} {old new : World} (done : IsDone (plan_of asked) status old new) where
-  -- what was done where the status is 0
-  pub done_for : (request : Request) → asked ≡ Some request → status ≡ 0 → (o : Outcome) × CallsFor old.files (plan_of (Some request)) o × (o.status ≡ 0) × Leaves o.made o.console old new
+module _ {asked : Option Request} {ending : Ending} {old new : World} (called : IsDone (plan_of asked) ending old new) where
+  -- what was done where the work is done
+  pub done_for : (request : Request) → asked ≡ Some request → ending ≡ done → (o : Outcome) × CallsFor old.files (plan_of (Some request)) o × (o.ending ≡ done) × Leaves o.made o.console old new
   done_for request is z =
-      let d = done (omega arith) in
+      let d = called (subst IsDecided (sym z) tt) in
       (d.0, subst (λ (r : Option Request). CallsFor old.files (plan_of r) d.0) is d.1, d.2 ∙ z, d.3)
 
-  pub made_of : EvidenceLaws → GeneratesResult asked status old new
+  pub made_of : EvidenceLaws → GeneratesResult asked ending old new
   made_of laws bench result budgets is z =
       let d = done_for (gen bench result budgets) is z in
-      let w = accepted_by (omega arith) d.1 d.2 in
+      let w = accepted_by d.1 d.2 in
       record { bytes = w.read.bytes; held = w.read.held; leaves = leaves_result laws w.read.accepted w.then d.3 }
 
-  pub synth_made : EvidenceLaws → Synthesizes asked status old new
+  pub synth_made : EvidenceLaws → Synthesizes asked ending old new
   synth_made laws n bench result is z =
       let d = done_for (synth n bench result) is z in
       let does = d.1.2 in
@@ -98,10 +100,10 @@ module _ {asked : Option Request} {status : ℕ} {old new : World} (done : IsDon
         leaves = leaves_result laws d.1.1 does d.3;
       }
 
-  pub faults_of : PrintsFaults asked status old new
+  pub faults_of : PrintsFaults asked ending old new
   faults_of bench is z =
       let d = done_for (list_faults bench) is z in
-      let w = accepted_by (omega arith) d.1 d.2 in
+      let w = accepted_by d.1 d.2 in
       record {
         netlist = w.read;
         text = w.then.0;
@@ -109,11 +111,11 @@ module _ {asked : Option Request} {status : ℕ} {old new : World} (done : IsDon
         printed = d.3.console ∙ ap (λ (p : Outcome). old.console ++ p.console) w.then.2;
       }
 
-  pub checked_of : ValidIsTrue → ChecksResult asked status old new
+  pub checked_of : ValidIsTrue → ChecksResult asked ending old new
   checked_of law bench result is z =
       let d = done_for (check bench result) is z in
-      let w = accepted_by (omega arith) d.1 d.2 in
-      let v = accepted_by (omega arith) w.then d.2 in
+      let w = accepted_by d.1 d.2 in
+      let v = accepted_by w.then d.2 in
       let says = v.then.1 in
       let true_of = law w.read.thing.circuit says.records (circuit_of w.read.accepted) says.valid in
       record {
@@ -121,54 +123,61 @@ module _ {asked : Option Request} {status : ℕ} {old new : World} (done : IsDon
         printed = d.3.console ∙ ap (λ (p : Outcome). old.console ++ p.console) v.then.2 ∙ ap (λ (t : Text). old.console ++ t) (says.text_is ∙ ap (λ rs. valid_text (summary_of rs)) true_of.1);
       }
 
--- ---- statuses
+-- ---- endings
 
--- a test that all statuses of a list pass
-passes : (test : ℕ → Bool) (status : ℕ) (statuses : List ℕ) → list_all test statuses ≡ true → IsAmong status statuses → test status ≡ true
-passes test status [] all among = absurd among
-passes test status (s ∷ statuses) all (inl e) = subst (λ n. test n ≡ true) (sym e) (and_parts (test s) (list_all test statuses) all).0
-passes test status (s ∷ statuses) all (inr among) = passes test status statuses (and_parts (test s) (list_all test statuses) all).1 among
+-- all endings of a list are such
+abbrev AreAll : (Ending → Type 0) → List Ending → Type 0
+AreAll P [] = Unit {0}
+AreAll P (x ∷ xs) = P x × AreAll P xs
 
-at_most_nine : (asked : Option Request) → list_all (λ s. nat_lt s 10) (statuses_of asked) ≡ true
-at_most_nine None = refl
-at_most_nine (Some (gen bench result budgets)) = refl
-at_most_nine (Some (check bench result)) = refl
-at_most_nine (Some (make_dict kind bench result dict)) = refl
-at_most_nine (Some (convert old new)) = refl
-at_most_nine (Some (diagnose dict log)) = refl
-at_most_nine (Some (list_faults bench)) = refl
-at_most_nine (Some (simulate bench vectors)) = refl
-at_most_nine (Some (synth n bench result)) = refl
+among_all : (P : Ending → Type 0) (endings : List Ending) (ending : Ending) → AreAll P endings → IsAmong ending endings → P ending
+among_all P [] ending all among = absurd among
+among_all P (x ∷ endings) ending all (inl e) = subst P (sym e) all.0
+among_all P (x ∷ endings) ending all (inr among) = among_all P endings ending all.1 among
 
-known : (asked : Option Request) (status : ℕ) → IsAmong status (statuses_of asked) → status ≤ 9
-known asked status among = omega (arith, ltb-true status 10 (passes (λ s. nat_lt s 10) status (statuses_of asked) (at_most_nine asked) among))
+-- it isn't that of words that ask for nothing
+abbrev IsOfRequest : Ending → Type 0
+IsOfRequest (Ok x) = Unit {0}
+IsOfRequest (Err NotUnderstood) = ⊥
+IsOfRequest (Err (Refused kind)) = Unit {0}
+IsOfRequest (Err ReadFailed) = Unit {0}
+IsOfRequest (Err WriteFailed) = Unit {0}
+IsOfRequest (Err NoMemory) = Unit {0}
 
--- only words that aren't understood give status 2
-never_two : (request : Request) → list_all (λ s. not (s == 2)) (statuses_of (Some request)) ≡ true
-never_two (gen bench result budgets) = refl
-never_two (check bench result) = refl
-never_two (make_dict kind bench result dict) = refl
-never_two (convert old new) = refl
-never_two (diagnose dict log) = refl
-never_two (list_faults bench) = refl
-never_two (simulate bench vectors) = refl
-never_two (synth n bench result) = refl
+of_request : (request : Request) → AreAll IsOfRequest (endings_of (Some request))
+of_request (gen bench result budgets) = (tt, (tt, (tt, (tt, (tt, tt)))))
+of_request (check bench result) = (tt, (tt, (tt, (tt, (tt, (tt, tt))))))
+of_request (make_dict kind bench result dict) = (tt, (tt, (tt, (tt, (tt, (tt, tt))))))
+of_request (convert old new) = (tt, (tt, (tt, (tt, (tt, tt)))))
+of_request (diagnose dict log) = (tt, (tt, (tt, (tt, (tt, (tt, tt))))))
+of_request (list_faults bench) = (tt, (tt, (tt, (tt, (tt, tt)))))
+of_request (simulate bench vectors) = (tt, (tt, (tt, (tt, (tt, (tt, tt))))))
+of_request (synth n bench result) = (tt, (tt, (tt, tt)))
 
-pub words_of : (asked : Option Request) (status : ℕ) → IsAmong status (statuses_of asked) → status ≡ 2 → asked ≡ None
-words_of None status among two = refl
-words_of (Some request) status among two =
-    let no : not (2 == 2) ≡ true = subst (λ s. not (s == 2) ≡ true) two (passes (λ s. not (s == 2)) status (statuses_of (Some request)) (never_two request) among) in
-    absurd (cc)
+pub words_of : (asked : Option Request) {ending : Ending} → IsAmong ending (endings_of asked) → ending ≡ not_understood → asked ≡ None
+words_of None {ending} among is = refl
+words_of (Some request) {ending} among is = absurd (subst IsOfRequest is (among_all IsOfRequest (endings_of (Some request)) ending (of_request request) among))
 
-pub not_understood_of : (asked : Option Request) (status : ℕ) → IsAmong status (statuses_of asked) → asked ≡ None → (status ≡ 2) ⊎ ((status ≡ 8) ⊎ (status ≡ 9))
-not_understood_of None status (inl e) is = inl e
-not_understood_of None status (inr (inl e)) is = inr (inl e)
-not_understood_of None status (inr (inr (inl e))) is = inr (inr e)
-not_understood_of None status (inr (inr (inr e))) is = absurd e
-not_understood_of (Some request) status among is = absurd (cc)
+pub not_understood_of : (asked : Option Request) {ending : Ending} → IsAmong ending (endings_of asked) → asked ≡ None → (ending ≡ not_understood) ⊎ IsBroken ending
+not_understood_of None {ending} (inl e) is = inl e
+not_understood_of None {ending} (inr (inl e)) is = inr (inl e)
+not_understood_of None {ending} (inr (inr (inl e))) is = inr (inr e)
+not_understood_of None {ending} (inr (inr (inr e))) is = absurd e
+not_understood_of (Some request) {ending} among is = absurd (cc)
 
-broken : (status : ℕ) → 7 < status → status ≤ 9 → (status ≡ 8) ⊎ (status ≡ 9)
-broken status above below = elim (cases_lt status 9) [ inl e ↦ inl (omega arith) | inr e ↦ inr (omega arith) ]
+-- How a run has ended: words and files decide that, or a read failed, or the run was broken off.
+pub data HasEnded (ending : Ending) : Type 0 where
+  by_files : IsDecided ending → HasEnded ending
+  by_read : ending ≡ read_failed → HasEnded ending
+  by_break : IsBroken ending → HasEnded ending
+
+ended : (ending : Ending) → HasEnded ending
+ended (Ok tt) = by_files tt
+ended (Err NotUnderstood) = by_files tt
+ended (Err (Refused kind)) = by_files tt
+ended (Err ReadFailed) = by_read refl
+ended (Err WriteFailed) = by_break (inl refl)
+ended (Err NoMemory) = by_break (inr refl)
 
 -- ---- no file but by a run that is done
 
@@ -183,105 +192,112 @@ cut_nothing [] whole e cut = refl
 cut_nothing (m ∷ made) [] e cut = absurd cut
 cut_nothing (m ∷ made) (w ∷ whole) e cut = absurd (cc)
 
+unfinished : {ending : Ending} → (ending ≡ not_understood) ⊎ (IsRefusal ending ⊎ (ending ≡ read_failed)) → ending ≡ done → ⊥
+unfinished {ending} (inl e) is = cc
+unfinished {ending} (inr (inl e)) is = subst IsRefusal is e
+unfinished {ending} (inr (inr e)) is = cc
+
 module _ (once : FilesAreJudgedOnce) where
-  unmade : (asked : Option Request) (files : Files) (o : Outcome) → CallsFor files (plan_of asked) o → 2 ≤ o.status → o.made ≡ []
-  unmade None files o called two = ap (λ (p : Outcome). p.made) called
-  unmade (Some request) files o called two =
-      both_end files (λ s console. o ≡ said s console) (λ s console. o ≡ said s console) (λ Done Cut. Done o) (λ Done Cut. Done o)
-      (λ s text other above is also. ap (λ (p : Outcome). p.made) is)
-      (λ Done Cut zero does also. absurd (omega (arith, two, zero o does)))
+  unmade : (asked : Option Request) (files : Files) (o : Outcome) → CallsFor files (plan_of asked) o → (o.ending ≡ done → ⊥) → o.made ≡ []
+  unmade None files o called not = ap (λ (p : Outcome). p.made) called
+  unmade (Some request) files o called not =
+      both_end files (λ k console. o ≡ said (refused k) console) (λ k console. o ≡ said (refused k) console) (λ Done Cut. Done o) (λ Done Cut. Done o)
+      (λ k text other is also. ap (λ (p : Outcome). p.made) is)
+      (λ Done Cut finished does also. absurd (not (finished o does)))
       (plan_of (Some request)) (once request) called called
 
-  pub keeps_unless_done : (asked : Option Request) {status : ℕ} {a b : State} → Ran asked status a b → IsTrue a.tells → KeepsUnlessDone status a.world b.world
-  keeps_unless_done asked {status} {a} {b} r told two seven =
-      elim (cases_lt status 7) [
-        | inl low ↦ let d = r.done told low in kept_by (unmade asked a.world.files d.0 d.1 (omega (arith, two, d.2))) d.3
-        | inr high ↦ (r.unread told (omega arith)).kept
-      ]
+  kept_where : {asked : Option Request} {ending : Ending} {a b : State} → Ran asked ending a b → IsTrue a.tells → (ending ≡ done → ⊥) → HasEnded ending → ¬ IsBroken ending → KeepsFiles a.world b.world
+  kept_where {asked} {ending} {a} {b} r told not (by_files decided) whole =
+      let d = r.done told decided in
+      kept_by (unmade asked a.world.files d.0 d.1 (λ z. not (sym d.2 ∙ z))) d.3
+  kept_where {asked} {ending} {a} {b} r told not (by_read is) whole = (r.unread (inl is) told).kept
+  kept_where {asked} {ending} {a} {b} r told not (by_break broken) whole = absurd (whole broken)
+
+  unbroken : {ending : Ending} → (ending ≡ not_understood) ⊎ (IsRefusal ending ⊎ (ending ≡ read_failed)) → IsBroken ending → ⊥
+  unbroken {ending} (inl e) (inl is) = cc
+  unbroken {ending} (inl e) (inr is) = cc
+  unbroken {ending} (inr (inl e)) (inl is) = subst IsRefusal is e
+  unbroken {ending} (inr (inl e)) (inr is) = subst IsRefusal is e
+  unbroken {ending} (inr (inr e)) (inl is) = cc
+  unbroken {ending} (inr (inr e)) (inr is) = cc
+
+  pub keeps_unless_done : {asked : Option Request} {ending : Ending} {a b : State} → Ran asked ending a b → IsTrue a.tells → KeepsUnlessDone ending a.world b.world
+  keeps_unless_done {asked} {ending} {a} {b} r told refusal = kept_where r told (unfinished refusal) (ended ending) (unbroken refusal)
 
   -- ---- the files that are read decide
 
   module _ (request : Request) (files : Files) (o : Outcome) (called : CallsFor files (plan_of (Some request)) o) where
-    refused_so : 0 < o.status → IsRefusedWith files (plan_of (Some request)) o.status o.console
-    refused_so above =
-        ends_by files (λ s console. o ≡ said s console) (λ s text. (o.status ≡ s) × (o.console ≡ text)) (λ Done Cut. Done o) (λ Done Cut. ⊥)
-        (λ s text up is. (ap (λ (p : Outcome). p.status) is, ap (λ (p : Outcome). p.console) is))
-        (λ Done Cut zero does. omega (arith, above, zero o does))
-        (plan_of (Some request)) (once request) called
+    refused_so : o.ending ≢ done → (kind : FileKind) × (o.ending ≡ refused kind) × IsRefusedWith files (plan_of (Some request)) kind o.console
+    refused_so not = refused_where files o (plan_of (Some request)) (once request) called not
 
-    status_by : (s : ℕ) (console : Text) → IsRefusedWith files (plan_of (Some request)) s console → o.status ≡ s
-    status_by s console refused =
-        both_end files (λ m text. (s ≡ m) × (console ≡ text)) (λ m text. o ≡ said m text) (λ Done Cut. ⊥) (λ Done Cut. Done o)
-        (λ m text other up first is. ap (λ (p : Outcome). p.status) is ∙ sym first.0)
-        (λ Done Cut zero none does. absurd none)
-        (plan_of (Some request)) (once request) refused called
+    ending_by : (kind : FileKind) (console : Text) → IsRefusedWith files (plan_of (Some request)) kind console → o.ending ≡ refused kind
+    ending_by kind console wrong =
+        both_end files (λ k text. (kind ≡ k) × (console ≡ text)) (λ k text. o ≡ said (refused k) text) (λ Done Cut. ⊥) (λ Done Cut. Done o)
+        (λ k text other first is. ap (λ (p : Outcome). p.ending) is ∙ sym (ap refused first.0))
+        (λ Done Cut finished none does. absurd none)
+        (plan_of (Some request)) (once request) wrong called
 
-    nothing_called : (s : ℕ) (console : Text) → IsRefusedWith files (plan_of (Some request)) s console → o.made ≡ []
-    nothing_called s console refused =
-        both_end files (λ m text. (s ≡ m) × (console ≡ text)) (λ m text. o ≡ said m text) (λ Done Cut. ⊥) (λ Done Cut. Done o)
-        (λ m text other up first is. ap (λ (p : Outcome). p.made) is)
-        (λ Done Cut zero none does. absurd none)
-        (plan_of (Some request)) (once request) refused called
+    nothing_called : (kind : FileKind) (console : Text) → IsRefusedWith files (plan_of (Some request)) kind console → o.made ≡ []
+    nothing_called kind console wrong =
+        both_end files (λ k text. (kind ≡ k) × (console ≡ text)) (λ k text. o ≡ said (refused k) text) (λ Done Cut. ⊥) (λ Done Cut. Done o)
+        (λ k text other first is. ap (λ (p : Outcome). p.made) is)
+        (λ Done Cut finished none does. absurd none)
+        (plan_of (Some request)) (once request) wrong called
 
-    zero_by : AreAccepted files (plan_of (Some request)) → o.status ≡ 0
-    zero_by accepted =
-        both_end files (λ m text. ⊥) (λ m text. o ≡ said m text) (λ Done Cut. Unit {0}) (λ Done Cut. Done o)
-        (λ m text other up none is. absurd none)
-        (λ Done Cut zero all does. zero o does)
+    done_by : AreAccepted files (plan_of (Some request)) → o.ending ≡ done
+    done_by accepted =
+        both_end files (λ k text. ⊥) (λ k text. o ≡ said (refused k) text) (λ Done Cut. Unit {0}) (λ Done Cut. Done o)
+        (λ k text other none is. absurd none)
+        (λ Done Cut finished all does. finished o does)
         (plan_of (Some request)) (once request) accepted called
 
-  may_nothing : (request : Request) (files : Files) (made : List (Text × Text)) (t : Text) (s : ℕ) (console : Text) → IsRefusedWith files (plan_of (Some request)) s console → MayLeave files (plan_of (Some request)) made t → made ≡ []
-  may_nothing request files made t s console refused may =
-      both_end files (λ m text. (s ≡ m) × (console ≡ text)) (λ m text. IsPartOf (said m text) made t) (λ Done Cut. ⊥) (λ Done Cut. IsLeftBy Done Cut made t)
-      (λ m text other up first part. cut_nothing made [] refl part.files)
-      (λ Done Cut zero none left. absurd none)
-      (plan_of (Some request)) (once request) refused may
+  may_nothing : (request : Request) (files : Files) (made : List (Text × Text)) (t : Text) (kind : FileKind) (console : Text) → IsRefusedWith files (plan_of (Some request)) kind console → MayLeave files (plan_of (Some request)) made t → made ≡ []
+  may_nothing request files made t kind console wrong may =
+      both_end files (λ k text. (kind ≡ k) × (console ≡ text)) (λ k text. IsPartOf (said (refused k) text) made t) (λ Done Cut. ⊥) (λ Done Cut. IsLeftBy Done Cut made t)
+      (λ k text other first part. cut_nothing made [] refl part.files)
+      (λ Done Cut finished none left. absurd none)
+      (plan_of (Some request)) (once request) wrong may
 
-  pub decided_by_files : {asked : Option Request} {status : ℕ} {old new : World} → IsDone (plan_of asked) status old new → DecidedByFiles asked status old new
-  decided_by_files {asked = None} done some = absurd (some refl)
-  decided_by_files {asked = Some request} {status} {old} {new} done some = record {
-    only = λ above below.
-        let d = done below in
-        (d.0.console, subst (λ s. IsRefusedWith old.files (plan_of (Some request)) s d.0.console) d.2 (refused_so request old.files d.0 d.1 (omega (arith, above, d.2))), d.3.console);
-    refused = λ s console refused below. let d = done below in sym d.2 ∙ status_by request old.files d.0 d.1 s console refused;
-    accepted = λ all below. let d = done below in sym d.2 ∙ zero_by request old.files d.0 d.1 all;
+  pub decided_by_files : {asked : Option Request} {ending : Ending} {old new : World} → IsDone (plan_of asked) ending old new → DecidedByFiles asked ending old new
+  decided_by_files {asked = None} run some = absurd (some refl)
+  decided_by_files {asked = Some request} {ending} {old} {new} run some = record {
+    only = λ decided not.
+        let d = run decided in
+        let r = refused_so request old.files d.0 d.1 (λ z. not (sym d.2 ∙ z)) in
+        (r.0, d.0.console, sym d.2 ∙ r.1, r.2, d.3.console);
+    by_refusal = λ kind console wrong decided. let d = run decided in sym d.2 ∙ ending_by request old.files d.0 d.1 kind console wrong;
+    accepted = λ all decided. let d = run decided in sym d.2 ∙ done_by request old.files d.0 d.1 all;
   }
 
   -- ---- no file where something is refused
 
   none_called : (asked : Option Request) (old : World) (o : Outcome) → IsRefusedRequest asked old → CallsFor old.files (plan_of asked) o → o.made ≡ []
-  none_called None old o refused called = ap (λ (p : Outcome). p.made) called
-  none_called (Some request) old o refused called = nothing_called request old.files o called refused.0 refused.1.0 refused.1.1
+  none_called None old o wrong called = ap (λ (p : Outcome). p.made) called
+  none_called (Some request) old o wrong called = nothing_called request old.files o called wrong.0 wrong.1.0 wrong.1.1
 
   none_left : (asked : Option Request) (old : World) (made : List (Text × Text)) (t : Text) → IsRefusedRequest asked old → MayLeave old.files (plan_of asked) made t → made ≡ []
-  none_left None old made t refused (inl may) = cut_nothing made may.0.made (ap (λ (p : Outcome). p.made) may.1) may.2.files
-  none_left None old made t refused (inr cut) = absurd cut
-  none_left (Some request) old made t refused may = may_nothing request old.files made t refused.0 refused.1.0 refused.1.1 may
+  none_left None old made t wrong (inl may) = cut_nothing made may.0.made (ap (λ (p : Outcome). p.made) may.1) may.2.files
+  none_left None old made t wrong (inr cut) = absurd cut
+  none_left (Some request) old made t wrong may = may_nothing request old.files made t wrong.0 wrong.1.0 wrong.1.1 may
 
-  pub keeps_refused : (asked : Option Request) {status : ℕ} {a b : State} → Ran asked status a b → IsTrue a.tells → KeepsRefused asked a.world b.world
-  keeps_refused asked {status} {a} {b} r told refused =
-      elim (cases_lt status 7) [
-        | inl low ↦ let d = r.done told low in kept_by (none_called asked a.world d.0 refused d.1) d.3
-        | inr high ↦ elim (cases_lt 7 status) [
-          | inl above ↦ elim (r.broken_off told (broken status above (known asked status r.answers))) [
-            | inl same ↦ same.kept
-            | inr x ↦ kept_by (none_left asked a.world x.0 x.1 refused x.2) x.3
-          ]
-          | inr seven ↦ (r.unread told (omega (arith, known asked status r.answers))).kept
-        ]
-      ]
+  refused_kept : (asked : Option Request) {ending : Ending} {a b : State} → Ran asked ending a b → IsTrue a.tells → HasEnded ending → KeepsRefused asked a.world b.world
+  refused_kept asked {ending} {a} {b} r told (by_files decided) wrong = let d = r.done told decided in kept_by (none_called asked a.world d.0 wrong d.1) d.3
+  refused_kept asked {ending} {a} {b} r told (by_read is) wrong = (r.unread (inl is) told).kept
+  refused_kept asked {ending} {a} {b} r told (by_break broken) wrong = elim (r.broken_off told broken) [
+    | inl same ↦ same.kept
+    | inr x ↦ kept_by (none_left asked a.world x.0 x.1 wrong x.2) x.3
+  ]
+
+  pub keeps_refused : (asked : Option Request) {ending : Ending} {a b : State} → Ran asked ending a b → IsTrue a.tells → KeepsRefused asked a.world b.world
+  keeps_refused asked {ending} r told = refused_kept asked r told (ended ending)
 
   -- ---- the work is done
 
-  pub is_complete : {asked : Option Request} {status : ℕ} {a b : State} → Ran asked status a b → IsComplete asked status a b
-  is_complete {asked} {status} {a} {b} r some told accepted reads writes =
-      elim (cases_lt status 7) [
-        | inl low ↦ inl ((decided_by_files (r.done told) some).accepted accepted low)
-        | inr high ↦ elim (cases_lt status 9) [
-          | inl below ↦ elim (cases_lt status 8) [
-            | inl seven ↦ absurd (reads (r.causes.read_fault (omega arith)))
-            | inr eight ↦ absurd (writes (r.causes.write_fault (omega arith)))
-          ]
-          | inr nine ↦ inr (omega (arith, known asked status r.answers))
-        ]
-      ]
+  complete_by : {asked : Option Request} {ending : Ending} {a b : State} → Ran asked ending a b → HasEnded ending → IsComplete asked ending a b
+  complete_by {asked} {ending} {a} {b} r (by_files decided) some told accepted reads writes = inl ((decided_by_files (r.done told) some).accepted accepted decided)
+  complete_by {asked} {ending} {a} {b} r (by_read is) some told accepted reads writes = absurd (reads (r.causes.read_fault is))
+  complete_by {asked} {ending} {a} {b} r (by_break (inl is)) some told accepted reads writes = absurd (writes (r.causes.write_fault is))
+  complete_by {asked} {ending} {a} {b} r (by_break (inr is)) some told accepted reads writes = inr is
+
+  pub is_complete : {asked : Option Request} {ending : Ending} {a b : State} → Ran asked ending a b → IsComplete asked ending a b
+  is_complete {asked} {ending} r = complete_by r (ended ending)

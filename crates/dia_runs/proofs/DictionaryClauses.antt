@@ -1,5 +1,5 @@
 -- What follows from a run's record for `dict`, `convert` and `diagnose`.
-use Rattle.std.proofs.Common.{◌≡◌, ℕ, List, [], ◌∷◌, ◌++◌, Option, Some, refl, sym, ap, subst, ◌∙◌, arith}
+use Rattle.std.proofs.Common.{◌≡◌, List, [], ◌∷◌, ◌++◌, Option, Some, refl, sym, ap, subst, ◌∙◌}
 use Rattle.std.specs.FinMap.{get}
 use Rattle.std.proofs.lemmas.Option.{same_Some}
 use Rattle.diag_shelf.specs.World.{Files, World}
@@ -12,6 +12,7 @@ use Rattle.dict_file.specs.Spelling.{dict_spelling, IsFileOf}
 use Rattle.dict_file.specs.Reading.{IsRefusedBy}
 use Rattle.request_words.specs.Request.{Text, Request, make_dict, convert, diagnose}
 use Rattle.dia_commands.specs.Dictionaries.{IsDiagnosis}
+use Rattle.dia_commands.specs.Ending.{Ending}
 use Rattle.dia_commands.specs.Outcome.{Outcome, Leaves, after_made, ConsoleGained}
 use Rattle.dia_commands.specs.Plan.{Plan, refused_file, accepted_file, CallsFor}
 use Rattle.dia_commands.specs.Plans.{with_dictionary, with_log, says, plan_of}
@@ -26,12 +27,12 @@ file_made o {name} {file} {old} {new} is leaves = ap (λ (f : Files). get f name
 printed_text : (o : Outcome) {text : Text} {old new : World} → o.console ≡ text → Leaves o.made o.console old new → ConsoleGained text old new
 printed_text o {text} {old} {new} is leaves = leaves.console ∙ ap (λ (t : Text). old.console ++ t) is
 
-module _ {asked : Option Request} {status : ℕ} {old new : World} (done : IsDone (plan_of asked) status old new) where
-  pub dictionary_made : ValidIsTrue → MakesDictionary asked status old new
+module _ {asked : Option Request} {ending : Ending} {old new : World} (called : IsDone (plan_of asked) ending old new) where
+  pub dictionary_made : ValidIsTrue → MakesDictionary asked ending old new
   dictionary_made law kind bench result dict is z =
-      let d = done_for done (make_dict kind bench result dict) is z in
-      let w = accepted_by (omega arith) d.1 d.2 in
-      let v = accepted_by (omega arith) w.then d.2 in
+      let d = done_for called (make_dict kind bench result dict) is z in
+      let w = accepted_by d.1 d.2 in
+      let v = accepted_by w.then d.2 in
       let made = v.then.2 in
       record {
         read = true_result law w.read.held w.read.accepted v.read.held v.read.accepted made.spelled made.valid;
@@ -42,21 +43,21 @@ module _ {asked : Option Request} {status : ℕ} {old new : World} (done : IsDon
         printed = printed_text d.0 (ap (λ (p : Outcome). p.console) v.then.3) d.3;
       }
 
-  pub converted_of : ConvertsDictionary asked status old new
+  pub converted_of : ConvertsDictionary asked ending old new
   converted_of name new_name is z =
-      let d = done_for done (convert name new_name) is z in
-      let w = accepted_by (omega arith) d.1 d.2 in
+      let d = done_for called (convert name new_name) is z in
+      let w = accepted_by d.1 d.2 in
       record {
         dictionary = w.read;
         saved = file_made d.0 (ap (λ (p : Outcome). p.made) w.then.3) d.3 ∙ ap Some w.then.2.file_is;
         printed = printed_text d.0 (ap (λ (p : Outcome). p.console) w.then.3 ∙ w.then.2.text_is) d.3;
       }
 
-  pub diagnosed_of : PrintsDiagnosis asked status old new
+  pub diagnosed_of : PrintsDiagnosis asked ending old new
   diagnosed_of dict log is z =
-      let d = done_for done (diagnose dict log) is z in
-      let w = accepted_by (omega arith) d.1 d.2 in
-      let v = accepted_by (omega arith) w.then d.2 in
+      let d = done_for called (diagnose dict log) is z in
+      let w = accepted_by d.1 d.2 in
+      let v = accepted_by w.then d.2 in
       record {
         dictionary = w.read;
         observed = v.read;

@@ -57,49 +57,45 @@ circuit_of {bytes} {design} is = subst (λ (d : Design). IsCircuit d.circuit) (s
 
 -- ---- no file is read as two things
 
-clear_netlist : HasLaws → IsClearFile 3 Design IsRefused IsDesign
-clear_netlist laws = record { above = omega arith; apart = λ bytes console design is refused. accepted_not_refused laws is refused; once = λ bytes x y is also. one_design laws is also }
+clear_netlist : HasLaws → IsClearFile Design IsRefused IsDesign
+clear_netlist laws = record { apart = λ bytes console design is refused. accepted_not_refused laws is refused; once = λ bytes x y is also. one_design laws is also }
 
-clear_result : HasLaws → {c : Circuit} → IsCircuit c → IsClearFile 4 Text (IsRefusedResult c) (IsResult c)
+clear_result : HasLaws → {c : Circuit} → IsCircuit c → IsClearFile Text (IsRefusedResult c) (IsResult c)
 clear_result laws {c} circuit = record {
-  above = omega arith;
   apart = λ bytes console file is refused. laws.results c file refused.fault circuit (subst (λ (b : Text). FileRefused c b refused.fault) is.same refused.refused) is.valid;
   once = λ bytes x y is also. sym is.same ∙ also.same;
 }
 
-clear_dictionary : HasLaws → IsClearFile 5 Dict IsRefusedDictionary IsDictionaryFile
+clear_dictionary : HasLaws → IsClearFile Dict IsRefusedDictionary IsDictionaryFile
 clear_dictionary laws = record {
-  above = omega arith;
   apart = λ bytes console d is refused. laws.dictionaries bytes d refused.fault refused.refused is;
   once = λ bytes d e is also. (laws.one_dictionary bytes is.0 also.0 d e is.1 also.1).1;
 }
 
-clear_log : HasLaws → (d : Dict) → d.patterns ≤ 67108864 → IsClearFile 6 (List (List Bool)) (IsRefusedLog d) (IsLogFor d)
+clear_log : HasLaws → (d : Dict) → d.patterns ≤ 67108864 → IsClearFile (List (List Bool)) (IsRefusedLog d) (IsLogFor d)
 clear_log laws d few = record {
-  above = omega arith;
   apart = λ bytes console rows is refused. laws.logs d.patterns d.positions bytes rows refused.kind refused.line (omega (arith, few)) refused.refused is;
   once = λ bytes x y is also. laws.one_log d.patterns d.positions bytes x y is also;
 }
 
-clear_list : HasLaws → (c : Circuit) → IsClearFile 6 (List (List Bool)) (IsRefusedList c) (IsListFor c)
+clear_list : HasLaws → (c : Circuit) → IsClearFile (List (List Bool)) (IsRefusedList c) (IsListFor c)
 clear_list laws c = record {
-  above = omega arith;
   apart = λ bytes console vectors is refused. laws.lists c.sources bytes vectors refused.kind refused.line refused.refused is;
   once = λ bytes x y is also. laws.one_list c.sources bytes x y is also;
 }
 
-status_is : {o p : Outcome} → o ≡ p → o.status ≡ p.status
-status_is {o} {p} e = ap (λ (q : Outcome). q.status) e
+ending_is : {o p : Outcome} → o ≡ p → o.ending ≡ p.ending
+ending_is {o} {p} e = ap (λ (q : Outcome). q.ending) e
 
 pub clear : HasLaws → (request : Request) → IsClear (plan_of (Some request))
-clear laws (gen bench result budgets) = (clear_netlist laws, λ bytes design is o made. status_is made.outcome)
-clear laws (check bench result) = (clear_netlist laws, λ bytes design is. (clear_result laws (circuit_of is), λ bytes file valid o says. status_is says.2))
-clear laws (make_dict kind bench result dict) = (clear_netlist laws, λ bytes design is. (clear_result laws (circuit_of is), λ bytes file valid o made. status_is made.3))
-clear laws (convert old new) = (clear_dictionary laws, λ bytes d is o made. status_is made.3)
-clear laws (diagnose dict log) = (clear_dictionary laws, λ bytes d is. (clear_log laws d is.1.has.patterns, λ bytes rows read o says. status_is says.2))
-clear laws (list_faults bench) = (clear_netlist laws, λ bytes design is o says. status_is says.2)
-clear laws (simulate bench vectors) = (clear_netlist laws, λ bytes design is. (clear_list laws design.circuit, λ bytes list read o says. status_is says.2))
-clear laws (synth n bench result) = λ o both. status_is both.2.outcome
+clear laws (gen bench result budgets) = (clear_netlist laws, λ bytes design is o made. ending_is made.outcome)
+clear laws (check bench result) = (clear_netlist laws, λ bytes design is. (clear_result laws (circuit_of is), λ bytes file valid o says. ending_is says.2))
+clear laws (make_dict kind bench result dict) = (clear_netlist laws, λ bytes design is. (clear_result laws (circuit_of is), λ bytes file valid o made. ending_is made.3))
+clear laws (convert old new) = (clear_dictionary laws, λ bytes d is o made. ending_is made.3)
+clear laws (diagnose dict log) = (clear_dictionary laws, λ bytes d is. (clear_log laws d is.1.has.patterns, λ bytes rows read o says. ending_is says.2))
+clear laws (list_faults bench) = (clear_netlist laws, λ bytes design is o says. ending_is says.2)
+clear laws (simulate bench vectors) = (clear_netlist laws, λ bytes design is. (clear_list laws design.circuit, λ bytes list read o says. ending_is says.2))
+clear laws (synth n bench result) = λ o both. ending_is both.2.outcome
 
 -- ---- what evidence means
 

@@ -3,3 +3,4 @@ pub mod Judged
 pub mod Clauses
 pub mod DictionaryClauses
 pub mod SimulationClauses
+pub mod RunLemmas

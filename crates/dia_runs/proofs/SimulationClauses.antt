@@ -1,19 +1,20 @@
 -- What follows from the record of a run that prints a simulation.
-use Rattle.std.proofs.Common.{ℕ, ◌++◌, Option, ap, ◌∙◌, arith}
+use Rattle.std.proofs.Common.{◌++◌, Option, ap, ◌∙◌}
 use Rattle.diag_shelf.specs.World.{World}
 use Rattle.request_words.specs.Request.{Request, simulate}
+use Rattle.dia_commands.specs.Ending.{Ending}
 use Rattle.dia_commands.specs.Outcome.{Outcome}
 use Rattle.dia_commands.specs.Plans.{plan_of}
 use Rattle.dia_commands.specs.Ran.{IsDone}
 use Rattle.dia_runs.specs.Simulations.{PrintsSimulation}
 use Rattle.dia_runs.proofs.Clauses.{done_for, accepted_by}
 
-module _ {asked : Option Request} {status : ℕ} {old new : World} (done : IsDone (plan_of asked) status old new) where
-  pub simulated_of : PrintsSimulation asked status old new
+module _ {asked : Option Request} {ending : Ending} {old new : World} (called : IsDone (plan_of asked) ending old new) where
+  pub simulated_of : PrintsSimulation asked ending old new
   simulated_of bench list is z =
-      let d = done_for done (simulate bench list) is z in
-      let w = accepted_by (omega arith) d.1 d.2 in
-      let v = accepted_by (omega arith) w.then d.2 in
+      let d = done_for called (simulate bench list) is z in
+      let w = accepted_by d.1 d.2 in
+      let v = accepted_by w.then d.2 in
       let says = v.then in
       record {
         netlist = w.read;

@@ -1,4 +1,4 @@
--- What the runs of `dict`, `convert` and `diagnose` that answer 0 leave.
+-- What the runs of `dict`, `convert` and `diagnose` whose work is done leave.
 use Rattle.std.specs.Prelude.{◌≡◌, ◌≤◌, ◌↔◌, ℕ, length, Option, Some}
 use Rattle.std.specs.FinMap.{get}
 use Rattle.diag_shelf.specs.World.{Files, World}
@@ -8,6 +8,7 @@ use Rattle.dict_file.specs.declared.fault.DictVersion.TheVariants.{Two}
 use Rattle.dict_file.specs.Spelling.{dict_spelling, most_bytes, IsFileOf}
 use Rattle.request_words.specs.declared.request.EntryKind.{EntryKind}
 use Rattle.request_words.specs.Request.{Text, Request, make_dict, convert, diagnose}
+use Rattle.dia_commands.specs.Ending.{Ending, done}
 use Rattle.dia_commands.specs.Texts.{groups_text, numbers_text}
 use Rattle.dia_commands.specs.Dictionaries.{IsDictionaryFile, IsMadeDictionary}
 use Rattle.dia_commands.specs.Logs.{IsLogFor}
@@ -26,9 +27,9 @@ pub record HasDictionary (kind : EntryKind) (bench result dict : Text) (old new 
   pub made : IsMadeDictionary read.design.circuit kind read.file file text
   pub printed : ConsoleGained text old new
 
--- A run of `dict` that answers 0 leaves them.
-abbrev pub MakesDictionary : Option Request → ℕ → World → World → Type 0
-MakesDictionary request status old new = (kind : EntryKind) (bench result dict : Text) → request ≡ Some (make_dict kind bench result dict) → status ≡ 0 → HasDictionary kind bench result dict old new
+-- A run of `dict` whose work is done leaves them.
+abbrev pub MakesDictionary : Option Request → Ending → World → World → Type 0
+MakesDictionary request ending old new = (kind : EntryKind) (bench result dict : Text) → request ≡ Some (make_dict kind bench result dict) → ending ≡ done → HasDictionary kind bench result dict old new
 
 -- Under the new name is the version 2 of the dictionary that was read, and the console gained its counts.
 pub record HasConverted (name new_name : Text) (old new : World) : Type 0 where
@@ -36,9 +37,9 @@ pub record HasConverted (name new_name : Text) (old new : World) : Type 0 where
   pub saved : get new.files new_name ≡ Some (dict_spelling Two dictionary.thing)
   pub printed : ConsoleGained (groups_text dictionary.thing.numbers dictionary.thing.patterns (length dictionary.thing.entries)) old new
 
--- A run of `convert` that answers 0 leaves that.
-abbrev pub ConvertsDictionary : Option Request → ℕ → World → World → Type 0
-ConvertsDictionary request status old new = (name new_name : Text) → request ≡ Some (convert name new_name) → status ≡ 0 → HasConverted name new_name old new
+-- A run of `convert` whose work is done leaves that.
+abbrev pub ConvertsDictionary : Option Request → Ending → World → World → Type 0
+ConvertsDictionary request ending old new = (name new_name : Text) → request ≡ Some (convert name new_name) → ending ≡ done → HasConverted name new_name old new
 
 -- The console gained the numbers of which the dictionary has the entry of the log's answers, one to a line, and their count.
 pub record HasDiagnosis (dict log : Text) (old new : World) : Type 0 where
@@ -46,9 +47,9 @@ pub record HasDiagnosis (dict log : Text) (old new : World) : Type 0 where
   pub observed : WasRead old.files log (IsLogFor dictionary.thing)
   pub printed : ConsoleGained (numbers_text (listed_numbers dictionary.thing observed.thing)) old new
 
--- A run of `diagnose` that answers 0 prints that.
-abbrev pub PrintsDiagnosis : Option Request → ℕ → World → World → Type 0
-PrintsDiagnosis request status old new = (dict log : Text) → request ≡ Some (diagnose dict log) → status ≡ 0 → HasDiagnosis dict log old new
+-- A run of `diagnose` whose work is done prints that.
+abbrev pub PrintsDiagnosis : Option Request → Ending → World → World → Type 0
+PrintsDiagnosis request ending old new = (dict log : Text) → request ≡ Some (diagnose dict log) → ending ≡ done → HasDiagnosis dict log old new
 
 -- A dictionary and its version 2, within the limit of bytes, are diagnosed alike: with every log a run by the one is to end as a run by
 -- the other.

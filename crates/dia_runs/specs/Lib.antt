@@ -1,3 +1,4 @@
 pub mod Promises
 pub mod DictionaryRuns
 pub mod Simulations
+pub mod Run

@@ -1,5 +1,5 @@
--- What is promised of a run: what it leaves, and how the files that it reads decide its status.
-use Rattle.std.specs.Prelude.{◌^◌, ◌≡◌, ◌≢◌, ℕ, ◌≤◌, ◌<◌, ◌⊎◌, Option, Some, None, IsTrue, ⊤}
+-- What is promised of a run: what it leaves, and how the files that it reads decide its ending.
+use Rattle.std.specs.Prelude.{◌^◌, ◌≡◌, ◌≢◌, ℕ, ◌≤◌, ◌⊎◌, Option, Some, None, IsTrue, ⊤}
 use Rattle.std.specs.FinMap.{get}
 use Rattle.diag_shelf.specs.World.{Files, World, State}
 use Rattle.diag_shelf.specs.Calls.{Rose}
@@ -11,6 +11,8 @@ use Rattle.result_file.specs.Valid.{IsValidFile}
 use Rattle.result_file.specs.Meaning.{stated_records, IsTrueFile}
 use Rattle.dia_gen.specs.Made.{IsMade}
 use Rattle.request_words.specs.Request.{Text, Request, gen, check, list_faults, synth}
+use Rattle.dia_commands.specs.declared.ending.FileKind.{FileKind}
+use Rattle.dia_commands.specs.Ending.{Ending, done, refused, not_understood, read_failed, no_memory, IsRefusal, IsDecided}
 use Rattle.dia_commands.specs.Outputs.{synth_budgets}
 use Rattle.synth_netlist.specs.Synth.{synth_text}
 use Rattle.dia_commands.specs.Texts.{summary_text, valid_text}
@@ -27,9 +29,9 @@ pub record WasRead (files : Files) (name : Text) {X : Type 0} (Accepted : Text �
   pub thing : X
   pub accepted : Accepted bytes thing
 
--- With a status from 2 to 7 no file was created or changed.
-abbrev pub KeepsUnlessDone : ℕ → World → World → Type 0
-KeepsUnlessDone status old new = 2 ≤ status → status ≤ 7 → KeepsFiles old new
+-- Where the words aren't understood, a file is refused or a read failed, no file was created or changed.
+abbrev pub KeepsUnlessDone : Ending → World → World → Type 0
+KeepsUnlessDone ending old new = (ending ≡ not_understood) ⊎ (IsRefusal ending ⊎ (ending ≡ read_failed)) → KeepsFiles old new
 
 -- Under the result's name is a file that the generator may write for the circuit of a netlist's bytes, and whose lines state what is
 -- true. The console gained what it amounts to. With as many cubes as there are vectors no member is left open.
@@ -49,18 +51,18 @@ pub record HasResult (bench result : Text) (budgets : Budgets) (old new : World)
   pub held : get old.files bench ≡ Some bytes
   pub leaves : LeavesResult bytes result budgets old new
 
--- A run of `gen` that answers 0 leaves a result.
-abbrev pub GeneratesResult : Option Request → ℕ → World → World → Type 0
-GeneratesResult request status old new = (bench result : Text) (budgets : Budgets) → request ≡ Some (gen bench result budgets) → status ≡ 0 → HasResult bench result budgets old new
+-- A run of `gen` whose work is done leaves a result.
+abbrev pub GeneratesResult : Option Request → Ending → World → World → Type 0
+GeneratesResult request ending old new = (bench result : Text) (budgets : Budgets) → request ≡ Some (gen bench result budgets) → ending ≡ done → HasResult bench result budgets old new
 
 -- Under the netlist's name is the text of the number, if the result has another name, and a result was left for it.
 pub record HasSynth (n : ℕ) (bench result : Text) (old new : World) : Type 0 where
   pub netlist : bench ≢ result → get new.files bench ≡ Some (synth_text n)
   pub leaves : LeavesResult (synth_text n) result synth_budgets old new
 
--- A run of `synth` that answers 0 leaves them.
-abbrev pub Synthesizes : Option Request → ℕ → World → World → Type 0
-Synthesizes request status old new = (n : ℕ) (bench result : Text) → request ≡ Some (synth n bench result) → status ≡ 0 → HasSynth n bench result old new
+-- A run of `synth` whose work is done leaves them.
+abbrev pub Synthesizes : Option Request → Ending → World → World → Type 0
+Synthesizes request ending old new = (n : ℕ) (bench result : Text) → request ≡ Some (synth n bench result) → ending ≡ done → HasSynth n bench result old new
 
 -- The files hold a netlist and a result that is valid for its circuit, and what the result states is true of the circuit.
 pub record HoldsTrueResult (bench result : Text) (files : Files) : Type 0 where
@@ -79,9 +81,9 @@ pub record HasValid (bench result : Text) (old new : World) : Type 0 where
   pub read : HoldsTrueResult bench result old.files
   pub printed : ConsoleGained (valid_text (summary_of (stated_records read.design.circuit read.is_true.stated))) old new
 
--- A run of `check` that answers 0 found that.
-abbrev pub ChecksResult : Option Request → ℕ → World → World → Type 0
-ChecksResult request status old new = (bench result : Text) → request ≡ Some (check bench result) → status ≡ 0 → HasValid bench result old new
+-- A run of `check` whose work is done found that.
+abbrev pub ChecksResult : Option Request → Ending → World → World → Type 0
+ChecksResult request ending old new = (bench result : Text) → request ≡ Some (check bench result) → ending ≡ done → HasValid bench result old new
 
 -- The console gained all faults of the netlist's circuit with their roots.
 pub record HasFaults (bench : Text) (old new : World) : Type 0 where
@@ -90,9 +92,9 @@ pub record HasFaults (bench : Text) (old new : World) : Type 0 where
   pub lists : IsFaultsText netlist.thing text
   pub printed : ConsoleGained text old new
 
--- A run of `faults` that answers 0 prints them.
-abbrev pub PrintsFaults : Option Request → ℕ → World → World → Type 0
-PrintsFaults request status old new = (bench : Text) → request ≡ Some (list_faults bench) → status ≡ 0 → HasFaults bench old new
+-- A run of `faults` whose work is done prints them.
+abbrev pub PrintsFaults : Option Request → Ending → World → World → Type 0
+PrintsFaults request ending old new = (bench : Text) → request ≡ Some (list_faults bench) → ending ≡ done → HasFaults bench old new
 
 -- The netlist of a number is never refused.
 abbrev pub NoNumberIsRefused : Type 0
@@ -102,28 +104,28 @@ NoNumberIsRefused = (n : ℕ) (console : Text) → n ≤ 2000 → IsRefused (syn
 abbrev pub FilesAreJudgedOnce : Type 0
 FilesAreJudgedOnce = (request : Request) → IsClear (plan_of (Some request))
 
--- How the files that are read decide the status.
-pub record IsDecided (plan : Plan) (status : ℕ) (old new : World) : Type 0 where
-  -- a status from 1 to 6 comes only for a file that is refused, and the console gained the refusal
-  pub only : 0 < status → status < 7 → (console : Text) × IsRefusedWith old.files plan status console × ConsoleGained console old new
-  -- of the statuses below 7 no other comes for it
-  pub refused : (s : ℕ) (console : Text) → IsRefusedWith old.files plan s console → status < 7 → status ≡ s
-  -- and where all are accepted none comes but 0
-  pub accepted : AreAccepted old.files plan → status < 7 → status ≡ 0
+-- How the files that are read decide the ending.
+pub record FilesDecide (plan : Plan) (ending : Ending) (old new : World) : Type 0 where
+  -- an ending that they decide and that isn't `done` comes only for a file that is refused, and the console gained the refusal
+  pub only : IsDecided ending → ending ≢ done → (kind : FileKind) × (console : Text) × (ending ≡ refused kind) × IsRefusedWith old.files plan kind console × ConsoleGained console old new
+  -- of such endings no other comes for it
+  pub by_refusal : (kind : FileKind) (console : Text) → IsRefusedWith old.files plan kind console → IsDecided ending → ending ≡ refused kind
+  -- and where all are accepted none comes but `done`
+  pub accepted : AreAccepted old.files plan → IsDecided ending → ending ≡ done
 
-abbrev pub DecidedByFiles : Option Request → ℕ → World → World → Type 0
-DecidedByFiles asked status old new = asked ≢ None → IsDecided (plan_of asked) status old new
+abbrev pub DecidedByFiles : Option Request → Ending → World → World → Type 0
+DecidedByFiles asked ending old new = asked ≢ None → FilesDecide (plan_of asked) ending old new
 
 -- Where each file that is read is accepted and neither count rose, the work is done or memory was wanting.
-abbrev pub IsComplete : Option Request → ℕ → State → State → Type 0
-IsComplete asked status old new = asked ≢ None → IsTrue old.tells → AreAccepted old.world.files (plan_of asked) → ¬ Rose old.read_faults new.read_faults → ¬ Rose old.write_faults new.write_faults
-    → (status ≡ 0) ⊎ (status ≡ 9)
+abbrev pub IsComplete : Option Request → Ending → State → State → Type 0
+IsComplete asked ending old new = asked ≢ None → IsTrue old.tells → AreAccepted old.world.files (plan_of asked) → ¬ Rose old.read_faults new.read_faults → ¬ Rose old.write_faults new.write_faults
+    → (ending ≡ done) ⊎ (ending ≡ no_memory)
 
 -- The words aren't understood, or a file that is read is refused.
 abbrev pub IsRefusedRequest : Option Request → World → Type 0
 IsRefusedRequest None old = ⊤
-IsRefusedRequest (Some request) old = (status : ℕ) × ((console : Text) × IsRefusedWith old.files (plan_of (Some request)) status console)
+IsRefusedRequest (Some request) old = (kind : FileKind) × ((console : Text) × IsRefusedWith old.files (plan_of (Some request)) kind console)
 
--- Then no file is created or changed, whatever the status.
+-- Then no file is created or changed, whatever the ending.
 abbrev pub KeepsRefused : Option Request → World → World → Type 0
 KeepsRefused asked old new = IsRefusedRequest asked old → KeepsFiles old new

@@ -1,8 +1,9 @@
--- What a run of `sim` that answers 0 leaves.
+-- What a run of `sim` whose work is done leaves.
 use Rattle.std.specs.Prelude.{◌≡◌, ℕ, Option, Some}
 use Rattle.diag_shelf.specs.World.{World}
 use Rattle.sim_listing.specs.SimText.{IsSimText}
 use Rattle.request_words.specs.Request.{Text, Request, simulate}
+use Rattle.dia_commands.specs.Ending.{Ending, done}
 use Rattle.dia_commands.specs.Netlists.{IsDesign}
 use Rattle.dia_commands.specs.Logs.{IsListFor}
 use Rattle.dia_commands.specs.Outcome.{ConsoleGained}
@@ -16,6 +17,6 @@ pub record HasSimulation (bench list : Text) (old new : World) : Type 0 where
   pub simulated : IsSimText netlist.thing.circuit vectors.thing text
   pub printed : ConsoleGained text old new
 
--- A run of `sim` that answers 0 prints that.
-abbrev pub PrintsSimulation : Option Request → ℕ → World → World → Type 0
-PrintsSimulation request status old new = (bench list : Text) → request ≡ Some (simulate bench list) → status ≡ 0 → HasSimulation bench list old new
+-- A run of `sim` whose work is done prints that.
+abbrev pub PrintsSimulation : Option Request → Ending → World → World → Type 0
+PrintsSimulation request ending old new = (bench list : Text) → request ≡ Some (simulate bench list) → ending ≡ done → HasSimulation bench list old new

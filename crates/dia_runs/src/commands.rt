@@ -1,21 +1,18 @@
 //! The top call.
 
-ghost use Rattle.std.specs.Prelude.{◌≡◌, ◌⊎◌, map, string_bytes, IsTrue, Some, None};
-ghost use Rattle.diag_shelf.specs.Calls.{Told};
+ghost use Rattle.std.specs.Prelude.{◌≡◌, map, string_bytes, Some};
 ghost use Rattle.request_words.specs.Asked.{asked, HasLimits};
 ghost use Rattle.request_words.specs.Request.{request_of};
-ghost use Rattle.dia_runs.specs.DictionaryRuns.{MakesDictionary, ConvertsDictionary, PrintsDiagnosis, DiagnosesAlike};
-ghost use Rattle.dia_commands.specs.Outputs.{outputs_of};
-ghost use Rattle.dia_commands.specs.Plan.{AreHeld};
-ghost use Rattle.dia_commands.specs.Plans.{plan_of};
-ghost use Rattle.dia_commands.specs.Ran.{IsAmong, statuses_of, Stays, HasCauses, IsDone, IsUnread, IsBrokenOff, OnlyOutputs, NoneFailed, Ran};
-ghost use Rattle.dia_runs.specs.Promises.{KeepsUnlessDone, GeneratesResult, ChecksResult, Synthesizes, PrintsFaults, NoNumberIsRefused, FilesAreJudgedOnce, DecidedByFiles, KeepsRefused, IsComplete};
-ghost use Rattle.dia_runs.specs.Simulations.{PrintsSimulation};
+ghost use Rattle.dia_commands.specs.Ending.{Ending, OneEndingEach, status_of};
+ghost use Rattle.dia_commands.specs.Ran.{Ran};
+ghost use Rattle.dia_runs.specs.DictionaryRuns.{DiagnosesAlike};
+ghost use Rattle.dia_runs.specs.Promises.{NoNumberIsRefused, FilesAreJudgedOnce};
+ghost use Rattle.dia_runs.specs.Run.{IsRunOf};
 
 use bench_reader::{never_accepted_and_refused, one_netlist};
 use dia_commands::{
-    check_result, convert_file, diagnose_log, generate_file, list_faults, make_dictionary,
-    refuse_words, simulate, synthesize,
+    RunFault, check_result, convert_file, diagnose_log, generate_file, list_faults,
+    make_dictionary, one_ending_each, refuse_words, simulate, status_of, synthesize,
 };
 use diag_shelf::Shelf;
 use diagnose::{list_is_read_once, log_is_read_once};
@@ -28,44 +25,22 @@ use result_file::{file_is_refused_once, valid_is_true};
 use std::alloc::Global;
 use synth_netlist::no_number_is_refused;
 
-/// Does what the words ask for, and answers a status: 0 where the work is done, 2 where the words aren't understood,
-/// 3, 4, 5 or 6 where the netlist, the result, the dictionary, or the log or list of vectors that is read is refused, 7 or 8 where a read or a write failed, 9 for want of
-/// memory.
+/// Does what the words ask for, and answers the status of how that ended: `status_of` has the number of each ending.
 pub fn run<S: Shelf>(alloc: Global, words: &[String], shelf: &mut S) -> u8
-    // The status, on every shelf.
-    ensures status { IsAmong result (statuses_of (request_of (map string_bytes words.now))) }
-    ensures words { result ≡ 2 → request_of (map string_bytes words.now) ≡ None }
-    ensures not_understood { request_of (map string_bytes words.now) ≡ None → (result ≡ 2) ⊎ ((result ≡ 8) ⊎ (result ≡ 9)) }
-    ensures causes { HasCauses result (S.state shelf.old) (S.state shelf.new) }
-    ensures stays { Stays (S.state shelf.old) (S.state shelf.new) }
+    // All of this run: first what `gen` and `check` leave, then the other commands, the ending and its causes, refusals.
+    ensures run {
+        let request = request_of (map string_bytes words.now) in
+        (ending : Ending) × (result ≡ status_of ending) × IsRunOf request ending (S.state shelf.old) (S.state shelf.new) }
 
-    // What is done to a shelf that tells.
-    ensures done { Told (S.state shelf.old) (S.state shelf.new) (IsDone (plan_of (request_of (map string_bytes words.now))) result) }
-    ensures unread { Told (S.state shelf.old) (S.state shelf.new) (IsUnread result) }
-    ensures broken_off { Told (S.state shelf.old) (S.state shelf.new) (IsBrokenOff (plan_of (request_of (map string_bytes words.now))) result) }
-    ensures others { Told (S.state shelf.old) (S.state shelf.new) (OnlyOutputs (outputs_of (request_of (map string_bytes words.now)))) }
-    ensures kept { Told (S.state shelf.old) (S.state shelf.new) (KeepsUnlessDone result) }
+    // The status tells the ending.
+    ensures one_each { OneEndingEach }
 
-    // What each command does.
-    ensures made { Told (S.state shelf.old) (S.state shelf.new) (GeneratesResult (request_of (map string_bytes words.now)) result) }
-    ensures checked { Told (S.state shelf.old) (S.state shelf.new) (ChecksResult (request_of (map string_bytes words.now)) result) }
-    ensures synth { Told (S.state shelf.old) (S.state shelf.new) (Synthesizes (request_of (map string_bytes words.now)) result) }
-    ensures dictionary { Told (S.state shelf.old) (S.state shelf.new) (MakesDictionary (request_of (map string_bytes words.now)) result) }
-    ensures converted { Told (S.state shelf.old) (S.state shelf.new) (ConvertsDictionary (request_of (map string_bytes words.now)) result) }
-    ensures diagnosed { Told (S.state shelf.old) (S.state shelf.new) (PrintsDiagnosis (request_of (map string_bytes words.now)) result) }
-    ensures alike { DiagnosesAlike }
-    ensures faults { Told (S.state shelf.old) (S.state shelf.new) (PrintsFaults (request_of (map string_bytes words.now)) result) }
-    ensures simulated { Told (S.state shelf.old) (S.state shelf.new) (PrintsSimulation (request_of (map string_bytes words.now)) result) }
-
-    // Refusals, and their absence.
-    ensures numbers { NoNumberIsRefused }
+    // Whatever is asked, no file that is read is both refused and accepted, and no number's netlist is refused.
     ensures once { FilesAreJudgedOnce }
-    ensures files { Told (S.state shelf.old) (S.state shelf.new) (DecidedByFiles (request_of (map string_bytes words.now)) result) }
-    ensures refused { Told (S.state shelf.old) (S.state shelf.new) (KeepsRefused (request_of (map string_bytes words.now))) }
-    ensures complete { IsComplete (request_of (map string_bytes words.now)) result (S.state shelf.old) (S.state shelf.new) }
+    ensures numbers { NoNumberIsRefused }
 
-    // A sure shelf that holds what is read has no fault.
-    ensures sure { IsTrue (S.state shelf.old).sure → AreHeld (S.state shelf.old).world.files (plan_of (request_of (map string_bytes words.now))) → NoneFailed (S.state shelf.old) (S.state shelf.new) }
+    // A dictionary and its version 2 are diagnosed alike.
+    ensures alike { DiagnosesAlike }
 {
     same_root_equal();
     covering_is_equal();
@@ -75,7 +50,8 @@ pub fn run<S: Shelf>(alloc: Global, words: &[String], shelf: &mut S) -> u8
     dictionary_is_read_once();
     files_are_judged_once();
     no_number_is_refused();
-    dispatch(alloc, words, shelf)
+    one_ending_each();
+    status_of(dispatch(alloc, words, shelf))
 }
 
 // No file is both refused and accepted.
@@ -92,18 +68,23 @@ fn files_are_judged_once()
     list_is_read_once();
 }
 
-fn dispatch<S: Shelf>(alloc: Global, words: &[String], shelf: &mut S) -> u8
+// Has the words read, and the command called that they ask for.
+fn dispatch<S: Shelf>(alloc: Global, words: &[String], shelf: &mut S) -> Result<(), RunFault>
     ensures { Ran (request_of (map string_bytes words.now)) result (S.state shelf.old) (S.state shelf.new) }
 {
     match read_words(alloc, words) {
         Ok(request) => carry_out(alloc, request, shelf),
-        Err(WordsFault::NotUnderstood) => refuse_words(shelf),
-        Err(WordsFault::NoMemory) => 9,
+        Err(WordsFault::NotUnderstood) => Err(refuse_words(shelf)),
+        Err(WordsFault::NoMemory) => Err(RunFault::NoMemory),
     }
 }
 
 // Calls the command of a request.
-fn carry_out<S: Shelf>(alloc: Global, request: Request<'_>, shelf: &mut S) -> u8
+fn carry_out<S: Shelf>(
+    alloc: Global,
+    request: Request<'_>,
+    shelf: &mut S,
+) -> Result<(), RunFault>
     requires { HasLimits request }
     ensures { Ran (Some (asked request.entry)) result (S.state shelf.old) (S.state shelf.new) }
 {

@@ -4,6 +4,7 @@
 mod real;
 
 use crate::real::RealShelf;
+use dia_commands::{RunFault, status_of};
 use dia_runs::run;
 use std::alloc::AllocError;
 use std::env;
@@ -28,7 +29,7 @@ fn words<R: Env + AllocGlobal>(rt: &R) -> Result<Vec<String>, AllocError> {
 
 fn main(rt: HostRuntime) -> ExitCode {
     let Ok(words) = words(&rt) else {
-        return ExitCode::from(9);
+        return ExitCode::from(status_of(Err(RunFault::NoMemory)));
     };
     let mut shelf = RealShelf::new(&rt);
     ExitCode::from(run(rt.alloc(), &words, &mut shelf))

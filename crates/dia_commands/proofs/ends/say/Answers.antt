@@ -1,10 +1,11 @@
-use Rattle.std.proofs.Common.{ap, Err}
+use Rattle.std.proofs.Common.{Err, ap, ◌∙◌}
+use Rattle.dia_commands.specs.Ending.{done, write_fault}
+use Rattle.dia_commands.proofs.HandedOn.{mapped, all_well, fault_in}
 use Rattle.dia_commands.proofs.Runs.{ends_said, ends_said_part}
 use Rattle.dia_commands.proofs.ends.say.Goals as goal
 
-pub returns-in-Ok : goal.returns-in-Ok
-returns-in-Ok g c = ends_said c.requires c.in-Ok.ensures.call c.in-Ok.ensures.printed
-
-pub returns-in-Err : goal.returns-in-Err
-returns-in-Err g c =
-    ends_said_part c.requires c.in-Err.ensures.call c.in-Err.ensures.err (λ s e. c.in-Err.ensures.sure s (ap Err e)) c.write_status.ensures
+pub returns : goal.returns
+returns g c = elim (mapped write_fault c.print_all.result c.map_err.result c.map_err.ensures.cases) [
+  | all_well x was now ↦ rw now (ends_said {ending = done} tt (rw was at c.print_all.ensures.call) (rw was at c.print_all.ensures.printed))
+  | fault_in fault was now ↦ ends_said_part {meant = done} tt (rw was at c.print_all.ensures.call) (rw was at c.print_all.ensures.err) (λ s e. c.print_all.ensures.sure s (was ∙ ap Err e)) now
+]

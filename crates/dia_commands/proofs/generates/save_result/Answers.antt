@@ -1,34 +1,39 @@
 use Rattle.std.proofs.Common.{ap, Err, [], refl, sym, ◌∙◌, length, List, ℕ}
 use Rattle.std.proofs.Math.Nat.{le_refl}
 use Rattle.std.proofs.lemmas.List.{take_all}
-use Rattle.dia_gen.specs.Made.{IsMade}
-use Rattle.dia_commands.specs.Texts.{summary_text}
-use Rattle.dia_commands.proofs.Runs.{ends_after, part_after, told_file}
-use Rattle.dia_commands.proofs.Generated.{whole_result, cut_result, saves_none, saves_cut}
+use Rattle.dia_commands.specs.Ending.{done, write_fault}
+use Rattle.dia_commands.proofs.HandedOn.{well_of, fault_of, handed_on}
+use Rattle.dia_commands.proofs.Runs.{ends_silent, handed_ends}
+use Rattle.dia_commands.proofs.Generated.{cut_result, saves_none, saves_cut, saves_whole}
 use Rattle.dia_commands.proofs.generates.save_result.Goals as goal
 
-pub returns-in-Err : goal.returns-in-Err
-returns-in-Err g c = saves_none c.in-Err.ensures.call c.in-Err.ensures.err (λ s e. c.in-Err.ensures.sure s (ap Err e)) c.write_status.ensures
+pub returns-in_err-map_err : goal.returns-in_err-map_err
+returns-in_err-map_err g c =
+    let f = fault_of write_fault c.create_file.result _ c.in_err-map_err.ensures.cases refl in
+    saves_none (rw f.1 at c.create_file.ensures.call) (rw f.1 at c.create_file.ensures.err) (λ s e. c.create_file.ensures.sure s (f.1 ∙ ap Err e))
+    (handed_on c.from_residual.result c.from_residual.ensures.1 ∙ ap Err f.2)
 
-pub returns-in-Err-generate : goal.returns-in-Err-generate
-returns-in-Err-generate g c =
-    saves_cut (g.met.S.Shelf.sure_tells _) c.in_default.ensures.call c.in_default.ensures.created c.in-Err-generate.ensures.call
+pub returns-in_err-summary : goal.returns-in_err-summary
+returns-in_err-summary g c =
+    let made = well_of write_fault c.create_file.result _ c.in_ok-map_err.ensures.cases refl in
+    let f = fault_of write_fault c.generate.result _ c.in_err-summary.ensures.cases refl in
+    saves_cut (g.met.S.Shelf.sure_tells _) (rw made at c.create_file.ensures.call) (rw made at c.create_file.ensures.created) (rw f.1 at c.generate.ensures.call)
     (λ told.
-    let w = c.in-Err-generate.ensures.err told in
+    let w = (rw f.1 at c.generate.ensures.err) told in
     (w.0, cut_result w.0 w.1 (refl, (length w.0, le_refl (length w.0), sym (take_all (length w.0) w.0 (le_refl (length w.0))))), w.2))
-    (λ s e. absurd (c.in-Err-generate.ensures.never s (ap Err e)))
-    c.write_status-in-Err-generate.ensures
+    (λ s e. absurd (c.generate.ensures.never s (f.1 ∙ ap Err e)))
+    (handed_on c.from_residual-in_err-summary.result c.from_residual-in_err-summary.ensures.1 ∙ ap Err f.2)
 
-pub returns-in-Ok : goal.returns-in-Ok
-returns-in-Ok g c =
-    let P : List ℕ → Type 0 = λ file. IsMade c.args.circuit.now c.args.budgets c.in-Ok.summary file in
-    let state = g.S.Shelf.state in
-    let f = told_file P (state c.create_file.new.self) (state c.generate.new.shelf) c.in-Ok.ensures.written in
-    let text = summary_text c.in-Ok.summary in
-    record {
-      file = f.0;
-      text = text;
-      ends = ends_after (λ told m t part. whole_result c.in-Ok.summary f.0 (f.2 (c.in_default.ensures.call.tells ∙ told)) (part_after c.args.output.now f.0 text [] m t part))
-          c.in_default.ensures.call c.in_default.ensures.created c.in-Ok.ensures.call f.1 (c.say_text.ensures text c.summary_text.ensures);
-      made = λ z told. (c.in-Ok.summary, f.2 (c.in_default.ensures.call.tells ∙ told), refl);
-    }
+pub returns-in_err-text : goal.returns-in_err-text
+returns-in_err-text g c =
+    let made = well_of write_fault c.create_file.result _ c.in_ok-map_err.ensures.cases refl in
+    let wrote = well_of write_fault c.generate.result _ c.in_ok-summary.ensures.cases refl in
+    saves_whole (rw made at c.create_file.ensures.call) (rw made at c.create_file.ensures.created) (rw wrote at c.generate.ensures.call) (rw wrote at c.generate.ensures.written)
+    (handed_ends c.from_residual-in_err-text.result c.from_residual-in_err-text.ensures.1 (ends_silent {meant = done} tt))
+
+pub returns : goal.returns
+returns g c =
+    let made = well_of write_fault c.create_file.result _ c.in_ok-map_err.ensures.cases refl in
+    let wrote = well_of write_fault c.generate.result _ c.in_ok-summary.ensures.cases refl in
+    saves_whole (rw made at c.create_file.ensures.call) (rw made at c.create_file.ensures.created) (rw wrote at c.generate.ensures.call) (rw wrote at c.generate.ensures.written)
+    (rw (c.as_bytes.ensures.value, c.in_ok-text.ensures) at c.say.ensures)

@@ -4,7 +4,7 @@ use Rattle.request_words.specs.declared.request.EntryKind.{EntryKind}
 use Rattle.dia_commands.specs.Dictionaries.{IsMadeDictionary}
 use Rattle.dia_commands.specs.Plan.{Plan}
 use Rattle.dia_commands.specs.Plans.{with_result, makes_file}
-use Rattle.dia_commands.proofs.Followed.{netlist_over, netlist_then}
+use Rattle.dia_commands.proofs.Followed.{handed_follows, netlist_over, netlist_then}
 use Rattle.dia_commands.proofs.Generated.{two_read}
 use Rattle.dia_commands.proofs.makes_dicts.make_dictionary.Goals as goal
 
@@ -12,8 +12,8 @@ use Rattle.dia_commands.proofs.makes_dicts.make_dictionary.Goals as goal
 abbrev reads_result : EntryKind → List ℕ → List ℕ → Design → Plan
 reads_result kind result dict design = with_result result design.circuit (λ (file : List ℕ). makes_file dict (IsMadeDictionary design.circuit kind file))
 
-pub returns-in-Err : goal.returns-in-Err
-returns-in-Err g c = netlist_over two_read (inr (inl refl)) (reads_result c.args.kind c.args.results.now c.args.output.now) c.in-Err.ensures.err
+pub returns-in_err-design : goal.returns-in_err-design
+returns-in_err-design g c = handed_follows c.from_residual.result c.from_residual.ensures.1 (netlist_over two_read (inr (inl refl)) (reads_result c.args.kind c.args.results.now c.args.output.now) c.in_err-design.ensures.err)
 
-pub returns-in-Ok : goal.returns-in-Ok
-returns-in-Ok g c = netlist_then (reads_result c.args.kind c.args.results.now c.args.output.now) (g.met.S.Shelf.sure_tells _) c.in-Ok.ensures.ok (c.make_for.ensures c.args.bench.now)
+pub returns : goal.returns
+returns g c = netlist_then (reads_result c.args.kind c.args.results.now c.args.output.now) (g.met.S.Shelf.sure_tells _) c.in_ok-design.ensures.ok (c.make_for.ensures c.args.bench.now)

@@ -1,4 +1,4 @@
-use Rattle.std.proofs.Common.{◌≡◌, ◌∙◌, ℕ, List, [], Option, Some, None, Err, IsTrue, refl, sym, ap}
+use Rattle.std.proofs.Common.{◌≡◌, ◌∙◌, ℕ, List, [], Option, Some, None, Err, IsTrue, refl, sym, ap, subst}
 use Rattle.std.specs.Prelude.{IsSome, unwrap_or}
 use Rattle.std.specs.FinMap.{get}
 use Rattle.diag_shelf.specs.World.{State}
@@ -6,7 +6,11 @@ use Rattle.diag_shelf.specs.declared.shelf.ShelfFault.TheVariants.{Failed, NoMem
 use Rattle.diag_shelf.specs.Calls.{Told, Opens, OnlyReads}
 use Rattle.diag_shelf.proofs.Steps.{facts_same, facts_after_read, reads_more}
 use Rattle.dia_check.specs.Accepted.{rest_of}
-use Rattle.dia_commands.proofs.Followed.{over_fault, over_refused, read_after}
+use Rattle.dia_commands.specs.declared.ending.RunFault.{RunFault}
+use Rattle.dia_commands.specs.Ending.{read_fault}
+use Rattle.dia_commands.specs.Steps.{CouldNotRead, by_reading}
+use Rattle.dia_commands.proofs.HandedOn.{well_of, fault_of, handed_err}
+use Rattle.dia_commands.proofs.Followed.{fault_read, over_refused, read_after}
 use Rattle.dia_commands.proofs.results.read_result.Goals as goal
 
 some_held : (o : Option (List ℕ)) → IsSome o → o ≡ Some (unwrap_or o [])
@@ -24,23 +28,31 @@ only_reads {name} {a} {b} c is others told = reads_more (is.opened told).only (o
 held : {name : List ℕ} {a b : State} → IsOpened name a b → IsTrue a.tells → get a.world.files name ≡ Some (rest_of b.world)
 held {name} {a} {b} is told = let o = is.opened told in sym o.rest ∙ some_held b.world.rest o.found
 
-pub returns-in-Err-clause-err : goal.returns-in-Err-clause-err
-returns-in-Err-clause-err g c =
-    over_fault c.in-Err.fault c.in-Err.ensures.call (λ told. let s = c.in-Err.ensures.err told in record { files = s.files; written = s.written; console = s.console }) (λ s e. c.in-Err.ensures.sure s (ap Err e)) c.read_status.ensures
+pub returns-in_err-map_err-clause-err : goal.returns-in_err-map_err-clause-err
+returns-in_err-map_err-clause-err g c =
+    let f = fault_of read_fault c.open_file.result _ c.in_err-map_err.ensures.cases refl in
+    let state = g.S.Shelf.state in
+    handed_err _ c.from_residual.result c.from_residual.ensures.1
+    (by_reading (subst (λ (w : RunFault). CouldNotRead c.args.name.now w (state c.args.shelf.now) (state c.open_file.new.self)) (sym f.2)
+    (fault_read f.0 (rw f.1 at c.open_file.ensures.call) (λ told. let s = (rw f.1 at c.open_file.ensures.err) told in record { files = s.files; written = s.written; console = s.console }) (λ s e. c.open_file.ensures.sure s (f.1 ∙ ap Err e)))))
 
 pub check-requires : goal.check-requires
-check-requires g c = record { opened = λ told. (c.in_default.ensures.opened (sym c.in_default.ensures.call.tells ∙ told)).found }
+check-requires g c =
+    let well = well_of read_fault c.open_file.result _ c.in_ok-map_err.ensures.cases refl in
+    let call = rw well at c.open_file.ensures.call in
+    record { opened = λ told. ((rw well at c.open_file.ensures.opened) (sym call.tells ∙ told)).found }
 
 pub returns-in-Ok-clause-ok : goal.returns-in-Ok-clause-ok
 returns-in-Ok-clause-ok g c =
     let state = g.S.Shelf.state in
-    let opened = c.in_default.ensures in
-    let is : IsOpened c.args.name.now (state c.args.shelf.now) (state c.open_file.new.self) = record { opened = opened.opened; tells = opened.call.tells } in
+    let well = well_of read_fault c.open_file.result _ c.in_ok-map_err.ensures.cases refl in
+    let opened = rw well at c.open_file.ensures.call in
+    let is : IsOpened c.args.name.now (state c.args.shelf.now) (state c.open_file.new.self) = record { opened = rw well at c.open_file.ensures.opened; tells = opened.tells } in
     let valid = c.in-Ok.ensures.valid in (
       valid.0,
       valid.1,
       record {
-        facts = facts_after_read _ _ _ _ (facts_after_read _ _ _ _ (facts_same _) opened.call) c.in-Ok.ensures.call;
+        facts = facts_after_read _ _ _ _ (facts_after_read _ _ _ _ (facts_same _) opened) c.in-Ok.ensures.call;
         only = only_reads (state c.check.new.shelf) is c.in-Ok.ensures.others;
         held = λ told. (rest_of (state c.open_file.new.self).world, held is told, record { same = valid.2 (is.tells ∙ told); valid = record { records = valid.0; text = refl; valid = valid.1.valid; short = valid.1.short } });
       },
@@ -49,27 +61,30 @@ returns-in-Ok-clause-ok g c =
 pub returns-in-Err-Result-clause-err : goal.returns-in-Err-Result-clause-err
 returns-in-Err-Result-clause-err g c =
     let state = g.S.Shelf.state in
-    let opened = c.in_default.ensures in
-    let is : IsOpened c.args.name.now (state c.args.shelf.now) (state c.open_file.new.self) = record { opened = opened.opened; tells = opened.call.tells } in
+    let well = well_of read_fault c.open_file.result _ c.in_ok-map_err.ensures.cases refl in
+    let opened = rw well at c.open_file.ensures.call in
+    let is : IsOpened c.args.name.now (state c.args.shelf.now) (state c.open_file.new.self) = record { opened = rw well at c.open_file.ensures.opened; tells = opened.tells } in
     let fault = c.in-Err-Result.fault in
     let call = rw c.in-Err-Result.field-0-is at c.in-Err-Result.ensures.call in
-    over_refused (facts_after_read _ _ _ _ (facts_after_read _ _ _ _ (facts_same _) opened.call) call) (only_reads (state c.check.new.shelf) is c.in-Err-Result.ensures.others)
+    over_refused (facts_after_read _ _ _ _ (facts_after_read _ _ _ _ (facts_same _) opened) call) (only_reads (state c.check.new.shelf) is c.in-Err-Result.ensures.others)
     (λ told. (rest_of (state c.open_file.new.self).world, held is told, record { fault = fault; refused = c.in-Err-Result.ensures.refused fault (ap Err c.in-Err-Result.field-0-is) (is.tells ∙ told); console_is = refl }))
     c.say_refusal.ensures
 
 pub returns-in-Err-Failed-clause-err : goal.returns-in-Err-Failed-clause-err
 returns-in-Err-Failed-clause-err g c =
     let state = g.S.Shelf.state in
-    let opened = c.in_default.ensures in
-    let is : IsOpened c.args.name.now (state c.args.shelf.now) (state c.open_file.new.self) = record { opened = opened.opened; tells = opened.call.tells } in
+    let well = well_of read_fault c.open_file.result _ c.in_ok-map_err.ensures.cases refl in
+    let opened = rw well at c.open_file.ensures.call in
+    let is : IsOpened c.args.name.now (state c.args.shelf.now) (state c.open_file.new.self) = record { opened = rw well at c.open_file.ensures.opened; tells = opened.tells } in
     let failed = c.in-Err-Failed.field-0-is in
     let call = rw failed at c.in-Err-Failed.ensures.call in
-    over_fault Failed (read_after opened.call call) (only_reads (state c.check.new.shelf) is c.in-Err-Failed.ensures.others) (λ s e. absurd (c.in-Err-Failed.ensures.never (opened.call.sure ∙ s) (ap Err failed))) (record { failed = λ _. refl; memory = λ e. absurd (cc) })
+    by_reading (fault_read Failed (read_after opened call) (only_reads (state c.check.new.shelf) is c.in-Err-Failed.ensures.others) (λ s e. absurd (c.in-Err-Failed.ensures.never (opened.sure ∙ s) (ap Err failed))))
 
 pub returns-in-Err-NoMemory-clause-err : goal.returns-in-Err-NoMemory-clause-err
 returns-in-Err-NoMemory-clause-err g c =
     let state = g.S.Shelf.state in
-    let opened = c.in_default.ensures in
-    let is : IsOpened c.args.name.now (state c.args.shelf.now) (state c.open_file.new.self) = record { opened = opened.opened; tells = opened.call.tells } in
+    let well = well_of read_fault c.open_file.result _ c.in_ok-map_err.ensures.cases refl in
+    let opened = rw well at c.open_file.ensures.call in
+    let is : IsOpened c.args.name.now (state c.args.shelf.now) (state c.open_file.new.self) = record { opened = rw well at c.open_file.ensures.opened; tells = opened.tells } in
     let call = rw c.in-Err-NoMemory.field-0-is at c.in-Err-NoMemory.ensures.call in
-    over_fault NoMemory (read_after opened.call call) (only_reads (state c.check.new.shelf) is c.in-Err-NoMemory.ensures.others) (λ s e. absurd (cc)) (record { failed = λ e. absurd (cc); memory = λ _. refl })
+    by_reading (fault_read NoMemory (read_after opened call) (only_reads (state c.check.new.shelf) is c.in-Err-NoMemory.ensures.others) (λ s e. absurd (cc)))

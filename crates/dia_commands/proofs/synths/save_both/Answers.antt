@@ -1,29 +1,38 @@
 use Rattle.std.proofs.Common.{ap, Err, [], refl, take, ◌∙◌}
 use Rattle.dia_gen.proofs.Written.{nothing_cut}
+use Rattle.dia_commands.specs.Ending.{write_fault}
+use Rattle.dia_commands.proofs.HandedOn.{well_of, fault_of, handed_on}
 use Rattle.dia_commands.proofs.Runs.{ends_after}
 use Rattle.dia_commands.proofs.Generated.{result_after, cut_result, saves_none, saves_cut}
 use Rattle.dia_commands.proofs.synths.save_both.Goals as goal
 
-pub returns-in-Err : goal.returns-in-Err
-returns-in-Err g c = saves_none c.in-Err.ensures.call c.in-Err.ensures.err (λ s e. c.in-Err.ensures.sure s (ap Err e)) c.write_status.ensures
+pub returns-in_err-map_err : goal.returns-in_err-map_err
+returns-in_err-map_err g c =
+    let f = fault_of write_fault c.create_file.result _ c.in_err-map_err.ensures.cases refl in
+    saves_none (rw f.1 at c.create_file.ensures.call) (rw f.1 at c.create_file.ensures.err) (λ s e. c.create_file.ensures.sure s (f.1 ∙ ap Err e))
+    (handed_on c.from_residual.result c.from_residual.ensures.1 ∙ ap Err f.2)
 
 pub returns : goal.returns
 returns g c =
+    let made = well_of write_fault c.create_file.result _ c.in_ok-map_err.ensures.cases refl in
+    let wrote = well_of write_fault c.write_all.result _ c.in_ok-map_err-2.ensures.cases refl in
     let saves = c.save_result.ensures in
-    let create = c.in_default.ensures.call in
-    let write = c.in_default-write_all.ensures.call in
+    let create = rw made at c.create_file.ensures.call in
+    let write = rw wrote at c.write_all.ensures.call in
     record {
       file = saves.file;
       text = saves.text;
-      ends = ends_after (λ told m t part. result_after c.args.bench.now c.args.text.now m t part) create c.in_default.ensures.created write c.in_default-write_all.ensures.written saves.ends;
+      ends = ends_after (λ told m t part. result_after c.args.bench.now c.args.text.now m t part) create (rw made at c.create_file.ensures.created) write (rw wrote at c.write_all.ensures.written) saves.ends;
       made = λ z told. saves.made z (write.tells ∙ create.tells ∙ told);
     }
 
-pub returns-in-Err-write_all : goal.returns-in-Err-write_all
-returns-in-Err-write_all g c =
-    saves_cut (g.met.S.Shelf.sure_tells _) c.in_default.ensures.call c.in_default.ensures.created c.in-Err-write_all.ensures.call
+pub returns-in_err-map_err-2 : goal.returns-in_err-map_err-2
+returns-in_err-map_err-2 g c =
+    let made = well_of write_fault c.create_file.result _ c.in_ok-map_err.ensures.cases refl in
+    let f = fault_of write_fault c.write_all.result _ c.in_err-map_err-2.ensures.cases refl in
+    saves_cut (g.met.S.Shelf.sure_tells _) (rw made at c.create_file.ensures.call) (rw made at c.create_file.ensures.created) (rw f.1 at c.write_all.ensures.call)
     (λ told.
-    let w = c.in-Err-write_all.ensures.err told in
+    let w = (rw f.1 at c.write_all.ensures.err) told in
     (take w.0 c.args.text.now, cut_result [] nothing_cut (refl, (w.0, w.1, refl)), w.2))
-    (λ s e. c.in-Err-write_all.ensures.sure s (ap Err e))
-    c.write_status-in-Err-write_all.ensures
+    (λ s e. c.write_all.ensures.sure s (f.1 ∙ ap Err e))
+    (handed_on c.from_residual-in_err-map_err-2.result c.from_residual-in_err-map_err-2.ensures.1 ∙ ap Err f.2)

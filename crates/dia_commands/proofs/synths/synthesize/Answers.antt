@@ -4,23 +4,27 @@ use Rattle.synth_netlist.specs.Synth.{synth_text}
 use Rattle.dia_commands.specs.Netlists.{IsDesign, IsRefused}
 use Rattle.dia_commands.specs.Ran.{SavesResult}
 use Rattle.dia_commands.proofs.NetlistLemmas.{never_with_text}
+use Rattle.dia_commands.proofs.Followed.{handed_follows, follows_nothing}
 use Rattle.dia_commands.proofs.Generated.{no_read, both_follows}
 use Rattle.dia_commands.proofs.synths.synthesize.Goals as goal
 
 pub unreachable-requires : goal.unreachable-requires
 unreachable-requires g c =
     let text = c.in-Err-Refused.field-0-0 in
-    let refused : IsRefused (synth_text c.args.n) text.items = subst (λ (b : List ℕ). IsRefused b text.items) (c.deref.ensures.value ∙ c.in-Ok.ensures) (c.in-Err-Refused.ensures.refused text (cc)) in
+    let refused : IsRefused (synth_text c.args.n) text.items = subst (λ (b : List ℕ). IsRefused b text.items) (c.deref.ensures.value ∙ c.in_ok-text.ensures) (c.in-Err-Refused.ensures.refused text (cc)) in
     never_with_text (c.no_number_is_refused.ensures c.args.n c.requires.most) refused
 
-pub returns-in-Ok-judge : goal.returns-in-Ok-judge
-returns-in-Ok-judge g c =
+pub returns-in-Ok : goal.returns-in-Ok
+returns-in-Ok g c =
     let n = c.args.n in
     let bench = c.args.bench.now in
     let output = c.args.output.now in
-    let design = c.in-Ok-judge.design in
+    let design = c.in-Ok.design in
     let state = g.S.Shelf.state in
-    let accepted : IsDesign (synth_text n) design = subst (λ (b : List ℕ). IsDesign b design) (c.deref.ensures.value ∙ c.in-Ok.ensures) c.in-Ok-judge.ensures.ok in
+    let accepted : IsDesign (synth_text n) design = subst (λ (b : List ℕ). IsDesign b design) (c.deref.ensures.value ∙ c.in_ok-text.ensures) c.in-Ok.ensures.ok in
     let saves : SavesResult design.circuit synth_budgets ((bench, synth_text n) ∷ []) output c.save_both.result (state c.args.shelf.now) (state c.save_both.new.shelf) =
-    subst (λ (text : List ℕ). SavesResult design.circuit synth_budgets ((bench, text) ∷ []) output c.save_both.result (state c.args.shelf.now) (state c.save_both.new.shelf)) (c.deref-in-Ok-judge.ensures.value ∙ c.in-Ok.ensures) c.save_both.ensures in
+    subst (λ (text : List ℕ). SavesResult design.circuit synth_budgets ((bench, text) ∷ []) output c.save_both.result (state c.args.shelf.now) (state c.save_both.new.shelf)) (c.deref-in-Ok.ensures.value ∙ c.in_ok-text.ensures) c.save_both.ensures in
     both_follows bench (synth_text n) output no_read (inl refl) (λ file. (inl refl, (inr (inl refl), tt))) accepted saves
+
+pub returns-in_err-text : goal.returns-in_err-text
+returns-in_err-text g c = handed_follows c.from_residual.result c.from_residual.ensures.1 (follows_nothing (g.S.Shelf.state c.args.shelf.now) no_read)

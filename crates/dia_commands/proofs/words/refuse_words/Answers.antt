@@ -4,4 +4,4 @@ use Rattle.dia_commands.proofs.words.refuse_words.Goals as goal
 
 pub returns : goal.returns
 unfolding not_understood_text
-returns g c = refused_words c.say.ensures
+returns g c = refused_words c.refuse.ensures

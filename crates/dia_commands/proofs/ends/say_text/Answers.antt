@@ -1,6 +1,0 @@
-use Rattle.std.proofs.Common.{arith}
-use Rattle.dia_commands.proofs.Runs.{ends_silent}
-use Rattle.dia_commands.proofs.ends.say_text.Goals as goal
-
-pub returns-in-Err : goal.returns-in-Err
-returns-in-Err g c = λ said_text is. ends_silent (omega arith)

@@ -1,0 +1,60 @@
+//! How a run ends, and the status of each ending.
+
+ghost use Rattle.std.specs.Prelude.{◌≡◌};
+ghost use Rattle.dia_commands.specs.Ending.{OneEndingEach, status_of};
+
+use std::alloc::AllocError;
+
+/// A kind of file that is read, and refused where a rule is broken.
+#[derive(Clone, Copy, Debug, PartialEq, Eq, Hash)]
+pub enum FileKind {
+    Netlist,
+    Result,
+    Dictionary,
+    /// A log, or a list of vectors.
+    Log,
+}
+
+/// Why a run did not do what it was asked.
+#[derive(Clone, Copy, Debug, PartialEq, Eq, Hash)]
+pub enum RunFault {
+    /// The words ask for nothing.
+    NotUnderstood,
+    /// A file of this kind is refused.
+    Refused(FileKind),
+    ReadFailed,
+    WriteFailed,
+    NoMemory,
+}
+
+impl From<AllocError> for RunFault {
+    ghost use Rattle.dia_commands.specs.declared.ending.RunFault.TheVariants.{NoMemory};
+
+    ghost from_gives = { λ _ fault. fault ≡ NoMemory };
+
+    fn from(_: AllocError) -> Self {
+        RunFault::NoMemory
+    }
+}
+
+/// The status of an ending. A status stands in no other place of the code.
+pub fn status_of(ending: Result<(), RunFault>) -> u8
+    ensures { result ≡ status_of ending }
+{
+    match ending {
+        Ok(()) => 0,
+        Err(RunFault::NotUnderstood) => 2,
+        Err(RunFault::Refused(FileKind::Netlist)) => 3,
+        Err(RunFault::Refused(FileKind::Result)) => 4,
+        Err(RunFault::Refused(FileKind::Dictionary)) => 5,
+        Err(RunFault::Refused(FileKind::Log)) => 6,
+        Err(RunFault::ReadFailed) => 7,
+        Err(RunFault::WriteFailed) => 8,
+        Err(RunFault::NoMemory) => 9,
+    }
+}
+
+/// Endings of the same status are the same.
+pub fn one_ending_each()
+    ensures { OneEndingEach }
+{}

@@ -1,0 +1,39 @@
+-- From the record of a run's plan to all that is promised of the run.
+use Rattle.std.proofs.Common.{Option}
+use Rattle.diag_shelf.specs.World.{State}
+use Rattle.result_file.specs.Laws.{ValidIsTrue}
+use Rattle.request_words.specs.Request.{Request}
+use Rattle.dia_commands.specs.Ending.{Ending}
+use Rattle.dia_commands.specs.Ran.{Ran}
+use Rattle.dia_runs.specs.Promises.{FilesAreJudgedOnce}
+use Rattle.dia_runs.specs.Run.{IsRunOf}
+use Rattle.dia_runs.proofs.Judged.{EvidenceLaws}
+use Rattle.dia_runs.proofs.Clauses.{words_of, not_understood_of, keeps_unless_done, made_of, checked_of, synth_made, faults_of, decided_by_files, keeps_refused, is_complete}
+use Rattle.dia_runs.proofs.SimulationClauses.{simulated_of}
+use Rattle.dia_runs.proofs.DictionaryClauses.{dictionary_made, converted_of, diagnosed_of}
+
+pub run_of : EvidenceLaws → ValidIsTrue → FilesAreJudgedOnce → (asked : Option Request) {ending : Ending} {a b : State} → Ran asked ending a b → IsRunOf asked ending a b
+run_of laws valid once asked {ending} {a} {b} r = record {
+  made = λ told. made_of (r.done told) laws;
+  checked = λ told. checked_of (r.done told) valid;
+  synth = λ told. synth_made (r.done told) laws;
+  dictionary = λ told. dictionary_made (r.done told) valid;
+  converted = λ told. converted_of (r.done told);
+  diagnosed = λ told. diagnosed_of (r.done told);
+  faults = λ told. faults_of (r.done told);
+  simulated = λ told. simulated_of (r.done told);
+  ends = r.ends;
+  words = words_of asked r.ends;
+  not_asked = not_understood_of asked r.ends;
+  causes = r.causes;
+  stays = r.stays;
+  done = r.done;
+  unread = r.unread;
+  broken_off = r.broken_off;
+  others = r.others;
+  kept = λ told. keeps_unless_done once r told;
+  files = λ told. decided_by_files once (r.done told);
+  refused = λ told. keeps_refused once asked r told;
+  complete = is_complete once r;
+  sure = r.sure;
+}

@@ -1,0 +1,79 @@
+-- All that is promised of a run, from what its words ask for and how it ends.
+use Rattle.std.specs.Prelude.{◌≡◌, ◌⊎◌, Option, None, IsTrue}
+use Rattle.diag_shelf.specs.World.{State}
+use Rattle.diag_shelf.specs.Calls.{Told}
+use Rattle.request_words.specs.Request.{Request}
+use Rattle.dia_commands.specs.Ending.{Ending, not_understood}
+use Rattle.dia_commands.specs.Outputs.{outputs_of}
+use Rattle.dia_commands.specs.Plan.{AreHeld}
+use Rattle.dia_commands.specs.Plans.{plan_of}
+use Rattle.dia_commands.specs.Ran.{IsAmong, IsBroken, endings_of, Stays, HasCauses, IsDone, IsUnread, IsBrokenOff, OnlyOutputs, NoneFailed}
+use Rattle.dia_runs.specs.Promises.{KeepsUnlessDone, GeneratesResult, ChecksResult, Synthesizes, PrintsFaults, DecidedByFiles, KeepsRefused, IsComplete}
+use Rattle.dia_runs.specs.DictionaryRuns.{MakesDictionary, ConvertsDictionary, PrintsDiagnosis}
+use Rattle.dia_runs.specs.Simulations.{PrintsSimulation}
+
+pub record IsRunOf (asked : Option Request) (ending : Ending) (old new : State) : Type 0 where
+  -- ---- what `gen` and `check` leave where they are done
+
+  -- In the file that `gen` wrote faults of different classes answer differently at the pattern that the class table names for them; a
+  -- member marked equal answers as the lowest of its class on every vector; a member marked open carries its full budgets of closed
+  -- cubes and fresh learned clauses, and none is open with as many cubes as there are vectors. The file is one that may be made with
+  -- the words' budgets, and the console gained its counts.
+  pub made : Told old new (GeneratesResult asked ending)
+  -- `check` accepts no file of which this is false, and none that isn't valid; the console gained the file's counts.
+  pub checked : Told old new (ChecksResult asked ending)
+
+  -- ---- what the other commands leave where they are done
+
+  -- `synth` leaves the netlist of its number, and a result of its circuit as that of `gen`.
+  pub synth : Told old new (Synthesizes asked ending)
+  -- `dict` accepts a result as `check` does, and leaves the dictionary of its patterns in version 2.
+  pub dictionary : Told old new (MakesDictionary asked ending)
+  -- `convert` leaves version 2 of the dictionary that it read.
+  pub converted : Told old new (ConvertsDictionary asked ending)
+  -- `diagnose` prints the numbers whose entry is that of the log's answers, and their count.
+  pub diagnosed : Told old new (PrintsDiagnosis asked ending)
+  -- `faults` prints all faults of the circuit with their roots.
+  pub faults : Told old new (PrintsFaults asked ending)
+  -- `sim` prints what the circuit answers to each vector of the list.
+  pub simulated : Told old new (PrintsSimulation asked ending)
+
+  -- ---- the ending, and its causes
+
+  -- It is one of those that these words can have.
+  pub ends : IsAmong ending (endings_of asked)
+  -- The words are said not to be understood only where they ask for nothing, and then
+  pub words : ending ≡ not_understood → asked ≡ None
+  -- nothing else comes of them, unless that can't be printed or memory is wanting.
+  pub not_asked : asked ≡ None → (ending ≡ not_understood) ⊎ IsBroken ending
+  -- A read or a write that failed has raised its count, and a count that rose shows in the ending.
+  pub causes : HasCauses ending old new
+  -- No count falls, and what the shelf tells and whether it is sure stay.
+  pub stays : Stays old new
+
+  -- ---- what is done to a shelf that tells
+
+  -- Unless something failed, the words and files called for all that was done.
+  pub done : Told old new (IsDone (plan_of asked) ending)
+  -- Where a read failed, whatever the ending, no file was created or changed, and nothing printed.
+  pub unread : IsUnread ending old new
+  -- Where a write failed or memory was wanting, nothing was done, or a part of what words and files call for.
+  pub broken_off : Told old new (IsBrokenOff (plan_of asked) ending)
+  -- Files that the words don't name as outputs are as they were.
+  pub others : Told old new (OnlyOutputs (outputs_of asked))
+  -- No file is created or changed by words that aren't understood, a refusal or a failed read.
+  pub kept : Told old new (KeepsUnlessDone ending)
+
+  -- ---- refusals, and their absence
+
+  -- A refusal comes exactly for a file that is refused, with its text on the console.
+  pub files : Told old new (DecidedByFiles asked ending)
+  -- Where the words or a file that is read are refused no file is created or changed, whatever the ending.
+  pub refused : Told old new (KeepsRefused asked)
+  -- Where each file that is read is accepted and no count rose, the work is done or memory was wanting.
+  pub complete : IsComplete asked ending old new
+
+  -- ---- a sure shelf
+
+  -- One that holds what is read has no fault.
+  pub sure : IsTrue old.sure → AreHeld old.world.files (plan_of asked) → NoneFailed old new
