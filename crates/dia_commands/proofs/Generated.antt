@@ -18,7 +18,7 @@ use Rattle.dia_commands.specs.Plans.{MakesResult, IsResultPart, makes_file, make
 use Rattle.dia_commands.specs.declared.ending.FileKind.TheVariants as kind
 use Rattle.dia_commands.specs.Ending.{Ending, done, not_understood, refused, write_fault}
 use Rattle.dia_commands.specs.Ran.{IsAmong, broken_endings, read_endings, Ends, SavesResult, Follows, Ran}
-use Rattle.dia_commands.proofs.Runs.{MayBreak, Fits, MadeAmong, cut_among, cut_after, part_after, ran, ends_unmade, ends_cut, ends_after, told_file, write_broken, not_done}
+use Rattle.dia_commands.proofs.Runs.{MayBreak, Fits, MadeAmong, cut_among, cut_after, part_after, ran, ends_unmade, ends_cut, ends_after, write_broken, not_done}
 use Rattle.dia_commands.proofs.Followed.{MayRead}
 
 -- ---- endings of requests that read no file, one, and a result too
@@ -114,15 +114,14 @@ saves_cut {T} {U} {x} {c} {budgets} {before} {name} {result} {fault} {ending} {a
 
 -- a whole file was made, and its summary was printed, or a beginning of it
 pub saves_whole : {T : Type 0} {x : T} {c : Circuit} {budgets : Budgets} {result : Text} {summary : Summary} {ending : Ending} {a b d e : State} → IsWriteCall (Ok x) a b → Told a b (Creates result) → IsWriteCall (Ok summary) b d
-    → Told b d (λ u v. (file : Text) × IsMade c budgets summary file × Writes file u v) → Ends (said done (summary_text summary)) (IsPartOf (said done (summary_text summary))) ending d e → SavesResult c budgets [] result ending a e
+    → (file : Text) × IsMade c budgets summary file × Told b d (Writes file) → Ends (said done (summary_text summary)) (IsPartOf (said done (summary_text summary))) ending d e → SavesResult c budgets [] result ending a e
 saves_whole {T} {x} {c} {budgets} {result} {summary} {ending} {a} {b} {d} {e} made created wrote written says =
-    let f = told_file (λ (file : Text). IsMade c budgets summary file) b d written in
     let text = summary_text summary in
     record {
-      file = f.0;
+      file = written.0;
       text = text;
-      ends = ends_after (λ told m t part. whole_result summary f.0 (f.2 (made.tells ∙ told)) (part_after result f.0 text [] m t part)) made created wrote f.1 says;
-      made = λ z told. (summary, f.2 (made.tells ∙ told), refl);
+      ends = ends_after (λ told m t part. whole_result summary written.0 written.1 (part_after result written.0 text [] m t part)) made created wrote written.2 says;
+      made = λ z. (summary, written.1, refl);
     }
 
 fits_result : {c : Circuit} {budgets : Budgets} {endings : List Ending} {outputs : List Text} (before : List (Text × Text)) (result file text : Text) → MayBreak endings → IsAmong done endings → ((file : Text) → MadeAmong (before ++ (result, file) ∷ []) outputs) → Fits endings outputs (saved (before ++ (result, file) ∷ []) text) (IsResultPart c budgets before result)
@@ -132,7 +131,7 @@ fits_result {c} {budgets} {endings} {outputs} before result file text breaks zer
 pub saved_follows : {c : Circuit} {budgets : Budgets} {endings : List Ending} {outputs : List Text} {ending : Ending} {a b : State} (before : List (Text × Text)) (result : Text) → MayBreak endings → IsAmong done endings → ((file : Text) → MadeAmong (before ++ (result, file) ∷ []) outputs) → SavesResult c budgets before result ending a b → Follows (makes_result before result budgets c) endings outputs ending a b
 saved_follows {c} {budgets} {endings} {outputs} {ending} {a} {b} before result breaks zero among saves =
     ran (fits_result before result saves.file saves.text breaks zero among)
-    (λ z told. let m = saves.made z told in makes m.0 saves.file saves.text m.1 m.2)
+    (λ z told. let m = saves.made z in makes m.0 saves.file saves.text m.1 m.2)
     (λ told made t part. part) saves.ends
 
 -- a netlist was saved, and a result of its circuit
@@ -140,7 +139,7 @@ pub both_follows : {budgets : Budgets} {design : Design} {endings : List Ending}
     → SavesResult design.circuit budgets ((bench, netlist) ∷ []) result ending a b → Follows (makes_both bench netlist result budgets) endings outputs ending a b
 both_follows {budgets} {design} {endings} {outputs} {ending} {a} {b} bench netlist result breaks zero among accepted saves =
     ran (fits_result ((bench, netlist) ∷ []) result saves.file saves.text breaks zero among)
-    (λ z told. let m = saves.made z told in (design, accepted, makes m.0 saves.file saves.text m.1 m.2))
+    (λ z told. let m = saves.made z in (design, accepted, makes m.0 saves.file saves.text m.1 m.2))
     (λ told made t part. elim part [
       | inl p ↦ inl (p.0, (design, accepted, p.1), p.2)
       | inr cut ↦ inr (design, accepted, cut)

@@ -268,14 +268,6 @@ ran {plan} {endings} {outputs} {o} {Part} {ending} {a} {b} fits called may e = r
   sure = λ s held. record { reads = e.reads; writes = e.sure s };
 }
 
-file_by : (P : List ℕ → Type 0) (a b : State) (tells : Bool) → a.tells ≡ tells → Told a b (λ u v. (file : List ℕ) × P file × Writes file u v) → (file : List ℕ) × Told a b (Writes file) × (IsTrue a.tells → P file)
-file_by P a b true e written = let w = written e in (w.0, λ told. w.2, λ told. w.1)
-file_by P a b false e written = ([], λ told. absurd (cc), λ told. absurd (cc))
-
--- a file of which something is told where its shelf tells
-pub told_file : (P : List ℕ → Type 0) (a b : State) → Told a b (λ u v. (file : List ℕ) × P file × Writes file u v) → (file : List ℕ) × Told a b (Writes file) × (IsTrue a.tells → P file)
-told_file P a b written = file_by P a b a.tells refl written
-
 -- memory was wanting for a text, and nothing was said
 pub ends_silent : {meant : Ending} {text : List ℕ} {a : State} → IsDecided meant → Ends (said meant text) (IsPartOf (said meant text)) no_memory a a
 ends_silent {meant} {text} {a} decided = record {

@@ -97,7 +97,7 @@ pub record SavesResult (c : Circuit) (budgets : Budgets) (before : List (Text ×
   pub file : Text
   pub text : Text
   pub ends : Ends (saved (before ++ (result, file) ∷ []) text) (IsResultPart c budgets before result) ending old new
-  pub made : ending ≡ done → IsTrue old.tells → (summary : Summary) × IsMade c budgets summary file × (text ≡ summary_text summary)
+  pub made : ending ≡ done → (summary : Summary) × IsMade c budgets summary file × (text ≡ summary_text summary)
 
 -- All that is promised of a run with this plan, which may end in these ways and create files of these names.
 pub record Follows (plan : Plan) (endings : List Ending) (outputs : List Text) (ending : Ending) (old new : State) : Type 0 where

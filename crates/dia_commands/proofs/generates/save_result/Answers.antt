@@ -19,8 +19,8 @@ returns-in_err-summary g c =
     let f = fault_of write_fault c.generate.result _ c.in_err-summary.ensures.cases refl in
     saves_cut (g.met.S.Shelf.sure_tells _) (rw made at c.create_file.ensures.call) (rw made at c.create_file.ensures.created) (rw f.1 at c.generate.ensures.call)
     (λ told.
-    let w = (rw f.1 at c.generate.ensures.err) told in
-    (w.0, cut_result w.0 w.1 (refl, (length w.0, le_refl (length w.0), sym (take_all (length w.0) w.0 (le_refl (length w.0))))), w.2))
+    let w = rw f.1 at c.generate.ensures.err in
+    (w.0, cut_result w.0 w.1 (refl, (length w.0, le_refl (length w.0), sym (take_all (length w.0) w.0 (le_refl (length w.0))))), w.2 told))
     (λ s e. absurd (c.generate.ensures.never s (f.1 ∙ ap Err e)))
     (handed_on c.from_residual-in_err-summary.result c.from_residual-in_err-summary.ensures.1 ∙ ap Err f.2)
 

@@ -5,6 +5,7 @@ use Rattle.diag_shelf.specs.World.{State}
 use Rattle.diag_shelf.specs.declared.shelf.ShelfFault.TheVariants.{Failed, NoMemory}
 use Rattle.diag_shelf.specs.Calls.{Told, Opens, OnlyReads}
 use Rattle.diag_shelf.proofs.Steps.{facts_same, facts_after_read, reads_more}
+use Rattle.result_file.specs.Refusal.{FileRefused}
 use Rattle.dia_check.specs.Accepted.{rest_of}
 use Rattle.dia_commands.specs.declared.ending.RunFault.{RunFault}
 use Rattle.dia_commands.specs.Ending.{read_fault}
@@ -67,7 +68,9 @@ returns-in-Err-Result-clause-err g c =
     let fault = c.in-Err-Result.fault in
     let call = rw c.in-Err-Result.field-0-is at c.in-Err-Result.ensures.call in
     over_refused (facts_after_read _ _ _ _ (facts_after_read _ _ _ _ (facts_same _) opened) call) (only_reads (state c.check.new.shelf) is c.in-Err-Result.ensures.others)
-    (λ told. (rest_of (state c.open_file.new.self).world, held is told, record { fault = fault; refused = c.in-Err-Result.ensures.refused fault (ap Err c.in-Err-Result.field-0-is) (is.tells ∙ told); console_is = refl }))
+    (λ told.
+    let text = c.in-Err-Result.ensures.refused fault (ap Err c.in-Err-Result.field-0-is) in
+    (rest_of (state c.open_file.new.self).world, held is told, record { fault = fault; refused = subst (λ (t : List ℕ). FileRefused c.args.circuit.now t fault) (sym (text.2 (is.tells ∙ told))) text.1; console_is = refl }))
     c.say_refusal.ensures
 
 pub returns-in-Err-Failed-clause-err : goal.returns-in-Err-Failed-clause-err

@@ -23,7 +23,7 @@ returns g c =
       file = saves.file;
       text = saves.text;
       ends = ends_after (λ told m t part. result_after c.args.bench.now c.args.text.now m t part) create (rw made at c.create_file.ensures.created) write (rw wrote at c.write_all.ensures.written) saves.ends;
-      made = λ z told. saves.made z (write.tells ∙ create.tells ∙ told);
+      made = saves.made;
     }
 
 pub returns-in_err-map_err-2 : goal.returns-in_err-map_err-2
