@@ -23,11 +23,7 @@ use net_model::{Design, Fault};
 use std::alloc::{AllocError, Global};
 
 /// Reads and judges the netlist, and prints the faults of its circuit.
-pub fn list_faults<S: Shelf>(
-    alloc: Global,
-    shelf: &mut S,
-    bench: &str,
-) -> Result<(), RunFault>
+pub fn list_faults<S: Shelf>(alloc: Global, shelf: &mut S, bench: &str) -> Result<(), RunFault>
     ensures { Ran (Some (list_faults bench.now)) result (S.state shelf.old) (S.state shelf.new) }
 {
     let design = read_design(alloc, shelf, bench)?;
@@ -35,11 +31,7 @@ pub fn list_faults<S: Shelf>(
 }
 
 // Prints the faults of a circuit.
-fn print_faults<S: Shelf>(
-    alloc: Global,
-    shelf: &mut S,
-    design: &Design,
-) -> Result<(), RunFault>
+fn print_faults<S: Shelf>(alloc: Global, shelf: &mut S, design: &Design) -> Result<(), RunFault>
     requires { length design.now.names ≡ line_count design.now.circuit }
     ensures { (bench : List ℕ) → RanOn (list_faults bench) (says (IsFaultsText design.now)) result (S.state shelf.old) (S.state shelf.new) }
 {

@@ -206,12 +206,12 @@ module _ (once : FilesAreJudgedOnce) where
       (λ Done Cut finished does also. absurd (not (finished o does)))
       (plan_of (Some request)) (once request) called called
 
-  kept_where : {asked : Option Request} {ending : Ending} {a b : State} → Ran asked ending a b → IsTrue a.tells → (ending ≡ done → ⊥) → HasEnded ending → ¬ IsBroken ending → KeepsFiles a.world b.world
-  kept_where {asked} {ending} {a} {b} r told not (by_files decided) whole =
+  kept_where : (asked : Option Request) {ending : Ending} {a b : State} → Ran asked ending a b → IsTrue a.tells → (ending ≡ done → ⊥) → HasEnded ending → ¬ IsBroken ending → KeepsFiles a.world b.world
+  kept_where asked {ending} {a} {b} r told not (by_files decided) whole =
       let d = r.done told decided in
       kept_by (unmade asked a.world.files d.0 d.1 (λ z. not (sym d.2 ∙ z))) d.3
-  kept_where {asked} {ending} {a} {b} r told not (by_read is) whole = (r.unread (inl is) told).kept
-  kept_where {asked} {ending} {a} {b} r told not (by_break broken) whole = absurd (whole broken)
+  kept_where asked {ending} {a} {b} r told not (by_read is) whole = (r.unread (inl is) told).kept
+  kept_where asked {ending} {a} {b} r told not (by_break broken) whole = absurd (whole broken)
 
   unbroken : {ending : Ending} → (ending ≡ not_understood) ⊎ (IsRefusal ending ⊎ (ending ≡ read_failed)) → IsBroken ending → ⊥
   unbroken {ending} (inl e) (inl is) = cc
@@ -221,8 +221,8 @@ module _ (once : FilesAreJudgedOnce) where
   unbroken {ending} (inr (inr e)) (inl is) = cc
   unbroken {ending} (inr (inr e)) (inr is) = cc
 
-  pub keeps_unless_done : {asked : Option Request} {ending : Ending} {a b : State} → Ran asked ending a b → IsTrue a.tells → KeepsUnlessDone ending a.world b.world
-  keeps_unless_done {asked} {ending} {a} {b} r told refusal = kept_where r told (unfinished refusal) (ended ending) (unbroken refusal)
+  pub keeps_unless_done : (asked : Option Request) {ending : Ending} {a b : State} → Ran asked ending a b → IsTrue a.tells → KeepsUnlessDone ending a.world b.world
+  keeps_unless_done asked {ending} {a} {b} r told refusal = kept_where asked r told (unfinished refusal) (ended ending) (unbroken refusal)
 
   -- ---- the files that are read decide
 

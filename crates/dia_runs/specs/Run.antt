@@ -22,7 +22,6 @@ pub record IsRunOf (asked : Option Request) (ending : Ending) (old new : State) 
   pub made : Told old new (GeneratesResult asked ending)
   -- `check` accepts no file of which this is false, and none that isn't valid; the console gained the file's counts.
   pub checked : Told old new (ChecksResult asked ending)
-
   -- ---- what the other commands leave where they are done
 
   -- `synth` leaves the netlist of its number, and a result of its circuit as that of `gen`.
@@ -37,7 +36,6 @@ pub record IsRunOf (asked : Option Request) (ending : Ending) (old new : State) 
   pub faults : Told old new (PrintsFaults asked ending)
   -- `sim` prints what the circuit answers to each vector of the list.
   pub simulated : Told old new (PrintsSimulation asked ending)
-
   -- ---- the ending, and its causes
 
   -- It is one of those that these words can have.
@@ -50,7 +48,6 @@ pub record IsRunOf (asked : Option Request) (ending : Ending) (old new : State) 
   pub causes : HasCauses ending old new
   -- No count falls, and what the shelf tells and whether it is sure stay.
   pub stays : Stays old new
-
   -- ---- what is done to a shelf that tells
 
   -- Unless something failed, the words and files called for all that was done.
@@ -63,7 +60,6 @@ pub record IsRunOf (asked : Option Request) (ending : Ending) (old new : State) 
   pub others : Told old new (OnlyOutputs (outputs_of asked))
   -- No file is created or changed by words that aren't understood, a refusal or a failed read.
   pub kept : Told old new (KeepsUnlessDone ending)
-
   -- ---- refusals, and their absence
 
   -- A refusal comes exactly for a file that is refused, with its text on the console.
@@ -72,7 +68,6 @@ pub record IsRunOf (asked : Option Request) (ending : Ending) (old new : State) 
   pub refused : Told old new (KeepsRefused asked)
   -- Where each file that is read is accepted and no count rose, the work is done or memory was wanting.
   pub complete : IsComplete asked ending old new
-
   -- ---- a sure shelf
 
   -- One that holds what is read has no fault.

@@ -28,8 +28,7 @@ use synth_netlist::no_number_is_refused;
 /// Does what the words ask for, and answers the status of how that ended: `status_of` has the number of each ending.
 pub fn run<S: Shelf>(alloc: Global, words: &[String], shelf: &mut S) -> u8
     // All of this run: first what `gen` and `check` leave, then the other commands, the ending and its causes, refusals.
-    ensures run {
-        let request = request_of (map string_bytes words.now) in
+    ensures run { let request = request_of (map string_bytes words.now) in
         (ending : Ending) × (result ≡ status_of ending) × IsRunOf request ending (S.state shelf.old) (S.state shelf.new) }
 
     // The status tells the ending.
@@ -80,11 +79,7 @@ fn dispatch<S: Shelf>(alloc: Global, words: &[String], shelf: &mut S) -> Result<
 }
 
 // Calls the command of a request.
-fn carry_out<S: Shelf>(
-    alloc: Global,
-    request: Request<'_>,
-    shelf: &mut S,
-) -> Result<(), RunFault>
+fn carry_out<S: Shelf>(alloc: Global, request: Request<'_>, shelf: &mut S) -> Result<(), RunFault>
     requires { HasLimits request }
     ensures { Ran (Some (asked request.entry)) result (S.state shelf.old) (S.state shelf.new) }
 {
