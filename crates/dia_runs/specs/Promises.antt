@@ -4,6 +4,9 @@ use Rattle.std.specs.FinMap.{get}
 use Rattle.diag_shelf.specs.World.{Files, World, State}
 use Rattle.diag_shelf.specs.Calls.{Rose}
 use Rattle.net_model.specs.declared.circuit.Design.{Design}
+use Rattle.bench_reader.specs.Netlist.{Netlist}
+use Rattle.bench_reader.specs.Spelled.{IsAsWritten}
+use Rattle.scan_cut.specs.Cut.{cut_design}
 use Rattle.result_file.specs.declared.record.Budgets.{Budgets}
 use Rattle.result_file.specs.declared.record.Summary.{Summary}
 use Rattle.result_file.specs.Summary.{summary_of}
@@ -14,7 +17,7 @@ use Rattle.request_words.specs.Request.{Text, Request, gen, check, list_faults, 
 use Rattle.dia_commands.specs.declared.ending.FileKind.{FileKind}
 use Rattle.dia_commands.specs.Ending.{Ending, done, refused, not_understood, read_failed, no_memory, IsRefusal, IsDecided}
 use Rattle.dia_commands.specs.Outputs.{synth_budgets}
-use Rattle.synth_netlist.specs.Synth.{synth_text}
+use Rattle.synth_netlist.specs.Synth.{synth_statements, synth_text}
 use Rattle.dia_commands.specs.Texts.{summary_text, valid_text}
 use Rattle.dia_commands.specs.Netlists.{IsDesign, IsRefused}
 use Rattle.dia_commands.specs.Faults.{IsFaultsText}
@@ -95,6 +98,16 @@ pub record HasFaults (bench : Text) (old new : World) : Type 0 where
 -- A run of `faults` whose work is done prints them.
 abbrev pub PrintsFaults : Option Request → Ending → World → World → Type 0
 PrintsFaults request ending old new = (bench : Text) → request ≡ Some (list_faults bench) → ending ≡ done → HasFaults bench old new
+
+-- The netlist of a number is accepted as a design: the cut of what its text reads as, which has the statements of the number.
+pub record IsAcceptedNumber (n : ℕ) : Type 0 where
+  pub netlist : Netlist
+  pub written : IsAsWritten (synth_statements n) netlist
+  pub design : IsDesign (synth_text n) (cut_design netlist)
+
+-- That of each number is.
+abbrev pub EachNumberIsAccepted : Type 0
+EachNumberIsAccepted = (n : ℕ) → n ≤ 2000 → IsAcceptedNumber n
 
 -- The netlist of a number is never refused.
 abbrev pub NoNumberIsRefused : Type 0

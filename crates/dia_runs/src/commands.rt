@@ -6,7 +6,7 @@ ghost use Rattle.request_words.specs.Request.{request_of};
 ghost use Rattle.dia_commands.specs.Ending.{Ending, OneEndingEach, status_of};
 ghost use Rattle.dia_commands.specs.Ran.{Ran};
 ghost use Rattle.dia_runs.specs.DictionaryRuns.{DiagnosesAlike};
-ghost use Rattle.dia_runs.specs.Promises.{NoNumberIsRefused, FilesAreJudgedOnce};
+ghost use Rattle.dia_runs.specs.Promises.{EachNumberIsAccepted, NoNumberIsRefused, FilesAreJudgedOnce};
 ghost use Rattle.dia_runs.specs.Run.{IsRunOf};
 
 use bench_reader::{never_accepted_and_refused, one_netlist};
@@ -23,7 +23,7 @@ use pair_sets::{covering_is_equal, full_tree_is_covered, leaves_are_closed};
 use request_words::{Request, WordsFault, read_words};
 use result_file::{file_is_refused_once, valid_is_true};
 use std::alloc::Global;
-use synth_netlist::no_number_is_refused;
+use synth_netlist::{each_number_is_accepted, no_number_is_refused};
 
 /// Does what the words ask for, and answers the status of how that ended: `status_of` has the number of each ending.
 pub fn run<S: Shelf>(alloc: Global, words: &[String], shelf: &mut S) -> u8
@@ -34,8 +34,11 @@ pub fn run<S: Shelf>(alloc: Global, words: &[String], shelf: &mut S) -> u8
     // The status tells the ending.
     ensures one_each { OneEndingEach }
 
-    // Whatever is asked, no file that is read is both refused and accepted, and no number's netlist is refused.
+    // Whatever is asked, no file that is read is both refused and accepted.
     ensures once { FilesAreJudgedOnce }
+
+    // The netlist of each number is accepted as a design of the number's statements, and so never refused.
+    ensures accepted { EachNumberIsAccepted }
     ensures numbers { NoNumberIsRefused }
 
     // A dictionary and its version 2 are diagnosed alike.
@@ -48,6 +51,7 @@ pub fn run<S: Shelf>(alloc: Global, words: &[String], shelf: &mut S) -> u8
     valid_is_true();
     dictionary_is_read_once();
     files_are_judged_once();
+    each_number_is_accepted();
     no_number_is_refused();
     one_ending_each();
     status_of(dispatch(alloc, words, shelf))

@@ -7,5 +7,6 @@ mod outcome;
 mod pieces;
 mod reading;
 mod refused;
+mod tables;
 mod texts;
 mod valid;

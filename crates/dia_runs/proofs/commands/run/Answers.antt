@@ -1,3 +1,4 @@
+use Rattle.std.proofs.Common.{refl}
 use Rattle.dia_runs.proofs.Judged.{EvidenceLaws}
 use Rattle.dia_commands.proofs.NetlistLemmas.{never_with_text}
 use Rattle.dia_runs.proofs.RunLemmas.{run_of}
@@ -8,6 +9,11 @@ pub returns-clause-run : goal.returns-clause-run
 returns-clause-run g c =
     let laws : EvidenceLaws = record { roots = c.same_root_equal.ensures; covering = c.covering_is_equal.ensures; leaves = c.leaves_are_closed.ensures; bounded = c.full_tree_is_covered.ensures } in
     (c.dispatch.result, c.status_of.ensures, run_of laws c.valid_is_true.ensures.records c.files_are_judged_once.ensures _ c.dispatch.ensures)
+
+pub returns-clause-accepted : goal.returns-clause-accepted
+returns-clause-accepted g c = λ n small.
+    let is = c.each_number_is_accepted.ensures n small in
+    record { netlist = is.netlist; written = is.written; design = record { netlist = is.netlist; accepted = is.accepted; cut = refl; circuit = is.circuit } }
 
 pub returns-clause-numbers : goal.returns-clause-numbers
 returns-clause-numbers g c = λ n console small refused. never_with_text (c.no_number_is_refused.ensures n small) refused
