@@ -25,7 +25,7 @@ use Rattle.dia_commands.specs.Dictionaries.{IsDictionaryFile, IsRefusedDictionar
 use Rattle.dia_commands.specs.Logs.{IsLogFor, IsRefusedLog, IsListFor, IsRefusedList}
 use Rattle.dia_commands.specs.Plans.{with_netlist, with_result, with_dictionary, with_log, with_vectors}
 use Rattle.dia_commands.specs.Ran.{IsAmong, IsBroken, Ends, Follows}
-use Rattle.dia_commands.specs.Steps.{HasOnlyRead, HasRead, CouldNotRead, by_failure, by_memory, WasAccepted, IsOver, by_refusal, by_reading}
+use Rattle.dia_commands.specs.Steps.{HasOnlyRead, HasReadBytes, CouldNotRead, by_failure, by_memory, WasAccepted, IsOver, by_refusal, by_reading}
 use Rattle.dia_commands.proofs.HandedOn.{handed_on}
 use Rattle.dia_commands.proofs.Runs.{MayBreak, cut_among, ran, ends_moved, leaves_moved, stays_same, stays_then, stays_facts, stays_read}
 
@@ -192,11 +192,11 @@ module _ {name : Text} {kind : FileKind} {Refused : Text → Text → Type 0} {a
   over_refused {console} {why} {c} facts only held ends = by_refusal console held (ends_moved facts only ends)
 
 -- what was read is accepted
-pub was_accepted : {X : Type 0} {name bytes : Text} {limit : ℕ} {Accepted : Text → X → Type 0} {x : X} {a b : State} → HasRead name limit bytes a b → ((all : Text) → bytes ≡ read_of limit all → Accepted all x) → WasAccepted name Accepted x a b
+pub was_accepted : {X : Type 0} {name bytes : Text} {limit : ℕ} {Accepted : Text → X → Type 0} {x : X} {a b : State} → HasReadBytes name limit bytes a b → ((all : Text) → bytes ≡ read_of limit all → Accepted all x) → WasAccepted name Accepted x a b
 was_accepted {X} {name} {bytes} {limit} {Accepted} {x} {a} {b} read accepted = record { facts = read.facts; only = read.only; held = λ told. let r = read.held told in (r.0, r.1, accepted r.0 r.2) }
 
 -- or refused
-pub read_refused : {name bytes console : Text} {limit : ℕ} {kind : FileKind} {Refused : Text → Text → Type 0} {why : RunFault} {a b c : State} → HasRead name limit bytes a b → ((all : Text) → bytes ≡ read_of limit all → Refused all console)
+pub read_refused : {name bytes console : Text} {limit : ℕ} {kind : FileKind} {Refused : Text → Text → Type 0} {why : RunFault} {a b c : State} → HasReadBytes name limit bytes a b → ((all : Text) → bytes ≡ read_of limit all → Refused all console)
     → Ends (said (refused kind) console) (IsPartOf (said (refused kind) console)) (Err why) b c → IsOver name kind Refused why a c
 read_refused {name} {bytes} {console} {limit} {kind} {Refused} {why} {a} {b} {c} read wrong ends = over_refused read.facts read.only (λ told. let r = read.held told in (r.0, r.1, wrong r.0 r.2)) ends
 

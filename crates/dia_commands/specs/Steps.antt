@@ -27,7 +27,7 @@ pub record HasOnlyRead (old new : State) : Type 0 where
   pub only : Told old new OnlyReads
 
 -- The file of this name was read up to a limit: these are its bytes, or where it has more one beyond the limit.
-pub record HasRead (name : Text) (limit : ℕ) (bytes : Text) (old new : State) : Type 0 where
+pub record HasReadBytes (name : Text) (limit : ℕ) (bytes : Text) (old new : State) : Type 0 where
   pub facts : SameFacts old new
   pub only : Told old new OnlyReads
   pub held : IsTrue old.tells → (all : Text) × (get old.world.files name ≡ Some all) × (bytes ≡ read_of limit all)

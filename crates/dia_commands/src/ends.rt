@@ -4,7 +4,7 @@ ghost use Rattle.std.specs.Prelude.{◌≡◌, ◌≤◌, ◌+◌, ℕ, List, []
 ghost use Rattle.dia_commands.specs.Ending.{done, IsDecided, read_fault, write_fault};
 ghost use Rattle.dia_commands.specs.Outcome.{said, saved, IsPartOf};
 ghost use Rattle.dia_commands.specs.Ran.{Ends};
-ghost use Rattle.dia_commands.specs.Steps.{HasRead, CouldNotRead};
+ghost use Rattle.dia_commands.specs.Steps.{HasReadBytes, CouldNotRead};
 
 use crate::ending::RunFault;
 use diag_shelf::{Shelf, ShelfFault, print_all, read_all, write_all};
@@ -37,7 +37,7 @@ pub(crate) fn read_file<S: Shelf>(
     name: &str,
     limit: u64,
 ) -> Result<Vec<u8>, RunFault>
-    ensures ok { IfOk result (λ bytes. HasRead name.now limit bytes.items (S.state shelf.old) (S.state shelf.new)) }
+    ensures ok { IfOk result (λ bytes. HasReadBytes name.now limit bytes.items (S.state shelf.old) (S.state shelf.new)) }
     ensures bound { IfOk result (λ bytes. length bytes.items ≤ limit + 1) }
     ensures err { IfErr result (λ why. CouldNotRead name.now why (S.state shelf.old) (S.state shelf.new)) }
 {
