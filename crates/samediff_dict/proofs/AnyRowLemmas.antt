@@ -20,7 +20,7 @@ use Rattle.samediff_dict.specs.Numbered.{class_answers}
 use Rattle.samediff_dict.specs.Laws.{NoRowIsBetter}
 use Rattle.samediff_dict.proofs.PairLemmas.{pairs-le}
 use Rattle.samediff_dict.proofs.ImproveLemmas.{pairs_apart_are, none_left}
-use Rattle.samediff_dict.proofs.DistinctLemmas.{in_distinct}
+use Rattle.answer_numbers.proofs.DistinctLemmas.{in_distinct}
 use Rattle.samediff_dict.specs.Numbered.{answers_base, AlikeFrom}
 use Rattle.samediff_dict.proofs.ToldLemmas.{same_entries}
 

@@ -10,9 +10,11 @@ use Rattle.table_dicts.specs.AnswerTable.{answer_in}
 use Rattle.table_dicts.specs.Grouped.{AreGroupsOf, AreDifferent}
 use Rattle.table_dicts.proofs.EntryLemmas.{same_bits-Decides}
 use Rattle.samediff_dict.specs.declared.numbering.Candidates.{Candidates}
-use Rattle.samediff_dict.specs.Chosen.{candidates, distinct_answers}
+use Rattle.answer_numbers.specs.Distinct.{distinct_answers}
+use Rattle.samediff_dict.specs.Chosen.{candidates}
 use Rattle.samediff_dict.specs.Numbered.{class_answers, AreNumbersOf, AreCandidates, AreChosen, answers_base, baselines_at}
-use Rattle.samediff_dict.proofs.DistinctLemmas.{entries_distinct, group_below, from_distinct, distinct-few}
+use Rattle.answer_numbers.proofs.DistinctLemmas.{from_distinct, distinct-few}
+use Rattle.samediff_dict.proofs.DistinctLemmas.{entries_distinct, group_below}
 
 -- no candidates
 abbrev pub none : Candidates

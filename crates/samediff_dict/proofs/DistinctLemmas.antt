@@ -1,84 +1,11 @@
 -- The rows of groups are the distinct answers, in order of their first places.
-use Rattle.std.proofs.Common.{◌≡◌, ◌∙◌, ℕ, zero, suc, ◌+◌, ◌<◌, ◌≤◌, Bool, true, false, not, cond, ◌||◌, List, [], ◌∷◌, ◌++◌, length, get_or, take, refl, sym, ap, subst, arith, inl, inr, filter, Contains}
-use Rattle.std.specs.List.{list_any}
-use Rattle.std.proofs.lemmas.Bool.{cases_Bool, cases_lt, false_from_ne_true}
-use Rattle.std.proofs.lemmas.List.{take_more, take_all, length_push, length-take-le, get_or_append_left, get_or_push, get_or-take, get_or_default, append-nil, ext_get_or}
-use Rattle.std.proofs.lemmas.List.Elements.{filter-append, Contains-get_or}
-use Rattle.std.proofs.lemmas.List.Sums.{length-filter, count_by-le-length}
-use Rattle.net_model.specs.ClassTable.{same_bits}
-use Rattle.net_model.proofs.Elements.{none_in, true_false, first_or_later, any_from, passing, Contains-filter, Contains-from_filter}
-use Rattle.net_model.proofs.Copies.{later}
+use Rattle.std.proofs.Common.{◌≡◌, ◌∙◌, ℕ, zero, suc, ◌+◌, ◌<◌, ◌≤◌, Bool, true, false, cond, List, [], ◌∷◌, ◌++◌, length, get_or, take, refl, sym, ap, subst, arith, inl, inr, Contains}
+use Rattle.std.proofs.lemmas.Bool.{cases_lt, false_from_ne_true}
+use Rattle.std.proofs.lemmas.List.{take_more, take_all, length_push, length-take-le, get_or_append_left, get_or_push, get_or-take, get_or_default, ext_get_or}
+use Rattle.std.proofs.lemmas.List.Elements.{Contains-get_or}
 use Rattle.table_dicts.specs.Grouped.{AreGroupsOf, IsLeastUnused}
-use Rattle.table_dicts.proofs.EntryLemmas.{same_bits-Decides}
-use Rattle.samediff_dict.specs.Chosen.{distinct_answers}
-
-abbrev differs_from : List Bool → List Bool → Bool
-differs_from answer other = not (same_bits answer other)
-
-same_itself : (x : List Bool) → same_bits x x ≡ true
-same_itself x = (same_bits-Decides x x).1 refl
-
--- ---- one answer more
-
--- whether an answer is among others
-abbrev is_among : List Bool → List (List Bool) → Bool
-is_among x xs = list_any (same_bits x) xs
-
-among_is : (x : List Bool) (xs : List (List Bool)) → is_among x xs ≡ true → Contains xs x
-among_is x xs e = let w = passing (same_bits x) xs e in subst (Contains xs) (sym ((same_bits-Decides x w.0).0 w.2)) w.1
-
-is_among_from : (x : List Bool) (xs : List (List Bool)) → Contains xs x → is_among x xs ≡ true
-is_among_from x xs h = any_from (same_bits x) xs x h (same_itself x)
-
-same_back : (x y : List Bool) → same_bits x y ≡ same_bits y x
-same_back x y = elim (cases_Bool (same_bits x y)) [
-  | inl so ↦ so ∙ sym ((same_bits-Decides y x).1 (sym ((same_bits-Decides x y).0 so)))
-  | inr not_so ↦ not_so ∙ sym (false_from_ne_true (same_bits y x) (λ so. true_false (same_bits x y) ((same_bits-Decides x y).1 (sym ((same_bits-Decides y x).0 so))) not_so))
-]
-
-last_one : (s b a : Bool) (x y : List Bool) (zs : List (List Bool)) → b ≡ s → a ≡ false → y ∷ (zs ++ cond (not b) (x ∷ []) []) ≡ cond (s || a) (y ∷ zs) (y ∷ zs ++ x ∷ [])
-last_one true b a x y zs same none = ap (λ c. y ∷ (zs ++ cond (not c) (x ∷ []) [])) same ∙ ap (λ ws. y ∷ ws) (append-nil zs)
-last_one false b a x y zs same none = ap (λ c. y ∷ (zs ++ cond (not c) (x ∷ []) [])) same ∙ sym (ap (λ c. cond c (y ∷ zs) (y ∷ zs ++ x ∷ [])) none)
-
-pub distinct_push : (xs : List (List Bool)) (x : List Bool) → distinct_answers (xs ++ x ∷ []) ≡ cond (is_among x xs) (distinct_answers xs) (distinct_answers xs ++ x ∷ [])
-distinct_push [] x = refl
-distinct_push (y ∷ ys) x =
-    let kept = filter (differs_from y) (distinct_answers ys) in
-    elim (cases_Bool (is_among x ys)) [
-      | inl so ↦
-          ap (λ zs. y ∷ filter (differs_from y) zs) (distinct_push ys x ∙ ap (λ b. cond b (distinct_answers ys) (distinct_answers ys ++ x ∷ [])) so)
-          ∙ sym (ap (λ b. cond b (y ∷ kept) (y ∷ kept ++ x ∷ [])) (is_among_from x (y ∷ ys) (later y ys x (among_is x ys so))))
-      | inr not_so ↦
-          ap (λ zs. y ∷ filter (differs_from y) zs) (distinct_push ys x ∙ ap (λ b. cond b (distinct_answers ys) (distinct_answers ys ++ x ∷ [])) not_so)
-          ∙ (ap (λ zs. y ∷ zs) (filter-append (differs_from y) (distinct_answers ys) (x ∷ []))
-          ∙ last_one (same_bits x y) (same_bits y x) (is_among x ys) x y kept (same_back y x) not_so)
-    ]
-
--- ---- the same answers
-
-pub in_distinct : (xs : List (List Bool)) (x : List Bool) → Contains xs x → Contains (distinct_answers xs) x
-in_distinct [] x h = absurd (none_in x h)
-in_distinct (y ∷ ys) x h = elim (cases_Bool (same_bits y x)) [
-  | inl so ↦ (0, omega arith, (same_bits-Decides y x).0 so)
-  | inr not_so ↦ elim (first_or_later y ys x h) [
-    | inl e ↦ absurd (true_false (same_bits y x) ((same_bits-Decides y x).1 e) not_so)
-    | inr more ↦ later y (filter (differs_from y) (distinct_answers ys)) x (Contains-filter (differs_from y) (distinct_answers ys) x (in_distinct ys x more) (ap not not_so))
-  ]
-]
-
-pub from_distinct : (xs : List (List Bool)) (x : List Bool) → Contains (distinct_answers xs) x → Contains xs x
-from_distinct [] x h = absurd (none_in x h)
-from_distinct (y ∷ ys) x h = elim (first_or_later y (filter (differs_from y) (distinct_answers ys)) x h) [
-  | inl e ↦ (0, omega arith, e)
-  | inr more ↦ later y ys x (from_distinct ys x (Contains-from_filter (differs_from y) (distinct_answers ys) x more).0)
-]
-
--- there are no more than answers
-pub distinct-few : (xs : List (List Bool)) → length (distinct_answers xs) ≤ length xs
-distinct-few [] = omega arith
-distinct-few (x ∷ xs) = omega (arith, distinct-few xs, length-filter (differs_from x) (distinct_answers xs), count_by-le-length (differs_from x) (distinct_answers xs))
-
--- ---- rows in groups
+use Rattle.answer_numbers.specs.Distinct.{distinct_answers}
+use Rattle.answer_numbers.proofs.DistinctLemmas.{is_among, is_among_from, among_is, distinct_push, from_distinct}
 
 module _ (rows : List (List Bool)) (groups : List ℕ) (entries : List (List Bool)) (are : AreGroupsOf rows groups entries) where
   abbrev row : ℕ → List Bool

@@ -6,7 +6,8 @@ use Rattle.table_dicts.specs.AnswerTable.{Answers, answer_in, answer_to}
 use Rattle.net_model.specs.Rows.{row_at}
 use Rattle.table_dicts.specs.Grouped.{AreDifferent}
 use Rattle.samediff_dict.specs.declared.numbering.Candidates.{Candidates}
-use Rattle.samediff_dict.specs.Chosen.{candidates, distinct_answers}
+use Rattle.answer_numbers.specs.Distinct.{distinct_answers}
+use Rattle.samediff_dict.specs.Chosen.{candidates}
 
 -- Members of one class have the same answers.
 pub record AnswerAlike (t : ClassTable) (table : Answers) : Type 0 where

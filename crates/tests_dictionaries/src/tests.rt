@@ -4,6 +4,7 @@ mod agreeing;
 mod chosen;
 mod circuits;
 mod made;
+mod numbered;
 mod rows;
 mod spelled;
 mod tables;

@@ -1,0 +1,14 @@
+pub mod DistinctLemmas
+pub mod DescentLemmas
+pub mod WayLemmas
+pub mod ChildLemmas
+pub mod RootLemmas
+pub mod ItemLemmas
+pub mod AddLemmas
+pub mod GrownLemmas
+pub mod ListedLemmas
+pub mod FreeLemmas
+pub mod NumberedLemmas
+pub mod CompareLemmas
+pub mod OwnLemmas
+pub mod FieldLemmas

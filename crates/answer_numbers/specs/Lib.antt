@@ -1,0 +1,9 @@
+pub mod Distinct
+pub mod AnswerNumbers
+pub mod Descents
+pub mod Differences
+pub mod Trees
+pub mod Growing
+pub mod NodeNumbers
+pub mod Compared
+pub mod AnswerNumbersFields

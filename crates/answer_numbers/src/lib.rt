@@ -1,0 +1,10 @@
+//! Exact numbers of what fault numbers answer to the vectors of a block.
+#![tactic(auto)]
+
+mod differences;
+mod growing;
+mod node_numbers;
+mod numbers;
+mod trees;
+
+pub use numbers::AnswerNumbers;
