@@ -18,7 +18,7 @@ use Rattle.answer_numbers.specs.declared.numbers.Numbered.{Numbered}
 use Rattle.answer_numbers.specs.declared.trees.LaneTrees.{LaneTrees}
 use Rattle.answer_numbers.specs.Distinct.{distinct_answers}
 use Rattle.answer_numbers.specs.AnswerNumbers.{lead_fault, AreLeadAnswers}
-use Rattle.answer_numbers.specs.Compared.{AreCompared, AreDiffering, AreNumbersOf, HasOwnWay}
+use Rattle.answer_numbers.specs.Compared.{AreCompared, AreDiffering, AreLeadNumbers, HasOwnWay}
 use Rattle.answer_numbers.specs.Differences.{differs_at}
 use Rattle.answer_numbers.specs.Growing.{AreWholeTrees, passing_below}
 use Rattle.answer_numbers.specs.NodeNumbers.{stand_of, IsPlaceOf, HaveOwnLanes, AreToldBy, ArePlacesOf, AreNumberedTo}
@@ -130,7 +130,7 @@ module _ (c : Circuit) (is : IsCircuit c) (leads : List ℕ) (vectors : List (Li
 -- the numbers of what the leads answer
 module _ (c : Circuit) (is : IsCircuit c) (leads : List ℕ) (vectors : List (List Bool)) (compared : Compared) (are : AreCompared c leads vectors (length leads) compared) (made : Numbered)
     (whole : AreWholeTrees compared.lists made.trees.lanes (length leads) (length c.positions) made.trees) (lanes : made.trees.lanes ≡ length vectors) (numbered : AreNumberedTo made.trees (λ l. length leads) made.numbers) where
-  pub numbers_are : length vectors ≤ LANES → made.differing.items ≡ compared.differing.items → AreNumbersOf c leads vectors made
+  pub numbers_are : length vectors ≤ LANES → made.differing.items ≡ compared.differing.items → AreLeadNumbers c leads vectors made
   numbers_are few same = record {
     few = few;
     lanes = lanes;

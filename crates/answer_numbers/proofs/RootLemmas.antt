@@ -10,7 +10,7 @@ use Rattle.net_model.specs.Answer.{bit_at}
 use Rattle.net_model.proofs.Elements.{get_or-replicate_anywhere}
 use Rattle.answer_numbers.specs.declared.trees.Node.{Node}
 use Rattle.answer_numbers.specs.declared.trees.LaneTrees.{LaneTrees}
-use Rattle.answer_numbers.specs.Trees.{Way, no_node, node_at, way_of, IsForest, AreRoots, turned}
+use Rattle.answer_numbers.specs.Trees.{Way, no_node, node_at, way_of, IsForest, AreBareTrees, turned}
 use Rattle.answer_numbers.proofs.WayLemmas.{way-root, way-node}
 
 -- ---- a list, one time more
@@ -74,7 +74,7 @@ module _ (lanes places : ℕ) (few : lanes < 2 ^ 32) (t : LaneTrees) (lanes_are 
     low = λ n below. omega (arith, ap (λ (x : Node). x.turn) (node_is n));
   }
 
-  pub roots_are : AreRoots lanes places t
+  pub roots_are : AreBareTrees lanes places t
   roots_are = record {
     lanes_are = lanes_are;
     cells = count;

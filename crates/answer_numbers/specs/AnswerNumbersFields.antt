@@ -5,7 +5,7 @@ use Rattle.net_model.specs.Circuit.{IsCircuit}
 use Rattle.word_sim.specs.GoodSim.{vectors_of}
 use Rattle.answer_numbers.specs.declared.numbers.AnswerNumbers.TheInside.{Inside}
 use Rattle.answer_numbers.specs.AnswerNumbers.{AnswerNumbers, answer_numbers_with}
-use Rattle.answer_numbers.specs.Compared.{AreLeads, AreNumbersOf}
+use Rattle.answer_numbers.specs.Compared.{AreKnownLeads, AreLeadNumbers}
 
 -- the numbers are those of the block that was run last, where there are numbers
 abbrev pub answer_numbers_of : Inside → AnswerNumbers
@@ -13,7 +13,7 @@ answer_numbers_of a = answer_numbers_with a.good.circuit a.leads.now (option_and
 
 pub record AreAnswerNumbersFields (a : Inside) : Type 0 where
   pub circuit : IsCircuit a.good.circuit
-  pub leads : AreLeads a.good.circuit a.faults.now a.leads.now
+  pub leads : AreKnownLeads a.good.circuit a.faults.now a.leads.now
   pub sim : a.sim.circuit ≡ a.good.circuit
   pub ran : ForSome a.numbered (λ n. IsSome a.good.ran)
-  pub numbers : ForSome a.numbered (AreNumbersOf a.good.circuit a.leads.now (vectors_of a.good))
+  pub numbers : ForSome a.numbered (AreLeadNumbers a.good.circuit a.leads.now (vectors_of a.good))

@@ -15,7 +15,7 @@ use Rattle.answer_numbers.specs.NodeNumbers.{stand_of}
 use Rattle.answer_numbers.specs.Trees.{AreTrees, way_of}
 
 -- The list is that of the circuit's faults, and the leads are numbers of it, of which 32 bits number the places.
-pub record AreLeads (c : Circuit) (faults : List Fault) (leads : List ℕ) : Type 0 where
+pub record AreKnownLeads (c : Circuit) (faults : List Fault) (leads : List ℕ) : Type 0 where
   pub faults_are : faults ≡ faults_of c
   pub known : All (λ lead. lead < fault_count c) leads
   pub few : length leads < 2 ^ 32
@@ -46,7 +46,7 @@ pub record HasOwnWay (c : Circuit) (leads : List ℕ) (vectors : List (List Bool
   pub right : (position : ℕ) → position < length c.positions → DiffersAtPosition c leads (slice_index_or vectors lane []) place position (differs position)
 
 -- These are the numbers of what the leads answer to the vectors.
-pub record AreNumbersOf (c : Circuit) (leads : List ℕ) (vectors : List (List Bool)) (n : Numbered) : Type 0 where
+pub record AreLeadNumbers (c : Circuit) (leads : List ℕ) (vectors : List (List Bool)) (n : Numbered) : Type 0 where
   pub few : length vectors ≤ LANES
   pub lanes : n.trees.lanes ≡ length vectors
   pub cells : length n.trees.stands.items ≡ length leads * length vectors

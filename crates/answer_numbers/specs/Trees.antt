@@ -56,7 +56,7 @@ abbrev pub way_at : LaneTrees → ℕ → Way
 way_at t cell = way_of t.lanes t.nodes.items (slice_index t.stands.items cell)
 
 -- There are no nodes but the roots, and each cell of a lane stands at its root.
-pub record AreRoots (lanes places : ℕ) (t : LaneTrees) : Type 0 where
+pub record AreBareTrees (lanes places : ℕ) (t : LaneTrees) : Type 0 where
   pub lanes_are : t.lanes ≡ lanes
   pub cells : length t.stands.items ≡ places * lanes
   pub trees : AreTrees 0 t

@@ -9,7 +9,7 @@ ghost use Rattle.net_model.specs.Answer.{bit_at, IsAnswer};
 ghost use Rattle.word_sim.specs.declared.lanes.TheConstants.{LANES};
 ghost use Rattle.word_sim.specs.GoodSim.{GoodSim, vectors_of};
 ghost use Rattle.answer_numbers.specs.AnswerNumbers.{answer_numbers_with, numbered_vectors, vector_in, lead_fault, IsAnswerNumber, IsAnswerCount, IsLeadDifference};
-ghost use Rattle.answer_numbers.specs.Compared.{AreLeads, AreCompared, AreNumbersOf};
+ghost use Rattle.answer_numbers.specs.Compared.{AreKnownLeads, AreCompared, AreLeadNumbers};
 
 use crate::differences::PositionLists;
 use crate::node_numbers::NodeNumbers;
@@ -177,13 +177,13 @@ fn number_leads(
     lanes: u32,
 ) -> Result<Numbered, AllocError>
     requires circuit { IsCircuit good.now.circuit }
-    requires leads { AreLeads good.now.circuit faults.now leads.now }
+    requires leads { AreKnownLeads good.now.circuit faults.now leads.now }
     requires sim { sim.old.circuit ≡ good.now.circuit }
     requires ran { IsSome good.now.ran }
     requires lanes { lanes ≡ length (vectors_of good.now) }
     requires few { lanes ≤ LANES }
     ensures sim { sim.new.circuit ≡ sim.old.circuit }
-    ensures numbers { IfOk result (AreNumbersOf good.now.circuit leads.now (vectors_of good.now)) }
+    ensures numbers { IfOk result (AreLeadNumbers good.now.circuit leads.now (vectors_of good.now)) }
 {
     let compared = compare(alloc, good, sim, faults, leads)?;
     let trees = LaneTrees::grown(alloc, &compared.lists, lanes, leads.len())?;
@@ -203,7 +203,7 @@ fn compare(
     faults: &FaultList,
     leads: &[u32],
 ) -> Result<Compared, AllocError>
-    requires leads { AreLeads good.now.circuit faults.now leads.now }
+    requires leads { AreKnownLeads good.now.circuit faults.now leads.now }
     requires sim { sim.old.circuit ≡ good.now.circuit }
     requires ran { IsSome good.now.ran }
     requires few { length (vectors_of good.now) ≤ LANES }

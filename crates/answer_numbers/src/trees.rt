@@ -3,7 +3,7 @@
 ghost use Rattle.std.specs.Prelude.{◌≡◌, ℕ, ◌+◌, ◌*◌, ◌%◌, ◌<◌, ◌≤◌, ◌^◌, ◌==◌, length, slice_index, All, IfOk, OnOk};
 ghost use Rattle.word_sim.specs.declared.lanes.TheConstants.{LANES};
 ghost use Rattle.answer_numbers.specs.NodeNumbers.{stand_of};
-ghost use Rattle.answer_numbers.specs.Trees.{AreTrees, IsForest, HasChild, AreGrown, AreRoots, node_at, way_of, turned};
+ghost use Rattle.answer_numbers.specs.Trees.{AreTrees, IsForest, HasChild, AreGrown, AreBareTrees, node_at, way_of, turned};
 
 use crate::differences::numbers_below;
 use net_model::Bits;
@@ -34,7 +34,7 @@ impl LaneTrees {
     pub(crate) fn new(alloc: Global, lanes: u32, places: usize) -> Result<LaneTrees, AllocError>
         requires lanes { lanes ≤ LANES }
         requires places { places < 2 ^ 32 }
-        ensures { IfOk result (AreRoots lanes places) }
+        ensures { IfOk result (AreBareTrees lanes places) }
     {
         let root = Node {
             above: 0,

@@ -12,7 +12,7 @@ use Rattle.table_dicts.proofs.EntryLemmas.{same_bits-Decides}
 use Rattle.samediff_dict.specs.declared.numbering.Candidates.{Candidates}
 use Rattle.answer_numbers.specs.Distinct.{distinct_answers}
 use Rattle.samediff_dict.specs.Chosen.{candidates}
-use Rattle.samediff_dict.specs.Numbered.{class_answers, AreNumbersOf, AreCandidates, AreChosen, answers_base, baselines_at}
+use Rattle.samediff_dict.specs.Numbered.{class_answers, AreNumbersOf, AreCandidates, AreChosen, baselines_at}
 use Rattle.answer_numbers.proofs.DistinctLemmas.{from_distinct, distinct-few}
 use Rattle.samediff_dict.proofs.DistinctLemmas.{entries_distinct, group_below}
 
@@ -134,12 +134,6 @@ module _ (t : ClassTable) (rows : List (List (List Bool))) where
         | inr ne ↦
             ap (candidate k) (get_or-set_other chosen pattern k answer 0 ne) ∙ (sym (base_at chosen k inside) ∙ sym (get_or-set_other bs pattern k (candidate pattern answer) [] ne))
       ])
-
-  -- a replaced baseline leaves the others
-  pub base_kept : (chosen : List ℕ) (pattern answer q class : ℕ) → q < length chosen → (q ≡ pattern → ⊥) → answers_base t rows (baselines_at t rows (set chosen pattern answer)) q class ≡ answers_base t rows (baselines_at t rows chosen) q class
-  base_kept chosen pattern answer q class h ne =
-      ap (same_bits (answer_in (get_or rows q []) (representative t class)))
-      (base_at (set chosen pattern answer) q (omega (arith, h, length-set chosen pattern answer)) ∙ (ap (candidate q) (get_or-set_other chosen pattern q answer 0 ne) ∙ sym (base_at chosen q h)))
 
   pub chosen_push : (chosen : List ℕ) (answer : ℕ) → AreChosen t rows chosen → answer < length (candidates t (get_or rows (length chosen) [])) → AreChosen t rows (chosen ++ answer ∷ [])
   chosen_push chosen answer are is k h = elim (cases_lt k (length chosen)) [

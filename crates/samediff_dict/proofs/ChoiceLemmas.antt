@@ -17,7 +17,7 @@ use Rattle.samediff_dict.specs.Numbered.{AreCandidates, AreChosen, HasBaselines,
 use Rattle.samediff_dict.proofs.CandidateLemmas.{code_is, candidate, length-baselines, base_at, chosen_push, chosen_set}
 use Rattle.samediff_dict.proofs.ImproveLemmas.{improves, score-few, improved_enough}
 use Rattle.samediff_dict.proofs.GreedyLemmas.{greedy_more}
-use Rattle.samediff_dict.proofs.StepLemmas.{partition_where, cut_is, alike_none, alike_where, from_last, with_last, from_first, with_first}
+use Rattle.samediff_dict.proofs.StepLemmas.{partition_where, cut_is, alike_none, alike_where, from_last, with_last}
 
 -- number 0 is the lowest number of its class
 pub first_leads : (t : ClassTable) → IsWhole t → representative t (class_at t 0) ≡ 0
@@ -73,15 +73,6 @@ module _ (t : ClassTable) (rows : List (List (List Bool))) where
       let bs = baselines_at t rows chosen in
       cut_is c.numbers (AlikeFrom t rows bs 0 pattern) (AlikeFrom t rows bs 0 (pattern + 1)) (get_or chosen pattern 0) (answers_base t rows bs pattern) before is e
       (base_is chosen pattern c h are_chosen are) (from_last t rows bs pattern) (with_last t rows bs pattern)
-
-  -- the pattern before
-  pub cut_first : (chosen : List ℕ) (pattern : ℕ) (c : Candidates) (p cut : Partition) (m : ℕ) → pattern < length chosen → AreChosen t rows chosen → AreCandidates t (get_or rows pattern []) c
-      → IsPartition (class_count t) (AlikeFrom t rows (baselines_at t rows chosen) (pattern + 1) (length chosen)) p → IsPartition m (TogetherAt p c.numbers (get_or chosen pattern 0)) cut → m ≡ class_count t
-      → IsPartition (class_count t) (AlikeFrom t rows (baselines_at t rows chosen) pattern (length chosen)) cut
-  cut_first chosen pattern c p cut m h are_chosen are before is e =
-      let bs = baselines_at t rows chosen in
-      cut_is c.numbers (AlikeFrom t rows bs (pattern + 1) (length chosen)) (AlikeFrom t rows bs pattern (length chosen)) (get_or chosen pattern 0) (answers_base t rows bs pattern) before is e
-      (base_is chosen pattern c h are_chosen are) (λ low high a. from_first t rows bs pattern (length chosen) low high h a) (with_first t rows bs pattern (length chosen))
 
   -- a baseline more leaves the earlier ones
   base_was : (chosen : List ℕ) (answer q : ℕ) → q < length chosen → get_or (baselines_at t rows (chosen ++ answer ∷ [])) q [] ≡ get_or (baselines_at t rows chosen) q []

@@ -1,24 +1,20 @@
--- Partitions of some of the classes of another: after a cut, and by two partitions.
-use Rattle.std.proofs.Common.{◌≡◌, ◌≢◌, ◌∙◌, ℕ, ◌+◌, ◌<◌, Bool, true, not, eqb, ◌&&◌, List, Option, length, get_or, replicate, refl, sym, ap, subst, arith, ◌*◌}
+-- Partitions of some of the classes of another, as after a cut.
+use Rattle.std.proofs.Common.{◌≡◌, ◌≢◌, ◌∙◌, ℕ, ◌+◌, ◌<◌, Bool, true, not, eqb, List, length, get_or, replicate, refl, sym, ap, subst, arith, ◌*◌}
 use Rattle.std.specs.Prelude.{AllPairs, Contains, filter}
-use Rattle.std.specs.Bool.{beq}
 use Rattle.std.specs.List.{range_with_len}
-use Rattle.std.proofs.Math.Bool.{and_comm}
-use Rattle.std.proofs.lemmas.Bool.{eqb-true, eq-eqb, and_parts, and_from}
 use Rattle.std.proofs.lemmas.List.{get_or_default, get_or-replicate, length-replicate}
 use Rattle.std.proofs.lemmas.List.FromFn.{get_or-range_with_len, length-range_with_len}
-use Rattle.std.specs.Cmp.Derive.{one_truth}
 use Rattle.class_refine.proofs.Ranges.{range_ascends}
 use Rattle.samediff_dict.specs.declared.partition.Partition.{Partition}
-use Rattle.samediff_dict.specs.PlaceGroups.{AreBelow, AreGroups, InBoth, InBothAt, in_one, is_shared, gain_at, pairs_where, tells_apart, IsFoundAbove}
-use Rattle.samediff_dict.specs.Partition.{group_in, are_together, together_in_both, TogetherAt, TogetherInBoth, AreMatched, IsListed, IsPartition, pairs_between}
-use Rattle.samediff_dict.proofs.PairLemmas.{pairs_to, pairs_are, pairs_same}
+use Rattle.samediff_dict.specs.PlaceGroups.{AreBelow, AreGroups, InBothAt, in_one, is_shared, pairs_where}
+use Rattle.samediff_dict.specs.Partition.{group_in, are_together, TogetherAt, IsListed, IsPartition, pairs_between}
+use Rattle.samediff_dict.proofs.PairLemmas.{pairs_to, pairs_are}
 use Rattle.samediff_dict.proofs.TallyLemmas.{pairs_all}
 use Rattle.samediff_dict.proofs.SharingLemmas.{filter_ascends, filter_below, filter-contains, shared_with}
 use Rattle.samediff_dict.proofs.ListedLemmas.{group_at, placed, partition_by, together_placed}
 
 -- a number of a list at a place that is read with 0
-at_place : (xs : List ℕ) (x : ℕ) → Contains xs x → (k : ℕ) × (k < length xs) × (get_or xs k 0 ≡ x)
+pub at_place : (xs : List ℕ) (x : ℕ) → Contains xs x → (k : ℕ) × (k < length xs) × (get_or xs k 0 ≡ x)
 at_place xs x (k, h, e) = (k, h, get_or_default xs k 0 x h ∙ e)
 
 -- The listed classes are those at some places of another partition's list, each with a group below the count.
@@ -146,93 +142,3 @@ module _ (numbers : List ℕ) (number : ℕ) {p : Partition} (listed : IsListed 
           ap (group_in p) (classes_are i li) ∙ (group_at listed a ha ∙ (both.0 ∙ (sym (group_at listed b hb) ∙ sym (ap (group_in p) (classes_are j lj))))),
           sym (its_own a (get_or r.classes.items i 0) ha (sym (classes_are i li))) ∙ (both.1 ∙ its_own b (get_or r.classes.items j 0) hb (sym (classes_are j lj))),
         ))
-
--- ---- by two partitions
-
-module _ {n : ℕ} {p q : Partition} (listed : IsListed n p) (other_listed : IsListed n q) (here there : List ℕ) (are : AreMatched p.classes.items q.classes.items (length p.classes.items) here there)
-    (ours theirs : List ℕ) (ours_are : (k : ℕ) → k < length here → get_or ours k 0 ≡ get_or p.groups.group_of.items (get_or here k 0) 0) (theirs_long : length theirs ≡ length here)
-    (theirs_are : (k : ℕ) → k < length here → get_or theirs k 0 ≡ get_or q.groups.group_of.items (get_or there k 0) 0) where
-  our_group : (k : ℕ) → k < length here → get_or ours k 0 ≡ group_in p (get_or p.classes.items (get_or here k 0) 0)
-  our_group k h = ours_are k h ∙ sym (group_at listed (get_or here k 0) (are.within k h))
-
-  their_group : (k : ℕ) → k < length here → get_or theirs k 0 ≡ group_in q (get_or p.classes.items (get_or here k 0) 0)
-  their_group k h =
-      let hk : get_or there k 0 < length q.classes.items = are.there_within k (omega (arith, h, are.one_each)) in
-      theirs_are k h ∙ (sym (group_at other_listed (get_or there k 0) hk) ∙ sym (ap (group_in q) (are.equal k h)))
-
-  module _ {r : Partition} (both : AreGroups (length theirs) (InBoth ours theirs) r.groups.group_of.items r.groups.count) (long : length r.classes.items ≡ length here)
-      (classes_are : (k : ℕ) → k < length here → get_or r.classes.items k 0 ≡ get_or p.classes.items (get_or here k 0) 0) where
-    met : ArePicked p r here
-    met = record {
-      ascending = are.ascending;
-      within = are.within;
-      long = long;
-      groups_long = both.one_each ∙ theirs_long;
-      classes_are = classes_are;
-      groups_within = both.within;
-    }
-
-    pub met_partition : IsPartition n (TogetherInBoth p q) r
-    met_partition = partition_by (picked_listed listed met) (TogetherInBoth p q) (λ class. (refl, refl))
-        (λ low high hl hh ne so.
-        let at = placed listed low high ne so.0 in
-        let also = placed other_listed low high ne so.1 in
-        let found : (i j class : ℕ) → i < length p.classes.items → j < length q.classes.items → get_or p.classes.items i 0 ≡ class → get_or q.classes.items j 0 ≡ class → (k : ℕ) × (k < length here) × (get_or r.classes.items k 0 ≡ class) =
-        λ i j class hi hj one other.
-        let same : get_or q.classes.items j 0 ≡ get_or p.classes.items i 0 = other ∙ sym one in
-        let w = at_place here i (are.complete i hi (j, hj, get_or_default q.classes.items j (get_or p.classes.items i 0) 0 hj ∙ same)) in
-        (w.0, w.1, classes_are w.0 w.1 ∙ (ap (λ k. get_or p.classes.items k 0) w.2 ∙ one)) in
-        let a = found at.low_at also.low_at low at.low_within also.low_within at.low_is also.low_is in
-        let b = found at.high_at also.high_at high at.high_within also.high_within at.high_is also.high_is in
-        record {
-          low_at = a.0;
-          high_at = b.0;
-          low_within = omega (arith, a.1, long);
-          high_within = omega (arith, b.1, long);
-          low_is = a.2;
-          high_is = b.2;
-          same = both.same a.0 b.0 (omega (arith, a.1, theirs_long)) (omega (arith, b.1, theirs_long)) (
-            our_group a.0 a.1 ∙ (ap (group_in p) (sym (classes_are a.0 a.1) ∙ a.2) ∙ (so.0 ∙ (sym (ap (group_in p) (sym (classes_are b.0 b.1) ∙ b.2)) ∙ sym (our_group b.0 b.1)))),
-            their_group a.0 a.1 ∙ (ap (group_in q) (sym (classes_are a.0 a.1) ∙ a.2) ∙ (so.1 ∙ (sym (ap (group_in q) (sym (classes_are b.0 b.1) ∙ b.2)) ∙ sym (their_group b.0 b.1)))),
-          );
-        })
-        (λ i j hi hj e.
-        let li : i < length here = omega (arith, hi, long) in
-        let lj : j < length here = omega (arith, hj, long) in
-        let alike = both.together_are i j (omega (arith, li, theirs_long)) (omega (arith, lj, theirs_long)) e in (
-          ap (group_in p) (classes_are i li) ∙ (sym (our_group i li) ∙ (alike.0 ∙ (our_group j lj ∙ sym (ap (group_in p) (classes_are j lj))))),
-          ap (group_in q) (classes_are i li) ∙ (sym (their_group i li) ∙ (alike.1 ∙ (their_group j lj ∙ sym (ap (group_in q) (classes_are j lj))))),
-        ))
-
--- the gains by two partitions are those by one of both
-pub gain_met : (p q : Partition) {r : Partition} (answers : List ℕ) → IsPartition (length answers) (TogetherInBoth p q) r → (answer : ℕ) → gain_at (are_together r) answers answer ≡ gain_at (together_in_both p q) answers answer
-unfolding gain_at
-gain_met p q {r} answers is answer =
-    let n = length answers in
-    let same : (low high : ℕ) → low < length answers → high < length answers → are_together r low high ≡ together_in_both p q low high = λ low high hl hh.
-    one_truth (are_together r low high) (together_in_both p q low high)
-    (λ so. let both = is.together_are low high hl hh (eqb-true (group_in r low) (group_in r high) so) in and_from (are_together p low high) (are_together q low high) (eq-eqb (group_in p low) (group_in p high) both.0) (eq-eqb (group_in q low) (group_in q high) both.1))
-    (λ so.
-    let both = and_parts (are_together p low high) (are_together q low high) so in
-    eq-eqb (group_in r low) (group_in r high) (is.same low high hl hh (eqb-true (group_in p low) (group_in p high) both.0, eqb-true (group_in q low) (group_in q high) both.1))) in
-    pairs_are n (tells_apart (are_together r) answers answer)
-    ∙ (pairs_same n (tells_apart (are_together r) answers answer) (tells_apart (together_in_both p q) answers answer)
-    (λ low high l h. ap (λ b. b && not (beq (eqb (get_or answers low 0) answer) (eqb (get_or answers high 0) answer))) (same low high (omega (arith, l, h)) h))
-    ∙ sym (pairs_are n (tells_apart (together_in_both p q) answers answer)))
-
-pub gain_turned : (p q : Partition) (answers : List ℕ) (answer : ℕ) → gain_at (together_in_both p q) answers answer ≡ gain_at (together_in_both q p) answers answer
-unfolding gain_at
-gain_turned p q answers answer =
-    let n = length answers in
-    pairs_are n (tells_apart (together_in_both p q) answers answer)
-    ∙ (pairs_same n (tells_apart (together_in_both p q) answers answer) (tells_apart (together_in_both q p) answers answer)
-    (λ low high l h. ap (λ b. b && not (beq (eqb (get_or answers low 0) answer) (eqb (get_or answers high 0) answer))) (and_comm (are_together p low high) (are_together q low high)))
-    ∙ sym (pairs_are n (tells_apart (together_in_both q p) answers answer)))
-
--- what is found by these gains is found by those of classes that are together in both partitions, in either order
-module _ (p q r : Partition) (answers : List ℕ) (candidates current : ℕ) (is : IsPartition (length answers) (TogetherInBoth p q) r) (found : Option ℕ) (has : IsFoundAbove (gain_at (are_together r) answers) candidates current found) where
-  pub found_met : IsFoundAbove (gain_at (together_in_both p q) answers) candidates current found
-  found_met = subst (λ (gain : ℕ → ℕ). IsFoundAbove gain candidates current found) (λ i answer. gain_met p q answers is answer i) has
-
-  pub found_turned : IsFoundAbove (gain_at (together_in_both q p) answers) candidates current found
-  found_turned = subst (λ (gain : ℕ → ℕ). IsFoundAbove gain candidates current found) (λ i answer. gain_turned p q answers answer i) found_met

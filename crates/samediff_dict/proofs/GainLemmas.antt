@@ -3,7 +3,7 @@ use Rattle.std.proofs.Common.{◌≡◌, ◌∙◌, ℕ, ◌+◌, ◌<◌, ◌�
 use Rattle.std.proofs.lemmas.Bool.{cases_eq, eqb-true, eq-eqb, ne_eqb, and_parts, and_from}
 use Rattle.std.proofs.lemmas.List.{get_or-set_same, get_or-set_other}
 use Rattle.std.specs.Cmp.Derive.{one_truth}
-use Rattle.samediff_dict.specs.PlaceGroups.{AreGroups, InBoth, IsTallyOf, AreGains, IsFirstMost, gain_at, in_one, size_to, pairs_where, tells_apart}
+use Rattle.samediff_dict.specs.PlaceGroups.{AreGroups, InBoth, IsTallyOf, AreGains, IsFirstMost, gain_at, in_one, size_to, tells_apart}
 use Rattle.samediff_dict.proofs.PairLemmas.{sum_to, sum_to_more, sum_to_where, sum_to_both, sum_to-few, sum_by-range, one_if, one_if-one, pairs_are, others_of, gain_by_place}
 
 pub size_is : (group_of : List ℕ) (n group : ℕ) → size_to group_of n group ≡ sum_to (λ place. one_if (eqb (get_or group_of place 0) group)) n
@@ -88,10 +88,6 @@ module _ (groups answers gains : List ℕ) (candidates place others : ℕ) (plac
       ]
 
 -- ---- the best by its gain
-
-pub gain_none : (together : ℕ → ℕ → Bool) (answers : List ℕ) (answer : ℕ) → length answers ≡ 0 → gain_at together answers answer ≡ 0
-unfolding gain_at
-gain_none together answers answer none = ap (λ n. pairs_where n (tells_apart together answers answer)) none
 
 pub gains_where : {together other : ℕ → ℕ → Bool} {answers own gains : List ℕ} {candidates : ℕ} → AreGains together own candidates gains → ((answer : ℕ) → gain_at together own answer ≡ gain_at other answers answer) → AreGains other answers candidates gains
 gains_where are same = record { count_is = are.count_is; each = λ answer h. are.each answer h ∙ same answer }

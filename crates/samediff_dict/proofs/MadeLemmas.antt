@@ -4,7 +4,7 @@ use Rattle.std.specs.Prelude.{slice_range, All}
 use Rattle.std.proofs.lemmas.Bool.{cases_lt}
 use Rattle.std.specs.List.{range_with_len}
 use Rattle.std.proofs.lemmas.List.{ext_get_or, get_or-map, length-map, get_or-take, get_or-drop, length-take-le, length-drop}
-use Rattle.std.proofs.lemmas.List.FromFn.{get_or-map-range_with_len, length-map-range_with_len, get_or-range_with_len, length-range_with_len, fill_by_all}
+use Rattle.std.proofs.lemmas.List.FromFn.{get_or-map-range_with_len, length-map-range_with_len, fill_by_all}
 use Rattle.net_model.specs.declared.fault.Fault.{Fault}
 use Rattle.net_model.specs.Circuit.{Circuit, IsCircuit}
 use Rattle.net_model.specs.FaultList.{fault_count}
@@ -19,13 +19,10 @@ use Rattle.table_dicts.specs.AnswerTable.{Answers, AreAnswerable, AreAnswers, an
 use Rattle.table_dicts.specs.ByClass.{AreEntriesOfClasses}
 use Rattle.table_dicts.specs.Entries.{answers_of, differences, same_diff_entry}
 use Rattle.table_dicts.specs.Rows.{AreRows}
-use Rattle.table_dicts.specs.declared.setting.Setting.{Setting}
-use Rattle.table_dicts.specs.Setting.{AreAnswersAt}
 use Rattle.table_dicts.proofs.ClassLemmas.{together_where_alike}
 use Rattle.table_dicts.proofs.EntryLemmas.{length-entry, entry_bit}
 use Rattle.table_dicts.proofs.OneTable.{one_answers}
 use Rattle.samediff_dict.specs.declared.numbering.Candidates.{Candidates}
-use Rattle.samediff_dict.specs.Setting.{AreAnswersOfNumbers}
 use Rattle.samediff_dict.specs.Copied.{HaveClasses, class_entry}
 use Rattle.samediff_dict.specs.Numbered.{AnswerAlike, AreNumbersOf, AreAdded, AreCandidates, HaveCandidates, AreChosen, baselines_at, class_answers}
 use Rattle.samediff_dict.proofs.CandidateLemmas.{candidates_of_numbers, some_class}
@@ -94,7 +91,7 @@ leads_known t whole numbers e class d h =
     omega (arith, (representative-member t whole class low).0, e, get_or-map-range_with_len (representative t) 0 (class_count t) class class d low (omega arith))
 
 -- each in its place
-lead_at : (t : ClassTable) (leads : List ℕ) → leads ≡ map (representative t) (range_with_len 0 (class_count t)) → (class : ℕ) → class < class_count t → get_or leads class 0 ≡ representative t class
+pub lead_at : (t : ClassTable) (leads : List ℕ) → leads ≡ map (representative t) (range_with_len 0 (class_count t)) → (class : ℕ) → class < class_count t → get_or leads class 0 ≡ representative t class
 lead_at t leads are class h = ap (λ (xs : List ℕ). get_or xs class 0) are ∙ get_or-map-range_with_len (representative t) 0 (class_count t) class class 0 h (omega arith)
 
 -- and answer as their classes do
@@ -103,17 +100,6 @@ leads_answer t table leads are =
     as_classes t table.rows table leads 0 (ap length are ∙ length-map-range_with_len (representative t) 0 (class_count t)) (λ pattern class hp hc.
     let same : pattern ≡ 0 + pattern = omega arith in
     ap (answer_to table pattern) (lead_at t leads are class hc) ∙ ap (λ p. answer_in (get_or table.rows p []) (representative t class)) same)
-
--- a table of their answers has them in order
-pub places_answer : (s : Setting) (first end : ℕ) (table : Answers) {lowest leads : List ℕ} → first ≤ end → AreAnswersOfNumbers s lowest first end table → lowest ≡ map (representative s.classes.now) (range_with_len 0 (class_count s.classes.now))
-    → leads ≡ range_with_len 0 (class_count s.classes.now) → (t : Answers) → AreAnswersAt s t → AnswerAsClasses s.classes.now t.rows table leads first
-places_answer s first end table {lowest} {leads} le are each places t of =
-    let n = class_count s.classes.now in
-    as_classes s.classes.now t.rows table leads first (ap length places ∙ length-range_with_len 0 n) (λ pattern class hp hc.
-    let same : 0 + class ≡ class = omega arith in
-    let place : get_or leads class 0 ≡ class = ap (λ (xs : List ℕ). get_or xs class 0) places ∙ (get_or-range_with_len 0 n class 0 hc ∙ same) in
-    let inside : class < length lowest = omega (arith, hc, ap length each, length-map-range_with_len (representative s.classes.now) 0 n) in
-    ap (answer_to table pattern) place ∙ (are.each t of pattern class (omega (arith, hp, are.sizes.patterns_are, le)) inside ∙ ap (answer_to t (first + pattern)) (lead_at s.classes.now lowest each class hc)))
 
 -- The candidates of the first patterns are numbered, so many.
 pub record AreNumberedTo (t : ClassTable) (rows : List (List (List Bool))) (done : ℕ) (patterns : List Candidates) : Type 0 where

@@ -1,5 +1,5 @@
 -- The search for a replacement that keeps more pairs apart, pattern by pattern.
-use Rattle.std.proofs.Common.{◌≡◌, ◌∙◌, ℕ, zero, suc, ◌+◌, ◌<◌, ◌≤◌, Bool, true, false, cond, ltb, List, [], ◌∷◌, ◌++◌, length, get_or, set, take, drop, map, flat_map, find, Some, None, refl, sym, ap, arith}
+use Rattle.std.proofs.Common.{◌≡◌, ◌∙◌, ℕ, zero, suc, ◌+◌, ◌<◌, ◌≤◌, Bool, true, false, cond, ltb, List, [], ◌∷◌, ◌++◌, length, get_or, set, take, drop, map, flat_map, find, Some, None, refl, sym, ap, arith, Decides}
 use Rattle.std.specs.List.{enumerate_from}
 use Rattle.std.specs.Option.{option_or}
 use Rattle.std.proofs.lemmas.Bool.{lt-ltb, le-ltb}
@@ -9,10 +9,9 @@ use Rattle.std.proofs.lemmas.List.Folds.{find-append}
 use Rattle.std.proofs.lemmas.List.FromFn.{length-enumerate_from, get_or-enumerate_from}
 use Rattle.net_model.specs.ClassTable.{ClassTable, class_count}
 use Rattle.samediff_dict.specs.declared.numbering.Candidates.{Candidates}
-use Rattle.samediff_dict.specs.declared.partition.Partition.{Partition}
 use Rattle.samediff_dict.specs.Chosen.{candidates, pairs_apart, replacements, improvement}
 use Rattle.samediff_dict.specs.PlaceGroups.{IsFirstAbove, NoneAbove, gain_at}
-use Rattle.samediff_dict.specs.Partition.{IsPartition, together_in_both, pairs_between}
+use Rattle.samediff_dict.specs.Partition.{pairs_between}
 use Rattle.samediff_dict.specs.Numbered.{AreCandidates, AlikeFrom}
 use Rattle.samediff_dict.proofs.CandidateLemmas.{code_is}
 use Rattle.samediff_dict.proofs.StepLemmas.{replaced_apart}
@@ -67,23 +66,23 @@ module _ (t : ClassTable) (rows : List (List (List Bool))) (baselines : List (Li
   unfolding improvement replacements
   none_at_all patterns over none = ap (λ xs. find is_better (flat_map replaced_at xs)) (sym (take_all patterns (enumerate_from 0 rows) (omega (arith, over, length-enumerate_from 0 rows)))) ∙ none.none
 
-  module _ (long : length baselines ≡ length rows) (pattern : ℕ) (h : pattern < length rows) (before after : Partition) (c : Candidates) (current : ℕ)
-      (before_is : IsPartition (class_count t) (AlikeFrom t rows baselines 0 pattern) before) (after_is : IsPartition (class_count t) (AlikeFrom t rows baselines (pattern + 1) (length rows)) after)
+  module _ (long : length baselines ≡ length rows) (pattern : ℕ) (h : pattern < length rows) (together : ℕ → ℕ → Bool) (c : Candidates) (current : ℕ)
+      (decides : (low high : ℕ) → low < class_count t → high < class_count t → Decides (together low high) (AlikeFrom t rows baselines 0 pattern low high × AlikeFrom t rows baselines (pattern + 1) (length rows) low high))
       (are : AreCandidates t (get_or rows pattern []) c) (known : current < length (candidates t (get_or rows pattern [])))
       (now : get_or baselines pattern [] ≡ get_or (candidates t (get_or rows pattern [])) current []) where
     abbrev row : List (List Bool)
     row = get_or rows pattern []
 
     abbrev gain : ℕ → ℕ
-    gain = gain_at (together_in_both before after) c.numbers
+    gain = gain_at together c.numbers
 
     abbrev with_answer : ℕ → List (List Bool)
     with_answer answer = set baselines pattern (get_or (candidates t row) answer [])
 
-    apart_with : (answer : ℕ) → answer < length (candidates t row) → pairs_apart t rows (set baselines pattern (get_or (candidates t row) answer [])) ≡ pairs_between (class_count t) (together_in_both before after) + gain_at (together_in_both before after) c.numbers answer
-    apart_with answer ha = replaced_apart t rows baselines long pattern h before after c.numbers answer (get_or (candidates t row) answer []) before_is after_is are.one_each (λ class hc. code_is t row c are class answer hc ha)
+    apart_with : (answer : ℕ) → answer < length (candidates t row) → pairs_apart t rows (set baselines pattern (get_or (candidates t row) answer [])) ≡ pairs_between (class_count t) together + gain_at together c.numbers answer
+    apart_with answer ha = replaced_apart t rows baselines long pattern h together c.numbers answer (get_or (candidates t row) answer []) decides are.one_each (λ class hc. code_is t row c are class answer hc ha)
 
-    apart_now : pairs_apart t rows baselines ≡ pairs_between (class_count t) (together_in_both before after) + gain_at (together_in_both before after) c.numbers current
+    apart_now : pairs_apart t rows baselines ≡ pairs_between (class_count t) together + gain_at together c.numbers current
     apart_now = ap (pairs_apart t rows) (sym (set-get_or baselines pattern []) ∙ ap (set baselines pattern) now) ∙ apart_with current known
 
     not_better : (answer : ℕ) → answer < length (candidates t row) → gain answer ≤ gain current → is_better (with_answer answer) ≡ false
@@ -105,13 +104,13 @@ module _ (t : ClassTable) (rows : List (List (List Bool))) (baselines : List (Li
     inside : pattern < length (enumerate_from 0 rows)
     inside = omega (arith, h, length-enumerate_from 0 rows)
 
-    pub none_here : NoneBefore pattern → NoneAbove (gain_at (together_in_both before after) c.numbers) (length (candidates t (get_or rows pattern []))) current → NoneBefore (pattern + 1)
+    pub none_here : NoneBefore pattern → NoneAbove (gain_at together c.numbers) (length (candidates t (get_or rows pattern []))) current → NoneBefore (pattern + 1)
     none_here none_before none = record {
       none = none_more is_better replaced_at (enumerate_from 0 rows) pattern place inside none_before.none
           (ap (λ x. find is_better (replaced_at x)) at_place ∙ find_none is_better (λ answer. set baselines pattern answer) [] (candidates t row) (λ k hk. not_better k hk (none k hk)));
     }
 
-    pub found_at : (answer : ℕ) → NoneBefore pattern → IsFirstAbove (gain_at (together_in_both before after) c.numbers) (length (candidates t (get_or rows pattern []))) current answer
+    pub found_at : (answer : ℕ) → NoneBefore pattern → IsFirstAbove (gain_at together c.numbers) (length (candidates t (get_or rows pattern []))) current answer
         → improvement t rows baselines ≡ Some (set baselines pattern (get_or (candidates t (get_or rows pattern [])) answer []))
     unfolding improvement replacements
     found_at answer none_before first =

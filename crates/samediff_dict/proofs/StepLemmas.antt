@@ -1,5 +1,5 @@
 -- Partitions by some of the patterns, and what a candidate of one pattern adds to them.
-use Rattle.std.proofs.Common.{◌≡◌, ◌∙◌, ℕ, ◌+◌, ◌<◌, ◌≤◌, Bool, eqb, List, [], ◌∷◌, ◌++◌, length, get_or, set, take, sym, ap, subst, arith, inl, inr}
+use Rattle.std.proofs.Common.{◌≡◌, ◌∙◌, ℕ, ◌+◌, ◌<◌, ◌≤◌, Bool, eqb, List, [], ◌∷◌, ◌++◌, length, get_or, set, take, sym, ap, subst, arith, inl, inr, Decides}
 use Rattle.std.proofs.lemmas.Bool.{cases_lt, cases_order}
 use Rattle.std.proofs.lemmas.List.{length-set, length_push, length-take-le, get_or-take, get_or_append_left, get_or_push, get_or-set_same, get_or-set_other}
 use Rattle.net_model.specs.ClassTable.{ClassTable, class_count, representative, same_bits}
@@ -7,9 +7,9 @@ use Rattle.table_dicts.specs.AnswerTable.{answer_in}
 use Rattle.samediff_dict.specs.declared.partition.Partition.{Partition}
 use Rattle.samediff_dict.specs.Chosen.{pairs_apart}
 use Rattle.samediff_dict.specs.PlaceGroups.{gain_at}
-use Rattle.samediff_dict.specs.Partition.{are_together, together_in_both, TogetherAt, IsPartition, pairs_between}
+use Rattle.samediff_dict.specs.Partition.{are_together, TogetherAt, IsPartition, pairs_between}
 use Rattle.samediff_dict.specs.Numbered.{answers_base, AlikeFrom}
-use Rattle.samediff_dict.proofs.ToldLemmas.{together_decides, both_decide, apart_by_gain}
+use Rattle.samediff_dict.proofs.ToldLemmas.{together_decides, apart_by_gain}
 
 -- ---- partitions of what is together by partitions of the parts
 
@@ -35,7 +35,7 @@ module _ (t : ClassTable) (rows : List (List (List Bool))) where
     pub alike_none : (at low high : ℕ) → AlikeFrom t rows baselines at at low high
     alike_none at low high q from below = absurd (omega (arith, from, below))
 
-    -- the last pattern of a range, and the first
+    -- the last pattern of a range
     pub from_last : (end low high : ℕ) → AlikeFrom t rows baselines 0 (end + 1) low high → AlikeFrom t rows baselines 0 end low high × (answers_base t rows baselines end low ≡ answers_base t rows baselines end high)
     from_last end low high a = (λ q from below. a q from (omega (arith, below)), a end (omega arith) (omega arith))
 
@@ -43,15 +43,6 @@ module _ (t : ClassTable) (rows : List (List (List Bool))) where
     with_last end low high a q from below = elim (cases_lt q end) [
       | inl less ↦ a.0 q from less
       | inr over ↦ let e : end ≡ q = omega (arith, over, below) in subst (λ p. answers_base t rows baselines p low ≡ answers_base t rows baselines p high) e a.1
-    ]
-
-    pub from_first : (at end low high : ℕ) → at < end → AlikeFrom t rows baselines at end low high → AlikeFrom t rows baselines (at + 1) end low high × (answers_base t rows baselines at low ≡ answers_base t rows baselines at high)
-    from_first at end low high h a = (λ q from below. a q (omega (arith, from)) below, a at (omega arith) h)
-
-    pub with_first : (at end low high : ℕ) → AlikeFrom t rows baselines (at + 1) end low high × (answers_base t rows baselines at low ≡ answers_base t rows baselines at high) → AlikeFrom t rows baselines at end low high
-    with_first at end low high a q from below = elim (cases_lt at q) [
-      | inl more ↦ a.0 q (omega (arith, more)) below
-      | inr under ↦ let e : at ≡ q = omega (arith, under, from) in subst (λ p. answers_base t rows baselines p low ≡ answers_base t rows baselines p high) e a.1
     ]
 
   -- other baselines, the same in the range
@@ -62,19 +53,19 @@ module _ (t : ClassTable) (rows : List (List (List Bool))) where
 
   -- ---- what a candidate adds
 
-  -- One baseline is replaced: by the classes that are alike in the others, before it and behind it.
-  pub replaced_apart : (baselines : List (List Bool)) → length baselines ≡ length rows → (pattern : ℕ) → pattern < length rows → (before after : Partition) (answers : List ℕ) (answer : ℕ) (base : List Bool)
-      → IsPartition (class_count t) (AlikeFrom t rows baselines 0 pattern) before → IsPartition (class_count t) (AlikeFrom t rows baselines (pattern + 1) (length rows)) after → length answers ≡ class_count t
+  -- One baseline is replaced: by a test of what is alike in the others, before it and behind it.
+  pub replaced_apart : (baselines : List (List Bool)) → length baselines ≡ length rows → (pattern : ℕ) → pattern < length rows → (together : ℕ → ℕ → Bool) (answers : List ℕ) (answer : ℕ) (base : List Bool)
+      → ((low high : ℕ) → low < class_count t → high < class_count t → Decides (together low high) (AlikeFrom t rows baselines 0 pattern low high × AlikeFrom t rows baselines (pattern + 1) (length rows) low high)) → length answers ≡ class_count t
       → ((class : ℕ) → class < class_count t → eqb (get_or answers class 0) answer ≡ same_bits (answer_in (get_or rows pattern []) (representative t class)) base)
-      → pairs_apart t rows (set baselines pattern base) ≡ pairs_between (class_count t) (together_in_both before after) + gain_at (together_in_both before after) answers answer
-  replaced_apart baselines long pattern h before after answers answer base is_before is_after many codes =
+      → pairs_apart t rows (set baselines pattern base) ≡ pairs_between (class_count t) together + gain_at together answers answer
+  replaced_apart baselines long pattern h together answers answer base decides many codes =
       let other = set baselines pattern base in
       let beside : (q class : ℕ) → (q ≡ pattern → ⊥) → answers_base t rows other q class ≡ answers_base t rows baselines q class = λ q class ne.
       ap (same_bits (answer_in (get_or rows q []) (representative t class))) (get_or-set_other baselines pattern q base [] ne) in
       let here : (class : ℕ) → answers_base t rows other pattern class ≡ same_bits (answer_in (get_or rows pattern []) (representative t class)) base = λ class.
       ap (same_bits (answer_in (get_or rows pattern []) (representative t class))) (get_or-set_same baselines pattern base [] (omega (arith, h, long))) in
-      apart_by_gain t rows other (length-set baselines pattern base ∙ long) (together_in_both before after) (λ low high. AlikeFrom t rows baselines 0 pattern low high × AlikeFrom t rows baselines (pattern + 1) (length rows) low high)
-      answers answer pattern (λ low high hl hh. both_decide is_before is_after low high hl hh) many
+      apart_by_gain t rows other (length-set baselines pattern base ∙ long) together (λ low high. AlikeFrom t rows baselines 0 pattern low high × AlikeFrom t rows baselines (pattern + 1) (length rows) low high)
+      answers answer pattern decides many
       (λ class hc. codes class hc ∙ sym (here class))
       (λ low high hl hh a. (
         (

@@ -15,7 +15,7 @@ use Rattle.samediff_dict.specs.Chosen.{pairs_apart}
 use Rattle.samediff_dict.specs.Numbered.{answers_base, AlikeFrom}
 use Rattle.samediff_dict.specs.declared.partition.Partition.{Partition}
 use Rattle.samediff_dict.specs.PlaceGroups.{gain_at, pairs_where, tells_apart}
-use Rattle.samediff_dict.specs.Partition.{group_in, are_together, together_in_both, IsPartition, pairs_between}
+use Rattle.samediff_dict.specs.Partition.{group_in, are_together, IsPartition, pairs_between}
 use Rattle.samediff_dict.proofs.PairLemmas.{one_if, pairs_to, pairs_are, pairs_same, pairs_both}
 use Rattle.samediff_dict.proofs.ImproveLemmas.{pairs_apart_are}
 
@@ -25,13 +25,13 @@ not_once true false e = absurd (cc)
 not_once false true e = absurd (cc)
 not_once false false e = refl
 
-same_beq : (a b : Bool) → beq a b ≡ true → a ≡ b
+pub same_beq : (a b : Bool) → beq a b ≡ true → a ≡ b
 same_beq true true e = refl
 same_beq true false e = absurd (cc)
 same_beq false true e = absurd (cc)
 same_beq false false e = refl
 
-beq_same : (a b : Bool) → a ≡ b → beq a b ≡ true
+pub beq_same : (a b : Bool) → a ≡ b → beq a b ≡ true
 beq_same true true e = refl
 beq_same true false e = absurd (cc)
 beq_same false true e = absurd (cc)
@@ -47,14 +47,6 @@ together_decides {n} {together} {p} is low high hl hh = (
   λ so. is.together_are low high hl hh (eqb-true (group_in p low) (group_in p high) so),
   λ alike. eq-eqb (group_in p low) (group_in p high) (is.same low high hl hh alike),
 )
-
-pub both_decide : {n : ℕ} {first second : ℕ → ℕ → Type 0} {p q : Partition} → IsPartition n first p → IsPartition n second q → (low high : ℕ) → low < n → high < n → Decides (together_in_both p q low high) (first low high × second low high)
-both_decide {n} {first} {second} {p} {q} one other low high hl hh =
-    let here = together_decides one low high hl hh in
-    let there = together_decides other low high hl hh in (
-      λ so. let both = and_parts (are_together p low high) (are_together q low high) so in (here.0 both.0, there.0 both.1),
-      λ alike. and_from (are_together p low high) (are_together q low high) (here.1 alike.0) (there.1 alike.1),
-    )
 
 module _ (t : ClassTable) (rows : List (List (List Bool))) (baselines : List (List Bool)) (long : length baselines ≡ length rows) where
   entry_bit : (class pattern : ℕ) → pattern < length rows → bit_at (same_diff_entry rows baselines (representative t class)) pattern ≡ not (answers_base t rows baselines pattern class)

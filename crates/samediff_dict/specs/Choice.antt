@@ -1,5 +1,5 @@
 -- What baselines are chosen from, and what the parts of the choice make. The rows are those of the answers to the patterns.
-use Rattle.std.specs.Prelude.{◌≡◌, ◌+◌, ◌-◌, ◌<◌, ◌≤◌, ◌^◌, ℕ, Bool, List, [], length, Some, slice_index_or, slice_set}
+use Rattle.std.specs.Prelude.{◌≡◌, ◌<◌, ◌^◌, ℕ, Bool, List, [], length, Some, slice_index_or, slice_set}
 use Rattle.net_model.specs.ClassTable.{class_count}
 use Rattle.class_refine.specs.Fields.{IsWhole}
 use Rattle.samediff_dict.specs.declared.partition.Partition.{Partition}
@@ -26,22 +26,6 @@ module _ (rows : List (List (List Bool))) (c : Choice) where
     -- The groups are those of classes that are alike in a range of the baselines.
     abbrev pub IsPartitionFrom : ℕ → ℕ → Partition → Type 0
     IsPartitionFrom first end p = IsPartition (class_count c.classes.now) (AlikeFrom c.classes.now rows (baselines_at c.classes.now rows chosen) first end) p
-
-    -- There is a partition by the last patterns for each count of them below a limit.
-    pub record ArePartitionsBehind (limit : ℕ) (ends : List Partition) : Type 0 where
-      pub count : length ends ≡ limit
-      pub each : (last : ℕ) (d : Partition) → last < limit → IsPartitionFrom (length chosen - last) (length chosen) (slice_index_or ends last d)
-
-    -- There are partitions by the last patterns for some counts of them, from none on.
-    pub record AreSomeEnds (ends : List Partition) : Type 0 where
-      pub some : 0 < length ends
-      pub few : length ends ≤ length chosen + 1
-      pub are : ArePartitionsBehind (length ends) ends
-
-    -- There are partitions by the first patterns for some counts of them, from none on.
-    pub record ArePartitionsBefore (starts : List Partition) : Type 0 where
-      pub some : 0 < length starts
-      pub each : (first : ℕ) (d : Partition) → first < length starts → IsPartitionFrom 0 first (slice_index_or starts first d)
 
     -- The replacement keeps more pairs apart, and no earlier one does.
     pub record IsFirstBetter (r : Replacement) : Type 0 where

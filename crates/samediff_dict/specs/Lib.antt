@@ -2,6 +2,9 @@ pub mod Chosen
 pub mod PlaceGroups
 pub mod Cells
 pub mod Partition
+pub mod Moved
+pub mod GainTable
+pub mod Descent
 pub mod Numbered
 pub mod Choice
 pub mod Copied

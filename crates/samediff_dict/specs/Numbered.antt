@@ -1,10 +1,12 @@
 -- The answers of the classes by their numbers among the candidates.
 use Rattle.std.specs.Prelude.{◌≡◌, ℕ, ◌+◌, ◌<◌, ◌≤◌, Bool, List, [], map, length, slice_index, slice_index_or}
 use Rattle.std.specs.List.{range_with_len}
+use Rattle.net_model.specs.Circuit.{Circuit}
 use Rattle.net_model.specs.ClassTable.{ClassTable, class_count, class_at, representative, same_bits}
 use Rattle.table_dicts.specs.AnswerTable.{Answers, answer_in, answer_to}
 use Rattle.net_model.specs.Rows.{row_at}
 use Rattle.table_dicts.specs.Grouped.{AreDifferent}
+use Rattle.answer_numbers.specs.AnswerNumbers.{AnswerNumbers, vector_in, IsLeadNumber, IsLeadCount}
 use Rattle.samediff_dict.specs.declared.numbering.Candidates.{Candidates}
 use Rattle.answer_numbers.specs.Distinct.{distinct_answers}
 use Rattle.samediff_dict.specs.Chosen.{candidates}
@@ -31,6 +33,23 @@ pub record AreAdded (t : Answers) (leads : List ℕ) (old new : List Candidates)
   pub count : length new ≡ length old + length t.rows
   pub before : (k : ℕ) (d : Candidates) → k < length old → slice_index_or new k d ≡ slice_index_or old k d
   pub added : (pattern : ℕ) (d : Candidates) → pattern < length t.rows → AreNumbersOf (map (answer_to t pattern) leads) (slice_index_or new (length old + pattern) d)
+
+-- The candidates are the numbers of what the leads answer to a vector.
+pub record AreLeadCandidates (c : Circuit) (leads : List ℕ) (v : List Bool) (found : Candidates) : Type 0 where
+  pub count_is : IsLeadCount c leads v found.count
+  pub one_each : length found.numbers ≡ length leads
+  pub each : (place : ℕ) → place < length leads → IsLeadNumber c leads v place (slice_index found.numbers place)
+
+-- Behind the old ones there are those of the vectors of the first lanes, so many.
+pub record AreLanesAdded (n : AnswerNumbers) (lanes : ℕ) (old new : List Candidates) : Type 0 where
+  pub count : length new ≡ length old + lanes
+  pub before : (k : ℕ) (d : Candidates) → k < length old → slice_index_or new k d ≡ slice_index_or old k d
+  pub added : (lane : ℕ) (d : Candidates) → lane < lanes → AreLeadCandidates n.circuit n.leads (vector_in n lane) (slice_index_or new (length old + lane) d)
+
+-- The candidates of the first patterns, so many, are those numbers.
+pub record AreFoundTo (c : Circuit) (leads : List ℕ) (vectors : List (List Bool)) (done : ℕ) (patterns : List Candidates) : Type 0 where
+  pub count : length patterns ≡ done
+  pub each : (pattern : ℕ) (d : Candidates) → pattern < done → AreLeadCandidates c leads (slice_index_or vectors pattern []) (slice_index_or patterns pattern d)
 
 -- So many are the candidates of a pattern, and the numbers say which of them each class answers.
 pub record AreCandidates (t : ClassTable) (row : List (List Bool)) (c : Candidates) : Type 0 where

@@ -1,5 +1,5 @@
 -- Classes that are together with others, in groups. A class that isn't listed is alone.
-use Rattle.std.specs.Prelude.{◌≡◌, ℕ, ◌+◌, ◌<◌, ◌==◌, ◌&&◌, Bool, not, List, length, AllPairs, Contains, slice_index, slice_index_or}
+use Rattle.std.specs.Prelude.{◌≡◌, ℕ, ◌+◌, ◌<◌, ◌==◌, Bool, not, List, length, AllPairs, slice_index, slice_index_or}
 use Rattle.std.specs.List.{position_or_len}
 use Rattle.samediff_dict.specs.declared.partition.Partition.{Partition}
 use Rattle.samediff_dict.specs.declared.groups.PlaceGroups.{PlaceGroups}
@@ -9,22 +9,16 @@ use Rattle.samediff_dict.specs.PlaceGroups.{AreBelow, HaveOrLackNumber, pairs_wh
 unfoldable pub group_in : Partition → ℕ → ℕ
 group_in p class = slice_index_or p.groups.group_of.items (position_or_len (λ other. other == class) p.classes.items) (p.groups.count + class)
 
--- two classes are together in a partition, in two, and in one with the same number against another
+-- two classes are together in a partition, and with the same number against another
 abbrev pub AreTogether : Partition → ℕ → ℕ → Type 0
 AreTogether p low high = group_in p low ≡ group_in p high
-
-abbrev pub TogetherInBoth : Partition → Partition → ℕ → ℕ → Type 0
-TogetherInBoth p q low high = AreTogether p low high × AreTogether q low high
 
 abbrev pub TogetherAt : Partition → List ℕ → ℕ → ℕ → ℕ → Type 0
 TogetherAt p numbers number low high = AreTogether p low high × HaveOrLackNumber numbers number low high
 
--- whether two classes are together in a partition, and in two
+-- whether two classes are together in a partition
 abbrev pub are_together : Partition → ℕ → ℕ → Bool
 are_together p low high = group_in p low == group_in p high
-
-abbrev pub together_in_both : Partition → Partition → ℕ → ℕ → Bool
-together_in_both p q low high = are_together p low high && are_together q low high
 
 -- The listed classes are some of so many classes, ascending, and each has a group.
 pub record IsListed (classes : ℕ) (p : Partition) : Type 0 where
@@ -50,12 +44,3 @@ pub record AreShared (classes : List ℕ) (groups : PlaceGroups) (p : Partition)
 -- how many pairs of classes are apart
 unfoldable pub pairs_between : ℕ → (ℕ → ℕ → Bool) → ℕ
 pairs_between classes together = pairs_where classes (λ low high. not (together low high))
-
--- These are the places, ascending, of those of the first numbers that stand in another list, and their places there.
-pub record AreMatched (numbers others : List ℕ) (first : ℕ) (here there : List ℕ) : Type 0 where
-  pub one_each : length there ≡ length here
-  pub ascending : AllPairs (λ low high. low < high) here
-  pub within : AreBelow here first
-  pub there_within : AreBelow there (length others)
-  pub equal : (k : ℕ) → k < length here → slice_index numbers (slice_index here k) ≡ slice_index others (slice_index there k)
-  pub complete : (place : ℕ) → place < first → Contains others (slice_index numbers place) → Contains here place

@@ -75,44 +75,24 @@ impl Partition {
         requires some { 0 < candidates }
         ensures { IfOk result (IsFirstMost (gain_at (are_together self.now) answers.now) candidates) }
     {
-        let gains = self.gains(alloc, answers, candidates)?;
+        let gains = self.gains(alloc, answers, candidates as usize)?;
         Ok(place_of_most(gains.as_slice()) as u32)
     }
 
-    /// The first candidate that tells more pairs apart than this one, if one does.
-    pub(crate) fn first_above(
+    /// How many pairs of classes that are together each candidate tells apart.
+    pub(crate) fn gains(
         &self,
         alloc: Global,
         answers: &[u32],
-        candidates: u32,
-        current: u32,
-    ) -> Result<Option<u32>, AllocError>
-        requires listed { IsListed (length answers.now) self.now }
-        requires few { length answers.now < 2 ^ 32 }
-        requires known { AreBelow answers.now candidates }
-        requires current { current < candidates }
-        ensures { IfOk result (IsFoundAbove (gain_at (are_together self.now) answers.now) candidates current) }
-    {
-        if self.classes.is_empty() {
-            return Ok(None);
-        }
-        let gains = self.gains(alloc, answers, candidates)?;
-        match place_above(gains.as_slice(), current as usize) {
-            Some(place) => Ok(Some(place as u32)),
-            None => Ok(None),
-        }
-    }
-
-    // How many pairs of classes that are together each candidate tells apart.
-    fn gains(&self, alloc: Global, answers: &[u32], candidates: u32) -> Result<Vec<u64>, AllocError>
+        candidates: usize,
+    ) -> Result<Vec<u64>, AllocError>
         requires listed { IsListed (length answers.now) self.now }
         requires few { length answers.now < 2 ^ 32 }
         requires known { AreBelow answers.now candidates }
         ensures { IfOk result (λ gains. AreGains (are_together self.now) answers.now candidates gains.items) }
     {
         let own_answers = picked(alloc, answers, self.classes.as_slice())?;
-        self.groups
-            .gains(alloc, own_answers.as_slice(), candidates as usize)
+        self.groups.gains(alloc, own_answers.as_slice(), candidates)
     }
 }
 
@@ -139,8 +119,8 @@ fn place_of_most(gains: &[u64]) -> usize
     best
 }
 
-// The first place of a greater number than that at a place.
-fn place_above(gains: &[u64], current: usize) -> Option<usize>
+/// The first place of a greater number than that at a place.
+pub(crate) fn place_above(gains: &[u64], current: usize) -> Option<usize>
     requires { current < length gains.now }
     ensures { IsFoundAbove (slice_index gains.now) (length gains.now) current result }
 {

@@ -3,16 +3,18 @@
 
 mod choosing;
 mod copying;
+mod descending;
 mod differing;
+mod gain_table;
 mod gains;
 mod groups;
 mod improving;
 mod laws;
 mod made;
+mod moved;
 mod numbering;
 mod partition;
 mod setting;
-mod sharing;
 
 pub use copying::choose;
 pub use laws::{keeps_as_many, no_row_is_better, none_is_left};

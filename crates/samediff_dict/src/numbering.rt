@@ -1,10 +1,12 @@
 //! The candidates of patterns, and which of them each class answers.
 
-ghost use Rattle.samediff_dict.specs.Numbered.{AreAdded, AreNumbersOf};
+ghost use Rattle.answer_numbers.specs.AnswerNumbers.{numbered_vectors, vector_in};
+ghost use Rattle.samediff_dict.specs.Numbered.{AreAdded, AreNumbersOf, AreLeadCandidates, AreLanesAdded};
 ghost use Rattle.std.specs.Prelude.{◌≡◌, ◌<◌, ◌^◌, length, map, All, IfOk, OnOk};
 ghost use Rattle.table_dicts.specs.AnswerTable.{answer_to};
 ghost use Rattle.table_dicts.specs.Rows.{AreRows};
 
+use answer_numbers::AnswerNumbers;
 use net_model::AnswerRows;
 use std::alloc::{AllocError, Global};
 use table_dicts::{AnswerTable, Groups, group_rows};
@@ -70,5 +72,46 @@ fn candidates_at(
     Ok(Candidates {
         numbers: grouped.groups,
         count,
+    })
+}
+
+/// Puts the candidates of each vector of the block that was numbered last behind others. There are so many leads, and so many
+/// vectors.
+pub(crate) fn add_lanes(
+    alloc: Global,
+    numbers: &AnswerNumbers,
+    leads: u32,
+    lanes: u32,
+    patterns: &mut Vec<Candidates>,
+) -> Result<(), AllocError>
+    requires leads { leads ≡ length numbers.now.leads }
+    requires lanes { lanes ≡ length (numbered_vectors numbers.now) }
+    ensures { OnOk result (AreLanesAdded numbers.now lanes patterns.old.items patterns.new.items) }
+{
+    for lane in 0..lanes {
+        let next = candidates_in(alloc, numbers, leads, lane)?;
+        patterns.push(next)?;
+    }
+    Ok(())
+}
+
+// The candidates of the vector of a lane.
+fn candidates_in(
+    alloc: Global,
+    numbers: &AnswerNumbers,
+    leads: u32,
+    lane: u32,
+) -> Result<Candidates, AllocError>
+    requires leads { leads ≡ length numbers.now.leads }
+    requires lane { lane < length (numbered_vectors numbers.now) }
+    ensures { IfOk result (AreLeadCandidates numbers.now.circuit numbers.now.leads (vector_in numbers.now lane)) }
+{
+    let mut own = Groups::with_room(alloc, leads as usize)?;
+    for place in 0..leads {
+        own.push(numbers.number(lane, place as usize))?;
+    }
+    Ok(Candidates {
+        numbers: own,
+        count: numbers.count(lane),
     })
 }

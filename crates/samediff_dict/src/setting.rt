@@ -12,48 +12,51 @@ ghost use Rattle.table_dicts.specs.Rows.{AreRows, AreRowsBegun};
 ghost use Rattle.table_dicts.specs.Setting.{IsSetting, AreAnswersAt};
 
 use crate::copying::{chosen_leads, copy_own};
-use crate::numbering::{Candidates, add_candidates};
+use crate::numbering::{Candidates, add_lanes};
 use crate::partition::first_numbers;
+use answer_numbers::AnswerNumbers;
 use net_model::AnswerRows;
 use std::alloc::{AllocError, Global};
-use table_dicts::{AnswerTable, Setting, number_answers_at, representatives};
-use word_sim::LANES;
-
-// How many bits of answers there are at once in memory, but for those of a single pattern.
-const MOST_BITS: u64 = 1 << 30;
+use table_dicts::{AnswerTable, Setting, fill_block, number_answers_at, representatives};
+use word_sim::{Block, LANES};
 
 /// The candidates of each pattern.
 pub(crate) fn candidates(alloc: Global, setting: &Setting) -> Result<Vec<Candidates>, AllocError>
     requires { IsSetting setting.now }
     ensures { IfOk result (λ patterns. (t : Answers) → AreAnswersAt setting.now t → HaveCandidates setting.now.classes.now t.rows patterns.items) }
 {
-    let lowest = representatives(alloc, setting.classes)?;
-    let leads = first_numbers(alloc, setting.classes.count())?;
-    candidates_of(alloc, setting, lowest.as_slice(), leads.as_slice())
+    let leads = representatives(alloc, setting.classes)?;
+    candidates_of(alloc, setting, leads.as_slice())
 }
 
-// The same by the lowest number of each class, and the classes.
+// The same by the lowest number of each class.
 fn candidates_of(
     alloc: Global,
     setting: &Setting,
-    lowest: &[u32],
     leads: &[u32],
 ) -> Result<Vec<Candidates>, AllocError>
     requires setting { IsSetting setting.now }
-    requires lowest { lowest.now ≡ map (representative setting.now.classes.now) (range_with_len 0 (class_count setting.now.classes.now)) }
-    requires within { All (λ number. number < fault_count setting.now.circuit.now) lowest.now }
-    requires leads { leads.now ≡ range_with_len 0 (class_count setting.now.classes.now) }
+    requires leads { leads.now ≡ map (representative setting.now.classes.now) (range_with_len 0 (class_count setting.now.classes.now)) }
+    requires within { All (λ number. number < fault_count setting.now.circuit.now) leads.now }
+    requires few { length leads.now < 2 ^ 32 }
     ensures { IfOk result (λ patterns. (t : Answers) → AreAnswersAt setting.now t → HaveCandidates setting.now.classes.now t.rows patterns.items) }
 {
-    let count = setting.classes.count();
     let vectors = setting.patterns.as_slice();
-    let at_once = patterns_at_once(count, setting.circuit.positions().len() as u32);
+    let mut numbers = AnswerNumbers::new(alloc, setting.circuit, setting.faults, leads)?;
+    let mut block = Block::new(alloc, setting.circuit.sources())?;
     let mut patterns = Vec::with_capacity(alloc, vectors.len())?;
     let mut first = 0;
     while first < vectors.len() {
-        let end = end_after(first, at_once, vectors.len());
-        let table = number_answers(alloc, setting, lowest, first, end)?;
-        add_candidates(alloc, &table, leads, &mut patterns)?;
+        let end = end_after(first, LANES as usize, vectors.len());
+        fill_block(&mut block, vectors, first, end);
+        numbers.number_block(alloc, &block)?;
+        add_lanes(
+            alloc,
+            &numbers,
+            leads.len() as u32,
+            block.live(),
+            &mut patterns,
+        )?;
         first = end;
     }
     Ok(patterns)
@@ -110,6 +113,7 @@ fn end_after(first: usize, count: usize, all: usize) -> usize
     requires first { first < all }
     requires some { 0 < count }
     ensures more { first < result }
+    ensures few { result ≤ first + count }
     ensures within { result ≤ all }
 {
     first + count.min(all - first)
@@ -158,16 +162,4 @@ fn number_answers(
     let some = &patterns[first..end];
     let table = number_answers_at(alloc, setting.circuit, setting.faults, some, numbers)?;
     Ok(table)
-}
-
-// To how many patterns so many classes are answered at once: whole blocks of 64 where there is memory for them.
-fn patterns_at_once(classes: u32, positions: u32) -> usize
-    ensures { 0 < result }
-{
-    let bits = u64::from(classes) * u64::from(positions);
-    let most = (MOST_BITS / bits.max(1)) as usize;
-    if most < 64 {
-        return most.max(1);
-    }
-    most / 64 * 64
 }

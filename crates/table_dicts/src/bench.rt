@@ -64,7 +64,7 @@ impl<'a> Bench<'a> {
         ensures end { result ≡ min (first + LANES) (length patterns.now) }
     {
         let end = first + (patterns.len() - first).min(LANES as usize);
-        fill(&mut self.block, patterns, first, end);
+        fill_block(&mut self.block, patterns, first, end);
         self.good.run(&self.block);
         end
     }
@@ -114,8 +114,8 @@ impl<'a> Bench<'a> {
     }
 }
 
-// Puts patterns into a block.
-fn fill(block: &mut Block, patterns: &[Vector], first: usize, end: usize)
+/// Makes the patterns of a range those of a block.
+pub fn fill_block(block: &mut Block, patterns: &[Vector], first: usize, end: usize)
     requires widths { All (λ v. length v ≡ block.old.sources) patterns.now }
     requires order { first ≤ end }
     requires few { end ≤ first + LANES }

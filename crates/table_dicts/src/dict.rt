@@ -1,6 +1,6 @@
 //! Fault dictionaries.
 
-ghost use Rattle.std.specs.Prelude.{◌≡◌, ℕ, List, [], ◌∷◌, ◌++◌, length, OnOk, OnErr};
+ghost use Rattle.std.specs.Prelude.{◌≡◌, ℕ, List, [], ◌∷◌, ◌++◌, length, IfOk, OnOk, OnErr};
 ghost use Rattle.table_dicts.specs.Grouped.{IsGrouped};
 
 use net_model::AnswerRows;
@@ -28,6 +28,15 @@ impl Groups {
         Groups {
             groups: Vec::new(alloc),
         }
+    }
+
+    /// No groups, and room for so many.
+    pub fn with_room(alloc: Global, groups: usize) -> Result<Groups, AllocError>
+        ensures { IfOk result (λ groups. groups ≡ []) }
+    {
+        Ok(Groups {
+            groups: Vec::with_capacity(alloc, groups)?,
+        })
     }
 
     pub fn push(&mut self, group: u32) -> Result<(), AllocError>

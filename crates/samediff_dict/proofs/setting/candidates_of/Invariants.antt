@@ -1,13 +1,14 @@
-use Rattle.std.proofs.Common.{length, ◌-◌, ◌≤◌}
-use Rattle.table_dicts.specs.AnswerTable.{Answers}
-use Rattle.table_dicts.specs.Setting.{AreAnswersAt}
-use Rattle.samediff_dict.proofs.MadeLemmas.{AreNumberedTo}
+use Rattle.std.proofs.Common.{◌≡◌, ◌-◌, ◌≤◌, length}
+use Rattle.samediff_dict.specs.Numbered.{AreFoundTo}
 use Rattle.samediff_dict.proofs.setting.candidates_of.Given as goal
 
 abbrev pub invariant-loop-first : goal.invariant-loop-first
 invariant-loop-first l = record {
   within : l.first ≤ length l.vectors;
-  numbered : (t : Answers) → AreAnswersAt l.setting t → AreNumberedTo l.setting.classes.now t.rows l.first l.patterns.items;
+  circuit : l.numbers.circuit ≡ l.setting.circuit.now;
+  leads : l.numbers.leads ≡ l.leads;
+  sources : l.block.sources ≡ l.setting.circuit.now.sources;
+  found : AreFoundTo l.setting.circuit.now l.leads l.vectors l.first l.patterns.items;
 }
 
 abbrev pub decreases-loop-first : goal.decreases-loop-first

@@ -1,0 +1,70 @@
+-- The descent over halves of the patterns: which pairs of classes its partitions have, and of which pairs the gains are.
+use Rattle.std.specs.Prelude.{◌≡◌, ◌≢◌, ◌<◌, ◌≤◌, ◌^◌, ℕ, Bool, true, false, List, length, slice_index, slice_set, Option, None, Some, MatchOption}
+use Rattle.samediff_dict.specs.declared.numbering.Candidates.{Candidates}
+use Rattle.samediff_dict.specs.declared.partition.Partition.{Partition}
+use Rattle.samediff_dict.specs.declared.moved.Move.{Move}
+use Rattle.samediff_dict.specs.declared.descending.Descent.{Descent}
+use Rattle.samediff_dict.specs.PlaceGroups.{AreBelow}
+use Rattle.samediff_dict.specs.Partition.{AreTogether, IsListed}
+use Rattle.samediff_dict.specs.Moved.{is_mixed}
+use Rattle.samediff_dict.specs.GainTable.{candidates_in, alike_at, alike_but}
+
+-- whether a pair counts: each does, or after a replacement that of a moved class and one that isn't
+abbrev pub is_counted : Option Move → ℕ → ℕ → Bool
+is_counted None low high = true
+is_counted (Some step) low high = is_mixed step.numbers.now step.old step.new low high
+
+-- the pairs that the gains of a pattern were by: none, or those from before the replacement
+abbrev pub together_before : List Candidates → List ℕ → Option Move → ℕ → ℕ → ℕ → Bool
+together_before patterns chosen None pattern low high = false
+together_before patterns chosen (Some step) pattern low high = alike_but patterns chosen pattern low high
+
+-- the pairs that they are to be by
+abbrev pub together_after : List Candidates → List ℕ → ℕ → Option Move → ℕ → ℕ → ℕ → Bool
+together_after patterns chosen out None pattern low high = alike_but patterns chosen pattern low high
+together_after patterns chosen out (Some step) pattern low high = alike_but patterns (slice_set chosen out step.new) pattern low high
+
+module _ (d : Descent) where
+  -- the number of each class at a pattern
+  abbrev pub numbers_at : ℕ → List ℕ
+  numbers_at pattern = (candidates_in d.patterns.now pattern).numbers
+
+  -- The step is at the pattern that is left out, from the number that is chosen there.
+  pub record IsDescentStep (step : Move) : Type 0 where
+    pub within : d.out < length d.patterns.now
+    pub numbers_are : step.numbers.now ≡ numbers_at d.out
+    pub old_is : step.old ≡ slice_index d.chosen.now d.out
+
+  -- Each class has the number of a candidate at each pattern, and a number is chosen for each. With no step no pattern is left out.
+  pub record CanDescend : Type 0 where
+    pub few : d.count < 2 ^ 32
+    pub one_chosen : length d.chosen.now ≡ length d.patterns.now
+    pub one_each : (pattern : ℕ) → pattern < length d.patterns.now → length (numbers_at pattern) ≡ d.count
+    pub known : (pattern : ℕ) → pattern < length d.patterns.now → AreBelow (numbers_at pattern) (candidates_in d.patterns.now pattern).count
+    pub step_is : MatchOption d.step (d.out ≡ length d.patterns.now) IsDescentStep
+
+  -- Two classes are alike at the patterns in a range but for the one that is left out, and at those outside the range.
+  abbrev pub AreAlikeIn : ℕ → ℕ → ℕ → ℕ → Type 0
+  AreAlikeIn first end low high = (pattern : ℕ) → first ≤ pattern → pattern < end → pattern ≢ d.out → alike_at d.patterns.now d.chosen.now pattern low high ≡ true
+
+  abbrev pub AreAlikeOutside : ℕ → ℕ → ℕ → ℕ → Type 0
+  AreAlikeOutside first end low high = AreAlikeIn 0 first low high × AreAlikeIn end (length d.patterns.now) low high
+
+  -- The partition has no other pairs than those that are alike outside a range, and of them all that count.
+  pub record HasAlike (first end : ℕ) (part : Partition) : Type 0 where
+    pub listed : IsListed d.count part
+    pub within : (low high : ℕ) → low < d.count → high < d.count → AreTogether part low high → AreAlikeOutside first end low high
+    pub counted : (low high : ℕ) → low < d.count → high < d.count → AreAlikeOutside first end low high → is_counted d.step low high ≡ true → AreTogether part low high
+
+  -- The part has no other pairs of a whole than those that are alike in a range, and of them all that count.
+  pub record IsNarrowed (first end : ℕ) (whole part : Partition) : Type 0 where
+    pub listed : IsListed d.count part
+    pub within : (low high : ℕ) → low < d.count → high < d.count → AreTogether part low high → AreTogether whole low high × AreAlikeIn first end low high
+    pub counted : (low high : ℕ) → low < d.count → high < d.count → AreTogether whole low high × AreAlikeIn first end low high → is_counted d.step low high ≡ true → AreTogether part low high
+
+  -- the pairs that the gains of each pattern were by, and those that they are to be by
+  abbrev pub together_of_old : ℕ → ℕ → ℕ → Bool
+  together_of_old = together_before d.patterns.now d.chosen.now d.step
+
+  abbrev pub together_of_new : ℕ → ℕ → ℕ → Bool
+  together_of_new = together_after d.patterns.now d.chosen.now d.out d.step

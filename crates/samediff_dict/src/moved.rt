@@ -1,0 +1,158 @@
+//! A candidate in place of another at a pattern: the groups in which that can put classes together or part them, and the gains at
+//! another pattern after it.
+
+ghost use Rattle.std.specs.Prelude.{◌≡◌, ◌+◌, ◌*◌, ◌<◌, ◌≤◌, ◌^◌, EachIndex, IfOk, OnOk, filter, length, slice_index};
+ghost use Rattle.std.specs.List.{range_with_len};
+ghost use Rattle.samediff_dict.specs.Moved.{AreAtPlaces, AreGainsAfter, AreGainsBefore, AreMixedPlaces, AreSides, HasMixedOf, has_both_sides, is_moved};
+ghost use Rattle.samediff_dict.specs.Partition.{IsListed};
+ghost use Rattle.samediff_dict.specs.PlaceGroups.{AreBelow};
+
+use crate::groups::{PlaceGroups, side_of};
+use crate::partition::{Partition, picked};
+use std::alloc::{AllocError, Global};
+
+/// A candidate's number in place of another at a pattern. The list has the number of each class there.
+#[derive(Clone, Copy)]
+pub(crate) struct Move<'a> {
+    pub(crate) numbers: &'a [u32],
+    pub(crate) old: u32,
+    pub(crate) new: u32,
+}
+
+impl Move<'_> {
+    // Whether a class has the old number or the new one.
+    fn moves(&self, class: usize) -> bool
+        requires { class < length self.now.numbers.now }
+        ensures { result ≡ is_moved self.now.numbers.now self.now.old self.now.new class }
+    {
+        let number = self.numbers[class];
+        number == self.old || number == self.new
+    }
+}
+
+impl PlaceGroups {
+    // The places of the groups in which one that is moved stands with one that isn't, ascending.
+    fn mixed(&self, alloc: Global, step: Move) -> Result<Vec<u32>, AllocError>
+        requires long { length step.numbers.now ≡ length self.now.group_of.items }
+        requires few { length self.now.group_of.items < 2 ^ 32 }
+        requires within { AreBelow self.now.group_of.items self.now.count }
+        ensures { IfOk result (λ places. AreMixedPlaces self.now.group_of.items step.entry.numbers.now step.entry.old step.entry.new places.items) }
+    {
+        let sides = self.sides(alloc, step)?;
+        self.two_sided(alloc, sides.as_slice())
+    }
+
+    // Marks for each group whether a place stands in it that is moved, and whether one does that isn't.
+    fn sides(&self, alloc: Global, step: Move) -> Result<Vec<bool>, AllocError>
+        requires long { length step.numbers.now ≡ length self.now.group_of.items }
+        requires within { AreBelow self.now.group_of.items self.now.count }
+        ensures { IfOk result (λ sides. AreSides self.now.group_of.items self.now.count step.entry.numbers.now step.entry.old step.entry.new (length self.now.group_of.items) sides.items) }
+    {
+        let groups = self.group_of.as_slice();
+        let mut sides = vec![in alloc; false; 2 * self.count as usize]?;
+        for place in 0..groups.len() {
+            let side = side_of(groups[place], step.moves(place));
+            sides[side] = true;
+        }
+        Ok(sides)
+    }
+
+    // The places of the groups of which both sides are marked, ascending.
+    fn two_sided(&self, alloc: Global, sides: &[bool]) -> Result<Vec<u32>, AllocError>
+        requires few { length self.now.group_of.items < 2 ^ 32 }
+        requires within { AreBelow self.now.group_of.items self.now.count }
+        requires long { length sides.now ≡ 2 * self.now.count }
+        ensures { IfOk result (λ places. places.items ≡ filter (has_both_sides self.now.group_of.items sides.now) (range_with_len 0 (length self.now.group_of.items))) }
+    {
+        let groups = self.group_of.as_slice();
+        let mut places = Vec::new(alloc);
+        for place in 0..groups.len() {
+            if has_both_sides(groups, sides, place) {
+                places.push(place as u32)?;
+            }
+        }
+        Ok(places)
+    }
+}
+
+impl Partition {
+    /// The groups in which a class that is moved stands with one that isn't.
+    pub(crate) fn mixed(&self, alloc: Global, step: Move) -> Result<Partition, AllocError>
+        requires few { length step.numbers.now < 2 ^ 32 }
+        requires listed { IsListed (length step.numbers.now) self.now }
+        ensures listed { IfOk result (IsListed (length step.entry.numbers.now)) }
+        ensures has { IfOk result (λ part. HasMixedOf (length step.entry.numbers.now) self.now part step.entry.numbers.now step.entry.old step.entry.new) }
+    {
+        let own_numbers = picked(alloc, step.numbers, self.classes.as_slice())?;
+        let own = Move {
+            numbers: own_numbers.as_slice(),
+            old: step.old,
+            new: step.new,
+        };
+        let places = self.groups.mixed(alloc, own)?;
+        self.at_places(alloc, places.as_slice())
+    }
+
+    // The classes at these places of the list, in their groups.
+    fn at_places(&self, alloc: Global, places: &[u32]) -> Result<Partition, AllocError>
+        requires one_each { length self.now.groups.group_of.items ≡ length self.now.classes.items }
+        requires within { AreBelow places.now (length self.now.classes.items) }
+        ensures { IfOk result (AreAtPlaces self.now places.now) }
+    {
+        let group_of = picked(alloc, self.groups.group_of.as_slice(), places)?;
+        Ok(Partition {
+            classes: picked(alloc, self.classes.as_slice(), places)?,
+            groups: PlaceGroups {
+                group_of,
+                count: self.groups.count,
+            },
+        })
+    }
+
+    /// Repairs the gains of a pattern's candidates after a replacement at another pattern. The partition has the pairs that it may
+    /// put together or part.
+    pub(crate) fn repair(
+        &self,
+        alloc: Global,
+        step: Move,
+        answers: &[u32],
+        gains: &mut [u64],
+    ) -> Result<(), AllocError>
+        requires listed { IsListed (length answers.now) self.now }
+        requires numbers { length step.numbers.now ≡ length answers.now }
+        requires few { length answers.now < 2 ^ 32 }
+        requires known { AreBelow answers.now (length gains.old) }
+        requires gains { AreGainsBefore self.now step.numbers.now step.old step.new answers.now gains.old }
+        ensures { OnOk result (AreGainsAfter self.now step.entry.numbers.now step.entry.old step.entry.new answers.now gains.old gains.new) }
+    {
+        let after = self.cut(alloc, step.numbers, step.new)?;
+        let before = self.cut(alloc, step.numbers, step.old)?;
+        let more = after.gains(alloc, answers, gains.len())?;
+        let fewer = before.gains(alloc, answers, gains.len())?;
+        exchange(gains, more.as_slice(), fewer.as_slice());
+        Ok(())
+    }
+}
+
+// Whether both sides of the group of a place are marked.
+fn has_both_sides(groups: &[u32], sides: &[bool], place: usize) -> bool
+    requires place { place < length groups.now }
+    requires within { 2 * slice_index groups.now place + 1 < length sides.now }
+    ensures { result ≡ has_both_sides groups.now sides.now place }
+{
+    let group = groups[place];
+    sides[side_of(group, true)] && sides[side_of(group, false)]
+}
+
+// Adds what is more to each number, and takes away what is fewer.
+fn exchange(gains: &mut [u64], more: &[u64], fewer: &[u64])
+    requires more_each { length more.now ≡ length gains.old }
+    requires fewer_each { length fewer.now ≡ length gains.old }
+    requires fits { EachIndex gains.old (λ place. slice_index gains.old place + slice_index more.now place < 2 ^ 64) }
+    requires enough { EachIndex gains.old (λ place. slice_index fewer.now place ≤ slice_index gains.old place + slice_index more.now place) }
+    ensures { EachIndex gains.old (λ place. slice_index gains.new place + slice_index fewer.now place ≡ slice_index gains.old place + slice_index more.now place) }
+{
+    for place in 0..gains.len() {
+        gains[place] = gains[place] + more[place] - fewer[place];
+    }
+}
