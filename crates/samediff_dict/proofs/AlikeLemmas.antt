@@ -14,10 +14,11 @@ use Rattle.samediff_dict.specs.PlaceGroups.{AreGains, gain_at, tells_apart}
 use Rattle.samediff_dict.specs.Partition.{group_in, are_together, IsListed}
 use Rattle.samediff_dict.specs.Moved.{same_side, is_mixed}
 use Rattle.samediff_dict.specs.GainTable.{candidates_in, alike_at, alike_but}
-use Rattle.samediff_dict.proofs.PairLemmas.{one_if, sum_to, sum_to-zero, pairs_are, pairs_same}
+use Rattle.samediff_dict.proofs.PairLemmas.{one_if, sum_to, sum_to-zero, pairs_are}
 use Rattle.samediff_dict.proofs.GainLemmas.{gains_where}
 use Rattle.samediff_dict.proofs.ToldLemmas.{beq_same}
 use Rattle.samediff_dict.proofs.ListedLemmas.{placed}
+use Rattle.samediff_dict.proofs.MovedLemmas.{gain_same}
 
 -- ---- alike at each pattern but one
 
@@ -95,18 +96,9 @@ sides_stay numbers old new low high e = elim (cases_eq old new) [
 
 -- ---- gains by the same pairs
 
-gain_same : (together other : ℕ → ℕ → Bool) (answers : List ℕ) → ((low high : ℕ) → low < high → high < length answers → together low high ≡ other low high) → (answer : ℕ) → gain_at together answers answer ≡ gain_at other answers answer
-unfolding gain_at
-gain_same together other answers same answer =
-    let n = length answers in
-    pairs_are n (tells_apart together answers answer)
-    ∙ (pairs_same n (tells_apart together answers answer) (tells_apart other answers answer)
-    (λ low high l h. ap (λ b. b && not (beq (eqb (get_or answers low 0) answer) (eqb (get_or answers high 0) answer))) (same low high l h))
-    ∙ sym (pairs_are n (tells_apart other answers answer)))
-
 pub gains_same : (together other : ℕ → ℕ → Bool) {answers gains : List ℕ} {candidates : ℕ} → AreGains together answers candidates gains → ((low high : ℕ) → low < high → high < length answers → together low high ≡ other low high)
     → AreGains other answers candidates gains
-gains_same together other {answers} are same = gains_where are (gain_same together other answers same)
+gains_same together other {answers} are same = gains_where are (λ answer. gain_same together other answers answer same)
 
 pub gain_nothing : (answers : List ℕ) (answer : ℕ) → gain_at (λ _ _. false) answers answer ≡ 0
 unfolding gain_at

@@ -5,7 +5,7 @@ use Rattle.std.specs.Bool.{beq}
 use Rattle.std.specs.List.{range_with_len}
 use Rattle.std.specs.Cmp.Derive.{one_truth}
 use Rattle.std.proofs.Math.Nat.{mul-le-mul_left}
-use Rattle.std.proofs.lemmas.Bool.{cases_eq, cases_Bool, eqb-true, eq-eqb, and_parts, and_from, false_from_ne_true}
+use Rattle.std.proofs.lemmas.Bool.{cases_eq, eqb-true, eq-eqb, and_parts, and_from}
 use Rattle.net_model.proofs.Elements.{true_false}
 use Rattle.std.proofs.lemmas.List.{length-set, get_or-set_same, get_or-set_other}
 use Rattle.samediff_dict.specs.declared.partition.Partition.{Partition}
@@ -18,6 +18,7 @@ use Rattle.samediff_dict.proofs.ListedLemmas.{group_at, placed}
 use Rattle.samediff_dict.proofs.PairLemmas.{sum_to, sum_to_where, sum_to_both, one_if, pairs_to, pairs_are, pairs_same}
 use Rattle.samediff_dict.proofs.SharingLemmas.{filter_ascends, filter_below, filter-contains}
 use Rattle.samediff_dict.proofs.TallyLemmas.{pairs_all}
+use Rattle.samediff_dict.proofs.ToldLemmas.{same_beq, beq_same}
 
 -- ---- pairs that pass two tests
 
@@ -49,16 +50,6 @@ gain_same together other answers answer same =
     pairs_are n (tells_apart together answers answer)
     ∙ (pairs_same n (tells_apart together answers answer) (tells_apart other answers answer) (λ low high l h. ap (λ b. b && not (beq (eqb (get_or answers low 0) answer) (eqb (get_or answers high 0) answer))) (same low high l h))
     ∙ sym (pairs_are n (tells_apart other answers answer)))
-
-beq_same : (a b : Bool) → a ≡ b → beq a b ≡ true
-beq_same true b e = ap (beq true) (sym e)
-beq_same false b e = ap (beq false) (sym e)
-
-same_beq : (a b : Bool) → beq a b ≡ true → a ≡ b
-same_beq true true e = refl
-same_beq true false e = sym e
-same_beq false true e = e
-same_beq false false e = refl
 
 -- the gains after a cut
 pub gain_cut : (p : Partition) {r : Partition} (numbers answers : List ℕ) (number : ℕ) → length numbers ≡ length answers → IsPartition (length numbers) (TogetherAt p numbers number) r
@@ -236,50 +227,3 @@ module _ (numbers : List ℕ) (old new : ℕ) {p part : Partition} (listed : IsL
 
   pub has_mixed : HasMixedOf (length numbers) p part numbers old new
   has_mixed = record { within = λ low high hl hh. in_whole low high; mixed = λ low high hl hh. kept low high }
-
--- ---- the pairs of a part with the mixed ones are enough
-
-sides_alike : (a b c d : Bool) → (a ≡ true → b ≡ true → ⊥) → (c ≡ true → d ≡ true → ⊥) → not (beq (a || b) (c || d)) ≡ false → beq b d ≡ beq a c
-sides_alike true true c d one other same = absurd (one refl refl)
-sides_alike true false true true one other same = absurd (other refl refl)
-sides_alike true false true false one other same = refl
-sides_alike true false false true one other same = refl
-sides_alike true false false false one other same = true_false true refl same
-sides_alike false true true true one other same = absurd (other refl refl)
-sides_alike false true true false one other same = refl
-sides_alike false true false true one other same = refl
-sides_alike false true false false one other same = true_false true refl same
-sides_alike false false true true one other same = absurd (other refl refl)
-sides_alike false false true false one other same = true_false true refl same
-sides_alike false false false true one other same = true_false true refl same
-sides_alike false false false false one other same = refl
-
--- two classes that are both moved, or both not, are on one side of the new number where they are of the old one
-same_sides : (numbers : List ℕ) (old new low high : ℕ) → is_mixed numbers old new low high ≡ false → same_side numbers new low high ≡ same_side numbers old low high
-same_sides numbers old new low high same =
-    let has : ℕ → ℕ → Bool = λ class number. eqb (get_or numbers class 0) number in
-    elim (cases_eq old new) [
-      | inl e ↦ ap (λ number. same_side numbers number low high) (sym e)
-      | inr ne ↦
-          let once : (class : ℕ) → has class old ≡ true → has class new ≡ true → ⊥ = λ class one other. ne (sym (eqb-true (get_or numbers class 0) old one) ∙ eqb-true (get_or numbers class 0) new other) in
-          sides_alike (has low old) (has low new) (has high old) (has high new) (once low) (once high) same
-    ]
-
--- Of the classes that are alike the part has all mixed pairs, and no others than those that are alike: what is together outside it
--- stays so.
-pub moved_within : (classes : ℕ) {part : Partition} (numbers : List ℕ) (old new : ℕ) (alike : ℕ → ℕ → Bool) → ((low high : ℕ) → low < classes → high < classes → AreTogether part low high → alike low high ≡ true)
-    → ((low high : ℕ) → low < classes → high < classes → alike low high ≡ true → is_mixed numbers old new low high ≡ true → AreTogether part low high)
-    → AreMovedWithin classes part numbers old new (λ low high. alike low high && same_side numbers old low high) (λ low high. alike low high && same_side numbers new low high)
-moved_within classes {part} numbers old new alike are has =
-    let so : (low high : ℕ) → low < high → high < classes → are_together part low high ≡ true → alike low high ≡ true = λ low high l h t. are low high (omega (arith, l, h)) h (eqb-true (group_in part low) (group_in part high) t) in
-    record {
-      was = λ low high l h t. ap (λ b. b && same_side numbers old low high) (so low high l h t);
-      is = λ low high l h t. ap (λ b. b && same_side numbers new low high) (so low high l h t);
-      others = λ low high l h apart. elim (cases_Bool (alike low high)) [
-        | inl both ↦
-            let unmixed : is_mixed numbers old new low high ≡ false =
-            false_from_ne_true (is_mixed numbers old new low high) (λ mixed. true_false (are_together part low high) (eq-eqb (group_in part low) (group_in part high) (has low high (omega (arith, l, h)) h both mixed)) apart) in
-            ap (λ b. alike low high && b) (same_sides numbers old new low high unmixed)
-        | inr not_both ↦ ap (λ b. b && same_side numbers new low high) not_both ∙ sym (ap (λ b. b && same_side numbers old low high) not_both)
-      ];
-    }
