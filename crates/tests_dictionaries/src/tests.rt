@@ -6,5 +6,6 @@ mod circuits;
 mod made;
 mod numbered;
 mod rows;
+mod sparse;
 mod spelled;
 mod tables;
