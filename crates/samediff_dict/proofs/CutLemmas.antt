@@ -1,13 +1,14 @@
 -- Partitions of some of the classes of another, as after a cut.
-use Rattle.std.proofs.Common.{◌≡◌, ◌≢◌, ◌∙◌, ℕ, ◌+◌, ◌<◌, Bool, true, not, eqb, List, length, get_or, replicate, refl, sym, ap, subst, arith, ◌*◌}
+use Rattle.std.proofs.Common.{◌≡◌, ◌≢◌, ◌∙◌, ℕ, ◌+◌, ◌<◌, true, not, eqb, List, length, get_or, replicate, refl, sym, ap, subst, arith, ◌*◌}
 use Rattle.std.specs.Prelude.{AllPairs, Contains, filter}
 use Rattle.std.specs.List.{range_with_len}
 use Rattle.std.proofs.lemmas.List.{get_or_default, get_or-replicate, length-replicate}
 use Rattle.std.proofs.lemmas.List.FromFn.{get_or-range_with_len, length-range_with_len}
 use Rattle.class_refine.proofs.Ranges.{range_ascends}
 use Rattle.samediff_dict.specs.declared.partition.Partition.{Partition}
-use Rattle.samediff_dict.specs.PlaceGroups.{AreBelow, AreGroups, InBothAt, in_one, is_shared, pairs_where}
-use Rattle.samediff_dict.specs.Partition.{group_in, are_together, TogetherAt, IsListed, IsPartition, pairs_between}
+use Rattle.samediff_dict.specs.PlaceGroups.{AreBelow, AreGroups, HaveOrLackNumber, HaveSameNumber, InBoth, InBothAt, in_one, is_shared, pairs_where}
+use Rattle.samediff_dict.specs.Partition.{AreKeysOf, AreTogether, group_in, are_together, IsListed, IsPartition, pairs_between}
+use Rattle.samediff_dict.proofs.CellLemmas.{carried}
 use Rattle.samediff_dict.proofs.PairLemmas.{pairs_to, pairs_are}
 use Rattle.samediff_dict.proofs.TallyLemmas.{pairs_all}
 use Rattle.samediff_dict.proofs.SharingLemmas.{filter_ascends, filter_below, filter-contains, shared_with}
@@ -77,20 +78,23 @@ apart_is {n} {p} listed together is =
 
 -- ---- after a cut
 
-module _ (numbers : List ℕ) (number : ℕ) {p : Partition} (listed : IsListed (length numbers) p) (own : List ℕ) (own_long : length own ≡ length p.classes.items)
-    (own_are : (k : ℕ) → k < length p.classes.items → get_or own k 0 ≡ get_or numbers (get_or p.classes.items k 0) 0)
-    (parts : List ℕ) (count : ℕ) (cut : AreGroups (length own) (InBothAt p.groups.group_of.items own number) parts count)
-    (places : List ℕ) (are : places ≡ filter (is_shared parts) (range_with_len 0 (length parts))) where
-  abbrev it : ℕ → Bool
-  it class = eqb (get_or numbers class 0) number
+-- groups of places by another relation
+pub groups_where : {n count : ℕ} {R S : ℕ → ℕ → Type 0} {parts : List ℕ} → AreGroups n R parts count → ((i j : ℕ) → i < n → j < n → S i j → R i j) → ((i j : ℕ) → i < n → j < n → R i j → S i j) → AreGroups n S parts count
+groups_where cut into out = record {
+  one_each = cut.one_each;
+  within = cut.within;
+  same = λ i j hi hj s. cut.same i j hi hj (into i j hi hj s);
+  together_are = λ i j hi hj e. out i j hi hj (cut.together_are i j hi hj e);
+}
 
+-- The groups are cut by a relation of the classes, and the places of those that aren't alone are kept.
+module _ {n : ℕ} {p : Partition} (listed : IsListed n p) (alike : ℕ → ℕ → Type 0) (itself : (class : ℕ) → alike class class) (parts : List ℕ) (count : ℕ)
+    (cut : AreGroups (length p.classes.items) (λ i j. HaveSameNumber p.groups.group_of.items i j × alike (get_or p.classes.items i 0) (get_or p.classes.items j 0)) parts count)
+    (places : List ℕ) (are : places ≡ filter (is_shared parts) (range_with_len 0 (length parts))) where
   place_within : (k : ℕ) → k < length places → get_or places k 0 < length p.classes.items
   place_within k h =
       let below : get_or places k 0 < length parts = subst (λ (xs : List ℕ). (j : ℕ) → j < length xs → get_or xs j 0 < length parts) (sym are) (λ j l. filter_below (is_shared parts) (length parts) j 0 l) k h in
-      omega (arith, below, cut.one_each, own_long)
-
-  its_own : (k : ℕ) (class : ℕ) → k < length p.classes.items → get_or p.classes.items k 0 ≡ class → eqb (get_or own k 0) number ≡ it class
-  its_own k class h is = ap (λ m. eqb m number) (own_are k h) ∙ ap it is
+      omega (arith, below, cut.one_each)
 
   module _ {r : Partition} (long : length r.classes.items ≡ length places) (groups_long : length r.groups.group_of.items ≡ length places)
       (classes_are : (k : ℕ) → k < length places → get_or r.classes.items k 0 ≡ get_or p.classes.items (get_or places k 0) 0)
@@ -104,20 +108,19 @@ module _ (numbers : List ℕ) (number : ℕ) {p : Partition} (listed : IsListed 
       classes_are = classes_are;
       groups_within = λ k h.
           let hk : k < length places = omega (arith, h, groups_long) in
-          omega (arith, groups_are k hk, count_is, cut.within (get_or places k 0) (omega (arith, place_within k hk, cut.one_each, own_long)));
+          omega (arith, groups_are k hk, count_is, cut.within (get_or places k 0) (omega (arith, place_within k hk, cut.one_each)));
     }
 
-    pub cut_partition : IsPartition (length numbers) (TogetherAt p numbers number) r
-    cut_partition = partition_by (picked_listed listed picked) (TogetherAt p numbers number) (λ class. (refl, refl))
+    pub parted : IsPartition n (λ low high. AreTogether p low high × alike low high) r
+    parted = partition_by (picked_listed listed picked) (λ low high. AreTogether p low high × alike low high) (λ class. (refl, itself class))
         (λ low high hl hh ne both.
         let at = placed listed low high ne both.0 in
         let i = at.low_at in
         let j = at.high_at in
         let other : i ≢ j = λ e. ne (sym at.low_is ∙ (ap (λ k. get_or p.classes.items k 0) e ∙ at.high_is)) in
-        let hi : i < length parts = omega (arith, at.low_within, cut.one_each, own_long) in
-        let hj : j < length parts = omega (arith, at.high_within, cut.one_each, own_long) in
-        let one : get_or parts i 0 ≡ get_or parts j 0 =
-        cut.same i j (omega (arith, hi, cut.one_each)) (omega (arith, hj, cut.one_each)) (at.same, its_own i low at.low_within at.low_is ∙ (both.1 ∙ sym (its_own j high at.high_within at.high_is))) in
+        let hi : i < length parts = omega (arith, at.low_within, cut.one_each) in
+        let hj : j < length parts = omega (arith, at.high_within, cut.one_each) in
+        let one : get_or parts i 0 ≡ get_or parts j 0 = cut.same i j at.low_within at.high_within (at.same, carried alike (sym at.low_is) (sym at.high_is) both.1) in
         let found : (k : ℕ) → k < length parts → is_shared parts k ≡ true → (m : ℕ) × (m < length places) × (get_or places m 0 ≡ k) = λ k h so.
         at_place places k (subst (λ (xs : List ℕ). Contains xs k) (sym are) (filter-contains (is_shared parts) (length parts) k h so)) in
         let a = found i hi (shared_with parts i j other hi hj one) in
@@ -138,7 +141,23 @@ module _ (numbers : List ℕ) (number : ℕ) {p : Partition} (listed : IsListed 
         let b = get_or places j 0 in
         let ha = place_within i li in
         let hb = place_within j lj in
-        let both = cut.together_are a b (omega (arith, ha, own_long)) (omega (arith, hb, own_long)) (sym (groups_are i li) ∙ (e ∙ groups_are j lj)) in (
+        let both = cut.together_are a b ha hb (sym (groups_are i li) ∙ (e ∙ groups_are j lj)) in (
           ap (group_in p) (classes_are i li) ∙ (group_at listed a ha ∙ (both.0 ∙ (sym (group_at listed b hb) ∙ sym (ap (group_in p) (classes_are j lj))))),
-          sym (its_own a (get_or r.classes.items i 0) ha (sym (classes_are i li))) ∙ (both.1 ∙ its_own b (get_or r.classes.items j 0) hb (sym (classes_are j lj))),
+          carried alike (sym (classes_are i li)) (sym (classes_are j lj)) both.1,
         ))
+
+-- by one number of a list
+pub cut_at_number : (numbers : List ℕ) (number : ℕ) (p : Partition) (own : List ℕ) → length own ≡ length p.classes.items → ((k : ℕ) → k < length p.classes.items → get_or own k 0 ≡ get_or numbers (get_or p.classes.items k 0) 0)
+    → (parts : List ℕ) (count : ℕ) → AreGroups (length own) (InBothAt p.groups.group_of.items own number) parts count
+    → AreGroups (length p.classes.items) (λ i j. HaveSameNumber p.groups.group_of.items i j × HaveOrLackNumber numbers number (get_or p.classes.items i 0) (get_or p.classes.items j 0)) parts count
+cut_at_number numbers number p own long own_are parts count cut =
+    let one : AreGroups (length p.classes.items) (InBothAt p.groups.group_of.items own number) parts count = subst (λ n. AreGroups n (InBothAt p.groups.group_of.items own number) parts count) long cut in
+    let is : (k : ℕ) → k < length p.classes.items → eqb (get_or own k 0) number ≡ eqb (get_or numbers (get_or p.classes.items k 0) 0) number = λ k h. ap (λ m. eqb m number) (own_are k h) in
+    groups_where one (λ i j hi hj s. (s.0, is i hi ∙ (s.1 ∙ sym (is j hj)))) (λ i j hi hj s. (s.0, sym (is i hi) ∙ (s.1 ∙ is j hj)))
+
+-- by keys
+pub cut_by_keys : (key : ℕ → ℕ) (p : Partition) (keys : List ℕ) → AreKeysOf key p.classes.items keys → (parts : List ℕ) (count : ℕ) → AreGroups (length keys) (InBoth p.groups.group_of.items keys) parts count
+    → AreGroups (length p.classes.items) (λ i j. HaveSameNumber p.groups.group_of.items i j × (key (get_or p.classes.items i 0) ≡ key (get_or p.classes.items j 0))) parts count
+cut_by_keys key p keys of parts count cut =
+    let one : AreGroups (length p.classes.items) (InBoth p.groups.group_of.items keys) parts count = subst (λ n. AreGroups n (InBoth p.groups.group_of.items keys) parts count) of.one_each cut in
+    groups_where one (λ i j hi hj s. (s.0, of.each i hi ∙ (s.1 ∙ sym (of.each j hj)))) (λ i j hi hj s. (s.0, sym (of.each i hi) ∙ (s.1 ∙ of.each j hj)))

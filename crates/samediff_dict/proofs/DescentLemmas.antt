@@ -1,5 +1,5 @@
 -- The descent over halves of the patterns: its partitions, and the gains that they count or repair.
-use Rattle.std.proofs.Common.{◌≡◌, ◌≢◌, ◌∙◌, ℕ, ◌+◌, ◌<◌, ◌≤◌, Bool, true, false, eqb, List, [], length, get_or, set, Option, None, Some, Result, Ok, Err, refl, sym, ap, subst, arith, inl, inr}
+use Rattle.std.proofs.Common.{◌≡◌, ◌≢◌, ◌∙◌, ℕ, ◌+◌, ◌<◌, ◌≤◌, Bool, true, false, List, [], length, get_or, set, Option, None, Some, Result, Ok, Err, refl, sym, ap, subst, arith, inl, inr}
 use Rattle.std.specs.Cmp.Derive.{one_truth}
 use Rattle.std.proofs.lemmas.Bool.{cases_eq, cases_lt, cases_Bool, eqb-true, eq-eqb, false_from_ne_true, both_ways}
 use Rattle.std.proofs.lemmas.List.{length-set, get_or-set_same, get_or-set_other, get_or_default}
@@ -10,12 +10,11 @@ use Rattle.samediff_dict.specs.declared.partition.Partition.{Partition}
 use Rattle.samediff_dict.specs.declared.moved.Move.{Move}
 use Rattle.samediff_dict.specs.declared.descending.Descent.{Descent}
 use Rattle.samediff_dict.specs.PlaceGroups.{AreGains}
-use Rattle.samediff_dict.specs.Partition.{group_in, are_together, TogetherAt, IsListed, IsPartition}
+use Rattle.samediff_dict.specs.Partition.{group_in, are_together, IsListed}
 use Rattle.samediff_dict.specs.Moved.{AreGainsAfter, AreGainsBefore, AreMovedWithin, HasMixedOf, is_mixed, same_side}
 use Rattle.samediff_dict.specs.GainTable.{AreGainsIn, KeepsRowsOutside, candidates_in, alike_at, alike_but}
 use Rattle.samediff_dict.specs.Descent.{CanDescend, IsDescentStep, AreAlikeIn, AreAlikeOutside, HasAlike, IsNarrowed, is_counted, numbers_at, together_after, together_before, together_of_new, together_of_old}
 use Rattle.samediff_dict.proofs.CandidateLemmas.{none as no_candidates}
-use Rattle.samediff_dict.proofs.ToldLemmas.{same_beq, beq_same}
 use Rattle.samediff_dict.proofs.AlikeLemmas.{AreAlikeBut, but_decides, but_where, alike_itself, alike_other, alike_there, sides_stay, gains_same, none_together}
 
 -- ---- rows of gains
@@ -54,7 +53,7 @@ module _ (d : Descent) where
   alike_part : (first end from to low high : ℕ) → first ≤ from → to ≤ end → AreAlikeIn d first end low high → AreAlikeIn d from to low high
   alike_part first end from to low high less more alike q over below ne = alike q (omega (arith, less, over)) (omega (arith, more, below)) ne
 
-  itself : (first end low high : ℕ) → low ≡ high → AreAlikeIn d first end low high
+  pub itself : (first end low high : ℕ) → low ≡ high → AreAlikeIn d first end low high
   itself first end low high e q from below ne = subst (λ k. alike_at d.patterns.now d.chosen.now q low k ≡ true) e (alike_itself d.patterns.now d.chosen.now q low)
 
   -- ---- partitions
@@ -109,26 +108,6 @@ module _ (d : Descent) where
           alike_part 0 mid first mid low high (omega arith) (omega arith) both.0,
         ) so;
   }
-
-  -- by the number that is chosen at a pattern
-  pub cut_narrows : {part cut : Partition} {m : ℕ} (pattern number : ℕ) (numbers : List ℕ) → pattern ≢ d.out → numbers ≡ numbers_at d pattern → number ≡ get_or d.chosen.now pattern 0 → m ≡ d.count
-      → IsPartition m (TogetherAt part numbers number) cut → IsNarrowed d pattern (pattern + 1) part cut
-  cut_narrows {part} {cut} {m} pattern number numbers stays are is count partition =
-      let own : IsPartition d.count (TogetherAt part (numbers_at d pattern) (get_or d.chosen.now pattern 0)) cut =
-      subst (λ n. IsPartition n (TogetherAt part (numbers_at d pattern) (get_or d.chosen.now pattern 0)) cut) count
-      (subst (λ k. IsPartition m (TogetherAt part (numbers_at d pattern) k) cut) is (subst (λ (xs : List ℕ). IsPartition m (TogetherAt part xs number) cut) are partition)) in
-      let side : ℕ → Bool = λ class. eqb (get_or (numbers_at d pattern) class 0) (get_or d.chosen.now pattern 0) in
-      record {
-        listed = own.listed;
-        within = λ low high hl hh e.
-            let both = own.together_are low high hl hh e in (
-              both.0,
-              λ q from below ne.
-                  let same : pattern ≡ q = omega (arith, from, below) in
-                  subst (λ k. alike_at d.patterns.now d.chosen.now k low high ≡ true) same (beq_same (side low) (side high) both.1),
-            );
-        counted = λ low high hl hh both so. own.same low high hl hh (both.0, same_beq (side low) (side high) (both.1 pattern (omega arith) (omega arith) stays));
-      }
 
   -- groups with no pair that counts are left out, and there is no other pattern
   pub mixed_narrows : {part rest : Partition} {m : ℕ} (first end : ℕ) (step : Move) → d.step ≡ Some step → ((q : ℕ) → first ≤ q → q < end → q ≡ d.out) → m ≡ d.count → IsListed m rest → HasMixedOf m part rest step.numbers.now step.old step.new

@@ -1,6 +1,7 @@
 pub mod Opened
 pub mod PairLemmas
 pub mod ImproveLemmas
+pub mod KeyLemmas
 pub mod BegunLemmas
 pub mod CellLemmas
 pub mod GainLemmas

@@ -118,14 +118,18 @@ module _ {n : ℕ} {p : Partition} (listed : IsListed n p) where
   pub listed_few : length p.classes.items ≤ n
   listed_few = ascending_few p.classes.items n listed.ascending listed.below
 
+  -- the place of a listed class is the first one at which it stands
+  pub position_at : (k : ℕ) → k < length p.classes.items → position_or_len (λ other. eqb other (get_or p.classes.items k 0)) p.classes.items ≡ k
+  position_at k h =
+      let class = get_or p.classes.items k 0 in
+      position_or_len_is (is_class class) p.classes.items k 0 (omega (arith, h)) (λ i l. ne_eqb (get_or p.classes.items i 0) class (λ e. omega (arith, e, listed.ascending i k 0 l h))) (λ _. eq-eqb class class refl)
+
   -- the group of a listed class is that of its place
   pub group_at : (k : ℕ) → k < length p.classes.items → group_in p (get_or p.classes.items k 0) ≡ get_or p.groups.group_of.items k 0
   unfolding group_in
   group_at k h =
       let class = get_or p.classes.items k 0 in
-      let first : position_or_len (is_class class) p.classes.items ≡ k =
-      position_or_len_is (is_class class) p.classes.items k 0 (omega (arith, h)) (λ i l. ne_eqb (get_or p.classes.items i 0) class (λ e. omega (arith, e, listed.ascending i k 0 l h))) (λ _. eq-eqb class class refl) in
-      ap (λ i. get_or p.groups.group_of.items i (p.groups.count + class)) first ∙ get_or_default p.groups.group_of.items k (p.groups.count + class) 0 (omega (arith, h, listed.one_each))
+      ap (λ i. get_or p.groups.group_of.items i (p.groups.count + class)) (position_at k h) ∙ get_or_default p.groups.group_of.items k (p.groups.count + class) 0 (omega (arith, h, listed.one_each))
 
   -- a class is listed, or alone
   place_cases : (class : ℕ) → ((k : ℕ) × (k < length p.classes.items) × (get_or p.classes.items k 0 ≡ class)) ⊎ (group_in p class ≡ p.groups.count + class)

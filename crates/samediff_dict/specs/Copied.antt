@@ -1,5 +1,6 @@
 -- The answers that are chosen, by their numbers, and the entries of the classes against them.
 use Rattle.std.specs.Prelude.{◌≡◌, ℕ, ◌+◌, ◌<◌, ◌==◌, Bool, not, List, length, map, zip, slice_index, slice_index_or, Contains}
+use Rattle.std.specs.List.{range_with_len}
 use Rattle.net_model.specs.ClassTable.{ClassTable, class_count, representative}
 use Rattle.table_dicts.specs.AnswerTable.{Answers, answer_to}
 use Rattle.samediff_dict.specs.declared.numbering.Candidates.{Candidates}
@@ -39,3 +40,7 @@ pub record HasNumbers (class : ℕ) (patterns : List Candidates) (chosen : List 
 -- the entry of a class: at each pattern, whether it has another number than the chosen one
 abbrev pub class_entry : List Candidates → List ℕ → ℕ → List Bool
 class_entry patterns chosen class = map (λ x. not (slice_index x.0.numbers class == x.1)) (zip patterns chosen)
+
+-- The rows are the entries of so many classes.
+abbrev pub AreEntries : ℕ → List Candidates → List ℕ → List (List Bool) → Type 0
+AreEntries classes patterns chosen entries = entries ≡ map (class_entry patterns chosen) (range_with_len 0 classes)

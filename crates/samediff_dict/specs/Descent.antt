@@ -1,11 +1,13 @@
 -- The descent over halves of the patterns: which pairs of classes its partitions have, and of which pairs the gains are.
-use Rattle.std.specs.Prelude.{◌≡◌, ◌≢◌, ◌<◌, ◌≤◌, ◌^◌, ℕ, Bool, true, false, List, length, slice_index, slice_set, Option, None, Some, MatchOption}
+use Rattle.std.specs.Prelude.{◌≡◌, ◌≢◌, ◌+◌, ◌<◌, ◌≤◌, ◌^◌, ◌==◌, ◌&&◌, ℕ, Bool, true, false, not, List, length, nat_lt, slice_index, slice_set, Option, None, Some, MatchOption}
+use Rattle.net_model.specs.Rows.{bit_of, row_bit}
 use Rattle.samediff_dict.specs.declared.numbering.Candidates.{Candidates}
 use Rattle.samediff_dict.specs.declared.partition.Partition.{Partition}
 use Rattle.samediff_dict.specs.declared.moved.Move.{Move}
 use Rattle.samediff_dict.specs.declared.descending.Descent.{Descent}
 use Rattle.samediff_dict.specs.PlaceGroups.{AreBelow}
 use Rattle.samediff_dict.specs.Partition.{AreTogether, IsListed}
+use Rattle.samediff_dict.specs.Copied.{AreEntries}
 use Rattle.samediff_dict.specs.Moved.{is_mixed}
 use Rattle.samediff_dict.specs.GainTable.{candidates_in, alike_at, alike_but}
 
@@ -35,12 +37,14 @@ module _ (d : Descent) where
     pub numbers_are : step.numbers.now ≡ numbers_at d.out
     pub old_is : step.old ≡ slice_index d.chosen.now d.out
 
-  -- Each class has the number of a candidate at each pattern, and a number is chosen for each. With no step no pattern is left out.
+  -- Each class has the number of a candidate at each pattern, a number is chosen for each, and there are the entries by these. With
+  -- no step no pattern is left out.
   pub record CanDescend : Type 0 where
     pub few : d.count < 2 ^ 32
     pub one_chosen : length d.chosen.now ≡ length d.patterns.now
     pub one_each : (pattern : ℕ) → pattern < length d.patterns.now → length (numbers_at pattern) ≡ d.count
     pub known : (pattern : ℕ) → pattern < length d.patterns.now → AreBelow (numbers_at pattern) (candidates_in d.patterns.now pattern).count
+    pub entries_are : AreEntries d.count d.patterns.now d.chosen.now d.entries.now
     pub step_is : MatchOption d.step (d.out ≡ length d.patterns.now) IsDescentStep
 
   -- Two classes are alike at the patterns in a range but for the one that is left out, and at those outside the range.
@@ -49,6 +53,11 @@ module _ (d : Descent) where
 
   abbrev pub AreAlikeOutside : ℕ → ℕ → ℕ → ℕ → Type 0
   AreAlikeOutside first end low high = AreAlikeIn 0 first low high × AreAlikeIn end (length d.patterns.now) low high
+
+  -- The key is a word with the bits of a class's entry at the patterns in a range, which fit it, but for the one that is left out.
+  pub record IsKeyIn (first end class key : ℕ) : Type 0 where
+    pub fits : key < 2 ^ 64
+    pub bits : (k : ℕ) → k < 64 → bit_of key k ≡ (nat_lt (first + k) end && (not (first + k == d.out) && row_bit d.entries.now class (first + k)))
 
   -- The partition has no other pairs than those that are alike outside a range, and of them all that count.
   pub record HasAlike (first end : ℕ) (part : Partition) : Type 0 where

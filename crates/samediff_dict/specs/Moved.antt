@@ -17,8 +17,8 @@ is_moved numbers old new class = slice_index numbers class == old || slice_index
 abbrev pub is_mixed : List ℕ → ℕ → ℕ → ℕ → ℕ → Bool
 is_mixed numbers old new low high = not (beq (is_moved numbers old new low) (is_moved numbers old new high))
 
--- The partition's pairs are those that were together by the old number and are by the new one; of all other pairs each is together
--- now where it was.
+-- Of the partition's pairs each was together where both classes have the old number or neither, and is where that holds of the new
+-- one; of all other pairs each is together now where it was.
 pub record AreMovedWithin (classes : ℕ) (p : Partition) (numbers : List ℕ) (old new : ℕ) (before after : ℕ → ℕ → Bool) : Type 0 where
   pub was : (low high : ℕ) → low < high → high < classes → are_together p low high ≡ true → before low high ≡ same_side numbers old low high
   pub is : (low high : ℕ) → low < high → high < classes → are_together p low high ≡ true → after low high ≡ same_side numbers new low high

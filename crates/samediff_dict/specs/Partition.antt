@@ -16,6 +16,15 @@ AreTogether p low high = group_in p low ≡ group_in p high
 abbrev pub TogetherAt : Partition → List ℕ → ℕ → ℕ → ℕ → Type 0
 TogetherAt p numbers number low high = AreTogether p low high × HaveOrLackNumber numbers number low high
 
+-- two classes are together in a partition, and have the same key
+abbrev pub TogetherBy : Partition → (ℕ → ℕ) → ℕ → ℕ → Type 0
+TogetherBy p key low high = AreTogether p low high × (key low ≡ key high)
+
+-- There is the key of each of these classes.
+pub record AreKeysOf (key : ℕ → ℕ) (classes keys : List ℕ) : Type 0 where
+  pub one_each : length keys ≡ length classes
+  pub each : (k : ℕ) → k < length classes → slice_index keys k ≡ key (slice_index classes k)
+
 -- whether two classes are together in a partition
 abbrev pub are_together : Partition → ℕ → ℕ → Bool
 are_together p low high = group_in p low == group_in p high

@@ -83,7 +83,7 @@ impl Choice<'_> {
         ensures cut { IfOk result (λ best. (c : Candidates) → IsPartition (class_count self.now.classes.now) (TogetherAt before.old (slice_index_or self.now.patterns.now pattern c).numbers best) before.new) }
     {
         let candidates = &self.patterns[pattern];
-        let numbers = candidates.numbers.as_slice();
+        let numbers = &candidates.numbers;
         let best = before.first_most(alloc, numbers, candidates.count)?;
         *before = before.cut(alloc, numbers, best)?;
         Ok(best)
@@ -99,8 +99,7 @@ impl Choice<'_> {
         let mut chosen = Vec::with_capacity(alloc, self.patterns.len())?;
         for pattern in 0..self.patterns.len() {
             let candidates = &self.patterns[pattern];
-            let numbers = candidates.numbers.as_slice();
-            chosen.push(numbers[class])?;
+            chosen.push(candidates.numbers.get(class))?;
         }
         Ok(chosen)
     }
@@ -115,8 +114,7 @@ impl Choice<'_> {
         let mut told = Partition::whole(alloc, self.count)?;
         for pattern in 0..chosen.len() {
             let candidates = &self.patterns[pattern];
-            let numbers = candidates.numbers.as_slice();
-            told = told.cut(alloc, numbers, chosen[pattern])?;
+            told = told.cut(alloc, &candidates.numbers, chosen[pattern])?;
         }
         told.apart(alloc, self.count)
     }

@@ -11,6 +11,7 @@ use crate::choosing::choose_numbers;
 use crate::numbering::{Candidates, add_candidates};
 use class_refine::Classes;
 use net_model::AnswerRows;
+use sparse_numbers::SparseNumbers;
 use std::alloc::{AllocError, Global};
 use table_dicts::{AnswerTable, representatives};
 
@@ -74,8 +75,7 @@ pub(crate) fn chosen_leads(
     let _count = classes.count();
     let mut leads = Vec::with_capacity(alloc, chosen.len())?;
     for pattern in 0..chosen.len() {
-        let numbers = patterns[pattern].numbers.as_slice();
-        let class = class_with(numbers, chosen[pattern]);
+        let class = class_with(&patterns[pattern].numbers, chosen[pattern]);
         leads.push(classes.representative(class as u32))?;
     }
     Ok(leads)
@@ -98,13 +98,13 @@ pub(crate) fn copy_own(table: &AnswerTable, numbers: &[u32], first: usize, rows:
 }
 
 // The lowest class that has a number.
-fn class_with(numbers: &[u32], number: u32) -> usize
+fn class_with(numbers: &SparseNumbers, number: u32) -> usize
     requires { Contains numbers.now number }
     ensures within { result < length numbers.now }
     ensures has { slice_index numbers.now result ≡ number }
 {
-    for (class, own) in numbers.iter().enumerate() {
-        if *own == number {
+    for class in 0..numbers.len() {
+        if numbers.get(class) == number {
             return class;
         }
     }

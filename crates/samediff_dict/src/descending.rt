@@ -1,23 +1,29 @@
 //! The descent over halves of the patterns, by which the gains of all candidates are counted or repaired.
 
-ghost use Rattle.std.specs.Prelude.{◌≡◌, ◌+◌, ◌<◌, ◌≤◌, length, IfOk, OnOk};
+ghost use Rattle.std.specs.Prelude.{◌≡◌, ◌+◌, ◌<◌, ◌≤◌, ℕ, length, slice_index, IfOk, OnOk};
 ghost use Rattle.samediff_dict.specs.Partition.{IsListed};
 ghost use Rattle.samediff_dict.specs.GainTable.{AreGainsIn, HaveGains, KeepsRowsOutside};
-ghost use Rattle.samediff_dict.specs.Descent.{CanDescend, HasAlike, IsNarrowed, numbers_at, together_of_new, together_of_old};
+ghost use Rattle.samediff_dict.specs.PlaceGroups.{AreBelow};
+ghost use Rattle.samediff_dict.specs.Descent.{CanDescend, HasAlike, IsKeyIn, IsNarrowed, together_of_new, together_of_old};
 
 use crate::gain_table::GainTable;
 use crate::moved::Move;
 use crate::numbering::Candidates;
 use crate::partition::Partition;
+use crate::setting::end_after;
+use net_model::{AnswerRows, low_bits, with_bit, word_at};
 use std::alloc::{AllocError, Global};
 
-/// What the gains are counted by: the candidates of each pattern with the chosen ones. Or what they are repaired after: a
-/// candidate in place of the one that is chosen at a pattern, which is then left out.
+const WORD_BITS: usize = 64;
+
+/// What the gains are counted by: the candidates of each pattern with the chosen ones, and by them the entry of each class. Or
+/// what they are repaired after: a candidate in place of the one that is chosen at a pattern, which is then left out.
 #[derive(Clone, Copy)]
 pub(crate) struct Descent<'a, 'b> {
     pub(crate) count: u32,
     pub(crate) patterns: &'a [Candidates],
     pub(crate) chosen: &'b [u32],
+    pub(crate) entries: &'b AnswerRows,
     pub(crate) out: usize,
     pub(crate) step: Option<Move<'a>>,
 }
@@ -88,16 +94,16 @@ impl Descent<'_, '_> {
         if pattern == self.out {
             return Ok(());
         }
-        let numbers = self.numbers(pattern);
+        let candidates = &self.patterns[pattern];
         let Some(step) = self.step else {
-            let count = self.patterns[pattern].count as usize;
-            table.set(pattern, part.gains(alloc, numbers, count)?);
+            let count = candidates.count as usize;
+            table.set(pattern, part.gains(alloc, &candidates.numbers, count)?);
             return Ok(());
         };
-        table.repair(alloc, pattern, part, step, numbers)
+        table.repair(alloc, pattern, part, step, &candidates.numbers)
     }
 
-    // The classes of a partition that are alike at the patterns in a range.
+    // The classes of a partition that are alike at the patterns in a range, 64 patterns after 64.
     fn narrowed(
         &self,
         alloc: Global,
@@ -111,43 +117,81 @@ impl Descent<'_, '_> {
         requires listed { IsListed self.now.count part.now }
         ensures { IfOk result (IsNarrowed self.now first end part.now) }
     {
-        let mut rest = self.cut_at(alloc, part, first)?;
-        for pattern in first + 1..end {
+        let mut done = end_after(first, WORD_BITS, end);
+        let mut rest = self.cut_by(alloc, part, first, done)?;
+        while done < end {
             if rest.classes.is_empty() {
                 return Ok(rest);
             }
-            rest = self.cut_at(alloc, &rest, pattern)?;
+            let next = end_after(done, WORD_BITS, end);
+            rest = self.cut_by(alloc, &rest, done, next)?;
+            done = next;
         }
         Ok(rest)
     }
 
-    // The classes of a partition that are alike at a pattern. Groups with no pair that counts are left out.
-    fn cut_at(
+    // The classes of a partition that are alike at the patterns in a range, which fit a word. Groups with no pair that counts are
+    // left out.
+    fn cut_by(
         &self,
         alloc: Global,
         part: &Partition,
-        pattern: usize,
+        first: usize,
+        end: usize,
     ) -> Result<Partition, AllocError>
         requires can { CanDescend self.now }
-        requires within { pattern < length self.now.patterns.now }
+        requires some { first < end }
+        requires few { end ≤ first + 64 }
+        requires within { end ≤ length self.now.patterns.now }
         requires listed { IsListed self.now.count part.now }
-        ensures { IfOk result (IsNarrowed self.now pattern (pattern + 1) part.now) }
+        ensures { IfOk result (IsNarrowed self.now first end part.now) }
     {
+        let keys = self.keys(alloc, part.classes.as_slice(), first, end)?;
+        let cut = part.meet(alloc, keys.as_slice())?;
         let Some(step) = self.step else {
-            return part.cut(alloc, self.numbers(pattern), self.chosen[pattern]);
+            return Ok(cut);
         };
-        if pattern == self.out {
-            return part.mixed(alloc, step);
-        }
-        let cut = part.cut(alloc, self.numbers(pattern), self.chosen[pattern])?;
         cut.mixed(alloc, step)
     }
 
-    // The number of each class at a pattern.
-    fn numbers(&self, pattern: usize) -> &[u32]
-        requires { pattern < length self.now.patterns.now }
-        ensures { result.now ≡ numbers_at self.now pattern }
+    // A key for each of these classes. Those that are alike at the patterns in a range have the same key.
+    fn keys(
+        &self,
+        alloc: Global,
+        classes: &[u32],
+        first: usize,
+        end: usize,
+    ) -> Result<Vec<u64>, AllocError>
+        requires can { CanDescend self.now }
+        requires some { first < end }
+        requires few { end ≤ first + 64 }
+        requires within { end ≤ length self.now.patterns.now }
+        requires known { AreBelow classes.now self.now.count }
+        ensures long { IfOk result (λ keys. length keys.items ≡ length classes.now) }
+        ensures each { IfOk result (λ keys. (k : ℕ) → k < length classes.now → IsKeyIn self.now first end (slice_index classes.now k) (slice_index keys.items k)) }
     {
-        self.patterns[pattern].numbers.as_slice()
+        let mut keys = Vec::with_capacity(alloc, classes.len())?;
+        for place in 0..classes.len() {
+            keys.push(self.key(classes[place] as usize, first, end))?;
+        }
+        Ok(keys)
+    }
+
+    // The bits of a class's entry at the patterns in a range, the lowest first. The bit at the pattern that is left out is cleared.
+    fn key(&self, class: usize, first: usize, end: usize) -> u64
+        requires can { CanDescend self.now }
+        requires some { first < end }
+        requires few { end ≤ first + 64 }
+        requires within { end ≤ length self.now.patterns.now }
+        requires class { class < self.now.count }
+        ensures { IsKeyIn self.now first end class result }
+    {
+        let word = word_at(self.entries.row_words(class), first);
+        let bits = low_bits(word, end - first);
+        if first <= self.out && self.out < end {
+            with_bit(bits, self.out - first, false)
+        } else {
+            bits
+        }
     }
 }

@@ -1,10 +1,9 @@
 //! The entries of the classes: at which patterns they answer otherwise than chosen.
 
-ghost use Rattle.std.specs.Prelude.{◌≡◌, ◌*◌, ◌<◌, length, map, IfOk};
-ghost use Rattle.std.specs.List.{range_with_len};
+ghost use Rattle.std.specs.Prelude.{◌≡◌, ◌*◌, ◌<◌, length, slice_set, IfOk};
 ghost use Rattle.net_model.specs.Rows.{row_at};
 ghost use Rattle.table_dicts.specs.Rows.{AreRows, IsRowSet, IsWordOf};
-ghost use Rattle.samediff_dict.specs.Copied.{HaveClasses, HasNumbers, class_entry};
+ghost use Rattle.samediff_dict.specs.Copied.{AreEntries, HaveClasses, HasNumbers, class_entry};
 
 use crate::numbering::Candidates;
 use net_model::AnswerRows;
@@ -18,7 +17,7 @@ pub(crate) fn class_entries(
     classes: u32,
 ) -> Result<AnswerRows, AllocError>
     requires { HaveClasses classes patterns.now chosen.now }
-    ensures entries { IfOk result (λ entries. entries ≡ map (class_entry patterns.now chosen.now) (range_with_len 0 classes)) }
+    ensures entries { IfOk result (AreEntries classes patterns.now chosen.now) }
     ensures shape { IfOk result (AreRows classes (length chosen.now)) }
 {
     let mut entries = AnswerRows::zeros(alloc, classes as usize, chosen.len())?;
@@ -26,6 +25,26 @@ pub(crate) fn class_entries(
         write_entry(patterns, chosen, class as usize, &mut entries);
     }
     Ok(entries)
+}
+
+/// Puts another number in the place of that which is chosen at a pattern into the entries of the classes.
+pub(crate) fn put_chosen(
+    patterns: &[Candidates],
+    chosen: &[u32],
+    pattern: usize,
+    number: u32,
+    classes: u32,
+    entries: &mut AnswerRows,
+)
+    requires classes { HaveClasses classes patterns.now chosen.now }
+    requires pattern { pattern < length chosen.now }
+    requires entries { AreEntries classes patterns.now chosen.now entries.old }
+    ensures { AreEntries classes patterns.now (slice_set chosen.now pattern number) entries.new }
+{
+    let numbers = &patterns[pattern].numbers;
+    for class in 0..classes as usize {
+        entries.set(class, pattern, numbers.get(class) != number);
+    }
 }
 
 // Writes the entry of a class.
@@ -50,8 +69,8 @@ fn entry_word(patterns: &[Candidates], chosen: &[u32], class: usize, word: usize
     let first = word * 64;
     let mut bits = 0u64;
     for at in 0..(chosen.len() - first).min(64) {
-        let numbers = patterns[first + at].numbers.as_slice();
-        if numbers[class] != chosen[first + at] {
+        let number = patterns[first + at].numbers.get(class);
+        if number != chosen[first + at] {
             bits |= 1 << at;
         }
     }

@@ -9,6 +9,7 @@ ghost use Rattle.samediff_dict.specs.GainTable.{KeepsRowsOutside};
 use crate::moved::Move;
 use crate::numbering::Candidates;
 use crate::partition::Partition;
+use sparse_numbers::SparseNumbers;
 use std::alloc::{AllocError, Global};
 use std::marker::Model;
 
@@ -63,7 +64,7 @@ impl GainTable {
         pattern: usize,
         part: &Partition,
         step: Move,
-        answers: &[u32],
+        answers: &SparseNumbers,
     ) -> Result<(), AllocError>
         requires pattern { pattern < length self.old }
         requires listed { IsListed (length answers.now) part.now }

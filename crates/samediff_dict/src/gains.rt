@@ -5,7 +5,8 @@ ghost use Rattle.samediff_dict.specs.PlaceGroups.{AreBelow, AreGains, AreGroups,
 ghost use Rattle.samediff_dict.specs.Partition.{IsListed, are_together};
 
 use crate::groups::{PlaceGroups, Tally};
-use crate::partition::{Partition, picked};
+use crate::partition::{Partition, keys_at};
+use sparse_numbers::SparseNumbers;
 use std::alloc::{AllocError, Global};
 
 impl PlaceGroups {
@@ -13,7 +14,7 @@ impl PlaceGroups {
     fn gains(
         &self,
         alloc: Global,
-        answers: &[u32],
+        answers: &[u64],
         candidates: usize,
     ) -> Result<Vec<u64>, AllocError>
         requires long { length answers.now ≡ length self.now.group_of.items }
@@ -32,7 +33,7 @@ impl PlaceGroups {
     fn gains_by(
         &self,
         alloc: Global,
-        answers: &[u32],
+        answers: &[u64],
         candidates: usize,
         cells: &PlaceGroups,
         all: &Tally,
@@ -66,7 +67,7 @@ impl Partition {
     pub(crate) fn first_most(
         &self,
         alloc: Global,
-        answers: &[u32],
+        answers: &SparseNumbers,
         candidates: u32,
     ) -> Result<u32, AllocError>
         requires listed { IsListed (length answers.now) self.now }
@@ -83,7 +84,7 @@ impl Partition {
     pub(crate) fn gains(
         &self,
         alloc: Global,
-        answers: &[u32],
+        answers: &SparseNumbers,
         candidates: usize,
     ) -> Result<Vec<u64>, AllocError>
         requires listed { IsListed (length answers.now) self.now }
@@ -91,7 +92,7 @@ impl Partition {
         requires known { AreBelow answers.now candidates }
         ensures { IfOk result (λ gains. AreGains (are_together self.now) answers.now candidates gains.items) }
     {
-        let own_answers = picked(alloc, answers, self.classes.as_slice())?;
+        let own_answers = keys_at(alloc, answers, self.classes.as_slice())?;
         self.groups.gains(alloc, own_answers.as_slice(), candidates)
     }
 }

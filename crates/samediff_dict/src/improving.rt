@@ -3,14 +3,17 @@
 ghost use Rattle.std.specs.Prelude.{◌≡◌, ◌<◌, Bool, List, length, slice_set, IfOk, OnOk, None, MatchOption};
 ghost use Rattle.samediff_dict.specs.Chosen.{better_baselines, improvement, chosen_baselines};
 ghost use Rattle.samediff_dict.specs.Numbered.{HasBaselines, baselines_at};
+ghost use Rattle.samediff_dict.specs.Copied.{AreEntries};
 ghost use Rattle.samediff_dict.specs.Choice.{IsChoice, IsChosen, IsFirstBetter};
 ghost use Rattle.samediff_dict.specs.GainTable.{HaveGains, alike_but};
 
 use crate::choosing::Choice;
 use crate::descending::Descent;
+use crate::differing::{class_entries, put_chosen};
 use crate::gain_table::GainTable;
 use crate::gains::place_above;
 use crate::moved::Move;
+use net_model::AnswerRows;
 use std::alloc::{AllocError, Global};
 
 /// A candidate in place of the baseline of a pattern.
@@ -28,15 +31,22 @@ impl Choice<'_> {
         requires better { HasBaselines self.now.classes.now rows chosen.old (better_baselines self.now.classes.now rows) }
         ensures { OnOk result (HasBaselines self.now.classes.now rows chosen.new (chosen_baselines self.now.classes.now rows)) }
     {
-        let mut table = self.counted(alloc, chosen)?;
-        self.replace_all(alloc, chosen, &mut table)
+        let mut entries = class_entries(alloc, self.patterns, chosen, self.count)?;
+        let mut table = self.counted(alloc, chosen, &entries)?;
+        self.replace_all(alloc, chosen, &mut entries, &mut table)
     }
 
     // The gains of the candidates of all patterns.
-    fn counted(&self, alloc: Global, chosen: &[u32]) -> Result<GainTable, AllocError>
+    fn counted(
+        &self,
+        alloc: Global,
+        chosen: &[u32],
+        entries: &AnswerRows,
+    ) -> Result<GainTable, AllocError>
         ghost rows: { List (List (List Bool)) }
         requires choice { IsChoice rows self.now }
         requires chosen { IsChosen rows self.now chosen.now }
+        requires entries { AreEntries self.now.count self.now.patterns.now chosen.now entries.now }
         ensures { IfOk result (HaveGains self.now.patterns.now (alike_but self.now.patterns.now chosen.now)) }
     {
         let mut table = GainTable::none(alloc, self.patterns)?;
@@ -44,6 +54,7 @@ impl Choice<'_> {
             count: self.count,
             patterns: self.patterns,
             chosen,
+            entries,
             out: self.patterns.len(),
             step: None,
         };
@@ -56,11 +67,13 @@ impl Choice<'_> {
         &self,
         alloc: Global,
         chosen: &mut [u32],
+        entries: &mut AnswerRows,
         table: &mut GainTable,
     ) -> Result<(), AllocError>
         ghost rows: { List (List (List Bool)) }
         requires choice { IsChoice rows self.now }
         requires better { HasBaselines self.now.classes.now rows chosen.old (better_baselines self.now.classes.now rows) }
+        requires entries { AreEntries self.now.count self.now.patterns.now chosen.old entries.old }
         requires gains { HaveGains self.now.patterns.now (alike_but self.now.patterns.now chosen.old) table.old }
         ensures { OnOk result (HasBaselines self.now.classes.now rows chosen.new (chosen_baselines self.now.classes.now rows)) }
     {
@@ -68,7 +81,15 @@ impl Choice<'_> {
             let Some(better) = self.improvement(chosen, table) else {
                 return Ok(());
             };
-            self.repair(alloc, chosen, better, table)?;
+            self.repair(alloc, chosen, entries, better, table)?;
+            put_chosen(
+                self.patterns,
+                chosen,
+                better.pattern,
+                better.answer,
+                self.count,
+                entries,
+            );
             chosen[better.pattern] = better.answer;
         }
     }
@@ -96,18 +117,20 @@ impl Choice<'_> {
         &self,
         alloc: Global,
         chosen: &[u32],
+        entries: &AnswerRows,
         better: Replacement,
         table: &mut GainTable,
     ) -> Result<(), AllocError>
         ghost rows: { List (List (List Bool)) }
         requires choice { IsChoice rows self.now }
         requires chosen { IsChosen rows self.now chosen.now }
+        requires entries { AreEntries self.now.count self.now.patterns.now chosen.now entries.now }
         requires pattern { better.pattern < length chosen.now }
         requires gains { HaveGains self.now.patterns.now (alike_but self.now.patterns.now chosen.now) table.old }
         ensures { OnOk result (HaveGains self.now.patterns.now (alike_but self.now.patterns.now (slice_set chosen.now better.pattern better.answer)) table.new) }
     {
         let step = Move {
-            numbers: self.patterns[better.pattern].numbers.as_slice(),
+            numbers: &self.patterns[better.pattern].numbers,
             old: chosen[better.pattern],
             new: better.answer,
         };
@@ -115,6 +138,7 @@ impl Choice<'_> {
             count: self.count,
             patterns: self.patterns,
             chosen,
+            entries,
             out: better.pattern,
             step: Some(step),
         };

@@ -15,7 +15,8 @@ use std::alloc::{AllocError, Global};
 use table_dicts::{Dict, DictKind, Setting, dict_of_classes};
 
 /// The same/different dictionary of a circuit at patterns, with the chosen baselines. In memory there are the number of each
-/// class's answer to each pattern, and the answers themselves to some patterns at a time.
+/// class's answer to each pattern where it isn't 0, the entry of each class, the gain of each candidate, and the answers themselves to some
+/// patterns at a time.
 pub fn same_diff_at(alloc: Global, setting: &Setting) -> Result<Dict, AllocError>
     requires { IsSetting setting.now }
     ensures { IfOk result (λ dict. (t : Answers) → AreAnswersAt setting.now t → IsSameDiff t (chosen_baselines setting.now.classes.now t.rows) dict) }

@@ -1,57 +1,59 @@
 //! A candidate in place of another at a pattern: the groups in which that can put classes together or part them, and the gains at
 //! another pattern after it.
 
-ghost use Rattle.std.specs.Prelude.{◌≡◌, ◌+◌, ◌*◌, ◌<◌, ◌≤◌, ◌^◌, EachIndex, IfOk, OnOk, filter, length, slice_index};
+ghost use Rattle.std.specs.Prelude.{◌≡◌, ◌+◌, ◌*◌, ◌<◌, ◌≤◌, ◌^◌, ◌==◌, ◌||◌, EachIndex, IfOk, OnOk, filter, length, slice_index};
 ghost use Rattle.std.specs.List.{range_with_len};
-ghost use Rattle.samediff_dict.specs.Moved.{AreAtPlaces, AreGainsAfter, AreGainsBefore, AreMixedPlaces, AreSides, HasMixedOf, has_both_sides, is_moved};
+ghost use Rattle.samediff_dict.specs.Moved.{AreAtPlaces, AreGainsAfter, AreGainsBefore, AreMixedPlaces, AreSides, HasMixedOf, has_both_sides};
 ghost use Rattle.samediff_dict.specs.Partition.{IsListed};
 ghost use Rattle.samediff_dict.specs.PlaceGroups.{AreBelow};
 
 use crate::groups::{PlaceGroups, side_of};
-use crate::partition::{Partition, picked};
+use crate::partition::{Partition, numbers_at, picked};
+use sparse_numbers::SparseNumbers;
 use std::alloc::{AllocError, Global};
 
 /// A candidate's number in place of another at a pattern. The list has the number of each class there.
 #[derive(Clone, Copy)]
 pub(crate) struct Move<'a> {
-    pub(crate) numbers: &'a [u32],
+    pub(crate) numbers: &'a SparseNumbers,
     pub(crate) old: u32,
     pub(crate) new: u32,
 }
 
-impl Move<'_> {
-    // Whether a class has the old number or the new one.
-    fn moves(&self, class: usize) -> bool
-        requires { class < length self.now.numbers.now }
-        ensures { result ≡ is_moved self.now.numbers.now self.now.old self.now.new class }
-    {
-        let number = self.numbers[class];
-        number == self.old || number == self.new
-    }
-}
-
 impl PlaceGroups {
     // The places of the groups in which one that is moved stands with one that isn't, ascending.
-    fn mixed(&self, alloc: Global, step: Move) -> Result<Vec<u32>, AllocError>
-        requires long { length step.numbers.now ≡ length self.now.group_of.items }
+    fn mixed(
+        &self,
+        alloc: Global,
+        numbers: &[u32],
+        old: u32,
+        new: u32,
+    ) -> Result<Vec<u32>, AllocError>
+        requires long { length numbers.now ≡ length self.now.group_of.items }
         requires few { length self.now.group_of.items < 2 ^ 32 }
         requires within { AreBelow self.now.group_of.items self.now.count }
-        ensures { IfOk result (λ places. AreMixedPlaces self.now.group_of.items step.entry.numbers.now step.entry.old step.entry.new places.items) }
+        ensures { IfOk result (λ places. AreMixedPlaces self.now.group_of.items numbers.now old new places.items) }
     {
-        let sides = self.sides(alloc, step)?;
+        let sides = self.sides(alloc, numbers, old, new)?;
         self.two_sided(alloc, sides.as_slice())
     }
 
     // Marks for each group whether a place stands in it that is moved, and whether one does that isn't.
-    fn sides(&self, alloc: Global, step: Move) -> Result<Vec<bool>, AllocError>
-        requires long { length step.numbers.now ≡ length self.now.group_of.items }
+    fn sides(
+        &self,
+        alloc: Global,
+        numbers: &[u32],
+        old: u32,
+        new: u32,
+    ) -> Result<Vec<bool>, AllocError>
+        requires long { length numbers.now ≡ length self.now.group_of.items }
         requires within { AreBelow self.now.group_of.items self.now.count }
-        ensures { IfOk result (λ sides. AreSides self.now.group_of.items self.now.count step.entry.numbers.now step.entry.old step.entry.new (length self.now.group_of.items) sides.items) }
+        ensures { IfOk result (λ sides. AreSides self.now.group_of.items self.now.count numbers.now old new (length self.now.group_of.items) sides.items) }
     {
         let groups = self.group_of.as_slice();
         let mut sides = vec![in alloc; false; 2 * self.count as usize]?;
         for place in 0..groups.len() {
-            let side = side_of(groups[place], step.moves(place));
+            let side = side_of(groups[place], is_either(numbers[place], old, new));
             sides[side] = true;
         }
         Ok(sides)
@@ -83,13 +85,10 @@ impl Partition {
         ensures listed { IfOk result (IsListed (length step.entry.numbers.now)) }
         ensures has { IfOk result (λ part. HasMixedOf (length step.entry.numbers.now) self.now part step.entry.numbers.now step.entry.old step.entry.new) }
     {
-        let own_numbers = picked(alloc, step.numbers, self.classes.as_slice())?;
-        let own = Move {
-            numbers: own_numbers.as_slice(),
-            old: step.old,
-            new: step.new,
-        };
-        let places = self.groups.mixed(alloc, own)?;
+        let own_numbers = numbers_at(alloc, step.numbers, self.classes.as_slice())?;
+        let places = self
+            .groups
+            .mixed(alloc, own_numbers.as_slice(), step.old, step.new)?;
         self.at_places(alloc, places.as_slice())
     }
 
@@ -115,7 +114,7 @@ impl Partition {
         &self,
         alloc: Global,
         step: Move,
-        answers: &[u32],
+        answers: &SparseNumbers,
         gains: &mut [u64],
     ) -> Result<(), AllocError>
         requires listed { IsListed (length answers.now) self.now }
@@ -132,6 +131,13 @@ impl Partition {
         exchange(gains, more.as_slice(), fewer.as_slice());
         Ok(())
     }
+}
+
+// Whether a number is the old one or the new one.
+fn is_either(number: u32, old: u32, new: u32) -> bool
+    ensures { result ≡ (number == old || number == new) }
+{
+    number == old || number == new
 }
 
 // Whether both sides of the group of a place are marked.

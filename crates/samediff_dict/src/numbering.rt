@@ -8,13 +8,14 @@ ghost use Rattle.table_dicts.specs.Rows.{AreRows};
 
 use answer_numbers::AnswerNumbers;
 use net_model::AnswerRows;
+use sparse_numbers::SparseNumbers;
 use std::alloc::{AllocError, Global};
-use table_dicts::{AnswerTable, Groups, group_rows};
+use table_dicts::{AnswerTable, group_rows};
 
 /// The candidates of a pattern by their numbers: which of them each class answers, and how many there are.
 #[derive(Drop)]
 pub(crate) struct Candidates {
-    pub(crate) numbers: Groups,
+    pub(crate) numbers: SparseNumbers,
     pub(crate) count: u32,
 }
 
@@ -69,10 +70,20 @@ fn candidates_at(
     copy_answers(table, leads, pattern, rows);
     let grouped = group_rows(alloc, rows)?;
     let count = grouped.entries.rows() as u32;
-    Ok(Candidates {
-        numbers: grouped.groups,
-        count,
-    })
+    let numbers = sparse(alloc, grouped.groups.as_slice())?;
+    Ok(Candidates { numbers, count })
+}
+
+// The same numbers.
+fn sparse(alloc: Global, numbers: &[u32]) -> Result<SparseNumbers, AllocError>
+    requires { length numbers.now < 2 ^ 32 }
+    ensures { IfOk result (λ same. same ≡ numbers.now) }
+{
+    let mut same = SparseNumbers::with_room(alloc, numbers.len())?;
+    for number in numbers {
+        same.push(*number)?;
+    }
+    Ok(same)
 }
 
 /// Puts the candidates of each vector of the block that was numbered last behind others. There are so many leads, and so many
@@ -106,7 +117,7 @@ fn candidates_in(
     requires lane { lane < length (numbered_vectors numbers.now) }
     ensures { IfOk result (AreLeadCandidates numbers.now.circuit numbers.now.leads (vector_in numbers.now lane)) }
 {
-    let mut own = Groups::with_room(alloc, leads as usize)?;
+    let mut own = SparseNumbers::with_room(alloc, leads as usize)?;
     for place in 0..leads {
         own.push(numbers.number(lane, place as usize))?;
     }

@@ -108,8 +108,8 @@ fn copy_range(
     Ok(())
 }
 
-// Where so many patterns from a first one on end, or all patterns do.
-fn end_after(first: usize, count: usize, all: usize) -> usize
+/// Where so many patterns from a first one on end, or all patterns do.
+pub(crate) fn end_after(first: usize, count: usize, all: usize) -> usize
     requires first { first < all }
     requires some { 0 < count }
     ensures more { first < result }

@@ -1,5 +1,4 @@
-use Rattle.std.proofs.Common.{◌∙◌, ℕ, ◌+◌, List, length, get_or, sym, ap, subst, arith}
-use Rattle.std.specs.Prelude.{Contains}
+use Rattle.std.proofs.Common.{◌+◌, length, get_or, sym, ap, subst, arith}
 use Rattle.std.proofs.lemmas.List.{get_or_default}
 use Rattle.samediff_dict.specs.declared.numbering.Candidates.{Candidates}
 use Rattle.samediff_dict.specs.Copied.{IsLead, AreLeads}
@@ -9,10 +8,10 @@ use Rattle.samediff_dict.proofs.copying.chosen_leads.Goals as goal
 pub class_with-class-requires : goal.class_with-class-requires
 class_with-class-requires c =
     let pattern = c.loop-pattern.pattern in
-    subst (λ (xs : List ℕ). Contains xs (get_or c.args.chosen.now pattern 0)) (sym c.as_slice-numbers.ensures) (c.requires.each pattern c.index-patterns-pattern.result (omega arith)).some
+    (c.requires.each pattern c.index-patterns-pattern.result (omega arith)).some
 
 pub representative-requires : goal.representative-requires
-representative-requires c = omega (arith, c.class_with-class.ensures.within, ap length c.as_slice-numbers.ensures, (c.requires.each c.loop-pattern.pattern c.index-patterns-pattern.result (omega arith)).one_each)
+representative-requires c = omega (arith, c.class_with-class.ensures.within, (c.requires.each c.loop-pattern.pattern c.index-patterns-pattern.result (omega arith)).one_each)
 
 pub loop-pattern-preserved : goal.loop-pattern-preserved
 loop-pattern-preserved c =
@@ -22,8 +21,8 @@ loop-pattern-preserved c =
     let IsLeadOf : Candidates → Type 0 = λ (own : Candidates). IsLead c.args.classes.now own (get_or c.args.chosen.now pattern 0) c.representative.result in
     let lead : IsLeadOf (get_or c.args.patterns.now pattern known) = record {
       class = class;
-      known = omega (arith, c.class_with-class.ensures.within, ap length c.as_slice-numbers.ensures, (c.requires.each pattern known (omega arith)).one_each);
-      own = ap (λ (xs : List ℕ). get_or xs class 0) (sym c.as_slice-numbers.ensures) ∙ c.class_with-class.ensures.has;
+      known = omega (arith, c.class_with-class.ensures.within, (c.requires.each pattern known (omega arith)).one_each);
+      own = c.class_with-class.ensures.has;
       lead_is = c.representative.ensures.value;
       within = c.representative.ensures.within;
     } in

@@ -5,14 +5,14 @@ use Rattle.net_model.specs.Answer.{bit_at}
 use Rattle.samediff_dict.specs.Copied.{class_entry}
 use Rattle.samediff_dict.proofs.DifferingLemmas.{IsWordTo, length-class_entry, class_entry_at, word_set, word_clear}
 use Rattle.samediff_dict.proofs.differing.entry_word.Goals as goal
-use Rattle.samediff_dict.proofs.differing.entry_word.Goals.{then-numbers-class, else-numbers-class, Joined-numbers-class}
+use Rattle.samediff_dict.proofs.differing.entry_word.Goals.{then-number-chosen, else-number-chosen, Joined-number-chosen}
 
 -- the bit of this turn
-bit_is : (c : Joined-numbers-class) → bit_at (class_entry c.args.patterns.now c.args.chosen.now c.args.class) (c.args.word * 64 + c.loop-at.at) ≡ not (eqb (get_or c.as_slice-numbers.result.now c.args.class 0) (get_or c.args.chosen.now (c.args.word * 64 + c.loop-at.at) 0))
+bit_is : (c : Joined-number-chosen) → bit_at (class_entry c.args.patterns.now c.args.chosen.now c.args.class) (c.args.word * 64 + c.loop-at.at) ≡ not (eqb c.get-number.result (get_or c.args.chosen.now (c.args.word * 64 + c.loop-at.at) 0))
 bit_is c =
     let place = c.args.word * 64 + c.loop-at.at in
     class_entry_at c.args.patterns.now c.args.chosen.now c.requires.numbers.count c.args.class place c.index-patterns-first.result (omega (arith, c.min-at-end.ensures))
-    ∙ ap (λ numbers. not (eqb (get_or numbers c.args.class 0) (get_or c.args.chosen.now place 0))) (sym c.as_slice-numbers.ensures)
+    ∙ ap (λ number. not (eqb number (get_or c.args.chosen.now place 0))) (sym c.get-number.ensures)
 
 pub loop-at-preserved : goal.loop-at-preserved
 loop-at-preserved c =
@@ -20,11 +20,11 @@ loop-at-preserved c =
     let first = c.args.word * 64 in
     let at = c.loop-at.at in
     let few : at < 64 = omega (arith, c.min-at-end.ensures) in
-    let number = get_or c.as_slice-numbers.result.now c.args.class 0 in
+    let number = c.get-number.result in
     let chosen = get_or c.args.chosen.now (first + at) 0 in
-    elim c.if-numbers-class.branch [
-      | then-numbers-class w ↦ subst (IsWordTo entry first (at + 1)) (sym w.bits-is) (word_set entry first at c.loop-at.bits c.loop-at.invariant few (bit_is c ∙ ap not (ne_eqb number chosen w.if-numbers-class.true)))
-      | else-numbers-class w ↦ subst (IsWordTo entry first (at + 1)) (sym w.bits-is) (word_clear entry first at c.loop-at.bits c.loop-at.invariant few (bit_is c ∙ ap not (eq-eqb number chosen w.if-numbers-class.false)))
+    elim c.if-number-chosen.branch [
+      | then-number-chosen w ↦ subst (IsWordTo entry first (at + 1)) (sym w.bits-is) (word_set entry first at c.loop-at.bits c.loop-at.invariant few (bit_is c ∙ ap not (ne_eqb number chosen w.if-number-chosen.true)))
+      | else-number-chosen w ↦ subst (IsWordTo entry first (at + 1)) (sym w.bits-is) (word_clear entry first at c.loop-at.bits c.loop-at.invariant few (bit_is c ∙ ap not (eq-eqb number chosen w.if-number-chosen.false)))
     ]
 
 pub returns : goal.returns

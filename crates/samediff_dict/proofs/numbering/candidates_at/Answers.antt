@@ -1,4 +1,4 @@
-use Rattle.std.proofs.Common.{Bool, List, map, refl, subst, arith}
+use Rattle.std.proofs.Common.{◌∙◌, Bool, List, map, subst, arith}
 use Rattle.table_dicts.specs.AnswerTable.{answer_to}
 use Rattle.table_dicts.specs.Grouped.{AreGroupsOf}
 use Rattle.samediff_dict.proofs.CandidateLemmas.{numbers_of_groups, groups_few}
@@ -14,8 +14,8 @@ pub returns-clause-numbers : goal.returns-clause-numbers
 returns-clause-numbers c =
     let grouped = c.in_ok-grouped.grouped in
     let answers = map (answer_to c.args.table.now c.args.pattern) c.args.leads.now in
-    numbers_of_groups answers grouped.groups grouped.entries (record { numbers = grouped.groups; count = c.rows-count.result })
-    (subst (λ (rs : List (List Bool)). AreGroupsOf rs grouped.groups grouped.entries) c.copy_answers.ensures.rows c.in_ok-grouped.ensures) refl c.rows-count.ensures
+    numbers_of_groups answers grouped.groups grouped.entries (record { numbers = c.in_ok-numbers.numbers; count = c.rows-count.result })
+    (subst (λ (rs : List (List Bool)). AreGroupsOf rs grouped.groups grouped.entries) c.copy_answers.ensures.rows c.in_ok-grouped.ensures) (c.in_ok-numbers.ensures ∙ c.as_slice.ensures) c.rows-count.ensures
 
 pub returns-clause-shape : goal.returns-clause-shape
 returns-clause-shape c = c.copy_answers.ensures.shape

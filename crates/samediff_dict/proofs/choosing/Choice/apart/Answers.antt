@@ -1,8 +1,8 @@
-use Rattle.std.proofs.Common.{◌≡◌, ◌∙◌, ℕ, List, length, get_or, ap, sym, subst, arith}
+use Rattle.std.proofs.Common.{◌≡◌, ◌∙◌, length, get_or, ap, sym, subst, arith}
 use Rattle.std.proofs.lemmas.Result.{IfOk-weaker}
 use Rattle.net_model.specs.ClassTable.{class_count}
 use Rattle.samediff_dict.specs.Chosen.{pairs_apart}
-use Rattle.samediff_dict.specs.Partition.{IsPartition, TogetherAt, are_together, pairs_between}
+use Rattle.samediff_dict.specs.Partition.{IsPartition, are_together, pairs_between}
 use Rattle.samediff_dict.specs.Numbered.{AlikeFrom, baselines_at}
 use Rattle.samediff_dict.proofs.CandidateLemmas.{length-baselines}
 use Rattle.samediff_dict.proofs.ToldLemmas.{apart_by_groups}
@@ -13,12 +13,10 @@ pub loop-pattern-preserved : goal.loop-pattern-preserved
 loop-pattern-preserved g c =
     let pattern = c.loop-pattern.pattern in
     let candidates = c.index-self-pattern.result in
-    let numbers = c.as_slice-numbers.result.now in
+    let own = get_or c.args.self.now.patterns.now pattern candidates in
     let are = c.requires.0.numbered.each pattern candidates (omega (arith, c.requires.1.one_each)) in
-    cut_last c.args.self.now.classes.now g.rows c.args.chosen.now pattern (get_or c.args.self.now.patterns.now pattern candidates) c.loop-pattern.told c.in_ok-told-2.told (length numbers)
-    (omega arith) c.requires.1.chosen_are are c.loop-pattern.invariant
-    (subst (λ (ys : List ℕ). IsPartition (length numbers) (TogetherAt c.loop-pattern.told ys (get_or c.args.chosen.now pattern 0)) c.in_ok-told-2.told) c.as_slice-numbers.ensures c.in_ok-told-2.ensures)
-    (ap length c.as_slice-numbers.ensures ∙ are.one_each)
+    cut_last c.args.self.now.classes.now g.rows c.args.chosen.now pattern own c.loop-pattern.told c.in_ok-told-2.told (length own.numbers) (omega arith) c.requires.1.chosen_are are c.loop-pattern.invariant
+    c.in_ok-told-2.ensures are.one_each
 
 pub returns : goal.returns
 returns g c =

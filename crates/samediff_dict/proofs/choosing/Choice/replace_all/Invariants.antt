@@ -1,6 +1,7 @@
 use Rattle.std.proofs.Common.{◌*◌, ◌-◌}
 use Rattle.net_model.specs.ClassTable.{class_count}
 use Rattle.samediff_dict.specs.Chosen.{pairs_apart}
+use Rattle.samediff_dict.specs.Copied.{AreEntries}
 use Rattle.samediff_dict.specs.Numbered.{baselines_at}
 use Rattle.samediff_dict.specs.GainTable.{HaveGains, alike_but}
 use Rattle.samediff_dict.proofs.ChoiceLemmas.{IsReplacing}
@@ -9,6 +10,7 @@ use Rattle.samediff_dict.proofs.choosing.Choice.replace_all.Given as goal
 abbrev pub invariant-replacing : goal.invariant-replacing
 invariant-replacing g l = record {
   so_far : IsReplacing l.self.classes.now g.rows l.chosen;
+  entries : AreEntries l.self.count l.self.patterns.now l.chosen l.entries;
   gains : HaveGains l.self.patterns.now (alike_but l.self.patterns.now l.chosen) l.table;
 }
 

@@ -13,5 +13,5 @@ pub returns : goal.returns
 returns c =
     let groups = c.args.self.now.group_of.items in
     IfOk-weaker c.two_sided.result (λ places. places.items ≡ filter (has_both_sides groups c.as_slice.result.now) (range_with_len 0 (length groups)))
-    (λ places. AreMixedPlaces groups c.args.step.numbers.now c.args.step.old c.args.step.new places.items)
+    (λ places. AreMixedPlaces groups c.args.numbers.now c.args.old c.args.new places.items)
     (λ places is. mixed_places c.in_ok-sides.ensures places.items (is ∙ ap (λ (sides : List Bool). filter (has_both_sides groups sides) (range_with_len 0 (length groups))) c.as_slice.ensures.value)) c.two_sided.ensures

@@ -8,8 +8,8 @@ use Rattle.samediff_dict.proofs.ListedLemmas.{listed_few, gain_placed}
 use Rattle.samediff_dict.proofs.partition.Partition.gains.Goals as goal
 use Rattle.samediff_dict.proofs.partition.Partition.gains.Goals.{After-as_slice-2}
 
-pub picked-requires : goal.picked-requires
-picked-requires c = λ k d h.
+pub keys_at-requires : goal.keys_at-requires
+keys_at-requires c = λ k d h.
     let inside : k < length c.args.self.now.classes.items = omega (arith, h, ap length c.as_slice.ensures.value) in
     omega (arith, get_or_default c.as_slice.result.now k d 0 h, ap (λ (xs : List ℕ). get_or xs k 0) c.as_slice.ensures.value, c.requires.listed.below k inside)
 

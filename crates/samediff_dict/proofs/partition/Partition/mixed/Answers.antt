@@ -8,8 +8,8 @@ use Rattle.samediff_dict.proofs.MovedLemmas.{has_mixed, mixed_listed}
 use Rattle.samediff_dict.proofs.partition.Partition.mixed.Goals as goal
 use Rattle.samediff_dict.proofs.partition.Partition.mixed.Goals.{After-as_slice-2, After-as_slice-3}
 
-pub picked-requires : goal.picked-requires
-picked-requires c = λ k d h.
+pub numbers_at-requires : goal.numbers_at-requires
+numbers_at-requires c = λ k d h.
     let inside : k < length c.args.self.now.classes.items = omega (arith, h, ap length c.as_slice.ensures.value) in
     omega (arith, get_or_default c.as_slice.result.now k d 0 h, ap (λ (xs : List ℕ). get_or xs k 0) c.as_slice.ensures.value, c.requires.listed.below k inside)
 
