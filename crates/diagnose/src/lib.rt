@@ -12,6 +12,8 @@ mod words;
 
 pub use fault::{LogFault, LogKind};
 pub use laws::{list_is_read_once, log_is_read_once};
+pub use lines::{check_size, cut};
 pub use listing::matches;
 pub use log::read_log;
+pub use number::number_of;
 pub use vectors::read_vectors;

@@ -15,7 +15,7 @@ use std::alloc::{AllocError, Global};
 const LIMIT: usize = 1 << 30;
 
 /// Refuses a text of too many bytes.
-pub(crate) fn check_size(text: &[u8]) -> Result<(), LogFault>
+pub fn check_size(text: &[u8]) -> Result<(), LogFault>
     ensures { MatchResult result (λ _. length text.now ≤ text_limit) (λ fault. (text_limit < length text.now) × (fault ≡ log_fault.At log_kind.TooLong (line_number text.now text_limit))) }
 {
     if text.len() <= LIMIT {
@@ -35,7 +35,7 @@ fn line_at(text: &[u8], byte: usize) -> u64
 }
 
 /// What stands before the first place of a byte, and behind it.
-pub(crate) fn cut(text: &[u8], byte: u8) -> Option<(&[u8], &[u8])>
+pub fn cut(text: &[u8], byte: u8) -> Option<(&[u8], &[u8])>
     ensures { MatchOption result (¬ Contains text.now byte) (λ parts. IsCutAt byte text.now parts.0.now parts.1.now) }
 {
     match memchr(byte, text) {

@@ -2,5 +2,6 @@
 
 mod lists;
 mod logs;
+mod ranked;
 mod refused;
 mod simulated;

@@ -1,0 +1,11 @@
+pub mod PartialLemmas
+pub mod ReadingLemmas
+pub mod WholeLogs
+pub mod CountLemmas
+pub mod SeenLemmas
+pub mod ObservingLemmas
+pub mod MismatchLemmas
+pub mod NearLemmas
+pub mod RankLemmas
+pub mod JudgeLemmas
+pub mod Examples

@@ -1,0 +1,28 @@
+-- Lines of partial logs as they are read, one after another.
+use Rattle.std.specs.Prelude.{◌≡◌, ℕ, ◌<◌, ◌≤◌, ◌↔◌, ◌⊎◌, ◌==◌, List, length, map, if◌then◌else◌}
+use Rattle.diagnose.specs.Lines.{Text}
+use Rattle.ranked_diag.specs.declared.partial.Seen.{Seen}
+use Rattle.ranked_diag.specs.declared.partial.Seen.TheVariants.{Zero, One, Unseen}
+use Rattle.ranked_diag.specs.PartialLog.{Line, BeginsWithPartial, MayFollow}
+
+-- what a digit tells
+abbrev pub digit_seen : ℕ → Seen
+digit_seen digit = if digit == 49 then One else if digit == 48 then Zero else Unseen
+
+abbrev pub digits_seen : Text → List Seen
+digits_seen digits = map digit_seen digits
+
+-- The byte is a digit of what was seen.
+abbrev pub IsSeenDigit : ℕ → Type 0
+IsSeenDigit byte = (byte ≡ 48) ⊎ ((byte ≡ 49) ⊎ (byte ≡ 120))
+
+-- The patterns that may follow these lines are those from this one on.
+abbrev pub GoOnFrom : ℕ → List Line → ℕ → Type 0
+GoOnFrom patterns before least = (pattern : ℕ) → MayFollow patterns before pattern ↔ ((least ≤ pattern) × (pattern < patterns))
+
+-- The text begins with the line of a pattern from the least one on, with a digit for each position.
+pub record IsRightPartialLine (patterns positions least : ℕ) (text : Text) (pattern : ℕ) (digits rest : Text) : Type 0 where
+  pub begins : BeginsWithPartial text (pattern, digits_seen digits) rest
+  pub low : least ≤ pattern
+  pub high : pattern < patterns
+  pub width : length digits ≡ positions

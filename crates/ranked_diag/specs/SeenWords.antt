@@ -1,0 +1,47 @@
+-- What was seen of an entry, by words of 64 bits.
+use Rattle.std.specs.Prelude.{◌≡◌, ℕ, ◌+◌, ◌*◌, ◌<◌, ◌≤◌, ◌==◌, Bool, true, false, List, All, length, drop, sum_by, count_by, if◌then◌else◌}
+use Rattle.std.specs.List.{range_with_len}
+use Rattle.net_model.specs.Answer.{bit_at}
+use Rattle.net_model.specs.Rows.{bit_of}
+use Rattle.ranked_diag.specs.declared.partial.Seen.{Seen}
+use Rattle.ranked_diag.specs.declared.partial.Seen.TheVariants.{Unseen}
+use Rattle.ranked_diag.specs.declared.seen_word.SeenWord.{SeenWord}
+use Rattle.table_dicts.specs.declared.dict.Dict.{Dict}
+use Rattle.table_dicts.specs.Dictionary.{entry_width}
+use Rattle.ranked_diag.specs.Seen.{seen_of, differs, differing_bits}
+use Rattle.ranked_diag.specs.PartialLog.{Line}
+use Rattle.ranked_diag.specs.Mismatches.{entry_mismatches}
+
+-- what was seen of a bit of a word
+abbrev pub seen_in : SeenWord → ℕ → Seen
+seen_in w k = if bit_of w.seen k then seen_of (bit_of w.ones k) else Unseen
+
+-- how many bits that were seen in a word differ from an entry
+unfoldable pub word_mismatches : List Bool → SeenWord → ℕ
+word_mismatches entry w = count_by (λ k. differs (seen_in w k) (bit_at entry (w.word * 64 + k))) (range_with_len 0 64)
+
+-- how many bits that were seen differ from an entry
+abbrev pub seen_mismatches : List SeenWord → List Bool → ℕ
+seen_mismatches words entry = sum_by (word_mismatches entry) words
+
+-- What was seen stands before a place of the entry, each bit once.
+pub record AreSeenBefore (place : ℕ) (words : List SeenWord) : Type 0 where
+  pub begun : All (λ w. w.word * 64 < place) words
+  pub free : All (λ w. (k : ℕ) → k < 64 → place ≤ w.word * 64 + k → bit_of w.seen k ≡ false) words
+  pub few : (entry : List Bool) → seen_mismatches words entry ≤ place
+
+-- The new words tell what the old ones do, and this of the bits from a place on.
+pub record IsSeenToo (old new : List SeenWord) (place : ℕ) (seen : List Seen) : Type 0 where
+  pub before : AreSeenBefore (place + length seen) new
+  pub counts : (entry : List Bool) → place + length seen ≤ length entry → seen_mismatches new entry ≡ seen_mismatches old entry + differing_bits seen (drop place entry)
+
+-- The new word tells what the old one does, and this bit too.
+pub record IsBitSeen (old new : SeenWord) (at : ℕ) (one : Bool) : Type 0 where
+  pub word : new.word ≡ old.word
+  pub seen : (k : ℕ) → k < 64 → bit_of new.seen k ≡ (if k == at then true else bit_of old.seen k)
+  pub ones : (k : ℕ) → k < 64 → bit_of new.ones k ≡ (if k == at then one else bit_of old.ones k)
+
+-- The words tell what the lines tell of an entry of the dictionary.
+pub record AreWordsOf (d : Dict) (lines : List Line) (words : List SeenWord) : Type 0 where
+  pub before : AreSeenBefore (entry_width d.kind d.patterns d.positions) words
+  pub counts : (entry : List Bool) → length entry ≡ entry_width d.kind d.patterns d.positions → seen_mismatches words entry ≡ entry_mismatches d lines entry

@@ -1,0 +1,50 @@
+//! Partial logs read from text.
+
+ghost use Rattle.std.specs.Prelude.{◌≤◌, ◌^◌, length, IfOk, IfErr};
+ghost use Rattle.diagnose.specs.Lines.{TellsLogFault};
+ghost use Rattle.ranked_diag.specs.PartialLog.{IsPartialLog, PartialRefused};
+
+use crate::line::{right_line, seen_of};
+use crate::partial::Partial;
+use diagnose::{LogFault, check_size};
+use std::alloc::Global;
+use table_dicts::Dict;
+
+/// The lines that a partial log tells, for a dictionary.
+///
+/// A log has at most 2^30 bytes. A fault tells the first line that breaks a rule.
+pub fn read_partial(alloc: Global, dict: &Dict, bytes: &[u8]) -> Result<Partial, LogFault>
+    ensures read { IfOk result (IsPartialLog dict.now.patterns dict.now.positions bytes.now) }
+    ensures refused { IfErr result (TellsLogFault (PartialRefused dict.now.patterns dict.now.positions bytes.now)) }
+{
+    check_size(bytes)?;
+    read_lines(alloc, dict.patterns, dict.positions, bytes)
+}
+
+fn read_lines(
+    alloc: Global,
+    patterns: u32,
+    positions: u32,
+    bytes: &[u8],
+) -> Result<Partial, LogFault>
+    requires { length bytes.now ≤ 2 ^ 30 }
+    ensures read { IfOk result (IsPartialLog patterns positions bytes.now) }
+    ensures refused { IfErr result (TellsLogFault (PartialRefused patterns positions bytes.now)) }
+{
+    let mut partial = Partial::new(alloc);
+    let mut rest = bytes;
+    let mut least = 0;
+    let mut number: u64 = 1;
+    while !rest.is_empty() {
+        let line = match right_line(patterns, positions, least, rest) {
+            Ok(line) => line,
+            Err(kind) => return Err(LogFault::At(kind, number)),
+        };
+        let seen = seen_of(alloc, line.digits)?;
+        partial.push(line.pattern, seen)?;
+        rest = line.rest;
+        least = line.pattern + 1;
+        number += 1;
+    }
+    Ok(partial)
+}
