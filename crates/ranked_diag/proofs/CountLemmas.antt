@@ -15,7 +15,6 @@ use Rattle.net_model.specs.Rows.{bit_of, IsPacked}
 use Rattle.table_dicts.specs.Rows.{IsWordOf}
 use Rattle.word_sim.proofs.Digits.{digit_and, digit_xor}
 use Rattle.diagnose.proofs.WordLemmas.{packed_bit}
-use Rattle.ranked_diag.specs.declared.partial.Seen.{Seen}
 use Rattle.ranked_diag.specs.declared.partial.Seen.TheVariants.{Unseen}
 use Rattle.ranked_diag.specs.declared.seen_word.SeenWord.{SeenWord}
 use Rattle.ranked_diag.specs.Seen.{seen_of, differs}

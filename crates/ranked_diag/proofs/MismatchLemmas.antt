@@ -1,6 +1,6 @@
 -- Where all bits are observed, no mismatch is to have the observed entry.
 use Rattle.std.proofs.Common.{◌≡◌, ◌∙◌, ℕ, zero, suc, ◌+◌, ◌*◌, ◌<◌, ◌≤◌, Bool, true, false, not, cond, eqb, ltb, List, [], ◌∷◌, ◌++◌, map, length, take, drop, get_or, refl, sym, ap, ap₂, subst, inl, inr, arith}
-use Rattle.std.specs.Prelude.{◌⊎◌, All, sum_by, flat_map, filter, zip}
+use Rattle.std.specs.Prelude.{◌⊎◌, All, sum_by, flat_map, filter}
 use Rattle.std.specs.Bool.{Decides}
 use Rattle.std.specs.List.{enumerate_from, range_with_len, list_all}
 use Rattle.std.proofs.lemmas.Bool.{eqb-true, eq-eqb, lt-ltb}
@@ -20,7 +20,7 @@ use Rattle.table_dicts.specs.Dictionary.{entry_of, IsGroupedDict, IsShaped, obse
 use Rattle.table_dicts.proofs.EntryLemmas.{same_bits-Decides, length-differences}
 use Rattle.ranked_diag.specs.declared.partial.Seen.{Seen}
 use Rattle.ranked_diag.specs.declared.partial.Seen.TheVariants.{Zero, One, Unseen}
-use Rattle.ranked_diag.specs.Seen.{seen_of, is_seen, differs, differing_bits}
+use Rattle.ranked_diag.specs.Seen.{seen_of, is_seen, differing_bits}
 use Rattle.ranked_diag.specs.PartialLog.{Line}
 use Rattle.ranked_diag.specs.Mismatches.{seen_difference, seen_part, part_width, entry_part, mismatch_count}
 use Rattle.ranked_diag.specs.Laws.{whole_lines}

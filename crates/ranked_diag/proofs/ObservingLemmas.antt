@@ -1,10 +1,8 @@
 -- What lines tell of the entries of a dictionary, one line after another.
-use Rattle.std.proofs.Common.{◌≡◌, ◌∙◌, ℕ, zero, suc, ◌+◌, ◌*◌, ◌<◌, ◌≤◌, Bool, true, false, cond, ltb, List, [], ◌∷◌, ◌++◌, map, length, get_or, take, drop, refl, sym, ap, ap₂, subst, arith}
-use Rattle.std.specs.Prelude.{All, AllPairs, Some, slice_get, sum_by, nat_lt}
-use Rattle.std.specs.List.{range_with_len, list_all}
-use Rattle.std.specs.List.Sorted.{IsStrictlyIncreasing}
-use Rattle.std.proofs.lemmas.Bool.{lt-ltb, eqb-true}
-use Rattle.std.proofs.lemmas.List.{length-map, get_or-map, take-append-drop, length-take-le, take_all}
+use Rattle.std.proofs.Common.{◌≡◌, ◌∙◌, ℕ, ◌+◌, ◌*◌, ◌<◌, ◌≤◌, Bool, true, false, cond, ltb, List, [], ◌∷◌, map, length, get_or, take, drop, refl, sym, ap, subst, arith}
+use Rattle.std.specs.Prelude.{All, Some, slice_get, nat_lt}
+use Rattle.std.proofs.lemmas.Bool.{lt-ltb}
+use Rattle.std.proofs.lemmas.List.{length-map, get_or-map, take-append-drop, take_all}
 use Rattle.std.proofs.lemmas.List.Elements.{Contains-get_or}
 use Rattle.std.proofs.lemmas.List.FromFn.{fill_by_all}
 use Rattle.std.proofs.lemmas.List.Kept.{AllPairs-from_increasing}
@@ -12,7 +10,6 @@ use Rattle.std.proofs.lemmas.List.Sums.{sum_by_more}
 use Rattle.std.proofs.lemmas.Nat.{mul-le}
 use Rattle.std.proofs.lemmas.Option.{get_or_from_slice_get, slice_get_within}
 use Rattle.net_model.specs.Answer.{bit_at}
-use Rattle.net_model.specs.Rows.{row_at}
 use Rattle.table_dicts.specs.declared.dict.Dict.{Dict}
 use Rattle.table_dicts.specs.declared.dict.DictKind.{DictKind}
 use Rattle.table_dicts.specs.declared.dict.DictKind.TheVariants.{PassFail, Full, SameDiff}
@@ -21,7 +18,7 @@ use Rattle.ranked_diag.specs.declared.partial.Seen.{Seen}
 use Rattle.ranked_diag.specs.declared.seen_word.SeenWord.{SeenWord}
 use Rattle.ranked_diag.specs.Seen.{differs, differing_bits}
 use Rattle.ranked_diag.specs.PartialLog.{Line, patterns_of, ArePartial}
-use Rattle.ranked_diag.specs.Mismatches.{seen_part, part_width, entry_part, line_mismatches, entry_mismatches, mismatch_count, mismatch_counts}
+use Rattle.ranked_diag.specs.Mismatches.{seen_part, part_width, line_mismatches, entry_mismatches, mismatch_count, mismatch_counts}
 use Rattle.ranked_diag.specs.SeenWords.{seen_mismatches, AreSeenBefore, IsSeenToo, AreWordsOf}
 use Rattle.ranked_diag.proofs.SeenLemmas.{one_differs, differing-cons, differing-append, differing-more, nothing_before, before_more}
 

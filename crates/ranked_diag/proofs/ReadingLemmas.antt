@@ -1,11 +1,11 @@
 -- Lines of partial logs as they are read, and what is refused behind some.
-use Rattle.std.proofs.Common.{◌≡◌, ◌≢◌, ◌∙◌, ℕ, zero, suc, ◌+◌, ◌<◌, ◌≤◌, ◌^◌, ◌⊎◌, Bool, true, false, cond, eqb, List, [], ◌∷◌, ◌++◌, map, length, get_or, refl, sym, ap, ap₂, subst, inl, inr, arith, lit<}
-use Rattle.std.specs.Prelude.{All, Contains, codes, decimal, slice_index}
+use Rattle.std.proofs.Common.{◌≡◌, ◌≢◌, ◌∙◌, ℕ, zero, suc, ◌+◌, ◌<◌, ◌≤◌, ◌^◌, List, [], ◌∷◌, ◌++◌, map, length, get_or, refl, sym, ap, ap₂, subst, inl, inr, arith}
+use Rattle.std.specs.Prelude.{Contains, codes, decimal, slice_index}
 use Rattle.std.proofs.lemmas.Bool.{cases_lt}
-use Rattle.std.proofs.lemmas.List.{append-nil, map-append, length-append, length-map, get_or_append_left, get_or-append-add, get_or_default}
-use Rattle.std.proofs.lemmas.List.Elements.{All-nil, All-cons, All-push, Contains-append_right}
+use Rattle.std.proofs.lemmas.List.{append-nil, map-append, length-append, length-map, get_or_append_left, get_or-append-add}
+use Rattle.std.proofs.lemmas.List.Elements.{All-nil, All-push, Contains-append_right}
 use Rattle.diagnose.specs.declared.fault.LogKind.{LogKind}
-use Rattle.diagnose.specs.declared.fault.LogKind.TheVariants.{Syntax, Order, Width}
+use Rattle.diagnose.specs.declared.fault.LogKind.TheVariants.{Order, Width}
 use Rattle.diagnose.specs.Lines.{Text, text_limit, IsCutAt}
 use Rattle.diagnose.proofs.Cuts.{cut_once}
 use Rattle.diagnose.proofs.LogLemmas.{number_without_blank}

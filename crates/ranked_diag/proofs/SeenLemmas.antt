@@ -1,10 +1,10 @@
 -- What was seen of the bits of an entry, one after another.
-use Rattle.std.proofs.Common.{◌≡◌, ◌∙◌, ℕ, zero, suc, ◌+◌, ◌-◌, ◌*◌, ◌/◌, ◌%◌, ◌<◌, ◌≤◌, Bool, true, false, cond, eqb, List, [], ◌∷◌, ◌++◌, length, get_or, set, take, drop, refl, sym, ap, ap₂, subst, inl, inr, arith}
-use Rattle.std.specs.Prelude.{All, sum_by, zip}
+use Rattle.std.proofs.Common.{◌≡◌, ◌∙◌, ℕ, zero, suc, ◌+◌, ◌*◌, ◌/◌, ◌%◌, ◌<◌, ◌≤◌, Bool, true, false, cond, List, [], ◌∷◌, ◌++◌, length, get_or, set, take, drop, refl, ap, subst, arith}
+use Rattle.std.specs.Prelude.{All, zip}
 use Rattle.std.proofs.lemmas.Bool.{ne_eqb}
-use Rattle.std.proofs.lemmas.List.{length-append, length-set, length-take-le, take_all, take_more, drop-drop, get_or-drop, get_or_default}
-use Rattle.std.proofs.lemmas.List.Elements.{All-set, All-push, All-weaker}
-use Rattle.std.proofs.lemmas.List.Sums.{sum_by-cons, sum_by-append, sum_by-set, sum_by_push}
+use Rattle.std.proofs.lemmas.List.{length-take-le, take_all, take_more, drop-drop}
+use Rattle.std.proofs.lemmas.List.Elements.{All-set, All-push}
+use Rattle.std.proofs.lemmas.List.Sums.{sum_by-cons, sum_by-set, sum_by_push}
 use Rattle.net_model.specs.Answer.{bit_at}
 use Rattle.net_model.specs.Rows.{bit_of}
 use Rattle.ranked_diag.specs.declared.partial.Seen.{Seen}

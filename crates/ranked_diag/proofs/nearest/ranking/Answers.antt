@@ -1,6 +1,6 @@
-use Rattle.std.proofs.Common.{◌≡◌, ◌∙◌, ◌≤◌, ℕ, List, sym, ap, subst}
+use Rattle.std.proofs.Common.{◌≤◌, ℕ, List, sym, subst}
 use Rattle.std.specs.Prelude.{All}
-use Rattle.ranked_diag.specs.Ranked.{least, IsRanking}
+use Rattle.ranked_diag.specs.Ranked.{IsRanking}
 use Rattle.ranked_diag.proofs.NearLemmas.{least-low, is-ranking}
 use Rattle.ranked_diag.proofs.nearest.ranking.Goals as goal
 

@@ -1,6 +1,6 @@
 use Rattle.std.proofs.lemmas.List.{get_or_default}
 use Rattle.net_model.specs.Rows.{row_at}
-use Rattle.ranked_diag.proofs.ObservingLemmas.{some-differ, none-differs_more, none-differs_all}
+use Rattle.ranked_diag.proofs.ObservingLemmas.{some-differ, none-differs_more}
 use Rattle.ranked_diag.proofs.observing.some_differs.Goals as goal
 
 pub returns-then-is_other : goal.returns-then-is_other

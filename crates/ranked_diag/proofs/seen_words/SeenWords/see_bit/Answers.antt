@@ -1,4 +1,4 @@
-use Rattle.std.proofs.Common.{◌≡◌, ◌∙◌, ◌<◌, ◌∷◌, [], ℕ, List, eqb, length, get_or, set, refl, sym, ap, subst}
+use Rattle.std.proofs.Common.{◌∙◌, ◌<◌, ◌∷◌, [], ℕ, List, eqb, length, get_or, set, refl, sym, ap, subst}
 use Rattle.std.proofs.lemmas.Nat.Bits.{bit_at-zero}
 use Rattle.ranked_diag.specs.declared.seen_word.SeenWord.{SeenWord}
 use Rattle.ranked_diag.specs.Seen.{seen_of}
