@@ -1,0 +1,12 @@
+use Rattle.std.proofs.Common.{◌≡◌, ◌∙◌, ℕ, ◌<◌, ◌≤◌, inl, inr, map, length, get_or, sym, ap, arith}
+use Rattle.std.proofs.lemmas.Bool.{cases_lt}
+use Rattle.std.proofs.lemmas.List.{ext_get_or, get_or-map, length-map, get_or-set_same, get_or-set_other}
+use Rattle.compact_tests.specs.Earlier.{class_before}
+use Rattle.compact_tests.proofs.earlier.step_back.Goals as goal
+
+pub returns-clause-earlier : goal.returns-clause-earlier
+returns-clause-earlier c =
+    let f : ℕ → ℕ = class_before c.args.classes.now.births c.args.pattern in
+    let old = c.args.earlier.now in
+    ext_get_or 0 c.loop-class.earlier (map f old) (omega (arith, length-map old f))
+    (λ k h. c.loop-class.invariant.done k (omega (arith, h)) ∙ sym (get_or-map f old k 0 0 (omega (arith, h))))

@@ -1,0 +1,66 @@
+//! Test compaction.
+
+ghost use Rattle.std.specs.Prelude.{◌≡◌, IfOk};
+ghost use Rattle.net_model.specs.FaultList.{faults as faults_of};
+ghost use Rattle.dia_check.specs.Reader.{IsAcceptedText};
+ghost use Rattle.compact_tests.specs.Compacted.{IsCompacted};
+ghost use Rattle.compact_tests.specs.Thinning.{AreRemainingPlaces};
+
+use crate::keeping::classes_at;
+use crate::laws::thin_is_sound;
+use crate::text::{first_lines, push_numbers};
+use crate::thin::{Text, Thin};
+use crate::thinning::needed_patterns;
+use dia_check::Checked;
+use fault_list::{FaultList, list};
+use net_model::Circuit;
+use result_file::{Summary, valid_is_true};
+use std::alloc::{AllocError, Global};
+
+/// What is left of a valid result where the patterns are left out that its classes don't need. `checked` is what the check
+/// of the bytes answers.
+pub fn compact(
+    alloc: Global,
+    circuit: &Circuit,
+    checked: &Checked,
+    bytes: &[u8],
+) -> Result<Thin, AllocError>
+    requires { IsAcceptedText circuit.now bytes.now checked.now }
+    ensures { IfOk result (IsCompacted circuit.now bytes.now) }
+{
+    let faults = list(alloc, circuit)?;
+    let needed = needed_patterns(alloc, circuit, &faults, checked)?;
+    thin_with(alloc, circuit, &faults, checked, bytes, needed.as_slice())
+}
+
+// What is left where these patterns remain, of the circuit with this list of its faults.
+fn thin_with(
+    alloc: Global,
+    circuit: &Circuit,
+    faults: &FaultList,
+    checked: &Checked,
+    bytes: &[u8],
+    needed: &[usize],
+) -> Result<Thin, AllocError>
+    requires faults { faults.now ≡ faults_of circuit.now }
+    requires accepted { IsAcceptedText circuit.now bytes.now checked.now }
+    requires needed { AreRemainingPlaces circuit.now checked.now.patterns checked.now.classes needed.now }
+    ensures { IfOk result (IsCompacted circuit.now bytes.now) }
+{
+    valid_is_true();
+    thin_is_sound();
+    let patterns = checked.patterns.as_slice();
+    let numbers = faults.len();
+    let mut text = first_lines(alloc, circuit, numbers, checked.budgets, patterns, needed)?;
+    let classes = classes_at(alloc, circuit, faults, patterns, needed)?;
+    push_numbers(&mut text, alloc, bytes, &classes, numbers)?;
+    let remain = classes.patterns();
+    Ok(Thin {
+        text: Text::new(text),
+        summary: Summary {
+            patterns: remain,
+            ..checked.summary
+        },
+        dropped: checked.summary.patterns - remain,
+    })
+}

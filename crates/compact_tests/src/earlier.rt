@@ -1,0 +1,90 @@
+//! The classes as they were before a pattern.
+
+ghost use Rattle.std.specs.Prelude.{◌≡◌, ◌↔◌, ◌<◌, ℕ, false, length, slice_index, map, All, IsTrue};
+ghost use Rattle.class_refine.specs.Fields.{IsWhole};
+ghost use Rattle.net_model.specs.ClassTable.{class_count};
+ghost use Rattle.compact_tests.specs.Earlier.{class_before, AreUnmarked, AreMarkedTo, HasRepeat, ShareEarlier};
+
+use class_refine::Classes;
+
+/// Puts in place of each class the one that it was before a pattern.
+pub(crate) fn step_back(earlier: &mut [u32], classes: &Classes, pattern: usize)
+    requires { All (λ class. class < class_count classes.now) earlier.old }
+    ensures earlier { earlier.new ≡ map (class_before classes.now.births pattern) earlier.old }
+    ensures within { All (λ class. class < class_count classes.now) earlier.new }
+{
+    for class in earlier.iter_mut() {
+        *class = before(classes, *class, pattern);
+    }
+}
+
+// The class that a class was before a pattern: its parent where the pattern cut it off.
+fn before(classes: &Classes, class: u32, pattern: usize) -> u32
+    requires { class < class_count classes.now }
+    ensures class { result ≡ class_before classes.now.births pattern class }
+    ensures within { result < class_count classes.now }
+{
+    match classes.born(class) {
+        Some((parent, birth)) if birth as usize == pattern => parent,
+        _ => class,
+    }
+}
+
+/// Whether two numbers of one group have the same class in the list. No mark is set before and after.
+pub(crate) fn share_earlier(groups: &Classes, earlier: &[u32], marks: &mut [bool]) -> bool
+    requires numbers { length groups.now.class_of ≡ length earlier.now }
+    requires classes { All (λ class. class < length marks.old) earlier.now }
+    requires unmarked { AreUnmarked marks.old }
+    ensures value { IsTrue result ↔ ShareEarlier groups.now earlier.now }
+    ensures unmarked { AreUnmarked marks.new }
+    ensures whole { IsWhole groups.now }
+{
+    for group in 0..groups.count() {
+        if repeats(groups.members(group), earlier, marks) {
+            return true;
+        }
+    }
+    false
+}
+
+// Whether two of a group's numbers have the same class in the list. No mark is set before and after.
+fn repeats(group: &[u32], earlier: &[u32], marks: &mut [bool]) -> bool
+    requires group { All (λ number. number < length earlier.now) group.now }
+    requires classes { All (λ class. class < length marks.old) earlier.now }
+    requires unmarked { AreUnmarked marks.old }
+    ensures value { IsTrue result ↔ HasRepeat group.now earlier.now }
+    ensures unmarked { AreUnmarked marks.new }
+{
+    let again = mark(group, earlier, marks);
+    unmark(group, earlier, marks);
+    again
+}
+
+// Marks the classes that a group's numbers have in the list, and says whether one comes again.
+fn mark(group: &[u32], earlier: &[u32], marks: &mut [bool]) -> bool
+    requires group { All (λ number. number < length earlier.now) group.now }
+    requires classes { All (λ class. class < length marks.old) earlier.now }
+    requires unmarked { AreUnmarked marks.old }
+    ensures value { IsTrue result ↔ HasRepeat group.now earlier.now }
+    ensures marked { AreMarkedTo group.now earlier.now (length group.now) marks.new }
+{
+    let mut again = false;
+    for number in group {
+        let class = earlier[*number as usize] as usize;
+        again = again || marks[class];
+        marks[class] = true;
+    }
+    again
+}
+
+// Takes the marks of these classes away.
+fn unmark(group: &[u32], earlier: &[u32], marks: &mut [bool])
+    requires group { All (λ number. number < length earlier.now) group.now }
+    requires classes { All (λ class. class < length marks.old) earlier.now }
+    requires marked { AreMarkedTo group.now earlier.now (length group.now) marks.old }
+    ensures { AreUnmarked marks.new }
+{
+    for number in group {
+        marks[earlier[*number as usize] as usize] = false;
+    }
+}

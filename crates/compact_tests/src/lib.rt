@@ -1,0 +1,16 @@
+//! Test compaction: the patterns of a result that its classes don't need are left out.
+#![tactic(auto)]
+
+mod compacting;
+mod earlier;
+mod keeping;
+mod laws;
+mod lines;
+mod numbered;
+mod text;
+mod thin;
+mod thinning;
+
+pub use compacting::compact;
+pub use laws::{each_file_compacts_once, remaining_patterns_are_needed, thin_is_sound};
+pub use thin::{Text, Thin};
