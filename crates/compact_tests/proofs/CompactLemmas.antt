@@ -28,7 +28,7 @@ use Rattle.result_file.specs.Laws.{ValidIsTrue}
 use Rattle.result_file.proofs.RightLines.{IsNextLine}
 use Rattle.dia_check.specs.declared.answer.Checked.{Checked}
 use Rattle.dia_check.specs.Accepted.{IsAccepted}
-use Rattle.compact_tests.specs.Remaining.{Answered, vectors_of, rows_of, remaining, remaining_behind, with_needed, classes_by}
+use Rattle.compact_tests.specs.Remaining.{Answered, answered_vectors, answered_rows, remaining, remaining_behind, with_needed, classes_by}
 use Rattle.compact_tests.specs.declared.thin.Thin.{Thin}
 use Rattle.compact_tests.specs.ThinResult.{marks_in, needed_evidence, thin_result, IsThin}
 use Rattle.compact_tests.specs.Laws.{ThinAmountsToSame}
@@ -54,7 +54,7 @@ zip_answered c patterns t of = record {
   table = of.table ∙ ap (class_table (fault_count c)) (sym (zipped_rows c patterns of.rows of.answers));
 }
 
-pub vectors_at_are : (all : List Answered) (places : List ℕ) → vectors_at (vectors_of all) places ≡ vectors_of (patterns_at all places)
+pub vectors_at_are : (all : List Answered) (places : List ℕ) → vectors_at (answered_vectors all) places ≡ answered_vectors (patterns_at all places)
 vectors_at_are all [] = refl
 vectors_at_are all (place ∷ places) = ap₂ (λ (v : List Bool) (vs : List (List Bool)). v ∷ vs) (map_item (λ (p : Answered). p.0) all place ([], [])) (vectors_at_are all places)
 
@@ -135,7 +135,7 @@ module _ (law : ValidIsTrue) (c : Circuit) (circuit : IsCircuit c) (records : Li
   remain = remaining numbers all
 
   abbrev t : ClassTable
-  t = class_table numbers (rows_of remain)
+  t = class_table numbers (answered_rows remain)
 
   abbrev pub left : List Record
   left = stated_records c (thin_result numbers rows records)
@@ -146,10 +146,10 @@ module _ (law : ValidIsTrue) (c : Circuit) (circuit : IsCircuit c) (records : Li
   all_answered : IsAnswered c checked.patterns checked.classes all
   all_answered =
       let is = zip_answered c (patterns_in records) checked.classes a.table in
-      record { vectors = is.vectors ∙ sym a.patterns; answers = subst (λ (vs : List (List Bool)). AreAnswerRows c vs (rows_of all)) (sym a.patterns) is.answers; table = is.table }
+      record { vectors = is.vectors ∙ sym a.patterns; answers = subst (λ (vs : List (List Bool)). AreAnswerRows c vs (answered_rows all)) (sym a.patterns) is.answers; table = is.table }
 
-  vectors_are : vectors_at checked.patterns needed ≡ vectors_of remain
-  vectors_are = ap (λ (vs : List (List Bool)). vectors_at vs needed) (sym all_answered.vectors) ∙ (vectors_at_are all needed ∙ ap vectors_of (places.remain all all_answered))
+  vectors_are : vectors_at checked.patterns needed ≡ answered_vectors remain
+  vectors_are = ap (λ (vs : List (List Bool)). vectors_at vs needed) (sym all_answered.vectors) ∙ (vectors_at_are all needed ∙ ap answered_vectors (places.remain all all_answered))
 
   pub needed_in_turn : SplitInTurn c (vectors_at checked.patterns needed)
   needed_in_turn =
@@ -168,7 +168,7 @@ module _ (law : ValidIsTrue) (c : Circuit) (circuit : IsCircuit c) (records : Li
     -- how many patterns remain
     pub patterns_many : classes.patterns ≡ length (patterns_in left)
     patterns_many =
-        ap (λ (u : ClassTable). u.patterns) classes_are ∙ (patterns_table numbers (rows_of remain) ∙ (length-map remain (λ (p : Answered). p.1)
+        ap (λ (u : ClassTable). u.patterns) classes_are ∙ (patterns_table numbers (answered_rows remain) ∙ (length-map remain (λ (p : Answered). p.1)
         ∙ (sym (length-map remain (λ (p : Answered). p.0)) ∙ sym (ap length (thin_patterns c rows records)))))
 
     all_many : length all ≡ length (patterns_in records)
@@ -176,7 +176,7 @@ module _ (law : ValidIsTrue) (c : Circuit) (circuit : IsCircuit c) (records : Li
 
     pub patterns_few : classes.patterns ≤ checked.summary.patterns
     patterns_few =
-        omega (arith, ap (λ (u : ClassTable). u.patterns) classes_are, patterns_table numbers (rows_of remain), length-map remain (λ (p : Answered). p.1), remaining_few numbers all, all_many, ap (λ (s : Summary). s.patterns) a.summary)
+        omega (arith, ap (λ (u : ClassTable). u.patterns) classes_are, patterns_table numbers (answered_rows remain), length-map remain (λ (p : Answered). p.1), remaining_few numbers all, all_many, ap (λ (s : Summary). s.patterns) a.summary)
 
     -- the text, from its parts
     front : Budgets → List (List Bool) → List Record
@@ -185,16 +185,16 @@ module _ (law : ValidIsTrue) (c : Circuit) (circuit : IsCircuit c) (records : Li
     back : ClassTable → List Mark → List Record
     back u marks = class_records u.births ++ member_records (zip u.class_of marks) ++ End ∷ []
 
-    left_text : text_of left ≡ text_of (front (budgets_in records) (vectors_of remain)) ++ text_of (map Same (needed_evidence t (evidence_in records))) ++ text_of (back t (marks_in records))
+    left_text : text_of left ≡ text_of (front (budgets_in records) (answered_vectors remain)) ++ text_of (map Same (needed_evidence t (evidence_in records))) ++ text_of (back t (marks_in records))
     unfolding thin_result front back
-    left_text = text_parts (Head c.sources (length c.positions) numbers ∷ Budget (budgets_in records) ∷ map Pattern (vectors_of remain)) (map Same (needed_evidence t (evidence_in records))) (class_records t.births) (member_records (zip t.class_of (marks_in records))) (End ∷ [])
+    left_text = text_parts (Head c.sources (length c.positions) numbers ∷ Budget (budgets_in records) ∷ map Pattern (answered_vectors remain)) (map Same (needed_evidence t (evidence_in records))) (class_records t.births) (member_records (zip t.class_of (marks_in records))) (End ∷ [])
 
     pub text_is : (first evidence last : Text) (marks : List Mark) → first ≡ text_of (Head c.sources (length c.positions) numbers ∷ Budget checked.budgets ∷ map Pattern (vectors_at checked.patterns needed))
         → evidence ≡ first ++ text_of (map Same (needed_evidence classes (evidence_in records))) → marks ≡ marks_in records → last ≡ text_of (class_records classes.births ++ member_records (zip classes.class_of marks) ++ End ∷ []) → evidence ++ last ≡ text_of left
     unfolding front back
     text_is first evidence last marks first_is evidence_is marks_are last_is =
-        let f : first ≡ text_of (front (budgets_in records) (vectors_of remain)) = first_is ∙ (λ i. text_of (front (a.budgets i) (vectors_are i))) in
-        let e : evidence ≡ text_of (front (budgets_in records) (vectors_of remain)) ++ text_of (map Same (needed_evidence t (evidence_in records))) =
+        let f : first ≡ text_of (front (budgets_in records) (answered_vectors remain)) = first_is ∙ (λ i. text_of (front (a.budgets i) (vectors_are i))) in
+        let e : evidence ≡ text_of (front (budgets_in records) (answered_vectors remain)) ++ text_of (map Same (needed_evidence t (evidence_in records))) =
         evidence_is ∙ (λ i. f i ++ text_of (map Same (needed_evidence (classes_are i) (evidence_in records)))) in
         let l : last ≡ text_of (back t (marks_in records)) = last_is ∙ (λ i. text_of (back (classes_are i) (marks_are i))) in
         (λ i. e i ++ l i) ∙ sym left_text

@@ -4,8 +4,8 @@ use Rattle.std.proofs.lemmas.Bool.{eq-eqb, ne_eqb, cases_eq}
 use Rattle.std.proofs.lemmas.List.{take_more, drop_more, take-append-drop}
 use Rattle.net_model.specs.ClassTable.{ClassTable, class_table, class_count, class_at, representative}
 use Rattle.class_refine.proofs.Pieces.{lead_is}
-use Rattle.compact_tests.specs.Remaining.{Answered, rows_of, classes_by, with_needed, remaining_behind}
-use Rattle.compact_tests.specs.Thinning.{AreAlike, remaining_from}
+use Rattle.compact_tests.specs.Remaining.{Answered, answered_rows, classes_by, with_needed, remaining_behind}
+use Rattle.compact_tests.specs.Thinning.{HaveSameAnswers, remaining_from}
 use Rattle.compact_tests.proofs.TableLemmas.{IsCoarser, filled-table, numbers-table, alike, together, fewer_classes, as_many}
 use Rattle.compact_tests.proofs.RemainingLemmas.{Alike, alike_both, alike_first, alike_second, part_alike}
 
@@ -14,19 +14,19 @@ pub record IsAlikePair (numbers : ℕ) (all : List Answered) (place a b : ℕ) :
   pub first_in : a < classes_by numbers all
   pub second_in : b < classes_by numbers all
   pub apart : a ≢ b
-  pub before : class_at (class_table numbers (rows_of (take place all))) (representative (class_table numbers (rows_of all)) a) ≡ class_at (class_table numbers (rows_of (take place all))) (representative (class_table numbers (rows_of all)) b)
-  pub behind : AreAlike (rows_of (remaining_from numbers all (place + 1))) (representative (class_table numbers (rows_of all)) a) (representative (class_table numbers (rows_of all)) b)
+  pub before : class_at (class_table numbers (answered_rows (take place all))) (representative (class_table numbers (answered_rows all)) a) ≡ class_at (class_table numbers (answered_rows (take place all))) (representative (class_table numbers (answered_rows all)) b)
+  pub behind : HaveSameAnswers (answered_rows (remaining_from numbers all (place + 1))) (representative (class_table numbers (answered_rows all)) a) (representative (class_table numbers (answered_rows all)) b)
 
 module _ (numbers : ℕ) (some : 0 < numbers) (all : List Answered) where
   abbrev t : ClassTable
-  t = class_table numbers (rows_of all)
+  t = class_table numbers (answered_rows all)
 
   -- the lowest number of a class
   pub lead : (a : ℕ) → a < classes_by numbers all → (representative t a < numbers) × (class_at t (representative t a) ≡ a)
   lead a h =
-      let n = (filled-table numbers (rows_of all) some).inhabited a h in
+      let n = (filled-table numbers (answered_rows all) some).inhabited a h in
       let l = lead_is t [] n.0 n.1 in
-      subst (λ c. (representative t c < numbers) × (class_at t (representative t c) ≡ c)) n.2 (omega (arith, l.0, numbers-table numbers (rows_of all)), l.1)
+      subst (λ c. (representative t c < numbers) × (class_at t (representative t c) ≡ c)) n.2 (omega (arith, l.0, numbers-table numbers (answered_rows all)), l.1)
 
   module _ (place : ℕ) (within : place < length all) where
     abbrev pattern : Answered
@@ -47,7 +47,7 @@ module _ (numbers : ℕ) (some : 0 < numbers) (all : List Answered) where
         ∙ ap (λ (first : List Answered). with_needed numbers (classes_by numbers all) before pattern (remaining_behind numbers (classes_by numbers all) first (drop (place + 1) all))) (sym (take_more all place ([], []) within))
 
     -- numbers that answer alike to all patterns do to the fewer
-    coarser : IsCoarser numbers (rows_of fewer) (rows_of all)
+    coarser : IsCoarser numbers (answered_rows fewer) (answered_rows all)
     coarser m n hm hn same =
         let first : Alike before m n = alike_first m n before (drop place all) (subst (λ (ps : List Answered). Alike ps m n) (sym (take-append-drop place all)) same) in
         let rest : Alike (drop (place + 1) all) m n = alike_second m n (take (place + 1) all) (drop (place + 1) all) (subst (λ (ps : List Answered). Alike ps m n) (sym (take-append-drop (place + 1) all)) same) in
@@ -57,10 +57,10 @@ module _ (numbers : ℕ) (some : 0 < numbers) (all : List Answered) where
     pair_fewer a b pair count =
         let la = lead a pair.first_in in
         let lb = lead b pair.second_in in
-        let same = as_many numbers (rows_of fewer) (rows_of all) coarser some count in
-        let both = alike_both (representative t a) (representative t b) before behind (alike (representative t a) (representative t b) numbers (rows_of before) la.0 lb.0 pair.before) pair.behind in
-        let one = together (representative t a) (representative t b) numbers (rows_of fewer) la.0 lb.0 both in
-        let size = numbers-table numbers (rows_of all) in
+        let same = as_many numbers (answered_rows fewer) (answered_rows all) coarser some count in
+        let both = alike_both (representative t a) (representative t b) before behind (alike (representative t a) (representative t b) numbers (answered_rows before) la.0 lb.0 pair.before) pair.behind in
+        let one = together (representative t a) (representative t b) numbers (answered_rows fewer) la.0 lb.0 both in
+        let size = numbers-table numbers (answered_rows all) in
         pair.apart (sym la.1 ∙ ((same.together (representative t a) (representative t b) (omega (arith, la.0, size)) (omega (arith, lb.0, size))).0 one ∙ lb.1))
 
     -- where there is such a pair the pattern remains
@@ -68,30 +68,30 @@ module _ (numbers : ℕ) (some : 0 < numbers) (all : List Answered) where
     pair_remains a b pair = step ∙ ap (λ (b : Bool). cond b behind (pattern ∷ behind)) (ne_eqb (classes_by numbers fewer) (classes_by numbers all) (pair_fewer a b pair))
 
     module _ (none : (a b : ℕ) → IsAlikePair numbers all place a b → ⊥) where
-      none_coarser : IsCoarser numbers (rows_of all) (rows_of fewer)
+      none_coarser : IsCoarser numbers (answered_rows all) (answered_rows fewer)
       none_coarser m n hm hn same =
           let a = class_at t m in
           let b = class_at t n in
-          let coarse = class_table numbers (rows_of fewer) in
-          let size = numbers-table numbers (rows_of all) in
-          let ha : a < classes_by numbers all = (filled-table numbers (rows_of all) some).sound.classes m (omega (arith, hm, size)) in
-          let hb : b < classes_by numbers all = (filled-table numbers (rows_of all) some).sound.classes n (omega (arith, hn, size)) in
+          let coarse = class_table numbers (answered_rows fewer) in
+          let size = numbers-table numbers (answered_rows all) in
+          let ha : a < classes_by numbers all = (filled-table numbers (answered_rows all) some).sound.classes m (omega (arith, hm, size)) in
+          let hb : b < classes_by numbers all = (filled-table numbers (answered_rows all) some).sound.classes n (omega (arith, hn, size)) in
           let la = lead a ha in
           let lb = lead b hb in
           let to_m : class_at coarse (representative t a) ≡ class_at coarse m =
-          together (representative t a) m numbers (rows_of fewer) la.0 hm (coarser (representative t a) m la.0 hm (alike (representative t a) m numbers (rows_of all) la.0 hm la.1)) in
+          together (representative t a) m numbers (answered_rows fewer) la.0 hm (coarser (representative t a) m la.0 hm (alike (representative t a) m numbers (answered_rows all) la.0 hm la.1)) in
           let to_n : class_at coarse (representative t b) ≡ class_at coarse n =
-          together (representative t b) n numbers (rows_of fewer) lb.0 hn (coarser (representative t b) n lb.0 hn (alike (representative t b) n numbers (rows_of all) lb.0 hn lb.1)) in
+          together (representative t b) n numbers (answered_rows fewer) lb.0 hn (coarser (representative t b) n lb.0 hn (alike (representative t b) n numbers (answered_rows all) lb.0 hn lb.1)) in
           let both : Alike fewer (representative t a) (representative t b) =
-          alike (representative t a) (representative t b) numbers (rows_of fewer) la.0 lb.0 (to_m ∙ (together m n numbers (rows_of fewer) hm hn same ∙ sym to_n)) in
+          alike (representative t a) (representative t b) numbers (answered_rows fewer) la.0 lb.0 (to_m ∙ (together m n numbers (answered_rows fewer) hm hn same ∙ sym to_n)) in
           elim (cases_eq a b) [
-            | inl is ↦ alike m n numbers (rows_of all) hm hn is
+            | inl is ↦ alike m n numbers (answered_rows all) hm hn is
             | inr apart ↦
                 absurd (none a b (record {
                   first_in = ha;
                   second_in = hb;
                   apart = apart;
-                  before = together (representative t a) (representative t b) numbers (rows_of before) la.0 lb.0 (alike_first (representative t a) (representative t b) before behind both);
+                  before = together (representative t a) (representative t b) numbers (answered_rows before) la.0 lb.0 (alike_first (representative t a) (representative t b) before behind both);
                   behind = alike_second (representative t a) (representative t b) before behind both;
                 }))
           ]
@@ -100,5 +100,5 @@ module _ (numbers : ℕ) (some : 0 < numbers) (all : List Answered) where
       pub none_remains : remaining_from numbers all place ≡ behind
       none_remains =
           let count : classes_by numbers fewer ≡ classes_by numbers all =
-          omega (arith, fewer_classes numbers (rows_of fewer) (rows_of all) coarser some, fewer_classes numbers (rows_of all) (rows_of fewer) none_coarser some) in
+          omega (arith, fewer_classes numbers (answered_rows fewer) (answered_rows all) coarser some, fewer_classes numbers (answered_rows all) (answered_rows fewer) none_coarser some) in
           step ∙ ap (λ (b : Bool). cond b behind (pattern ∷ behind)) (eq-eqb (classes_by numbers fewer) (classes_by numbers all) count)

@@ -6,28 +6,28 @@ use Rattle.std.proofs.lemmas.List.{map-append}
 use Rattle.std.proofs.lemmas.List.Elements.{All-append, All-cons, All-head, All-tail}
 use Rattle.net_model.specs.ClassTable.{class_table}
 use Rattle.net_model.proofs.Elements.{All-left, All-right}
-use Rattle.compact_tests.specs.Remaining.{Answered, rows_of, classes_by, with_needed, remaining_behind, remaining}
+use Rattle.compact_tests.specs.Remaining.{Answered, answered_rows, classes_by, with_needed, remaining_behind, remaining}
 use Rattle.compact_tests.specs.Compacted.{HaveSameClasses}
-use Rattle.compact_tests.specs.Thinning.{AreAlike}
+use Rattle.compact_tests.specs.Thinning.{HaveSameAnswers}
 use Rattle.compact_tests.proofs.TableLemmas.{fewer_classes, as_many}
 
 -- ---- parts of patterns
 
 abbrev pub Alike : List Answered → ℕ → ℕ → Type 0
-Alike patterns m n = AreAlike (rows_of patterns) m n
+Alike patterns m n = HaveSameAnswers (answered_rows patterns) m n
 
 module _ (m n : ℕ) where
   abbrev pub SameAnswer : List (List Bool) → Type 0
   SameAnswer row = slice_index_or row m [] ≡ slice_index_or row n []
 
   pub alike_both : (first second : List Answered) → Alike first m n → Alike second m n → Alike (first ++ second) m n
-  alike_both first second a b = subst (All SameAnswer) (sym (map-append (λ (p : Answered). p.1) first second)) (All-append SameAnswer (rows_of first) (rows_of second) a b)
+  alike_both first second a b = subst (All SameAnswer) (sym (map-append (λ (p : Answered). p.1) first second)) (All-append SameAnswer (answered_rows first) (answered_rows second) a b)
 
   pub alike_first : (first second : List Answered) → Alike (first ++ second) m n → Alike first m n
-  alike_first first second both = All-left SameAnswer (rows_of first) (rows_of second) (subst (All SameAnswer) (map-append (λ (p : Answered). p.1) first second) both)
+  alike_first first second both = All-left SameAnswer (answered_rows first) (answered_rows second) (subst (All SameAnswer) (map-append (λ (p : Answered). p.1) first second) both)
 
   pub alike_second : (first second : List Answered) → Alike (first ++ second) m n → Alike second m n
-  alike_second first second both = All-right SameAnswer (rows_of first) (rows_of second) (subst (All SameAnswer) (map-append (λ (p : Answered). p.1) first second) both)
+  alike_second first second both = All-right SameAnswer (answered_rows first) (answered_rows second) (subst (All SameAnswer) (map-append (λ (p : Answered). p.1) first second) both)
 
   -- numbers that answer alike to patterns answer alike where one is left out
   alike_without : (before : List Answered) (pattern : Answered) (behind : List Answered) → Alike ((before ++ pattern ∷ []) ++ behind) m n → Alike (before ++ behind) m n
@@ -43,7 +43,7 @@ module _ (numbers : ℕ) (some : 0 < numbers) where
   -- one pattern less gives no more classes
   no_more : (before : List Answered) (pattern : Answered) (behind : List Answered) → classes_by numbers (before ++ behind) ≤ classes_by numbers ((before ++ pattern ∷ []) ++ behind)
   no_more before pattern behind =
-      fewer_classes numbers (rows_of (before ++ behind)) (rows_of ((before ++ pattern ∷ []) ++ behind)) (λ m n hm hn. alike_without m n before pattern behind) some
+      fewer_classes numbers (answered_rows (before ++ behind)) (answered_rows ((before ++ pattern ∷ []) ++ behind)) (λ m n hm hn. alike_without m n before pattern behind) some
 
   again : (before : List Answered) (pattern : Answered) (behind : List Answered) → classes_by numbers ((before ++ pattern ∷ []) ++ behind) ≡ classes_by numbers (before ++ pattern ∷ behind)
   again before pattern behind = ap (classes_by numbers) (append_assoc before (pattern ∷ []) behind)
@@ -112,16 +112,16 @@ module _ (numbers : ℕ) (patterns : List Answered) (some : 0 < numbers) where
 pub part_alike : (numbers classes : ℕ) (m n : ℕ) (before patterns : List Answered) → Alike patterns m n → Alike (remaining_behind numbers classes before patterns) m n
 part_alike numbers classes m n before [] all = all
 part_alike numbers classes m n before (pattern ∷ patterns) all =
-    one_more (remaining_behind numbers classes (before ++ pattern ∷ []) patterns) (part_alike numbers classes m n (before ++ pattern ∷ []) patterns (All-tail (SameAnswer m n) pattern.1 (rows_of patterns) all))
+    one_more (remaining_behind numbers classes (before ++ pattern ∷ []) patterns) (part_alike numbers classes m n (before ++ pattern ∷ []) patterns (All-tail (SameAnswer m n) pattern.1 (answered_rows patterns) all))
   where
     one_more : (behind : List Answered) → Alike behind m n → Alike (with_needed numbers classes before pattern behind) m n
     one_more behind rest = by (eqb (classes_by numbers (before ++ behind)) classes)
       where
         by : (b : Bool) → Alike (cond b behind (pattern ∷ behind)) m n
         by true = rest
-        by false = All-cons (SameAnswer m n) pattern.1 (rows_of behind) (All-head (SameAnswer m n) pattern.1 (rows_of patterns) all) rest
+        by false = All-cons (SameAnswer m n) pattern.1 (answered_rows behind) (All-head (SameAnswer m n) pattern.1 (answered_rows patterns) all) rest
 
-pub remaining_keep_classes : (numbers : ℕ) (patterns : List Answered) → 0 < numbers → HaveSameClasses (class_table numbers (rows_of patterns)) (class_table numbers (rows_of (remaining numbers patterns)))
+pub remaining_keep_classes : (numbers : ℕ) (patterns : List Answered) → 0 < numbers → HaveSameClasses (class_table numbers (answered_rows patterns)) (class_table numbers (answered_rows (remaining numbers patterns)))
 unfolding remaining
 remaining_keep_classes numbers patterns some =
-    as_many numbers (rows_of (remaining numbers patterns)) (rows_of patterns) (λ m n hm hn. part_alike numbers (classes_by numbers patterns) m n [] patterns) some (make_all numbers patterns some)
+    as_many numbers (answered_rows (remaining numbers patterns)) (answered_rows patterns) (λ m n hm hn. part_alike numbers (classes_by numbers patterns) m n [] patterns) some (make_all numbers patterns some)

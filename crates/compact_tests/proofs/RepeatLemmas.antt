@@ -6,10 +6,10 @@ use Rattle.std.proofs.lemmas.List.{get_or-set_same, get_or-set_other, get_or_def
 use Rattle.std.proofs.lemmas.List.Elements.{All-contains}
 use Rattle.net_model.specs.ClassTable.{ClassTable, class_at, class_count, members}
 use Rattle.class_refine.proofs.Pieces.{members-All, members-contains, members_ascend}
-use Rattle.compact_tests.specs.Earlier.{earlier_at, RepeatsWithin, HasRepeat, AreUnmarked, HasClassBetween, AreMarkedTo, ShareEarlier}
+use Rattle.compact_tests.specs.Earlier.{earlier_at, RepeatsWithin, HasRepeat, NoneIsMarked, HasClassBetween, AreMarkedTo, ShareEarlier}
 
 module _ (group earlier : List ℕ) where
-  pub none_marked : (marks : List Bool) → AreUnmarked marks → AreMarkedTo group earlier 0 marks
+  pub none_marked : (marks : List Bool) → NoneIsMarked marks → AreMarkedTo group earlier 0 marks
   none_marked marks un = record { has = λ class m. absurd (false≢true (sym (un.each class) ∙ m)); marked = λ place h. absurd (omega (arith, h)) }
 
   pub none_repeat : RepeatsWithin group earlier 0 → ⊥
@@ -66,7 +66,7 @@ module _ (group earlier : List ℕ) where
         ]
   ]
 
-  pub all_unmarked : (place to : ℕ) (marks : List Bool) → to ≤ place → ((c : ℕ) → get_or marks c false ≡ true → HasClassBetween group earlier place to c) → AreUnmarked marks
+  pub all_unmarked : (place to : ℕ) (marks : List Bool) → to ≤ place → ((c : ℕ) → get_or marks c false ≡ true → HasClassBetween group earlier place to c) → NoneIsMarked marks
   all_unmarked place to marks past so_far = record {
     each = λ class. elim (cases_Bool (get_or marks class false)) [
       | inl m ↦ let w = so_far class m in absurd (omega (arith, w.low, w.within, past))

@@ -14,12 +14,12 @@ use Rattle.kept_vectors.proofs.AnswerLemmas.{answer_in_row}
 use Rattle.class_refine.proofs.Ranges.{zip_at}
 use Rattle.table_dicts.proofs.BlockLemmas.{lane_pattern}
 use Rattle.answer_numbers.specs.AnswerNumbers.{answer_numbers_with}
-use Rattle.compact_tests.specs.Remaining.{Answered, rows_of}
+use Rattle.compact_tests.specs.Remaining.{Answered, answered_rows}
 use Rattle.compact_tests.specs.Thinning.{IsAnswered, IsNumbered}
 use Rattle.compact_tests.proofs.ThinValid.{map_item}
 
 pub as_many_answered : (c : Circuit) (patterns : List (List Bool)) (t : ClassTable) (all : List Answered) → IsAnswered c patterns t all → length all ≡ length patterns
-as_many_answered c patterns t all answered = sym (length-map all (λ (p : Answered). p.1)) ∙ AllZip-long (IsAnswerRow c) patterns (rows_of all) answered.answers
+as_many_answered c patterns t all answered = sym (length-map all (λ (p : Answered). p.1)) ∙ AllZip-long (IsAnswerRow c) patterns (answered_rows all) answered.answers
 
 pub leads_many : (t : ClassTable) (leads : List ℕ) → leads ≡ map (representative t) (range_with_len 0 (class_count t)) → length leads ≡ class_count t
 leads_many t leads are = ap length are ∙ length-map-range_with_len (representative t) 0 (class_count t)
@@ -33,7 +33,7 @@ leads_known c t leads are known class h =
 module _ (c : Circuit) (patterns : List (List Bool)) (t : ClassTable) (all : List Answered) (answered : IsAnswered c patterns t all) (leads : List ℕ) (are : leads ≡ map (representative t) (range_with_len 0 (class_count t)))
     (known : (class : ℕ) → class < class_count t → representative t class < fault_count c) where
   row_is : (k : ℕ) → k < length patterns → IsAnswerRow c (get_or patterns k []) (get_or all k ([], [])).1
-  row_is k h = subst (λ (row : List (List Bool)). IsAnswerRow c (get_or patterns k []) row) (map_item (λ (p : Answered). p.1) all k ([], [])) (zip_at (IsAnswerRow c) patterns (rows_of all) k [] [] answered.answers h)
+  row_is k h = subst (λ (row : List (List Bool)). IsAnswerRow c (get_or patterns k []) row) (map_item (λ (p : Answered). p.1) all k ([], [])) (zip_at (IsAnswerRow c) patterns (answered_rows all) k [] [] answered.answers h)
 
   lead_is_lowest : (class : ℕ) → class < class_count t → get_or leads class 0 ≡ representative t class
   lead_is_lowest class h = ap (λ (xs : List ℕ). get_or xs class 0) are ∙ get_or-map-range_with_len (representative t) 0 (class_count t) class class 0 h (omega arith)

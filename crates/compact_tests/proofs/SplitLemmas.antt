@@ -10,7 +10,7 @@ use Rattle.std.proofs.lemmas.List.Elements.{All-append, All-cons}
 use Rattle.net_model.specs.ClassTable.{ClassTable, class_table, class_count, class_at, same_bits, new_lowest, refined_table, first_table, SplitBy}
 use Rattle.net_model.proofs.Elements.{All-left, All-right}
 use Rattle.class_refine.proofs.Refined.{split_adds, adds_split, count-refined}
-use Rattle.compact_tests.specs.Thinning.{AreAlike}
+use Rattle.compact_tests.specs.Thinning.{HaveSameAnswers}
 use Rattle.compact_tests.proofs.TableLemmas.{filled-table, numbers-table, IsCoarser, together, fewer_classes}
 
 -- a list is what is before a place, what stands there and what is behind it
@@ -41,8 +41,8 @@ module _ (numbers : ℕ) (some : 0 < numbers) (rows : List (List (List Bool))) (
   coarser : length (new_lowest so_far row) ≤ 0 → IsCoarser numbers rows (remove rows k)
   coarser none m n hm hn same =
       let SameAnswer : List (List Bool) → Type 0 = λ r. slice_index_or r m [] ≡ slice_index_or r n [] in
-      let front : AreAlike (take k rows) m n = All-left SameAnswer (take k rows) (drop (suc k) rows) same in
-      let back : AreAlike (drop (suc k) rows) m n = All-right SameAnswer (take k rows) (drop (suc k) rows) same in
+      let front : HaveSameAnswers (take k rows) m n = All-left SameAnswer (take k rows) (drop (suc k) rows) same in
+      let back : HaveSameAnswers (drop (suc k) rows) m n = All-right SameAnswer (take k rows) (drop (suc k) rows) same in
       let here = unsplit none m n hm hn (together m n numbers (take k rows) hm hn front) in
       subst (All SameAnswer) (sym (parts_at rows k [] within)) (All-append SameAnswer (take k rows) (row ∷ drop (suc k) rows) front (All-cons SameAnswer row (drop (suc k) rows) here back))
 

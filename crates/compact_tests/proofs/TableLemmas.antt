@@ -13,7 +13,7 @@ use Rattle.net_model.specs.ClassTable.{ClassTable, class_count, class_at, repres
 use Rattle.class_refine.proofs.Pieces.{IsSound, lead_is, lead_stays, new_lowest-All, lowest_moves}
 use Rattle.class_refine.proofs.Refined.{sound-first, sound-refined, numbers-refined, count-refined, class-refined, same_after, after_same}
 use Rattle.compact_tests.specs.Compacted.{HaveSameClasses}
-use Rattle.compact_tests.specs.Thinning.{AreAlike}
+use Rattle.compact_tests.specs.Thinning.{HaveSameAnswers}
 
 -- ---- tables of any rows
 
@@ -62,14 +62,14 @@ numbers-table numbers rows = numbers-fold rows (first_table numbers) ∙ length-
 
 module _ (m n : ℕ) where
   alike-fold : (rows : List (List (List Bool))) (t : ClassTable) → IsSound t → m < length t.class_of → n < length t.class_of → class_at (fold refined_table t rows) m ≡ class_at (fold refined_table t rows) n
-      → (class_at t m ≡ class_at t n) × AreAlike rows m n
+      → (class_at t m ≡ class_at t n) × HaveSameAnswers rows m n
   alike-fold [] t sound hm hn same = (same, All-nil (λ row. slice_index_or row m [] ≡ slice_index_or row n []))
   alike-fold (row ∷ rows) t sound hm hn same =
       let later = alike-fold rows (refined_table t row) (sound-refined t row sound) (omega (arith, hm, numbers-refined t row)) (omega (arith, hn, numbers-refined t row)) same in
       let here = same_after t row sound m n hm hn (sym (class-refined t row m hm) ∙ (later.0 ∙ class-refined t row n hn)) in
       (here.0, All-cons (λ row. slice_index_or row m [] ≡ slice_index_or row n []) row rows here.1 later.1)
 
-  together-fold : (rows : List (List (List Bool))) (t : ClassTable) → IsSound t → m < length t.class_of → n < length t.class_of → class_at t m ≡ class_at t n → AreAlike rows m n
+  together-fold : (rows : List (List (List Bool))) (t : ClassTable) → IsSound t → m < length t.class_of → n < length t.class_of → class_at t m ≡ class_at t n → HaveSameAnswers rows m n
       → class_at (fold refined_table t rows) m ≡ class_at (fold refined_table t rows) n
   together-fold [] t sound hm hn same alike = same
   together-fold (row ∷ rows) t sound hm hn same alike =
@@ -78,10 +78,10 @@ module _ (m n : ℕ) where
       (class-refined t row m hm ∙ (here ∙ sym (class-refined t row n hn))) (All-tail (λ row. slice_index_or row m [] ≡ slice_index_or row n []) row rows alike)
 
   module _ (numbers : ℕ) (rows : List (List (List Bool))) (hm : m < numbers) (hn : n < numbers) where
-    pub alike : class_at (class_table numbers rows) m ≡ class_at (class_table numbers rows) n → AreAlike rows m n
+    pub alike : class_at (class_table numbers rows) m ≡ class_at (class_table numbers rows) n → HaveSameAnswers rows m n
     alike same = let long = length-replicate {A = ℕ} numbers 0 in (alike-fold rows (first_table numbers) (sound-first numbers) (omega (arith, long, hm)) (omega (arith, long, hn)) same).1
 
-    pub together : AreAlike rows m n → class_at (class_table numbers rows) m ≡ class_at (class_table numbers rows) n
+    pub together : HaveSameAnswers rows m n → class_at (class_table numbers rows) m ≡ class_at (class_table numbers rows) n
     together same =
         let long = length-replicate {A = ℕ} numbers 0 in
         together-fold rows (first_table numbers) (sound-first numbers) (omega (arith, long, hm)) (omega (arith, long, hn)) (get_or-replicate {A = ℕ} numbers m 0 0 hm ∙ sym (get_or-replicate {A = ℕ} numbers n 0 0 hn)) same
@@ -106,7 +106,7 @@ still_there xs at q x inside hq other is =
 
 -- Numbers that answer alike in the one rows answer alike in the other.
 abbrev pub IsCoarser : ℕ → List (List (List Bool)) → List (List (List Bool)) → Type 0
-IsCoarser numbers fewer rows = (m n : ℕ) → m < numbers → n < numbers → AreAlike rows m n → AreAlike fewer m n
+IsCoarser numbers fewer rows = (m n : ℕ) → m < numbers → n < numbers → HaveSameAnswers rows m n → HaveSameAnswers fewer m n
 
 module _ (numbers : ℕ) (fewer rows : List (List (List Bool))) (coarser : IsCoarser numbers fewer rows) (some : 0 < numbers) where
   abbrev fine : ClassTable

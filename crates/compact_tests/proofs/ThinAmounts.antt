@@ -17,7 +17,7 @@ use Rattle.result_file.specs.Marks.{pattern_of, patterns_in, evidence_in, is_cla
 use Rattle.result_file.specs.Summary.{is_equal, is_open, summary_of}
 use Rattle.result_file.specs.Valid.{IsValid}
 use Rattle.result_file.specs.Laws.{ValidIsTrue}
-use Rattle.compact_tests.specs.Remaining.{Answered, vectors_of, rows_of, remaining}
+use Rattle.compact_tests.specs.Remaining.{Answered, answered_vectors, answered_rows, remaining}
 use Rattle.compact_tests.specs.ThinResult.{needed_evidence, marks_in, result_with, thin_result, IsThin}
 use Rattle.compact_tests.proofs.TableLemmas.{numbers-table}
 use Rattle.compact_tests.proofs.RemainingLemmas.{make_all}
@@ -25,7 +25,7 @@ use Rattle.compact_tests.proofs.LastEvidence.{next_right}
 use Rattle.compact_tests.proofs.StatedMarks.{stated_marks}
 use Rattle.compact_tests.proofs.SameAmounts.{body_of, zip_marks, is_equal_mark, is_open_mark, numbers_stated, equal_stated, open_stated, classes_stated}
 
-pub zipped_rows : (c : Circuit) (patterns : List (List Bool)) (rows : List (List (List Bool))) → AreAnswerRows c patterns rows → rows_of (zip patterns rows) ≡ rows
+pub zipped_rows : (c : Circuit) (patterns : List (List Bool)) (rows : List (List (List Bool))) → AreAnswerRows c patterns rows → answered_rows (zip patterns rows) ≡ rows
 zipped_rows c [] [] a = refl
 zipped_rows c [] (row ∷ rows) a = absurd a
 zipped_rows c (v ∷ patterns) [] a = absurd a
@@ -38,12 +38,12 @@ left_amounts law c records thin circuit valid is =
     let s = told.0 in
     let all : List Answered = zip (patterns_in records) is.rows in
     let left = remaining (fault_count c) all in
-    let t = class_table (fault_count c) (rows_of left) in
-    let new = result_with records t (vectors_of left) in
-    let body = body_of (vectors_of left) (needed_evidence t (evidence_in records)) in
+    let t = class_table (fault_count c) (answered_rows left) in
+    let new = result_with records t (answered_vectors left) in
+    let body = body_of (answered_vectors left) (needed_evidence t (evidence_in records)) in
     let marks : marks_in records ≡ map (λ m. m.1) s.members = ap marks_in told.1 ∙ stated_marks c s told.2.body in
     let size : length t.class_of ≡ length (marks_in records) =
-    numbers-table (fault_count c) (rows_of left) ∙ sym told.2.numbers ∙ sym (length-map s.members (λ (m : ℕ × Mark). m.1)) ∙ sym (ap (λ (ms : List Mark). length ms) marks) in
+    numbers-table (fault_count c) (answered_rows left) ∙ sym told.2.numbers ∙ sym (length-map s.members (λ (m : ℕ × Mark). m.1)) ∙ sym (ap (λ (ms : List Mark). length ms) marks) in
     let same_marks : map (λ m. m.1) new.members ≡ map (λ m. m.1) s.members = zip_marks t.class_of (marks_in records) size ∙ marks in
     let numbers : member_lines thin ≡ member_lines records =
     ap member_lines is.thin_is ∙ numbers_stated c new body ∙ ap (count_by (λ m. true)) same_marks ∙ sym (numbers_stated c s told.2.body) ∙ sym (ap member_lines told.1) in

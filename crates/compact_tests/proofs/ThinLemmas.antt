@@ -17,7 +17,7 @@ use Rattle.result_file.specs.declared.record.Record.TheVariants.{Head, Budget, P
 use Rattle.result_file.specs.Marks.{pattern_of, patterns_in, evidence_in}
 use Rattle.result_file.specs.Meaning.{StatedResult, stated_records, class_records, member_records}
 use Rattle.result_file.proofs.RecordLists.{read_all, read_kept}
-use Rattle.compact_tests.specs.Remaining.{Answered, vectors_of, rows_of, classes_by, with_needed, remaining_behind, remaining}
+use Rattle.compact_tests.specs.Remaining.{Answered, answered_vectors, answered_rows, classes_by, with_needed, remaining_behind, remaining}
 use Rattle.compact_tests.specs.ThinResult.{needed_evidence, result_with, thin_result, IsThin}
 use Rattle.compact_tests.specs.Compacted.{HaveSameClasses, AreAllNeeded}
 use Rattle.compact_tests.proofs.RemainingLemmas.{remaining_keep_classes, remaining_are_needed}
@@ -39,12 +39,12 @@ stated_patterns c s =
 body_patterns : (patterns : List (List Bool)) (evidence : List Evidence) → patterns_in (map Pattern patterns ++ map Same evidence) ≡ patterns
 body_patterns patterns evidence = read_kept Same (map Pattern patterns) pattern_of (λ e. refl) evidence ∙ read_all Pattern pattern_of (λ v. v) (λ v. refl) patterns ∙ map-id patterns
 
-pub thin_patterns : (c : Circuit) (rows : List (List (List Bool))) (records : List Record) → patterns_in (stated_records c (thin_result (fault_count c) rows records)) ≡ vectors_of (remaining (fault_count c) (zip (patterns_in records) rows))
+pub thin_patterns : (c : Circuit) (rows : List (List (List Bool))) (records : List Record) → patterns_in (stated_records c (thin_result (fault_count c) rows records)) ≡ answered_vectors (remaining (fault_count c) (zip (patterns_in records) rows))
 unfolding thin_result
 thin_patterns c rows records =
     let patterns = remaining (fault_count c) (zip (patterns_in records) rows) in
-    let t = class_table (fault_count c) (rows_of patterns) in
-    stated_patterns c (result_with records t (vectors_of patterns)) ∙ body_patterns (vectors_of patterns) (needed_evidence t (evidence_in records))
+    let t = class_table (fault_count c) (answered_rows patterns) in
+    stated_patterns c (result_with records t (answered_vectors patterns)) ∙ body_patterns (answered_vectors patterns) (needed_evidence t (evidence_in records))
 
 -- ---- answers to parts of the patterns
 
@@ -58,11 +58,11 @@ module _ (c : Circuit) where
   answered (v ∷ patterns) [] a = absurd a
   answered (v ∷ patterns) (row ∷ rows) a = (a.0, answered patterns rows a.1)
 
-  pub answers_of : (patterns : List Answered) → AreAnswered patterns → AreAnswerRows c (vectors_of patterns) (rows_of patterns)
+  pub answers_of : (patterns : List Answered) → AreAnswered patterns → AreAnswerRows c (answered_vectors patterns) (answered_rows patterns)
   answers_of [] a = tt
   answers_of (p ∷ patterns) a = (a.0, answers_of patterns a.1)
 
-  pub zipped_vectors : (patterns : List (List Bool)) (rows : List (List (List Bool))) → AreAnswerRows c patterns rows → vectors_of (zip patterns rows) ≡ patterns
+  pub zipped_vectors : (patterns : List (List Bool)) (rows : List (List (List Bool))) → AreAnswerRows c patterns rows → answered_vectors (zip patterns rows) ≡ patterns
   zipped_vectors [] [] a = refl
   zipped_vectors [] (row ∷ rows) a = absurd a
   zipped_vectors (v ∷ patterns) [] a = absurd a
@@ -89,7 +89,7 @@ module _ (c : Circuit) where
   answered_without (p ∷ patterns) zero a = a.1
   answered_without (p ∷ patterns) (suc at) a = (a.0, answered_without patterns at a.1)
 
-vectors_without : (patterns : List Answered) (at : ℕ) → vectors_of (remove patterns at) ≡ remove (vectors_of patterns) at
+vectors_without : (patterns : List Answered) (at : ℕ) → answered_vectors (remove patterns at) ≡ remove (answered_vectors patterns) at
 vectors_without [] zero = refl
 vectors_without [] (suc at) = refl
 vectors_without (p ∷ patterns) zero = refl
@@ -99,21 +99,21 @@ vectors_without (p ∷ patterns) (suc at) = ap (λ (vs : List (List Bool)). p.0 
 
 module _ (c : Circuit) (circuit : IsCircuit c) where
   -- the table of answered patterns
-  pub table_by : (patterns : List Answered) → AreAnswered c patterns → (t : ClassTable) → IsTableOf c (vectors_of patterns) t → t ≡ class_table (fault_count c) (rows_of patterns)
-  table_by patterns a t of = one_table c circuit of (record { rows = rows_of patterns; answers = answers_of c patterns a; table = refl })
+  pub table_by : (patterns : List Answered) → AreAnswered c patterns → (t : ClassTable) → IsTableOf c (answered_vectors patterns) t → t ≡ class_table (fault_count c) (answered_rows patterns)
+  table_by patterns a t of = one_table c circuit of (record { rows = answered_rows patterns; answers = answers_of c patterns a; table = refl })
 
   module _ (patterns : List Answered) (a : AreAnswered c patterns) where
     abbrev left : List Answered
     left = remaining (fault_count c) patterns
 
-    pub left_classes : (t new : ClassTable) → IsTableOf c (vectors_of patterns) t → IsTableOf c (vectors_of left) new → HaveSameClasses t new
+    pub left_classes : (t new : ClassTable) → IsTableOf c (answered_vectors patterns) t → IsTableOf c (answered_vectors left) new → HaveSameClasses t new
     left_classes t new of new_of =
         rw (table_by patterns a t of, table_by left (answered_remaining c patterns a) new new_of) (remaining_keep_classes (fault_count c) patterns (some_number c))
 
-    pub left_needed : AreAllNeeded c (vectors_of left)
+    pub left_needed : AreAllNeeded c (answered_vectors left)
     left_needed at t without h of without_of =
-        let all : t ≡ class_table (fault_count c) (rows_of left) = table_by left (answered_remaining c patterns a) t of in
-        let fewer : without ≡ class_table (fault_count c) (rows_of (remove left at)) =
+        let all : t ≡ class_table (fault_count c) (answered_rows left) = table_by left (answered_remaining c patterns a) t of in
+        let fewer : without ≡ class_table (fault_count c) (answered_rows (remove left at)) =
         table_by (remove left at) (answered_without c left at (answered_remaining c patterns a)) without (subst (λ (vs : List (List Bool)). IsTableOf c vs without) (sym (vectors_without left at)) without_of) in
         rw (all, fewer) (remaining_are_needed (fault_count c) patterns (some_number c) at (omega (arith, h, length-map left (λ (p : Answered). p.0))))
 
@@ -123,7 +123,7 @@ module _ (c : Circuit) (circuit : IsCircuit c) where
     abbrev all : List Answered
     all = zip (patterns_in records) is.rows
 
-    thin_vectors : patterns_in thin ≡ vectors_of (remaining (fault_count c) all)
+    thin_vectors : patterns_in thin ≡ answered_vectors (remaining (fault_count c) all)
     thin_vectors = ap patterns_in is.thin_is ∙ thin_patterns c is.rows records
 
     pub thin_classes : (t new : ClassTable) → IsTableOf c (patterns_in records) t → IsTableOf c (patterns_in thin) new → HaveSameClasses t new

@@ -31,7 +31,7 @@ use Rattle.result_file.proofs.Cuts.{tails}
 use Rattle.result_file.proofs.Marked.{find_same, none_next}
 use Rattle.result_file.proofs.RecordLists.{count_kept, read_kept, read_more}
 use Rattle.result_file.proofs.RightLines.{IsNextLine, IsBody, HasSmallClasses, AreMembers, right_head, right_patterns, right_table}
-use Rattle.compact_tests.specs.Remaining.{Answered, vectors_of, rows_of, classes_by, with_needed, remaining_behind, remaining}
+use Rattle.compact_tests.specs.Remaining.{Answered, answered_vectors, answered_rows, classes_by, with_needed, remaining_behind, remaining}
 use Rattle.compact_tests.specs.ThinResult.{last_evidence, needed_evidence, marks_in, result_with, thin_result, IsThin}
 use Rattle.compact_tests.specs.Compacted.{HaveSameClasses}
 use Rattle.compact_tests.proofs.TableLemmas.{IsFilled, filled-table, numbers-table}
@@ -89,7 +89,7 @@ as_all : {X Y : Type 0} (P : Y → Type 0) (f : X → Y) (xs : List X) → AllBy
 as_all P f [] a = All-nil P
 as_all P f (x ∷ xs) a = All-cons P (f x) (map f xs) a.0 (as_all P f xs a.1)
 
-rows_without : (patterns : List Answered) (at : ℕ) → rows_of (remove patterns at) ≡ remove (rows_of patterns) at
+rows_without : (patterns : List Answered) (at : ℕ) → answered_rows (remove patterns at) ≡ remove (answered_rows patterns) at
 rows_without [] zero = refl
 rows_without [] (suc at) = refl
 rows_without (p ∷ patterns) zero = refl
@@ -162,7 +162,7 @@ module _ (c : Circuit) (circuit : IsCircuit c) (records thin : List Record) (rig
   left = remaining (fault_count c) all
 
   abbrev t : ClassTable
-  t = class_table (fault_count c) (rows_of left)
+  t = class_table (fault_count c) (answered_rows left)
 
   abbrev u : ClassTable
   u = class_table (fault_count c) is.rows
@@ -174,7 +174,7 @@ module _ (c : Circuit) (circuit : IsCircuit c) (records thin : List Record) (rig
   u_numbers = numbers-table (fault_count c) is.rows
 
   t_numbers : length t.class_of ≡ fault_count c
-  t_numbers = numbers-table (fault_count c) (rows_of left)
+  t_numbers = numbers-table (fault_count c) (answered_rows left)
 
   all_answered : AreAnswered c all
   all_answered = answered c (patterns_in records) is.rows is.answers
@@ -182,8 +182,8 @@ module _ (c : Circuit) (circuit : IsCircuit c) (records thin : List Record) (rig
   left_answered : AreAnswered c left
   left_answered = answered_remaining c all all_answered
 
-  t_of : IsTableOf c (vectors_of left) t
-  t_of = record { rows = rows_of left; answers = answers_of c left left_answered; table = refl }
+  t_of : IsTableOf c (answered_vectors left) t
+  t_of = record { rows = answered_rows left; answers = answers_of c left left_answered; table = refl }
 
   same : HaveSameClasses u t
   same = left_classes c circuit all all_answered u t (subst (λ (vs : List (List Bool)). IsTableOf c vs u) (sym (zipped_vectors c (patterns_in records) is.rows is.answers)) u_of) t_of
@@ -228,45 +228,45 @@ module _ (c : Circuit) (circuit : IsCircuit c) (records thin : List Record) (rig
   unfolding remaining
   left_widths = part_all (λ p. length p.0 ≡ c.sources) (fault_count c) (classes_by (fault_count c) all) [] all (zip_widths (patterns_in records) is.rows (pattern_widths c records right [] records refl))
 
-  needed_rows : AreNeededRows (fault_count c) (rows_of left)
+  needed_rows : AreNeededRows (fault_count c) (answered_rows left)
   needed_rows k h = rw (sym (rows_without left k)) (remaining_are_needed (fault_count c) all (some_number c) k (omega (arith, h, length-map left (λ (p : Answered). p.1))))
 
-  splits : (k : ℕ) → k < length (vectors_of left) → SplitsClass c (take k (vectors_of left)) (get_or (vectors_of left) k [])
+  splits : (k : ℕ) → k < length (answered_vectors left) → SplitsClass c (take k (answered_vectors left)) (get_or (answered_vectors left) k [])
   splits k h =
       let inside : k < length left = omega (arith, h, length-map left (λ (p : Answered). p.0)) in
-      let within : k < length (rows_of left) = omega (arith, inside, length-map left (λ (p : Answered). p.1)) in
+      let within : k < length (answered_rows left) = omega (arith, inside, length-map left (λ (p : Answered). p.1)) in
       record {
-        t = class_table (fault_count c) (take k (rows_of left));
-        row = get_or (rows_of left) k [];
+        t = class_table (fault_count c) (take k (answered_rows left));
+        row = get_or (answered_rows left) k [];
         table = record {
-          rows = take k (rows_of left);
+          rows = take k (answered_rows left);
           answers = rw (take-map (λ (p : Answered). p.0) k left, take-map (λ (p : Answered). p.1) k left) (answers_of c (take k left) (first_places (λ p. IsAnswerRow c p.0 p.1) left k left_answered));
           table = refl;
         };
         answers = rw (map_item (λ (p : Answered). p.0) left k ([], []), map_item (λ (p : Answered). p.1) left k ([], [])) (at_place (λ p. IsAnswerRow c p.0 p.1) left k ([], []) left_answered inside);
-        split = needed_splits (fault_count c) (some_number c) (rows_of left) k within (needed_rows k within);
+        split = needed_splits (fault_count c) (some_number c) (answered_rows left) k within (needed_rows k within);
       }
 
   -- each pattern that remains splits a class of those before it
-  pub in_turn : SplitInTurn c (vectors_of left)
+  pub in_turn : SplitInTurn c (answered_vectors left)
   in_turn = record { widths = as_all (λ v. length v ≡ c.sources) (λ (p : Answered). p.0) left left_widths; splits = splits }
 
   abbrev front : List Record
-  front = first_two ++ map Pattern (vectors_of left)
+  front = first_two ++ map Pattern (answered_vectors left)
 
   front_right : AreRightLines c front
   front_right = right_patterns first_right refl refl (lit≤ tt) (as_all (λ v. length v ≡ c.sources) (λ (p : Answered). p.0) left left_widths) splits
 
-  front_patterns : patterns_in front ≡ vectors_of left
-  front_patterns = read_more Pattern first_two pattern_of (λ v. v) (λ v. refl) (vectors_of left) ∙ map-id (vectors_of left)
+  front_patterns : patterns_in front ≡ answered_vectors left
+  front_patterns = read_more Pattern first_two pattern_of (λ v. v) (λ v. refl) (answered_vectors left) ∙ map-id (answered_vectors left)
 
   is_front : AreFront c t b front
   is_front = record {
     lines = front_right;
     table = rw front_patterns t_of;
-    none = read_kept Pattern first_two evidence_of (λ v. refl) (vectors_of left);
-    two = omega (arith, length-append first_two (map Pattern (vectors_of left)));
-    no_class = count_kept Pattern first_two is_class (λ v. refl) (vectors_of left);
+    none = read_kept Pattern first_two evidence_of (λ v. refl) (answered_vectors left);
+    two = omega (arith, length-append first_two (map Pattern (answered_vectors left)));
+    no_class = count_kept Pattern first_two is_class (λ v. refl) (answered_vectors left);
     budgets = refl;
   }
 
@@ -324,15 +324,15 @@ module _ (c : Circuit) (circuit : IsCircuit c) (records thin : List Record) (rig
     table = rw (read_kept Same front pattern_of (λ e. refl) needed) is_front.table;
     two = omega (arith, length-append front (map Same needed), is_front.two);
     no_class = count_kept Same front is_class (λ e. refl) needed ∙ is_front.no_class;
-    no_member = count_kept Same front is_member (λ e. refl) needed ∙ count_kept Pattern first_two is_member (λ v. refl) (vectors_of left);
-    no_end = count_kept Same front is_end (λ e. refl) needed ∙ count_kept Pattern first_two is_end (λ v. refl) (vectors_of left);
+    no_member = count_kept Same front is_member (λ e. refl) needed ∙ count_kept Pattern first_two is_member (λ v. refl) (answered_vectors left);
+    no_end = count_kept Same front is_end (λ e. refl) needed ∙ count_kept Pattern first_two is_end (λ v. refl) (answered_vectors left);
     complete = ap (next_member t) body_evidence ∙ none_next t needed (λ m h. settled c t b evidence usable (length t.class_of) m h h);
   }
 
   -- ---- the table
 
   filled : IsFilled t
-  filled = filled-table (fault_count c) (rows_of left) (some_number c)
+  filled = filled-table (fault_count c) (answered_rows left) (some_number c)
 
   few_classes : class_count t ≤ length t.class_of
   few_classes =
@@ -344,9 +344,9 @@ module _ (c : Circuit) (circuit : IsCircuit c) (records thin : List Record) (rig
 
   few_patterns : t.patterns < class_count t
   few_patterns =
-      let most = few_rows (fault_count c) (some_number c) (rows_of left) needed_rows (length (rows_of left)) (omega arith) in
-      let whole : take (length (rows_of left)) (rows_of left) ≡ rows_of left = take_all (length (rows_of left)) (rows_of left) (omega arith) in
-      omega (arith, most, ap (λ (rs : List (List (List Bool))). class_count (class_table (fault_count c) rs)) whole, patterns_table (fault_count c) (rows_of left))
+      let most = few_rows (fault_count c) (some_number c) (answered_rows left) needed_rows (length (answered_rows left)) (omega arith) in
+      let whole : take (length (answered_rows left)) (answered_rows left) ≡ answered_rows left = take_all (length (answered_rows left)) (answered_rows left) (omega arith) in
+      omega (arith, most, ap (λ (rs : List (List (List Bool))). class_count (class_table (fault_count c) rs)) whole, patterns_table (fault_count c) (answered_rows left))
 
   small_birth : (class : ℕ) (birth : Option (ℕ × ℕ)) → slice_get t.births class ≡ Some birth → HasBirthSpelling birth
   small_birth class None at = tt
@@ -399,7 +399,7 @@ module _ (c : Circuit) (circuit : IsCircuit c) (records thin : List Record) (rig
 
   -- ---- all lines
 
-  left_right : AreRightLines c (stated_records c (result_with records t (vectors_of left)))
+  left_right : AreRightLines c (stated_records c (result_with records t (answered_vectors left)))
   left_right = right_table is_body small are_members
 
   thin_right : AreRightLines c thin

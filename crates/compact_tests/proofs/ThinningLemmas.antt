@@ -7,9 +7,9 @@ use Rattle.std.proofs.lemmas.List.Elements.{All-append, All-cons, All-nil, All-h
 use Rattle.net_model.specs.ClassTable.{ClassTable, class_table, class_count, class_at, representative}
 use Rattle.answer_numbers.specs.AnswerNumbers.{AnswerNumbers}
 use Rattle.compact_tests.specs.declared.thinning.Thinning.{Thinning}
-use Rattle.compact_tests.specs.Remaining.{Answered, rows_of, remaining_behind, classes_by}
+use Rattle.compact_tests.specs.Remaining.{Answered, answered_rows, remaining_behind, classes_by}
 use Rattle.compact_tests.specs.Earlier.{class_before, ShareEarlier}
-use Rattle.compact_tests.specs.Thinning.{AreAlike, patterns_at, remaining_from, IsThinnedTo, IsTableOfAll, IsNumbered}
+use Rattle.compact_tests.specs.Thinning.{HaveSameAnswers, patterns_at, remaining_from, IsThinnedTo, IsTableOfAll, IsNumbered}
 use Rattle.compact_tests.specs.Numbered.{HasParted}
 use Rattle.compact_tests.proofs.EarlierLemmas.{before_pattern}
 use Rattle.compact_tests.proofs.NeededLemmas.{IsAlikePair, lead, pair_remains, none_remains}
@@ -33,19 +33,19 @@ pub record IsPassed (t : ClassTable) (row : List (List Bool)) (pattern : ℕ) (o
 
 module _ (numbers : ℕ) (some : 0 < numbers) (all : List Answered) (place : ℕ) (within : place < length all) where
   abbrev t : ClassTable
-  t = class_table numbers (rows_of all)
+  t = class_table numbers (answered_rows all)
 
   abbrev pattern : Answered
   pattern = get_or all place ([], [])
 
   -- the classes before the pattern, from those behind it
   abbrev AreEarlier : ℕ → List ℕ → Type 0
-  AreEarlier k earlier = (class : ℕ) → class < class_count t → get_or earlier class 0 ≡ class_at (class_table numbers (rows_of (take k all))) (representative t class)
+  AreEarlier k earlier = (class : ℕ) → class < class_count t → get_or earlier class 0 ≡ class_at (class_table numbers (answered_rows (take k all))) (representative t class)
 
   earlier_more : (old : List ℕ) → length old ≡ class_count t → AreEarlier (place + 1) old → AreEarlier place (map (class_before t.births place) old)
   earlier_more old long each class h =
-      let rows = rows_of all in
-      let same : (k : ℕ) → class_table numbers (rows_of (take k all)) ≡ class_table numbers (take k rows) = λ k. ap (class_table numbers) (sym (take-map (λ (p : Answered). p.1) k all)) in
+      let rows = answered_rows all in
+      let same : (k : ℕ) → class_table numbers (answered_rows (take k all)) ≡ class_table numbers (take k rows) = λ k. ap (class_table numbers) (sym (take-map (λ (p : Answered). p.1) k all)) in
       get_or-map (class_before t.births place) old class 0 0 (omega (arith, h, long))
       ∙ ap (class_before t.births place) (each class h ∙ ap (λ (u : ClassTable). class_at u (representative t class)) (same (place + 1)))
       ∙ before_pattern numbers some rows place (omega (arith, within, length-map all (λ (p : Answered). p.1))) (representative t class) (lead numbers some all class h).0
@@ -80,7 +80,7 @@ module _ (numbers : ℕ) (some : 0 < numbers) (all : List Answered) (place : ℕ
         ]
 
     abbrev AreParted : List Answered → Type 0
-    AreParted ps = (a b : ℕ) → a < class_count t → b < class_count t → class_at new.groups a ≡ class_at new.groups b ↔ AreAlike (rows_of ps) (representative t a) (representative t b)
+    AreParted ps = (a b : ℕ) → a < class_count t → b < class_count t → class_at new.groups a ≡ class_at new.groups b ↔ HaveSameAnswers (answered_rows ps) (representative t a) (representative t b)
 
     kept : IsKept t pattern.1 place old new → IsThinnedTo numbers t all place new
     kept is =
@@ -92,8 +92,8 @@ module _ (numbers : ℕ) (some : 0 < numbers) (all : List Answered) (place : ℕ
               let SameAnswer : List (List Bool) → Type 0 = λ row. slice_index_or row (representative t a) [] ≡ slice_index_or row (representative t b) [] in (
                 (λ same.
                     let parts = (is.parted a b ha hb).0 same in
-                    All-cons SameAnswer pattern.1 (rows_of behind) parts.1 ((so_far.groups a b ha hb).0 parts.0)),
-                (λ alike. (is.parted a b ha hb).1 ((so_far.groups a b ha hb).1 (All-tail SameAnswer pattern.1 (rows_of behind) alike), All-head SameAnswer pattern.1 (rows_of behind) alike)),
+                    All-cons SameAnswer pattern.1 (answered_rows behind) parts.1 ((so_far.groups a b ha hb).0 parts.0)),
+                (λ alike. (is.parted a b ha hb).1 ((so_far.groups a b ha hb).1 (All-tail SameAnswer pattern.1 (answered_rows behind) alike), All-head SameAnswer pattern.1 (answered_rows behind) alike)),
               ));
           places = subst (All (λ p. p < length all)) (sym is.needed) (All-append (λ p. p < length all) old.needed.items (place ∷ []) so_far.places (All-cons (λ p. p < length all) place [] within (All-nil (λ p. p < length all))));
           needed = ap (λ (ps : List ℕ). patterns_at all (reverse ps)) is.needed ∙ ap (patterns_at all) (reverse-append old.needed.items (place ∷ [])) ∙ ap (λ (ps : List Answered). pattern ∷ ps) so_far.needed ∙ sym remains;
@@ -104,7 +104,7 @@ module _ (numbers : ℕ) (some : 0 < numbers) (all : List Answered) (place : ℕ
         let remains = none_remains numbers some all place within (λ a b p. is.none (pair_shared a b p)) in
         record {
           earlier = earlier_are;
-          groups = subst AreParted (sym remains) (subst (λ (g : ClassTable). (a b : ℕ) → a < class_count t → b < class_count t → class_at g a ≡ class_at g b ↔ AreAlike (rows_of (remaining_from numbers all (place + 1))) (representative t a) (representative t b)) (sym is.groups) so_far.groups);
+          groups = subst AreParted (sym remains) (subst (λ (g : ClassTable). (a b : ℕ) → a < class_count t → b < class_count t → class_at g a ≡ class_at g b ↔ HaveSameAnswers (answered_rows (remaining_from numbers all (place + 1))) (representative t a) (representative t b)) (sym is.groups) so_far.groups);
           places = subst (All (λ p. p < length all)) (sym is.needed) so_far.places;
           needed = ap (λ (ps : List ℕ). patterns_at all (reverse ps)) is.needed ∙ so_far.needed ∙ sym remains;
         }
@@ -129,16 +129,16 @@ parted_by t all pattern numbered parted size a b ha hb =
 
 module _ (numbers : ℕ) (some : 0 < numbers) (all : List Answered) (thinning : Thinning) where
   abbrev whole : ClassTable
-  whole = class_table numbers (rows_of all)
+  whole = class_table numbers (answered_rows all)
 
   nothing_left : remaining_from numbers all (length all) ≡ []
   nothing_left = ap (remaining_behind numbers (classes_by numbers all) (take (length all) all)) (drop_all (length all) all (omega arith))
 
   begun_at : ((class : ℕ) → class < class_count whole → get_or thinning.earlier.items class 0 ≡ class) → ((class : ℕ) → class < class_count whole → class_at thinning.groups class ≡ 0) → thinning.needed.items ≡ [] → IsThinnedTo numbers whole all (length all) thinning
   begun_at earlier groups none = record {
-    earlier = λ class h. earlier class h ∙ (sym (lead numbers some all class h).1 ∙ ap (λ (ps : List Answered). class_at (class_table numbers (rows_of ps)) (representative whole class)) (sym (take_all (length all) all (omega arith))));
+    earlier = λ class h. earlier class h ∙ (sym (lead numbers some all class h).1 ∙ ap (λ (ps : List Answered). class_at (class_table numbers (answered_rows ps)) (representative whole class)) (sym (take_all (length all) all (omega arith))));
     groups = λ a b ha hb. (
-      (λ same. subst (λ (ps : List Answered). AreAlike (rows_of ps) (representative whole a) (representative whole b)) (sym nothing_left) (All-nil (λ (row : List (List Bool)). slice_index_or row (representative whole a) [] ≡ slice_index_or row (representative whole b) []))),
+      (λ same. subst (λ (ps : List Answered). HaveSameAnswers (answered_rows ps) (representative whole a) (representative whole b)) (sym nothing_left) (All-nil (λ (row : List (List Bool)). slice_index_or row (representative whole a) [] ≡ slice_index_or row (representative whole b) []))),
       (λ alike. groups a ha ∙ sym (groups b hb)),
     );
     places = subst (All (λ p. p < length all)) (sym none) (All-nil (λ p. p < length all));

@@ -23,7 +23,7 @@ abbrev pub HasRepeat : List ℕ → List ℕ → Type 0
 HasRepeat group earlier = RepeatsWithin group earlier (length group)
 
 -- No mark is set.
-pub record AreUnmarked (marks : List Bool) : Type 0 where
+pub record NoneIsMarked (marks : List Bool) : Type 0 where
   pub each : (class : ℕ) → slice_index_or marks class false ≡ false
 
 -- One of a group's numbers, from a place on up to another, has the class in the list.

@@ -6,14 +6,14 @@ use Rattle.net_model.specs.ClassTable.{ClassTable, class_table, class_at, class_
 use Rattle.net_model.specs.PatternRows.{AreAnswerRows}
 use Rattle.answer_numbers.specs.AnswerNumbers.{AnswerNumbers, vector_in, AreLeadAnswers}
 use Rattle.compact_tests.specs.declared.thinning.Thinning.{Thinning}
-use Rattle.compact_tests.specs.Remaining.{Answered, vectors_of, rows_of, classes_by, remaining_behind, remaining}
-use Rattle.compact_tests.specs.Earlier.{AreUnmarked}
+use Rattle.compact_tests.specs.Remaining.{Answered, answered_vectors, answered_rows, classes_by, remaining_behind, remaining}
+use Rattle.compact_tests.specs.Earlier.{NoneIsMarked}
 
 -- The patterns have these answers, and the table is that of the answers.
 pub record IsAnswered (c : Circuit) (patterns : List (List Bool)) (t : ClassTable) (all : List Answered) : Type 0 where
-  pub vectors : vectors_of all ≡ patterns
-  pub answers : AreAnswerRows c patterns (rows_of all)
-  pub table : t ≡ class_table (fault_count c) (rows_of all)
+  pub vectors : answered_vectors all ≡ patterns
+  pub answers : AreAnswerRows c patterns (answered_rows all)
+  pub table : t ≡ class_table (fault_count c) (answered_rows all)
 
 -- Each pattern has a bit for each source, and there are such answers.
 pub record AreAnswersOf (c : Circuit) (patterns : List (List Bool)) (t : ClassTable) : Type 0 where
@@ -22,8 +22,8 @@ pub record AreAnswersOf (c : Circuit) (patterns : List (List Bool)) (t : ClassTa
   pub answered : IsAnswered c patterns t all
 
 -- two numbers answer alike to patterns with these rows of answers
-abbrev pub AreAlike : List (List (List Bool)) → ℕ → ℕ → Type 0
-AreAlike rows m n = All (λ row. slice_index_or row m [] ≡ slice_index_or row n []) rows
+abbrev pub HaveSameAnswers : List (List (List Bool)) → ℕ → ℕ → Type 0
+HaveSameAnswers rows m n = All (λ row. slice_index_or row m [] ≡ slice_index_or row n []) rows
 
 -- the patterns at these places
 abbrev pub patterns_at : List Answered → List ℕ → List Answered
@@ -46,21 +46,21 @@ pub record IsThinning (t : ClassTable) (thinning : Thinning) : Type 0 where
   pub within : All (λ class. class < class_count t) thinning.earlier.items
   pub groups : length thinning.groups.class_of ≡ class_count t
   pub marks : length thinning.marks.items ≡ class_count t
-  pub unmarked : AreUnmarked thinning.marks.items
+  pub unmarked : NoneIsMarked thinning.marks.items
 
 -- The patterns from a place on were gone over, with the classes of so many numbers.
 pub record IsThinnedTo (numbers : ℕ) (t : ClassTable) (all : List Answered) (place : ℕ) (thinning : Thinning) : Type 0 where
   -- The classes before them are those of the patterns before them.
-  pub earlier : (class : ℕ) → class < class_count t → slice_index thinning.earlier.items class ≡ class_at (class_table numbers (rows_of (take place all))) (representative t class)
+  pub earlier : (class : ℕ) → class < class_count t → slice_index thinning.earlier.items class ≡ class_at (class_table numbers (answered_rows (take place all))) (representative t class)
   -- Two classes are in one group where they answer alike to those that remain of them.
-  pub groups : (a b : ℕ) → a < class_count t → b < class_count t → class_at thinning.groups a ≡ class_at thinning.groups b ↔ AreAlike (rows_of (remaining_from numbers all place)) (representative t a) (representative t b)
+  pub groups : (a b : ℕ) → a < class_count t → b < class_count t → class_at thinning.groups a ≡ class_at thinning.groups b ↔ HaveSameAnswers (answered_rows (remaining_from numbers all place)) (representative t a) (representative t b)
   pub places : All (λ place. place < length all) thinning.needed.items
   pub needed : patterns_at all (reverse thinning.needed.items) ≡ remaining_from numbers all place
 
 -- The table is that of all patterns and of so many numbers.
 pub record IsTableOfAll (numbers : ℕ) (t : ClassTable) (all : List Answered) : Type 0 where
   pub some : 0 < numbers
-  pub is : t ≡ class_table numbers (rows_of all)
+  pub is : t ≡ class_table numbers (answered_rows all)
 
 -- The vector of a lane is that of a pattern, and the leads answer to it as the lowest numbers of the classes do in the pattern's row.
 pub record IsNumbered (n : AnswerNumbers) (lane : ℕ) (t : ClassTable) (all : List Answered) (pattern : ℕ) : Type 0 where
@@ -70,5 +70,5 @@ pub record IsNumbered (n : AnswerNumbers) (lane : ℕ) (t : ClassTable) (all : L
   pub own : (class : ℕ) → class < class_count t → slice_index_or answers class [] ≡ slice_index_or (slice_index_or all pattern ([], [])).1 (representative t class) []
 
 -- That is so of each pattern of a range.
-abbrev pub AreNumbered : AnswerNumbers → ClassTable → List Answered → ℕ → ℕ → Type 0
-AreNumbered n t all first count = (lane : ℕ) → lane < count → IsNumbered n lane t all (first + lane)
+abbrev pub AreLanesNumbered : AnswerNumbers → ClassTable → List Answered → ℕ → ℕ → Type 0
+AreLanesNumbered n t all first count = (lane : ℕ) → lane < count → IsNumbered n lane t all (first + lane)

@@ -3,7 +3,7 @@
 ghost use Rattle.std.specs.Prelude.{◌≡◌, ◌↔◌, ◌<◌, ℕ, false, length, slice_index, map, All, IsTrue};
 ghost use Rattle.class_refine.specs.Fields.{IsWhole};
 ghost use Rattle.net_model.specs.ClassTable.{class_count};
-ghost use Rattle.compact_tests.specs.Earlier.{class_before, AreUnmarked, AreMarkedTo, HasRepeat, ShareEarlier};
+ghost use Rattle.compact_tests.specs.Earlier.{class_before, NoneIsMarked, AreMarkedTo, HasRepeat, ShareEarlier};
 
 use class_refine::Classes;
 
@@ -34,9 +34,9 @@ fn before(classes: &Classes, class: u32, pattern: usize) -> u32
 pub(crate) fn share_earlier(groups: &Classes, earlier: &[u32], marks: &mut [bool]) -> bool
     requires numbers { length groups.now.class_of ≡ length earlier.now }
     requires classes { All (λ class. class < length marks.old) earlier.now }
-    requires unmarked { AreUnmarked marks.old }
+    requires unmarked { NoneIsMarked marks.old }
     ensures value { IsTrue result ↔ ShareEarlier groups.now earlier.now }
-    ensures unmarked { AreUnmarked marks.new }
+    ensures unmarked { NoneIsMarked marks.new }
     ensures whole { IsWhole groups.now }
 {
     for group in 0..groups.count() {
@@ -51,9 +51,9 @@ pub(crate) fn share_earlier(groups: &Classes, earlier: &[u32], marks: &mut [bool
 fn repeats(group: &[u32], earlier: &[u32], marks: &mut [bool]) -> bool
     requires group { All (λ number. number < length earlier.now) group.now }
     requires classes { All (λ class. class < length marks.old) earlier.now }
-    requires unmarked { AreUnmarked marks.old }
+    requires unmarked { NoneIsMarked marks.old }
     ensures value { IsTrue result ↔ HasRepeat group.now earlier.now }
-    ensures unmarked { AreUnmarked marks.new }
+    ensures unmarked { NoneIsMarked marks.new }
 {
     let again = mark(group, earlier, marks);
     unmark(group, earlier, marks);
@@ -64,7 +64,7 @@ fn repeats(group: &[u32], earlier: &[u32], marks: &mut [bool]) -> bool
 fn mark(group: &[u32], earlier: &[u32], marks: &mut [bool]) -> bool
     requires group { All (λ number. number < length earlier.now) group.now }
     requires classes { All (λ class. class < length marks.old) earlier.now }
-    requires unmarked { AreUnmarked marks.old }
+    requires unmarked { NoneIsMarked marks.old }
     ensures value { IsTrue result ↔ HasRepeat group.now earlier.now }
     ensures marked { AreMarkedTo group.now earlier.now (length group.now) marks.new }
 {
@@ -82,7 +82,7 @@ fn unmark(group: &[u32], earlier: &[u32], marks: &mut [bool])
     requires group { All (λ number. number < length earlier.now) group.now }
     requires classes { All (λ class. class < length marks.old) earlier.now }
     requires marked { AreMarkedTo group.now earlier.now (length group.now) marks.old }
-    ensures { AreUnmarked marks.new }
+    ensures { NoneIsMarked marks.new }
 {
     for number in group {
         marks[earlier[*number as usize] as usize] = false;

@@ -6,7 +6,7 @@ ghost use Rattle.net_model.specs.FaultList.{faults as faults_of, fault_count};
 ghost use Rattle.net_model.specs.ClassTable.{class_count, representative};
 ghost use Rattle.answer_numbers.specs.AnswerNumbers.{answer_numbers_with, numbered_vectors};
 ghost use Rattle.compact_tests.specs.Remaining.{Answered, remaining};
-ghost use Rattle.compact_tests.specs.Thinning.{IsAnswered, AreAnswersOf, IsThinning, IsThinnedTo, IsTableOfAll, IsNumbered, AreNumbered, AreRemainingPlaces, patterns_at};
+ghost use Rattle.compact_tests.specs.Thinning.{IsAnswered, AreAnswersOf, IsThinning, IsThinnedTo, IsTableOfAll, IsNumbered, AreLanesNumbered, AreRemainingPlaces, patterns_at};
 
 use crate::earlier::{share_earlier, step_back};
 use crate::numbered::part;
@@ -131,7 +131,7 @@ impl<'a> Thinning<'a> {
         requires within { first + count < 2 ^ 64 }
         ensures classes { self.new.classes ≡ self.old.classes }
         ensures thinning { OnOk result (IsThinning self.new.classes.now self.new) }
-        ensures passed { OnOk result ((n : ℕ) (all : List Answered) → IsTableOfAll n self.old.classes.now all → AreNumbered numbers.now self.old.classes.now all first count → IsThinnedTo n self.old.classes.now all (first + count) self.old → IsThinnedTo n self.old.classes.now all first self.new) }
+        ensures passed { OnOk result ((n : ℕ) (all : List Answered) → IsTableOfAll n self.old.classes.now all → AreLanesNumbered numbers.now self.old.classes.now all first count → IsThinnedTo n self.old.classes.now all (first + count) self.old → IsThinnedTo n self.old.classes.now all first self.new) }
     {
         let mut lane = count;
         while lane > 0 {

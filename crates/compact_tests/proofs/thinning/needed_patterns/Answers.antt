@@ -3,7 +3,7 @@ use Rattle.std.specs.Prelude.{All}
 use Rattle.std.specs.Borrow.{Bor}
 use Rattle.net_model.specs.ClassTable.{ClassTable}
 use Rattle.net_model.specs.FaultList.{fault_count}
-use Rattle.compact_tests.specs.Remaining.{rows_of}
+use Rattle.compact_tests.specs.Remaining.{answered_rows}
 use Rattle.compact_tests.specs.Thinning.{IsThinnedTo}
 use Rattle.compact_tests.proofs.TableLemmas.{numbers-table}
 use Rattle.compact_tests.proofs.SimulatedLemmas.{as_many_answered}
@@ -16,7 +16,7 @@ pub pass_all-requires-clause-known : goal.pass_all-requires-clause-known
 pass_all-requires-clause-known c =
     let a = c.requires.answered in
     let circuit = c.args.circuit.now in
-    let size : length c.args.checked.now.classes.class_of ≡ fault_count circuit = ap (λ (t : ClassTable). length t.class_of) a.answered.table ∙ numbers-table (fault_count circuit) (rows_of a.all) in
+    let size : length c.args.checked.now.classes.class_of ≡ fault_count circuit = ap (λ (t : ClassTable). length t.class_of) a.answered.table ∙ numbers-table (fault_count circuit) (answered_rows a.all) in
     rw c.as_slice.ensures.value (subst (λ n. All (λ number. number < n) c.in_ok-leads.leads.items) size c.in_ok-leads.ensures.within)
 
 pub pass_all-requires-clause-few : goal.pass_all-requires-clause-few

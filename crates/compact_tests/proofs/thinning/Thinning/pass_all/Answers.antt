@@ -8,7 +8,7 @@ use Rattle.word_sim.specs.Block.{Block}
 use Rattle.table_dicts.proofs.BlockLemmas.{block_length}
 use Rattle.answer_numbers.specs.AnswerNumbers.{AnswerNumbers, answer_numbers_with, numbered_vectors}
 use Rattle.compact_tests.specs.Remaining.{Answered}
-use Rattle.compact_tests.specs.Thinning.{IsThinning, IsThinnedTo, IsTableOfAll, IsNumbered, AreNumbered}
+use Rattle.compact_tests.specs.Thinning.{IsThinning, IsThinnedTo, IsTableOfAll, IsNumbered, AreLanesNumbered}
 use Rattle.compact_tests.proofs.SimulatedLemmas.{as_many_answered, leads_many, leads_known, numbered_in}
 use Rattle.compact_tests.proofs.thinning.Thinning.pass_all.Goals as goal
 
@@ -87,11 +87,11 @@ loop-end-preserved c =
       thinning = subst (λ (u : ClassTable). IsThinning u new) classes c.in_ok-pass_block.ensures.thinning;
       thinned = λ all answered.
           let table : IsTableOfAll numbers t all = record { some = some_number circuit; is = answered.table } in
-          let are : AreNumbered numbered t all first count = λ lane h.
+          let are : AreLanesNumbered numbered t all first count = λ lane h.
           subst (λ (n : AnswerNumbers). IsNumbered n lane t all (first + lane)) (sym numbered_is)
           (numbered_in circuit patterns t all answered leads c.requires.leads (leads_known circuit t leads c.requires.leads c.requires.known) first end lane low within (omega (arith, h, many))) in
           let before : IsThinnedTo numbers t all (first + count) old = subst (λ (k : ℕ). IsThinnedTo numbers t all k old) (omega (arith, many, low)) (so_far.thinned all answered) in
-          subst (λ (u : ClassTable). (n : ℕ) (ps : List Answered) → IsTableOfAll n u ps → AreNumbered numbered u ps first count → IsThinnedTo n u ps (first + count) old → IsThinnedTo n u ps first new) so_far.thinning.classes c.in_ok-pass_block.ensures.passed
+          subst (λ (u : ClassTable). (n : ℕ) (ps : List Answered) → IsTableOfAll n u ps → AreLanesNumbered numbered u ps first count → IsThinnedTo n u ps (first + count) old → IsThinnedTo n u ps first new) so_far.thinning.classes c.in_ok-pass_block.ensures.passed
           numbers all table are before;
     }
 

@@ -1,6 +1,6 @@
 use Rattle.std.proofs.Common.{◌≡◌, ◌≤◌, ◌+◌, ℕ, List}
 use Rattle.compact_tests.specs.Remaining.{Answered}
-use Rattle.compact_tests.specs.Thinning.{IsThinning, IsThinnedTo, IsTableOfAll, AreNumbered}
+use Rattle.compact_tests.specs.Thinning.{IsThinning, IsThinnedTo, IsTableOfAll, AreLanesNumbered}
 use Rattle.compact_tests.proofs.thinning.Thinning.pass_block.Given as goal
 
 abbrev pub invariant-loop-lane : goal.invariant-loop-lane
@@ -8,7 +8,7 @@ invariant-loop-lane l = record {
   within : l.lane ≤ l.count;
   classes : l.self.classes ≡ l.initial.self.classes;
   thinning : IsThinning l.initial.self.classes.now l.self;
-  passed : (n : ℕ) (all : List Answered) → IsTableOfAll n l.initial.self.classes.now all → AreNumbered l.numbers l.initial.self.classes.now all l.first l.count
+  passed : (n : ℕ) (all : List Answered) → IsTableOfAll n l.initial.self.classes.now all → AreLanesNumbered l.numbers l.initial.self.classes.now all l.first l.count
       → IsThinnedTo n l.initial.self.classes.now all (l.first + l.count) l.initial.self → IsThinnedTo n l.initial.self.classes.now all (l.first + l.lane) l.self;
 }
 
