@@ -1,3 +1,5 @@
 pub mod TextLemmas
 mod AnswerLemmas
-mod RangeLemmas
+mod RootLemmas
+mod LaneLemmas
+mod BlockLemmas

@@ -1,2 +1,4 @@
 pub mod SimText
 pub mod Laws
+pub mod RootPlaces
+pub mod LaneAnswers

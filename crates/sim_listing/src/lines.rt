@@ -1,56 +1,76 @@
-//! The lines of a vector, from a table of answers.
+//! The lines of a vector.
 
-ghost use Rattle.std.specs.Prelude.{◌≡◌, ◌++◌, ◌<◌, ◌≤◌, [], OnOk, flat_map, length, map, slice_index_or, if◌then◌else◌};
-ghost use Rattle.std.specs.List.{range_with_len};
+ghost use Rattle.std.specs.Prelude.{◌≡◌, ◌++◌, ◌<◌, ◌^◌, Bool, List, None, IfOk, IsSome, OnOk, flat_map, length, slice_index, slice_index_or, if◌then◌else◌};
 ghost use Rattle.std.specs.String.{string_bytes};
-ghost use Rattle.net_model.specs.BitText.{bit_digit, bits_text};
-ghost use Rattle.net_model.specs.Rows.{bit_of};
-ghost use Rattle.table_dicts.specs.AnswerTable.{answer_to};
-ghost use Rattle.sim_listing.specs.SimText.{vector_line, faulty_line, differing_numbers, numbered_line, vector_text};
+ghost use Rattle.net_model.specs.BitText.{bits_text};
+ghost use Rattle.table_dicts.specs.AnswerTable.{answer_in};
+ghost use Rattle.sim_listing.specs.LaneAnswers.{IsKnownLane, IsLaneRow, IsNumberPlace, AreLaneTexts};
+ghost use Rattle.sim_listing.specs.SimText.{vector_line, faulty_line, answers_otherwise, differing_numbers, numbered_line, vector_text};
 
-use std::alloc::AllocError;
-use table_dicts::AnswerTable;
+use crate::texts::{answer_text, is_written, no_texts, push_written, put_text};
+use answer_numbers::AnswerNumbers;
+use net_model::Answer;
+use std::alloc::{AllocError, Global};
 
-/// A pattern of a table of answers.
+/// A lane of the block that was numbered last, and for each fault number the place of its root among the leads.
 #[derive(Clone, Copy)]
-pub(crate) struct Row<'a> {
-    pub(crate) table: &'a AnswerTable,
-    pub(crate) pattern: u32,
+pub(crate) struct LaneAnswers<'a, 'n> {
+    pub(crate) numbers: &'a AnswerNumbers<'n>,
+    pub(crate) places: &'a [u32],
+    pub(crate) lane: u32,
 }
 
-impl Row<'_> {
-    /// Appends the lines of the pattern as those of the vector with this number. Nothing is said of the text after an error.
+impl LaneAnswers<'_, '_> {
+    /// Appends the lines of the vector with this number. Nothing is said of the text after an error.
     #[tactic(auto, unfolding(crate::specs::SimText::vector_text))]
-    pub(crate) fn push_vector(&self, text: &mut String, number: usize) -> Result<(), AllocError>
-        requires pattern { self.now.pattern < length self.now.table.now.rows }
-        requires numbers { 0 < self.now.table.now.numbers }
-        ensures { OnOk result (string_bytes text.new ≡ string_bytes text.old ++ vector_text (slice_index_or self.now.table.now.rows self.now.pattern []) number) }
+    pub(crate) fn push_vector(
+        &self,
+        alloc: Global,
+        text: &mut String,
+        number: usize,
+    ) -> Result<(), AllocError>
+        requires { IsKnownLane self.now }
+        ensures { OnOk result ((row : List (List Bool)) → IsLaneRow self.now row → string_bytes text.new ≡ string_bytes text.old ++ vector_text row number) }
     {
-        self.push_vector_line(text, number)?;
-        self.push_fault_lines(text)
+        let mut texts = no_texts(alloc, self.numbers.count(self.lane))?;
+        self.push_vector_line(alloc, &mut texts, text, number)?;
+        self.push_fault_lines(alloc, &mut texts, text)
     }
 
     // Appends the line of the vector itself.
     #[tactic(auto, unfolding(crate::specs::SimText::vector_line))]
-    fn push_vector_line(&self, text: &mut String, number: usize) -> Result<(), AllocError>
-        requires pattern { self.now.pattern < length self.now.table.now.rows }
-        requires numbers { 0 < self.now.table.now.numbers }
-        ensures { OnOk result (string_bytes text.new ≡ string_bytes text.old ++ vector_line number (answer_to self.now.table.now self.now.pattern 0)) }
+    fn push_vector_line(
+        &self,
+        alloc: Global,
+        texts: &mut Vec<Option<String>>,
+        text: &mut String,
+        number: usize,
+    ) -> Result<(), AllocError>
+        requires lane { IsKnownLane self.now }
+        requires texts { AreLaneTexts self.now texts.old.items }
+        ensures texts { OnOk result (AreLaneTexts self.now texts.new.items) }
+        ensures text { OnOk result ((row : List (List Bool)) → IsLaneRow self.now row → string_bytes text.new ≡ string_bytes text.old ++ vector_line number (answer_in row 0)) }
     {
         write!(text, "pattern {number} answer ")?;
-        self.push_answer(text, 0)?;
+        self.push_answer(alloc, texts, text, 0)?;
         text.push('\n')
     }
 
     // Appends a line for each fault whose answer differs from the fault-free one.
-    fn push_fault_lines(&self, text: &mut String) -> Result<(), AllocError>
-        requires pattern { self.now.pattern < length self.now.table.now.rows }
-        requires numbers { 0 < self.now.table.now.numbers }
-        ensures { OnOk result (string_bytes text.new ≡ string_bytes text.old ++ flat_map (numbered_line (slice_index_or self.now.table.now.rows self.now.pattern [])) (differing_numbers (slice_index_or self.now.table.now.rows self.now.pattern []))) }
+    fn push_fault_lines(
+        &self,
+        alloc: Global,
+        texts: &mut Vec<Option<String>>,
+        text: &mut String,
+    ) -> Result<(), AllocError>
+        requires lane { IsKnownLane self.now }
+        requires texts { AreLaneTexts self.now texts.old.items }
+        requires few { length self.now.places.now < 2 ^ 32 }
+        ensures { OnOk result ((row : List (List Bool)) → IsLaneRow self.now row → string_bytes text.new ≡ string_bytes text.old ++ flat_map (numbered_line row) (differing_numbers row)) }
     {
-        for number in 1..self.table.numbers() {
-            let differs = !self.table.answers_alike(self.pattern, number, 0);
-            self.push_if_differs(text, number, differs)?;
+        for number in 1..self.places.len() as u32 {
+            let differs = self.differs(number);
+            self.push_if_differs(alloc, texts, text, number, differs)?;
         }
         Ok(())
     }
@@ -58,65 +78,143 @@ impl Row<'_> {
     // Appends the line of a fault, where its answer differs.
     fn push_if_differs(
         &self,
+        alloc: Global,
+        texts: &mut Vec<Option<String>>,
         text: &mut String,
         number: u32,
         differs: bool,
     ) -> Result<(), AllocError>
-        requires pattern { self.now.pattern < length self.now.table.now.rows }
-        requires number { number < self.now.table.now.numbers }
-        ensures { OnOk result (string_bytes text.new ≡ (if differs then string_bytes text.old ++ faulty_line number (answer_to self.now.table.now self.now.pattern number) else string_bytes text.old)) }
+        requires lane { IsKnownLane self.now }
+        requires texts { AreLaneTexts self.now texts.old.items }
+        requires number { number < length self.now.places.now }
+        ensures texts { OnOk result (AreLaneTexts self.now texts.new.items) }
+        ensures text { OnOk result ((row : List (List Bool)) → IsLaneRow self.now row → string_bytes text.new ≡ (if differs then string_bytes text.old ++ numbered_line row number else string_bytes text.old)) }
     {
         if differs {
-            self.push_fault_line(text, number)?;
+            self.push_fault_line(alloc, texts, text, number)?;
         }
         Ok(())
     }
 
     // Appends the line of a fault.
     #[tactic(auto, unfolding(crate::specs::SimText::faulty_line))]
-    fn push_fault_line(&self, text: &mut String, number: u32) -> Result<(), AllocError>
-        requires pattern { self.now.pattern < length self.now.table.now.rows }
-        requires number { number < self.now.table.now.numbers }
-        ensures { OnOk result (string_bytes text.new ≡ string_bytes text.old ++ faulty_line number (answer_to self.now.table.now self.now.pattern number)) }
+    fn push_fault_line(
+        &self,
+        alloc: Global,
+        texts: &mut Vec<Option<String>>,
+        text: &mut String,
+        number: u32,
+    ) -> Result<(), AllocError>
+        requires lane { IsKnownLane self.now }
+        requires texts { AreLaneTexts self.now texts.old.items }
+        requires number { number < length self.now.places.now }
+        ensures texts { OnOk result (AreLaneTexts self.now texts.new.items) }
+        ensures text { OnOk result ((row : List (List Bool)) → IsLaneRow self.now row → string_bytes text.new ≡ string_bytes text.old ++ numbered_line row number) }
     {
         write!(text, "fault {number} ")?;
-        self.push_answer(text, number)?;
+        self.push_answer(alloc, texts, text, number)?;
         text.push('\n')
     }
 
-    // Appends the digits of a number's answer, or a dash where there are no positions.
-    fn push_answer(&self, text: &mut String, number: u32) -> Result<(), AllocError>
-        requires pattern { self.now.pattern < length self.now.table.now.rows }
-        requires number { number < self.now.table.now.numbers }
-        ensures { OnOk result (string_bytes text.new ≡ string_bytes text.old ++ bits_text (answer_to self.now.table.now self.now.pattern number)) }
+    // Appends the text of a number's answer.
+    fn push_answer(
+        &self,
+        alloc: Global,
+        texts: &mut Vec<Option<String>>,
+        text: &mut String,
+        number: u32,
+    ) -> Result<(), AllocError>
+        requires lane { IsKnownLane self.now }
+        requires texts { AreLaneTexts self.now texts.old.items }
+        requires number { number < length self.now.places.now }
+        ensures texts { OnOk result (AreLaneTexts self.now texts.new.items) }
+        ensures text { OnOk result ((row : List (List Bool)) → IsLaneRow self.now row → string_bytes text.new ≡ string_bytes text.old ++ bits_text (answer_in row number)) }
     {
-        let positions = self.table.positions();
-        if positions == 0 {
-            return text.push('-');
-        }
-        for word in 0..positions.div_ceil(64) {
-            let bits = self.table.answer_word(self.pattern, number, word);
-            push_digits(text, bits, (positions - word * 64).min(64))?;
+        let place = self.place(number);
+        self.write_out(alloc, texts, place, number)?;
+        push_written(text, &texts[place as usize])?;
+        Ok(())
+    }
+
+    // Writes a number's answer out at its place, if it isn't there.
+    fn write_out(
+        &self,
+        alloc: Global,
+        texts: &mut Vec<Option<String>>,
+        place: u32,
+        number: u32,
+    ) -> Result<(), AllocError>
+        requires lane { IsKnownLane self.now }
+        requires texts { AreLaneTexts self.now texts.old.items }
+        requires number { number < length self.now.places.now }
+        requires place { IsNumberPlace self.now number place }
+        requires inside { place < length texts.old.items }
+        ensures texts { OnOk result (AreLaneTexts self.now texts.new.items) }
+        ensures written { OnOk result (IsSome (slice_index_or texts.new.items place None)) }
+    {
+        if !is_written(texts.as_slice(), place) {
+            self.fill(alloc, texts, place, number)?;
         }
         Ok(())
     }
-}
 
-// Appends the digits of the lowest bits of a word, so many.
-fn push_digits(text: &mut String, bits: u64, count: u32) -> Result<(), AllocError>
-    requires { count ≤ 64 }
-    ensures { OnOk result (string_bytes text.new ≡ string_bytes text.old ++ map (λ k. bit_digit (bit_of bits k)) (range_with_len 0 count)) }
-{
-    for at in 0..count {
-        text.push(digit_at(bits, at))?;
+    // Writes a number's answer out at its place.
+    fn fill(
+        &self,
+        alloc: Global,
+        texts: &mut Vec<Option<String>>,
+        place: u32,
+        number: u32,
+    ) -> Result<(), AllocError>
+        requires lane { IsKnownLane self.now }
+        requires texts { AreLaneTexts self.now texts.old.items }
+        requires number { number < length self.now.places.now }
+        requires place { IsNumberPlace self.now number place }
+        requires inside { place < length texts.old.items }
+        ensures texts { OnOk result (AreLaneTexts self.now texts.new.items) }
+        ensures written { OnOk result (IsSome (slice_index_or texts.new.items place None)) }
+    {
+        let answer = self.answer(alloc, number)?;
+        let own = answer_text(alloc, &answer)?;
+        put_text(texts, place, own);
+        Ok(())
     }
-    Ok(())
-}
 
-// The digit of a bit of a word.
-fn digit_at(bits: u64, at: u32) -> char
-    requires { at < 64 }
-    ensures { result ≡ bit_digit (bit_of bits at) }
-{
-    if (bits >> at) & 1 == 1 { '1' } else { '0' }
+    // The place of the lead that a number is equal to.
+    fn lead(&self, number: u32) -> usize
+        requires { number < length self.now.places.now }
+        ensures { result ≡ slice_index self.now.places.now number }
+    {
+        self.places[number as usize] as usize
+    }
+
+    // The place of a number's answer among the different ones.
+    fn place(&self, number: u32) -> u32
+        requires lane { IsKnownLane self.now }
+        requires number { number < length self.now.places.now }
+        ensures { IsNumberPlace self.now number result }
+    {
+        self.numbers.number(self.lane, self.lead(number))
+    }
+
+    // A number's answer.
+    fn answer(&self, alloc: Global, number: u32) -> Result<Answer, AllocError>
+        requires lane { IsKnownLane self.now }
+        requires number { number < length self.now.places.now }
+        ensures { IfOk result (λ answer. (row : List (List Bool)) → IsLaneRow self.now row → answer ≡ answer_in row number) }
+    {
+        let own = self.numbers.answer(alloc, self.lane, self.lead(number))?;
+        Ok(own)
+    }
+
+    // Whether a number's answer differs from that of number 0.
+    fn differs(&self, number: u32) -> bool
+        requires lane { IsKnownLane self.now }
+        requires number { number < length self.now.places.now }
+        ensures { (row : List (List Bool)) → IsLaneRow self.now row → result ≡ answers_otherwise row number }
+    {
+        let own = self.place(number);
+        let free = self.place(0);
+        own != free
+    }
 }

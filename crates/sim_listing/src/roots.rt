@@ -1,0 +1,68 @@
+//! The roots of the faults, which alone are simulated.
+
+ghost use Rattle.std.specs.Prelude.{◌≡◌, ◌<◌, ◌^◌, ◌++◌, ◌∷◌, [], All, IfOk, OnOk, length, map, slice_index, if◌then◌else◌};
+ghost use Rattle.fault_collapse.specs.ForestFields.{AreForestFields};
+ghost use Rattle.sim_listing.specs.RootPlaces.{AreOwnPlaces, AreRootPlaces};
+
+use fault_collapse::Forest;
+use std::alloc::{AllocError, Global};
+
+/// The numbers that are their own roots, ascending, and for each number the place of its root among them.
+#[derive(Drop)]
+pub(crate) struct RootPlaces {
+    pub(crate) roots: Vec<u32>,
+    pub(crate) places: Vec<u32>,
+}
+
+/// The roots of the numbers, and their places.
+pub(crate) fn root_places(alloc: Global, forest: &Forest) -> Result<RootPlaces, AllocError>
+    requires { AreForestFields forest.now }
+    ensures { IfOk result (λ found. AreRootPlaces forest.now.roots found.roots.items found.places.items) }
+{
+    let all = forest.roots();
+    let RootPlaces { roots, places } = own_roots(alloc, all)?;
+    let places = places_of(alloc, all, places.as_slice())?;
+    Ok(RootPlaces { roots, places })
+}
+
+// The numbers that are their own roots, and their places. The place of another number is that of the next root.
+fn own_roots(alloc: Global, all: &[u32]) -> Result<RootPlaces, AllocError>
+    requires { length all.now < 2 ^ 32 }
+    ensures { IfOk result (λ found. AreOwnPlaces all.now (length all.now) found.roots.items found.places.items) }
+{
+    let mut found = RootPlaces {
+        roots: Vec::new(alloc),
+        places: Vec::with_capacity(alloc, all.len())?,
+    };
+    for (number, root) in all.iter().enumerate() {
+        found.add(number as u32, *root == number as u32)?;
+    }
+    Ok(found)
+}
+
+impl RootPlaces {
+    // Puts a number behind the others.
+    fn add(&mut self, number: u32, is_root: bool) -> Result<(), AllocError>
+        requires { length self.old.roots.items < 2 ^ 32 }
+        ensures roots { OnOk result (self.new.roots.items ≡ (if is_root then self.old.roots.items ++ number ∷ [] else self.old.roots.items)) }
+        ensures places { OnOk result (self.new.places.items ≡ self.old.places.items ++ length self.old.roots.items ∷ []) }
+    {
+        self.places.push(self.roots.len() as u32)?;
+        if is_root {
+            self.roots.push(number)?;
+        }
+        Ok(())
+    }
+}
+
+// For each number the place of its root.
+fn places_of(alloc: Global, all: &[u32], own: &[u32]) -> Result<Vec<u32>, AllocError>
+    requires { All (λ root. root < length own.now) all.now }
+    ensures { IfOk result (λ places. places.items ≡ map (slice_index own.now) all.now) }
+{
+    let mut places = Vec::with_capacity(alloc, all.len())?;
+    for root in all {
+        places.push(own[*root as usize])?;
+    }
+    Ok(places)
+}
