@@ -1,6 +1,7 @@
 //! How partial logs rank the fault numbers of small circuits, by each kind of dictionary, and partial logs that are refused.
 
-ghost use Rattle.std.specs.Prelude.{◌<◌, IfOk, OnOk};
+ghost use Rattle.std.specs.Prelude.{◌≡◌, ◌<◌, IfOk, OnOk};
+ghost use Rattle.table_dicts.specs.declared.dict.DictKind.TheVariants as dict_kind;
 ghost use Rattle.table_dicts.specs.Dictionary.{IsGroupedDict, IsShaped};
 
 use diagnose::{LogFault, LogKind};
@@ -62,10 +63,20 @@ fn dict_at(alloc: Global, kind: DictKind, table: &AnswerTable) -> Result<Dict, A
         DictKind::PassFail => pass_fail(alloc, table),
         DictKind::SameDiff => {
             let mut dict = pass_fail(alloc, table)?;
-            dict.kind = DictKind::SameDiff;
+            as_same_diff(&mut dict);
             Ok(dict)
         }
     }
+}
+
+fn as_same_diff(dict: &mut Dict)
+    requires kind { dict.old.kind ≡ dict_kind.PassFail }
+    requires grouped { IsGroupedDict dict.old }
+    requires shaped { IsShaped dict.old }
+    ensures grouped { IsGroupedDict dict.new }
+    ensures shaped { IsShaped dict.new }
+{
+    dict.kind = DictKind::SameDiff;
 }
 
 fn are_ranks(ranking: &Ranking, ranks: &[(u64, u32)]) -> bool {
