@@ -1,5 +1,6 @@
 //! The modules, by what they test.
 
+mod compacted;
 mod known;
 mod lines;
 mod logs;

@@ -43,7 +43,8 @@ fn is_outcome(alloc: Global, circuit: &Circuit, text: &str, wanted: Outcome) -> 
     )
 }
 
-fn push_parts(text: &mut String, parts: &[&str]) -> Result<(), AllocError> {
+/// Appends parts of a text.
+pub(crate) fn push_parts(text: &mut String, parts: &[&str]) -> Result<(), AllocError> {
     for part in parts {
         text.push_str(part)?;
     }
