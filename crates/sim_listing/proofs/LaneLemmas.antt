@@ -1,14 +1,14 @@
 -- What the leads of a lane say of all numbers, and the texts of the different answers.
-use Rattle.std.proofs.Common.{◌≡◌, ◌≢◌, ◌∙◌, ℕ, ◌<◌, Bool, true, false, not, List, [], ◌++◌, length, get_or, set, map, Some, None, refl, sym, ap, subst, arith, inl, inr}
+use Rattle.std.proofs.Common.{◌≡◌, ◌≢◌, ◌∙◌, ℕ, ◌<◌, Bool, true, false, not, List, [], ◌++◌, length, get_or, set, map, Some, None, sym, ap, subst, arith, inl, inr}
 use Rattle.std.specs.Prelude.{⊤, All, IfSome, IsSome, Option, String, string_bytes, ◌==◌}
 use Rattle.std.proofs.lemmas.Bool.{cases_eq, cases_lt, eq-eqb, ne_eqb, false≢true, false_from_ne_true}
-use Rattle.std.proofs.lemmas.List.{length-map, length-set, get_or-map, get_or-set_same, get_or-set_other, get_or_past, get_or_default}
+use Rattle.std.proofs.lemmas.List.{length-map, length-set, get_or-map, get_or-set_same, get_or-set_other, get_or_past}
 use Rattle.std.proofs.lemmas.Slice.Zip.{AllZip-long}
 use Rattle.std.specs.declared.alloc.Global.{Global}
 use Rattle.net_model.specs.Answer.{IsAnswer}
 use Rattle.net_model.specs.BitText.{bits_text}
 use Rattle.net_model.specs.Circuit.{Circuit}
-use Rattle.net_model.specs.FaultList.{faults, fault_count, fault_numbered}
+use Rattle.net_model.specs.FaultList.{faults, fault_numbered}
 use Rattle.net_model.specs.ClassTable.{same_bits}
 use Rattle.net_model.specs.Rows.{row_at}
 use Rattle.net_model.proofs.Listed.{some_number}
@@ -16,7 +16,6 @@ use Rattle.kept_vectors.proofs.AnswerLemmas.{answer_in_row, row_exists}
 use Rattle.table_dicts.specs.AnswerTable.{answer_in}
 use Rattle.table_dicts.proofs.EntryLemmas.{same_bits-Decides}
 use Rattle.answer_numbers.specs.AnswerNumbers.{vector_in, lead_fault, AreLeadAnswers, IsLeadNumber, IsLeadCount}
-use Rattle.answer_numbers.specs.Distinct.{distinct_answers}
 use Rattle.answer_numbers.proofs.DistinctLemmas.{distinct_apart}
 use Rattle.sim_listing.specs.declared.lines.LaneAnswers.{LaneAnswers}
 use Rattle.sim_listing.specs.LaneAnswers.{IsKnownLane, IsLaneRow, lane_answers, IsAnswerPlace, IsNumberPlace, AreTextsOf, AreLaneTexts}

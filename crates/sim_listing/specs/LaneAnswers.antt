@@ -3,7 +3,7 @@ use Rattle.std.specs.Prelude.{◌≡◌, ℕ, ◌<◌, ◌^◌, Bool, List, All,
 use Rattle.std.specs.declared.alloc.Global.{Global}
 use Rattle.net_model.specs.Answer.{AreEqual}
 use Rattle.net_model.specs.BitText.{bits_text}
-use Rattle.net_model.specs.Circuit.{Circuit, IsCircuit}
+use Rattle.net_model.specs.Circuit.{IsCircuit}
 use Rattle.net_model.specs.FaultList.{fault_count, fault_numbered}
 use Rattle.net_model.specs.PatternRows.{IsAnswerRow}
 use Rattle.net_model.specs.Rows.{row_at}

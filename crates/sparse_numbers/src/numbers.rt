@@ -46,12 +46,14 @@ impl SparseNumbers {
         })
     }
 
+    /// How many numbers there are.
     pub fn len(&self) -> usize
         ensures { result ≡ length self.now }
     {
         self.len
     }
 
+    /// The number at a place, which is below `len`.
     #[inline]
     pub fn get(&self, place: usize) -> u32
         requires { place < length self.now }
