@@ -22,31 +22,36 @@ fn lit(number: i32) -> Lit {
     Lit::new(number.unsigned_abs().clamp(1, 100), number > 0)
 }
 
-// A log of one chain: how many clauses may be learned, the literal of a fresh clause, the number of the first clause, the
-// literals and clauses of the steps, and the refusal, or none. With a literal the log is one that spends its budget, and
-// else a refutation.
-type Judged = (
-    u16,
-    Option<i32>,
-    u32,
-    &'static [(i32, u32)],
-    Option<(RefusalKind, u64)>,
-);
+// A chain: the literal of a fresh clause, the number of the first clause, and the literals and clauses of the steps.
+type Linked = (Option<i32>, u32, &'static [(i32, u32)]);
+
+// How many clauses may be learned, the chains of a log, and the refusal, or none. Where the first chain has a literal the log
+// is one that spends its budget, and else a refutation.
+type Judged = (u16, &'static [Linked], Option<(RefusalKind, u64)>);
 
 const REFUTATION: &[(i32, u32)] = &[(1, 3), (2, 4), (3, 8), (-5, 11), (-4, 6)];
 
+// From clause 8, that line 3 is 0.
+const FALSE_LINE: &[(i32, u32)] = &[(-5, 11), (-4, 6)];
+
 // An OR of a line and its negation, with its output stuck at 1.
 const OF_OPPOSITES: &[Judged] = &[
-    (1, None, 1, REFUTATION, None),
-    (1, None, 1, &[(-1, 3)], Some((NoPivot, 0))),
-    (1, None, 1, &[(2, 3)], Some((NoPivot, 0))),
-    (1, None, 12, &[], Some((NoSuchClause, 0))),
-    (1, None, 1, &[(1, 12)], Some((NoSuchClause, 0))),
-    (1, None, 6, &[], Some((NotEmpty, 0))),
-    (1, Some(3), 1, REFUTATION, Some((EmptyEarly, 0))),
-    (1, Some(5), 8, &[(-5, 11), (-4, 6)], Some((NotFresh, 0))),
-    (1, Some(-3), 8, &[(-5, 11), (-4, 6)], Some((NotFresh, 0))),
-    (2, Some(-3), 8, &[(-5, 11), (-4, 6)], Some((WrongCount, 1))),
+    (1, &[(None, 1, REFUTATION)], None),
+    (1, &[(None, 1, &[(-1, 3)])], Some((NoPivot, 0))),
+    (1, &[(None, 1, &[(2, 3)])], Some((NoPivot, 0))),
+    (1, &[(None, 12, &[])], Some((NoSuchClause, 0))),
+    (1, &[(None, 1, &[(1, 12)])], Some((NoSuchClause, 0))),
+    (1, &[(None, 6, &[])], Some((NotEmpty, 0))),
+    (
+        1,
+        &[(None, 1, REFUTATION), (None, 6, &[])],
+        Some((EmptyEarly, 0)),
+    ),
+    (1, &[], Some((WrongCount, 0))),
+    (1, &[(Some(3), 1, REFUTATION)], Some((EmptyEarly, 0))),
+    (1, &[(Some(5), 8, FALSE_LINE)], Some((NotFresh, 0))),
+    (1, &[(Some(-3), 8, FALSE_LINE)], Some((NotFresh, 0))),
+    (2, &[(Some(-3), 8, FALSE_LINE)], Some((WrongCount, 1))),
 ];
 
 // Line 2 is the NOT of b, lines 3 and 4 the ORs of a with b and with that, and line 5 their AND.
@@ -63,9 +68,9 @@ const AND_OF_ORS: Parts<'static> = Parts {
 
 // Where line 5 isn't 0 both ORs are 1. Then a is 1, which unit propagation doesn't see; that line 3 is 1 it sees.
 const OF_ORS: &[Judged] = &[
-    (1, Some(1), 5, &[(2, 2), (-3, 8)], None),
-    (1, Some(-4), 5, &[(2, 2), (-3, 8)], Some((NotFresh, 0))),
-    (1, Some(1), 5, &[(2, 2)], Some((NotFresh, 0))),
+    (1, &[(Some(1), 5, &[(2, 2), (-3, 8)])], None),
+    (1, &[(Some(-4), 5, &[(2, 2), (-3, 8)])], Some((NotFresh, 0))),
+    (1, &[(Some(1), 5, &[(2, 2)])], Some((NotFresh, 0))),
 ];
 
 fn push_steps(chain: &mut Chain, steps: &[(i32, u32)]) -> Result<(), AllocError> {
@@ -75,21 +80,23 @@ fn push_steps(chain: &mut Chain, steps: &[(i32, u32)]) -> Result<(), AllocError>
     Ok(())
 }
 
-// The log of one chain.
-fn log_of(alloc: Global, case: &Judged) -> Result<Log, AllocError> {
-    let mut chain = Chain::new(alloc, case.2, case.1.map(lit));
-    push_steps(&mut chain, case.3)?;
+// The log of these chains.
+fn log_of(alloc: Global, chains: &[Linked]) -> Result<Log, AllocError> {
     let mut log = Log::new(alloc);
-    log.push(chain)?;
+    for (literal, first, steps) in chains {
+        let mut chain = Chain::new(alloc, *first, literal.map(lit));
+        push_steps(&mut chain, *steps)?;
+        log.push(chain)?;
+    }
     Ok(log)
 }
 
-fn kind_of(at: Option<i32>) -> EvidenceKind
+fn kind_of(chains: &[Linked]) -> EvidenceKind
     ensures { result ≢ EvidenceKind.Covered }
 {
-    match at {
-        Some(_) => EvidenceKind::Spent,
-        None => EvidenceKind::Refuted,
+    match chains.first() {
+        Some((Some(_), _, _)) => EvidenceKind::Spent,
+        _ => EvidenceKind::Refuted,
     }
 }
 
@@ -141,9 +148,11 @@ fn is_judged_in(
     if !stands(circuit, stuck) {
         return Err(Fail::new("the fault doesn't stand"));
     }
-    let log = log_of(alloc, case)?;
-    let found = checked(alloc, circuit, stuck, &log, kind_of(case.1), case.0 as u32)?;
-    Ok(is_refusal(found, case.4))
+    let (conflicts, chains, wanted) = *case;
+    let log = log_of(alloc, chains)?;
+    let kind = kind_of(chains);
+    let found = checked(alloc, circuit, stuck, &log, kind, u32::from(conflicts))?;
+    Ok(is_refusal(found, wanted))
 }
 
 // The same over the circuit of these parts.
