@@ -1,6 +1,8 @@
 //! A module tests the runs of a command, or of several.
 
+mod calls;
 mod checking;
+mod cuts;
 mod dictionaries;
 mod failing;
 mod generating;

@@ -183,7 +183,8 @@ fn refuses(alloc: Global, command: &str, dict: &[u8], console: &[u8]) -> Result<
     Ok(left.ended(5, Is(console)) && left.holds("d", Absent))
 }
 
-fn is_refused(alloc: Global, dict: &[u8], said: &str) -> Result<bool, AllocError> {
+/// Whether `convert` and `diagnose` refuse a dictionary, with this said of it.
+pub(crate) fn is_refused(alloc: Global, dict: &[u8], said: &str) -> Result<bool, AllocError> {
     let console = format!(in alloc; "dictionary: {said}\n")?;
     let console = console.as_bytes();
     Ok(refuses(alloc, "convert", dict, console)? && refuses(alloc, "diagnose", dict, console)?)
@@ -216,8 +217,13 @@ static DIAGNOSED: [Diagnosing; 10] = [
     (b"", 6, b"log: Missing at line 1\n"),
 ];
 
-// Whether a log is so diagnosed by each dictionary of the AND.
-fn is_diagnosed(alloc: Global, log: &[u8], status: u8, console: &[u8]) -> Result<bool, AllocError> {
+/// Whether a log is so diagnosed by each dictionary of the AND.
+pub(crate) fn is_diagnosed(
+    alloc: Global,
+    log: &[u8],
+    status: u8,
+    console: &[u8],
+) -> Result<bool, AllocError> {
     for dict in [ONE, TWO, FULL_ONE, FULL_TWO, SAME_DIFF] {
         let left = plain(alloc, &[("d", dict), ("l", log)], &["diagnose", "d", "l"])?;
         if !left.ended(status, Is(console)) {

@@ -2,7 +2,7 @@
 
 use crate::tests::runs::Text::{Any, Begins, Ends, Is};
 use crate::tests::runs::{Case, Left, all_leave, has, is_accepted, left_by, plain};
-use crate::tests::texts::{AND, AND_RESULT, C17, PARITY, S27, TRUTH};
+use crate::tests::texts::{AND, AND_RESULT, C17, PARITY, S27, TRUTH, TRUTH_RESULT};
 use std::alloc::{AllocError, Global};
 use std::test::Fail;
 use synth_netlist::synth_text;
@@ -45,12 +45,7 @@ static SMALL: [Case; 8] = [
         &["gen", "n", "r"],
         0,
         Is(b"numbers 11 patterns 2 classes 4 equal 7 open 0\n"),
-        (
-            "r",
-            Is(
-                b"diatest 1 1 1 11\nbudget 4 64 2000\npattern 0\npattern 1\nsame 1 0 T 0 . .\nsame 2 0 T 0 . .\nsame 3 0 T 0 . .\nsame 6 0 T 0 . .\nsame 7 4 C\nsame 8 0 T 0 . .\nsame 10 0 T 0 . .\nclass 0 - -\nclass 1 0 0\nclass 2 0 1\nclass 3 1 1\nmember 0 0 rep\nmember 1 0 equal\nmember 2 0 equal\nmember 3 0 equal\nmember 4 1 rep\nmember 5 2 rep\nmember 6 0 equal\nmember 7 1 equal\nmember 8 0 equal\nmember 9 3 rep\nmember 10 0 equal\nend\n",
-            ),
-        ),
+        ("r", Is(TRUTH_RESULT)),
     ),
     (
         &[("n", TRUTH)],

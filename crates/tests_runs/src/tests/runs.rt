@@ -66,6 +66,23 @@ impl Left {
         }
     }
 
+    /// Whether the file under a name is as the other run left it.
+    pub(crate) fn holds_same(&self, other: &Left, name: &str) -> bool {
+        match other.shelf.file(name) {
+            Some(bytes) => self.holds(name, Text::Is(bytes)),
+            None => self.holds(name, Text::Absent),
+        }
+    }
+
+    /// Whether there is no file under a name, or a part from the front of the one that the other run left.
+    pub(crate) fn holds_part(&self, other: &Left, name: &str) -> bool {
+        match (self.shelf.file(name), other.shelf.file(name)) {
+            (None, _) => true,
+            (Some(part), Some(all)) => all.starts_with(part),
+            (Some(_), None) => false,
+        }
+    }
+
     /// What was printed.
     pub(crate) fn console(&self) -> &[u8] {
         self.shelf.console()

@@ -46,3 +46,21 @@ fn results_of_a_netlist_by_number(rt: HostRuntime) -> Result<(), Fail> {
     assert!(rt; is_right(rt.alloc(), &left)?);
     Ok(())
 }
+
+// Whether a run of the same words leaves the same, of fifty cells.
+fn is_repeated(alloc: Global, left: &Left) -> Result<bool, Fail> {
+    let again = plain(alloc, &[], &["synth", "50", "n", "r"])?;
+    Ok(again.ended(0, Is(left.console())) && again.holds_same(left, "r"))
+}
+
+fn is_of_fifty(alloc: Global, left: &Left) -> Result<bool, Fail> {
+    let begun = left.holds("r", Begins(b"diatest 1 101 51 1203\nbudget 4 16 100\n"));
+    Ok(left.ended(0, Any) && begun && is_repeated(alloc, left)? && is_accepted(alloc, left)?)
+}
+
+#[test]
+fn a_result_of_fifty_cells(rt: HostRuntime) -> Result<(), Fail> {
+    let left = plain(rt.alloc(), &[], &["synth", "50", "n", "r"])?;
+    assert!(rt; is_of_fifty(rt.alloc(), &left)?);
+    Ok(())
+}

@@ -27,6 +27,10 @@ pub(crate) const S27: &[u8] =
 pub(crate) const AND_RESULT: &[u8] =
     b"diatest 1 2 1 7\nbudget 4 64 2000\npattern 00\npattern 10\npattern 01\npattern 11\nsame 3 1 C\nsame 5 1 C\nclass 0 - -\nclass 1 0 0\nclass 2 0 1\nclass 3 0 2\nclass 4 0 3\nmember 0 0 rep\nmember 1 4 rep\nmember 2 3 rep\nmember 3 4 equal\nmember 4 2 rep\nmember 5 4 equal\nmember 6 1 rep\nend\n";
 
+/// The result of the OR of a signal and its complement.
+pub(crate) const TRUTH_RESULT: &[u8] =
+    b"diatest 1 1 1 11\nbudget 4 64 2000\npattern 0\npattern 1\nsame 1 0 T 0 . .\nsame 2 0 T 0 . .\nsame 3 0 T 0 . .\nsame 6 0 T 0 . .\nsame 7 4 C\nsame 8 0 T 0 . .\nsame 10 0 T 0 . .\nclass 0 - -\nclass 1 0 0\nclass 2 0 1\nclass 3 1 1\nmember 0 0 rep\nmember 1 0 equal\nmember 2 0 equal\nmember 3 0 equal\nmember 4 1 rep\nmember 5 2 rep\nmember 6 0 equal\nmember 7 1 equal\nmember 8 0 equal\nmember 9 3 rep\nmember 10 0 equal\nend\n";
+
 pub(crate) const TWICE_RESULT: &[u8] =
     b"diatest 1 1 2 7\nbudget 0 0 0\npattern 0\npattern 1\nclass 0 - -\nclass 1 0 0\nclass 2 0 0\nclass 3 0 0\nclass 4 0 1\nclass 5 0 1\nclass 6 0 1\nmember 0 0 rep\nmember 1 4 rep\nmember 2 1 rep\nmember 3 5 rep\nmember 4 2 rep\nmember 5 6 rep\nmember 6 3 rep\nend\n";
 
@@ -55,3 +59,7 @@ pub(crate) const SAME_DIFF: &[u8] =
 /// pattern it keeps two pairs more apart than the pass/fail one.
 pub(crate) const AND_TWICE_CHOSEN: &[u8] =
     b"DIAT\x00\x02\x03\x00\x00\x00\x02\x00\x00\x00\x04\x00\x00\x00\x0b\x00\x00\x00\x06\x00\xc0\x00\xc0\x00\x00\x00\x00\x00\x00\x00\x01\x00\x00\x00\x02\x00\x00\x00\x01\x00\x00\x00\x03\x00\x00\x00\x01\x00\x00\x00\x04\x00\x00\x00\x01\x00\x00\x00\x05\x00\x00\x00\x01\x00\x00\x00\x05\x40P\x60\x00\xa0\xe0";
+
+/// The full dictionary of the OR of a signal and its complement.
+pub(crate) const TRUTH_FULL: &[u8] =
+    b"DIAT\x00\x02\x02\x00\x00\x00\x01\x00\x00\x00\x02\x00\x00\x00\x0b\x00\x00\x00\x04\x00\x00\x00\x00\x00\x00\x00\x00\x00\x00\x00\x00\x00\x00\x00\x00\x00\x00\x00\x01\x00\x00\x00\x02\x00\x00\x00\x00\x00\x00\x00\x01\x00\x00\x00\x00\x00\x00\x00\x03\x00\x00\x00\x00\xc0\x40\x80\x00";

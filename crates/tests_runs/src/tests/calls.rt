@@ -1,0 +1,106 @@
+//! Runs over a shelf of which each call fails in turn.
+
+use crate::tests::runs::Text::{Absent, Any, Is};
+use crate::tests::runs::{File, Left, left_by};
+use crate::tests::texts::{AND, AND_RESULT, LOG, ONE, TRUTH, TRUTH_FULL, TRUTH_RESULT};
+use std::alloc::{AllocError, Global};
+use std::test::Fail;
+
+// How many bytes a call moves at most.
+const CHUNK: usize = 16;
+
+// More calls than any of these runs makes.
+const LIMIT: u64 = 10_000;
+
+// The files that a run reads, its words, and the name of a file that it makes, or of none.
+type Calling = (&'static [File], &'static [&'static str], &'static str);
+
+static CALLS: [Calling; 12] = [
+    (&[("n", TRUTH)], &["gen", "n", "r"], "r"),
+    (
+        &[("n", TRUTH), ("r", TRUTH_RESULT)],
+        &["check", "n", "r"],
+        "e",
+    ),
+    (
+        &[("n", TRUTH), ("r", TRUTH_RESULT)],
+        &["dict", "full", "n", "r", "d"],
+        "d",
+    ),
+    (
+        &[("d", TRUTH_FULL), ("l", b"0 1\n1 0\n")],
+        &["diagnose", "d", "l"],
+        "e",
+    ),
+    (
+        &[("n", AND), ("r", AND_RESULT)],
+        &["dict", "passfail", "n", "r", "d"],
+        "d",
+    ),
+    (
+        &[("n", AND), ("r", AND_RESULT)],
+        &["dict", "samediff", "n", "r", "d"],
+        "d",
+    ),
+    (&[("d", ONE), ("l", LOG)], &["diagnose", "d", "l"], "e"),
+    (&[("o", ONE)], &["convert", "o", "d"], "d"),
+    (&[("n", AND)], &["faults", "n"], "e"),
+    (&[("n", AND), ("v", b"11\n01\n")], &["sim", "n", "v"], "e"),
+    (&[], &["synth", "2", "n", "r"], "n"),
+    (&[], &["synth", "2", "n", "r"], "r"),
+];
+
+// Each file is opened, and read until there is no more.
+fn calls_to_read(files: &[File]) -> u64 {
+    let mut calls = 0_u64;
+    for (_, bytes) in files {
+        calls = calls
+            .saturating_add(2)
+            .saturating_add(bytes.len().div_ceil(CHUNK) as u64);
+    }
+    calls
+}
+
+// Whether a run of which a call failed shows it: a read leaves nothing, and a write a part of what the run leaves of which no
+// call fails, which prints last.
+fn shows(left: &Left, whole: &Left, name: &str, call: u64, reads: u64) -> bool {
+    if call < reads {
+        return left.ended(7, Is(b"")) && left.holds(name, Absent);
+    }
+    let created = call > reads || left.holds(name, Absent);
+    let printed = left.console().is_empty() || left.holds_same(whole, name);
+    left.ended(8, Any)
+        && whole.console().starts_with(left.console())
+        && left.holds_part(whole, name)
+        && created
+        && printed
+}
+
+// Whether each failing call of a run shows, until none fails. The last ones print, so that the file is whole.
+fn each_shows(alloc: Global, case: &Calling) -> Result<bool, AllocError> {
+    let (files, words, name) = *case;
+    let whole = left_by(alloc, CHUNK, &[], files, words)?;
+    let reads = calls_to_read(files);
+    let prints = whole.console().len().div_ceil(CHUNK);
+    let mut kept = 0_usize;
+    for call in 0..LIMIT {
+        let left = left_by(alloc, CHUNK, &[call], files, words)?;
+        let is_whole = left.holds_same(&whole, name);
+        if left.ended(0, Is(whole.console())) {
+            return Ok(is_whole && call > reads && kept >= prints);
+        }
+        if !shows(&left, &whole, name, call, reads) {
+            return Ok(false);
+        }
+        kept = if is_whole { kept.saturating_add(1) } else { 0 };
+    }
+    Ok(false)
+}
+
+#[test]
+fn each_failing_call_shows(rt: HostRuntime) -> Result<(), Fail> {
+    for (at, case) in CALLS.iter().enumerate() {
+        assert!(rt; each_shows(rt.alloc(), case)?, "case {at}");
+    }
+    Ok(())
+}

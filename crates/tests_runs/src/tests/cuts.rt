@@ -1,0 +1,90 @@
+//! Runs over files that are cut to each shorter length.
+
+use crate::tests::dictionaries::{is_diagnosed, is_refused};
+use crate::tests::runs::Text::Is;
+use crate::tests::runs::plain;
+use crate::tests::texts::{
+    AND_TWICE_CHOSEN, FULL_ONE, FULL_TWO, LOG, ONE, SAME_DIFF, TRUTH, TRUTH_FULL, TRUTH_RESULT, TWO,
+};
+use std::alloc::{AllocError, Global};
+use std::process::Abort;
+use std::test::Fail;
+
+// Whether a text ends where a line does.
+fn is_of_lines(text: &[u8]) -> bool {
+    text.is_empty() || text.ends_with(b"\n")
+}
+
+// What is said of a text whose last line is cut, or that has no further line.
+fn said(alloc: Global, file: &str, text: &[u8], wanting: &str) -> Result<String, AllocError> {
+    let kind = if is_of_lines(text) { wanting } else { "Syntax" };
+    let lines = text.iter().filter(|byte| **byte == b'\n').count();
+    format!(in alloc; "{file}: {kind} at line {}\n", lines.saturating_add(1))
+}
+
+// Whether `check` refuses the result, with what is said of it.
+fn refuses_result(alloc: Global, bytes: &[u8]) -> Result<bool, AllocError> {
+    let console = said(alloc, "result", bytes, "Order")?;
+    let files = [("n", TRUTH), ("r", bytes)];
+    let left = plain(alloc, &files, &["check", "n", "r"])?;
+    Ok(left.ended(4, Is(console.as_bytes())))
+}
+
+// Whether the log is refused with each dictionary of the AND.
+fn refuses_log(alloc: Global, log: &[u8]) -> Result<bool, AllocError> {
+    let console = said(alloc, "log", log, "Missing")?;
+    is_diagnosed(alloc, log, 6, console.as_bytes())
+}
+
+// Whether the dictionary is refused as one that is too short.
+fn refuses_dictionary(alloc: Global, dict: &[u8]) -> Result<bool, AllocError> {
+    let said = format!(in alloc; "Short at byte {}", dict.len())?;
+    is_refused(alloc, dict, said.as_str())
+}
+
+#[test]
+fn results_cut_to_each_length(rt: HostRuntime) -> Result<(), Fail> {
+    for length in 0..TRUTH_RESULT.len() {
+        assert!(rt;
+            refuses_result(rt.alloc(), &TRUTH_RESULT[..length])?,
+            "length {length}"
+        );
+    }
+    Ok(())
+}
+
+#[test]
+fn logs_cut_to_each_length(rt: HostRuntime) -> Result<(), Fail> {
+    for length in 0..LOG.len() {
+        assert!(rt; refuses_log(rt.alloc(), &LOG[..length])?, "length {length}");
+    }
+    Ok(())
+}
+
+static DICTIONARIES: [&[u8]; 7] = [
+    ONE,
+    TWO,
+    FULL_ONE,
+    FULL_TWO,
+    SAME_DIFF,
+    AND_TWICE_CHOSEN,
+    TRUTH_FULL,
+];
+
+fn each_is_refused(rt: &impl Abort, alloc: Global, dict: &[u8]) -> Result<(), Fail> {
+    for length in 0..dict.len() {
+        assert!(rt;
+            refuses_dictionary(alloc, &dict[..length])?,
+            "length {length}"
+        );
+    }
+    Ok(())
+}
+
+#[test]
+fn dictionaries_cut_to_each_length(rt: HostRuntime) -> Result<(), Fail> {
+    for dict in DICTIONARIES {
+        each_is_refused(&rt, rt.alloc(), dict)?;
+    }
+    Ok(())
+}
