@@ -1,15 +1,13 @@
 -- What a valid result has for its compaction.
-use Rattle.std.proofs.Common.{◌≡◌, ◌∙◌, ℕ, suc, ◌+◌, ◌-◌, ◌<◌, ◌≤◌, ◌^◌, Bool, true, false, cond, eqb, List, [], ◌∷◌, ◌++◌, length, map, take, drop, get_or, Option, Some, None, refl, sym, ap, ap₂, subst, arith}
+use Rattle.std.proofs.Common.{◌≡◌, ◌∙◌, ℕ, suc, ◌-◌, ◌<◌, ◌≤◌, Bool, true, false, cond, eqb, List, [], ◌∷◌, ◌++◌, length, map, take, drop, get_or, Some, refl, sym, ap, ap₂, subst, arith}
 use Rattle.std.specs.Prelude.{All, zip, is_none}
-use Rattle.std.specs.List.{range_with_len, AllByRecursion}
+use Rattle.std.specs.List.{AllByRecursion}
 use Rattle.std.proofs.lemmas.List.{length-append, length-map, get_or_at, get_or_default}
 use Rattle.std.proofs.lemmas.List.Elements.{All-nil, All-cons}
-use Rattle.std.proofs.lemmas.List.FromFn.{length-range_with_len}
 use Rattle.net_model.specs.Circuit.{Circuit, IsCircuit}
 use Rattle.net_model.specs.FaultList.{fault_count}
-use Rattle.net_model.specs.ClassTable.{ClassTable, class_table, class_count, number_range}
+use Rattle.net_model.specs.ClassTable.{ClassTable, class_table, number_range}
 use Rattle.net_model.specs.PatternRows.{AreAnswerRows, IsTableOf}
-use Rattle.net_model.proofs.Listed.{some_number}
 use Rattle.class_refine.proofs.Ranges.{range_below}
 use Rattle.kept_vectors.specs.Kept.{SplitInTurn}
 use Rattle.kept_vectors.proofs.KeepLemmas.{table_numbers}
@@ -19,11 +17,11 @@ use Rattle.result_file.specs.declared.record.Summary.{Summary}
 use Rattle.result_file.specs.declared.record.Evidence.{Evidence}
 use Rattle.result_file.specs.declared.record.Record.{Record}
 use Rattle.result_file.specs.declared.record.Record.TheVariants.{Head, Budget, Pattern, Same, Class, Member, End}
-use Rattle.result_file.specs.Spelling.{Text, text_of, HasSpelling}
+use Rattle.result_file.specs.Spelling.{Text, text_of}
 use Rattle.result_file.specs.Marks.{patterns_in, evidence_in, number_mark, next_member}
 use Rattle.result_file.specs.Lines.{budgets_in}
 use Rattle.result_file.specs.Meaning.{stated_records, class_records, member_records}
-use Rattle.result_file.specs.Valid.{record_at, AreRightLines, IsValid}
+use Rattle.result_file.specs.Valid.{AreRightLines}
 use Rattle.result_file.specs.Laws.{ValidIsTrue}
 use Rattle.result_file.proofs.RightLines.{IsNextLine}
 use Rattle.dia_check.specs.declared.answer.Checked.{Checked}

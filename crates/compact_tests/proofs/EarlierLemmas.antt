@@ -1,11 +1,11 @@
 -- The class of a number by the patterns before one is the class that its class was before that one.
-use Rattle.std.proofs.Common.{◌≡◌, ◌∙◌, ℕ, suc, ◌+◌, ◌<◌, ◌≤◌, ◌⊎◌, inl, inr, Bool, List, [], ◌∷◌, ◌++◌, length, take, drop, get_or, fold, cond, eqb, Option, None, Some, MatchOption, refl, sym, ap, subst, arith}
+use Rattle.std.proofs.Common.{◌≡◌, ◌∙◌, ℕ, ◌+◌, ◌<◌, inl, inr, Bool, List, [], ◌∷◌, length, take, drop, get_or, fold, cond, eqb, Option, None, Some, MatchOption, refl, sym, ap, arith}
 use Rattle.std.specs.Option.{option_map_or}
 use Rattle.std.proofs.lemmas.Bool.{eq-eqb, ne_eqb}
 use Rattle.std.proofs.lemmas.List.{take_more, take-append-drop, length-take-le}
 use Rattle.std.proofs.lemmas.List.Sums.{fold-append}
-use Rattle.net_model.specs.ClassTable.{ClassTable, class_table, class_count, class_at, new_lowest, class_after, refined_table, first_table, piece_lowest}
-use Rattle.class_refine.proofs.Pieces.{IsSound, after_cases, new_lowest-All, piece_is}
+use Rattle.net_model.specs.ClassTable.{ClassTable, class_table, class_count, class_at, new_lowest, refined_table, first_table}
+use Rattle.class_refine.proofs.Pieces.{IsSound, after_cases, piece_is}
 use Rattle.class_refine.proofs.Refined.{count-refined, class-refined, birth_old, birth_new}
 use Rattle.compact_tests.specs.Earlier.{class_before}
 use Rattle.compact_tests.proofs.TableLemmas.{filled-table, numbers-table}

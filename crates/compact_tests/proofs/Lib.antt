@@ -19,6 +19,7 @@ pub mod EarlierLemmas
 pub mod NeededLemmas
 pub mod ThinningLemmas
 pub mod RepeatLemmas
+pub mod SharingLemmas
 pub mod NumberLemmas
 pub mod StatedLemmas
 pub mod TextLemmas

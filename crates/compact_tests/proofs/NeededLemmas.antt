@@ -1,8 +1,8 @@
 -- A pattern remains exactly where two classes are alike to those before it and to those that remain behind it.
-use Rattle.std.proofs.Common.{◌≡◌, ◌≢◌, ◌∙◌, ℕ, suc, ◌+◌, ◌<◌, ◌≤◌, inl, inr, Bool, List, [], ◌∷◌, ◌++◌, length, take, drop, get_or, cond, eqb, refl, sym, ap, subst, arith}
+use Rattle.std.proofs.Common.{◌≡◌, ◌≢◌, ◌∙◌, ℕ, ◌+◌, ◌<◌, inl, inr, Bool, List, [], ◌∷◌, ◌++◌, length, take, drop, get_or, cond, sym, ap, subst, arith}
 use Rattle.std.proofs.lemmas.Bool.{eq-eqb, ne_eqb, cases_eq}
 use Rattle.std.proofs.lemmas.List.{take_more, drop_more, take-append-drop}
-use Rattle.net_model.specs.ClassTable.{ClassTable, class_table, class_count, class_at, representative}
+use Rattle.net_model.specs.ClassTable.{ClassTable, class_table, class_at, representative}
 use Rattle.class_refine.proofs.Pieces.{lead_is}
 use Rattle.compact_tests.specs.Remaining.{Answered, answered_rows, classes_by, with_needed, remaining_behind}
 use Rattle.compact_tests.specs.Thinning.{HaveSameAnswers, remaining_from}

@@ -1,10 +1,9 @@
 -- Marks of the classes that a group's numbers have in a list.
-use Rattle.std.proofs.Common.{◌≡◌, ◌∙◌, ◌⊎◌, ◌↔◌, ℕ, ◌+◌, ◌<◌, ◌≤◌, inl, inr, Bool, true, false, ◌||◌, IsTrue, List, length, get_or, set, refl, sym, ap, subst, arith}
-use Rattle.std.specs.Prelude.{All, Contains}
+use Rattle.std.proofs.Common.{◌≡◌, ◌∙◌, ◌↔◌, ℕ, ◌+◌, ◌<◌, ◌≤◌, inl, inr, Bool, true, false, ◌||◌, IsTrue, List, length, get_or, set, refl, sym, ap, subst, arith}
+use Rattle.std.specs.Prelude.{Contains}
 use Rattle.std.proofs.lemmas.Bool.{cases_lt, cases_eq, cases_Bool, false≢true, or_cases}
 use Rattle.std.proofs.lemmas.List.{get_or-set_same, get_or-set_other, get_or_default}
-use Rattle.std.proofs.lemmas.List.Elements.{All-contains}
-use Rattle.net_model.specs.ClassTable.{ClassTable, class_at, class_count, members}
+use Rattle.net_model.specs.ClassTable.{ClassTable, class_at, members}
 use Rattle.class_refine.proofs.Pieces.{members-All, members-contains, members_ascend}
 use Rattle.compact_tests.specs.Earlier.{earlier_at, RepeatsWithin, HasRepeat, NoneIsMarked, HasClassBetween, AreMarkedTo, ShareEarlier}
 

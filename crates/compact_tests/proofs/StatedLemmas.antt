@@ -1,5 +1,5 @@
 -- The lines of a text, taken in one after another.
-use Rattle.std.proofs.Common.{◌≡◌, ◌∙◌, ℕ, zero, suc, ◌+◌, ◌-◌, ◌<◌, ◌≤◌, inl, inr, Bool, cond, eqb, List, [], ◌∷◌, ◌++◌, length, take, drop, reverse, get_or, set, replicate, Option, Some, None, refl, sym, ap, subst, append_assoc, arith}
+use Rattle.std.proofs.Common.{◌≡◌, ◌∙◌, ℕ, ◌+◌, ◌-◌, ◌<◌, ◌≤◌, inl, inr, Bool, cond, eqb, List, [], ◌∷◌, ◌++◌, length, take, drop, get_or, set, replicate, Option, Some, None, refl, sym, ap, subst, append_assoc, arith}
 use Rattle.std.specs.Prelude.{All, Contains, find, slice_range}
 use Rattle.std.proofs.lemmas.Bool.{cases_lt, cases_eq, eq-eqb, ne_eqb}
 use Rattle.std.proofs.lemmas.List.{append-nil, length-append, reverse-append, take_at, drop_at, take_more, get_or_at, get_or-drop, get_or-append-add, get_or_append_left, get_or_default, get_or-set_same, get_or-set_other, length-set, length-drop}
@@ -8,11 +8,11 @@ use Rattle.net_model.proofs.Elements.{All-right, get_or-replicate_anywhere}
 use Rattle.result_file.specs.declared.record.Mark.{Mark}
 use Rattle.result_file.specs.declared.record.Evidence.{Evidence}
 use Rattle.result_file.specs.declared.record.Record.{Record}
-use Rattle.result_file.specs.declared.record.Record.TheVariants.{Head, Budget, Pattern, Same, Class, Member, End}
+use Rattle.result_file.specs.declared.record.Record.TheVariants.{Same, Member}
 use Rattle.result_file.specs.Spelling.{Text, spelling, text_of, HasSpelling}
 use Rattle.result_file.specs.Marks.{evidence_of, evidence_in}
 use Rattle.result_file.specs.Held.{IsFirstFrom, IsWithoutLineFeed}
-use Rattle.result_file.specs.Laws.{OneSpelling, SpellingIsLine}
+use Rattle.result_file.specs.Laws.{SpellingIsLine}
 use Rattle.result_file.proofs.RecordLists.{text-append}
 use Rattle.compact_tests.specs.declared.lines.Stated.{Stated}
 use Rattle.compact_tests.specs.declared.lines.Span.{Span}

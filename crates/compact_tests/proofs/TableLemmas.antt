@@ -1,6 +1,6 @@
 -- Class tables of more and of fewer rows: how many classes they have, and which numbers are together.
 use Rattle.std.proofs.Common.{◌≡◌, ◌∙◌, ℕ, ◌+◌, ◌-◌, ◌<◌, ◌≤◌, eqb, List, [], ◌∷◌, length, map, get_or, fold, refl, sym, ap, arith, inl, inr}
-use Rattle.std.specs.Prelude.{Bool, true, All, remove, slice_index_or}
+use Rattle.std.specs.Prelude.{Bool, true, remove, slice_index_or}
 use Rattle.std.specs.List.{range_with_len, list_any}
 use Rattle.std.proofs.lemmas.Bool.{cases_lt, cases_eq, eq-eqb}
 use Rattle.std.proofs.lemmas.List.{length-replicate, get_or-replicate}

@@ -1,11 +1,11 @@
 -- The parts of a text.
-use Rattle.std.proofs.Common.{◌≡◌, ◌∙◌, ℕ, ◌+◌, ◌<◌, ◌≤◌, Bool, true, false, cond, eqb, List, [], ◌∷◌, ◌++◌, length, map, take, drop, get_or, Option, Some, None, refl, sym, ap, append_assoc, arith}
+use Rattle.std.proofs.Common.{◌≡◌, ◌∙◌, ℕ, ◌+◌, ◌<◌, ◌≤◌, Bool, List, [], ◌∷◌, ◌++◌, length, map, take, get_or, Option, Some, None, refl, sym, ap, append_assoc}
 use Rattle.std.specs.Prelude.{filter_map, slice_range}
 use Rattle.std.specs.Option.{option_to_list}
 use Rattle.std.specs.List.{range_with_len, cons_option}
-use Rattle.std.proofs.lemmas.List.{append-nil, map-append, take_more}
+use Rattle.std.proofs.lemmas.List.{map-append, take_more}
 use Rattle.std.proofs.lemmas.List.Elements.{filter_map-append}
-use Rattle.net_model.specs.ClassTable.{ClassTable, class_at, representative}
+use Rattle.net_model.specs.ClassTable.{ClassTable}
 use Rattle.net_model.proofs.Ranges.{range_more}
 use Rattle.result_file.specs.declared.record.Evidence.{Evidence}
 use Rattle.result_file.specs.declared.record.Record.{Record}
@@ -13,7 +13,7 @@ use Rattle.result_file.specs.declared.record.Record.TheVariants.{Pattern, Same, 
 use Rattle.result_file.specs.Spelling.{Text, spelling, text_of}
 use Rattle.result_file.proofs.RecordLists.{text-append}
 use Rattle.compact_tests.specs.declared.lines.Span.{Span}
-use Rattle.compact_tests.specs.ThinResult.{last_evidence, evidence_for}
+use Rattle.compact_tests.specs.ThinResult.{evidence_for}
 use Rattle.compact_tests.specs.Stated.{IsEvidenceLine}
 
 -- ---- the line of some evidence

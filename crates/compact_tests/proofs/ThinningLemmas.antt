@@ -1,8 +1,8 @@
 -- One pattern more is gone over.
-use Rattle.std.proofs.Common.{◌≡◌, ◌∙◌, ◌⊎◌, ◌↔◌, ℕ, suc, ◌+◌, ◌<◌, ◌≤◌, inl, inr, Bool, List, [], ◌∷◌, ◌++◌, length, map, take, drop, reverse, get_or, refl, sym, ap, subst, arith}
+use Rattle.std.proofs.Common.{◌≡◌, ◌∙◌, ◌⊎◌, ◌↔◌, ℕ, ◌+◌, ◌<◌, inl, inr, Bool, List, [], ◌∷◌, ◌++◌, length, map, take, reverse, get_or, sym, ap, subst, arith}
 use Rattle.std.specs.Prelude.{All, slice_index_or}
-use Rattle.std.proofs.lemmas.Bool.{cases_lt}
-use Rattle.std.proofs.lemmas.List.{take-map, length-map, get_or-map, reverse-append, take_all, drop_all}
+use Rattle.std.proofs.lemmas.Bool.{cases_lt, cases_eq}
+use Rattle.std.proofs.lemmas.List.{take-map, length-map, get_or_default, get_or-map, reverse-append, take_all, drop_all}
 use Rattle.std.proofs.lemmas.List.Elements.{All-append, All-cons, All-nil, All-head, All-tail}
 use Rattle.net_model.specs.ClassTable.{ClassTable, class_table, class_count, class_at, representative}
 use Rattle.answer_numbers.specs.AnswerNumbers.{AnswerNumbers}
@@ -10,6 +10,7 @@ use Rattle.compact_tests.specs.declared.thinning.Thinning.{Thinning}
 use Rattle.compact_tests.specs.Remaining.{Answered, answered_rows, remaining_behind, classes_by}
 use Rattle.compact_tests.specs.Earlier.{class_before, ShareEarlier}
 use Rattle.compact_tests.specs.Thinning.{HaveSameAnswers, patterns_at, remaining_from, IsThinnedTo, IsTableOfAll, IsNumbered}
+use Rattle.compact_tests.specs.Sharing.{ListsSharing}
 use Rattle.compact_tests.specs.Numbered.{HasParted}
 use Rattle.compact_tests.proofs.EarlierLemmas.{before_pattern}
 use Rattle.compact_tests.proofs.NeededLemmas.{IsAlikePair, lead, pair_remains, none_remains}
@@ -117,13 +118,34 @@ thinned_more numbers t all place old new table within =
     subst (λ (u : ClassTable). IsThinnedTo numbers u all (place + 1) old → IsPassed u (get_or all place ([], [])).1 place old new → IsThinnedTo numbers u all place new) (sym table.is) (at_table numbers table.some all place within old new)
 
 -- groups that are cut by the answers of the leads are cut by the pattern's row
-pub parted_by : {n : AnswerNumbers} {lane : ℕ} {old new : ClassTable} (t : ClassTable) (all : List Answered) (pattern : ℕ) → IsNumbered n lane t all pattern → HasParted n lane old new → length old.class_of ≡ class_count t
+pub parted_by : {n : AnswerNumbers} {lane : ℕ} {listed : List ℕ} {old new : ClassTable} (t : ClassTable) (all : List Answered) (pattern : ℕ) → IsNumbered n lane listed t all pattern → ListsSharing old listed → HasParted n lane listed old new → length old.class_of ≡ class_count t
     → (a b : ℕ) → a < class_count t → b < class_count t → class_at new a ≡ class_at new b ↔ ((class_at old a ≡ class_at old b) × (slice_index_or (get_or all pattern ([], [])).1 (representative t a) [] ≡ slice_index_or (get_or all pattern ([], [])).1 (representative t b) []))
-parted_by t all pattern numbered parted size a b ha hb =
-    let p = parted.together numbered.answers numbered.are a b (omega (arith, ha, size)) (omega (arith, hb, size)) in (
-      (λ same. let both = p.0 same in (both.0, sym (numbered.own a ha) ∙ (both.1 ∙ numbered.own b hb))),
-      (λ both. p.1 (both.0, numbered.own a ha ∙ (both.1 ∙ sym (numbered.own b hb)))),
-    )
+parted_by {listed = listed} {old = old} {new = new} t all pattern numbered lists parted size a b ha hb =
+    let row = (get_or all pattern ([], [])).1 in
+    let ia : a < length old.class_of = omega (arith, ha, size) in
+    let ib : b < length old.class_of = omega (arith, hb, size) in
+    let Own : ℕ → ℕ → Type 0 = λ x y. class_at new x ≡ class_at new y ↔ ((class_at old x ≡ class_at old y) × (slice_index_or row (representative t x) [] ≡ slice_index_or row (representative t y) [])) in
+    let at : (p q : ℕ) → p < length listed → q < length listed → Own (get_or listed p 0) (get_or listed q 0) = λ p q hp hq.
+    let is = parted.together numbered.answers numbered.are p q hp hq in (
+      (λ same. let both = is.0 same in (both.0, sym (numbered.own p hp) ∙ (both.1 ∙ numbered.own q hq))),
+      (λ both. is.1 (both.0, numbered.own p hp ∙ (both.1 ∙ sym (numbered.own q hq)))),
+    ) in
+    let apart : (a ≡ b → ⊥) → class_at old a ≡ class_at old b → Own a b = λ other together.
+    let p = lists.all a b ia ib other together in
+    let q = lists.all b a ib ia (λ e. other (sym e)) (sym together) in
+    let at_a : get_or listed p.0 0 ≡ a = get_or_default listed p.0 0 a p.1 ∙ p.2 in
+    let at_b : get_or listed q.0 0 ≡ b = get_or_default listed q.0 0 b q.1 ∙ q.2 in
+    subst (λ (y : ℕ). Own a y) at_b (subst (λ (x : ℕ). Own x (get_or listed q.0 0)) at_a (at p.0 q.0 p.1 q.1)) in
+    elim (cases_eq a b) [
+      | inl e ↦ (
+        (λ same. (ap (class_at old) e, ap (λ (x : ℕ). slice_index_or row (representative t x) []) e)),
+        (λ both. ap (class_at new) e),
+      )
+      | inr other ↦ (
+        (λ same. (apart other (parted.before a b ia ib same)).0 same),
+        (λ both. (apart other both.0).1 both),
+      )
+    ]
 
 -- ---- behind the last pattern
 

@@ -4,6 +4,7 @@ pub mod Compacted
 pub mod Laws
 -- What is known on the way
 pub mod Earlier
+pub mod Sharing
 pub mod Numbered
 pub mod Thinning
 pub mod Keeping

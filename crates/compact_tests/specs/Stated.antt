@@ -1,5 +1,5 @@
 -- What lines state of numbers, and where the evidence stands.
-use Rattle.std.specs.Prelude.{◌≡◌, ◌<◌, ◌≤◌, ◌+◌, ℕ, List, [], ◌∷◌, ◌++◌, length, All, Option, None, Some, slice_index_or, slice_range, ⊤}
+use Rattle.std.specs.Prelude.{◌≡◌, ◌<◌, ◌≤◌, ℕ, List, [], ◌∷◌, ◌++◌, length, All, Option, None, Some, slice_index_or, slice_range, ⊤}
 use Rattle.result_file.specs.declared.record.Evidence.{Evidence}
 use Rattle.result_file.specs.declared.record.Record.{Record}
 use Rattle.result_file.specs.declared.record.Record.TheVariants.{Same}

@@ -1,5 +1,5 @@
 -- What is known on the way from the last pattern to the first.
-use Rattle.std.specs.Prelude.{◌≡◌, ◌↔◌, ◌+◌, ◌<◌, ℕ, Bool, List, [], take, drop, reverse, length, map, All, slice_index, slice_index_or}
+use Rattle.std.specs.Prelude.{◌≡◌, ◌↔◌, ◌+◌, ◌<◌, ◌≤◌, ℕ, Bool, List, [], take, drop, reverse, length, map, All, slice_index, slice_index_or, slice_range}
 use Rattle.net_model.specs.Circuit.{Circuit}
 use Rattle.net_model.specs.FaultList.{fault_count}
 use Rattle.net_model.specs.ClassTable.{ClassTable, class_table, class_at, class_count, representative}
@@ -7,7 +7,9 @@ use Rattle.net_model.specs.PatternRows.{AreAnswerRows}
 use Rattle.answer_numbers.specs.AnswerNumbers.{AnswerNumbers, vector_in, AreLeadAnswers}
 use Rattle.compact_tests.specs.declared.thinning.Thinning.{Thinning}
 use Rattle.compact_tests.specs.Remaining.{Answered, answered_vectors, answered_rows, classes_by, remaining_behind, remaining}
+use Rattle.class_refine.specs.Fields.{IsWhole}
 use Rattle.compact_tests.specs.Earlier.{NoneIsMarked}
+use Rattle.compact_tests.specs.Sharing.{shared_groups}
 
 -- The patterns have these answers, and the table is that of the answers.
 pub record IsAnswered (c : Circuit) (patterns : List (List Bool)) (t : ClassTable) (all : List Answered) : Type 0 where
@@ -38,17 +40,21 @@ pub record AreRemainingPlaces (c : Circuit) (patterns : List (List Bool)) (t : C
 abbrev pub remaining_from : ℕ → List Answered → ℕ → List Answered
 remaining_from numbers all place = remaining_behind numbers (classes_by numbers all) (take place all) (drop place all)
 
--- The lists have a place for each class, and the classes in them are known. No mark is set.
+-- The classes are those of the table, of which there are some. The lists have a place for each class, and the classes in them are known.
+-- The groups are of as many numbers, and those of two or more are listed. No mark is set.
 pub record IsThinning (t : ClassTable) (thinning : Thinning) : Type 0 where
   pub classes : thinning.classes.now ≡ t
   pub some : 0 < class_count t
   pub earlier : length thinning.earlier.items ≡ class_count t
   pub within : All (λ class. class < class_count t) thinning.earlier.items
   pub groups : length thinning.groups.class_of ≡ class_count t
+  pub whole : IsWhole thinning.groups
+  pub shared : thinning.shared.items ≡ shared_groups thinning.groups
   pub marks : length thinning.marks.items ≡ class_count t
   pub unmarked : NoneIsMarked thinning.marks.items
 
--- The patterns from a place on were gone over, with the classes of so many numbers.
+-- The patterns from a place on were gone over, with the classes of so many numbers. The places that were found needed are such of patterns,
+-- and the patterns there, in order, are those that remain of them.
 pub record IsThinnedTo (numbers : ℕ) (t : ClassTable) (all : List Answered) (place : ℕ) (thinning : Thinning) : Type 0 where
   -- The classes before them are those of the patterns before them.
   pub earlier : (class : ℕ) → class < class_count t → slice_index thinning.earlier.items class ≡ class_at (class_table numbers (answered_rows (take place all))) (representative t class)
@@ -57,18 +63,23 @@ pub record IsThinnedTo (numbers : ℕ) (t : ClassTable) (all : List Answered) (p
   pub places : All (λ place. place < length all) thinning.needed.items
   pub needed : patterns_at all (reverse thinning.needed.items) ≡ remaining_from numbers all place
 
--- The table is that of all patterns and of so many numbers.
+-- There are some numbers, so many, and the table is that of them and of all patterns.
 pub record IsTableOfAll (numbers : ℕ) (t : ClassTable) (all : List Answered) : Type 0 where
   pub some : 0 < numbers
   pub is : t ≡ class_table numbers (answered_rows all)
 
--- The vector of a lane is that of a pattern, and the leads answer to it as the lowest numbers of the classes do in the pattern's row.
-pub record IsNumbered (n : AnswerNumbers) (lane : ℕ) (t : ClassTable) (all : List Answered) (pattern : ℕ) : Type 0 where
+-- The leads answer to the vector of a lane as the lowest numbers of the listed classes do in the pattern's row.
+pub record IsNumbered (n : AnswerNumbers) (lane : ℕ) (listed : List ℕ) (t : ClassTable) (all : List Answered) (pattern : ℕ) : Type 0 where
   pub within : pattern < length all
   pub answers : List (List Bool)
   pub are : AreLeadAnswers n.circuit n.leads (vector_in n lane) answers
-  pub own : (class : ℕ) → class < class_count t → slice_index_or answers class [] ≡ slice_index_or (slice_index_or all pattern ([], [])).1 (representative t class) []
+  pub own : (place : ℕ) → place < length listed → slice_index_or answers place [] ≡ slice_index_or (slice_index_or all pattern ([], [])).1 (representative t (slice_index listed place)) []
 
 -- That is so of each pattern of a range.
-abbrev pub AreLanesNumbered : AnswerNumbers → ClassTable → List Answered → ℕ → ℕ → Type 0
-AreLanesNumbered n t all first count = (lane : ℕ) → lane < count → IsNumbered n lane t all (first + lane)
+abbrev pub AreLanesNumbered : AnswerNumbers → List ℕ → ClassTable → List Answered → ℕ → ℕ → Type 0
+AreLanesNumbered n listed t all first count = (lane : ℕ) → lane < count → IsNumbered n lane listed t all (first + lane)
+
+-- The vectors are the patterns from a place on, so many as they are.
+pub record IsBlockOf (patterns : List (List Bool)) (first : ℕ) (vectors : List (List Bool)) : Type 0 where
+  pub within : first + length vectors ≤ length patterns
+  pub are : vectors ≡ slice_range patterns first (first + length vectors)

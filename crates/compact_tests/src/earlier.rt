@@ -3,6 +3,7 @@
 ghost use Rattle.std.specs.Prelude.{◌≡◌, ◌↔◌, ◌<◌, ℕ, false, length, slice_index, map, All, IsTrue};
 ghost use Rattle.class_refine.specs.Fields.{IsWhole};
 ghost use Rattle.net_model.specs.ClassTable.{class_count};
+ghost use Rattle.compact_tests.specs.Sharing.{shared_groups};
 ghost use Rattle.compact_tests.specs.Earlier.{class_before, NoneIsMarked, AreMarkedTo, HasRepeat, ShareEarlier};
 
 use class_refine::Classes;
@@ -30,17 +31,24 @@ fn before(classes: &Classes, class: u32, pattern: usize) -> u32
     }
 }
 
-/// Whether two numbers of one group have the same class in the list. No mark is set before and after.
-pub(crate) fn share_earlier(groups: &Classes, earlier: &[u32], marks: &mut [bool]) -> bool
+/// Whether two numbers of one group have the same class in the list. `shared` are the groups of two numbers or more. No mark
+/// is set before and after.
+pub(crate) fn share_earlier(
+    groups: &Classes,
+    shared: &[u32],
+    earlier: &[u32],
+    marks: &mut [bool],
+) -> bool
+    requires shared { shared.now ≡ shared_groups groups.now }
+    requires whole { IsWhole groups.now }
     requires numbers { length groups.now.class_of ≡ length earlier.now }
     requires classes { All (λ class. class < length marks.old) earlier.now }
     requires unmarked { NoneIsMarked marks.old }
     ensures value { IsTrue result ↔ ShareEarlier groups.now earlier.now }
     ensures unmarked { NoneIsMarked marks.new }
-    ensures whole { IsWhole groups.now }
 {
-    for group in 0..groups.count() {
-        if repeats(groups.members(group), earlier, marks) {
+    for group in shared {
+        if repeats(groups.members(*group), earlier, marks) {
             return true;
         }
     }

@@ -7,6 +7,7 @@ mod keeping;
 mod laws;
 mod lines;
 mod numbered;
+mod sharing;
 mod text;
 mod thin;
 mod thinning;

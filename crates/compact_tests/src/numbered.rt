@@ -1,10 +1,12 @@
 //! The numbers of the answers to a vector, as rows of bits.
 
-ghost use Rattle.std.specs.Prelude.{◌≡◌, ◌<◌, length, IfOk, OnOk, OnErr};
+ghost use Rattle.std.specs.Prelude.{◌≡◌, ◌<◌, length, All, AllPairs, IfOk, OnOk};
 ghost use Rattle.class_refine.specs.Fields.{IsWhole};
 ghost use Rattle.answer_numbers.specs.AnswerNumbers.{numbered_vectors};
+ghost use Rattle.compact_tests.specs.Sharing.{ListsSharing, shared_groups};
 ghost use Rattle.compact_tests.specs.Numbered.{AreNumberRows, HasParted};
 
+use crate::sharing::is_group;
 use answer_numbers::AnswerNumbers;
 use class_refine::Classes;
 use net_model::AnswerRows;
@@ -13,41 +15,54 @@ use std::alloc::{AllocError, Global};
 // As many bits as a number has.
 const WIDTH: usize = 32;
 
-/// Cuts each group by what the leads answer to the vector of a lane. Each lead is a number of the groups.
+/// Cuts each group by what the leads answer to the vector of a lane. `listed` are the leads' numbers in the groups, by place,
+/// among them each that isn't alone in its group. `shared` are the groups of two numbers or more, and there are so many numbers.
 pub(crate) fn part(
     alloc: Global,
     groups: &mut Classes,
+    shared: &[u32],
     numbers: &AnswerNumbers,
-    leads: usize,
+    listed: &[u32],
+    count: usize,
     lane: u32,
 ) -> Result<(), AllocError>
-    requires leads { leads ≡ length numbers.now.leads }
+    requires leads { length listed.now ≡ length numbers.now.leads }
+    requires listed { ListsSharing groups.old listed.now }
     requires whole { IsWhole groups.old }
-    requires groups { length groups.old.class_of ≡ leads }
+    requires shared { shared.now ≡ shared_groups groups.old }
+    requires count { count ≡ length groups.old.class_of }
     requires lane { lane < length (numbered_vectors numbers.now) }
-    ensures parted { OnOk result (HasParted numbers.now lane groups.old groups.new) }
+    ensures parted { OnOk result (HasParted numbers.now lane listed.now groups.old groups.new) }
     ensures numbers { length groups.new.class_of ≡ length groups.old.class_of }
 {
-    let rows = number_rows(alloc, numbers, leads, lane)?;
-    groups.refine(&rows)?;
+    let rows = number_rows(alloc, groups, numbers, listed, count, lane)?;
+    groups.refine_in(shared, &rows)?;
     Ok(())
 }
 
-// The number of each lead's answer to the vector of a lane, a row of bits for each.
+// For each of so many numbers a row of bits: for a listed one that isn't alone in its group, the number of its lead's answer to
+// the vector of a lane.
 fn number_rows(
     alloc: Global,
+    groups: &Classes,
     numbers: &AnswerNumbers,
-    leads: usize,
+    listed: &[u32],
+    count: usize,
     lane: u32,
 ) -> Result<AnswerRows, AllocError>
-    requires leads { leads ≡ length numbers.now.leads }
+    requires leads { length listed.now ≡ length numbers.now.leads }
+    requires count { count ≡ length groups.now.class_of }
+    requires within { All (λ number. number < count) listed.now }
+    requires ascend { AllPairs (λ x y. x < y) listed.now }
     requires lane { lane < length (numbered_vectors numbers.now) }
-    ensures { IfOk result (AreNumberRows numbers.now lane leads leads) }
+    ensures { IfOk result (AreNumberRows numbers.now lane groups.now listed.now count (length listed.now)) }
 {
-    let mut rows = AnswerRows::zeros(alloc, leads, WIDTH)?;
-    for place in 0..leads {
-        let number = numbers.number(lane, place);
-        rows.set_word(place, 0, u64::from(number));
+    let mut rows = AnswerRows::zeros(alloc, count, WIDTH)?;
+    for (place, own) in listed.iter().enumerate() {
+        if is_group(groups, groups.class_of(*own)) {
+            let number = numbers.number(lane, place);
+            rows.set_word(*own as usize, 0, u64::from(number));
+        }
     }
     Ok(rows)
 }

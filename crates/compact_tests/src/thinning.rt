@@ -1,22 +1,23 @@
 //! Which patterns the classes need, from the last to the first.
 
-ghost use Rattle.std.specs.Prelude.{◌≡◌, ◌+◌, ◌<◌, ◌≤◌, ◌^◌, ◌∷◌, ◌++◌, ℕ, List, None, Some, All, length, map, IfOk, OnOk, slice_range};
-ghost use Rattle.std.specs.List.{range_with_len};
+ghost use Rattle.std.specs.Prelude.{◌≡◌, ◌+◌, ◌<◌, ◌^◌, ℕ, Bool, List, All, length, IfOk, OnOk};
 ghost use Rattle.net_model.specs.FaultList.{faults as faults_of, fault_count};
-ghost use Rattle.net_model.specs.ClassTable.{class_count, representative};
-ghost use Rattle.answer_numbers.specs.AnswerNumbers.{answer_numbers_with, numbered_vectors};
+ghost use Rattle.net_model.specs.ClassTable.{class_count};
+ghost use Rattle.answer_numbers.specs.AnswerNumbers.{numbered_vectors};
 ghost use Rattle.compact_tests.specs.Remaining.{Answered, remaining};
-ghost use Rattle.compact_tests.specs.Thinning.{IsAnswered, AreAnswersOf, IsThinning, IsThinnedTo, IsTableOfAll, IsNumbered, AreLanesNumbered, AreRemainingPlaces, patterns_at};
+ghost use Rattle.compact_tests.specs.Sharing.{ListsSharing};
+ghost use Rattle.compact_tests.specs.Thinning.{IsAnswered, AreAnswersOf, IsThinning, IsThinnedTo, IsTableOfAll, IsNumbered, AreLanesNumbered, IsBlockOf, AreRemainingPlaces, patterns_at};
 
 use crate::earlier::{share_earlier, step_back};
 use crate::numbered::part;
+use crate::sharing::{lowest_of, shared_groups, sharing_numbers};
 use answer_numbers::AnswerNumbers;
 use class_refine::Classes;
 use dia_check::Checked;
 use fault_list::FaultList;
 use net_model::Circuit;
 use std::alloc::{AllocError, Global};
-use table_dicts::{fill_block, representatives};
+use table_dicts::fill_block;
 use word_sim::{Block, LANES};
 
 /// The patterns that remain, by their places, ascending. `faults` is the list of the circuit's faults.
@@ -30,9 +31,8 @@ pub(crate) fn needed_patterns(
     requires answered { AreAnswersOf circuit.now checked.now.patterns checked.now.classes }
     ensures { IfOk result (λ needed. AreRemainingPlaces circuit.now checked.now.patterns checked.now.classes needed.items) }
 {
-    let leads = representatives(alloc, &checked.classes)?;
     let mut thinning = Thinning::new(alloc, &checked.classes)?;
-    thinning.pass_all(alloc, circuit, faults, checked, leads.as_slice())?;
+    thinning.pass_all(alloc, circuit, faults, checked)?;
     Ok(thinning.into_needed())
 }
 
@@ -44,6 +44,8 @@ pub(crate) struct Thinning<'a> {
     pub(crate) earlier: Vec<u32>,
     // The classes in groups: those that the needed patterns don't tell apart.
     pub(crate) groups: Classes,
+    // The groups of two classes or more, ascending. A class that is alone in its group never matters again.
+    pub(crate) shared: Vec<u32>,
     // No mark is set: room for what is looked for in a group.
     pub(crate) marks: Vec<bool>,
     // The needed patterns, the last one first.
@@ -58,6 +60,7 @@ impl Drop for Thinning<'_> {
             classes: _,
             earlier: _,
             groups: _,
+            shared: _,
             marks: _,
             needed: _,
         } = self;
@@ -75,68 +78,95 @@ impl<'a> Thinning<'a> {
         for class in 0..count {
             earlier.push(class)?;
         }
+        let groups = Classes::new(alloc, count)?;
+        let shared = shared_groups(alloc, &groups)?;
         Ok(Thinning {
             classes,
             earlier,
-            groups: Classes::new(alloc, count)?,
+            groups,
+            shared,
             marks: vec![in alloc; false; count as usize]?,
             needed: Vec::new(alloc),
         })
     }
 
-    // Goes back over all patterns. There is a lead for each class, its lowest number.
+    // Goes back over all patterns.
     fn pass_all(
         &mut self,
         alloc: Global,
         circuit: &Circuit,
         faults: &FaultList,
         checked: &Checked,
-        leads: &[u32],
     ) -> Result<(), AllocError>
         requires faults { faults.now ≡ faults_of circuit.now }
         requires answered { AreAnswersOf circuit.now checked.now.patterns checked.now.classes }
-        requires leads { leads.now ≡ map (representative checked.now.classes) (range_with_len 0 (class_count checked.now.classes)) }
-        requires known { All (λ lead. lead < fault_count circuit.now) leads.now }
-        requires few { length leads.now < 2 ^ 32 }
+        requires numbers { length checked.now.classes.class_of ≡ fault_count circuit.now }
         requires thinning { IsThinning checked.now.classes self.old }
         requires begun { (numbers : ℕ) (all : List Answered) → IsTableOfAll numbers checked.now.classes all → IsThinnedTo numbers checked.now.classes all (length all) self.old }
         ensures classes { self.new.classes ≡ self.old.classes }
         ensures thinned { OnOk result ((all : List Answered) → IsAnswered circuit.now checked.now.patterns checked.now.classes all → IsThinnedTo (fault_count circuit.now) checked.now.classes all 0 self.new) }
     {
         let vectors = checked.patterns.as_slice();
-        let mut numbers = AnswerNumbers::new(alloc, circuit, faults, leads)?;
         let mut block = Block::new(alloc, circuit.sources())?;
         let mut end = vectors.len();
         while end > 0 {
             let first = end.saturating_sub(LANES as usize);
             fill_block(&mut block, vectors, first, end);
-            numbers.number_block(alloc, &block)?;
-            self.pass_block(alloc, &numbers, first, block.live())?;
+            self.pass_block(alloc, circuit, faults, &block, first)?;
             end = first;
         }
         Ok(())
     }
 
-    // Goes back over the patterns of a block, so many from the first one on.
+    // Goes back over the patterns of a block, from the first one on. Only classes that aren't told apart from all others are simulated.
     fn pass_block(
         &mut self,
         alloc: Global,
+        circuit: &Circuit,
+        faults: &FaultList,
+        block: &Block,
+        first: usize,
+    ) -> Result<(), AllocError>
+        requires faults { faults.now ≡ faults_of circuit.now }
+        requires sources { block.now.sources ≡ circuit.now.sources }
+        requires numbers { length self.old.classes.now.class_of ≡ fault_count circuit.now }
+        requires thinning { IsThinning self.old.classes.now self.old }
+        requires within { first + length block.now.vectors < 2 ^ 64 }
+        ensures classes { self.new.classes ≡ self.old.classes }
+        ensures thinning { OnOk result (IsThinning self.new.classes.now self.new) }
+        ensures passed { OnOk result ((patterns : List (List Bool)) (all : List Answered) → IsAnswered circuit.now patterns self.old.classes.now all → IsBlockOf patterns first block.now.vectors → IsThinnedTo (fault_count circuit.now) self.old.classes.now all (first + length block.now.vectors) self.old → IsThinnedTo (fault_count circuit.now) self.old.classes.now all first self.new) }
+    {
+        let listed = sharing_numbers(alloc, &self.groups, self.classes.count())?;
+        let leads = lowest_of(alloc, self.classes, listed.as_slice())?;
+        let mut numbers = AnswerNumbers::new(alloc, circuit, faults, leads.as_slice())?;
+        numbers.number_block(alloc, block)?;
+        self.pass_lanes(alloc, &numbers, listed.as_slice(), first, block.live())?;
+        Ok(())
+    }
+
+    // Goes back over the lanes of a block, so many, of which lane 0 has the vector of the first pattern. `listed` are the classes
+    // of the leads.
+    fn pass_lanes(
+        &mut self,
+        alloc: Global,
         numbers: &AnswerNumbers,
+        listed: &[u32],
         first: usize,
         count: u32,
     ) -> Result<(), AllocError>
         requires thinning { IsThinning self.old.classes.now self.old }
         requires count { count ≡ length (numbered_vectors numbers.now) }
-        requires leads { length numbers.now.leads ≡ class_count self.old.classes.now }
+        requires leads { length listed.now ≡ length numbers.now.leads }
+        requires listed { ListsSharing self.old.groups listed.now }
         requires within { first + count < 2 ^ 64 }
         ensures classes { self.new.classes ≡ self.old.classes }
         ensures thinning { OnOk result (IsThinning self.new.classes.now self.new) }
-        ensures passed { OnOk result ((n : ℕ) (all : List Answered) → IsTableOfAll n self.old.classes.now all → AreLanesNumbered numbers.now self.old.classes.now all first count → IsThinnedTo n self.old.classes.now all (first + count) self.old → IsThinnedTo n self.old.classes.now all first self.new) }
+        ensures passed { OnOk result ((n : ℕ) (all : List Answered) → IsTableOfAll n self.old.classes.now all → AreLanesNumbered numbers.now listed.now self.old.classes.now all first count → IsThinnedTo n self.old.classes.now all (first + count) self.old → IsThinnedTo n self.old.classes.now all first self.new) }
     {
         let mut lane = count;
         while lane > 0 {
             lane -= 1;
-            self.pass(alloc, numbers, first + lane as usize, lane)?;
+            self.pass(alloc, numbers, listed, first + lane as usize, lane)?;
         }
         Ok(())
     }
@@ -146,23 +176,39 @@ impl<'a> Thinning<'a> {
         &mut self,
         alloc: Global,
         numbers: &AnswerNumbers,
+        listed: &[u32],
         pattern: usize,
         lane: u32,
     ) -> Result<(), AllocError>
         requires thinning { IsThinning self.old.classes.now self.old }
         requires lane { lane < length (numbered_vectors numbers.now) }
-        requires leads { length numbers.now.leads ≡ class_count self.old.classes.now }
+        requires leads { length listed.now ≡ length numbers.now.leads }
+        requires listed { ListsSharing self.old.groups listed.now }
         ensures classes { self.new.classes ≡ self.old.classes }
         ensures thinning { OnOk result (IsThinning self.new.classes.now self.new) }
-        ensures passed { OnOk result ((n : ℕ) (all : List Answered) → IsTableOfAll n self.old.classes.now all → IsNumbered numbers.now lane self.old.classes.now all pattern → IsThinnedTo n self.old.classes.now all (pattern + 1) self.old → IsThinnedTo n self.old.classes.now all pattern self.new) }
+        ensures listed { OnOk result (ListsSharing self.new.groups listed.now) }
+        ensures passed { OnOk result ((n : ℕ) (all : List Answered) → IsTableOfAll n self.old.classes.now all → IsNumbered numbers.now lane listed.now self.old.classes.now all pattern → IsThinnedTo n self.old.classes.now all (pattern + 1) self.old → IsThinnedTo n self.old.classes.now all pattern self.new) }
     {
         step_back(self.earlier.as_mut_slice(), self.classes, pattern);
-        if share_earlier(
+        let needed = share_earlier(
             &self.groups,
+            self.shared.as_slice(),
             self.earlier.as_slice(),
             self.marks.as_mut_slice(),
-        ) {
-            part(alloc, &mut self.groups, numbers, self.earlier.len(), lane)?;
+        );
+        if needed {
+            let count = self.earlier.len();
+            let shared = self.shared.as_slice();
+            part(
+                alloc,
+                &mut self.groups,
+                shared,
+                numbers,
+                listed,
+                count,
+                lane,
+            )?;
+            self.shared = shared_groups(alloc, &self.groups)?;
             self.needed.push(pattern)?;
         }
         Ok(())
@@ -177,6 +223,7 @@ impl<'a> Thinning<'a> {
             classes: _,
             earlier: _,
             groups: _,
+            shared: _,
             marks: _,
             mut needed,
         } = self;

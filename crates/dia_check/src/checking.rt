@@ -69,7 +69,8 @@ fn check_for<S: Shelf>(
     reader.finish(alloc, subject)
 }
 
-const PIECE: usize = 4096;
+/// How many bytes are looked at at a time.
+pub(crate) const PIECE: usize = 4096;
 
 // Reads the rest of the opened file, up to one byte beyond the limit.
 fn read_rest<S: Shelf>(

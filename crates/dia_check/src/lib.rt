@@ -4,9 +4,11 @@
 mod answer;
 mod checker;
 mod checking;
+mod in_memory;
 mod progress;
 mod reader;
 mod stop;
 
 pub use answer::{Checked, FileFault};
 pub use checking::check;
+pub use in_memory::check_text;

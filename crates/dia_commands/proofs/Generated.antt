@@ -1,5 +1,5 @@
 -- The ends of plans: results, and texts that are printed.
-use Rattle.std.proofs.Common.{◌≡◌, ℕ, List, [], ◌∷◌, ◌++◌, None, Ok, Err, IsTrue, refl, sym, ap, subst, ◌∙◌, inl, inr, arith}
+use Rattle.std.proofs.Common.{◌≡◌, ℕ, List, [], ◌∷◌, ◌++◌, None, Ok, Err, IsTrue, refl, sym, ap, subst, inl, inr}
 use Rattle.diag_shelf.specs.declared.shelf.ShelfFault.{ShelfFault}
 use Rattle.diag_shelf.specs.declared.shelf.ShelfFault.TheVariants.{Failed}
 use Rattle.diag_shelf.specs.World.{State}

@@ -2,6 +2,7 @@ pub mod HandedOn
 pub mod Runs
 pub mod Followed
 pub mod ReadLemmas
+pub mod ResultReads
 pub mod NetlistLemmas
 pub mod Refusals
 pub mod Generated

@@ -12,9 +12,10 @@ use Rattle.dict_file.specs.Spelling.{IsFileOf}
 use Rattle.dict_file.specs.Reading.{IsRefusedBy}
 use Rattle.diagnose.specs.declared.fault.LogKind.{LogKind}
 use Rattle.diagnose.specs.Lines.{LineForm, RestRule, LinesRefused, too_long, at_line, line_number}
+use Rattle.ranked_diag.specs.PartialLog as partial
 use Rattle.request_words.specs.Request.{Text}
 use Rattle.dia_commands.specs.Dictionaries.{IsDictionaryFile, IsRefusedDictionary}
-use Rattle.dia_commands.specs.Logs.{IsRefusedBySome, IsLogFor, IsListFor}
+use Rattle.dia_commands.specs.Logs.{IsRefusedBySome, IsLogFor, IsPartialFor, IsRefusedPartial, IsListFor}
 
 pub read_whole : (limit : ℕ) (all : List ℕ) → length all ≤ limit → read_of limit all ≡ all
 read_whole limit all h = take_all (limit + 1) all (omega arith)
@@ -69,6 +70,25 @@ refused_text_read {line} {width} {Rest} {all} {bytes} {console} e is = record { 
 
 pub log_read : (d : Dict) {all bytes : Text} {observed : List (List Bool)} → bytes ≡ read_of 1073741824 all → IsLogFor d bytes observed → IsLogFor d all observed
 log_read d {all} {bytes} {observed} e is = said_of_file (λ (b : Text). IsLogFor d b observed) (λ (log : IsLogFor d bytes observed). log.short) e is
+
+-- ---- partial logs
+
+partial_text_read : {patterns positions : ℕ} {all bytes : Text} {kind : LogKind} {number : ℕ} → bytes ≡ read_of 1073741824 all → partial.PartialRefused patterns positions bytes kind number → partial.PartialRefused patterns positions all kind number
+partial_text_read {patterns} {positions} {all} {bytes} {kind} {number} e refused = elim (cases_lt 1073741824 (length all)) [
+  | inl long ↦ elim refused [
+    | partial.too_long over is at ↦ partial.too_long long is (at ∙ ap (λ (t : Text). line_number t 1073741824) e ∙ line_read 1073741824 all)
+    | partial.at_line before rest short are begins wrong at ↦ absurd (long_read 1073741824 all bytes e long short)
+  ]
+  | inr short ↦ subst (λ (b : Text). partial.PartialRefused patterns positions b kind number) (e ∙ read_whole 1073741824 all short) refused
+]
+
+pub refused_partial_read : (d : Dict) {all bytes console : Text} → bytes ≡ read_of 1073741824 all → IsRefusedPartial d bytes console → IsRefusedPartial d all console
+refused_partial_read d {all} {bytes} {console} e is = record { kind = is.kind; line = is.line; refused = partial_text_read e is.refused; console_is = is.console_is }
+
+pub partial_read : (d : Dict) {all bytes : Text} {lines : List partial.Line} → bytes ≡ read_of 1073741824 all → IsPartialFor d bytes lines → IsPartialFor d all lines
+partial_read d {all} {bytes} {lines} e is = said_of_file (λ (b : Text). IsPartialFor d b lines) (λ (log : IsPartialFor d bytes lines). log.short) e is
+
+-- ---- lists of vectors
 
 pub list_read : (c : Circuit) {all bytes : Text} {vectors : List (List Bool)} → bytes ≡ read_of 1073741824 all → IsListFor c bytes vectors → IsListFor c all vectors
 list_read c {all} {bytes} {vectors} e is = said_of_file (λ (b : Text). IsListFor c b vectors) (λ (list : IsListFor c bytes vectors). list.short) e is

@@ -5,6 +5,8 @@ pub mod Netlists
 pub mod Results
 pub mod Dictionaries
 pub mod Logs
+pub mod Compactions
+pub mod Rankings
 pub mod Ending
 pub mod Outcome
 pub mod Plan

@@ -1,10 +1,11 @@
--- What becomes of the bytes of a tester's log and of a list of vectors.
+-- What becomes of the bytes of a tester's log, whole or partial, and of a list of vectors.
 use Rattle.std.specs.Prelude.{◌≡◌, ℕ, Bool, List}
 use Rattle.net_model.specs.Circuit.{Circuit}
 use Rattle.table_dicts.specs.declared.dict.Dict.{Dict}
 use Rattle.diagnose.specs.declared.fault.LogKind.{LogKind}
 use Rattle.diagnose.specs.LogText.{IsLog, TesterLogRefused}
 use Rattle.diagnose.specs.VectorText.{IsVectorList, VectorsRefused}
+use Rattle.ranked_diag.specs.PartialLog.{Line, IsPartialLog, PartialRefused}
 use Rattle.request_words.specs.Request.{Text}
 use Rattle.dia_commands.specs.Texts.{log_text}
 
@@ -23,6 +24,15 @@ IsLogFor d bytes observed = IsLog d.patterns d.positions bytes observed
 
 abbrev pub IsRefusedLog : Dict → Text → Text → Type 0
 IsRefusedLog d bytes console = IsRefusedBySome (TesterLogRefused d.patterns d.positions bytes) console
+
+-- ---- partial logs
+
+-- The bytes are the partial log of these lines, for a dictionary.
+abbrev pub IsPartialFor : Dict → Text → List Line → Type 0
+IsPartialFor d bytes lines = IsPartialLog d.patterns d.positions bytes lines
+
+abbrev pub IsRefusedPartial : Dict → Text → Text → Type 0
+IsRefusedPartial d bytes console = IsRefusedBySome (PartialRefused d.patterns d.positions bytes) console
 
 -- ---- lists of vectors
 

@@ -1,7 +1,7 @@
 -- What a request writes.
 use Rattle.std.specs.Prelude.{List, [], ◌∷◌, Option, Some, None}
 use Rattle.result_file.specs.declared.record.Budgets.{Budgets}
-use Rattle.request_words.specs.Request.{Text, Request, gen, check, make_dict, convert, diagnose, list_faults, simulate, synth}
+use Rattle.request_words.specs.Request.{Text, Request, gen, check, make_dict, convert, diagnose, list_faults, simulate, synth, compact, rank}
 
 -- the budgets of `synth`
 abbrev pub synth_budgets : Budgets
@@ -18,3 +18,5 @@ outputs_of (Some (diagnose dict log)) = []
 outputs_of (Some (list_faults bench)) = []
 outputs_of (Some (simulate bench vectors)) = []
 outputs_of (Some (synth n bench result)) = bench ∷ result ∷ []
+outputs_of (Some (compact bench result new)) = new ∷ []
+outputs_of (Some (rank dict log within)) = []

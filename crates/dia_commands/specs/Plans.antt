@@ -6,7 +6,7 @@ use Rattle.sim_listing.specs.SimText.{IsSimText}
 use Rattle.result_file.specs.declared.record.Budgets.{Budgets}
 use Rattle.result_file.specs.declared.record.Summary.{Summary}
 use Rattle.dia_gen.specs.Made.{IsMade, IsCutFile}
-use Rattle.request_words.specs.Request.{Text, Request, gen, check, make_dict, convert, diagnose, list_faults, simulate, synth}
+use Rattle.request_words.specs.Request.{Text, Request, gen, check, make_dict, convert, diagnose, list_faults, simulate, synth, compact, rank}
 use Rattle.dia_commands.specs.Outputs.{synth_budgets}
 use Rattle.synth_netlist.specs.Synth.{synth_text}
 use Rattle.dia_commands.specs.Texts.{summary_text, not_understood_text}
@@ -15,7 +15,10 @@ use Rattle.dia_commands.specs.Netlists.{IsDesign, IsRefused}
 use Rattle.dia_commands.specs.Results.{IsResult, IsRefusedResult, IsValidText}
 use Rattle.table_dicts.specs.declared.dict.Dict.{Dict}
 use Rattle.dia_commands.specs.Dictionaries.{IsDictionaryFile, IsRefusedDictionary, IsMadeDictionary, IsConverted, IsDiagnosis}
-use Rattle.dia_commands.specs.Logs.{IsLogFor, IsRefusedLog, IsListFor, IsRefusedList}
+use Rattle.dia_commands.specs.Compactions.{IsMadeThin}
+use Rattle.ranked_diag.specs.PartialLog.{Line}
+use Rattle.dia_commands.specs.Logs.{IsLogFor, IsRefusedLog, IsPartialFor, IsRefusedPartial, IsListFor, IsRefusedList}
+use Rattle.dia_commands.specs.Rankings.{IsRankText}
 use Rattle.dia_commands.specs.declared.ending.FileKind.TheVariants as kind
 use Rattle.dia_commands.specs.Ending.{done, not_understood}
 use Rattle.dia_commands.specs.Outcome.{Outcome, said, saved, IsCut}
@@ -38,6 +41,10 @@ with_dictionary dict next = judged dict kind.Dictionary Dict IsRefusedDictionary
 -- a log for a dictionary
 abbrev pub with_log : Text → Dict → (List (List Bool) → Plan) → Plan
 with_log log d next = judged log kind.Log (List (List Bool)) (IsRefusedLog d) (IsLogFor d) next
+
+-- a partial log for a dictionary
+abbrev pub with_partial : Text → Dict → (List Line → Plan) → Plan
+with_partial log d next = judged log kind.Log (List Line) (IsRefusedPartial d) (IsPartialFor d) next
 
 -- a list of vectors for a circuit
 abbrev pub with_vectors : Text → Circuit → (List (List Bool) → Plan) → Plan
@@ -95,3 +102,5 @@ plan_of (Some (diagnose dict log)) = with_dictionary dict (λ d. with_log log d 
 plan_of (Some (list_faults bench)) = with_netlist bench (λ design. says (IsFaultsText design))
 plan_of (Some (simulate bench vectors)) = with_netlist bench (λ design. with_vectors vectors design.circuit (λ list. says (IsSimText design.circuit list)))
 plan_of (Some (synth n bench result)) = makes_both bench (synth_text n) result synth_budgets
+plan_of (Some (compact bench result new)) = with_netlist bench (λ design. with_result result design.circuit (λ file. makes_file new (IsMadeThin design.circuit file)))
+plan_of (Some (rank dict log within)) = with_dictionary dict (λ d. with_partial log d (λ lines. says (IsRankText d lines within)))

@@ -7,7 +7,7 @@ use Rattle.net_model.specs.Circuit.{Circuit}
 use Rattle.result_file.specs.declared.record.Budgets.{Budgets}
 use Rattle.result_file.specs.declared.record.Summary.{Summary}
 use Rattle.dia_gen.specs.Made.{IsMade}
-use Rattle.request_words.specs.Request.{Text, Request, gen, check, make_dict, convert, diagnose, list_faults, simulate, synth}
+use Rattle.request_words.specs.Request.{Text, Request, gen, check, make_dict, convert, diagnose, list_faults, simulate, synth, compact, rank}
 use Rattle.dia_commands.specs.declared.ending.FileKind.TheVariants as kind
 use Rattle.dia_commands.specs.Ending.{Ending, done, not_understood, refused, read_failed, write_failed, no_memory, IsDecided}
 use Rattle.dia_commands.specs.Outputs.{outputs_of}
@@ -40,6 +40,8 @@ endings_of (Some (diagnose dict log)) = done ∷ refused kind.Dictionary ∷ ref
 endings_of (Some (list_faults bench)) = done ∷ refused kind.Netlist ∷ read_endings
 endings_of (Some (simulate bench vectors)) = done ∷ refused kind.Netlist ∷ refused kind.Log ∷ read_endings
 endings_of (Some (synth n bench result)) = done ∷ broken_endings
+endings_of (Some (compact bench result new)) = done ∷ refused kind.Netlist ∷ refused kind.Result ∷ read_endings
+endings_of (Some (rank dict log within)) = done ∷ refused kind.Dictionary ∷ refused kind.Log ∷ read_endings
 
 -- No count falls, and what a shelf tells and whether it is sure stay.
 pub record Stays (old new : State) : Type 0 where

@@ -39,14 +39,22 @@ after_blank name = 32 ∷ name
 unfoldable pub loop_text : Place → List Text → Text
 loop_text place names = loop_start place ++ flat_map after_blank names ++ codes "\n"
 
+-- the counts of a result
+unfoldable pub summary_counts : Summary → Text
+summary_counts s =
+    codes "numbers " ++ (decimal s.numbers ++ (codes " patterns " ++ (decimal s.patterns ++ (codes " classes " ++ (decimal s.classes ++ (codes " equal " ++ (decimal s.equal ++ (codes " open " ++ decimal s.spent))))))))
+
 -- what a result amounts to
 unfoldable pub summary_text : Summary → Text
-summary_text s =
-    codes "numbers " ++ (decimal s.numbers ++ (codes " patterns " ++ (decimal s.patterns ++ (codes " classes " ++ (decimal s.classes ++ (codes " equal " ++ (decimal s.equal ++ (codes " open " ++ (decimal s.spent ++ codes "\n")))))))))
+summary_text s = summary_counts s ++ codes "\n"
 
 -- what a valid result amounts to
 unfoldable pub valid_text : Summary → Text
 valid_text s = codes "valid " ++ summary_text s
+
+-- what is left of a result, and how many patterns it has fewer than before
+unfoldable pub dropped_text : Summary → ℕ → Text
+dropped_text s dropped = summary_counts s ++ (codes " dropped " ++ (decimal dropped ++ codes "\n"))
 
 -- ---- refused results
 
@@ -141,3 +149,17 @@ listed_text count = codes "listed " ++ (decimal count ++ codes "\n")
 -- numbers, one to a line, and how many they are
 unfoldable pub numbers_text : List ℕ → Text
 numbers_text numbers = flat_map number_line numbers ++ listed_text (length numbers)
+
+-- ---- rankings
+
+-- a number, and its count, which stands first in a rank
+unfoldable pub rank_line : ℕ × ℕ → Text
+rank_line rank = decimal rank.1 ++ (codes " " ++ (decimal rank.0 ++ codes "\n"))
+
+-- how many numbers are ranked, and the least count
+unfoldable pub least_text : ℕ → ℕ → Text
+least_text listed least = codes "listed " ++ (decimal listed ++ (codes " least " ++ (decimal least ++ codes "\n")))
+
+-- ranked numbers, one to a line, how many they are, and the least count
+unfoldable pub ranks_text : List (ℕ × ℕ) → ℕ → Text
+ranks_text ranks least = flat_map rank_line ranks ++ least_text (length ranks) least

@@ -2,6 +2,7 @@
 #![tactic(auto)]
 
 mod checks;
+mod compacts;
 mod converts;
 mod diagnoses;
 mod dictionaries;
@@ -13,6 +14,7 @@ mod listing;
 mod logs;
 mod makes_dicts;
 mod netlists;
+mod rankings;
 mod results;
 mod sims;
 mod synths;
@@ -20,6 +22,7 @@ mod texts;
 mod words;
 
 pub use checks::check_result;
+pub use compacts::compact_result;
 pub use converts::convert_file;
 pub use diagnoses::diagnose_log;
 pub use ending::{FileKind, RunFault, one_ending_each, status_of};
@@ -27,6 +30,7 @@ pub use generates::generate_file;
 pub use laws::{check_is_written_out, gen_is_written_out};
 pub use listing::list_faults;
 pub use makes_dicts::make_dictionary;
+pub use rankings::rank_log;
 pub use sims::simulate;
 pub use synths::synthesize;
 pub use words::refuse_words;

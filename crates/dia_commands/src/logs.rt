@@ -1,9 +1,10 @@
-//! From the name of a log or a list of vectors to what it has, or to the end of the run.
+//! From the name of a log, whole or partial, or a list of vectors to what it has, or to the end of the run.
 
 ghost use Rattle.std.specs.Prelude.{Err, IfErr, IfOk};
 ghost use Rattle.table_dicts.specs.Rows.{AreRows};
 ghost use Rattle.net_model.specs.Rows.{AreWide};
-ghost use Rattle.dia_commands.specs.Logs.{IsLogFor, IsRefusedLog, IsListFor, IsRefusedList};
+ghost use Rattle.ranked_diag.specs.PartialLog.{ArePartial};
+ghost use Rattle.dia_commands.specs.Logs.{IsLogFor, IsRefusedLog, IsPartialFor, IsRefusedPartial, IsListFor, IsRefusedList};
 ghost use Rattle.dia_commands.specs.declared.ending.FileKind.TheVariants as file;
 ghost use Rattle.dia_commands.specs.Ending.{refused};
 ghost use Rattle.dia_commands.specs.Outcome.{said, IsPartOf};
@@ -17,10 +18,11 @@ use crate::texts::log_text;
 use diag_shelf::Shelf;
 use diagnose::{LogFault, LogKind, read_log, read_vectors};
 use net_model::{AnswerRows, Circuit, Vectors};
+use ranked_diag::{Partial, read_partial};
 use std::alloc::Global;
 use table_dicts::Dict;
 
-// The most bytes that a log or a list of vectors may have.
+// The most bytes that a log, whole or partial, or a list of vectors may have.
 const TEXT_LIMIT: u64 = 1_073_741_824;
 
 /// Reads and judges the log under a name. Where it isn't accepted, the console says why, and the run is over.
@@ -37,6 +39,25 @@ pub(crate) fn read_observed<S: Shelf>(
     let bytes = read_file(alloc, shelf, name, TEXT_LIMIT)?;
     match read_log(alloc, dict, &bytes) {
         Ok(observed) => Ok(observed),
+        Err(LogFault::At(kind, line)) => Err(say_refusal(alloc, shelf, kind, line)),
+        Err(LogFault::NoMemory) => Err(RunFault::NoMemory),
+    }
+}
+
+/// Reads and judges the partial log under a name. Where it isn't accepted, the console says why, and the run is over.
+pub(crate) fn read_partial_log<S: Shelf>(
+    alloc: Global,
+    shelf: &mut S,
+    dict: &Dict,
+    name: &str,
+) -> Result<Partial, RunFault>
+    ensures lines { IfOk result (ArePartial dict.now.patterns dict.now.positions) }
+    ensures ok { IfOk result (λ partial. WasAccepted name.now (IsPartialFor dict.now) partial (S.state shelf.old) (S.state shelf.new)) }
+    ensures err { IfErr result (λ why. IsOver name.now file.Log (IsRefusedPartial dict.now) why (S.state shelf.old) (S.state shelf.new)) }
+{
+    let bytes = read_file(alloc, shelf, name, TEXT_LIMIT)?;
+    match read_partial(alloc, dict, &bytes) {
+        Ok(partial) => Ok(partial),
         Err(LogFault::At(kind, line)) => Err(say_refusal(alloc, shelf, kind, line)),
         Err(LogFault::NoMemory) => Err(RunFault::NoMemory),
     }

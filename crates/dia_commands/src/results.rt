@@ -1,9 +1,10 @@
-//! From a result's name to what it states, or to the end of the run.
+//! From a result's name to what it states, and to its bytes, or to the end of the run.
 
 ghost use Rattle.std.specs.Prelude.{List, Err, IfErr, IfOk};
 ghost use Rattle.result_file.specs.declared.record.Record.{Record};
 ghost use Rattle.result_file.specs.Spelling.{text_of};
 ghost use Rattle.dia_check.specs.Accepted.{IsAccepted};
+ghost use Rattle.dia_check.specs.Reader.{IsAcceptedText};
 ghost use Rattle.dia_commands.specs.declared.ending.FileKind.TheVariants as kind;
 ghost use Rattle.dia_commands.specs.Ending.{refused};
 ghost use Rattle.dia_commands.specs.Outcome.{said, IsPartOf};
@@ -13,9 +14,9 @@ ghost use Rattle.dia_commands.specs.Steps.{WasAccepted, IsOver};
 ghost use Rattle.dia_commands.specs.Texts.{result_text};
 
 use crate::ending::{FileKind, RunFault};
-use crate::ends::{read_fault, refuse_by};
+use crate::ends::{read_fault, read_file, refuse_by};
 use crate::texts::result_text;
-use dia_check::{Checked, FileFault, check};
+use dia_check::{Checked, FileFault, check, check_text};
 use diag_shelf::Shelf;
 use net_model::Circuit;
 use result_file::ResultFault;
@@ -36,6 +37,36 @@ pub(crate) fn read_result<S: Shelf>(
         Ok(checked) => Ok(checked),
         Err(FileFault::Result(fault)) => Err(say_refusal(alloc, shelf, fault)),
         Err(FileFault::Failed) => Err(RunFault::ReadFailed),
+        Err(FileFault::NoMemory) => Err(RunFault::NoMemory),
+    }
+}
+
+// The most bytes that a result may have.
+const RESULT_LIMIT: u64 = 1_099_511_627_776;
+
+/// A valid result: all of its bytes, and what they state.
+#[derive(Drop)]
+pub(crate) struct WholeResult {
+    pub bytes: Vec<u8>,
+    pub checked: Checked,
+}
+
+/// Reads all of the result under a name, and judges it. Where it isn't valid, the console says why, and the run is over.
+pub(crate) fn read_whole_result<S: Shelf>(
+    alloc: Global,
+    shelf: &mut S,
+    circuit: &Circuit,
+    name: &str,
+) -> Result<WholeResult, RunFault>
+    ensures accepted { IfOk result (λ whole. IsAcceptedText circuit.now whole.bytes.items whole.checked) }
+    ensures ok { IfOk result (λ whole. WasAccepted name.now (IsResult circuit.now) whole.bytes.items (S.state shelf.old) (S.state shelf.new)) }
+    ensures err { IfErr result (λ why. IsOver name.now kind.Result (IsRefusedResult circuit.now) why (S.state shelf.old) (S.state shelf.new)) }
+{
+    let bytes = read_file(alloc, shelf, name, RESULT_LIMIT)?;
+    match check_text(alloc, circuit, &bytes) {
+        Ok(checked) => Ok(WholeResult { bytes, checked }),
+        Err(FileFault::Result(fault)) => Err(say_refusal(alloc, shelf, fault)),
+        Err(FileFault::Failed) => unreachable!(),
         Err(FileFault::NoMemory) => Err(RunFault::NoMemory),
     }
 }

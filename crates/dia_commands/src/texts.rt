@@ -1,7 +1,7 @@
 //! The lines of the console.
 
-ghost use Rattle.std.specs.Prelude.{◌≡◌, IfOk, string_bytes};
-ghost use Rattle.dia_commands.specs.Texts.{kind_name, refusal_text, loop_start, line_start, count_text, summary_text, valid_text, evidence_rule, evidence_text, result_rule, result_text, dictionary_text, apart_text, groups_text, log_rule, log_text, number_line, listed_text};
+ghost use Rattle.std.specs.Prelude.{◌≡◌, ◌++◌, IfOk, OnOk, string_bytes};
+ghost use Rattle.dia_commands.specs.Texts.{kind_name, refusal_text, loop_start, line_start, count_text, summary_counts, summary_text, valid_text, dropped_text, evidence_rule, evidence_text, result_rule, result_text, dictionary_text, apart_text, groups_text, log_rule, log_text, number_line, listed_text, rank_line, least_text};
 
 use bench_reader::{NetKind, Place};
 use diagnose::LogKind;
@@ -58,10 +58,10 @@ pub(crate) fn count_text(alloc: Global, faults: u32, roots: u32) -> Result<Strin
     format!(in alloc; "faults {faults} roots {roots}\n")
 }
 
-/// What a result amounts to.
-#[tactic(auto, unfolding(crate::specs::Texts::summary_text))]
-pub(crate) fn summary_text(alloc: Global, summary: Summary) -> Result<String, AllocError>
-    ensures { IfOk result (λ text. string_bytes text ≡ summary_text summary) }
+// The counts of a result.
+#[tactic(auto, unfolding(crate::specs::Texts::summary_counts))]
+fn summary_counts(alloc: Global, summary: Summary) -> Result<String, AllocError>
+    ensures { IfOk result (λ text. string_bytes text ≡ summary_counts summary) }
 {
     let Summary {
         numbers,
@@ -71,8 +71,17 @@ pub(crate) fn summary_text(alloc: Global, summary: Summary) -> Result<String, Al
         spent,
     } = summary;
     format!(in alloc;
-        "numbers {numbers} patterns {patterns} classes {classes} equal {equal} open {spent}\n"
+        "numbers {numbers} patterns {patterns} classes {classes} equal {equal} open {spent}"
     )
+}
+
+/// What a result amounts to.
+#[tactic(auto, unfolding(crate::specs::Texts::summary_text))]
+pub(crate) fn summary_text(alloc: Global, summary: Summary) -> Result<String, AllocError>
+    ensures { IfOk result (λ text. string_bytes text ≡ summary_text summary) }
+{
+    let counts = summary_counts(alloc, summary)?;
+    format!(in alloc; "{counts}\n")
 }
 
 /// What a valid result amounts to.
@@ -82,6 +91,19 @@ pub(crate) fn valid_text(alloc: Global, summary: Summary) -> Result<String, Allo
 {
     let counts = summary_text(alloc, summary)?;
     format!(in alloc; "valid {counts}")
+}
+
+/// What is left of a result, and how many patterns it has fewer than before.
+#[tactic(auto, unfolding(crate::specs::Texts::dropped_text))]
+pub(crate) fn dropped_text(
+    alloc: Global,
+    summary: Summary,
+    dropped: u32,
+) -> Result<String, AllocError>
+    ensures { IfOk result (λ text. string_bytes text ≡ dropped_text summary dropped) }
+{
+    let counts = summary_counts(alloc, summary)?;
+    format!(in alloc; "{counts} dropped {dropped}\n")
 }
 
 /// Why a result is refused.
@@ -206,4 +228,20 @@ pub(crate) fn listed_text(alloc: Global, count: usize) -> Result<String, AllocEr
     ensures { IfOk result (λ text. string_bytes text ≡ listed_text count) }
 {
     format!(in alloc; "listed {count}\n")
+}
+
+/// Appends a number, and its count.
+#[tactic(auto, unfolding(crate::specs::Texts::rank_line))]
+pub(crate) fn push_rank(text: &mut String, count: u64, number: u32) -> Result<(), AllocError>
+    ensures { OnOk result (string_bytes text.new ≡ string_bytes text.old ++ rank_line (count, number)) }
+{
+    writeln!(text, "{number} {count}")
+}
+
+/// Appends how many numbers are ranked, and the least count.
+#[tactic(auto, unfolding(crate::specs::Texts::least_text))]
+pub(crate) fn push_least(text: &mut String, listed: usize, least: u64) -> Result<(), AllocError>
+    ensures { OnOk result (string_bytes text.new ≡ string_bytes text.old ++ least_text listed least) }
+{
+    writeln!(text, "listed {listed} least {least}")
 }

@@ -1,5 +1,5 @@
 -- What follows from a run's record, clause by clause.
-use Rattle.std.proofs.Common.{IsTrue, ◌≡◌, ◌≢◌, ◌⊎◌, ℕ, List, [], ◌∷◌, ◌++◌, Option, Some, None, Ok, Err, refl, sym, ap, subst, ◌∙◌, inl, inr, arith}
+use Rattle.std.proofs.Common.{IsTrue, ◌≡◌, ◌≢◌, ◌⊎◌, List, [], ◌∷◌, ◌++◌, Option, Some, None, Ok, Err, refl, sym, ap, subst, ◌∙◌, inl, inr}
 use Rattle.std.specs.FinMap.{get, insert}
 use Rattle.diag_shelf.specs.World.{Files, World, State}
 use Rattle.diag_shelf.proofs.FileMaps.{get_at_insert, get_off_insert}
@@ -12,14 +12,14 @@ use Rattle.result_file.specs.Summary.{summary_of}
 use Rattle.result_file.specs.Laws.{ValidIsTrue}
 use Rattle.result_file.specs.Valid.{IsValid}
 use Rattle.dia_gen.proofs.Written.{made_closed}
-use Rattle.request_words.specs.Request.{Text, Request, gen, check, make_dict, convert, diagnose, list_faults, simulate, synth}
+use Rattle.request_words.specs.Request.{Text, Request, gen, check, make_dict, convert, diagnose, list_faults, simulate, synth, compact, rank}
 use Rattle.synth_netlist.specs.Synth.{synth_text}
 use Rattle.dia_commands.specs.Texts.{valid_text}
 use Rattle.dia_commands.specs.Netlists.{IsDesign}
 use Rattle.dia_commands.specs.Results.{IsResult}
 use Rattle.dia_commands.specs.declared.ending.FileKind.{FileKind}
 use Rattle.dia_commands.specs.declared.ending.RunFault.TheVariants.{NotUnderstood, Refused, ReadFailed, WriteFailed, NoMemory}
-use Rattle.dia_commands.specs.Ending.{Ending, done, not_understood, refused, read_failed, write_failed, no_memory, IsRefusal, IsDecided}
+use Rattle.dia_commands.specs.Ending.{Ending, done, not_understood, refused, read_failed, IsRefusal, IsDecided}
 use Rattle.dia_commands.specs.Outcome.{Outcome, said, IsCut, IsPartOf, Leaves, KeepsFiles, after_made, written_after}
 use Rattle.dia_commands.specs.Plan.{Judges, refused_file, accepted_file, CallsFor, MayLeave, IsLeftBy, IsRefusedWith, AreAccepted}
 use Rattle.dia_commands.specs.Plans.{MakesResult, plan_of}
@@ -153,6 +153,8 @@ of_request (diagnose dict log) = (tt, (tt, (tt, (tt, (tt, (tt, tt))))))
 of_request (list_faults bench) = (tt, (tt, (tt, (tt, (tt, tt)))))
 of_request (simulate bench vectors) = (tt, (tt, (tt, (tt, (tt, (tt, tt))))))
 of_request (synth n bench result) = (tt, (tt, (tt, tt)))
+of_request (compact bench result new) = (tt, (tt, (tt, (tt, (tt, (tt, tt))))))
+of_request (rank dict log within) = (tt, (tt, (tt, (tt, (tt, (tt, tt))))))
 
 pub words_of : (asked : Option Request) {ending : Ending} → IsAmong ending (endings_of asked) → ending ≡ not_understood → asked ≡ None
 words_of None {ending} among is = refl

@@ -21,10 +21,10 @@ use Rattle.dia_runs.specs.DictionaryRuns.{MakesDictionary, ConvertsDictionary, P
 use Rattle.dia_runs.proofs.Clauses.{accepted_by, true_result, done_for}
 
 -- the file that was made, and the text that was printed
-file_made : (o : Outcome) {name file : Text} {old new : World} → o.made ≡ (name, file) ∷ [] → Leaves o.made o.console old new → get new.files name ≡ Some file
+pub file_made : (o : Outcome) {name file : Text} {old new : World} → o.made ≡ (name, file) ∷ [] → Leaves o.made o.console old new → get new.files name ≡ Some file
 file_made o {name} {file} {old} {new} is leaves = ap (λ (f : Files). get f name) (leaves.files ∙ ap (λ (m : List (Text × Text)). after_made m old.files) is) ∙ get_at_insert old.files name file
 
-printed_text : (o : Outcome) {text : Text} {old new : World} → o.console ≡ text → Leaves o.made o.console old new → ConsoleGained text old new
+pub printed_text : (o : Outcome) {text : Text} {old new : World} → o.console ≡ text → Leaves o.made o.console old new → ConsoleGained text old new
 printed_text o {text} {old} {new} is leaves = leaves.console ∙ ap (λ (t : Text). old.console ++ t) is
 
 module _ {asked : Option Request} {ending : Ending} {old new : World} (called : IsDone (plan_of asked) ending old new) where

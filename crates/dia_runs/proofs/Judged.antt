@@ -8,14 +8,16 @@ use Rattle.bench_reader.specs.Netlist.{Netlist}
 use Rattle.bench_reader.specs.Laws.{NeverAcceptedAndRefused, OneNetlist}
 use Rattle.scan_cut.specs.Cut.{cut_circuit, cut_design}
 use Rattle.synth_netlist.proofs.LoopWalks.{walk_first}
-use Rattle.request_words.specs.Request.{Text, Request, gen, check, make_dict, convert, diagnose, list_faults, simulate, synth}
+use Rattle.request_words.specs.Request.{Text, Request, gen, check, make_dict, convert, diagnose, list_faults, simulate, synth, compact, rank}
 use Rattle.dia_commands.specs.Netlists.{IsDesign, IsRefused, by_text, by_loop}
 use Rattle.dia_commands.specs.Results.{IsResult, IsRefusedResult}
 use Rattle.dia_commands.specs.Dictionaries.{IsDictionaryFile, IsRefusedDictionary}
-use Rattle.dia_commands.specs.Logs.{IsLogFor, IsRefusedLog, IsListFor, IsRefusedList}
+use Rattle.dia_commands.specs.Logs.{IsLogFor, IsRefusedLog, IsPartialFor, IsRefusedPartial, IsListFor, IsRefusedList}
 use Rattle.table_dicts.specs.declared.dict.Dict.{Dict}
 use Rattle.dict_file.specs.Laws.{RefusedIsWrong, OneDictionary}
 use Rattle.diagnose.specs.Laws.{RefusedTesterLogIsWrong, OneLogReading, RefusedListIsWrong, OneListReading}
+use Rattle.ranked_diag.specs.PartialLog.{Line}
+use Rattle.ranked_diag.specs.Laws.{RefusedPartialIsWrong, OnePartialReading}
 use Rattle.dia_commands.specs.Outcome.{Outcome}
 use Rattle.dia_commands.specs.Plans.{plan_of}
 use Rattle.dia_commands.specs.Plan.{IsClearFile, IsClear}
@@ -37,6 +39,8 @@ pub record HasLaws : Type 0 where
   pub one_dictionary : OneDictionary
   pub logs : RefusedTesterLogIsWrong
   pub one_log : OneLogReading
+  pub partial_logs : RefusedPartialIsWrong
+  pub one_partial : OnePartialReading
   pub lists : RefusedListIsWrong
   pub one_list : OneListReading
 
@@ -78,6 +82,12 @@ clear_log laws d few = record {
   once = λ bytes x y is also. laws.one_log d.patterns d.positions bytes x y is also;
 }
 
+clear_partial : HasLaws → (d : Dict) → d.patterns ≤ 67108864 → IsClearFile (List Line) (IsRefusedPartial d) (IsPartialFor d)
+clear_partial laws d few = record {
+  apart = λ bytes console lines is refused. laws.partial_logs d.patterns d.positions bytes lines refused.kind refused.line (omega (arith, few)) refused.refused is;
+  once = λ bytes x y is also. laws.one_partial d.patterns d.positions bytes x y (omega (arith, few)) is also;
+}
+
 clear_list : HasLaws → (c : Circuit) → IsClearFile (List (List Bool)) (IsRefusedList c) (IsListFor c)
 clear_list laws c = record {
   apart = λ bytes console vectors is refused. laws.lists c.sources bytes vectors refused.kind refused.line refused.refused is;
@@ -96,6 +106,8 @@ clear laws (diagnose dict log) = (clear_dictionary laws, λ bytes d is. (clear_l
 clear laws (list_faults bench) = (clear_netlist laws, λ bytes design is o says. ending_is says.2)
 clear laws (simulate bench vectors) = (clear_netlist laws, λ bytes design is. (clear_list laws design.circuit, λ bytes list read o says. ending_is says.2))
 clear laws (synth n bench result) = λ o both. ending_is both.2.outcome
+clear laws (compact bench result new) = (clear_netlist laws, λ bytes design is. (clear_result laws (circuit_of is), λ bytes file valid o made. ending_is made.3))
+clear laws (rank dict log within) = (clear_dictionary laws, λ bytes d is. (clear_partial laws d is.1.has.patterns, λ bytes lines read o says. ending_is says.2))
 
 -- ---- what evidence means
 

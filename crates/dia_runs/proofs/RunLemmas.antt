@@ -2,6 +2,7 @@
 use Rattle.std.proofs.Common.{Option}
 use Rattle.diag_shelf.specs.World.{State}
 use Rattle.result_file.specs.Laws.{ValidIsTrue}
+use Rattle.compact_tests.specs.Laws.{ThinIsSound}
 use Rattle.request_words.specs.Request.{Request}
 use Rattle.dia_commands.specs.Ending.{Ending}
 use Rattle.dia_commands.specs.Ran.{Ran}
@@ -10,18 +11,22 @@ use Rattle.dia_runs.specs.Run.{IsRunOf}
 use Rattle.dia_runs.proofs.Judged.{EvidenceLaws}
 use Rattle.dia_runs.proofs.Clauses.{words_of, not_understood_of, keeps_unless_done, made_of, checked_of, synth_made, faults_of, decided_by_files, keeps_refused, is_complete}
 use Rattle.dia_runs.proofs.SimulationClauses.{simulated_of}
+use Rattle.dia_runs.proofs.CompactionClauses.{compacted_of}
+use Rattle.dia_runs.proofs.RankingClauses.{RankingLaws, ranked_of}
 use Rattle.dia_runs.proofs.DictionaryClauses.{dictionary_made, converted_of, diagnosed_of}
 
-pub run_of : EvidenceLaws → ValidIsTrue → FilesAreJudgedOnce → (asked : Option Request) {ending : Ending} {a b : State} → Ran asked ending a b → IsRunOf asked ending a b
-run_of laws valid once asked {ending} {a} {b} r = record {
+pub run_of : EvidenceLaws → ValidIsTrue → ThinIsSound → RankingLaws → FilesAreJudgedOnce → (asked : Option Request) {ending : Ending} {a b : State} → Ran asked ending a b → IsRunOf asked ending a b
+run_of laws valid sound ranking once asked {ending} {a} {b} r = record {
   made = λ told. made_of (r.done told) laws;
   checked = λ told. checked_of (r.done told) valid;
   synth = λ told. synth_made (r.done told) laws;
   dictionary = λ told. dictionary_made (r.done told) valid;
   converted = λ told. converted_of (r.done told);
   diagnosed = λ told. diagnosed_of (r.done told);
+  ranked = λ told. ranked_of (r.done told) ranking;
   faults = λ told. faults_of (r.done told);
   simulated = λ told. simulated_of (r.done told);
+  compacted = λ told. compacted_of (r.done told) valid sound;
   ends = r.ends;
   words = words_of asked r.ends;
   not_asked = not_understood_of asked r.ends;

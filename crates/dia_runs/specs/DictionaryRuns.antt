@@ -1,5 +1,5 @@
 -- What the runs of `dict`, `convert` and `diagnose` whose work is done leave.
-use Rattle.std.specs.Prelude.{◌≡◌, ◌≤◌, ◌↔◌, ℕ, length, Option, Some}
+use Rattle.std.specs.Prelude.{◌≡◌, ◌≤◌, ◌↔◌, length, Option, Some}
 use Rattle.std.specs.FinMap.{get}
 use Rattle.diag_shelf.specs.World.{Files, World}
 use Rattle.table_dicts.specs.declared.dict.Dict.{Dict}

@@ -1,4 +1,6 @@
 pub mod Promises
 pub mod DictionaryRuns
 pub mod Simulations
+pub mod Compactions
+pub mod Rankings
 pub mod Run

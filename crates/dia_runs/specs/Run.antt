@@ -11,6 +11,8 @@ use Rattle.dia_commands.specs.Ran.{IsAmong, IsBroken, endings_of, Stays, HasCaus
 use Rattle.dia_runs.specs.Promises.{KeepsUnlessDone, GeneratesResult, ChecksResult, Synthesizes, PrintsFaults, DecidedByFiles, KeepsRefused, IsComplete}
 use Rattle.dia_runs.specs.DictionaryRuns.{MakesDictionary, ConvertsDictionary, PrintsDiagnosis}
 use Rattle.dia_runs.specs.Simulations.{PrintsSimulation}
+use Rattle.dia_runs.specs.Compactions.{CompactsResult}
+use Rattle.dia_runs.specs.Rankings.{PrintsRanking}
 
 pub record IsRunOf (asked : Option Request) (ending : Ending) (old new : State) : Type 0 where
   -- ---- what `gen` and `check` leave where they are done
@@ -32,10 +34,14 @@ pub record IsRunOf (asked : Option Request) (ending : Ending) (old new : State) 
   pub converted : Told old new (ConvertsDictionary asked ending)
   -- `diagnose` prints the numbers whose entry is that of the log's answers, and their count.
   pub diagnosed : Told old new (PrintsDiagnosis asked ending)
+  -- `rank` prints the numbers within so many mismatches of the least; with a whole log those that have none are those of `diagnose`.
+  pub ranked : Told old new (PrintsRanking asked ending)
   -- `faults` prints all faults of the circuit with their roots.
   pub faults : Told old new (PrintsFaults asked ending)
   -- `sim` prints what the circuit answers to each vector of the list.
   pub simulated : Told old new (PrintsSimulation asked ending)
+  -- `compact` accepts a result as `check` does, and leaves it without the patterns that its classes don't need.
+  pub compacted : Told old new (CompactsResult asked ending)
   -- ---- the ending, and its causes
 
   -- It is one of those that these words can have.

@@ -1,5 +1,5 @@
 -- What a run of `sim` whose work is done leaves.
-use Rattle.std.specs.Prelude.{◌≡◌, ℕ, Option, Some}
+use Rattle.std.specs.Prelude.{◌≡◌, Option, Some}
 use Rattle.diag_shelf.specs.World.{World}
 use Rattle.sim_listing.specs.SimText.{IsSimText}
 use Rattle.request_words.specs.Request.{Text, Request, simulate}

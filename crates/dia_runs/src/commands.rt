@@ -10,9 +10,10 @@ ghost use Rattle.dia_runs.specs.Promises.{EachNumberIsAccepted, NoNumberIsRefuse
 ghost use Rattle.dia_runs.specs.Run.{IsRunOf};
 
 use bench_reader::{never_accepted_and_refused, one_netlist};
+use compact_tests::thin_is_sound;
 use dia_commands::{
-    RunFault, check_result, convert_file, diagnose_log, generate_file, list_faults,
-    make_dictionary, one_ending_each, refuse_words, simulate, status_of, synthesize,
+    RunFault, check_result, compact_result, convert_file, diagnose_log, generate_file, list_faults,
+    make_dictionary, one_ending_each, rank_log, refuse_words, simulate, status_of, synthesize,
 };
 use diag_shelf::Shelf;
 use diagnose::{list_is_read_once, log_is_read_once};
@@ -20,6 +21,7 @@ use dict_file::dictionary_is_read_once;
 use fault_collapse::same_root_equal;
 use net_model::{none_reaches_itself, walk_reaches_itself};
 use pair_sets::{covering_is_equal, full_tree_is_covered, leaves_are_closed};
+use ranked_diag::{partial_log_is_read_once, whole_log_ranks_as_listed};
 use request_words::{Request, WordsFault, read_words};
 use result_file::{file_is_refused_once, valid_is_true};
 use std::alloc::Global;
@@ -49,6 +51,9 @@ pub fn run<S: Shelf>(alloc: Global, words: &[String], shelf: &mut S) -> u8
     leaves_are_closed();
     full_tree_is_covered();
     valid_is_true();
+    thin_is_sound();
+    partial_log_is_read_once();
+    whole_log_ranks_as_listed();
     dictionary_is_read_once();
     files_are_judged_once();
     each_number_is_accepted();
@@ -68,6 +73,7 @@ fn files_are_judged_once()
     file_is_refused_once();
     dictionary_is_read_once();
     log_is_read_once();
+    partial_log_is_read_once();
     list_is_read_once();
 }
 
@@ -98,5 +104,7 @@ fn carry_out<S: Shelf>(alloc: Global, request: Request<'_>, shelf: &mut S) -> Re
         Request::ListFaults(bench) => list_faults(alloc, shelf, bench),
         Request::Simulate(bench, vectors) => simulate(alloc, shelf, bench, vectors),
         Request::Synth(n, bench, output) => synthesize(alloc, shelf, n, bench, output),
+        Request::Compact(bench, result, new) => compact_result(alloc, shelf, bench, result, new),
+        Request::Rank(dict, log, within) => rank_log(alloc, shelf, dict, log, within),
     }
 }

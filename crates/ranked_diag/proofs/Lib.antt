@@ -7,5 +7,6 @@ pub mod ObservingLemmas
 pub mod MismatchLemmas
 pub mod NearLemmas
 pub mod RankLemmas
+pub mod FirstRanks
 pub mod JudgeLemmas
 pub mod Examples

@@ -5,7 +5,7 @@ use Rattle.clap.specs.Words.{App, Row, matches_of, with_rule}
 use Rattle.result_file.specs.declared.record.Budgets.{Budgets}
 use Rattle.request_words.specs.Arguments.{bare_app, two_names_app, name_rule, number_rule, option_rule, is_taken, name_in, number_in, kind_named}
 use Rattle.request_words.specs.declared.request.Verb.{Verb}
-use Rattle.request_words.specs.declared.request.Verb.TheVariants.{Gen, Check, Dict, Convert, Diagnose, Faults, Sim, Synth}
+use Rattle.request_words.specs.declared.request.Verb.TheVariants.{Gen, Check, Dict, Convert, Diagnose, Faults, Sim, Synth, Compact, Rank}
 use Rattle.request_words.specs.declared.request.EntryKind.{EntryKind}
 
 abbrev pub Text : Type 0
@@ -28,6 +28,10 @@ pub data Request : Type 0 where
   simulate : (bench vectors : Text) → Request
   -- write the netlist of a number, and generate a result for it
   synth : (n : ℕ) (bench result : Text) → Request
+  -- leave out the patterns of a result that its classes don't need, for a netlist
+  compact : (bench result new : Text) → Request
+  -- rank the numbers by a dictionary and a partial log, up to so many mismatches above the least
+  rank : (dict log : Text) (within : ℕ) → Request
 
 -- ---- each command: how its words are read, and what they ask for
 
@@ -82,6 +86,18 @@ synth_app = with_rule (with_rule (with_rule (bare_app (codes "synth")) (number_r
 abbrev pub synth_by : List Row → Request
 synth_by rows = synth (number_in (codes "n") 1 2000 rows) (name_in (codes "bench") rows) (name_in (codes "result") rows)
 
+unfoldable pub compact_app : App
+compact_app = with_rule (two_names_app (codes "compact") (codes "bench") (codes "result")) (name_rule (codes "new"))
+
+abbrev pub compact_by : List Row → Request
+compact_by rows = compact (name_in (codes "bench") rows) (name_in (codes "result") rows) (name_in (codes "new") rows)
+
+unfoldable pub rank_app : App
+rank_app = with_rule (two_names_app (codes "rank") (codes "dict") (codes "log")) (option_rule (codes "within") (codes "0") 1000000)
+
+abbrev pub rank_by : List Row → Request
+rank_by rows = rank (name_in (codes "dict") rows) (name_in (codes "log") rows) (number_in (codes "within") 0 1000000 rows)
+
 -- ---- the table of commands
 
 -- the command of a name
@@ -95,6 +111,8 @@ verb_named name =
     else if bytes_eq name (codes "faults") then Some Faults
     else if bytes_eq name (codes "sim") then Some Sim
     else if bytes_eq name (codes "synth") then Some Synth
+    else if bytes_eq name (codes "compact") then Some Compact
+    else if bytes_eq name (codes "rank") then Some Rank
     else None
 
 -- the words that a command takes, and what they ask for
@@ -107,6 +125,8 @@ table Diagnose = (diagnose_app, λ rows. Some (diagnose_by rows))
 table Faults = (faults_app, λ rows. Some (faults_by rows))
 table Sim = (sim_app, λ rows. Some (sim_by rows))
 table Synth = (synth_app, λ rows. Some (synth_by rows))
+table Compact = (compact_app, λ rows. Some (compact_by rows))
+table Rank = (rank_app, λ rows. Some (rank_by rows))
 
 abbrev pub app_for : Verb → App
 app_for verb = (table verb).0

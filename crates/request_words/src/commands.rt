@@ -1,9 +1,9 @@
-//! The words of the commands that take more or less than two names: `gen`, `dict`, `faults` and `synth`.
+//! The words of the commands that take more or less than two names: `gen`, `dict`, `faults`, `synth`, `compact` and `rank`.
 
 ghost use Rattle.std.specs.Prelude.{◌≡◌, IfOk, IfSome, codes, option_map};
 ghost use Rattle.clap.specs.Words.{app_of, found_of, rows_of, with_rule};
 ghost use Rattle.request_words.specs.Arguments.{option_rule};
-ghost use Rattle.request_words.specs.Request.{gen_app, gen_by, dict_app, dict_by, faults_app, faults_by, synth_app, synth_by};
+ghost use Rattle.request_words.specs.Request.{gen_app, gen_by, dict_app, dict_by, faults_app, faults_by, synth_app, synth_by, compact_app, compact_by, rank_app, rank_by};
 ghost use Rattle.request_words.specs.Asked.{asked, HasLimits};
 
 use crate::arguments::{
@@ -26,6 +26,9 @@ const CONFLICTS_LIMIT: u32 = 100_000;
 
 // The largest number of a netlist.
 const SYNTH_LIMIT: u32 = 2000;
+
+// The most mismatches above the least.
+const WITHIN_LIMIT: u32 = 1_000_000;
 
 /// Two names and three options.
 pub(crate) fn gen_command<'a>(alloc: Global) -> Result<Command<'a>, AllocError>
@@ -118,5 +121,44 @@ pub(crate) fn synth_in<'a>(matches: &ArgMatches<'a>) -> Request<'a>
         number_in(matches, "n", 1, SYNTH_LIMIT),
         name_in(matches, "bench"),
         name_in(matches, "result"),
+    )
+}
+
+/// Three names.
+pub(crate) fn compact_command<'a>(alloc: Global) -> Result<Command<'a>, AllocError>
+    ensures { IfOk result (λ c. app_of c ≡ compact_app) }
+{
+    two_names(alloc, "compact", "bench", "result")?.arg(name_arg(alloc, "new"))
+}
+
+/// The request of its matches.
+pub(crate) fn compact_in<'a>(matches: &ArgMatches<'a>) -> Request<'a>
+    ensures asked { asked result ≡ compact_by (rows_of (found_of matches.now)) }
+    ensures limits { HasLimits result }
+{
+    Request::Compact(
+        name_in(matches, "bench"),
+        name_in(matches, "result"),
+        name_in(matches, "new"),
+    )
+}
+
+/// Two names and an option.
+pub(crate) fn rank_command<'a>(alloc: Global) -> Result<Command<'a>, AllocError>
+    ensures { IfOk result (λ c. app_of c ≡ rank_app) }
+{
+    let command = two_names(alloc, "rank", "dict", "log")?;
+    with_option(alloc, command, "within", "0", WITHIN_LIMIT)
+}
+
+/// The request of its matches.
+pub(crate) fn rank_in<'a>(matches: &ArgMatches<'a>) -> Request<'a>
+    ensures asked { asked result ≡ rank_by (rows_of (found_of matches.now)) }
+    ensures limits { HasLimits result }
+{
+    Request::Rank(
+        name_in(matches, "dict"),
+        name_in(matches, "log"),
+        number_in(matches, "within", 0, WITHIN_LIMIT),
     )
 }

@@ -7,7 +7,8 @@ ghost use Rattle.request_words.specs.Asked.{asked, HasLimits};
 
 use crate::arguments::{WordsFault, name_in, parse, two_names};
 use crate::commands::{
-    dict_command, dict_in, faults_command, faults_in, gen_command, gen_in, synth_command, synth_in,
+    compact_command, compact_in, dict_command, dict_in, faults_command, faults_in, gen_command,
+    gen_in, rank_command, rank_in, synth_command, synth_in,
 };
 use clap::{ArgMatches, Command};
 use result_file::Budgets;
@@ -24,6 +25,8 @@ pub(crate) enum Verb {
     Faults,
     Sim,
     Synth,
+    Compact,
+    Rank,
 }
 
 /// What the entries of a dictionary tell of a number: at which patterns it answers otherwise than the fault-free circuit, all
@@ -54,6 +57,10 @@ pub enum Request<'a> {
     Simulate(&'a str, &'a str),
     /// To write the netlist of a number and generate a result for it.
     Synth(u32, &'a str, &'a str),
+    /// To leave out the patterns of a result that its classes don't need, for a netlist.
+    Compact(&'a str, &'a str, &'a str),
+    /// To rank the numbers by a dictionary and a partial log, up to so many mismatches above the least.
+    Rank(&'a str, &'a str, u32),
 }
 
 /// The request of the words: the first is a command, which reads the others.
@@ -86,6 +93,8 @@ fn verb_named(name: &str) -> Option<Verb>
         "faults" => Some(Verb::Faults),
         "sim" => Some(Verb::Sim),
         "synth" => Some(Verb::Synth),
+        "compact" => Some(Verb::Compact),
+        "rank" => Some(Verb::Rank),
         _ => None,
     }
 }
@@ -117,6 +126,8 @@ fn definition<'a>(alloc: Global, verb: Verb) -> Result<Command<'a>, AllocError>
         Verb::Faults => faults_command(alloc),
         Verb::Sim => two_names(alloc, "sim", "bench", "vectors"),
         Verb::Synth => synth_command(alloc),
+        Verb::Compact => compact_command(alloc),
+        Verb::Rank => rank_command(alloc),
     }
 }
 
@@ -140,5 +151,7 @@ fn requested<'a>(verb: Verb, matches: &ArgMatches<'a>) -> Option<Request<'a>>
             name_in(matches, "vectors"),
         )),
         Verb::Synth => Some(synth_in(matches)),
+        Verb::Compact => Some(compact_in(matches)),
+        Verb::Rank => Some(rank_in(matches)),
     }
 }

@@ -1,6 +1,7 @@
 //! The modules, by what they test.
 
 mod compacted;
+mod fallen;
 mod known;
 mod lines;
 mod logs;

@@ -2,12 +2,14 @@
 
 mod calls;
 mod checking;
+mod compacting;
 mod cuts;
 mod dictionaries;
 mod failing;
 mod generating;
 mod listing;
 mod netlists;
+mod rankings;
 mod runs;
 mod sims;
 mod synths;

@@ -2,7 +2,9 @@
 
 use crate::tests::runs::Text::{Absent, Any, Is};
 use crate::tests::runs::{File, Left, left_by};
-use crate::tests::texts::{AND, AND_RESULT, LOG, ONE, TRUTH, TRUTH_FULL, TRUTH_RESULT};
+use crate::tests::texts::{
+    AND, AND_RESULT, LOG, ONE, PARTIAL_LOG, TRUTH, TRUTH_FULL, TRUTH_RESULT,
+};
 use std::alloc::{AllocError, Global};
 use std::test::Fail;
 
@@ -15,7 +17,7 @@ const LIMIT: u64 = 10_000;
 // The files that a run reads, its words, and the name of a file that it makes, or of none.
 type Calling = (&'static [File], &'static [&'static str], &'static str);
 
-static CALLS: [Calling; 12] = [
+static CALLS: [Calling; 13] = [
     (&[("n", TRUTH)], &["gen", "n", "r"], "r"),
     (
         &[("n", TRUTH), ("r", TRUTH_RESULT)],
@@ -42,7 +44,13 @@ static CALLS: [Calling; 12] = [
         &["dict", "samediff", "n", "r", "d"],
         "d",
     ),
+    (
+        &[("n", AND), ("r", AND_RESULT)],
+        &["compact", "n", "r", "m"],
+        "m",
+    ),
     (&[("d", ONE), ("l", LOG)], &["diagnose", "d", "l"], "e"),
+    (&[("d", ONE), ("l", PARTIAL_LOG)], &["rank", "d", "l"], "e"),
     (&[("o", ONE)], &["convert", "o", "d"], "d"),
     (&[("n", AND)], &["faults", "n"], "e"),
     (&[("n", AND), ("v", b"11\n01\n")], &["sim", "n", "v"], "e"),

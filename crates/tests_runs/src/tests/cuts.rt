@@ -1,7 +1,7 @@
 //! Runs over files that are cut to each shorter length.
 
 use crate::tests::dictionaries::{is_diagnosed, is_refused};
-use crate::tests::runs::Text::Is;
+use crate::tests::runs::Text::{Absent, Is};
 use crate::tests::runs::plain;
 use crate::tests::texts::{
     AND_TWICE_CHOSEN, FULL_ONE, FULL_TWO, LOG, ONE, SAME_DIFF, TRUTH, TRUTH_FULL, TRUTH_RESULT, TWO,
@@ -22,12 +22,17 @@ fn said(alloc: Global, file: &str, text: &[u8], wanting: &str) -> Result<String,
     format!(in alloc; "{file}: {kind} at line {}\n", lines.saturating_add(1))
 }
 
-// Whether `check` refuses the result, with what is said of it.
+// Whether `check` and `compact` refuse the result, with what is said of it.
 fn refuses_result(alloc: Global, bytes: &[u8]) -> Result<bool, AllocError> {
     let console = said(alloc, "result", bytes, "Order")?;
     let files = [("n", TRUTH), ("r", bytes)];
-    let left = plain(alloc, &files, &["check", "n", "r"])?;
-    Ok(left.ended(4, Is(console.as_bytes())))
+    let checked = plain(alloc, &files, &["check", "n", "r"])?;
+    let compacted = plain(alloc, &files, &["compact", "n", "r", "m"])?;
+    Ok(
+        checked.ended(4, Is(console.as_bytes()))
+            && compacted.ended(4, Is(console.as_bytes()))
+            && compacted.holds("m", Absent),
+    )
 }
 
 // Whether the log is refused with each dictionary of the AND.

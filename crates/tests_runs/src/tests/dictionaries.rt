@@ -187,10 +187,14 @@ fn refuses(alloc: Global, command: &str, dict: &[u8], console: &[u8]) -> Result<
 pub(crate) fn is_refused(alloc: Global, dict: &[u8], said: &str) -> Result<bool, AllocError> {
     let console = format!(in alloc; "dictionary: {said}\n")?;
     let console = console.as_bytes();
-    Ok(refuses(alloc, "convert", dict, console)? && refuses(alloc, "diagnose", dict, console)?)
+    Ok(
+        refuses(alloc, "convert", dict, console)?
+            && refuses(alloc, "diagnose", dict, console)?
+            && refuses(alloc, "rank", dict, console)?,
+    )
 }
 
-// A dictionary that is cut, changed at a byte, or followed by more is refused by `convert` and `diagnose`, whatever the log.
+// A dictionary that is cut, changed at a byte, or followed by more is refused by `convert`, `diagnose` and `rank`, whatever the log.
 #[test]
 fn dictionaries_that_are_refused(rt: HostRuntime) -> Result<(), Fail> {
     for (at, (dict, length, change, more, said)) in CHANGED.iter().enumerate() {

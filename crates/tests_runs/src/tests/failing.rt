@@ -2,7 +2,7 @@
 
 use crate::tests::runs::Text::{self, Absent, Any, Is, Part};
 use crate::tests::runs::{Case, all_leave, left_by};
-use crate::tests::texts::{AND, AND_RESULT, LOG, ONE, TWO};
+use crate::tests::texts::{AND, AND_COMPACTED, AND_RESULT, LOG, ONE, TWO};
 use std::alloc::Global;
 use std::process::Abort;
 use std::test::Fail;
@@ -84,6 +84,27 @@ fn each_failing_call_of_dict_shows(rt: HostRuntime) -> Result<(), Fail> {
     let words = ["dict", "passfail", "n", "r", "d"];
     let files = [("n", AND), ("r", AND_RESULT)];
     each_fails(&rt, rt.alloc(), 4096, &files, &words, "d", &OF_DICT)
+}
+
+// The netlist is opened and read by calls 0 to 2, the result by calls 3 to 6; call 7 creates the new file, which calls 8 and 9
+// write, and call 10 prints.
+static OF_COMPACT: [Failing; 9] = [
+    (0, 7, Absent),
+    (2, 7, Absent),
+    (3, 7, Absent),
+    (4, 7, Absent),
+    (6, 7, Absent),
+    (7, 8, Absent),
+    (8, 8, Is(b"")),
+    (9, 8, Part(AND_COMPACTED, 256)),
+    (10, 8, Is(AND_COMPACTED)),
+];
+
+#[test]
+fn each_failing_call_of_compact_shows(rt: HostRuntime) -> Result<(), Fail> {
+    let words = ["compact", "n", "r", "m"];
+    let files = [("n", AND), ("r", AND_RESULT)];
+    each_fails(&rt, rt.alloc(), 256, &files, &words, "m", &OF_COMPACT)
 }
 
 // The dictionary is opened and read by calls 0 to 2, the log by calls 3 to 5, and call 6 prints.

@@ -14,6 +14,9 @@ pub(crate) const AND_TWICE: &[u8] = b"INPUT(a)\nINPUT(b)\nOUTPUT(z)\nOUTPUT(z)\n
 /// What the AND without a fault doesn't answer to the last pattern.
 pub(crate) const LOG: &[u8] = b"0 0\n1 0\n2 0\n3 0\n";
 
+/// Two of the patterns of an AND, of which one was observed.
+pub(crate) const PARTIAL_LOG: &[u8] = b"1 1\n3 x\n";
+
 /// The sum of nine inputs, and the complement of the sum of three sums over them.
 pub(crate) const PARITY: &[u8] =
     b"INPUT(a0)\nINPUT(a1)\nINPUT(a2)\nINPUT(a3)\nINPUT(a4)\nINPUT(a5)\nINPUT(a6)\nINPUT(a7)\nINPUT(a8)\nOUTPUT(z)\nf=XOR(a0,a1,a2,a3,a4,a5,a6,a7,a8)\nt0=XOR(a0,a1,a2)\nt1=XOR(a3,a4,a5)\nt2=XOR(a6,a7,a8)\ng=XNOR(t0,t1,t2)\nz=XOR(f,g)\n";
@@ -26,6 +29,10 @@ pub(crate) const S27: &[u8] =
 
 pub(crate) const AND_RESULT: &[u8] =
     b"diatest 1 2 1 7\nbudget 4 64 2000\npattern 00\npattern 10\npattern 01\npattern 11\nsame 3 1 C\nsame 5 1 C\nclass 0 - -\nclass 1 0 0\nclass 2 0 1\nclass 3 0 2\nclass 4 0 3\nmember 0 0 rep\nmember 1 4 rep\nmember 2 3 rep\nmember 3 4 equal\nmember 4 2 rep\nmember 5 4 equal\nmember 6 1 rep\nend\n";
+
+/// What is left of it where the patterns are left out that its classes don't need, which is the first one.
+pub(crate) const AND_COMPACTED: &[u8] =
+    b"diatest 1 2 1 7\nbudget 4 64 2000\npattern 10\npattern 01\npattern 11\nsame 3 1 C\nsame 5 1 C\nclass 0 - -\nclass 1 0 0\nclass 2 0 1\nclass 3 1 1\nclass 4 0 2\nmember 0 0 rep\nmember 1 4 rep\nmember 2 2 rep\nmember 3 4 equal\nmember 4 1 rep\nmember 5 4 equal\nmember 6 3 rep\nend\n";
 
 /// The result of the OR of a signal and its complement.
 pub(crate) const TRUTH_RESULT: &[u8] =

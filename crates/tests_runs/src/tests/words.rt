@@ -5,7 +5,7 @@ use crate::tests::runs::plain;
 use std::alloc::{AllocError, Global};
 use std::test::Fail;
 
-static WRONG: [&[&str]; 30] = [
+static WRONG: [&[&str]; 37] = [
     &[],
     &["generate", "n", "r"],
     &["gen", "n"],
@@ -34,8 +34,15 @@ static WRONG: [&[&str]; 30] = [
     &["convert", "d", "e", "f"],
     &["diagnose", "d"],
     &["diagnose", "d", "l", "m"],
+    &["rank", "d"],
+    &["rank", "d", "l", "m"],
+    &["rank", "d", "l", "--within", "1000001"],
+    &["rank", "d", "l", "--within=-1"],
     &["sim", "n"],
     &["sim", "n", "v", "--cubes", "1"],
+    &["compact", "n", "r"],
+    &["compact", "n", "r", "m", "s"],
+    &["compact", "n", "r", "m", "--cubes", "1"],
 ];
 
 // Whether a run says so, and makes no file.

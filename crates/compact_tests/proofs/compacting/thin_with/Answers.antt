@@ -1,4 +1,4 @@
-use Rattle.std.proofs.Common.{◌≡◌, ◌∙◌, ◌<◌, ◌++◌, ◌∷◌, [], ℕ, Bool, List, length, map, refl, sym, ap, subst, arith}
+use Rattle.std.proofs.Common.{◌≡◌, ◌∙◌, ◌<◌, ◌++◌, ◌∷◌, [], Bool, List, length, map, refl, sym, ap, subst, arith}
 use Rattle.std.specs.Prelude.{All, zip, ◌-◌}
 use Rattle.net_model.specs.FaultList.{fault_count}
 use Rattle.net_model.specs.PatternRows.{IsTableOf}

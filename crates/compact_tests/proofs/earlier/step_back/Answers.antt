@@ -1,6 +1,5 @@
-use Rattle.std.proofs.Common.{◌≡◌, ◌∙◌, ℕ, ◌<◌, ◌≤◌, inl, inr, map, length, get_or, sym, ap, arith}
-use Rattle.std.proofs.lemmas.Bool.{cases_lt}
-use Rattle.std.proofs.lemmas.List.{ext_get_or, get_or-map, length-map, get_or-set_same, get_or-set_other}
+use Rattle.std.proofs.Common.{◌∙◌, ℕ, map, sym, arith}
+use Rattle.std.proofs.lemmas.List.{ext_get_or, get_or-map, length-map}
 use Rattle.compact_tests.specs.Earlier.{class_before}
 use Rattle.compact_tests.proofs.earlier.step_back.Goals as goal
 

@@ -1,4 +1,4 @@
-use Rattle.std.proofs.Common.{◌≡◌, ◌∙◌, ℕ, ◌+◌, ◌<◌, length, refl, sym, ap, subst, arith}
+use Rattle.std.proofs.Common.{◌∙◌, ◌+◌, length, sym, ap, subst}
 use Rattle.std.specs.Prelude.{slice_range}
 use Rattle.result_file.specs.Spelling.{spelling}
 use Rattle.compact_tests.specs.Stated.{IsReadableLine}

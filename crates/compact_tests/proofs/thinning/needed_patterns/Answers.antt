@@ -1,4 +1,4 @@
-use Rattle.std.proofs.Common.{◌≡◌, ◌∙◌, ◌<◌, ℕ, List, length, ap, subst, sym, arith}
+use Rattle.std.proofs.Common.{◌≡◌, ◌∙◌, ◌<◌, length, ap, subst, sym}
 use Rattle.std.specs.Prelude.{All}
 use Rattle.std.specs.Borrow.{Bor}
 use Rattle.net_model.specs.ClassTable.{ClassTable}
@@ -9,18 +9,11 @@ use Rattle.compact_tests.proofs.TableLemmas.{numbers-table}
 use Rattle.compact_tests.proofs.SimulatedLemmas.{as_many_answered}
 use Rattle.compact_tests.proofs.thinning.needed_patterns.Goals as goal
 
-pub pass_all-requires-clause-leads : goal.pass_all-requires-clause-leads
-pass_all-requires-clause-leads c = c.as_slice.ensures.value ∙ c.in_ok-leads.ensures.lowest
-
-pub pass_all-requires-clause-known : goal.pass_all-requires-clause-known
-pass_all-requires-clause-known c =
+pub pass_all-requires-clause-numbers : goal.pass_all-requires-clause-numbers
+pass_all-requires-clause-numbers c =
     let a = c.requires.answered in
     let circuit = c.args.circuit.now in
-    let size : length c.args.checked.now.classes.class_of ≡ fault_count circuit = ap (λ (t : ClassTable). length t.class_of) a.answered.table ∙ numbers-table (fault_count circuit) (answered_rows a.all) in
-    rw c.as_slice.ensures.value (subst (λ n. All (λ number. number < n) c.in_ok-leads.leads.items) size c.in_ok-leads.ensures.within)
-
-pub pass_all-requires-clause-few : goal.pass_all-requires-clause-few
-pass_all-requires-clause-few c = omega (arith, ap length c.as_slice.ensures.value, c.in_ok-leads.ensures.few)
+    ap (λ (t : ClassTable). length t.class_of) a.answered.table ∙ numbers-table (fault_count circuit) (answered_rows a.all)
 
 pub returns : goal.returns
 returns c =

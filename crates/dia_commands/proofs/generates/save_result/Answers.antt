@@ -1,4 +1,4 @@
-use Rattle.std.proofs.Common.{ap, Err, [], refl, sym, ◌∙◌, length, List, ℕ}
+use Rattle.std.proofs.Common.{ap, Err, refl, sym, ◌∙◌, length}
 use Rattle.std.proofs.Math.Nat.{le_refl}
 use Rattle.std.proofs.lemmas.List.{take_all}
 use Rattle.dia_commands.specs.Ending.{done, write_fault}

@@ -1,4 +1,4 @@
-use Rattle.std.proofs.Common.{List, ℕ, Err, ap, subst}
+use Rattle.std.proofs.Common.{List, ℕ, subst}
 use Rattle.dia_commands.specs.Netlists.{IsDesign, IsRefused}
 use Rattle.dia_commands.specs.Steps.{by_reading}
 use Rattle.dia_commands.proofs.HandedOn.{handed_err}

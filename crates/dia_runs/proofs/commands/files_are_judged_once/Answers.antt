@@ -13,6 +13,8 @@ returns c =
       one_dictionary = c.dictionary_is_read_once.ensures.dictionary;
       logs = c.log_is_read_once.ensures.wrong;
       one_log = c.log_is_read_once.ensures.reading;
+      partial_logs = c.partial_log_is_read_once.ensures.wrong;
+      one_partial = c.partial_log_is_read_once.ensures.reading;
       lists = c.list_is_read_once.ensures.wrong;
       one_list = c.list_is_read_once.ensures.reading;
     } in

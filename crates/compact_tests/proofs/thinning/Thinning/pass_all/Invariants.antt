@@ -7,8 +7,6 @@ use Rattle.compact_tests.proofs.thinning.Thinning.pass_all.Given as goal
 abbrev pub invariant-loop-end : goal.invariant-loop-end
 invariant-loop-end l = record {
   within : l.end ≤ length l.vectors;
-  circuit : l.numbers.circuit ≡ l.circuit;
-  leads : l.numbers.leads ≡ l.leads;
   sources : l.block.sources ≡ l.circuit.sources;
   classes : l.self.classes ≡ l.initial.self.classes;
   thinning : IsThinning l.checked.classes l.self;

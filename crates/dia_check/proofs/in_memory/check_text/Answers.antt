@@ -1,0 +1,4 @@
+use Rattle.dia_check.proofs.in_memory.check_text.Goals as goal
+
+pub returns-clause-refused : goal.returns-clause-refused
+returns-clause-refused c = λ fault same. rw c.new.ensures at (c.check_text_for.ensures.refused fault same)

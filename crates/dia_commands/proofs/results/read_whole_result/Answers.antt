@@ -1,0 +1,27 @@
+use Rattle.std.proofs.Common.{Err, ap}
+use Rattle.dia_check.specs.Reader.{IsAcceptedText, IsRefusedEnd}
+use Rattle.dia_commands.specs.Steps.{by_reading}
+use Rattle.dia_commands.proofs.HandedOn.{handed_err}
+use Rattle.dia_commands.proofs.ResultReads.{result_read, refused_result_read}
+use Rattle.dia_commands.proofs.Followed.{was_accepted, read_refused, over_memory}
+use Rattle.dia_commands.proofs.results.read_whole_result.Goals as goal
+
+pub returns-in_err-bytes-clause-err : goal.returns-in_err-bytes-clause-err
+returns-in_err-bytes-clause-err g c = handed_err _ c.from_residual.result c.from_residual.ensures.1 (by_reading c.in_err-bytes.ensures.err)
+
+pub returns-in-Ok-clause-accepted : goal.returns-in-Ok-clause-accepted
+returns-in-Ok-clause-accepted g c = rw c.deref.ensures.value at c.in-Ok.ensures.valid
+
+pub returns-in-Ok-clause-ok : goal.returns-in-Ok-clause-ok
+returns-in-Ok-clause-ok g c =
+    let is : IsAcceptedText c.args.circuit.now c.in_ok-bytes.bytes.items c.in-Ok.checked = rw c.deref.ensures.value at c.in-Ok.ensures.valid in
+    was_accepted c.in_ok-bytes.ensures.ok (λ all read. result_read read is)
+
+pub returns-in-Err-Result-clause-err : goal.returns-in-Err-Result-clause-err
+returns-in-Err-Result-clause-err g c =
+    let fault = c.in-Err-Result.fault in
+    let is : IsRefusedEnd c.args.circuit.now c.in_ok-bytes.bytes.items fault = rw c.deref.ensures.value at (c.in-Err-Result.ensures.refused fault (ap Err c.in-Err-Result.field-0-is)) in
+    read_refused c.in_ok-bytes.ensures.ok (λ all read. refused_result_read read is) c.say_refusal.ensures
+
+pub returns-clause-err : goal.returns-clause-err
+returns-clause-err g c = over_memory c.in_ok-bytes.ensures.ok.facts c.in_ok-bytes.ensures.ok.only

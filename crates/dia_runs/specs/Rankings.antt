@@ -1,0 +1,26 @@
+-- What a run of `rank` whose work is done leaves.
+use Rattle.std.specs.Prelude.{◌≡◌, ℕ, Bool, List, Option, Some}
+use Rattle.diag_shelf.specs.World.{World}
+use Rattle.table_dicts.specs.Dictionary.{listed_numbers}
+use Rattle.ranked_diag.specs.Ranked.{ranked_with}
+use Rattle.request_words.specs.Request.{Text, Request, rank}
+use Rattle.dia_commands.specs.Ending.{Ending, done}
+use Rattle.dia_commands.specs.Dictionaries.{IsDictionaryFile}
+use Rattle.dia_commands.specs.Logs.{IsLogFor, IsPartialFor}
+use Rattle.dia_commands.specs.Outcome.{ConsoleGained}
+use Rattle.dia_commands.specs.Rankings.{IsRankText}
+use Rattle.dia_runs.specs.Promises.{WasRead}
+
+-- The console gained the numbers whose mismatches with the partial log are within so much of the least, ranked, how many they are, and
+-- the least. Where the log is whole and all in it was observed, those ranked with none are the numbers that `diagnose` lists.
+pub record HasRanking (dict log : Text) (within : ℕ) (old new : World) : Type 0 where
+  pub dictionary : WasRead old.files dict IsDictionaryFile
+  pub lines : WasRead old.files log (IsPartialFor dictionary.thing)
+  pub text : Text
+  pub ranked : IsRankText dictionary.thing lines.thing within text
+  pub printed : ConsoleGained text old new
+  pub as_listed : (observed : List (List Bool)) → IsLogFor dictionary.thing lines.bytes observed → ranked_with 0 ranked.ranks ≡ listed_numbers dictionary.thing observed
+
+-- A run of `rank` whose work is done prints that.
+abbrev pub PrintsRanking : Option Request → Ending → World → World → Type 0
+PrintsRanking request ending old new = (dict log : Text) (within : ℕ) → request ≡ Some (rank dict log within) → ending ≡ done → HasRanking dict log within old new
