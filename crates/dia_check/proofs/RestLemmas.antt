@@ -1,11 +1,12 @@
 -- The rest of a file, piece by piece.
-use Rattle.std.proofs.Common.{◌≡◌, ◌∙◌, Bool, true, false, IsTrue, ℕ, ◌+◌, ◌<◌, ◌≤◌, ◌^◌, List, [], ◌++◌, length, take, Option, None, Some, inl, inr, refl, sym, ap, subst, append_assoc, arith}
+use Rattle.std.proofs.Common.{◌≡◌, ◌∙◌, Bool, true, false, IsTrue, ℕ, ◌+◌, ◌<◌, ◌≤◌, ◌^◌, List, [], ◌++◌, length, take, Option, Some, inl, inr, refl, sym, ap, subst, append_assoc, arith}
 use Rattle.std.specs.Prelude.{unwrap_or, IsSome, drop}
 use Rattle.std.proofs.lemmas.List.{append-nil}
 use Rattle.std.proofs.Math.Seq.{drop_at}
 use Rattle.std.proofs.Math.ListN.{drop_of_length-le}
 use Rattle.diag_shelf.specs.World.{World}
-use Rattle.diag_shelf.specs.Calls.{Takes}
+use Rattle.diag_shelf.specs.Calls.{Takes, Same, OnlyReads, ReadsUpTo}
+use Rattle.diag_shelf.proofs.Steps.{left_by, reads_on_few}
 use Rattle.net_model.specs.Circuit.{Circuit}
 use Rattle.result_file.specs.declared.fault.ResultFault.{ResultFault}
 use Rattle.result_file.specs.Spelling.{Text}
@@ -13,10 +14,6 @@ use Rattle.result_file.specs.Refusal.{FileRefused}
 use Rattle.dia_check.specs.Accepted.{rest_of, ReadsRest}
 use Rattle.dia_check.specs.Reader.{IsRefusedEnd}
 use Rattle.dia_check.specs.Rest.{TakesText, TakesAll}
-
-some_rest : (o : Option Text) → IsSome o → o ≡ Some (unwrap_or o [])
-some_rest None some = absurd (cc)
-some_rest (Some text) some = refl
 
 -- at first nothing is taken
 pub takes_nothing : (world : World) → IsSome world.rest → TakesText [] world world
@@ -28,6 +25,25 @@ takes_more {fed} {old} {mid} {new} piece count so_far takes = record {
   opened = takes.still_opened;
   rest = so_far.rest ∙ ap (λ (t : Text). fed ++ t) (ap (λ (o : Option Text). unwrap_or o []) takes.rest) ∙ sym (append_assoc fed (take count piece) (rest_of new));
 }
+
+-- so many bytes were taken
+pub takes_few : {fed : Text} {most : ℕ} {old new : World} → IsSome old.rest → OnlyReads old new → TakesText fed old new → length fed ≤ most → ReadsUpTo most old new
+takes_few {fed} {most} {old} {new} some only taken few = reads_on_few fed most few only taken.opened (left_by old.rest some ∙ ap (λ (t : Text). Some t) taken.rest)
+
+-- and no more in a call that changes nothing
+pub takes_no_more : {most : ℕ} {old mid new : World} → ReadsUpTo most old mid → Same mid new → ReadsUpTo most old new
+takes_no_more so_far same = (
+  so_far.0,
+  so_far.1,
+  record {
+    only = record { files = same.files ∙ so_far.2.only.files; written = same.written ∙ so_far.2.only.written; console = same.console ∙ so_far.2.only.console };
+    rest = same.rest ∙ so_far.2.rest;
+  },
+)
+
+-- nothing is read at first
+pub reads_nothing : (most : ℕ) (world : World) → IsSome world.rest → ReadsUpTo most world world
+reads_nothing most world some = takes_few some (record { files = refl; written = refl; console = refl }) (takes_nothing world some) (omega arith)
 
 -- the end is found where a piece has no byte
 pub takes_end : {fed : Text} {old mid new : World} (piece : List ℕ) (count : ℕ) → TakesText fed old mid → Takes piece count mid new → count ≡ 0 → 0 < length piece → TakesAll fed old new
@@ -49,7 +65,7 @@ takes_limit taken full = record { taken = taken; end = inl full }
 module _ {fed : Text} {old new : World} (all : TakesAll fed old new) where
   pub rest_read : length fed ≤ 2 ^ 40 + 1 → ReadsRest old new
   rest_read few =
-      let now : new.rest ≡ Some (rest_of new) = some_rest new.rest all.taken.opened in
+      let now : new.rest ≡ Some (rest_of new) = left_by new.rest all.taken.opened in
       record {
         rest = now ∙ ap (λ (t : Text). Some t) (elim all.end [
           | inl full ↦

@@ -1,7 +1,7 @@
 //! The check of the opened file.
 
-ghost use Rattle.std.specs.Prelude.{◌≡◌, ℕ, ◌≤◌, ◌<◌, ◌+◌, ◌^◌, [], List, IfOk, OnOk, IsErrOf, IsTrue, IsSome};
-ghost use Rattle.diag_shelf.specs.Calls.{IsReadCall, Told, OnlyReads};
+ghost use Rattle.std.specs.Prelude.{◌≡◌, ℕ, ◌≤◌, ◌<◌, ◌+◌, ◌^◌, [], List, IfOk, OnOk, OnErr, IsErrOf, IsTrue, IsSome};
+ghost use Rattle.diag_shelf.specs.Calls.{IsReadCall, Told, OnlyReads, ReadsUpTo};
 ghost use Rattle.result_file.specs.declared.record.Record.{Record};
 ghost use Rattle.result_file.specs.declared.fault.ResultFault.{ResultFault};
 ghost use Rattle.result_file.specs.Spelling.{text_of};
@@ -34,9 +34,11 @@ pub fn check<S: Shelf>(
     // It is a call that reads: where it answers `Failed` the count of read faults rose, and no other count changed.
     ensures call { IsReadCall (as_shelf result) (S.state shelf.old) (S.state shelf.new) }
 
-    // Nothing is changed but the rest of the opened file, which is read to its end or to one byte beyond the limit.
+    // Nothing is changed but the rest of the opened file, which is read to its end or to one byte beyond the limit. After a
+    // failed read or want of memory a beginning of that was read.
     ensures others { Told (S.state shelf.old) (S.state shelf.new) OnlyReads }
     ensures read { OnOk (as_shelf result) (Told (S.state shelf.old) (S.state shelf.new) ReadsRest) }
+    ensures err { OnErr (as_shelf result) (Told (S.state shelf.old) (S.state shelf.new) (ReadsUpTo (2 ^ 40 + 1))) }
 
     // Some records are accepted with the answer. Where the shelf tells, their text is the rest of the file.
     ensures valid { IfOk result (λ checked. (records : List Record) × IsAccepted circuit.now records checked × Told (S.state shelf.old) (S.state shelf.new) (λ old new. rest_of old ≡ text_of records)) }
@@ -61,6 +63,7 @@ fn check_for<S: Shelf>(
     requires opened { IsTrue (S.state shelf.old).tells → IsSome (S.state shelf.old).world.rest }
     ensures call { IsReadCall (as_shelf result) (S.state shelf.old) (S.state shelf.new) × (IsTrue (S.state shelf.old).sure → ¬ IsErrOf result FileFault.Failed) }
     ensures read { Told (S.state shelf.old) (S.state shelf.new) OnlyReads × OnOk (as_shelf result) (Told (S.state shelf.old) (S.state shelf.new) ReadsRest) }
+    ensures err { OnErr (as_shelf result) (Told (S.state shelf.old) (S.state shelf.new) (ReadsUpTo (2 ^ 40 + 1))) }
     ensures valid { IfOk result (λ checked. (records : List Record) × IsAccepted subject.now records checked × Told (S.state shelf.old) (S.state shelf.new) (λ old new. rest_of old ≡ text_of records)) }
     ensures refused { (fault : ResultFault) → IsErrOf result (FileFault.Result fault) → (text : List ℕ) × FileRefused subject.now text fault × Told (S.state shelf.old) (S.state shelf.new) (λ old new. rest_of old ≡ text) }
 {
@@ -84,6 +87,7 @@ fn read_rest<S: Shelf>(
     ensures call { IsReadCall (as_shelf result) (S.state shelf.old) (S.state shelf.new) }
     ensures others { Told (S.state shelf.old) (S.state shelf.new) OnlyReads }
     ensures read { OnOk result (HasRead subject.now reader.new (S.state shelf.old) (S.state shelf.new)) }
+    ensures err { OnErr result (Told (S.state shelf.old) (S.state shelf.new) (ReadsUpTo (2 ^ 40 + 1))) }
     ensures never { IsTrue (S.state shelf.old).sure → ¬ IsErrOf result FileFault.Failed }
     ensures result { (fault : ResultFault) → ¬ IsErrOf result (FileFault.Result fault) }
 {

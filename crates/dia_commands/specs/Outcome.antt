@@ -49,7 +49,8 @@ written_after (m ∷ made) written = written_after made (Some m.0)
 abbrev pub ConsoleGained : Text → World → World → Type 0
 ConsoleGained text old new = new.console ≡ old.console ++ text
 
--- These files were made and this text was printed, and nothing else.
+-- These files were made and this text was printed, and nothing else. Which file is opened, and how far it was read, is
+-- left open.
 pub record Leaves (made : List (Text × Text)) (text : Text) (old new : World) : Type 0 where
   pub files : new.files ≡ after_made made old.files
   pub written : new.written ≡ written_after made old.written
@@ -60,7 +61,7 @@ pub record KeepsFiles (old new : World) : Type 0 where
   pub files : new.files ≡ old.files
   pub written : new.written ≡ old.written
 
--- No file was created or changed, and nothing printed.
+-- No file was created or changed, and nothing printed. Which file is opened, and how far it was read, is left open.
 pub record IsUntouched (old new : World) : Type 0 where
   pub kept : KeepsFiles old new
   pub console : new.console ≡ old.console

@@ -2,6 +2,7 @@
 
 ghost use Rattle.std.specs.Prelude.{◌≡◌, ◌∷◌, ◌++◌, IfOk, if◌then◌else◌};
 ghost use Rattle.pair_sets.specs.declared.tree.Token.TheVariants.{Split};
+ghost use Rattle.pair_sets.specs.PairSim.{with_cube};
 ghost use Rattle.pair_sets.specs.Subtree.{IsSubtree};
 ghost use Rattle.distinguish_search.specs.Frames.{IsUnderWay, IsClimbed};
 
@@ -21,6 +22,7 @@ pub(crate) fn climb(
     requires under_way { IsUnderWay sim.old.circuit sim.old.f sim.old.g sim.old stack.old }
     requires tree { IsSubtree sim.old.circuit sim.old.f sim.old.g sim.old.cube tree }
     ensures circuit { sim.new.circuit ≡ sim.old.circuit }
+    ensures faults { sim.new ≡ with_cube sim.old sim.new.cube }
     ensures climbed { IfOk result (IsClimbed sim.old.circuit sim.old.f sim.old.g tree stack.old sim.new stack.new) }
 {
     let mut tree = tree;

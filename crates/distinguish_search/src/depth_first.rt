@@ -3,6 +3,7 @@
 ghost use Rattle.std.specs.Prelude.{◌≡◌, ◌≤◌, ◌∷◌, [], IfOk, if◌then◌else◌};
 ghost use Rattle.std.specs.List.{list_any};
 ghost use Rattle.net_model.specs.Fault.{IsFaultOf};
+ghost use Rattle.pair_sets.specs.PairSim.{pair_sim, with_cube};
 ghost use Rattle.distinguish_search.specs.End.{leaf_token};
 ghost use Rattle.distinguish_search.specs.Frames.{is_open_leaf};
 ghost use Rattle.distinguish_search.specs.Found.{IsFound};
@@ -38,6 +39,9 @@ pub fn search(
     requires leaves { 1 ≤ leaves }
     ensures found { IfOk result (IsFound sim.old.circuit f.now g.now leaves) }
     ensures circuit { sim.new.circuit ≡ sim.old.circuit }
+
+    // Whatever is answered, the simulation is of the two faults, under some cube.
+    ensures faults { sim.new ≡ pair_sim sim.old.circuit f.now g.now sim.new.cube }
 {
     let by_bit = Rule {
         levels,
@@ -67,6 +71,7 @@ fn run(
     requires first { IsFaultOf sim.old.circuit f.now }
     requires second { IsFaultOf sim.old.circuit g.now }
     ensures circuit { sim.new.circuit ≡ sim.old.circuit }
+    ensures faults { sim.new ≡ pair_sim sim.old.circuit f.now g.now sim.new.cube }
     ensures found { IfOk result (IsFound sim.old.circuit f.now g.now leaves) }
 {
     let mut stack = Stack::new(alloc);
@@ -88,6 +93,7 @@ fn go_through(
     requires all { sim.old.cube ≡ [] }
     requires empty { stack.old ≡ [] }
     ensures circuit { sim.new.circuit ≡ sim.old.circuit }
+    ensures faults { sim.new ≡ with_cube sim.old sim.new.cube }
     ensures found { IfOk result (IsFound sim.old.circuit sim.old.f sim.old.g leaves) }
 {
     let circuit = sim.circuit();

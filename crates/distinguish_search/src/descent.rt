@@ -1,6 +1,7 @@
 //! Down from a cube, split by split, to one that is decided.
 
 ghost use Rattle.std.specs.Prelude.{◌≡◌, IfOk};
+ghost use Rattle.pair_sets.specs.PairSim.{with_cube};
 ghost use Rattle.distinguish_search.specs.Frames.{IsUnderWay, SplitsOn};
 ghost use Rattle.distinguish_search.specs.End.{IsSearchEnd};
 
@@ -22,6 +23,7 @@ pub(crate) fn descend(
 ) -> Result<End, AllocError>
     requires { IsUnderWay sim.old.circuit sim.old.f sim.old.g sim.old stack.old }
     ensures circuit { sim.new.circuit ≡ sim.old.circuit }
+    ensures faults { sim.new ≡ with_cube sim.old sim.new.cube }
     ensures under_way { IfOk result (λ end. IsUnderWay sim.old.circuit sim.old.f sim.old.g sim.new stack.new) }
     ensures splits { IfOk result (λ end. SplitsOn sim.old.circuit.sources stack.old stack.new) }
     ensures ends { IfOk result (IsSearchEnd sim.old.circuit sim.old.f sim.old.g sim.new.cube full) }

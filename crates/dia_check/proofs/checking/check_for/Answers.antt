@@ -1,12 +1,13 @@
 use Rattle.std.proofs.Common.{rules, ◌≡◌, Result, Err, refl, ap}
 use Rattle.result_file.specs.declared.fault.ResultFault.{ResultFault}
 use Rattle.diag_shelf.specs.Calls.{Told}
-use Rattle.diag_shelf.proofs.Steps.{facts_same, read_unkept}
+use Rattle.diag_shelf.proofs.Steps.{facts_same, read_unkept, on_error}
 use Rattle.dia_check.specs.Accepted.{ReadsRest}
+use Rattle.dia_check.specs.Faults.{as_shelf}
 use Rattle.dia_check.specs.declared.answer.FileFault.{FileFault}
 use Rattle.dia_check.specs.declared.answer.FileFault.TheVariants as file
 use Rattle.std.proofs.lemmas.Result.{err_from_is_err_and}
-use Rattle.dia_check.proofs.RestLemmas.{text_refused}
+use Rattle.dia_check.proofs.RestLemmas.{takes_few, reads_nothing, text_refused}
 use Rattle.dia_check.proofs.AnswerLemmas.{on_any, on_no_result, memory_is_no_failure, call_after, told_read, valid_after}
 use Rattle.dia_check.proofs.checking.check_for.Goals as goal
 
@@ -32,6 +33,17 @@ pub returns-clause-refused : goal.returns-clause-refused
 returns-clause-refused g c = λ fault same.
     let read = c.in_ok-read_rest.ensures.read in
     text_refused (g.S.Shelf.state c.args.shelf.now).tells read.all (c.finish.ensures.refused fault same read.fed read.reading)
+
+pub returns-clause-err : goal.returns-clause-err
+returns-clause-err g c =
+    let read = c.in_ok-read_rest.ensures.read in
+    on_error (as_shelf c.finish.result) (λ told. takes_few (c.requires.opened told) (c.in_ok-read_rest.ensures.others told) (read.all told).taken read.few)
+
+pub returns-in_err-read_rest-clause-err : goal.returns-in_err-read_rest-clause-err
+returns-in_err-read_rest-clause-err g c = on_error (as_shelf c.from_residual-in_err-read_rest.result) c.in_err-read_rest.ensures.err
+
+pub returns-in_err-reader-clause-err : goal.returns-in_err-reader-clause-err
+returns-in_err-reader-clause-err g c = on_error (as_shelf c.from_residual.result) (λ told. reads_nothing _ _ (c.requires.opened told))
 
 pub returns-in_err-reader-clause-call : goal.returns-in_err-reader-clause-call
 returns-in_err-reader-clause-call g c =
