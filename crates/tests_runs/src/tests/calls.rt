@@ -17,7 +17,7 @@ const LIMIT: u64 = 10_000;
 // The files that a run reads, its words, and the name of a file that it makes, or of none.
 type Calling = (&'static [File], &'static [&'static str], &'static str);
 
-static CALLS: [Calling; 13] = [
+static CALLS: [Calling; 14] = [
     (&[("n", TRUTH)], &["gen", "n", "r"], "r"),
     (
         &[("n", TRUTH), ("r", TRUTH_RESULT)],
