@@ -13,9 +13,16 @@ use Rattle.dict_file.specs.Reading.{IsRefusedBy}
 use Rattle.diagnose.specs.declared.fault.LogKind.{LogKind}
 use Rattle.diagnose.specs.Lines.{LineForm, RestRule, LinesRefused, too_long, at_line, line_number}
 use Rattle.ranked_diag.specs.PartialLog as partial
+use Rattle.adaptive_tree.specs.declared.fault.PlanKind.{PlanKind}
+use Rattle.adaptive_tree.specs.declared.outcome.Outcome.{Outcome as WalkOutcome}
+use Rattle.adaptive_tree.specs.declared.steps.Plan.{Plan as AdaptivePlan}
+use Rattle.adaptive_tree.specs.WellFormed.{IsTextOf}
+use Rattle.adaptive_tree.specs.Refusal as plan
+use Rattle.adaptive_tree.specs.AnswerLog as walk
 use Rattle.request_words.specs.Request.{Text}
 use Rattle.dia_commands.specs.Dictionaries.{IsDictionaryFile, IsRefusedDictionary}
-use Rattle.dia_commands.specs.Logs.{IsRefusedBySome, IsLogFor, IsPartialFor, IsRefusedPartial, IsListFor}
+use Rattle.dia_commands.specs.Logs.{IsRefusedBySome, IsLogFor, IsPartialFor, IsRefusedPartial, IsLogTo, IsRefusedWalk, IsListFor}
+use Rattle.dia_commands.specs.AdaptivePlans.{IsAdaptivePlanFile, IsRefusedPlan}
 
 pub read_whole : (limit : ℕ) (all : List ℕ) → length all ≤ limit → read_of limit all ≡ all
 read_whole limit all h = take_all (limit + 1) all (omega arith)
@@ -87,6 +94,40 @@ refused_partial_read d {all} {bytes} {console} e is = record { kind = is.kind; l
 
 pub partial_read : (d : Dict) {all bytes : Text} {lines : List partial.Line} → bytes ≡ read_of 1073741824 all → IsPartialFor d bytes lines → IsPartialFor d all lines
 partial_read d {all} {bytes} {lines} e is = said_of_file (λ (b : Text). IsPartialFor d b lines) (λ (log : IsPartialFor d bytes lines). log.short) e is
+
+-- ---- adaptive plans
+
+plan_text_read : {all bytes : Text} {kind : PlanKind} {number : ℕ} → bytes ≡ read_of 1073741824 all → plan.PlanRefused bytes kind number → plan.PlanRefused all kind number
+plan_text_read {all} {bytes} {kind} {number} e refused = elim (cases_lt 1073741824 (length all)) [
+  | inl long ↦ elim refused [
+    | plan.too_long over is at ↦ plan.too_long long is (at ∙ ap (λ (t : Text). line_number t 1073741824) e ∙ line_read 1073741824 all)
+    | plan.at_line before rest short right is refusal at ↦ absurd (long_read 1073741824 all bytes e long short)
+  ]
+  | inr short ↦ subst (λ (b : Text). plan.PlanRefused b kind number) (e ∙ read_whole 1073741824 all short) refused
+]
+
+pub refused_plan_read : {all bytes console : Text} → bytes ≡ read_of 1073741824 all → IsRefusedPlan bytes console → IsRefusedPlan all console
+refused_plan_read {all} {bytes} {console} e is = record { kind = is.kind; line = is.line; refused = plan_text_read e is.refused; console_is = is.console_is }
+
+pub plan_read : {all bytes : Text} {adaptive : AdaptivePlan} → bytes ≡ read_of 1073741824 all → IsAdaptivePlanFile bytes adaptive → IsAdaptivePlanFile all adaptive
+plan_read {all} {bytes} {adaptive} e is = said_of_file (IsTextOf adaptive) (λ (file : IsTextOf adaptive bytes). file.short) e is
+
+-- ---- logs of walks
+
+walk_text_read : (adaptive : AdaptivePlan) {all bytes : Text} {kind : LogKind} {number : ℕ} → bytes ≡ read_of 1073741824 all → walk.WalkRefused adaptive bytes kind number → walk.WalkRefused adaptive all kind number
+walk_text_read adaptive {all} {bytes} {kind} {number} e refused = elim (cases_lt 1073741824 (length all)) [
+  | inl long ↦ elim refused [
+    | walk.too_long over is at ↦ walk.too_long long is (at ∙ ap (λ (t : Text). line_number t 1073741824) e ∙ line_read 1073741824 all)
+    | walk.at_line root before rest short right is refusal at ↦ absurd (long_read 1073741824 all bytes e long short)
+  ]
+  | inr short ↦ subst (λ (b : Text). walk.WalkRefused adaptive b kind number) (e ∙ read_whole 1073741824 all short) refused
+]
+
+pub refused_walk_read : (adaptive : AdaptivePlan) {all bytes console : Text} → bytes ≡ read_of 1073741824 all → IsRefusedWalk adaptive bytes console → IsRefusedWalk adaptive all console
+refused_walk_read adaptive {all} {bytes} {console} e is = record { kind = is.kind; line = is.line; refused = walk_text_read adaptive e is.refused; console_is = is.console_is }
+
+pub walk_read : (adaptive : AdaptivePlan) {all bytes : Text} {outcome : WalkOutcome} → bytes ≡ read_of 1073741824 all → IsLogTo adaptive bytes outcome → IsLogTo adaptive all outcome
+walk_read adaptive {all} {bytes} {outcome} e is = said_of_file (λ (b : Text). IsLogTo adaptive b outcome) (λ (log : IsLogTo adaptive bytes outcome). log.short) e is
 
 -- ---- lists of vectors
 

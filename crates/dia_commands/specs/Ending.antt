@@ -74,6 +74,7 @@ status_of (Err (Refused kind.Log)) = 6
 status_of (Err ReadFailed) = 7
 status_of (Err WriteFailed) = 8
 status_of (Err NoMemory) = 9
+status_of (Err (Refused kind.AdaptivePlan)) = 10
 
 -- The status tells the ending.
 abbrev pub OneEndingEach : Type 0

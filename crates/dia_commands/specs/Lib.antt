@@ -5,6 +5,7 @@ pub mod Netlists
 pub mod Results
 pub mod Dictionaries
 pub mod Logs
+pub mod AdaptivePlans
 pub mod Compactions
 pub mod Rankings
 pub mod Ending

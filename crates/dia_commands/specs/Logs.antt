@@ -1,4 +1,4 @@
--- What becomes of the bytes of a tester's log, whole or partial, and of a list of vectors.
+-- What becomes of the bytes of a tester's log, whole, partial or of a walk, and of a list of vectors.
 use Rattle.std.specs.Prelude.{◌≡◌, ℕ, Bool, List}
 use Rattle.net_model.specs.Circuit.{Circuit}
 use Rattle.table_dicts.specs.declared.dict.Dict.{Dict}
@@ -6,8 +6,11 @@ use Rattle.diagnose.specs.declared.fault.LogKind.{LogKind}
 use Rattle.diagnose.specs.LogText.{IsLog, TesterLogRefused}
 use Rattle.diagnose.specs.VectorText.{IsVectorList, VectorsRefused}
 use Rattle.ranked_diag.specs.PartialLog.{Line, IsPartialLog, PartialRefused}
+use Rattle.adaptive_tree.specs.declared.outcome.Outcome.{Outcome as WalkOutcome}
+use Rattle.adaptive_tree.specs.declared.steps.Plan.{Plan as AdaptivePlan}
+use Rattle.adaptive_tree.specs.AnswerLog.{LeadsTo, WalkRefused}
 use Rattle.request_words.specs.Request.{Text}
-use Rattle.dia_commands.specs.Texts.{log_text}
+use Rattle.dia_commands.specs.Texts.{log_text, outcome_text}
 
 -- The bytes are refused, by a rule that a line breaks, with this text.
 pub record IsRefusedBySome (LineRefused : LogKind → ℕ → Type 0) (console : Text) : Type 0 where
@@ -33,6 +36,19 @@ IsPartialFor d bytes lines = IsPartialLog d.patterns d.positions bytes lines
 
 abbrev pub IsRefusedPartial : Dict → Text → Text → Type 0
 IsRefusedPartial d bytes console = IsRefusedBySome (PartialRefused d.patterns d.positions bytes) console
+
+-- ---- logs of walks
+
+-- The bytes are a log that leads to this outcome in a plan.
+abbrev pub IsLogTo : AdaptivePlan → Text → WalkOutcome → Type 0
+IsLogTo plan bytes outcome = LeadsTo plan bytes outcome
+
+abbrev pub IsRefusedWalk : AdaptivePlan → Text → Text → Type 0
+IsRefusedWalk plan bytes console = IsRefusedBySome (WalkRefused plan bytes) console
+
+-- The text says where a log leads.
+abbrev pub IsOutcomeText : WalkOutcome → Text → Type 0
+IsOutcomeText outcome text = text ≡ outcome_text outcome
 
 -- ---- lists of vectors
 

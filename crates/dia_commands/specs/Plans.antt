@@ -6,7 +6,7 @@ use Rattle.sim_listing.specs.SimText.{IsSimText}
 use Rattle.result_file.specs.declared.record.Budgets.{Budgets}
 use Rattle.result_file.specs.declared.record.Summary.{Summary}
 use Rattle.dia_gen.specs.Made.{IsMade, IsCutFile}
-use Rattle.request_words.specs.Request.{Text, Request, gen, check, make_dict, convert, diagnose, list_faults, simulate, synth, compact, rank}
+use Rattle.request_words.specs.Request.{Text, Request, gen, check, make_dict, convert, diagnose, list_faults, simulate, synth, compact, rank, adapt, follow}
 use Rattle.dia_commands.specs.Outputs.{synth_budgets}
 use Rattle.synth_netlist.specs.Synth.{synth_text}
 use Rattle.dia_commands.specs.Texts.{summary_text, not_understood_text}
@@ -17,7 +17,10 @@ use Rattle.table_dicts.specs.declared.dict.Dict.{Dict}
 use Rattle.dia_commands.specs.Dictionaries.{IsDictionaryFile, IsRefusedDictionary, IsMadeDictionary, IsConverted, IsDiagnosis}
 use Rattle.dia_commands.specs.Compactions.{IsMadeThin}
 use Rattle.ranked_diag.specs.PartialLog.{Line}
-use Rattle.dia_commands.specs.Logs.{IsLogFor, IsRefusedLog, IsPartialFor, IsRefusedPartial, IsListFor, IsRefusedList}
+use Rattle.adaptive_tree.specs.declared.outcome.Outcome.{Outcome as WalkOutcome}
+use Rattle.adaptive_tree.specs.declared.steps.Plan.{Plan as AdaptivePlan}
+use Rattle.dia_commands.specs.Logs.{IsLogFor, IsRefusedLog, IsPartialFor, IsRefusedPartial, IsLogTo, IsRefusedWalk, IsOutcomeText, IsListFor, IsRefusedList}
+use Rattle.dia_commands.specs.AdaptivePlans.{IsAdaptivePlanFile, IsRefusedPlan, IsMadePlan}
 use Rattle.dia_commands.specs.Rankings.{IsRankText}
 use Rattle.dia_commands.specs.declared.ending.FileKind.TheVariants as kind
 use Rattle.dia_commands.specs.Ending.{done, not_understood}
@@ -45,6 +48,14 @@ with_log log d next = judged log kind.Log (List (List Bool)) (IsRefusedLog d) (I
 -- a partial log for a dictionary
 abbrev pub with_partial : Text → Dict → (List Line → Plan) → Plan
 with_partial log d next = judged log kind.Log (List Line) (IsRefusedPartial d) (IsPartialFor d) next
+
+-- an adaptive plan
+abbrev pub with_adaptive_plan : Text → (AdaptivePlan → Plan) → Plan
+with_adaptive_plan plan next = judged plan kind.AdaptivePlan AdaptivePlan IsRefusedPlan IsAdaptivePlanFile next
+
+-- a log of answers to an adaptive plan
+abbrev pub with_walk : Text → AdaptivePlan → (WalkOutcome → Plan) → Plan
+with_walk log plan next = judged log kind.Log WalkOutcome (IsRefusedWalk plan) (IsLogTo plan) next
 
 -- a list of vectors for a circuit
 abbrev pub with_vectors : Text → Circuit → (List (List Bool) → Plan) → Plan
@@ -104,3 +115,5 @@ plan_of (Some (simulate bench vectors)) = with_netlist bench (λ design. with_ve
 plan_of (Some (synth n bench result)) = makes_both bench (synth_text n) result synth_budgets
 plan_of (Some (compact bench result new)) = with_netlist bench (λ design. with_result result design.circuit (λ file. makes_file new (IsMadeThin design.circuit file)))
 plan_of (Some (rank dict log within)) = with_dictionary dict (λ d. with_partial log d (λ lines. says (IsRankText d lines within)))
+plan_of (Some (adapt bench result plan)) = with_netlist bench (λ design. with_result result design.circuit (λ file. makes_file plan (IsMadePlan design.circuit file)))
+plan_of (Some (follow plan log)) = with_adaptive_plan plan (λ adaptive. with_walk log adaptive (λ outcome. says (IsOutcomeText outcome)))

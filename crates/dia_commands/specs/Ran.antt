@@ -7,7 +7,7 @@ use Rattle.net_model.specs.Circuit.{Circuit}
 use Rattle.result_file.specs.declared.record.Budgets.{Budgets}
 use Rattle.result_file.specs.declared.record.Summary.{Summary}
 use Rattle.dia_gen.specs.Made.{IsMade}
-use Rattle.request_words.specs.Request.{Text, Request, gen, check, make_dict, convert, diagnose, list_faults, simulate, synth, compact, rank}
+use Rattle.request_words.specs.Request.{Text, Request, gen, check, make_dict, convert, diagnose, list_faults, simulate, synth, compact, rank, adapt, follow}
 use Rattle.dia_commands.specs.declared.ending.FileKind.TheVariants as kind
 use Rattle.dia_commands.specs.Ending.{Ending, done, not_understood, refused, read_failed, write_failed, no_memory, IsDecided}
 use Rattle.dia_commands.specs.Outputs.{outputs_of}
@@ -42,6 +42,8 @@ endings_of (Some (simulate bench vectors)) = done ∷ refused kind.Netlist ∷ r
 endings_of (Some (synth n bench result)) = done ∷ broken_endings
 endings_of (Some (compact bench result new)) = done ∷ refused kind.Netlist ∷ refused kind.Result ∷ read_endings
 endings_of (Some (rank dict log within)) = done ∷ refused kind.Dictionary ∷ refused kind.Log ∷ read_endings
+endings_of (Some (adapt bench result plan)) = done ∷ refused kind.Netlist ∷ refused kind.Result ∷ read_endings
+endings_of (Some (follow plan log)) = done ∷ refused kind.AdaptivePlan ∷ refused kind.Log ∷ read_endings
 
 -- No count falls, and what a shelf tells and whether it is sure stay.
 pub record Stays (old new : State) : Type 0 where

@@ -14,6 +14,10 @@ use Rattle.dict_file.specs.declared.fault.DictFault.{DictFault}
 use Rattle.dict_file.specs.declared.fault.DictFault.TheVariants as dict
 use Rattle.diagnose.specs.declared.fault.LogKind.{LogKind}
 use Rattle.diagnose.specs.declared.fault.LogKind.TheVariants as log
+use Rattle.adaptive_tree.specs.declared.fault.PlanKind.{PlanKind}
+use Rattle.adaptive_tree.specs.declared.fault.PlanKind.TheVariants as plan
+use Rattle.adaptive_tree.specs.declared.outcome.Outcome.{Outcome as WalkOutcome}
+use Rattle.adaptive_tree.specs.declared.outcome.Outcome.TheVariants as walk
 use Rattle.request_words.specs.Request.{Text}
 
 abbrev pub kind_name : NetKind → Text
@@ -163,3 +167,25 @@ least_text listed least = codes "listed " ++ (decimal listed ++ (codes " least "
 -- ranked numbers, one to a line, how many they are, and the least count
 unfoldable pub ranks_text : List (ℕ × ℕ) → ℕ → Text
 ranks_text ranks least = flat_map rank_line ranks ++ least_text (length ranks) least
+
+-- ---- adaptive plans
+
+abbrev pub plan_rule : PlanKind → Text
+plan_rule plan.Syntax = codes "Syntax"
+plan_rule plan.Order = codes "Order"
+plan_rule plan.Value = codes "Value"
+plan_rule plan.TooLong = codes "TooLong"
+
+-- why a plan is refused
+unfoldable pub plan_fault_text : PlanKind → ℕ → Text
+plan_fault_text kind line = codes "plan: " ++ (plan_rule kind ++ (codes " at line " ++ (decimal line ++ codes "\n")))
+
+-- the classes, asks and depth of a plan
+unfoldable pub plan_counts_text : ℕ → ℕ → ℕ → Text
+plan_counts_text classes asks depth = codes "classes " ++ (decimal classes ++ (codes " asks " ++ (decimal asks ++ (codes " depth " ++ (decimal depth ++ codes "\n")))))
+
+-- where a log leads
+unfoldable pub outcome_text : WalkOutcome → Text
+outcome_text (walk.Class class) = codes "class " ++ (decimal class ++ codes "\n")
+outcome_text (walk.Ask pattern) = codes "ask " ++ (decimal pattern ++ codes "\n")
+outcome_text walk.Unknown = codes "none\n"

@@ -13,6 +13,7 @@ pub enum FileKind {
     Dictionary,
     /// A log, or a list of vectors.
     Log,
+    AdaptivePlan,
 }
 
 /// Why a run did not do what it was asked.
@@ -51,6 +52,7 @@ pub fn status_of(ending: Result<(), RunFault>) -> u8
         Err(RunFault::ReadFailed) => 7,
         Err(RunFault::WriteFailed) => 8,
         Err(RunFault::NoMemory) => 9,
+        Err(RunFault::Refused(FileKind::AdaptivePlan)) => 10,
     }
 }
 

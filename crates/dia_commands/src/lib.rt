@@ -1,6 +1,7 @@
 //! The commands of the program: each does what one request asks for, over any shelf.
 #![tactic(auto)]
 
+mod adaptive_plans;
 mod checks;
 mod compacts;
 mod converts;
@@ -8,11 +9,13 @@ mod diagnoses;
 mod dictionaries;
 mod ending;
 mod ends;
+mod follows;
 mod generates;
 mod laws;
 mod listing;
 mod logs;
 mod makes_dicts;
+mod makes_plans;
 mod netlists;
 mod rankings;
 mod results;
@@ -26,10 +29,12 @@ pub use compacts::compact_result;
 pub use converts::convert_file;
 pub use diagnoses::diagnose_log;
 pub use ending::{FileKind, RunFault, one_ending_each, status_of};
+pub use follows::follow_log;
 pub use generates::generate_file;
 pub use laws::{check_is_written_out, gen_is_written_out};
 pub use listing::list_faults;
 pub use makes_dicts::make_dictionary;
+pub use makes_plans::make_plan;
 pub use rankings::rank_log;
 pub use sims::simulate;
 pub use synths::synthesize;

@@ -1,10 +1,11 @@
-//! From the name of a log, whole or partial, or a list of vectors to what it has, or to the end of the run.
+//! From the name of a log, whole, partial or of a walk, or a list of vectors to what it has, or to the end of the run.
 
 ghost use Rattle.std.specs.Prelude.{Err, IfErr, IfOk};
 ghost use Rattle.table_dicts.specs.Rows.{AreRows};
 ghost use Rattle.net_model.specs.Rows.{AreWide};
 ghost use Rattle.ranked_diag.specs.PartialLog.{ArePartial};
-ghost use Rattle.dia_commands.specs.Logs.{IsLogFor, IsRefusedLog, IsPartialFor, IsRefusedPartial, IsListFor, IsRefusedList};
+ghost use Rattle.adaptive_tree.specs.WellFormed.{IsWellFormed};
+ghost use Rattle.dia_commands.specs.Logs.{IsLogFor, IsRefusedLog, IsPartialFor, IsRefusedPartial, IsLogTo, IsRefusedWalk, IsListFor, IsRefusedList};
 ghost use Rattle.dia_commands.specs.declared.ending.FileKind.TheVariants as file;
 ghost use Rattle.dia_commands.specs.Ending.{refused};
 ghost use Rattle.dia_commands.specs.Outcome.{said, IsPartOf};
@@ -15,6 +16,7 @@ ghost use Rattle.dia_commands.specs.Texts.{log_text};
 use crate::ending::{FileKind, RunFault};
 use crate::ends::{read_file, refuse_by};
 use crate::texts::log_text;
+use adaptive_tree::{Outcome, Plan, follow};
 use diag_shelf::Shelf;
 use diagnose::{LogFault, LogKind, read_log, read_vectors};
 use net_model::{AnswerRows, Circuit, Vectors};
@@ -22,7 +24,7 @@ use ranked_diag::{Partial, read_partial};
 use std::alloc::Global;
 use table_dicts::Dict;
 
-// The most bytes that a log, whole or partial, or a list of vectors may have.
+// The most bytes that a log, whole, partial or of a walk, or a list of vectors may have.
 const TEXT_LIMIT: u64 = 1_073_741_824;
 
 /// Reads and judges the log under a name. Where it isn't accepted, the console says why, and the run is over.
@@ -58,6 +60,25 @@ pub(crate) fn read_partial_log<S: Shelf>(
     let bytes = read_file(alloc, shelf, name, TEXT_LIMIT)?;
     match read_partial(alloc, dict, &bytes) {
         Ok(partial) => Ok(partial),
+        Err(LogFault::At(kind, line)) => Err(say_refusal(alloc, shelf, kind, line)),
+        Err(LogFault::NoMemory) => Err(RunFault::NoMemory),
+    }
+}
+
+/// Reads and judges the log under a name, of answers to a plan. Where it isn't accepted, the console says why, and the run is over.
+pub(crate) fn read_walk<S: Shelf>(
+    alloc: Global,
+    shelf: &mut S,
+    plan: &Plan,
+    name: &str,
+) -> Result<Outcome, RunFault>
+    requires { IsWellFormed plan.now }
+    ensures ok { IfOk result (λ outcome. WasAccepted name.now (IsLogTo plan.now) outcome (S.state shelf.old) (S.state shelf.new)) }
+    ensures err { IfErr result (λ why. IsOver name.now file.Log (IsRefusedWalk plan.now) why (S.state shelf.old) (S.state shelf.new)) }
+{
+    let bytes = read_file(alloc, shelf, name, TEXT_LIMIT)?;
+    match follow(alloc, plan, &bytes) {
+        Ok(outcome) => Ok(outcome),
         Err(LogFault::At(kind, line)) => Err(say_refusal(alloc, shelf, kind, line)),
         Err(LogFault::NoMemory) => Err(RunFault::NoMemory),
     }

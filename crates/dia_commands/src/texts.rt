@@ -1,8 +1,9 @@
 //! The lines of the console.
 
 ghost use Rattle.std.specs.Prelude.{◌≡◌, ◌++◌, IfOk, OnOk, string_bytes};
-ghost use Rattle.dia_commands.specs.Texts.{kind_name, refusal_text, loop_start, line_start, count_text, summary_counts, summary_text, valid_text, dropped_text, evidence_rule, evidence_text, result_rule, result_text, dictionary_text, apart_text, groups_text, log_rule, log_text, number_line, listed_text, rank_line, least_text};
+ghost use Rattle.dia_commands.specs.Texts.{kind_name, refusal_text, loop_start, line_start, count_text, summary_counts, summary_text, valid_text, dropped_text, evidence_rule, evidence_text, result_rule, result_text, dictionary_text, apart_text, groups_text, log_rule, log_text, number_line, listed_text, rank_line, least_text, plan_rule, plan_fault_text, plan_counts_text, outcome_text};
 
+use adaptive_tree::{Outcome, PlanKind};
 use bench_reader::{NetKind, Place};
 use diagnose::LogKind;
 use refute_check::{Refusal, RefusalKind};
@@ -244,4 +245,53 @@ pub(crate) fn push_least(text: &mut String, listed: usize, least: u64) -> Result
     ensures { OnOk result (string_bytes text.new ≡ string_bytes text.old ++ least_text listed least) }
 {
     writeln!(text, "listed {listed} least {least}")
+}
+
+/// Why a plan is refused.
+#[tactic(auto, unfolding(crate::specs::Texts::plan_fault_text))]
+pub(crate) fn plan_fault_text(
+    alloc: Global,
+    kind: PlanKind,
+    line: u64,
+) -> Result<String, AllocError>
+    ensures { IfOk result (λ text. string_bytes text ≡ plan_fault_text kind line) }
+{
+    let rule = plan_rule(kind);
+    format!(in alloc; "plan: {rule} at line {line}\n")
+}
+
+fn plan_rule(kind: PlanKind) -> &'static str
+    ensures { result.now ≡ plan_rule kind }
+{
+    match kind {
+        PlanKind::Syntax => "Syntax",
+        PlanKind::Order => "Order",
+        PlanKind::Value => "Value",
+        PlanKind::TooLong => "TooLong",
+    }
+}
+
+/// The classes, asks and depth of a plan.
+#[tactic(auto, unfolding(crate::specs::Texts::plan_counts_text))]
+pub(crate) fn plan_counts_text(
+    alloc: Global,
+    classes: u32,
+    asks: u32,
+    depth: u32,
+) -> Result<String, AllocError>
+    ensures { IfOk result (λ text. string_bytes text ≡ plan_counts_text classes asks depth) }
+{
+    format!(in alloc; "classes {classes} asks {asks} depth {depth}\n")
+}
+
+/// Where a log leads.
+#[tactic(auto, unfolding(crate::specs::Texts::outcome_text))]
+pub(crate) fn outcome_text(alloc: Global, outcome: Outcome) -> Result<String, AllocError>
+    ensures { IfOk result (λ text. string_bytes text ≡ outcome_text outcome) }
+{
+    match outcome {
+        Outcome::Class(class) => format!(in alloc; "class {class}\n"),
+        Outcome::Ask(pattern) => format!(in alloc; "ask {pattern}\n"),
+        Outcome::Unknown => String::from_str(alloc, "none\n"),
+    }
 }

@@ -8,16 +8,21 @@ use Rattle.bench_reader.specs.Netlist.{Netlist}
 use Rattle.bench_reader.specs.Laws.{NeverAcceptedAndRefused, OneNetlist}
 use Rattle.scan_cut.specs.Cut.{cut_circuit, cut_design}
 use Rattle.synth_netlist.proofs.LoopWalks.{walk_first}
-use Rattle.request_words.specs.Request.{Text, Request, gen, check, make_dict, convert, diagnose, list_faults, simulate, synth, compact, rank}
+use Rattle.request_words.specs.Request.{Text, Request, gen, check, make_dict, convert, diagnose, list_faults, simulate, synth, compact, rank, adapt, follow}
 use Rattle.dia_commands.specs.Netlists.{IsDesign, IsRefused, by_text, by_loop}
 use Rattle.dia_commands.specs.Results.{IsResult, IsRefusedResult}
 use Rattle.dia_commands.specs.Dictionaries.{IsDictionaryFile, IsRefusedDictionary}
-use Rattle.dia_commands.specs.Logs.{IsLogFor, IsRefusedLog, IsPartialFor, IsRefusedPartial, IsListFor, IsRefusedList}
+use Rattle.dia_commands.specs.Logs.{IsLogFor, IsRefusedLog, IsPartialFor, IsRefusedPartial, IsLogTo, IsRefusedWalk, IsListFor, IsRefusedList}
+use Rattle.dia_commands.specs.AdaptivePlans.{IsAdaptivePlanFile, IsRefusedPlan}
 use Rattle.table_dicts.specs.declared.dict.Dict.{Dict}
 use Rattle.dict_file.specs.Laws.{RefusedIsWrong, OneDictionary}
 use Rattle.diagnose.specs.Laws.{RefusedTesterLogIsWrong, OneLogReading, RefusedListIsWrong, OneListReading}
 use Rattle.ranked_diag.specs.PartialLog.{Line}
 use Rattle.ranked_diag.specs.Laws.{RefusedPartialIsWrong, OnePartialReading}
+use Rattle.adaptive_tree.specs.declared.outcome.Outcome.{Outcome as WalkOutcome}
+use Rattle.adaptive_tree.specs.declared.steps.Plan.{Plan as AdaptivePlan}
+use Rattle.adaptive_tree.specs.WellFormed.{IsWellFormed}
+use Rattle.adaptive_tree.specs.Laws.{RefusedPlanIsWrong, OnePlanReading, RefusedWalkIsWrong, OneOutcome}
 use Rattle.dia_commands.specs.Outcome.{Outcome}
 use Rattle.dia_commands.specs.Plans.{plan_of}
 use Rattle.dia_commands.specs.Plan.{IsClearFile, IsClear}
@@ -41,6 +46,10 @@ pub record HasLaws : Type 0 where
   pub one_log : OneLogReading
   pub partial_logs : RefusedPartialIsWrong
   pub one_partial : OnePartialReading
+  pub plans : RefusedPlanIsWrong
+  pub one_plan : OnePlanReading
+  pub walks : RefusedWalkIsWrong
+  pub one_walk : OneOutcome
   pub lists : RefusedListIsWrong
   pub one_list : OneListReading
 
@@ -88,6 +97,18 @@ clear_partial laws d few = record {
   once = λ bytes x y is also. laws.one_partial d.patterns d.positions bytes x y (omega (arith, few)) is also;
 }
 
+clear_plan : HasLaws → IsClearFile AdaptivePlan IsRefusedPlan IsAdaptivePlanFile
+clear_plan laws = record {
+  apart = λ bytes console plan is refused. laws.plans bytes plan refused.kind refused.line refused.refused is;
+  once = λ bytes plan other is also. laws.one_plan bytes plan other is also;
+}
+
+clear_walk : HasLaws → (plan : AdaptivePlan) → IsWellFormed plan → IsClearFile WalkOutcome (IsRefusedWalk plan) (IsLogTo plan)
+clear_walk laws plan formed = record {
+  apart = λ bytes console outcome is refused. laws.walks plan bytes outcome refused.kind refused.line formed refused.refused is;
+  once = λ bytes x y is also. laws.one_walk plan bytes x y formed is also;
+}
+
 clear_list : HasLaws → (c : Circuit) → IsClearFile (List (List Bool)) (IsRefusedList c) (IsListFor c)
 clear_list laws c = record {
   apart = λ bytes console vectors is refused. laws.lists c.sources bytes vectors refused.kind refused.line refused.refused is;
@@ -108,6 +129,8 @@ clear laws (simulate bench vectors) = (clear_netlist laws, λ bytes design is. (
 clear laws (synth n bench result) = λ o both. ending_is both.2.outcome
 clear laws (compact bench result new) = (clear_netlist laws, λ bytes design is. (clear_result laws (circuit_of is), λ bytes file valid o made. ending_is made.3))
 clear laws (rank dict log within) = (clear_dictionary laws, λ bytes d is. (clear_partial laws d is.1.has.patterns, λ bytes lines read o says. ending_is says.2))
+clear laws (adapt bench result plan) = (clear_netlist laws, λ bytes design is. (clear_result laws (circuit_of is), λ bytes file valid o made. ending_is made.3))
+clear laws (follow plan log) = (clear_plan laws, λ bytes adaptive is. (clear_walk laws adaptive is.well_formed, λ bytes outcome read o says. ending_is says.2))
 
 -- ---- what evidence means
 

@@ -5,4 +5,5 @@ pub mod DictionaryClauses
 pub mod SimulationClauses
 pub mod CompactionClauses
 pub mod RankingClauses
+pub mod AdaptiveClauses
 pub mod RunLemmas

@@ -3,6 +3,7 @@ use Rattle.std.proofs.Common.{Option}
 use Rattle.diag_shelf.specs.World.{State}
 use Rattle.result_file.specs.Laws.{ValidIsTrue}
 use Rattle.compact_tests.specs.Laws.{ThinIsSound}
+use Rattle.adaptive_tree.specs.Laws.{WrittenIsRead}
 use Rattle.request_words.specs.Request.{Request}
 use Rattle.dia_commands.specs.Ending.{Ending}
 use Rattle.dia_commands.specs.Ran.{Ran}
@@ -13,10 +14,11 @@ use Rattle.dia_runs.proofs.Clauses.{words_of, not_understood_of, keeps_unless_do
 use Rattle.dia_runs.proofs.SimulationClauses.{simulated_of}
 use Rattle.dia_runs.proofs.CompactionClauses.{compacted_of}
 use Rattle.dia_runs.proofs.RankingClauses.{RankingLaws, ranked_of}
+use Rattle.dia_runs.proofs.AdaptiveClauses.{adapted_of, followed_of}
 use Rattle.dia_runs.proofs.DictionaryClauses.{dictionary_made, converted_of, diagnosed_of}
 
-pub run_of : EvidenceLaws → ValidIsTrue → ThinIsSound → RankingLaws → FilesAreJudgedOnce → (asked : Option Request) {ending : Ending} {a b : State} → Ran asked ending a b → IsRunOf asked ending a b
-run_of laws valid sound ranking once asked {ending} {a} {b} r = record {
+pub run_of : EvidenceLaws → ValidIsTrue → ThinIsSound → RankingLaws → WrittenIsRead → FilesAreJudgedOnce → (asked : Option Request) {ending : Ending} {a b : State} → Ran asked ending a b → IsRunOf asked ending a b
+run_of laws valid sound ranking written once asked {ending} {a} {b} r = record {
   made = λ told. made_of (r.done told) laws;
   checked = λ told. checked_of (r.done told) valid;
   synth = λ told. synth_made (r.done told) laws;
@@ -27,6 +29,8 @@ run_of laws valid sound ranking once asked {ending} {a} {b} r = record {
   faults = λ told. faults_of (r.done told);
   simulated = λ told. simulated_of (r.done told);
   compacted = λ told. compacted_of (r.done told) valid sound;
+  adapted = λ told. adapted_of (r.done told) valid written;
+  followed = λ told. followed_of (r.done told);
   ends = r.ends;
   words = words_of asked r.ends;
   not_asked = not_understood_of asked r.ends;

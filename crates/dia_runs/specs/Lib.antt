@@ -3,4 +3,5 @@ pub mod DictionaryRuns
 pub mod Simulations
 pub mod Compactions
 pub mod Rankings
+pub mod AdaptiveRuns
 pub mod Run

@@ -13,6 +13,7 @@ use Rattle.dia_runs.specs.DictionaryRuns.{MakesDictionary, ConvertsDictionary, P
 use Rattle.dia_runs.specs.Simulations.{PrintsSimulation}
 use Rattle.dia_runs.specs.Compactions.{CompactsResult}
 use Rattle.dia_runs.specs.Rankings.{PrintsRanking}
+use Rattle.dia_runs.specs.AdaptiveRuns.{AdaptsPlan, PrintsOutcome}
 
 pub record IsRunOf (asked : Option Request) (ending : Ending) (old new : State) : Type 0 where
   -- ---- what `gen` and `check` leave where they are done
@@ -42,6 +43,11 @@ pub record IsRunOf (asked : Option Request) (ending : Ending) (old new : State) 
   pub simulated : Told old new (PrintsSimulation asked ending)
   -- `compact` accepts a result as `check` does, and leaves it without the patterns that its classes don't need.
   pub compacted : Told old new (CompactsResult asked ending)
+  -- `adapt` accepts a result as `check` does, and leaves the plan for the classes of its patterns, which leads each fault's own answers to
+  -- its class; no way has more asks than there are patterns, and there are fewer asks than classes.
+  pub adapted : Told old new (AdaptsPlan asked ending)
+  -- `follow` prints where the log's answers lead in the plan: to a class, to the pattern to ask next, or nowhere.
+  pub followed : Told old new (PrintsOutcome asked ending)
   -- ---- the ending, and its causes
 
   -- It is one of those that these words can have.

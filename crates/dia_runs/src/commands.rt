@@ -9,11 +9,13 @@ ghost use Rattle.dia_runs.specs.DictionaryRuns.{DiagnosesAlike};
 ghost use Rattle.dia_runs.specs.Promises.{EachNumberIsAccepted, NoNumberIsRefused, FilesAreJudgedOnce};
 ghost use Rattle.dia_runs.specs.Run.{IsRunOf};
 
+use adaptive_tree::{plan_is_read_once, walk_is_read_once, written_plan_is_read};
 use bench_reader::{never_accepted_and_refused, one_netlist};
 use compact_tests::thin_is_sound;
 use dia_commands::{
-    RunFault, check_result, compact_result, convert_file, diagnose_log, generate_file, list_faults,
-    make_dictionary, one_ending_each, rank_log, refuse_words, simulate, status_of, synthesize,
+    RunFault, check_result, compact_result, convert_file, diagnose_log, follow_log, generate_file,
+    list_faults, make_dictionary, make_plan, one_ending_each, rank_log, refuse_words, simulate,
+    status_of, synthesize,
 };
 use diag_shelf::Shelf;
 use diagnose::{list_is_read_once, log_is_read_once};
@@ -54,6 +56,7 @@ pub fn run<S: Shelf>(alloc: Global, words: &[String], shelf: &mut S) -> u8
     thin_is_sound();
     partial_log_is_read_once();
     whole_log_ranks_as_listed();
+    written_plan_is_read();
     dictionary_is_read_once();
     files_are_judged_once();
     each_number_is_accepted();
@@ -74,6 +77,8 @@ fn files_are_judged_once()
     dictionary_is_read_once();
     log_is_read_once();
     partial_log_is_read_once();
+    plan_is_read_once();
+    walk_is_read_once();
     list_is_read_once();
 }
 
@@ -106,5 +111,7 @@ fn carry_out<S: Shelf>(alloc: Global, request: Request<'_>, shelf: &mut S) -> Re
         Request::Synth(n, bench, output) => synthesize(alloc, shelf, n, bench, output),
         Request::Compact(bench, result, new) => compact_result(alloc, shelf, bench, result, new),
         Request::Rank(dict, log, within) => rank_log(alloc, shelf, dict, log, within),
+        Request::Adapt(bench, result, plan) => make_plan(alloc, shelf, bench, result, plan),
+        Request::Follow(plan, log) => follow_log(alloc, shelf, plan, log),
     }
 }

@@ -3,7 +3,7 @@ use Rattle.std.specs.Prelude.{◌≤◌}
 use Rattle.result_file.specs.Lines.{AreWithinLimits}
 use Rattle.request_words.specs.Request as spec
 use Rattle.request_words.specs.declared.request.Request.{Request}
-use Rattle.request_words.specs.declared.request.Request.TheVariants.{Gen, Check, MakeDict, Convert, Diagnose, ListFaults, Simulate, Synth, Compact, Rank}
+use Rattle.request_words.specs.declared.request.Request.TheVariants.{Gen, Check, MakeDict, Convert, Diagnose, ListFaults, Simulate, Synth, Compact, Rank, Adapt, Follow}
 
 abbrev pub asked : Request → spec.Request
 asked (Gen bench result budgets) = spec.gen bench.now result.now budgets
@@ -16,6 +16,8 @@ asked (Simulate bench vectors) = spec.simulate bench.now vectors.now
 asked (Synth n bench result) = spec.synth n bench.now result.now
 asked (Compact bench result new) = spec.compact bench.now result.now new.now
 asked (Rank dict log within) = spec.rank dict.now log.now within
+asked (Adapt bench result plan) = spec.adapt bench.now result.now plan.now
+asked (Follow plan log) = spec.follow plan.now log.now
 
 -- The numbers of a request are within their limits.
 abbrev pub HasLimits : Request → Type 0
@@ -29,3 +31,5 @@ HasLimits (Simulate bench vectors) = Unit {0}
 HasLimits (Synth n bench result) = (1 ≤ n) × (n ≤ 2000)
 HasLimits (Compact bench result new) = Unit {0}
 HasLimits (Rank dict log within) = within ≤ 1000000
+HasLimits (Adapt bench result plan) = Unit {0}
+HasLimits (Follow plan log) = Unit {0}

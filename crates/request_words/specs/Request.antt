@@ -5,7 +5,7 @@ use Rattle.clap.specs.Words.{App, Row, matches_of, with_rule}
 use Rattle.result_file.specs.declared.record.Budgets.{Budgets}
 use Rattle.request_words.specs.Arguments.{bare_app, two_names_app, name_rule, number_rule, option_rule, is_taken, name_in, number_in, kind_named}
 use Rattle.request_words.specs.declared.request.Verb.{Verb}
-use Rattle.request_words.specs.declared.request.Verb.TheVariants.{Gen, Check, Dict, Convert, Diagnose, Faults, Sim, Synth, Compact, Rank}
+use Rattle.request_words.specs.declared.request.Verb.TheVariants.{Gen, Check, Dict, Convert, Diagnose, Faults, Sim, Synth, Compact, Rank, Adapt, Follow}
 use Rattle.request_words.specs.declared.request.EntryKind.{EntryKind}
 
 abbrev pub Text : Type 0
@@ -32,6 +32,10 @@ pub data Request : Type 0 where
   compact : (bench result new : Text) → Request
   -- rank the numbers by a dictionary and a partial log, up to so many mismatches above the least
   rank : (dict log : Text) (within : ℕ) → Request
+  -- plan which pattern to ask next, for a netlist and a result
+  adapt : (bench result plan : Text) → Request
+  -- tell where a log of answers leads in a plan
+  follow : (plan log : Text) → Request
 
 -- ---- each command: how its words are read, and what they ask for
 
@@ -98,6 +102,18 @@ rank_app = with_rule (two_names_app (codes "rank") (codes "dict") (codes "log"))
 abbrev pub rank_by : List Row → Request
 rank_by rows = rank (name_in (codes "dict") rows) (name_in (codes "log") rows) (number_in (codes "within") 0 1000000 rows)
 
+unfoldable pub adapt_app : App
+adapt_app = with_rule (two_names_app (codes "adapt") (codes "bench") (codes "result")) (name_rule (codes "plan"))
+
+abbrev pub adapt_by : List Row → Request
+adapt_by rows = adapt (name_in (codes "bench") rows) (name_in (codes "result") rows) (name_in (codes "plan") rows)
+
+unfoldable pub follow_app : App
+follow_app = two_names_app (codes "follow") (codes "plan") (codes "log")
+
+abbrev pub follow_by : List Row → Request
+follow_by rows = follow (name_in (codes "plan") rows) (name_in (codes "log") rows)
+
 -- ---- the table of commands
 
 -- the command of a name
@@ -113,6 +129,8 @@ verb_named name =
     else if bytes_eq name (codes "synth") then Some Synth
     else if bytes_eq name (codes "compact") then Some Compact
     else if bytes_eq name (codes "rank") then Some Rank
+    else if bytes_eq name (codes "adapt") then Some Adapt
+    else if bytes_eq name (codes "follow") then Some Follow
     else None
 
 -- the words that a command takes, and what they ask for
@@ -127,6 +145,8 @@ table Sim = (sim_app, λ rows. Some (sim_by rows))
 table Synth = (synth_app, λ rows. Some (synth_by rows))
 table Compact = (compact_app, λ rows. Some (compact_by rows))
 table Rank = (rank_app, λ rows. Some (rank_by rows))
+table Adapt = (adapt_app, λ rows. Some (adapt_by rows))
+table Follow = (follow_app, λ rows. Some (follow_by rows))
 
 abbrev pub app_for : Verb → App
 app_for verb = (table verb).0

@@ -1,9 +1,10 @@
-//! The words of the commands that take more or less than two names: `gen`, `dict`, `faults`, `synth`, `compact` and `rank`.
+//! The words of the commands that take more or less than two names: `gen`, `dict`, `faults`, `synth`, `compact`, `rank`
+//! and `adapt`.
 
 ghost use Rattle.std.specs.Prelude.{◌≡◌, IfOk, IfSome, codes, option_map};
 ghost use Rattle.clap.specs.Words.{app_of, found_of, rows_of, with_rule};
 ghost use Rattle.request_words.specs.Arguments.{option_rule};
-ghost use Rattle.request_words.specs.Request.{gen_app, gen_by, dict_app, dict_by, faults_app, faults_by, synth_app, synth_by, compact_app, compact_by, rank_app, rank_by};
+ghost use Rattle.request_words.specs.Request.{gen_app, gen_by, dict_app, dict_by, faults_app, faults_by, synth_app, synth_by, compact_app, compact_by, rank_app, rank_by, adapt_app, adapt_by};
 ghost use Rattle.request_words.specs.Asked.{asked, HasLimits};
 
 use crate::arguments::{
@@ -160,5 +161,24 @@ pub(crate) fn rank_in<'a>(matches: &ArgMatches<'a>) -> Request<'a>
         name_in(matches, "dict"),
         name_in(matches, "log"),
         number_in(matches, "within", 0, WITHIN_LIMIT),
+    )
+}
+
+/// Three names.
+pub(crate) fn adapt_command<'a>(alloc: Global) -> Result<Command<'a>, AllocError>
+    ensures { IfOk result (λ c. app_of c ≡ adapt_app) }
+{
+    two_names(alloc, "adapt", "bench", "result")?.arg(name_arg(alloc, "plan"))
+}
+
+/// The request of its matches.
+pub(crate) fn adapt_in<'a>(matches: &ArgMatches<'a>) -> Request<'a>
+    ensures asked { asked result ≡ adapt_by (rows_of (found_of matches.now)) }
+    ensures limits { HasLimits result }
+{
+    Request::Adapt(
+        name_in(matches, "bench"),
+        name_in(matches, "result"),
+        name_in(matches, "plan"),
     )
 }

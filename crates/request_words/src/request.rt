@@ -7,8 +7,8 @@ ghost use Rattle.request_words.specs.Asked.{asked, HasLimits};
 
 use crate::arguments::{WordsFault, name_in, parse, two_names};
 use crate::commands::{
-    compact_command, compact_in, dict_command, dict_in, faults_command, faults_in, gen_command,
-    gen_in, rank_command, rank_in, synth_command, synth_in,
+    adapt_command, adapt_in, compact_command, compact_in, dict_command, dict_in, faults_command,
+    faults_in, gen_command, gen_in, rank_command, rank_in, synth_command, synth_in,
 };
 use clap::{ArgMatches, Command};
 use result_file::Budgets;
@@ -27,6 +27,8 @@ pub(crate) enum Verb {
     Synth,
     Compact,
     Rank,
+    Adapt,
+    Follow,
 }
 
 /// What the entries of a dictionary tell of a number: at which patterns it answers otherwise than the fault-free circuit, all
@@ -61,6 +63,10 @@ pub enum Request<'a> {
     Compact(&'a str, &'a str, &'a str),
     /// To rank the numbers by a dictionary and a partial log, up to so many mismatches above the least.
     Rank(&'a str, &'a str, u32),
+    /// To plan which pattern to ask next, for a netlist and a result.
+    Adapt(&'a str, &'a str, &'a str),
+    /// To tell where a log of answers leads in a plan.
+    Follow(&'a str, &'a str),
 }
 
 /// The request of the words: the first is a command, which reads the others.
@@ -95,6 +101,8 @@ fn verb_named(name: &str) -> Option<Verb>
         "synth" => Some(Verb::Synth),
         "compact" => Some(Verb::Compact),
         "rank" => Some(Verb::Rank),
+        "adapt" => Some(Verb::Adapt),
+        "follow" => Some(Verb::Follow),
         _ => None,
     }
 }
@@ -113,7 +121,7 @@ fn read_request(alloc: Global, verb: Verb, words: &[String]) -> Result<Request<'
 }
 
 // How `clap` reads the words behind a command's name.
-#[tactic(auto, unfolding(crate::specs::Request::check_app, crate::specs::Request::convert_app, crate::specs::Request::diagnose_app, crate::specs::Request::sim_app))]
+#[tactic(auto, unfolding(crate::specs::Request::check_app, crate::specs::Request::convert_app, crate::specs::Request::diagnose_app, crate::specs::Request::sim_app, crate::specs::Request::follow_app))]
 fn definition<'a>(alloc: Global, verb: Verb) -> Result<Command<'a>, AllocError>
     ensures { IfOk result (λ c. app_of c ≡ app_for verb) }
 {
@@ -128,6 +136,8 @@ fn definition<'a>(alloc: Global, verb: Verb) -> Result<Command<'a>, AllocError>
         Verb::Synth => synth_command(alloc),
         Verb::Compact => compact_command(alloc),
         Verb::Rank => rank_command(alloc),
+        Verb::Adapt => adapt_command(alloc),
+        Verb::Follow => two_names(alloc, "follow", "plan", "log"),
     }
 }
 
@@ -153,5 +163,7 @@ fn requested<'a>(verb: Verb, matches: &ArgMatches<'a>) -> Option<Request<'a>>
         Verb::Synth => Some(synth_in(matches)),
         Verb::Compact => Some(compact_in(matches)),
         Verb::Rank => Some(rank_in(matches)),
+        Verb::Adapt => Some(adapt_in(matches)),
+        Verb::Follow => Some(Request::Follow(name_in(matches, "plan"), name_in(matches, "log"))),
     }
 }

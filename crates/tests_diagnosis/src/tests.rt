@@ -1,5 +1,6 @@
 //! The modules, by what they test.
 
+mod adaptive;
 mod lists;
 mod logs;
 mod ranked;

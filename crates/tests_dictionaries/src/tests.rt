@@ -5,6 +5,7 @@ mod chosen;
 mod circuits;
 mod made;
 mod numbered;
+mod plans;
 mod rows;
 mod sparse;
 mod spelled;

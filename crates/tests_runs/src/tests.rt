@@ -1,11 +1,13 @@
 //! A module tests the runs of a command, or of several.
 
+mod adapting;
 mod calls;
 mod checking;
 mod compacting;
 mod cuts;
 mod dictionaries;
 mod failing;
+mod following;
 mod generating;
 mod listing;
 mod netlists;

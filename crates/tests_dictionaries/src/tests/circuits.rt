@@ -22,9 +22,9 @@ use table_dicts::{
 
 // Vectors of which each splits a class of those before it, and the classes of all of them.
 #[derive(Drop)]
-struct Kept {
-    patterns: Vectors,
-    classes: Classes,
+pub(crate) struct Kept {
+    pub(crate) patterns: Vectors,
+    pub(crate) classes: Classes,
 }
 
 // Shows these vectors to a keeper of the circuit.
@@ -63,7 +63,7 @@ fn keep_vector(circuit: &Circuit, keeper: &mut Keeper, v: &Vector) -> Result<(),
 }
 
 // What is kept of these vectors.
-fn kept_of(
+pub(crate) fn kept_of(
     alloc: Global,
     circuit: &Circuit,
     faults: &FaultList,

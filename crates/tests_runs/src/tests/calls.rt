@@ -3,7 +3,7 @@
 use crate::tests::runs::Text::{Absent, Any, Is};
 use crate::tests::runs::{File, Left, left_by};
 use crate::tests::texts::{
-    AND, AND_RESULT, LOG, ONE, PARTIAL_LOG, TRUTH, TRUTH_FULL, TRUTH_RESULT,
+    AND, AND_PLAN, AND_RESULT, LOG, ONE, PARTIAL_LOG, TRUTH, TRUTH_FULL, TRUTH_RESULT,
 };
 use std::alloc::{AllocError, Global};
 use std::test::Fail;
@@ -17,7 +17,7 @@ const LIMIT: u64 = 10_000;
 // The files that a run reads, its words, and the name of a file that it makes, or of none.
 type Calling = (&'static [File], &'static [&'static str], &'static str);
 
-static CALLS: [Calling; 14] = [
+static CALLS: [Calling; 16] = [
     (&[("n", TRUTH)], &["gen", "n", "r"], "r"),
     (
         &[("n", TRUTH), ("r", TRUTH_RESULT)],
@@ -51,6 +51,16 @@ static CALLS: [Calling; 14] = [
     ),
     (&[("d", ONE), ("l", LOG)], &["diagnose", "d", "l"], "e"),
     (&[("d", ONE), ("l", PARTIAL_LOG)], &["rank", "d", "l"], "e"),
+    (
+        &[("n", AND), ("r", AND_RESULT)],
+        &["adapt", "n", "r", "p"],
+        "p",
+    ),
+    (
+        &[("p", AND_PLAN), ("l", b"1 0\n2 1\n")],
+        &["follow", "p", "l"],
+        "e",
+    ),
     (&[("o", ONE)], &["convert", "o", "d"], "d"),
     (&[("n", AND)], &["faults", "n"], "e"),
     (&[("n", AND), ("v", b"11\n01\n")], &["sim", "n", "v"], "e"),

@@ -4,7 +4,8 @@ use crate::tests::dictionaries::{is_diagnosed, is_refused};
 use crate::tests::runs::Text::{Absent, Is};
 use crate::tests::runs::plain;
 use crate::tests::texts::{
-    AND_TWICE_CHOSEN, FULL_ONE, FULL_TWO, LOG, ONE, SAME_DIFF, TRUTH, TRUTH_FULL, TRUTH_RESULT, TWO,
+    AND_PLAN, AND_TWICE_CHOSEN, FULL_ONE, FULL_TWO, LOG, ONE, SAME_DIFF, TRUTH, TRUTH_FULL,
+    TRUTH_RESULT, TWO,
 };
 use std::alloc::{AllocError, Global};
 use std::process::Abort;
@@ -22,17 +23,27 @@ fn said(alloc: Global, file: &str, text: &[u8], wanting: &str) -> Result<String,
     format!(in alloc; "{file}: {kind} at line {}\n", lines.saturating_add(1))
 }
 
-// Whether `check` and `compact` refuse the result, with what is said of it.
+// Whether `check`, `compact` and `adapt` refuse the result, with what is said of it.
 fn refuses_result(alloc: Global, bytes: &[u8]) -> Result<bool, AllocError> {
     let console = said(alloc, "result", bytes, "Order")?;
     let files = [("n", TRUTH), ("r", bytes)];
     let checked = plain(alloc, &files, &["check", "n", "r"])?;
     let compacted = plain(alloc, &files, &["compact", "n", "r", "m"])?;
+    let adapted = plain(alloc, &files, &["adapt", "n", "r", "m"])?;
     Ok(
         checked.ended(4, Is(console.as_bytes()))
             && compacted.ended(4, Is(console.as_bytes()))
-            && compacted.holds("m", Absent),
+            && compacted.holds("m", Absent)
+            && adapted.ended(4, Is(console.as_bytes()))
+            && adapted.holds("m", Absent),
     )
+}
+
+// Whether the plan is refused, with what is said of it.
+fn refuses_plan(alloc: Global, bytes: &[u8]) -> Result<bool, AllocError> {
+    let console = said(alloc, "plan", bytes, "Order")?;
+    let left = plain(alloc, &[("p", bytes), ("l", b"")], &["follow", "p", "l"])?;
+    Ok(left.ended(10, Is(console.as_bytes())))
 }
 
 // Whether the log is refused with each dictionary of the AND.
@@ -52,6 +63,17 @@ fn results_cut_to_each_length(rt: HostRuntime) -> Result<(), Fail> {
     for length in 0..TRUTH_RESULT.len() {
         assert!(rt;
             refuses_result(rt.alloc(), &TRUTH_RESULT[..length])?,
+            "length {length}"
+        );
+    }
+    Ok(())
+}
+
+#[test]
+fn plans_cut_to_each_length(rt: HostRuntime) -> Result<(), Fail> {
+    for length in 0..AND_PLAN.len() {
+        assert!(rt;
+            refuses_plan(rt.alloc(), &AND_PLAN[..length])?,
             "length {length}"
         );
     }

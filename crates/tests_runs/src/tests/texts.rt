@@ -30,6 +30,10 @@ pub(crate) const S27: &[u8] =
 pub(crate) const AND_RESULT: &[u8] =
     b"diatest 1 2 1 7\nbudget 4 64 2000\npattern 00\npattern 10\npattern 01\npattern 11\nsame 3 1 C\nsame 5 1 C\nclass 0 - -\nclass 1 0 0\nclass 2 0 1\nclass 3 0 2\nclass 4 0 3\nmember 0 0 rep\nmember 1 4 rep\nmember 2 3 rep\nmember 3 4 equal\nmember 4 2 rep\nmember 5 4 equal\nmember 6 1 rep\nend\n";
 
+/// Which pattern of it to ask next.
+pub(crate) const AND_PLAN: &[u8] =
+    b"adapt 1 1 4 5\nask 1 2\non 0\nask 2 2\non 0\nask 3 2\non 1\nclass 0\non 0\nclass 4\non 1\nclass 3\non 1\nask 0 2\non 1\nclass 1\non 0\nclass 2\nend\n";
+
 /// What is left of it where the patterns are left out that its classes don't need, which is the first one.
 pub(crate) const AND_COMPACTED: &[u8] =
     b"diatest 1 2 1 7\nbudget 4 64 2000\npattern 10\npattern 01\npattern 11\nsame 3 1 C\nsame 5 1 C\nclass 0 - -\nclass 1 0 0\nclass 2 0 1\nclass 3 1 1\nclass 4 0 2\nmember 0 0 rep\nmember 1 4 rep\nmember 2 2 rep\nmember 3 4 equal\nmember 4 1 rep\nmember 5 4 equal\nmember 6 3 rep\nend\n";
@@ -40,6 +44,15 @@ pub(crate) const TRUTH_RESULT: &[u8] =
 
 pub(crate) const TWICE_RESULT: &[u8] =
     b"diatest 1 1 2 7\nbudget 0 0 0\npattern 0\npattern 1\nclass 0 - -\nclass 1 0 0\nclass 2 0 0\nclass 3 0 0\nclass 4 0 1\nclass 5 0 1\nclass 6 0 1\nmember 0 0 rep\nmember 1 4 rep\nmember 2 1 rep\nmember 3 5 rep\nmember 4 2 rep\nmember 5 6 rep\nmember 6 3 rep\nend\n";
+
+/// An input that three outputs show.
+pub(crate) const THRICE: &[u8] = b"INPUT(a)\nOUTPUT(a)\nOUTPUT(a)\nOUTPUT(a)\n";
+
+pub(crate) const THRICE_RESULT: &[u8] =
+    b"diatest 1 1 3 9\nbudget 4 64 2000\npattern 0\npattern 1\nclass 0 - -\nclass 1 0 0\nclass 2 0 0\nclass 3 0 0\nclass 4 0 0\nclass 5 0 1\nclass 6 0 1\nclass 7 0 1\nclass 8 0 1\nmember 0 0 rep\nmember 1 5 rep\nmember 2 1 rep\nmember 3 6 rep\nmember 4 2 rep\nmember 5 7 rep\nmember 6 3 rep\nmember 7 8 rep\nmember 8 4 rep\nend\n";
+
+pub(crate) const THRICE_PLAN: &[u8] =
+    b"adapt 1 3 2 9\nask 0 5\non 000\nask 1 5\non 111\nclass 0\non 000\nclass 5\non 011\nclass 6\non 101\nclass 7\non 110\nclass 8\non 111\nclass 1\non 100\nclass 2\non 010\nclass 3\non 001\nclass 4\nend\n";
 
 pub(crate) const AND_TWICE_RESULT: &[u8] =
     b"diatest 1 2 2 11\nbudget 4 64 2000\npattern 00\npattern 10\npattern 01\npattern 11\nsame 3 1 C\nsame 5 1 C\nclass 0 - -\nclass 1 0 0\nclass 2 0 0\nclass 3 0 0\nclass 4 0 1\nclass 5 0 2\nclass 6 0 3\nclass 7 0 3\nclass 8 0 3\nmember 0 0 rep\nmember 1 6 rep\nmember 2 5 rep\nmember 3 6 equal\nmember 4 4 rep\nmember 5 6 equal\nmember 6 1 rep\nmember 7 7 rep\nmember 8 2 rep\nmember 9 8 rep\nmember 10 3 rep\nend\n";

@@ -5,7 +5,7 @@ use crate::tests::runs::plain;
 use std::alloc::{AllocError, Global};
 use std::test::Fail;
 
-static WRONG: [&[&str]; 37] = [
+static WRONG: [&[&str]; 43] = [
     &[],
     &["generate", "n", "r"],
     &["gen", "n"],
@@ -43,6 +43,12 @@ static WRONG: [&[&str]; 37] = [
     &["compact", "n", "r"],
     &["compact", "n", "r", "m", "s"],
     &["compact", "n", "r", "m", "--cubes", "1"],
+    &["adapt", "n", "r"],
+    &["adapt", "n", "r", "p", "s"],
+    &["adapt", "n", "r", "p", "--cubes", "1"],
+    &["follow", "p"],
+    &["follow", "p", "l", "m"],
+    &["follow", "p", "l", "--within", "1"],
 ];
 
 // Whether a run says so, and makes no file.

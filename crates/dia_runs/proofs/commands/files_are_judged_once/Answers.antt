@@ -15,6 +15,10 @@ returns c =
       one_log = c.log_is_read_once.ensures.reading;
       partial_logs = c.partial_log_is_read_once.ensures.wrong;
       one_partial = c.partial_log_is_read_once.ensures.reading;
+      plans = c.plan_is_read_once.ensures.wrong;
+      one_plan = c.plan_is_read_once.ensures.reading;
+      walks = c.walk_is_read_once.ensures.wrong;
+      one_walk = c.walk_is_read_once.ensures.outcome;
       lists = c.list_is_read_once.ensures.wrong;
       one_list = c.list_is_read_once.ensures.reading;
     } in

@@ -1,0 +1,15 @@
+use Rattle.std.proofs.Common.{◌≡◌, ◌-◌, ◌≤◌, length}
+use Rattle.adaptive_tree.specs.CircuitNumbers.{AreLeadsNumbered}
+use Rattle.adaptive_tree.proofs.circuit_numbers.numbers_of_leads.Given as goal
+
+abbrev pub invariant-loop-first : goal.invariant-loop-first
+invariant-loop-first l = record {
+  within : l.first ≤ length l.vectors;
+  circuit : l.source.circuit ≡ l.setting.circuit.now;
+  leads : l.source.leads ≡ l.leads;
+  sources : l.block.sources ≡ l.setting.circuit.now.sources;
+  numbered : AreLeadsNumbered l.setting.circuit.now l.setting.patterns.now l.leads l.first l.numbers;
+}
+
+abbrev pub decreases-loop-first : goal.decreases-loop-first
+decreases-loop-first l = length l.vectors - l.first

@@ -1,0 +1,63 @@
+-- The lines of a plan as a reader holds them: an answer is the digits of its line.
+use Rattle.std.specs.Prelude.{◌≡◌, ℕ, List, Bool, ◌∷◌, ◌++◌, map, codes, decimal, ⊤}
+use Rattle.net_model.specs.BitText.{bit_digit, bits_text}
+use Rattle.result_file.specs.Spelling.{IsNumber}
+use Rattle.diagnose.specs.Lines.{Text, digit_bits}
+use Rattle.adaptive_tree.specs.declared.line.Form.{Form}
+use Rattle.adaptive_tree.specs.declared.line.Form.TheVariants as form
+use Rattle.adaptive_tree.specs.declared.steps.Step.TheVariants.{Ask, On, Class}
+use Rattle.adaptive_tree.specs.PlanText.{PlanLine, head, step, end, plan_line, HasPlanSpelling}
+use Rattle.adaptive_tree.specs.Refusal.{BeginsWithPlanLine}
+
+-- The digits are those of these bits.
+abbrev pub AreDigitsOf : List Bool → Text → Type 0
+AreDigitsOf bits digits = digits ≡ map bit_digit bits
+
+-- The digits spell the field, as bits.
+pub record AreDigitsIn (field digits : Text) : Type 0 where
+  pub digits_are : AreDigitsOf (digit_bits digits) digits
+  pub field_is : bits_text (digit_bits digits) ≡ field
+
+abbrev pub form_line : Form → PlanLine
+form_line (form.Head positions patterns classes) = head positions patterns classes
+form_line (form.Ask pattern branches) = step (Ask pattern branches)
+form_line (form.On digits) = step (On (digit_bits digits.now))
+form_line (form.Class class) = step (Class class)
+form_line form.End = end
+
+-- An answer is digits.
+abbrev pub HasDigits : Form → Type 0
+HasDigits (form.Head positions patterns classes) = ⊤
+HasDigits (form.Ask pattern branches) = ⊤
+HasDigits (form.On digits) = AreDigitsOf (digit_bits digits.now) digits.now
+HasDigits (form.Class class) = ⊤
+HasDigits form.End = ⊤
+
+-- The form is that of a line.
+pub record IsFormOf (line : Text) (f : Form) : Type 0 where
+  pub spelled : HasPlanSpelling (form_line f)
+  pub digits : HasDigits f
+  pub line_is : plan_line (form_line f) ≡ line
+
+-- The form is that of the line with which the text begins, and the rest stands behind it.
+pub record IsFirstForm (text : Text) (f : Form) (rest : Text) : Type 0 where
+  pub begins : BeginsWithPlanLine text (form_line f) rest
+  pub digits : HasDigits f
+
+-- No line of a plan is spelled so.
+abbrev pub IsNoPlanLine : Text → Type 0
+IsNoPlanLine text = (line : PlanLine) → HasPlanSpelling line → plan_line line ≡ text → ⊥
+
+-- ---- numbers behind one another
+
+abbrev pub pair_text : ℕ → ℕ → Text
+pair_text m n = decimal m ++ 32 ∷ decimal n
+
+-- the sizes of a plan, behind the version
+abbrev pub sizes_text : ℕ → ℕ → ℕ → Text
+sizes_text positions patterns classes = codes "1" ++ 32 ∷ (decimal positions ++ 32 ∷ pair_text patterns classes)
+
+pub record IsPairIn (text : Text) (m n : ℕ) : Type 0 where
+  pub first : IsNumber m
+  pub second : IsNumber n
+  pub text_is : pair_text m n ≡ text

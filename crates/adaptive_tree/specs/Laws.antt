@@ -1,0 +1,98 @@
+-- Laws: of nodes and their steps, of the plan of a table, of texts of plans, and of logs.
+use Rattle.std.specs.Prelude.{◌≡◌, ◌≤◌, ◌<◌, ◌^◌, ℕ, Bool, List, [], ◌++◌, length, All}
+use Rattle.net_model.specs.Circuit.{Circuit}
+use Rattle.net_model.specs.FaultList.{fault_count, fault_numbered}
+use Rattle.net_model.specs.ClassTable.{ClassTable, class_count, class_at}
+use Rattle.class_refine.specs.Fields.{IsWhole}
+use Rattle.table_dicts.specs.AnswerTable.{Answers, IsTable, AreAnswers}
+use Rattle.diagnose.specs.declared.fault.LogKind.{LogKind}
+use Rattle.diagnose.specs.Lines.{Text, text_limit}
+use Rattle.adaptive_tree.specs.declared.steps.Step.{Step}
+use Rattle.adaptive_tree.specs.declared.steps.Plan.{Plan}
+use Rattle.adaptive_tree.specs.declared.fault.PlanKind.{PlanKind}
+use Rattle.adaptive_tree.specs.declared.fault.PlanKind.TheVariants.{TooLong}
+use Rattle.adaptive_tree.specs.declared.outcome.Outcome.{Outcome}
+use Rattle.adaptive_tree.specs.PlanNode.{PlanNode, HasNode, node_steps, depth_of}
+use Rattle.adaptive_tree.specs.Planned.{IsPlan, IsToldApart}
+use Rattle.adaptive_tree.specs.PlanText.{plan_lines, plan_text, HasPlanSpelling}
+use Rattle.adaptive_tree.specs.WellFormed.{IsWellFormed, IsTextOf}
+use Rattle.adaptive_tree.specs.RightNode.{IsRightNode}
+use Rattle.adaptive_tree.specs.Refusal.{PlanRefused}
+use Rattle.adaptive_tree.specs.AnswerLog.{LeadsTo, WalkRefused}
+use Rattle.adaptive_tree.specs.Promises.{IsGoodPlan, LeadsHome, IsOfFault}
+
+-- steps begin with one node at most
+abbrev pub OneNode : Type 0
+OneNode = (node other : PlanNode) (rest more : List Step) → node_steps node ++ rest ≡ node_steps other ++ more → (node ≡ other) × (rest ≡ more)
+
+-- where the values of a plan are right down its tree, it is well formed
+abbrev pub RightTreesAreWellFormed : Type 0
+RightTreesAreWellFormed = (plan : Plan) (root : HasNode plan) → All HasPlanSpelling (plan_lines plan) → IsRightNode plan [] root.node → IsWellFormed plan
+
+-- and in a well-formed plan they are
+abbrev pub WellFormedTreesAreRight : Type 0
+WellFormedTreesAreRight = (plan : Plan) (root : HasNode plan) → IsWellFormed plan → IsRightNode plan [] root.node
+
+-- so no way of it has more asks than there are patterns
+abbrev pub WaysAreShort : Type 0
+WaysAreShort = (plan : Plan) (root : HasNode plan) → IsWellFormed plan → depth_of root.node ≤ plan.patterns
+
+-- ---- the plan of a table
+
+-- Each class has a member, answers tell the classes apart, and 32 bits number the patterns, positions and classes.
+pub record CanBePlanned (t : ClassTable) (table : Answers) : Type 0 where
+  pub whole : IsWhole t
+  pub table_is : IsTable table
+  pub apart : IsToldApart t table
+  pub patterns : length table.rows < 2 ^ 32
+  pub positions : table.positions < 2 ^ 32
+  pub classes : class_count t < 2 ^ 32
+
+-- there is one plan, and no other
+abbrev pub HaveOnePlan : Type 0
+HaveOnePlan = (t : ClassTable) (table : Answers) → CanBePlanned t table → (plan : Plan) × IsPlan t table plan × ((other : Plan) → IsPlan t table other → other ≡ plan)
+
+-- a table's plan is well formed and short, and leads each number to its class
+abbrev pub PlansAreGood : Type 0
+PlansAreGood = (t : ClassTable) (table : Answers) (plan : Plan) → CanBePlanned t table → IsPlan t table plan → IsGoodPlan t table plan
+
+-- where the table has the answers of a circuit's faults, each fault's own answers lead to its class
+abbrev pub FaultsLeadHome : Type 0
+FaultsLeadHome = (c : Circuit) (patterns : List (List Bool)) (t : ClassTable) (table : Answers) (plan : Plan) (number : ℕ) → AreAnswers c patterns table → IsGoodPlan t table plan → number < fault_count c
+    → LeadsHome plan (IsOfFault c patterns (fault_numbered c number)) (class_at t number)
+
+-- ---- texts
+
+-- a text is that of one plan
+abbrev pub OnePlanReading : Type 0
+OnePlanReading = (text : Text) (plan other : Plan) → IsTextOf plan text → IsTextOf other text → plan ≡ other
+
+-- a text that is refused is no plan's
+abbrev pub RefusedPlanIsWrong : Type 0
+RefusedPlanIsWrong = (text : Text) (plan : Plan) (kind : PlanKind) (line : ℕ) → PlanRefused text kind line → ¬ IsTextOf plan text
+
+-- a text is refused by one rule at one line
+abbrev pub OnePlanRefusal : Type 0
+OnePlanRefusal = (text : Text) (kind other : PlanKind) (line number : ℕ) → PlanRefused text kind line → PlanRefused text other number → (kind ≡ other) × (line ≡ number)
+
+-- the text of a well-formed plan is read back, unless it is too long
+abbrev pub WrittenIsRead : Type 0
+WrittenIsRead = (plan : Plan) → IsWellFormed plan → length (plan_text plan) ≤ text_limit → IsTextOf plan (plan_text plan)
+
+-- and it is refused for its length alone
+abbrev pub RefusedForLength : Type 0
+RefusedForLength = (plan : Plan) (kind : PlanKind) (line : ℕ) → IsWellFormed plan → PlanRefused (plan_text plan) kind line → kind ≡ TooLong
+
+-- ---- logs
+
+-- a log leads to one outcome
+abbrev pub OneOutcome : Type 0
+OneOutcome = (plan : Plan) (text : Text) (end other : Outcome) → IsWellFormed plan → LeadsTo plan text end → LeadsTo plan text other → end ≡ other
+
+-- a log that is refused leads nowhere, not even to where the plan has no branch
+abbrev pub RefusedWalkIsWrong : Type 0
+RefusedWalkIsWrong = (plan : Plan) (text : Text) (end : Outcome) (kind : LogKind) (line : ℕ) → IsWellFormed plan → WalkRefused plan text kind line → ¬ LeadsTo plan text end
+
+-- a log is refused by one rule at one line
+abbrev pub OneWalkRefusal : Type 0
+OneWalkRefusal = (plan : Plan) (text : Text) (kind other : LogKind) (line number : ℕ) → IsWellFormed plan → WalkRefused plan text kind line → WalkRefused plan text other number → (kind ≡ other) × (line ≡ number)

@@ -1,0 +1,44 @@
+-- Where nodes and branches stand in the steps of a plan.
+use Rattle.std.specs.Prelude.{◌≡◌, ℕ, ◌+◌, ◌-◌, List, ◌++◌, length, drop, Option, None, Some, ⊤}
+use Rattle.diagnose.specs.Lines.{Text, digit_bits}
+use Rattle.diagnose.specs.LogText.{BeginsWithLine}
+use Rattle.adaptive_tree.specs.declared.steps.Step.{Step}
+use Rattle.adaptive_tree.specs.declared.steps.Step.TheVariants.{Ask, On, Class}
+use Rattle.adaptive_tree.specs.declared.outcome.Outcome.{Outcome}
+use Rattle.adaptive_tree.specs.declared.outcome.Outcome.TheVariants as outcome
+use Rattle.adaptive_tree.specs.PlanNode.{PlanNode, Branches, branch_answers, node_steps, branch_steps}
+
+-- The node stands at the place.
+pub record StandsAt (steps : List Step) (place : ℕ) (node : PlanNode) : Type 0 where
+  pub rest : List Step
+  pub there : drop place steps ≡ node_steps node ++ rest
+
+-- So many branches stand at the place.
+pub record HasBranchesAt (steps : List Step) (place count : ℕ) : Type 0 where
+  pub branches : Branches
+  pub rest : List Step
+  pub count_is : length (branch_answers branches) ≡ count
+  pub there : drop place steps ≡ branch_steps branches ++ rest
+
+-- The walk is at this node, which stands at the place; where there is no place it is at none.
+abbrev pub IsWalkAt : List Step → Option ℕ → Option PlanNode → Type 0
+IsWalkAt steps None None = ⊤
+IsWalkAt steps None (Some node) = ⊥
+IsWalkAt steps (Some place) None = ⊥
+IsWalkAt steps (Some place) (Some node) = StandsAt steps place node
+
+pub record IsWalkSomewhere (steps : List Step) (place : Option ℕ) : Type 0 where
+  pub node : Option PlanNode
+  pub at : IsWalkAt steps place node
+
+-- The text begins with the line of an answer to the pattern that is asked, with digits of the right width.
+pub record IsAnswerLine (positions : ℕ) (end : Outcome) (text : Text) (pattern : ℕ) (digits rest : Text) : Type 0 where
+  pub begins : BeginsWithLine text pattern (digit_bits digits) rest
+  pub asked : end ≡ outcome.Ask pattern
+  pub width : length digits ≡ positions
+
+-- how many nodes are still to end behind a step, where so many were before it
+abbrev pub nodes_behind : Step → ℕ → ℕ
+nodes_behind (Ask pattern branches) left = left - 1 + branches
+nodes_behind (On answer) left = left
+nodes_behind (Class class) left = left - 1

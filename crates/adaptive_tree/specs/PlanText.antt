@@ -1,0 +1,49 @@
+-- How a plan is written: a line for its sizes, one for each step, and the end.
+use Rattle.std.specs.Prelude.{ℕ, List, [], ◌∷◌, ◌++◌, map, flat_map, codes, decimal, ⊤}
+use Rattle.std.specs.List.{join_with_byte}
+use Rattle.net_model.specs.BitText.{bits_text}
+use Rattle.result_file.specs.Spelling.{IsNumber}
+use Rattle.diagnose.specs.Lines.{Text}
+use Rattle.adaptive_tree.specs.declared.steps.Step.{Step}
+use Rattle.adaptive_tree.specs.declared.steps.Step.TheVariants.{Ask, On, Class}
+use Rattle.adaptive_tree.specs.declared.steps.Plan.{Plan}
+
+pub data PlanLine : Type 0 where
+  head : (positions patterns classes : ℕ) → PlanLine
+  step : Step → PlanLine
+  end : PlanLine
+
+abbrev pub plan_step_fields : Step → List Text
+plan_step_fields (Ask pattern branches) = codes "ask" ∷ decimal pattern ∷ decimal branches ∷ []
+plan_step_fields (On answer) = codes "on" ∷ bits_text answer ∷ []
+plan_step_fields (Class class) = codes "class" ∷ decimal class ∷ []
+
+abbrev pub plan_line_fields : PlanLine → List Text
+plan_line_fields (head positions patterns classes) = codes "adapt" ∷ codes "1" ∷ decimal positions ∷ decimal patterns ∷ decimal classes ∷ []
+plan_line_fields (step s) = plan_step_fields s
+plan_line_fields end = codes "end" ∷ []
+
+unfoldable pub plan_line : PlanLine → Text
+plan_line line = join_with_byte 32 (plan_line_fields line)
+
+-- each line with its LF
+abbrev pub plan_lines_text : List PlanLine → Text
+plan_lines_text lines = flat_map (λ line. plan_line line ++ 10 ∷ []) lines
+
+abbrev pub plan_lines : Plan → List PlanLine
+plan_lines plan = head plan.positions plan.patterns plan.classes ∷ (map step plan.steps ++ end ∷ [])
+
+abbrev pub plan_text : Plan → Text
+plan_text plan = plan_lines_text (plan_lines plan)
+
+-- ---- which lines can be written
+
+abbrev pub HasPlanStepSpelling : Step → Type 0
+HasPlanStepSpelling (Ask pattern branches) = IsNumber pattern × IsNumber branches
+HasPlanStepSpelling (On answer) = ⊤
+HasPlanStepSpelling (Class class) = IsNumber class
+
+abbrev pub HasPlanSpelling : PlanLine → Type 0
+HasPlanSpelling (head positions patterns classes) = IsNumber positions × IsNumber patterns × IsNumber classes
+HasPlanSpelling (step s) = HasPlanStepSpelling s
+HasPlanSpelling end = ⊤

@@ -1,0 +1,39 @@
+//! Lines of answers.
+
+ghost use Rattle.std.specs.Prelude.{◌≡◌, ◌≢◌, ◌<◌, ◌^◌, ℕ, Bool, List, MatchOption};
+ghost use Rattle.diagnose.specs.Lines.{digit_bits};
+ghost use Rattle.diagnose.specs.LogText.{log_line, BeginsWithLine, HasNoLine};
+
+use crate::digits::digits_of;
+use diagnose::{cut, number_of};
+
+/// The line of an answer and what stands behind it.
+#[derive(Clone, Copy)]
+pub(crate) struct AnswerLine<'a> {
+    pub(crate) pattern: u32,
+    pub(crate) digits: &'a [u8],
+    pub(crate) rest: &'a [u8],
+}
+
+/// The line that a log begins with.
+pub(crate) fn first_answer(text: &[u8]) -> Option<AnswerLine<'_>>
+    ensures { MatchOption result (HasNoLine text.now) (λ line. BeginsWithLine text.now line.pattern (digit_bits line.digits.now) line.rest.now) }
+{
+    let (line, rest) = cut(text, b'\n')?;
+    let (pattern, digits) = fields_of(line)?;
+    Some(AnswerLine {
+        pattern,
+        digits,
+        rest,
+    })
+}
+
+// The pattern and the digits that a line spells.
+fn fields_of(line: &[u8]) -> Option<(u32, &[u8])>
+    ensures { MatchOption result ((pattern : ℕ) (bits : List Bool) → pattern < 2 ^ 32 → log_line pattern bits ≢ line.now) (λ fields. (fields.0 < 2 ^ 32) × (log_line fields.0 (digit_bits fields.1.now) ≡ line.now)) }
+{
+    let (number, field) = cut(line, b' ')?;
+    let pattern = number_of(number)?;
+    let digits = digits_of(field)?;
+    Some((pattern, digits))
+}

@@ -1,0 +1,37 @@
+//! How many asks a plan has, and how many on one way.
+
+ghost use Rattle.std.specs.Prelude.{◌≡◌, ◌<◌, ◌^◌};
+ghost use Rattle.adaptive_tree.specs.PlanNode.{HasNode, ask_count, is_ask as is_ask_step, depth_of};
+ghost use Rattle.adaptive_tree.specs.WellFormed.{IsWellFormed};
+
+use crate::steps::{Plan, Step};
+
+impl Plan {
+    /// How many asks there are.
+    pub fn asks(&self) -> u32
+        requires formed { IsWellFormed self.now }
+        requires few { ask_count self.now.steps < 2 ^ 32 }
+        ensures { result ≡ ask_count self.now.steps }
+    {
+        let steps = self.steps.as_slice();
+        let asks = steps.iter().filter(|step| is_ask(step)).count();
+        asks as u32
+    }
+
+    /// The greatest number of asks on one way.
+    pub fn depth(&self) -> u32
+        requires { IsWellFormed self.now }
+        ensures { (root : HasNode self.now) → result ≡ depth_of root.node }
+    {
+        self.steps.most_open() as u32
+    }
+}
+
+fn is_ask(step: &Step) -> bool
+    ensures { result ≡ is_ask_step step.now }
+{
+    match step {
+        Step::Ask(_, _) => true,
+        Step::On(_) | Step::Class(_) => false,
+    }
+}

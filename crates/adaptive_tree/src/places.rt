@@ -1,0 +1,111 @@
+//! Nodes and branches in the steps of a plan, by place.
+
+ghost use Rattle.std.specs.Prelude.{◌≡◌, ◌+◌, ◌<◌, ◌≤◌, ◌^◌, Bool, List, length, drop, Option, option_and_then};
+ghost use Rattle.net_model.specs.ClassTable.{same_bits};
+ghost use Rattle.diagnose.specs.Lines.{digit_bits};
+ghost use Rattle.adaptive_tree.specs.declared.steps.Step.TheVariants.{On};
+ghost use Rattle.adaptive_tree.specs.PlanNode.{PlanNode, BeginsWithNode};
+ghost use Rattle.adaptive_tree.specs.Walk.{next_node, branch_for, outcome_at as outcome_of_node};
+ghost use Rattle.adaptive_tree.specs.Places.{IsWalkAt, IsWalkSomewhere, HasBranchesAt, nodes_behind};
+
+use crate::outcome::Outcome;
+use crate::steps::Step;
+use net_model::Bits;
+
+/// The outcome of a walk that has come to this place, or to none.
+pub(crate) fn outcome_at(steps: &[Step], place: Option<usize>) -> Outcome
+    requires { IsWalkSomewhere steps.now place }
+    ensures { (node : Option PlanNode) → IsWalkAt steps.now place node → result ≡ outcome_of_node node }
+{
+    let Some(at) = place else {
+        return Outcome::Unknown;
+    };
+    match &steps[at] {
+        Step::Ask(pattern, _) => Outcome::Ask(*pattern),
+        Step::Class(class) => Outcome::Class(*class),
+        Step::On(_) => Outcome::Unknown,
+    }
+}
+
+/// Where an answer leads from a place.
+pub(crate) fn next_place(steps: &[Step], place: Option<usize>, digits: &[u8]) -> Option<usize>
+    requires { IsWalkSomewhere steps.now place }
+    ensures { (node : Option PlanNode) → IsWalkAt steps.now place node → IsWalkAt steps.now result (option_and_then (next_node (digit_bits digits.now)) node) }
+{
+    let at = place?;
+    match &steps[at] {
+        Step::Ask(_, branches) => branch_place(steps, at + 1, *branches, digits),
+        Step::On(_) | Step::Class(_) => None,
+    }
+}
+
+// The place of the node of the branch for an answer, among so many branches from a place on.
+fn branch_place(steps: &[Step], first: usize, count: u32, digits: &[u8]) -> Option<usize>
+    requires { HasBranchesAt steps.now first count }
+    ensures { (given : HasBranchesAt steps.now first count) → IsWalkAt steps.now result (branch_for (digit_bits digits.now) given.branches) }
+{
+    let mut at = first;
+    let mut left = count;
+    while left > 0 {
+        if is_branch_for(&steps[at], digits) {
+            return Some(at + 1);
+        }
+        at = behind_node(steps, at + 1);
+        left -= 1;
+    }
+    None
+}
+
+// Whether a step is the branch for an answer.
+fn is_branch_for(step: &Step, digits: &[u8]) -> bool
+    ensures { (answer : List Bool) → step.now ≡ On answer → result ≡ same_bits answer (digit_bits digits.now) }
+{
+    match step {
+        Step::On(answer) => is_same(answer, digits),
+        Step::Ask(_, _) | Step::Class(_) => false,
+    }
+}
+
+// Whether bits are those of digits.
+fn is_same(bits: &Bits, digits: &[u8]) -> bool
+    ensures { result ≡ same_bits bits.now (digit_bits digits.now) }
+{
+    if bits.len() != digits.len() {
+        return false;
+    }
+    for at in 0..digits.len() {
+        if bits.get(at) != (digits[at] == b'1') {
+            return false;
+        }
+    }
+    true
+}
+
+// The place behind the node that stands at a place.
+fn behind_node(steps: &[Step], from: usize) -> usize
+    requires { from ≤ length steps.now }
+    ensures { (given : BeginsWithNode (drop from steps.now)) → drop result steps.now ≡ given.rest }
+{
+    // Nodes that are still to end; the sum of 32-bit counts over all steps.
+    let mut left: u128 = 1;
+    let mut at = from;
+    while left > 0 && at < steps.len() {
+        left = nodes_left(&steps[at], left);
+        at += 1;
+    }
+    at
+}
+
+// How many nodes are still to end behind a step, before which so many were.
+fn nodes_left(step: &Step, left: u128) -> u128
+    requires some { 0 < left }
+    requires small { left < 2 ^ 100 }
+    ensures left { result ≡ nodes_behind step.now left }
+    ensures few { result < left + 2 ^ 32 }
+{
+    match step {
+        Step::Ask(_, branches) => left - 1 + *branches as u128,
+        Step::On(_) => left,
+        Step::Class(_) => left - 1,
+    }
+}

@@ -1,0 +1,92 @@
+//! Plans, as steps in prefix order.
+
+ghost use Rattle.std.specs.Prelude.{◌≡◌, [], ◌∷◌, ◌++◌, length, OnOk, OnErr};
+ghost use Rattle.adaptive_tree.specs.OpenWays.{open_ways};
+
+use crate::open_ways::OpenWays;
+use net_model::Bits;
+use std::alloc::{AllocError, Global};
+use std::marker::Model;
+
+/// A pattern is asked, and so many branches follow; a branch for an answer, whose node follows; a class is reached.
+#[derive(Drop)]
+pub enum Step {
+    Ask(u32, u32),
+    On(Bits),
+    Class(u32),
+}
+
+/// A list of steps.
+#[derive(Drop)]
+pub struct Steps {
+    steps: Vec<Step>,
+    // So the depth of a plan is told without memory.
+    ways: OpenWays,
+}
+
+impl Model for Steps {
+    ghost use Rattle.std.specs.Prelude.{List};
+    ghost use Rattle.adaptive_tree.specs.declared.steps.Step.{Step};
+    ghost use Rattle.adaptive_tree.specs.OpenWays.{AreOpenWays};
+
+    ghost Value = { List Step };
+
+    ghost view = { λ a. a.steps.items };
+
+    ghost invariant = { λ a. AreOpenWays a.steps.items a.ways.left.items a.ways.most };
+}
+
+impl Steps {
+    /// No steps.
+    pub fn new(alloc: Global) -> Steps
+        ensures { result ≡ [] }
+    {
+        Steps {
+            steps: Vec::new(alloc),
+            ways: OpenWays::new(alloc),
+        }
+    }
+
+    /// Adds a step behind all others. After an error the list is as it was.
+    pub fn push(&mut self, step: Step) -> Result<(), AllocError>
+        ensures ok { OnOk result (self.new ≡ self.old ++ step ∷ []) }
+        ensures err { OnErr result (self.new ≡ self.old) }
+    {
+        self.steps.push(step)?;
+        let noted = self.ways.note(&self.steps[self.steps.len() - 1]);
+        if noted.is_err() {
+            self.steps.pop();
+        }
+        noted
+    }
+
+    /// How many steps there are.
+    pub fn len(&self) -> usize
+        ensures { result ≡ length self.now }
+    {
+        self.steps.len()
+    }
+
+    /// The steps as a slice.
+    pub fn as_slice(&self) -> &[Step]
+        ensures { result.now ≡ self.now }
+    {
+        &self.steps
+    }
+
+    // The most asks that are open at once.
+    pub(crate) fn most_open(&self) -> u64
+        ensures { result ≡ (open_ways self.now).most }
+    {
+        self.ways.most
+    }
+}
+
+/// A plan for a number of classes, by answers of so many positions to so many patterns.
+#[derive(Drop)]
+pub struct Plan {
+    pub positions: u32,
+    pub patterns: u32,
+    pub classes: u32,
+    pub steps: Steps,
+}

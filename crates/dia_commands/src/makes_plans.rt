@@ -1,0 +1,113 @@
+//! The command `adapt`: from the bytes of a netlist and a result to an adaptive plan.
+
+ghost use Rattle.std.specs.Prelude.{◌≡◌, ◌<◌, ℕ, List, All, IfOk, Some, length, string_bytes};
+ghost use Rattle.net_model.specs.PatternRows.{IsTableOf};
+ghost use Rattle.adaptive_tree.specs.PlanNode.{HasNode, ask_count, depth_of};
+ghost use Rattle.adaptive_tree.specs.PlanText.{plan_text};
+ghost use Rattle.adaptive_tree.specs.WellFormed.{IsWellFormed};
+ghost use Rattle.request_words.specs.Request.{adapt};
+ghost use Rattle.dia_commands.specs.AdaptivePlans.{IsPlanOf, IsPlanFileOf, IsMadePlan};
+ghost use Rattle.dia_commands.specs.Plans.{makes_file, with_result};
+ghost use Rattle.dia_commands.specs.Ran.{Ran, RanOn};
+ghost use Rattle.dia_commands.specs.Texts.{plan_counts_text};
+
+use crate::ending::RunFault;
+use crate::ends::save;
+use crate::netlists::read_design;
+use crate::results::read_result;
+use crate::texts::plan_counts_text;
+use adaptive_tree::{Plan, plan_at, plan_of_a_table_is_good, write_plan};
+use class_refine::Classes;
+use dia_check::Checked;
+use diag_shelf::Shelf;
+use fault_list::list;
+use net_model::{Circuit, Vectors};
+use std::alloc::{AllocError, Global};
+use table_dicts::Setting;
+
+/// Reads and judges the netlist and then the result, and writes the plan for the classes of the result's patterns under the plan's name,
+/// which may be that of the result.
+pub fn make_plan<S: Shelf>(
+    alloc: Global,
+    shelf: &mut S,
+    bench: &str,
+    results: &str,
+    output: &str,
+) -> Result<(), RunFault>
+    ensures { Ran (Some (adapt bench.now results.now output.now)) result (S.state shelf.old) (S.state shelf.new) }
+{
+    let design = read_design(alloc, shelf, bench)?;
+    make_for(alloc, shelf, &design.circuit, results, output)
+}
+
+// Reads and judges the result for a circuit, and writes the plan for its classes.
+fn make_for<S: Shelf>(
+    alloc: Global,
+    shelf: &mut S,
+    circuit: &Circuit,
+    results: &str,
+    output: &str,
+) -> Result<(), RunFault>
+    ensures { (bench : List ℕ) → RanOn (adapt bench results.now output.now) (with_result results.now circuit.now (λ (file : List ℕ). makes_file output.now (IsMadePlan circuit.now file))) result (S.state shelf.old) (S.state shelf.new) }
+{
+    let checked = read_result(alloc, shelf, circuit, results)?;
+    let made = made_of(alloc, circuit, &checked)?;
+    save(shelf, output, &made.file, made.text.as_bytes())
+}
+
+// A plan's file, and what is printed of it.
+#[derive(Drop)]
+struct Made {
+    file: Vec<u8>,
+    text: String,
+}
+
+// The plan for the classes of a result that was checked.
+fn made_of(alloc: Global, circuit: &Circuit, checked: &Checked) -> Result<Made, AllocError>
+    requires widths { All (λ v. length v ≡ circuit.now.sources) checked.now.patterns }
+    requires table { IsTableOf circuit.now checked.now.patterns checked.now.classes }
+    ensures { IfOk result (λ made. IsPlanFileOf circuit.now checked.now.patterns checked.now.classes made.file.items (string_bytes made.text)) }
+{
+    let plan = plan_for(alloc, circuit, &checked.patterns, &checked.classes)?;
+    let made = spelled(alloc, &plan)?;
+    Ok(made)
+}
+
+// The plan for the classes of the patterns.
+fn plan_for(
+    alloc: Global,
+    circuit: &Circuit,
+    patterns: &Vectors,
+    classes: &Classes,
+) -> Result<Plan, AllocError>
+    requires widths { All (λ v. length v ≡ circuit.now.sources) patterns.now }
+    requires table { IsTableOf circuit.now patterns.now classes.now }
+    ensures { IfOk result (IsPlanOf circuit.now patterns.now classes.now) }
+{
+    // That the plan leads faults home and that there are few patterns is known by these.
+    plan_of_a_table_is_good();
+    let _patterns = classes.patterns();
+    let faults = list(alloc, circuit)?;
+    let setting = Setting {
+        circuit,
+        faults: &faults,
+        patterns,
+        classes,
+    };
+    let plan = plan_at(alloc, &setting)?;
+    Ok(plan)
+}
+
+// A plan's file, and what is printed of it.
+fn spelled(alloc: Global, plan: &Plan) -> Result<Made, AllocError>
+    requires formed { IsWellFormed plan.now }
+    requires few { ask_count plan.now.steps < plan.now.classes }
+    ensures file { IfOk result (λ made. made.file.items ≡ plan_text plan.now) }
+    ensures text { IfOk result (λ made. (root : HasNode plan.now) → string_bytes made.text ≡ plan_counts_text plan.now.classes (ask_count plan.now.steps) (depth_of root.node)) }
+{
+    let text = plan_counts_text(alloc, plan.classes, plan.asks(), plan.depth())?;
+    Ok(Made {
+        file: write_plan(alloc, plan)?,
+        text,
+    })
+}

@@ -1,0 +1,37 @@
+-- What the runs of `adapt` and `follow` whose work is done leave.
+use Rattle.std.specs.Prelude.{◌≡◌, ◌≤◌, length, Option, Some}
+use Rattle.std.specs.FinMap.{get}
+use Rattle.diag_shelf.specs.World.{World}
+use Rattle.diagnose.specs.Lines.{text_limit}
+use Rattle.request_words.specs.Request.{Text, Request, adapt, follow}
+use Rattle.dia_commands.specs.AdaptivePlans.{IsAdaptivePlanFile, IsMadePlan}
+use Rattle.dia_commands.specs.Ending.{Ending, done}
+use Rattle.dia_commands.specs.Logs.{IsLogTo}
+use Rattle.dia_commands.specs.Outcome.{ConsoleGained}
+use Rattle.dia_commands.specs.Texts.{outcome_text}
+use Rattle.dia_runs.specs.Promises.{WasRead, HoldsTrueResult}
+
+-- The result is valid and true. Under the plan's name is the text of the plan for the classes of the result's patterns, and the console
+-- gained its counts. `follow` accepts the text as that plan, unless it is too long.
+pub record HasAdaptivePlan (bench result plan : Text) (old new : World) : Type 0 where
+  pub read : HoldsTrueResult bench result old.files
+  pub file : Text
+  pub saved : get new.files plan ≡ Some file
+  pub text : Text
+  pub made : IsMadePlan read.design.circuit read.file file text
+  pub accepted : length file ≤ text_limit → IsAdaptivePlanFile file made.made.plan
+  pub printed : ConsoleGained text old new
+
+-- A run of `adapt` whose work is done leaves them.
+abbrev pub AdaptsPlan : Option Request → Ending → World → World → Type 0
+AdaptsPlan request ending old new = (bench result plan : Text) → request ≡ Some (adapt bench result plan) → ending ≡ done → HasAdaptivePlan bench result plan old new
+
+-- The console gained where the log leads in the plan.
+pub record HasOutcome (plan log : Text) (old new : World) : Type 0 where
+  pub adaptive : WasRead old.files plan IsAdaptivePlanFile
+  pub outcome : WasRead old.files log (IsLogTo adaptive.thing)
+  pub printed : ConsoleGained (outcome_text outcome.thing) old new
+
+-- A run of `follow` whose work is done prints that.
+abbrev pub PrintsOutcome : Option Request → Ending → World → World → Type 0
+PrintsOutcome request ending old new = (plan log : Text) → request ≡ Some (follow plan log) → ending ≡ done → HasOutcome plan log old new
