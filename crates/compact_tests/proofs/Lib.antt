@@ -26,3 +26,5 @@ pub mod TextLemmas
 pub mod CompactLemmas
 pub mod KeepingLemmas
 pub mod SimulatedLemmas
+pub mod MixedLemmas
+pub mod MemberLemmas

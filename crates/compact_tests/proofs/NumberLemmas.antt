@@ -12,7 +12,7 @@ use Rattle.class_refine.proofs.Refined.{sound_from, class-refined, same_after, a
 use Rattle.answer_numbers.specs.AnswerNumbers.{AnswerNumbers, vector_in, AreLeadAnswers, IsAnswerNumber}
 use Rattle.answer_numbers.specs.Distinct.{distinct_answers}
 use Rattle.answer_numbers.proofs.DistinctLemmas.{distinct_apart}
-use Rattle.compact_tests.specs.Sharing.{is_shared}
+use Rattle.compact_tests.specs.Sharing.{has_two}
 use Rattle.compact_tests.proofs.SharingLemmas.{group_shared}
 use Rattle.compact_tests.specs.Numbered.{IsNumberRow, AreNumberRows, HasParted}
 
@@ -48,59 +48,43 @@ module _ (n : AnswerNumbers) (lane : ℕ) (groups : ClassTable) (listed : List �
         }
 
   -- a number that is alone in its group has no number in its row
-  pub rows_passed : (rows : List (List Bool)) (done : ℕ) → is_shared groups (class_at groups (get_or listed done 0)) ≡ false → AreNumberRows n lane groups listed count done rows → AreNumberRows n lane groups listed count (done + 1) rows
+  pub rows_passed : (rows : List (List Bool)) (done : ℕ) → has_two groups (class_at groups (get_or listed done 0)) ≡ false → AreNumberRows n lane groups listed count done rows → AreNumberRows n lane groups listed count (done + 1) rows
   rows_passed rows done alone so_far = record {
     count_is = so_far.count_is;
     widths = so_far.widths;
     each = λ place h shared. elim (cases_eq place done) [
-      | inl e ↦ absurd (false≢true (sym alone ∙ (ap (λ (p : ℕ). is_shared groups (class_at groups (get_or listed p 0))) (sym e) ∙ shared)))
+      | inl e ↦ absurd (false≢true (sym alone ∙ (ap (λ (p : ℕ). has_two groups (class_at groups (get_or listed p 0))) (sym e) ∙ shared)))
       | inr ne ↦ so_far.each place (omega (arith, h, ne)) shared
     ];
   }
 
-  module _ (rows answers : List (List Bool)) (within : All (λ number. number < count) listed) (are : AreNumberRows n lane groups listed count (length listed) rows) (given : AreLeadAnswers n.circuit n.leads (vector_in n lane) answers) (p q : ℕ) (hp : p < length listed) (hq : q < length listed)
-      (shared_a : is_shared groups (class_at groups (get_or listed p 0)) ≡ true) (shared_b : is_shared groups (class_at groups (get_or listed q 0)) ≡ true) where
-    abbrev a : ℕ
-    a = get_or listed p 0
+-- two rows with the numbers of the answers at two places
+module _ (n : AnswerNumbers) (lane : ℕ) (rows answers : List (List Bool)) (given : AreLeadAnswers n.circuit n.leads (vector_in n lane) answers) (a b p q : ℕ) (row_a : IsNumberRow n lane rows a p) (row_b : IsNumberRow n lane rows b q)
+    (wide_a : length (row_at rows a) ≡ 32) (wide_b : length (row_at rows b) ≡ 32) where
+  same_numbers : row_at rows a ≡ row_at rows b → row_a.number ≡ row_b.number
+  same_numbers e = same_number 32 row_a.number row_b.number row_a.small row_b.small (λ k h. sym (row_a.bits k h) ∙ (ap (λ (r : List Bool). get_or r k false) e ∙ row_b.bits k h))
 
-    abbrev b : ℕ
-    b = get_or listed q 0
+  answers_of : row_a.number ≡ row_b.number → row_at answers p ≡ row_at answers q
+  answers_of e = sym (row_a.is answers given).own ∙ (ap (row_at (distinct_answers answers)) e ∙ (row_b.is answers given).own)
 
-    row_a : IsNumberRow n lane rows a p
-    row_a = are.each p hp shared_a
+  pub same_answers : row_at rows a ≡ row_at rows b → row_at answers p ≡ row_at answers q
+  same_answers e = answers_of (same_numbers e)
 
-    row_b : IsNumberRow n lane rows b q
-    row_b = are.each q hq shared_b
+  pub same_rows : row_at answers p ≡ row_at answers q → row_at rows a ≡ row_at rows b
+  same_rows e =
+      let one = row_a.is answers given in
+      let other = row_b.is answers given in
+      let number : row_a.number ≡ row_b.number = distinct_apart answers row_a.number row_b.number one.within other.within (one.own ∙ (e ∙ sym other.own)) in
+      ext_get_or false (row_at rows a) (row_at rows b) (omega (arith, wide_a, wide_b))
+      (λ k h. let l : k < 32 = omega (arith, h, wide_a) in row_a.bits k l ∙ (ap (λ (m : ℕ). bit_of m k) number ∙ sym (row_b.bits k l)))
 
-    same_numbers : row_at rows a ≡ row_at rows b → row_a.number ≡ row_b.number
-    unfolding row_a row_b
-    same_numbers e = same_number 32 row_a.number row_b.number row_a.small row_b.small (λ k h. sym (row_a.bits k h) ∙ (ap (λ (r : List Bool). get_or r k false) e ∙ row_b.bits k h))
+  -- whether the rows are the same is decided by the numbers
+  pub split_or_same : (row_at rows a ≢ row_at rows b → ⊥) → row_at answers p ≡ row_at answers q
+  split_or_same never = elim (cases_eq row_a.number row_b.number) [ inl e ↦ answers_of e | inr ne ↦ absurd (never (λ e. ne (same_numbers e))) ]
 
-    answers_of : row_a.number ≡ row_b.number → row_at answers p ≡ row_at answers q
-    unfolding row_a row_b
-    answers_of e = sym (row_a.is answers given).own ∙ (ap (row_at (distinct_answers answers)) e ∙ (row_b.is answers given).own)
-
-    pub same_answers : row_at rows a ≡ row_at rows b → row_at answers p ≡ row_at answers q
-    same_answers e = answers_of (same_numbers e)
-
-    pub same_rows : row_at answers p ≡ row_at answers q → row_at rows a ≡ row_at rows b
-    unfolding row_a row_b
-    same_rows e =
-        let one = row_a.is answers given in
-        let other = row_b.is answers given in
-        let wide_a = are.widths a (within p 0 hp) in
-        let wide_b = are.widths b (within q 0 hq) in
-        let number : row_a.number ≡ row_b.number = distinct_apart answers row_a.number row_b.number one.within other.within (one.own ∙ (e ∙ sym other.own)) in
-        ext_get_or false (row_at rows a) (row_at rows b) (omega (arith, wide_a, wide_b))
-        (λ k h. let l : k < 32 = omega (arith, h, wide_a) in row_a.bits k l ∙ (ap (λ (m : ℕ). bit_of m k) number ∙ sym (row_b.bits k l)))
-
-    -- whether the rows are the same is decided by the numbers
-    pub split_or_same : (row_at rows a ≢ row_at rows b → ⊥) → row_at answers p ≡ row_at answers q
-    split_or_same never = elim (cases_eq row_a.number row_b.number) [ inl e ↦ answers_of e | inr ne ↦ absurd (never (λ e. ne (same_numbers e))) ]
-
-module _ (n : AnswerNumbers) (lane : ℕ) (listed : List ℕ) (old new : ClassTable) (rows : List (List Bool)) (added : ℕ) (whole : IsWhole old) (within : All (λ number. number < length old.class_of) listed) (ascend : AllPairs (λ x y. x < y) listed)
-    (are : AreNumberRows n lane old listed (length old.class_of) (length listed) rows) (cut : HasCut old new rows added) where
-  same_before : (a b : ℕ) → a < length old.class_of → b < length old.class_of → class_at new a ≡ class_at new b → (class_at old a ≡ class_at old b) × (0 < added → row_at rows a ≡ row_at rows b)
+-- numbers that are together before and after a cut
+module _ (old new : ClassTable) (rows : List (List Bool)) (added : ℕ) (whole : IsWhole old) (cut : HasCut old new rows added) where
+  pub same_before : (a b : ℕ) → a < length old.class_of → b < length old.class_of → class_at new a ≡ class_at new b → (class_at old a ≡ class_at old b) × (0 < added → row_at rows a ≡ row_at rows b)
   same_before a b ha hb same = elim (cases_lt 0 added) [
     | inl more ↦
         let e = cut.refined more in
@@ -111,7 +95,7 @@ module _ (n : AnswerNumbers) (lane : ℕ) (listed : List ℕ) (old new : ClassTa
         (sym (ap (λ (t : ClassTable). class_at t a) e) ∙ (same ∙ ap (λ (t : ClassTable). class_at t b) e), (λ m. absurd (omega (arith, none, m))))
   ]
 
-  same_behind : (a b : ℕ) → a < length old.class_of → b < length old.class_of → class_at old a ≡ class_at old b → row_at rows a ≡ row_at rows b → class_at new a ≡ class_at new b
+  pub same_behind : (a b : ℕ) → a < length old.class_of → b < length old.class_of → class_at old a ≡ class_at old b → row_at rows a ≡ row_at rows b → class_at new a ≡ class_at new b
   same_behind a b ha hb before alike = elim (cases_lt 0 added) [
     | inl more ↦
         let e = cut.refined more in
@@ -121,9 +105,11 @@ module _ (n : AnswerNumbers) (lane : ℕ) (listed : List ℕ) (old new : ClassTa
   ]
 
   -- where nothing was cut, numbers that are together have the same row
-  unsplit : added ≤ 0 → (a b : ℕ) → a < length old.class_of → b < length old.class_of → class_at old a ≡ class_at old b → row_at rows a ≢ row_at rows b → ⊥
+  pub unsplit : added ≤ 0 → (a b : ℕ) → a < length old.class_of → b < length old.class_of → class_at old a ≡ class_at old b → row_at rows a ≢ row_at rows b → ⊥
   unsplit none a b ha hb was differ = absurd (omega (arith, none, cut.splits.1 (record { first = a; second = b; first_below = ha; second_below = hb; together = was; differ = differ })))
 
+module _ (n : AnswerNumbers) (lane : ℕ) (listed : List ℕ) (old new : ClassTable) (rows : List (List Bool)) (added : ℕ) (whole : IsWhole old) (within : All (λ number. number < length old.class_of) listed) (ascend : AllPairs (λ x y. x < y) listed)
+    (are : AreNumberRows n lane old listed (length old.class_of) (length listed) rows) (cut : HasCut old new rows added) where
   distinct : (p q : ℕ) → p < length listed → q < length listed → (p ≡ q → ⊥) → get_or listed p 0 ≢ get_or listed q 0
   distinct p q hp hq ne e = elim (cases_lt p q) [
     | inl low ↦ absurd (omega (arith, e, ascend p q 0 low hq))
@@ -132,7 +118,7 @@ module _ (n : AnswerNumbers) (lane : ℕ) (listed : List ℕ) (old new : ClassTa
 
   pub parted : HasParted n lane listed old new
   parted = record {
-    before = λ a b ha hb same. (same_before a b ha hb same).0;
+    before = λ a b ha hb same. (same_before old new rows added whole cut a b ha hb same).0;
     together = λ answers given p q hp hq. elim (cases_eq p q) [
       | inl e ↦ (
         (λ same. (ap (λ (k : ℕ). class_at old (get_or listed k 0)) e, ap (row_at answers) e)),
@@ -143,19 +129,18 @@ module _ (n : AnswerNumbers) (lane : ℕ) (listed : List ℕ) (old new : ClassTa
           let b = get_or listed q 0 in
           let ha = within p 0 hp in
           let hb = within q 0 hq in
-          let size = length old.class_of in
           let other = distinct p q hp hq ne in
-          let of_a : class_at old a ≡ class_at old b → is_shared old (class_at old a) ≡ true = λ t. group_shared old a b ha hb other t in
-          let of_b : class_at old a ≡ class_at old b → is_shared old (class_at old b) ≡ true = λ t. group_shared old b a hb ha (λ e. other (sym e)) (sym t) in (
+          let of_a : class_at old a ≡ class_at old b → has_two old (class_at old a) ≡ true = λ t. group_shared old a b ha hb other t in
+          let of_b : class_at old a ≡ class_at old b → has_two old (class_at old b) ≡ true = λ t. group_shared old b a hb ha (λ e. other (sym e)) (sym t) in (
             (λ same.
-                let both = same_before a b ha hb same in (
+                let both = same_before old new rows added whole cut a b ha hb same in (
                   both.0,
                   elim (cases_lt 0 added) [
-                    | inl more ↦ same_answers n lane old listed size rows answers within are given p q hp hq (of_a both.0) (of_b both.0) (both.1 more)
-                    | inr none ↦ split_or_same n lane old listed size rows answers within are given p q hp hq (of_a both.0) (of_b both.0) (unsplit none a b ha hb both.0)
+                    | inl more ↦ same_answers n lane rows answers given a b p q (are.each p hp (of_a both.0)) (are.each q hq (of_b both.0)) (are.widths a ha) (are.widths b hb) (both.1 more)
+                    | inr none ↦ split_or_same n lane rows answers given a b p q (are.each p hp (of_a both.0)) (are.each q hq (of_b both.0)) (are.widths a ha) (are.widths b hb) (unsplit old new rows added whole cut none a b ha hb both.0)
                   ],
                 )),
-            (λ both. same_behind a b ha hb both.0 (same_rows n lane old listed size rows answers within are given p q hp hq (of_a both.0) (of_b both.0) both.1)),
+            (λ both. same_behind old new rows added whole cut a b ha hb both.0 (same_rows n lane rows answers given a b p q (are.each p hp (of_a both.0)) (are.each q hq (of_b both.0)) (are.widths a ha) (are.widths b hb) both.1)),
           )
     ];
   }

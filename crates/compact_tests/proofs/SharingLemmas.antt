@@ -14,7 +14,7 @@ use Rattle.class_refine.specs.Fields.{IsWhole}
 use Rattle.class_refine.specs.CutIn.{AreClassesOf, AreAlikeElsewhere}
 use Rattle.class_refine.proofs.Pieces.{members-contains}
 use Rattle.class_refine.proofs.Ranges.{range_below, range_ascends, range-contains}
-use Rattle.compact_tests.specs.Sharing.{is_shared, shared_groups, sharing_numbers, ListsSharing}
+use Rattle.compact_tests.specs.Sharing.{has_two, shared_groups, sharing_numbers, ListsSharing}
 
 -- ---- one number more
 
@@ -28,7 +28,7 @@ fails_more p n old new so_far is same = same ∙ (so_far ∙ sym (filter-range_m
 
 module _ (groups : ClassTable) where
   -- the group of a number that isn't alone in it
-  pub group_shared : (a b : ℕ) → a < length groups.class_of → b < length groups.class_of → a ≢ b → class_at groups a ≡ class_at groups b → is_shared groups (class_at groups a) ≡ true
+  pub group_shared : (a b : ℕ) → a < length groups.class_of → b < length groups.class_of → a ≢ b → class_at groups a ≡ class_at groups b → has_two groups (class_at groups a) ≡ true
   group_shared a b ha hb other together =
       let ms = members groups (class_at groups a) in
       let x = members-contains groups a ha in
@@ -39,12 +39,12 @@ module _ (groups : ClassTable) where
 
   pub shared_contains : (a b : ℕ) → a < length groups.class_of → b < length groups.class_of → a ≢ b → class_at groups a ≡ class_at groups b → class_at groups a < class_count groups → Contains (shared_groups groups) (class_at groups a)
   shared_contains a b ha hb other together class =
-      Contains-filter (is_shared groups) (range_with_len 0 (class_count groups)) (class_at groups a) (range-contains (class_count groups) (class_at groups a) class) (group_shared a b ha hb other together)
+      Contains-filter (has_two groups) (range_with_len 0 (class_count groups)) (class_at groups a) (range-contains (class_count groups) (class_at groups a) class) (group_shared a b ha hb other together)
 
   -- the numbers that aren't alone in their groups are listed
   pub sharing_listed : ListsSharing groups (sharing_numbers groups)
   sharing_listed =
-      let test : ℕ → Bool = λ n. is_shared groups (class_at groups n) in
+      let test : ℕ → Bool = λ n. has_two groups (class_at groups n) in
       let range = number_range groups in record {
         within = All-filter test (λ n. n < length groups.class_of) range (range_below (length groups.class_of));
         ascend = AllPairs-filter (λ x y. x < y) test range (range_ascends (length groups.class_of));
@@ -52,15 +52,15 @@ module _ (groups : ClassTable) where
       }
 
   pub sharing_few : length (sharing_numbers groups) ≤ length groups.class_of
-  sharing_few = omega (arith, length-filter-le (λ n. is_shared groups (class_at groups n)) (number_range groups), length-range_with_len 0 (length groups.class_of))
+  sharing_few = omega (arith, length-filter-le (λ n. has_two groups (class_at groups n)) (number_range groups), length-range_with_len 0 (length groups.class_of))
 
   -- ---- cuts in the groups of two numbers or more
 
-  pub shared_classes : AreClassesOf groups (shared_groups groups)
-  shared_classes =
+  pub classes_where : (test : ℕ → Bool) → AreClassesOf groups (filter test (range_with_len 0 (class_count groups)))
+  classes_where test =
       let range = range_with_len 0 (class_count groups) in record {
-        within = All-filter (is_shared groups) (λ g. g < class_count groups) range (range_below (class_count groups));
-        ascend = IsStrictlyIncreasing-filter (is_shared groups) range (λ k h. range_ascends (class_count groups) k (k + 1) 0 (omega arith) h);
+        within = All-filter test (λ g. g < class_count groups) range (range_below (class_count groups));
+        ascend = IsStrictlyIncreasing-filter test range (λ k h. range_ascends (class_count groups) k (k + 1) 0 (omega arith) h);
       }
 
   pub alone_alike : IsWhole groups → (row : List (List Bool)) → AreAlikeElsewhere groups row (shared_groups groups)

@@ -57,15 +57,18 @@ module _ (numbers : ℕ) (some : 0 < numbers) (rows : List (List (List Bool))) (
 abbrev pub AreNeededRows : ℕ → List (List (List Bool)) → Type 0
 AreNeededRows numbers rows = (k : ℕ) → k < length rows → class_count (class_table numbers (remove rows k)) < class_count (class_table numbers rows)
 
+-- one row more refines the table
+pub table_more : (numbers : ℕ) (rows : List (List (List Bool))) (k : ℕ) → k < length rows → class_table numbers (take (k + 1) rows) ≡ refined_table (class_table numbers (take k rows)) (get_or rows k [])
+table_more numbers rows k within = ap (class_table numbers) (take_more rows k [] within) ∙ fold-append refined_table (first_table numbers) (take k rows) (get_or rows k [] ∷ [])
+
 -- there are fewer rows than classes, where each row is needed
 pub few_rows : (numbers : ℕ) → 0 < numbers → (rows : List (List (List Bool))) → AreNeededRows numbers rows → (k : ℕ) → k ≤ length rows → k < class_count (class_table numbers (take k rows))
 few_rows numbers some rows needed zero h = omega arith
 few_rows numbers some rows needed (suc k) h =
     let within : k < length rows = omega (arith, h) in
     let before = few_rows numbers some rows needed k (omega (arith, h)) in
-    let more : take (suc k) rows ≡ take k rows ++ get_or rows k [] ∷ [] = let next : suc k ≡ k + 1 = omega arith in ap (λ (n : ℕ). take n rows) next ∙ take_more rows k [] within in
-    let table : class_table numbers (take (suc k) rows) ≡ refined_table (class_table numbers (take k rows)) (get_or rows k []) =
-    ap (class_table numbers) more ∙ fold-append refined_table (first_table numbers) (take k rows) (get_or rows k [] ∷ []) in
+    let next : suc k ≡ k + 1 = omega arith in
+    let table : class_table numbers (take (suc k) rows) ≡ refined_table (class_table numbers (take k rows)) (get_or rows k []) = ap (λ (n : ℕ). class_table numbers (take n rows)) next ∙ table_more numbers rows k within in
     omega (arith, before, adds numbers some rows k within (needed k within), ap class_count table, count-refined (class_table numbers (take k rows)) (get_or rows k []))
 
 patterns_fold : (rows : List (List (List Bool))) (t : ClassTable) → (fold refined_table t rows).patterns ≡ t.patterns + length rows

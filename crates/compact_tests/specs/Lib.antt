@@ -5,6 +5,7 @@ pub mod Laws
 -- What is known on the way
 pub mod Earlier
 pub mod Sharing
+pub mod Mixed
 pub mod Numbered
 pub mod Thinning
 pub mod Keeping

@@ -4,16 +4,16 @@ use Rattle.std.specs.List.{range_with_len}
 use Rattle.net_model.specs.ClassTable.{ClassTable, class_at, class_count, members, number_range}
 
 -- whether two numbers or more are in a group
-abbrev pub is_shared : ClassTable → ℕ → Bool
-is_shared groups group = nat_lt 1 (length (members groups group))
+abbrev pub has_two : ClassTable → ℕ → Bool
+has_two groups group = nat_lt 1 (length (members groups group))
 
 -- the groups of two numbers or more, ascending
 abbrev pub shared_groups : ClassTable → List ℕ
-shared_groups groups = filter (is_shared groups) (range_with_len 0 (class_count groups))
+shared_groups groups = filter (has_two groups) (range_with_len 0 (class_count groups))
 
 -- the numbers that aren't alone in their groups, ascending
 abbrev pub sharing_numbers : ClassTable → List ℕ
-sharing_numbers groups = filter (λ number. is_shared groups (class_at groups number)) (number_range groups)
+sharing_numbers groups = filter (λ number. has_two groups (class_at groups number)) (number_range groups)
 
 -- The list has each number that isn't alone in its group. It ascends.
 pub record ListsSharing (groups : ClassTable) (listed : List ℕ) : Type 0 where

@@ -52,7 +52,7 @@ fn thin_with(
     let patterns = checked.patterns.as_slice();
     let numbers = faults.len();
     let mut text = first_lines(alloc, circuit, numbers, checked.budgets, patterns, needed)?;
-    let classes = classes_at(alloc, circuit, faults, patterns, needed)?;
+    let classes = classes_at(alloc, circuit, faults, &checked.classes, patterns, needed)?;
     push_numbers(&mut text, alloc, bytes, &classes, numbers)?;
     let remain = classes.patterns();
     Ok(Thin {

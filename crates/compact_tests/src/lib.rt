@@ -6,6 +6,7 @@ mod earlier;
 mod keeping;
 mod laws;
 mod lines;
+mod mixed;
 mod numbered;
 mod sharing;
 mod text;

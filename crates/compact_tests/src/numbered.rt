@@ -1,10 +1,12 @@
 //! The numbers of the answers to a vector, as rows of bits.
 
-ghost use Rattle.std.specs.Prelude.{◌≡◌, ◌<◌, length, All, AllPairs, IfOk, OnOk};
+ghost use Rattle.std.specs.Prelude.{◌≡◌, ◌<◌, ℕ, length, All, AllPairs, IfOk, OnOk};
+ghost use Rattle.net_model.specs.Rows.{row_at};
+ghost use Rattle.net_model.specs.ClassTable.{class_count};
 ghost use Rattle.class_refine.specs.Fields.{IsWhole};
 ghost use Rattle.answer_numbers.specs.AnswerNumbers.{numbered_vectors};
 ghost use Rattle.compact_tests.specs.Sharing.{ListsSharing, shared_groups};
-ghost use Rattle.compact_tests.specs.Numbered.{AreNumberRows, HasParted};
+ghost use Rattle.compact_tests.specs.Numbered.{AreNumberRows, HasParted, AreClassRows, AreMemberRows, AreWritten};
 
 use crate::sharing::is_group;
 use answer_numbers::AnswerNumbers;
@@ -12,8 +14,8 @@ use class_refine::Classes;
 use net_model::AnswerRows;
 use std::alloc::{AllocError, Global};
 
-// As many bits as a number has.
-const WIDTH: usize = 32;
+/// As many bits as a number has.
+pub(crate) const WIDTH: usize = 32;
 
 /// Cuts each group by what the leads answer to the vector of a lane. `listed` are the leads' numbers in the groups, by place,
 /// among them each that isn't alone in its group. `shared` are the groups of two numbers or more, and there are so many numbers.
@@ -65,4 +67,36 @@ fn number_rows(
         }
     }
     Ok(rows)
+}
+
+/// Writes into the row of each number of the listed classes the number of what its class's lead answers to the vector of a lane.
+pub(crate) fn number_members(
+    rows: &mut AnswerRows,
+    classes: &Classes,
+    numbers: &AnswerNumbers,
+    listed: &[u32],
+    lane: u32,
+)
+    requires rows { AreClassRows classes.now rows.old }
+    requires leads { length listed.now ≡ length numbers.now.leads }
+    requires within { All (λ class. class < class_count classes.now) listed.now }
+    requires ascend { AllPairs (λ x y. x < y) listed.now }
+    requires lane { lane < length (numbered_vectors numbers.now) }
+    ensures { AreMemberRows numbers.now lane classes.now listed.now (length listed.now) rows.new }
+{
+    for (place, class) in listed.iter().enumerate() {
+        let number = numbers.number(lane, place);
+        write_rows(rows, classes.members(*class), number);
+    }
+}
+
+// Writes the bits of a number into the rows of members.
+fn write_rows(rows: &mut AnswerRows, members: &[u32], number: u32)
+    requires within { All (λ member. member < length rows.old) members.now }
+    requires widths { (row : ℕ) → row < length rows.old → length (row_at rows.old row) ≡ 32 }
+    ensures { AreWritten rows.old rows.new members.now (length members.now) number }
+{
+    for member in members {
+        rows.set_word(*member as usize, 0, u64::from(number));
+    }
 }

@@ -1,9 +1,9 @@
 //! Groups of two numbers or more. A number that is alone in its group is told apart from all others, so nothing more is asked of it.
 
-ghost use Rattle.std.specs.Prelude.{◌≡◌, ◌<◌, length, map, All, IfOk, IsTrue, ◌↔◌};
+ghost use Rattle.std.specs.Prelude.{◌≡◌, ◌<◌, length, map, All, IfOk};
 ghost use Rattle.class_refine.specs.Fields.{IsWhole};
-ghost use Rattle.net_model.specs.ClassTable.{class_count, class_at, representative};
-ghost use Rattle.compact_tests.specs.Sharing.{is_shared, shared_groups as all_shared, sharing_numbers as all_sharing};
+ghost use Rattle.net_model.specs.ClassTable.{class_count, representative};
+ghost use Rattle.compact_tests.specs.Sharing.{has_two, shared_groups as all_shared, sharing_numbers as all_sharing};
 
 use class_refine::Classes;
 use std::alloc::{AllocError, Global};
@@ -43,7 +43,7 @@ pub(crate) fn sharing_numbers(
 /// Whether two numbers or more are in a group.
 pub(crate) fn is_group(groups: &Classes, group: u32) -> bool
     requires { group < class_count groups.now }
-    ensures { result ≡ is_shared groups.now group }
+    ensures { result ≡ has_two groups.now group }
 {
     1 < groups.members(group).len()
 }

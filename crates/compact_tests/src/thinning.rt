@@ -2,7 +2,6 @@
 
 ghost use Rattle.std.specs.Prelude.{◌≡◌, ◌+◌, ◌<◌, ◌^◌, ℕ, Bool, List, All, length, IfOk, OnOk};
 ghost use Rattle.net_model.specs.FaultList.{faults as faults_of, fault_count};
-ghost use Rattle.net_model.specs.ClassTable.{class_count};
 ghost use Rattle.answer_numbers.specs.AnswerNumbers.{numbered_vectors};
 ghost use Rattle.compact_tests.specs.Remaining.{Answered, remaining};
 ghost use Rattle.compact_tests.specs.Sharing.{ListsSharing};

@@ -8,10 +8,11 @@ use Rattle.result_file.specs.Meaning.{class_records, member_records}
 use Rattle.result_file.specs.declared.record.Record.TheVariants.{Head, Budget, Pattern, Same, End}
 use Rattle.result_file.specs.Marks.{evidence_in}
 use Rattle.result_file.specs.Spelling.{text_of}
+use Rattle.compact_tests.specs.Thinning.{AreAnswersOf}
 use Rattle.compact_tests.specs.Keeping.{vectors_at}
 use Rattle.compact_tests.specs.Stated.{IsReadable}
 use Rattle.compact_tests.specs.ThinResult.{marks_in, needed_evidence}
-use Rattle.compact_tests.proofs.CompactLemmas.{all_readable, needed_in_turn, marks_many, patterns_few, text_is, compacted}
+use Rattle.compact_tests.proofs.CompactLemmas.{checked_answers, all_readable, needed_in_turn, marks_many, patterns_few, text_is, compacted}
 use Rattle.compact_tests.proofs.compacting.thin_with.Goals as goal
 use Rattle.compact_tests.proofs.compacting.thin_with.Goals.{After-as_slice-patterns, After-len-numbers, In_ok-classes}
 
@@ -33,6 +34,11 @@ table_is c = subst (λ (vs : List (List Bool)). IsTableOf c.args.circuit.now (ve
 
 pub first_lines-requires : goal.first_lines-requires
 first_lines-requires c = within (goal.at.first_lines-requires c).After-as_slice-patterns
+
+pub classes_at-requires-clause-answered : goal.classes_at-requires-clause-answered
+classes_at-requires-clause-answered c =
+    let a = c.requires.accepted in
+    subst (λ (vs : List (List Bool)). AreAnswersOf c.args.circuit.now vs c.args.checked.now.classes) (sym c.as_slice-patterns.ensures) (checked_answers c.args.circuit.now a.records c.args.checked.now a.accepted)
 
 pub classes_at-requires-clause-places : goal.classes_at-requires-clause-places
 classes_at-requires-clause-places c = within (goal.at.classes_at-requires-clause-places c).After-as_slice-patterns

@@ -5,9 +5,9 @@ use Rattle.std.proofs.lemmas.List.{get_or_default}
 use Rattle.net_model.specs.ClassTable.{ClassTable, class_at, class_count, members}
 use Rattle.class_refine.proofs.Pieces.{members-All}
 use Rattle.compact_tests.specs.Earlier.{HasRepeat, ShareEarlier}
-use Rattle.compact_tests.specs.Sharing.{shared_groups as all_shared}
+use Rattle.compact_tests.specs.Sharing.{has_two, shared_groups as all_shared}
 use Rattle.compact_tests.proofs.RepeatLemmas.{repeat_shares, share_repeats}
-use Rattle.compact_tests.proofs.SharingLemmas.{shared_classes, shared_contains}
+use Rattle.compact_tests.proofs.SharingLemmas.{classes_where, shared_contains}
 use Rattle.compact_tests.proofs.earlier.share_earlier.Goals as goal
 
 pub members-requires : goal.members-requires
@@ -15,7 +15,7 @@ members-requires c =
     let groups = c.args.groups.now in
     let k = c.loop-group.group-index in
     let inside : k < length (all_shared groups) = omega (arith, c.loop-group-test.true, ap length c.requires.shared) in
-    omega (arith, (shared_classes groups).within k 0 inside, ap (λ (gs : List ℕ). get_or gs k 0) c.requires.shared)
+    omega (arith, (classes_where groups (has_two groups)).within k 0 inside, ap (λ (gs : List ℕ). get_or gs k 0) c.requires.shared)
 
 pub repeats-requires-clause-group : goal.repeats-requires-clause-group
 repeats-requires-clause-group c = λ k d h.

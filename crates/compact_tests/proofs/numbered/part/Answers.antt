@@ -1,15 +1,16 @@
 use Rattle.std.proofs.Common.{ℕ, length, sym, subst}
 use Rattle.class_refine.specs.CutIn.{AreClassesOf, AreAlikeElsewhere}
+use Rattle.compact_tests.specs.Sharing.{has_two}
 use Rattle.compact_tests.specs.Numbered.{AreNumberRows}
 use Rattle.compact_tests.proofs.NumberLemmas.{parted}
-use Rattle.compact_tests.proofs.SharingLemmas.{shared_classes, alone_alike}
+use Rattle.compact_tests.proofs.SharingLemmas.{classes_where, alone_alike}
 use Rattle.compact_tests.proofs.numbered.part.Goals as goal
 
 pub number_rows-requires-clause-within : goal.number_rows-requires-clause-within
 number_rows-requires-clause-within c = rw c.requires.count c.requires.listed.within
 
 pub refine_in-requires-clause-classes : goal.refine_in-requires-clause-classes
-refine_in-requires-clause-classes c = subst (AreClassesOf c.args.groups.now) (sym c.requires.shared) (shared_classes c.args.groups.now)
+refine_in-requires-clause-classes c = subst (AreClassesOf c.args.groups.now) (sym c.requires.shared) (classes_where c.args.groups.now (has_two c.args.groups.now))
 
 pub refine_in-requires-clause-elsewhere : goal.refine_in-requires-clause-elsewhere
 refine_in-requires-clause-elsewhere c = subst (AreAlikeElsewhere c.args.groups.now c.in_ok-rows.rows) (sym c.requires.shared) (alone_alike c.args.groups.now c.requires.whole c.in_ok-rows.rows)

@@ -1,12 +1,12 @@
 use Rattle.std.proofs.Common.{◌∙◌, ℕ, Bool, Vec, Global, sym, ap}
-use Rattle.compact_tests.specs.Sharing.{is_shared}
+use Rattle.compact_tests.specs.Sharing.{has_two}
 use Rattle.compact_tests.proofs.SharingLemmas.{passes_more, fails_more}
 use Rattle.compact_tests.proofs.sharing.shared_groups.Goals.{then-is_group+in_ok-push, else-is_group}
 use Rattle.compact_tests.proofs.sharing.shared_groups.Goals as goal
 
 pub loop-group-preserved : goal.loop-group-preserved
 loop-group-preserved c =
-    let test : ℕ → Bool = is_shared c.args.groups.now in
+    let test : ℕ → Bool = has_two c.args.groups.now in
     let own = c.loop-group.group in
     let old = c.loop-group.shared.items in
     let new = c.if-is_group.shared.items in

@@ -48,5 +48,5 @@ returns-clause-passed c = λ patterns all answered block before.
     c.in_ok-number_block.ensures.ok ∙ (ap (λ (n : AnswerNumbers). answer_numbers_with n.circuit n.leads (Some vectors)) c.in_ok-numbers.ensures ∙ ap (λ (vs : List (List Bool)). answer_numbers_with circuit leads (Some vs)) block.are) in
     let are : AreLanesNumbered numbered listed t all first c.live.result = λ lane h.
     subst (λ (n : AnswerNumbers). IsNumbered n lane listed t all (first + lane)) (sym numbered_is)
-    (numbered_in circuit patterns t all answered listed leads leads_are known first (first + length vectors) lane (omega arith) block.within (omega (arith, h, many))) in
+    (numbered_in circuit patterns t all answered.answers listed leads leads_are known first (first + length vectors) lane (omega arith) block.within (omega (arith, h, many))) in
     c.in_ok-pass_lanes.ensures.passed numbers all (record { some = some_number circuit; is = answered.table }) are (rw many before)

@@ -1,7 +1,0 @@
-use Rattle.std.proofs.Common.{◌≡◌}
-use Rattle.std.specs.Prelude.{slice_range}
-use Rattle.compact_tests.specs.Keeping.{vectors_at}
-use Rattle.compact_tests.proofs.keeping.copies.Given as goal
-
-abbrev pub invariant-loop-at : goal.invariant-loop-at
-invariant-loop-at l = l.copies.items ≡ slice_range (vectors_at l.patterns l.places) l.first l.at
