@@ -94,8 +94,8 @@ impl<'a> AnswerNumbers<'a> {
         })
     }
 
-    /// Runs the vectors of a block, and numbers what each lead answers to them. After an error there are no numbers, and the
-    /// next block may come.
+    /// Runs the vectors of a block, and numbers what each lead answers to them. Want of memory is also answered for a block
+    /// with more differences than a `u32` numbers. After an error there are no numbers, and the next block may come.
     pub fn number_block(&mut self, alloc: Global, block: &Block) -> Result<(), AllocError>
         requires { block.now.sources ≡ self.old.circuit.sources }
         ensures ok { OnOk result (self.new ≡ answer_numbers_with self.old.circuit self.old.leads (Some block.now.vectors)) }
