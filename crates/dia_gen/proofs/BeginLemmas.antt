@@ -8,8 +8,8 @@ use Rattle.result_file.specs.Valid.{AreRightLines}
 use Rattle.result_file.proofs.RightLines.{right_head}
 use Rattle.result_file.proofs.RecordLists.{text-append}
 use Rattle.dia_gen.specs.Made.{head_lines}
-use Rattle.dia_gen.specs.Writing.{HasWritten, WritesText, BrokeOff}
-use Rattle.dia_gen.proofs.WritingLemmas.{none_written, written_then, written_ok, broken}
+use Rattle.dia_gen.specs.Writing.{HasGathered, Gathers, BrokeOff}
+use Rattle.dia_gen.proofs.WritingLemmas.{none_gathered, gathered_then, broken}
 use Rattle.std.proofs.lemmas.List.{append-nil}
 use Rattle.net_model.specs.Circuit.{Circuit}
 use Rattle.net_model.specs.FaultList.{fault_count}
@@ -21,7 +21,7 @@ use Rattle.dia_gen.specs.declared.draft.Draft.{Draft}
 use Rattle.dia_gen.specs.Setting.{Setting}
 use Rattle.dia_gen.specs.Draft.{IsBegun, IsDrafted, IsDraft}
 use Rattle.member_marks.proofs.MarkLemmas.{given_none}
-use Rattle.dia_gen.proofs.DraftLemmas.{draft_first}
+use Rattle.dia_gen.proofs.DraftLemmas.{draft_first, drafted_on}
 
 pub begun : {s : Setting} {d : Draft} → IsBegun s d → IsKeeper d.keeper → IsDrafted s d d.keeper.kept.vectors []
 begun {s} {d} b kept =
@@ -45,19 +45,22 @@ module _ {s : Setting} {d : Draft} (b : IsBegun s d) where
       let small = b.is_circuit.small in
       right_head (omega (arith, small), omega (arith, small), omega (arith, b.few)) (omega (arith, b.limits.blocks), omega (arith, b.limits.cubes), omega (arith, b.limits.conflicts)) b.limits
 
-  pub head_broken : {fault : ShelfFault} {start now : State} → WritesText (text_of (head_lines s.circuit s.budgets)) (Err fault) start now → BrokeOff s.circuit fault start now
-  head_broken {fault} {start} w = broken [] (head_lines s.circuit s.budgets) [] head_right (none_written start) w
+  pub head_broken : {fault : ShelfFault} {after : Text} {start now : State} → Gathers (text_of (head_lines s.circuit s.budgets)) (Err fault) d.gathered after start now → BrokeOff s.circuit fault start now
+  head_broken {fault} {after} {start} w = broken [] (head_lines s.circuit s.budgets) [] head_right (none_gathered start) (rw b.gathered at w)
 
-  module _ (kept : IsKeeper d.keeper) {start mid now : State} {x : Unit {0}} (head : WritesText (text_of (head_lines s.circuit s.budgets)) (Ok x) start mid) where
-    pub patterns_broken : {fault : ShelfFault} → WritesText (text_of (map Pattern d.keeper.kept.vectors)) (Err fault) mid now → BrokeOff s.circuit fault start now
-    patterns_broken w = broken (head_lines s.circuit s.budgets) (map Pattern d.keeper.kept.vectors) [] (begun b kept).lines.right (written_ok head) w
+  module _ (kept : IsKeeper d.keeper) {mid : Text} {start between : State} {x : Unit {0}} (head : Gathers (text_of (head_lines s.circuit s.budgets)) (Ok x) d.gathered mid start between) where
+    first : HasGathered (text_of (head_lines s.circuit s.budgets)) [] mid start between
+    first = rw b.gathered at head.ok
 
-    pub draft_started : {y : Unit {0}} → WritesText (text_of (map Pattern d.keeper.kept.vectors)) (Ok y) mid now → IsDraft s d start now
-    draft_started w =
+    pub patterns_broken : {fault : ShelfFault} {after : Text} {now : State} → Gathers (text_of (map Pattern d.keeper.kept.vectors)) (Err fault) mid after between now → BrokeOff s.circuit fault start now
+    patterns_broken w = broken (head_lines s.circuit s.budgets) (map Pattern d.keeper.kept.vectors) [] (begun b kept).lines.right first w
+
+    pub draft_started : {y : Unit {0}} {after : Text} {now : State} → Gathers (text_of (map Pattern d.keeper.kept.vectors)) (Ok y) mid after between now → IsDraft s (record d { gathered = after }) start now
+    draft_started {y} {after} {now} w =
         let before = head_lines s.circuit s.budgets ++ map Pattern d.keeper.kept.vectors in
         record {
           kept = d.keeper.kept.vectors;
           later = [];
-          is = begun b kept;
-          written = subst (λ (t : Text). HasWritten t start now) (sym (ap text_of (append-nil before) ∙ text-append (head_lines s.circuit s.budgets) (map Pattern d.keeper.kept.vectors))) (written_then (written_ok head) (written_ok w));
+          is = drafted_on after (begun b kept);
+          written = subst (λ (t : Text). HasGathered t [] after start now) (sym (ap text_of (append-nil before) ∙ text-append (head_lines s.circuit s.budgets) (map Pattern d.keeper.kept.vectors))) (gathered_then first w.ok);
         }

@@ -22,8 +22,25 @@ use Rattle.result_file.proofs.RecordLists.{read_all, read_none, count_kept}
 use Rattle.result_file.proofs.RightLines.{IsNextLine, right_next, right_head, right_patterns}
 use Rattle.kept_vectors.specs.Kept.{SplitInTurn}
 use Rattle.dia_gen.specs.Settled.{IsApartBy, IsProofFor}
-use Rattle.dia_gen.specs.Draft.{AreDraftLines}
+use Rattle.dia_gen.specs.declared.draft.Draft.{Draft}
+use Rattle.dia_gen.specs.Setting.{Setting}
+use Rattle.dia_gen.specs.Draft.{AreDraftLines, IsDrafted}
+use Rattle.result_file.specs.Spelling.{Text}
 use Rattle.dia_gen.specs.Made.{head_lines, lines_with, SeparatesNext, HasNoSearch, HasNoRefutation}
+
+-- what waits is no part of what the lines are made from
+pub drafted_on : {s : Setting} {d : Draft} {kept : List (List Bool)} {later : List Record} (wait : Text) → IsDrafted s d kept later → IsDrafted s (record d { gathered = wait }) kept later
+drafted_on wait is = record {
+  first = is.first;
+  lines = is.lines;
+  few = is.few;
+  circuit = is.circuit;
+  keeper = is.keeper;
+  patterns = is.patterns;
+  marks = is.marks;
+  sim = is.sim;
+  pool = is.pool;
+}
 
 -- ---- one element more
 

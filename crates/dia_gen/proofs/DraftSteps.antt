@@ -30,12 +30,12 @@ use Rattle.member_marks.specs.Given.{IsLowestOpen}
 use Rattle.dia_gen.specs.Made.{lines_with}
 use Rattle.dia_gen.specs.Marked.{DoMarksStay}
 use Rattle.dia_gen.specs.Settled.{IsApartBy, IsProofFor}
-use Rattle.dia_gen.specs.Writing.{HasWritten, WritesText, BrokeOff}
+use Rattle.dia_gen.specs.Writing.{HasGathered, Gathers, BrokeOff}
 use Rattle.dia_gen.specs.Draft.{AreDraftLines, IsDrafted, IsDraft}
 use Rattle.dia_gen.proofs.FallenLemmas.{mark_stays}
 use Rattle.member_marks.proofs.MarkLemmas.{lowest_is_next, lead_inside, given_risen, given_more}
-use Rattle.dia_gen.proofs.DraftLemmas.{lines_more, pattern_added, evidence_added}
-use Rattle.dia_gen.proofs.WritingLemmas.{written_then, written_ok, broken, broken_here}
+use Rattle.dia_gen.proofs.DraftLemmas.{lines_more, pattern_added, evidence_added, drafted_on}
+use Rattle.dia_gen.proofs.WritingLemmas.{gathered_then, broken, broken_here, stopped}
 
 -- where there is no memory the lines so far are written
 pub draft_broken : {s : Setting} {d : Draft} {start now : State} → IsDraft s d start now → BrokeOff s.circuit NoMemory start now
@@ -49,19 +49,34 @@ pub in_any_case : {P : Type 0} (result : Result (Unit {0}) ShelfFault) → P →
 in_any_case (Ok x) p = p
 in_any_case (Err fault) p = tt
 
-module _ {s : Setting} {d : Draft} {start mid now : State} (kept : List (List Bool)) (later : List Record) (r : Record) (drafted : IsDrafted s d kept (later ++ r ∷ [])) (written : HasWritten (text_of (lines_with s.circuit s.budgets kept later)) start mid) where
-  pub line_drafted : (result : Result (Unit {0}) ShelfFault) → WritesText (text_of (r ∷ [])) result mid now → OnOk result (IsDraft s d start now)
-  line_drafted (Ok x) wrote = record {
+module _ {s : Setting} {d : Draft} {wait : Text} {start mid now : State} (kept : List (List Bool)) (later : List Record) (r : Record) (drafted : IsDrafted s d kept (later ++ r ∷ [])) (written : HasGathered (text_of (lines_with s.circuit s.budgets kept later)) [] wait start mid) where
+  pub line_drafted : {after : Text} (result : Result (Unit {0}) ShelfFault) → Gathers (text_of (r ∷ [])) result wait after mid now → OnOk result (IsDraft s (record d { gathered = after }) start now)
+  line_drafted {after} (Ok x) wrote = record {
     kept = kept;
     later = later ++ r ∷ [];
-    is = drafted;
-    written = subst (λ (t : Text). HasWritten t start now) (sym (ap text_of (lines_more s.circuit s.budgets kept later r) ∙ text-append (lines_with s.circuit s.budgets kept later) (r ∷ []))) (written_then written (written_ok wrote));
+    is = drafted_on after drafted;
+    written = subst (λ (t : Text). HasGathered t [] after start now) (sym (ap text_of (lines_more s.circuit s.budgets kept later r) ∙ text-append (lines_with s.circuit s.budgets kept later) (r ∷ []))) (gathered_then written wrote.ok);
   }
   line_drafted (Err fault) wrote = tt
 
-  pub line_stopped : (result : Result (Unit {0}) ShelfFault) → WritesText (text_of (r ∷ [])) result mid now → IfErr result (λ fault. BrokeOff s.circuit fault start now)
+  pub line_stopped : {after : Text} (result : Result (Unit {0}) ShelfFault) → Gathers (text_of (r ∷ [])) result wait after mid now → IfErr result (λ fault. BrokeOff s.circuit fault start now)
   line_stopped (Ok x) wrote = tt
   line_stopped (Err fault) wrote = broken (lines_with s.circuit s.budgets kept later) (r ∷ []) [] (one_right s kept later r drafted.lines) written wrote
+
+module _ {s : Setting} {d : Draft} {start now : State} (draft : IsDraft s d start now) where
+  -- what waits is written, or its writing broke off
+  pub draft_written : {after : Text} {later : State} (result : Result (Unit {0}) ShelfFault) → Gathers [] result d.gathered after now later → OnOk result (IsDraft s (record d { gathered = after }) start later)
+  draft_written {after} {later} (Ok x) wrote = record {
+    kept = draft.kept;
+    later = draft.later;
+    is = drafted_on after draft.is;
+    written = subst (λ (t : Text). HasGathered t [] after start later) (append-nil (text_of (lines_with s.circuit s.budgets draft.kept draft.later))) (gathered_then draft.written wrote.ok);
+  }
+  draft_written (Err fault) wrote = tt
+
+  pub draft_stopped : {after : Text} {later : State} (result : Result (Unit {0}) ShelfFault) → Gathers [] result d.gathered after now later → IfErr result (λ fault. BrokeOff s.circuit fault start later)
+  draft_stopped (Ok x) wrote = tt
+  draft_stopped (Err fault) wrote = stopped (lines_with s.circuit s.budgets draft.kept draft.later) draft.is.lines.right draft.written wrote
 
 module _ {s : Setting} {d : Draft} {kept : List (List Bool)} {later : List Record} (is : IsDrafted s d kept later) (member : ℕ) (lowest : IsLowestOpen d.keeper.kept.table d.marks member) where
   abbrev lead : ℕ
@@ -113,10 +128,10 @@ module _ {s : Setting} {d : Draft} {kept : List (List Bool)} {later : List Recor
           pool = is.pool;
         }
 
-    -- its line is written, or the draft is broken off
-    pub pattern_written : keeper.circuit ≡ d.keeper.circuit → {start mid now : State} → HasWritten (text_of (lines_with s.circuit s.budgets kept later)) start mid → (vectors : List (List Bool)) → vectors ≡ keeper.kept.vectors
-        → (result : Result (Unit {0}) ShelfFault) → WritesText (text_of (Pattern (get_or vectors (length vectors - 1) []) ∷ [])) result mid now → OnOk result (IsDraft s (record d { keeper = keeper }) start now) × IfErr result (λ fault. BrokeOff s.circuit fault start now)
-    pattern_written circuit written vectors vectors_are result wrote =
+    -- its line is made, or the draft is broken off
+    pub pattern_written : keeper.circuit ≡ d.keeper.circuit → {after : Text} {start mid now : State} → HasGathered (text_of (lines_with s.circuit s.budgets kept later)) [] d.gathered start mid → (vectors : List (List Bool)) → vectors ≡ keeper.kept.vectors
+        → (result : Result (Unit {0}) ShelfFault) → Gathers (text_of (Pattern (get_or vectors (length vectors - 1) []) ∷ [])) result d.gathered after mid now → OnOk result (IsDraft s (record d { keeper = keeper; gathered = after }) start now) × IfErr result (λ fault. BrokeOff s.circuit fault start now)
+    pattern_written circuit {after} written vectors vectors_are result wrote =
         let drafted = pattern_drafted circuit in
         let line = rw (last_added vectors vectors_are) at wrote in
         (line_drafted kept later (Pattern v) drafted written result line, line_stopped kept later (Pattern v) drafted written result line)

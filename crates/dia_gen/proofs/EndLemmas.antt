@@ -1,5 +1,5 @@
 -- The lines of the classes and of the numbers, behind a draft in which each number is marked.
-use Rattle.std.proofs.Common.{List, [], ◌∷◌, ◌++◌, map, length, Ok, Err, refl, sym, subst, append_assoc}
+use Rattle.std.proofs.Common.{◌≡◌, ◌∙◌, List, [], ◌∷◌, ◌++◌, map, length, Ok, Err, refl, sym, ap, subst, append_assoc}
 use Rattle.std.proofs.lemmas.List.{append-nil}
 use Rattle.diag_shelf.specs.World.{State}
 use Rattle.diag_shelf.specs.declared.shelf.ShelfFault.{ShelfFault}
@@ -19,18 +19,25 @@ use Rattle.dia_gen.specs.Setting.{Setting}
 use Rattle.member_marks.specs.Given.{AreAllMarked}
 use Rattle.dia_gen.specs.Marked.{member_for, AreMarkedBelow}
 use Rattle.dia_gen.specs.Made.{lines_with, IsMade}
-use Rattle.dia_gen.specs.Writing.{HasWritten, WritesText, BrokeOff}
+use Rattle.dia_gen.specs.Writing.{HasGathered, HasWritten, Gathers, BrokeOff}
 use Rattle.dia_gen.specs.Draft.{IsDraft}
-use Rattle.dia_gen.proofs.WritingLemmas.{written_then, written_ok, broken}
+use Rattle.dia_gen.proofs.WritingLemmas.{gathered_then, broken, stopped}
 use Rattle.dia_gen.proofs.DraftResult.{stated, result_right, result_valid, result_true, result_summary}
 
 -- what the table and the counts of marks amount to
 abbrev pub summary_with : ClassTable → Marked → Summary
 summary_with t marked = record { numbers = length t.class_of; patterns = t.patterns; classes = class_count t; equal = marked.equal; spent = marked.spent }
 
--- more lines were written
-pub lines_then : (lines more : List Record) {start mid now : State} {x : Unit {0}} → HasWritten (text_of lines) start mid → WritesText (text_of more) (Ok x) mid now → HasWritten (text_of (lines ++ more)) start now
-lines_then lines more {start} {mid} {now} h w = subst (λ (t : Text). HasWritten t start now) (sym (text-append lines more)) (written_then h (written_ok w))
+-- more lines came
+pub lines_then : (lines more : List Record) {before mid after : Text} {start between now : State} {x : Unit {0}} → HasGathered (text_of lines) before mid start between → Gathers (text_of more) (Ok x) mid after between now → HasGathered (text_of (lines ++ more)) before after start now
+lines_then lines more {before} {mid} {after} {start} {between} {now} h w = subst (λ (t : Text). HasGathered t before after start now) (sym (text-append lines more)) (gathered_then h w.ok)
+
+-- nothing waits, so all is written
+pub all_written : {text mid after : Text} {start between now : State} {x : Unit {0}} → HasGathered text [] mid start between → Gathers [] (Ok x) mid after between now → after ≡ [] → HasWritten text start now
+all_written {text} {mid} {after} {start} {between} {now} h w none =
+    let both : HasGathered (text ++ []) [] after start now = gathered_then h w.ok in
+    let is : text ≡ both.done = sym (append-nil text) ∙ both.is ∙ ap (λ (t : Text). both.done ++ t) none ∙ append-nil both.done in
+    subst (λ (t : Text). HasWritten t start now) (sym is) both.written
 
 module _ {s : Setting} {d : Draft} {start now : State} (draft : IsDraft s d start now) (all : AreAllMarked d.keeper.kept.table d.marks) where
   abbrev t : ClassTable
@@ -48,14 +55,18 @@ module _ {s : Setting} {d : Draft} {start now : State} (draft : IsDraft s d star
   pub whole_right : AreRightLines s.circuit (lines ++ classes ++ members ++ End ∷ [])
   whole_right = result_right s.circuit s.budgets draft.kept draft.later t d.marks draft.is.lines (rw draft.is.patterns at draft.is.keeper.table) draft.is.keeper.whole draft.is.few draft.is.marks all
 
-  pub classes_broken : {fault : ShelfFault} {later : State} → WritesText (text_of classes) (Err fault) now later → BrokeOff s.circuit fault start later
+  pub classes_broken : {fault : ShelfFault} {after : Text} {later : State} → Gathers (text_of classes) (Err fault) d.gathered after now later → BrokeOff s.circuit fault start later
   classes_broken w = broken lines classes (members ++ End ∷ []) (subst (AreRightLines s.circuit) (append_assoc (lines ++ classes) members (End ∷ [])) whole_right) draft.written w
 
-  pub members_broken : {fault : ShelfFault} {mid later : State} → HasWritten (text_of (lines ++ classes)) start mid → WritesText (text_of members) (Err fault) mid later → BrokeOff s.circuit fault start later
+  pub members_broken : {fault : ShelfFault} {wait after : Text} {mid later : State} → HasGathered (text_of (lines ++ classes)) [] wait start mid → Gathers (text_of members) (Err fault) wait after mid later → BrokeOff s.circuit fault start later
   members_broken h w = broken (lines ++ classes) members (End ∷ []) whole_right h w
 
-  pub end_broken : {fault : ShelfFault} {mid later : State} → HasWritten (text_of (lines ++ classes ++ members)) start mid → WritesText (text_of (End ∷ [])) (Err fault) mid later → BrokeOff s.circuit fault start later
+  pub end_broken : {fault : ShelfFault} {wait after : Text} {mid later : State} → HasGathered (text_of (lines ++ classes ++ members)) [] wait start mid → Gathers (text_of (End ∷ [])) (Err fault) wait after mid later → BrokeOff s.circuit fault start later
   end_broken h w = broken (lines ++ classes ++ members) (End ∷ []) [] (subst (AreRightLines s.circuit) (sym (append-nil (lines ++ classes ++ members ++ End ∷ []))) whole_right) h w
+
+  -- the whole is made, and its writing broke off
+  pub last_broken : {fault : ShelfFault} {wait after : Text} {mid later : State} → HasGathered (text_of (lines ++ classes ++ members ++ End ∷ [])) [] wait start mid → Gathers [] (Err fault) wait after mid later → BrokeOff s.circuit fault start later
+  last_broken h w = stopped (lines ++ classes ++ members ++ End ∷ []) whole_right h w
 
   module _ (sound : AreSound s.circuit) (marked : Marked) (counted : AreMarkedBelow t d.marks (length t.class_of) marked) where
     pub whole_made : NamedSeparatesFaults

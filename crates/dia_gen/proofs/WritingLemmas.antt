@@ -14,7 +14,7 @@ use Rattle.result_file.specs.Spelling.{Text, text_of}
 use Rattle.result_file.specs.Valid.{AreRightLines}
 use Rattle.result_file.proofs.RecordLists.{text-append}
 use Rattle.result_file.proofs.LineLemmas.{next_text}
-use Rattle.dia_gen.specs.Writing.{HasWritten, WritesText, BrokeOff}
+use Rattle.dia_gen.specs.Writing.{HasWritten, HasGathered, Gathers, BrokeOff}
 use Rattle.dia_gen.proofs.Written.{nothing_right, writes_none}
 
 -- ---- calls
@@ -44,11 +44,31 @@ written_then h w = record {
   written = λ told. writes_more (h.written told) (w.written (h.facts.tells ∙ told));
 }
 
-pub written_ok : {text : Text} {x : Unit {0}} {a b : State} → WritesText text (Ok x) a b → HasWritten text a b
-written_ok w = record { facts = record { tells = w.call.tells; sure = w.call.sure; reads = w.call.reads; writes = w.call.ok }; written = w.ok }
+-- ---- texts that wait
 
-pub whole_written : {text : Text} {a b : State} → HasWritten text a b → WritesText text (Ok tt) a b
-whole_written h = record { call = call_same h.facts; ok = h.written; err = tt; sure = λ s told e. absurd (cc) }
+-- nothing was made
+pub none_gathered : {wait : Text} (a : State) → HasGathered [] wait wait a a
+none_gathered {wait} a = record { done = []; is = append-nil wait; written = none_written a }
+
+pub gathered_then : {text more before mid after : Text} {a b c : State} → HasGathered text before mid a b → HasGathered more mid after b c → HasGathered (text ++ more) before after a c
+gathered_then {text} {more} {before} {mid} {after} h k = record {
+  done = h.done ++ k.done;
+  is = sym (append_assoc before text more) ∙ ap (λ (t : Text). t ++ more) h.is ∙ append_assoc h.done mid more ∙ ap (λ (t : Text). h.done ++ t) k.is ∙ sym (append_assoc h.done k.done after);
+  written = written_then h.written k.written;
+}
+
+pub whole_gathered : {text before after : Text} {a b : State} → HasGathered text before after a b → Gathers text (Ok tt) before after a b
+whole_gathered h = record { call = call_same h.written.facts; ok = h; err = tt; sure = λ s told e. absurd (cc) }
+
+-- a line that came behind what waits waits too
+pub line_before : {line before after : Text} {a b : State} (r : Result (Unit {0}) ShelfFault) → Gathers [] r (before ++ line) after a b → Gathers line r before after a b
+line_before {line} {before} (Ok x) w = record {
+  call = w.call;
+  ok = record { done = w.ok.done; is = sym (append-nil (before ++ line)) ∙ w.ok.is; written = w.ok.written };
+  err = tt;
+  sure = w.sure;
+}
+line_before {line} {before} (Err fault) w = record { call = w.call; ok = tt; err = λ told. rw (append-nil (before ++ line)) at (w.err told); sure = w.sure }
 
 -- a beginning of a longer text
 pub part_of : (text line rest whole : Text) → whole ≡ text ++ line ++ rest → {u v w : World} → Writes text u v → OfSome Writes line v w → OfSome Writes whole u w
@@ -57,34 +77,39 @@ part_of text line rest whole is {u} {v} {w} first some =
     ap (take (length text + some.0)) (is ∙ append_assoc text line rest) ∙ (take-append-add text (line ++ rest) some.0 ∙ ap (λ (t : Text). text ++ t) (take-append-le some.0 line rest some.1)) in
     (length text + some.0, rw (is, length-append (text ++ line) rest, length-append text line) (omega (arith, some.1)), rw at (writes_more first some.2))
 
-pub text_broken : (text line rest whole : Text) {fault : ShelfFault} {a b c : State} → whole ≡ text ++ line ++ rest → HasWritten text a b → WritesText line (Err fault) b c → WritesText whole (Err fault) a c
-text_broken text line rest whole {fault} {a} {b} {c} is h w = record {
-  call = call_after h.facts w.call;
+-- what waited before a text, the text, a line and the rest are what was written, what then waited with the line, and the rest
+seam : (before text line rest done mid : Text) → before ++ text ≡ done ++ mid → before ++ (text ++ line ++ rest) ≡ done ++ (mid ++ line) ++ rest
+seam before text line rest done mid is =
+    sym (append_assoc before (text ++ line) rest) ∙ ap (λ (t : Text). t ++ rest) (sym (append_assoc before text line) ∙ ap (λ (t : Text). t ++ line) is ∙ append_assoc done mid line)
+
+pub text_broken : (text line rest whole : Text) {before mid after last : Text} {fault : ShelfFault} {a b c : State} → whole ≡ text ++ line ++ rest → HasGathered text before mid a b → Gathers line (Err fault) mid after b c → Gathers whole (Err fault) before last a c
+text_broken text line rest whole {before} {mid} {after} {last} {fault} {a} {b} {c} is h w = record {
+  call = call_after h.written.facts w.call;
   ok = tt;
-  err = λ told. part_of text line rest whole is (h.written told) (w.err (h.facts.tells ∙ told));
-  sure = λ s told e. sym (h.written told).written ∙ w.sure (h.facts.sure ∙ s) (h.facts.tells ∙ told) e;
+  err = λ told. part_of h.done (mid ++ line) rest (before ++ whole) (ap (λ (t : Text). before ++ t) is ∙ seam before text line rest h.done mid h.is) (h.written.written told) (w.err (h.written.facts.tells ∙ told));
+  sure = λ s told e. sym (h.written.written told).written ∙ w.sure (h.written.facts.sure ∙ s) (h.written.facts.tells ∙ told) e;
 }
 
--- what is written last decides
-pub written_last : {text line : Text} {a b c : State} (r : Result (Unit {0}) ShelfFault) → HasWritten text a b → WritesText line r b c → WritesText (text ++ line) r a c
-written_last (Ok x) h w = whole_written (written_then h (written_ok w))
-written_last {text} {line} (Err fault) h w = text_broken text line [] (text ++ line) (sym (append-nil (text ++ line))) h w
+-- what comes last decides
+pub gathered_last : {text line before mid after : Text} {a b c : State} (r : Result (Unit {0}) ShelfFault) → HasGathered text before mid a b → Gathers line r mid after b c → Gathers (text ++ line) r before after a c
+gathered_last (Ok x) h w = whole_gathered (gathered_then h w.ok)
+gathered_last {text} {line} (Err fault) h w = text_broken text line [] (text ++ line) (sym (append-nil (text ++ line))) h w
 
 -- ---- line by line
 
 module _ (all : List Record) (k : ℕ) (r : Record) (at : slice_get all k ≡ Some r) where
-  pub line_written : {x : Unit {0}} {a b c : State} → HasWritten (text_of (take k all)) a b → WritesText (text_of (r ∷ [])) (Ok x) b c → HasWritten (text_of (take (k + 1) all)) a c
-  line_written h w = rw (next_text all k r at) (written_then h (written_ok w))
+  pub line_gathered : {before mid after : Text} {x : Unit {0}} {a b c : State} → HasGathered (text_of (take k all)) before mid a b → Gathers (text_of (r ∷ [])) (Ok x) mid after b c → HasGathered (text_of (take (k + 1) all)) before after a c
+  line_gathered h w = rw (next_text all k r at) (gathered_then h w.ok)
 
-  pub line_broken : {fault : ShelfFault} {a b c : State} → HasWritten (text_of (take k all)) a b → WritesText (text_of (r ∷ [])) (Err fault) b c → WritesText (text_of all) (Err fault) a c
+  pub line_broken : {before mid after last : Text} {fault : ShelfFault} {a b c : State} → HasGathered (text_of (take k all)) before mid a b → Gathers (text_of (r ∷ [])) (Err fault) mid after b c → Gathers (text_of all) (Err fault) before last a c
   line_broken h w =
       let rest = drop (k + 1) all in
       let is : text_of all ≡ text_of (take k all) ++ text_of (r ∷ []) ++ text_of rest =
       ap text_of (sym (take-append-drop (k + 1) all)) ∙ text-append (take (k + 1) all) rest ∙ ap (λ (t : Text). t ++ text_of rest) (next_text all k r at) in
       text_broken (text_of (take k all)) (text_of (r ∷ [])) (text_of rest) (text_of all) is h w
 
-pub lines_written : (all : List Record) (k : ℕ) → length all ≤ k → {a b : State} → HasWritten (text_of (take k all)) a b → WritesText (text_of all) (Ok tt) a b
-lines_written all k past h = whole_written (rw (take_all k all past) at h)
+pub lines_gathered : (all : List Record) (k : ℕ) → length all ≤ k → {before after : Text} {a b : State} → HasGathered (text_of (take k all)) before after a b → Gathers (text_of all) (Ok tt) before after a b
+lines_gathered all k past h = whole_gathered (rw (take_all k all past) at h)
 
 -- ---- results
 
@@ -94,31 +119,36 @@ told_some true text some = let w = some refl in (w.0, λ told. w.2)
 told_some false text some = (0, λ told. absurd (cc))
 
 -- right lines were broken off by a fault of the next ones
-pub broken : {c : Circuit} {fault : ShelfFault} (lines more rest : List Record) {start mid now : State} → AreRightLines c (lines ++ more ++ rest) → HasWritten (text_of lines) start mid → WritesText (text_of more) (Err fault) mid now → BrokeOff c fault start now
-broken {c} {fault} lines more rest {start} {mid} {now} right h w =
+pub broken : {c : Circuit} {fault : ShelfFault} (lines more rest : List Record) {mid after : Text} {start between now : State} → AreRightLines c (lines ++ more ++ rest) → HasGathered (text_of lines) [] mid start between → Gathers (text_of more) (Err fault) mid after between now → BrokeOff c fault start now
+broken {c} {fault} lines more rest {mid} {after} {start} {between} {now} right h w =
     let all = text_of (lines ++ more ++ rest) in
     let is : all ≡ text_of lines ++ text_of more ++ text_of rest = text-append (lines ++ more) rest ∙ ap (λ (t : Text). t ++ text_of rest) (text-append lines more) in
-    let some = told_some start.tells all (λ told. part_of (text_of lines) (text_of more) (text_of rest) all is (h.written told) (w.err (h.facts.tells ∙ told))) in
+    let cut = text_broken (text_of lines) (text_of more) (text_of rest) all {last = []} is h w in
+    let some = told_some start.tells all cut.err in
     record {
-      call = call_after h.facts w.call;
+      call = cut.call;
       part = take some.0 all;
       cut = record { records = lines ++ more ++ rest; right = right; count = some.0; cut = refl };
       written = some.1;
-      sure = λ s told e. sym (h.written told).written ∙ w.sure (h.facts.sure ∙ s) (h.facts.tells ∙ told) (ap Err e);
+      sure = λ s told e. cut.sure s told (ap Err e);
     }
 
 -- nothing is written where there is no memory
-no_text : (a : State) → WritesText [] (Err NoMemory) a a
-no_text a = record {
+no_text : (wait : Text) (a : State) → Gathers [] (Err NoMemory) wait wait a a
+no_text wait a = record {
   call = record { tells = refl; sure = refl; reads = refl; later = omega arith; ok = tt; failed = λ e. absurd (cc); memory = λ s e. refl };
   ok = tt;
   err = λ told. (0, omega arith, writes_none a.world);
   sure = λ s told e. absurd (cc);
 }
 
-pub broken_here : {c : Circuit} (lines : List Record) {start now : State} → AreRightLines c lines → HasWritten (text_of lines) start now → BrokeOff c NoMemory start now
-broken_here {c} lines {start} {now} right h = broken lines [] [] (rw (append-nil lines, append-nil lines) right) h (no_text now)
+-- the lines that wait couldn't be written
+pub stopped : {c : Circuit} {fault : ShelfFault} (lines : List Record) {wait after : Text} {start between now : State} → AreRightLines c lines → HasGathered (text_of lines) [] wait start between → Gathers [] (Err fault) wait after between now → BrokeOff c fault start now
+stopped lines right h w = broken lines [] [] (rw (append-nil lines, append-nil lines) right) h w
+
+pub broken_here : {c : Circuit} (lines : List Record) {wait : Text} {start now : State} → AreRightLines c lines → HasGathered (text_of lines) [] wait start now → BrokeOff c NoMemory start now
+broken_here {c} lines {wait} {start} {now} right h = stopped lines right h (no_text wait now)
 
 -- no line is written yet
 pub nothing_broken : {c : Circuit} (start : State) → BrokeOff c NoMemory start start
-nothing_broken {c} start = broken_here [] nothing_right (none_written start)
+nothing_broken {c} start = broken_here [] nothing_right (none_gathered {wait = []} start)

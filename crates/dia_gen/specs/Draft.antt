@@ -19,7 +19,7 @@ use Rattle.dia_gen.specs.declared.draft.Draft.{Draft}
 use Rattle.dia_gen.specs.Setting.{Setting}
 use Rattle.member_marks.specs.Given.{AreGiven}
 use Rattle.dia_gen.specs.Made.{lines_with, SeparatesNext, HasNoSearch, HasNoRefutation}
-use Rattle.dia_gen.specs.Writing.{HasWritten}
+use Rattle.dia_gen.specs.Writing.{HasGathered}
 
 -- The lines are right, and come about in the generator's way.
 pub record AreDraftLines (c : Circuit) (budgets : Budgets) (kept : List (List Bool)) (later : List Record) : Type 0 where
@@ -43,7 +43,7 @@ pub record IsDrafted (s : Setting) (d : Draft) (kept : List (List Bool)) (later 
   pub sim : d.sim.circuit ≡ s.circuit
   pub pool : d.pool.clauses ≡ []
 
--- The vectors of the stream are kept, and no number is marked.
+-- The vectors of the stream are kept, no number is marked, and no line is made.
 pub record IsBegun (s : Setting) (d : Draft) : Type 0 where
   pub is_circuit : IsCircuit s.circuit
   pub circuit : d.keeper.circuit ≡ s.circuit
@@ -53,10 +53,11 @@ pub record IsBegun (s : Setting) (d : Draft) : Type 0 where
   pub marks : d.marks ≡ replicate (fault_count s.circuit) None
   pub sim : d.sim.circuit ≡ s.circuit
   pub pool : d.pool.clauses ≡ []
+  pub gathered : d.gathered ≡ []
 
--- The lines so far are written.
+-- The lines so far are written, but for those that wait.
 pub record IsDraft (s : Setting) (d : Draft) (start now : State) : Type 0 where
   pub kept : List (List Bool)
   pub later : List Record
   pub is : IsDrafted s d kept later
-  pub written : HasWritten (text_of (lines_with s.circuit s.budgets kept later)) start now
+  pub written : HasGathered (text_of (lines_with s.circuit s.budgets kept later)) [] d.gathered start now

@@ -1,5 +1,5 @@
 -- What is written to a shelf, and how writing breaks off.
-use Rattle.std.specs.Prelude.{◌≡◌, Result, Err, IsTrue, OnOk, OnErr, IsErrOf, None}
+use Rattle.std.specs.Prelude.{◌≡◌, ◌++◌, Result, Err, IsTrue, OnOk, OnErr, IsErrOf, None}
 use Rattle.diag_shelf.specs.World.{State}
 use Rattle.diag_shelf.specs.Calls.{SameFacts, Told, OfSome, Writes, IsWriteCall}
 use Rattle.diag_shelf.specs.declared.shelf.ShelfFault.{ShelfFault}
@@ -13,11 +13,17 @@ pub record HasWritten (text : Text) (old new : State) : Type 0 where
   pub facts : SameFacts old new
   pub written : Told old new (Writes text)
 
--- What a call that writes a text does: after an error a beginning of it was written.
-pub record WritesText (text : Text) (result : Result (Unit {0}) ShelfFault) (old new : State) : Type 0 where
+-- A text came behind one that waited, what now waits is the end of both, and all before it was written. Nothing failed.
+pub record HasGathered (text before after : Text) (old new : State) : Type 0 where
+  pub done : Text
+  pub is : before ++ text ≡ done ++ after
+  pub written : HasWritten done old new
+
+-- What a call does that puts a text behind one that waits: after an error a beginning of both was written.
+pub record Gathers (text : Text) (result : Result (Unit {0}) ShelfFault) (before after : Text) (old new : State) : Type 0 where
   pub call : IsWriteCall result old new
-  pub ok : OnOk result (Told old new (Writes text))
-  pub err : OnErr result (Told old new (OfSome Writes text))
+  pub ok : OnOk result (HasGathered text before after old new)
+  pub err : OnErr result (Told old new (OfSome Writes (before ++ text)))
   pub sure : IsTrue old.sure → IsTrue old.tells → IsErrOf result Failed → old.world.written ≡ None
 
 -- A fault ended the writing of a result. There is a beginning of right lines, the last perhaps cut, that was written where the

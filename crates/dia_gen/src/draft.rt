@@ -2,7 +2,7 @@
 
 ghost use Rattle.std.specs.Prelude.{◌≡◌, ◌<◌, ◌+◌, ℕ, IfOk, IfErr, OnOk, IsSome, IsTrue, MatchOption};
 ghost use Rattle.diag_shelf.specs.World.{State};
-ghost use Rattle.net_model.specs.FaultList.{fault_numbered};
+ghost use Rattle.net_model.specs.FaultList.{fault_count, fault_numbered};
 ghost use Rattle.net_model.specs.ClassTable.{class_at, class_count, representative};
 ghost use Rattle.dia_gen.specs.Settled.{AreApartBy, IsProofFor};
 ghost use Rattle.member_marks.specs.Given.{given_mark, AreAllMarked, IsLowestOpen};
@@ -11,9 +11,10 @@ ghost use Rattle.dia_gen.specs.Marked.{AreMarkedUpTo, DoMarksStay};
 ghost use Rattle.dia_gen.specs.Writing.{BrokeOff};
 
 use crate::fallen::lowest_fallen;
+use crate::gathered::Gathered;
 use crate::pair::{Settled, settle_pair};
 use crate::setting::Setting;
-use crate::writing::{write_head, write_last, write_line, write_patterns};
+use crate::writing::{write_head, write_last, write_patterns};
 use clause_pool::Pool;
 use diag_shelf::{Shelf, ShelfFault};
 use kept_vectors::Keeper;
@@ -23,13 +24,14 @@ use pair_sets::PairSim;
 use result_file::{Evidence, Proof, Record};
 use std::alloc::{AllocError, Global};
 
-// What is kept, the marks that are given, the simulation that each search restarts, and the pool in which each pair is
-// solved.
+// What is kept, the marks that are given, the simulation that each search restarts, the pool in which each pair is solved,
+// and the lines that are not yet written.
 pub(crate) struct Draft<'a> {
     pub(crate) keeper: Keeper<'a>,
     pub(crate) marks: Marks,
     pub(crate) sim: PairSim<'a>,
     pub(crate) pool: Pool,
+    pub(crate) gathered: Gathered,
 }
 
 // Written out, it is one step in the proof of each function that lets a draft go.
@@ -40,6 +42,7 @@ impl Drop for Draft<'_> {
             marks: _,
             sim: _,
             pool: _,
+            gathered: _,
         } = self;
     }
 }
@@ -58,22 +61,22 @@ impl<'a> Draft<'a> {
             marks,
             sim,
             pool,
+            gathered: Gathered::new(alloc),
         })
     }
 
     // Writes the first two lines, and a line for each vector of the stream that is kept.
     pub(crate) fn start<S: Shelf>(
-        &self,
-        alloc: Global,
+        &mut self,
         setting: &Setting,
         shelf: &mut S,
     ) -> Result<(), ShelfFault>
-        requires { IsBegun setting.now self.now }
-        ensures draft { OnOk result (IsDraft setting.now self.now (S.state shelf.old) (S.state shelf.new)) }
+        requires { IsBegun setting.now self.old }
+        ensures draft { OnOk result (IsDraft setting.now self.new (S.state shelf.old) (S.state shelf.new)) }
         ensures err { IfErr result (λ fault. BrokeOff setting.now.circuit fault (S.state shelf.old) (S.state shelf.new)) }
     {
-        write_head(alloc, shelf, setting)?;
-        write_patterns(alloc, shelf, self.keeper.vectors())?;
+        write_head(&mut self.gathered, shelf, setting)?;
+        write_patterns(&mut self.gathered, shelf, self.keeper.vectors())?;
         Ok(())
     }
 
@@ -127,7 +130,7 @@ impl<'a> Draft<'a> {
     }
 
     // Writes evidence for the lowest number that isn't marked, or the pattern that tells it from its representative.
-    // Answers whether it was a pattern.
+    // Answers whether it was a pattern. Before a search nothing waits.
     fn settle<S: Shelf>(
         &mut self,
         alloc: Global,
@@ -147,23 +150,46 @@ impl<'a> Draft<'a> {
     {
         let classes = self.keeper.classes();
         let lead = classes.representative(classes.class_of(member));
+        self.write_before_search(setting, shelf, lead, member)?;
         match settle_pair(alloc, setting, &mut self.sim, &mut self.pool, lead, member) {
             Ok(Settled::Apart(cube)) => {
-                self.add_pattern(alloc, setting, shelf, member, &cube)?;
+                self.add_pattern(setting, shelf, member, &cube)?;
                 Ok(true)
             }
             Ok(Settled::By(proof)) => {
-                self.add_evidence(alloc, setting, shelf, lead, member, proof)?;
+                self.add_evidence(setting, shelf, lead, member, proof)?;
                 Ok(false)
             }
             Err(_) => Err(ShelfFault::NoMemory),
         }
     }
 
+    // Writes the lines that wait, unless the two numbers have one root, so that no search follows.
+    fn write_before_search<S: Shelf>(
+        &mut self,
+        setting: &Setting,
+        shelf: &mut S,
+        lead: u32,
+        member: u32,
+    ) -> Result<(), ShelfFault>
+        ghost start: { State }
+        requires draft { IsDraft setting.now self.old start (S.state shelf.old) }
+        requires lead { lead < fault_count setting.now.circuit }
+        requires member { member < fault_count setting.now.circuit }
+        ensures draft { OnOk result (IsDraft setting.now self.new start (S.state shelf.new)) }
+        ensures keeper { self.new.keeper ≡ self.old.keeper }
+        ensures marks { self.new.marks ≡ self.old.marks }
+        ensures err { IfErr result (λ fault. BrokeOff setting.now.circuit fault start (S.state shelf.new)) }
+    {
+        if setting.same_root(lead, member) {
+            return Ok(());
+        }
+        self.gathered.write_out(shelf)
+    }
+
     // Adds a pattern that tells a number from its representative.
     fn add_pattern<S: Shelf>(
         &mut self,
-        alloc: Global,
         setting: &Setting,
         shelf: &mut S,
         member: u32,
@@ -179,7 +205,7 @@ impl<'a> Draft<'a> {
         ensures err { IfErr result (λ fault. BrokeOff setting.now.circuit fault start (S.state shelf.new)) }
     {
         match self.keeper.keep_of_cube(cube) {
-            Ok(()) => write_last(alloc, shelf, self.keeper.vectors()),
+            Ok(()) => write_last(&mut self.gathered, shelf, self.keeper.vectors()),
             Err(_) => Err(ShelfFault::NoMemory),
         }
     }
@@ -187,7 +213,6 @@ impl<'a> Draft<'a> {
     // Adds evidence for a number with its representative.
     fn add_evidence<S: Shelf>(
         &mut self,
-        alloc: Global,
         setting: &Setting,
         shelf: &mut S,
         lead: u32,
@@ -210,7 +235,7 @@ impl<'a> Draft<'a> {
             partner: lead,
             proof,
         };
-        write_line(alloc, shelf, Record::Same(evidence))?;
+        self.gathered.add_line(shelf, Record::Same(evidence))?;
         self.marks.give(member, lead, mark);
         Ok(())
     }

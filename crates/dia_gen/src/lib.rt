@@ -4,6 +4,7 @@
 mod counts;
 mod draft;
 mod fallen;
+mod gathered;
 mod laws;
 mod output;
 mod pair;

@@ -1,4 +1,4 @@
-//! Results, written line by line.
+//! Results, written piece by piece.
 
 ghost use Rattle.std.specs.Prelude.{◌≡◌, ◌≤◌, ◌^◌, ℕ, List, IfOk, IfErr, OnErr, IsTrue, IsSome, IsErrOf};
 ghost use Rattle.diag_shelf.specs.World.{State};
@@ -12,7 +12,7 @@ ghost use Rattle.dia_gen.specs.Writing.{HasWritten, BrokeOff};
 use crate::counts::count_marks;
 use crate::draft::Draft;
 use crate::setting::Setting;
-use crate::writing::{write_classes, write_line, write_members};
+use crate::writing::{write_classes, write_members};
 use class_refine::named_separates_faults;
 use diag_shelf::{Shelf, ShelfFault};
 use distinguish_search::Levels;
@@ -24,7 +24,8 @@ use pair_sets::{covering_is_equal, full_tree_is_covered, leaves_are_closed};
 use result_file::{Budgets, Record, Summary};
 use std::alloc::Global;
 
-/// Generates a result and appends it to the file that is created, each line when it is made.
+/// Generates a result and appends it to the file that is created, in pieces of whole lines. Before each search all lines that
+/// were made are written.
 ///
 /// After an error a beginning of right lines was appended, the last perhaps cut.
 pub fn generate<S: Shelf>(
@@ -93,21 +94,20 @@ fn write_lines<S: Shelf>(
     ensures complete { IfOk result (λ summary. 2 ^ setting.now.circuit.sources ≤ setting.now.budgets.cubes → summary.spent ≡ 0) }
     ensures err { IfErr result (λ fault. BrokeOff setting.now.circuit fault start (S.state shelf.new)) }
 {
-    draft.start(alloc, setting, shelf)?;
+    draft.start(setting, shelf)?;
     draft.mark_all(alloc, setting, shelf)?;
-    write_end(alloc, setting, shelf, draft)
+    write_end(setting, shelf, draft)
 }
 
 // Writes the lines of the classes and of the numbers, and the end.
 fn write_end<S: Shelf>(
-    alloc: Global,
     setting: &Setting,
     shelf: &mut S,
-    draft: &Draft,
+    draft: &mut Draft,
 ) -> Result<Summary, ShelfFault>
     ghost start: { State }
-    requires draft { IsDraft setting.now draft.now start (S.state shelf.old) }
-    requires marked { AreAllMarked draft.now.keeper.kept.table draft.now.marks }
+    requires draft { IsDraft setting.now draft.old start (S.state shelf.old) }
+    requires marked { AreAllMarked draft.old.keeper.kept.table draft.old.marks }
     ensures ok { IfOk result (λ summary. (file : List ℕ) × IsMade setting.now.circuit setting.now.budgets summary file × HasWritten file start (S.state shelf.new)) }
     ensures complete { IfOk result (λ summary. 2 ^ setting.now.circuit.sources ≤ setting.now.budgets.cubes → summary.spent ≡ 0) }
     ensures err { IfErr result (λ fault. BrokeOff setting.now.circuit fault start (S.state shelf.new)) }
@@ -119,9 +119,10 @@ fn write_end<S: Shelf>(
     full_tree_is_covered();
     let numbers = setting.numbers();
     let classes = draft.keeper.classes();
-    write_classes(alloc, shelf, classes)?;
-    write_members(alloc, shelf, classes, &draft.marks, numbers)?;
-    write_line(alloc, shelf, Record::End)?;
+    write_classes(&mut draft.gathered, shelf, classes)?;
+    write_members(&mut draft.gathered, shelf, classes, &draft.marks, numbers)?;
+    draft.gathered.add_line(shelf, Record::End)?;
+    draft.gathered.write_out(shelf)?;
     let marked = count_marks(classes, &draft.marks, numbers);
     Ok(Summary {
         numbers,

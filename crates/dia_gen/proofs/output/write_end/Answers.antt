@@ -7,7 +7,7 @@ use Rattle.result_file.proofs.Truth.{AreSound}
 use Rattle.kept_vectors.proofs.KeepLemmas.{table_numbers}
 use Rattle.dia_gen.specs.Marked.{AreMarkedBelow}
 use Rattle.dia_gen.specs.Made.{IsMade}
-use Rattle.dia_gen.proofs.EndLemmas.{lines_then, lines, classes, members, classes_broken, members_broken, end_broken, summary_with, whole_made}
+use Rattle.dia_gen.proofs.EndLemmas.{lines_then, all_written, lines, classes, members, classes_broken, members_broken, end_broken, last_broken, summary_with, whole_made}
 use Rattle.dia_gen.proofs.Written.{made_closed}
 use Rattle.dia_gen.proofs.output.write_end.Given as given
 use Rattle.dia_gen.proofs.output.write_end.Goals as goal
@@ -33,12 +33,22 @@ returns-in_err-write_members-clause-err g c =
     let first = lines_then (lines c.requires.1.0 c.requires.1.1) (classes c.requires.1.0 c.requires.1.1) c.requires.1.0.written (rw c.classes-classes.ensures.value at c.in_ok-write_classes.ensures) in
     rw (p.1, p.2) (members_broken c.requires.1.0 c.requires.1.1 first (rw c.classes-classes.ensures.value at c.in_err-write_members.ensures))
 
-pub returns-in_err-write_line-clause-err : goal.returns-in_err-write_line-clause-err
-returns-in_err-write_line-clause-err g c =
-    let p = err_from_is_err_and c.from_residual-in_err-write_line.result c.from_residual-in_err-write_line.ensures.1 in
+pub returns-in_err-add_line-clause-err : goal.returns-in_err-add_line-clause-err
+returns-in_err-add_line-clause-err g c =
+    let p = err_from_is_err_and c.from_residual-in_err-add_line.result c.from_residual-in_err-add_line.ensures.1 in
     let first = lines_then (lines c.requires.1.0 c.requires.1.1) (classes c.requires.1.0 c.requires.1.1) c.requires.1.0.written (rw c.classes-classes.ensures.value at c.in_ok-write_classes.ensures) in
     let second = lines_then (lines c.requires.1.0 c.requires.1.1 ++ classes c.requires.1.0 c.requires.1.1) (members c.requires.1.0 c.requires.1.1) first (rw c.classes-classes.ensures.value at c.in_ok-write_members.ensures) in
-    rw (p.1, p.2) (end_broken c.requires.1.0 c.requires.1.1 second c.in_err-write_line.ensures)
+    rw (p.1, p.2) (end_broken c.requires.1.0 c.requires.1.1 second c.in_err-add_line.ensures)
+
+pub returns-in_err-write_out-clause-err : goal.returns-in_err-write_out-clause-err
+returns-in_err-write_out-clause-err g c =
+    let d = c.requires.1.0 in
+    let all = c.requires.1.1 in
+    let p = err_from_is_err_and c.from_residual-in_err-write_out.result c.from_residual-in_err-write_out.ensures.1 in
+    let first = lines_then (lines d all) (classes d all) d.written (rw c.classes-classes.ensures.value at c.in_ok-write_classes.ensures) in
+    let second = lines_then (lines d all ++ classes d all) (members d all) first (rw c.classes-classes.ensures.value at c.in_ok-write_members.ensures) in
+    let third = lines_then (lines d all ++ classes d all ++ members d all) (End ∷ []) second c.in_ok-add_line.ensures in
+    rw (p.1, p.2) (last_broken d all third c.in_err-write_out.ensures.gathers)
 
 pub count_marks-marked-requires-clause-numbers : goal.count_marks-marked-requires-clause-numbers
 count_marks-marked-requires-clause-numbers g c = rw c.classes-classes.ensures.value (c.numbers-numbers.ensures.value ∙ sym (table_numbers c.requires.1.0.is.keeper.table))
@@ -70,7 +80,7 @@ returns-clause-ok g c =
     let second = lines_then (lines d all ++ classes d all) (members d all) first (rw c.classes-classes.ensures.value at c.in_ok-write_members.ensures) in (
       file g at,
       rw (numbers, c.patterns.ensures.value, c.count.ensures.value, c.classes-classes.ensures.value) (made g at),
-      lines_then (lines d all ++ classes d all ++ members d all) (End ∷ []) second c.in_ok-write_line.ensures,
+      all_written (lines_then (lines d all ++ classes d all ++ members d all) (End ∷ []) second c.in_ok-add_line.ensures) c.in_ok-write_out.ensures.gathers c.in_ok-write_out.ensures.empty,
     )
 
 pub returns-clause-complete : goal.returns-clause-complete

@@ -9,7 +9,7 @@ use Rattle.result_file.specs.declared.record.Record.TheVariants.{Member}
 use Rattle.result_file.specs.Meaning.{member_records}
 use Rattle.dia_gen.specs.Marked.{member_for}
 use Rattle.result_file.proofs.LineLemmas.{member_at_place, member_count_lines}
-use Rattle.dia_gen.proofs.WritingLemmas.{line_written, line_broken, lines_written}
+use Rattle.dia_gen.proofs.WritingLemmas.{line_gathered, line_broken, lines_gathered}
 use Rattle.dia_gen.proofs.writing.write_members.Given as given
 use Rattle.dia_gen.proofs.writing.write_members.Goals as goal
 use Rattle.dia_gen.proofs.writing.write_members.Goals.{After-unwrap-mark}
@@ -28,20 +28,20 @@ place g c =
     let test = c.loop-number-test.true in
     member_at_place (member_for c.args.classes.now c.args.marks.now) (length c.args.classes.now.class_of) c.loop-number.number (omega (arith, test, c.requires.numbers))
 
-pub returns-in_err-write_member : goal.returns-in_err-write_member
-returns-in_err-write_member g c =
-    let at = (goal.at.returns-in_err-write_member g c).After-unwrap-mark in
+pub returns-in_err-add_member : goal.returns-in_err-add_member
+returns-in_err-add_member g c =
+    let at = (goal.at.returns-in_err-add_member g c).After-unwrap-mark in
     let p = err_from_is_err_and c.from_residual.result c.from_residual.ensures.1 in
-    rw (p.1, p.2) (line_broken _ c.loop-number.number _ (place g at) c.loop-number.invariant (rw (mark_is g at) at c.in_err-write_member.ensures))
+    rw (p.1, p.2) (line_broken _ c.loop-number.number _ (place g at) c.loop-number.invariant (rw (mark_is g at) at c.in_err-add_member.ensures))
 
 pub loop-number-preserved : goal.loop-number-preserved
 loop-number-preserved g c =
     let at = (goal.at.loop-number-preserved g c).After-unwrap-mark in
-    line_written _ c.loop-number.number _ (place g at) c.loop-number.invariant (rw (mark_is g at) at c.in_ok-write_member.ensures)
+    line_gathered _ c.loop-number.number _ (place g at) c.loop-number.invariant (rw (mark_is g at) at c.in_ok-add_member.ensures)
 
 pub returns : goal.returns
 returns g c =
     let t = c.args.classes.now in
     let marks = c.args.marks.now in
     let past = c.loop-number-test.false in
-    lines_written (member_records (map (member_for t marks) (number_range t))) c.loop-number.number (omega (arith, past, c.requires.numbers, member_count_lines (member_for t marks) (length t.class_of))) c.loop-number.invariant
+    lines_gathered (member_records (map (member_for t marks) (number_range t))) c.loop-number.number (omega (arith, past, c.requires.numbers, member_count_lines (member_for t marks) (length t.class_of))) c.loop-number.invariant

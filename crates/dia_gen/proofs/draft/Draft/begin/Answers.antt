@@ -12,4 +12,5 @@ returns c = record {
   marks = rw c.numbers.ensures.value at c.in_ok-marks.ensures;
   sim = ap (λ (p : PairSim). p.circuit) c.in_ok-sim.ensures ∙ c.circuit.ensures.value;
   pool = rw c.in_ok-pool.ensures refl;
+  gathered = c.new-2.ensures;
 }

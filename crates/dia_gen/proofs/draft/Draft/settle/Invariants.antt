@@ -1,5 +1,8 @@
 use Rattle.dia_gen.proofs.draft.Draft.settle.Given as goal
 
+abbrev pub ghost-write_before_search : goal.ghost-write_before_search
+ghost-write_before_search g a = g.start
+
 abbrev pub ghost-add_pattern : goal.ghost-add_pattern
 ghost-add_pattern g a = g.start
 
