@@ -2,8 +2,10 @@
 use Rattle.std.proofs.Common.{◌≡◌, ◌≢◌, ◌∙◌, ℕ, ◌+◌, ◌<◌, ◌≤◌, Bool, true, false, cond, eqb, ◌&&◌, List, [], ◌∷◌, ◌++◌, length, get_or, map, set, take, unwrap_or, refl, sym, ap, subst, arith, inl, inr, Option, None, Some, MatchOption, filter, All, Contains}
 use Rattle.std.specs.Bool.{Decides}
 use Rattle.std.specs.Borrow.{Bor}
+use Rattle.std.specs.Cmp.Lexicographic.{slice_cmp}
 use Rattle.std.specs.Option.{is_none}
-use Rattle.std.specs.Ordering.{is_eq}
+use Rattle.std.specs.Ordering.{is_eq, nat_cmp}
+use Rattle.std.specs.declared.cmp.Ordering.{Ordering}
 use Rattle.std.specs.Str.{bytes_eq}
 use Rattle.std.proofs.lemmas.Bool.{cases_lt, cases_eq, cases_Bool, eq-eqb, ne_eqb, false_from_ne_true}
 use Rattle.std.proofs.lemmas.Bool.Decides.{Decides-at, nat_tests}
@@ -16,7 +18,7 @@ use Rattle.net_model.specs.ClassTable.{ClassTable, class_at, members, representa
 use Rattle.net_model.specs.Rows.{IsPacked}
 use Rattle.net_model.proofs.Elements.{true_false, Contains-filter, Contains-from_filter}
 use Rattle.net_model.proofs.RowLemmas.{packed_once, unpacked_once}
-use Rattle.class_refine.specs.Steps.{words_order, piece_of, put_in, ArePieces}
+use Rattle.class_refine.specs.Steps.{piece_of, put_in, ArePieces}
 use Rattle.class_refine.proofs.Ranges.{AreDistinct, Ascends, distinct_from_ascending, same_place, in_front_less, less_in_front, filter_none, map_where}
 use Rattle.class_refine.proofs.Pieces.{Begins, begins-true, begins_from, members-All, members_ascend, members-contains, piece_is, lead_is, same_piece}
 
@@ -66,6 +68,10 @@ module _ (key : ℕ → ℕ) where
       ∙ sym (ap (λ b. cond b (all ++ (n ∷ []) ∷ []) (set all (length lows) (get_or all (length lows) [] ++ n ∷ []))) (eq-eqb (length lows) (length all) (sym (length-map lows (λ low. filter (λ m. eqb (key m) low) xs))))))
 
 -- ---- words
+
+-- the order of the words of rows
+abbrev pub words_order : Bor (List ℕ) → Bor (List ℕ) → Ordering
+words_order a b = slice_cmp nat_cmp a.now b.now
 
 pub same_words : (a b : Bor (List ℕ)) → Decides (is_eq (words_order a b)) (a.now ≡ b.now)
 same_words a b = Decides-at (is_eq (words_order a b)) (bytes_eq a.now b.now) (is_eq-slice_cmp a.now b.now) (bytes_eq-Decides a.now b.now)

@@ -143,7 +143,7 @@ module _ (t : ClassTable) where
     pub new_lowest_distinct : AreDistinct (new_lowest t row)
     new_lowest_distinct = λ i j d l h e. elim (new_lowest_ordered i j d l h) [ inl class ↦ let same = ap (class_at t) e in omega (arith, class, same) | inr (class, less) ↦ omega (arith, less, e) ]
 
-    new_lowest-contains : (n : ℕ) → class_at t n < class_count t → Begins n → Contains (new_lowest t row) n
+    pub new_lowest-contains : (n : ℕ) → class_at t n < class_count t → Begins n → Contains (new_lowest t row) n
     unfolding new_lowest
     new_lowest-contains n counted b =
         Contains-flat_map part (range_with_len 0 (class_count t)) (class_at t n) n (range-contains (class_count t) (class_at t n) counted)

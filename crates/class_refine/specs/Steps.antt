@@ -1,15 +1,7 @@
 -- What the steps of a cut make.
 use Rattle.std.specs.Prelude.{◌≡◌, ◌<◌, ◌≤◌, ℕ, ◌==◌, ◌++◌, ◌⊎◌, Bool, List, [], ◌∷◌, Some, map, filter, length, slice_get, slice_set, slice_index, slice_index_or, if◌then◌else◌, nat_eq, All, Contains, IsTrue, ◌↔◌}
-use Rattle.std.specs.Borrow.{Bor}
-use Rattle.std.specs.Cmp.Lexicographic.{slice_cmp}
-use Rattle.std.specs.Ordering.{nat_cmp}
-use Rattle.std.specs.declared.cmp.Ordering.{Ordering}
 use Rattle.std.specs.Option.{option_eq}
 use Rattle.net_model.specs.ClassTable.{ClassTable, class_at, members, piece_lowest, new_lowest, refined_table, cuts_class, SplitBy}
-
--- the order of the words of rows
-abbrev pub words_order : Bor (List ℕ) → Bor (List ℕ) → Ordering
-words_order a b = slice_cmp nat_cmp a.now b.now
 
 -- the piece of a class that has this lowest number
 abbrev pub piece_of : ClassTable → List (List Bool) → ℕ → List ℕ

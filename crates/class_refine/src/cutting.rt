@@ -1,13 +1,12 @@
 //! The pieces into which a row of answers cuts the classes.
 
 ghost use Rattle.std.specs.Prelude.{◌≡◌, ◌<◌, ◌≤◌, ◌==◌, ◌&&◌, ◌++◌, ℕ, List, [], ◌∷◌, if◌then◌else◌, unwrap_or, filter, length, Some, IfOk, OnOk};
-ghost use Rattle.std.specs.Borrow.{Bor};
 ghost use Rattle.std.specs.BTreeMap.{get};
 ghost use Rattle.std.specs.Option.{is_none};
 ghost use Rattle.std.specs.Ordering.{is_eq};
 ghost use Rattle.net_model.specs.ClassTable.{class_count, members, begins_class};
 ghost use Rattle.class_refine.specs.CutIn.{AreClassesOf, AreAlikeElsewhere};
-ghost use Rattle.class_refine.specs.Steps.{words_order, put_in, ArePieces, AreLeaving};
+ghost use Rattle.class_refine.specs.Steps.{put_in, ArePieces, AreLeaving};
 
 use crate::classes::Classes;
 use crate::group::Group;
@@ -32,8 +31,14 @@ impl Drop for Pieces {
 }
 
 impl Pieces {
-    // Puts a number of a class into the piece at a place, or begins one behind the others.
-    fn put(&mut self, alloc: Global, place: usize, class: u32, n: u32) -> Result<(), AllocError>
+    /// Puts a number of a class into the piece at a place, or begins one behind the others.
+    pub(crate) fn put(
+        &mut self,
+        alloc: Global,
+        place: usize,
+        class: u32,
+        n: u32,
+    ) -> Result<(), AllocError>
         requires { place ≤ length self.old.groups.items }
         ensures groups { OnOk result (self.new.groups.items ≡ put_in self.old.groups.items place n) }
         ensures parents { OnOk result (self.new.parents.items ≡ (if place == length self.old.groups.items then self.old.parents.items ++ class ∷ [] else self.old.parents.items)) }
@@ -133,18 +138,18 @@ impl Classes {
     }
 }
 
-// The place noted for these words, which is the next one where there was none.
-fn place_with<'a>(
-    begun: &mut BTreeMap<&'a [u64], usize>,
-    words: &'a [u64],
+/// The place noted for a key, which is the next one where there was none.
+pub(crate) fn place_with<K: Ord + Copy>(
+    begun: &mut BTreeMap<K, usize>,
+    key: K,
     next: usize,
 ) -> Result<usize, AllocError>
-    ensures place { IfOk result (λ place. place ≡ unwrap_or (get words_order begun.old words.entry) next) }
-    ensures noted { OnOk result ((q : Bor (List ℕ)) → get words_order begun.new q ≡ (if is_none (get words_order begun.old words.entry) && is_eq (words_order words.entry q) then Some next else get words_order begun.old q)) }
+    ensures place { IfOk result (λ place. place ≡ unwrap_or (get K.cmp begun.old key) next) }
+    ensures noted { OnOk result ((q : K) → get K.cmp begun.new q ≡ (if is_none (get K.cmp begun.old key) && is_eq (K.cmp key q) then Some next else get K.cmp begun.old q)) }
 {
-    if let Some(place) = begun.get(&words) {
+    if let Some(place) = begun.get(&key) {
         return Ok(*place);
     }
-    begun.insert(words, next)?;
+    begun.insert(key, next)?;
     Ok(next)
 }

@@ -1,5 +1,5 @@
 -- The vectors of a block, judged one after another.
-use Rattle.std.proofs.Common.{◌≡◌, ℕ, ◌+◌, ◌<◌, Bool, true, false, List, [], ◌∷◌, ◌++◌, length, length-append, get_or, take, Some, sym, ap, subst, ◌∙◌, arith, IsTrue}
+use Rattle.std.proofs.Common.{◌≡◌, ℕ, ◌+◌, ◌<◌, Bool, true, false, List, [], ◌∷◌, ◌++◌, length, length-append, get_or, take, Some, sym, ap, subst, ◌∙◌, arith, IsTrue, inl, inr}
 use Rattle.std.specs.Prelude.{All, if◌then◌else◌}
 use Rattle.std.proofs.lemmas.Bool.{false≢true}
 use Rattle.std.proofs.lemmas.List.{append-nil, append_assoc, take-take, take_more, get_or-take, get_or-append-add, length-take-le}
@@ -13,7 +13,7 @@ use Rattle.class_refine.proofs.Refined.{sound_from, split_adds, cuts_from}
 use Rattle.word_sim.specs.GoodSim.{GoodSim}
 use Rattle.fault_sim.specs.FaultyLanes.{vector_at}
 use Rattle.kept_vectors.specs.declared.notes.Note.{Note}
-use Rattle.kept_vectors.specs.declared.spans.Span.{Span}
+use Rattle.kept_vectors.specs.declared.notes.Span.{Span}
 use Rattle.kept_vectors.specs.Kept.{KeptSoFar, Keeps, KeepsFirst, KeepsRun, IsFiner}
 use Rattle.kept_vectors.specs.Keeper.{keeper_with, IsKeeper}
 use Rattle.kept_vectors.specs.Notes.{AreTold}
@@ -22,21 +22,20 @@ use Rattle.net_model.proofs.OneAnswer.{one_table}
 use Rattle.kept_vectors.proofs.KeepLemmas.{ran_vectors, keeps_none, keeps_lane, keeper_after}
 
 -- what is told of a table is told of one in which more numbers are apart
-pub told_later : {good : GoodSim} {vectors : List (List Bool)} {splitting : List Bool} {spans : List Span} {notes : List Note} {t u : ClassTable} → IsWhole u → IsFiner t u → AreTold good vectors splitting spans notes t → AreTold good vectors splitting spans notes u
+pub told_later : {good : GoodSim} {vectors : List (List Bool)} {notes : List Note} {spans : List Span} {t u : ClassTable} → IsWhole u → IsFiner t u → AreTold good vectors notes spans t → AreTold good vectors notes spans u
 told_later {t = t} {u = u} whole finer told =
     let numbers = finer.numbers in
-    let same : (m n : ℕ) → m < length u.class_of → n < length u.class_of → class_at u m ≡ class_at u n → (m < length t.class_of) × (n < length t.class_of) × (class_at t m ≡ class_at t n) =
-    λ m n hm hn e. (omega (arith, hm, numbers), omega (arith, hn, numbers), finer.together m n (omega (arith, hm, numbers)) (omega (arith, hn, numbers)) e) in
+    let same : (m n : ℕ) → m < length u.class_of → n < length u.class_of → class_at u m ≡ class_at u n → (m < length t.class_of) × (class_at t m ≡ class_at t n) =
+    λ m n hm hn e. (omega (arith, hm, numbers), finer.together m n (omega (arith, hm, numbers)) (omega (arith, hn, numbers)) e) in
     record {
       circuit = told.circuit;
       ran = told.ran;
       whole = whole;
       numbers = numbers ∙ told.numbers;
-      right = told.right;
-      noted = λ m n hm hn e. let old = same m n hm hn e in told.noted m n old.0 old.1 old.2;
-      alike = λ m n lane hm hn e. let old = same m n hm hn e in told.alike m n lane old.0 old.1 old.2;
-      parts = told.parts;
-      shown = λ m n lane hm hn e. let old = same m n hm hn e in told.shown m n lane old.0 old.1 old.2;
+      noted = λ n hn. elim (told.noted n (omega (arith, hn, numbers))) [
+        | inl mates ↦ inl (λ m hm e. let old = same m n hm hn e in mates m old.0 old.1)
+        | inr alike ↦ inr (λ m lane hm e live. let old = same m n hm hn e in alike m lane old.0 old.1 live)
+      ];
     }
 
 -- ---- one vector

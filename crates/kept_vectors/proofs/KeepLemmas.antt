@@ -1,33 +1,29 @@
 -- Vectors kept one after another.
-use Rattle.std.proofs.Common.{◌≡◌, ℕ, zero, suc, ◌+◌, ◌<◌, ◌≤◌, Bool, true, false, cond, eqb, List, [], ◌∷◌, ◌++◌, length, length-append, get_or, replicate, take, Option, Some, refl, sym, ap, subst, ◌∙◌, inl, inr, arith, IsTrue}
+use Rattle.std.proofs.Common.{◌≡◌, ℕ, ◌+◌, ◌<◌, ◌≤◌, Bool, true, false, cond, List, [], ◌∷◌, ◌++◌, length, length-append, get_or, take, Option, Some, refl, sym, ap, subst, ◌∙◌, inl, inr, arith, IsTrue}
 use Rattle.std.specs.Prelude.{All, unwrap_or, Result, Ok, Err, OnOk, OnErr}
-use Rattle.std.specs.List.{AllZip, zip, fold, range_with_len}
+use Rattle.std.specs.List.{AllZip, zip, fold}
 use Rattle.std.proofs.lemmas.Bool.{cases_lt}
-use Rattle.std.proofs.lemmas.List.{take_more, length-replicate, get_or-replicate, take-append-le, get_or_append_left}
-use Rattle.std.proofs.lemmas.List.FromFn.{length-range_with_len}
+use Rattle.std.proofs.lemmas.List.{take_more, length-replicate, take-append-le, get_or_append_left}
 use Rattle.std.proofs.lemmas.Slice.Zip.{AllZip-long}
 use Rattle.std.proofs.Math.Seq.{take-append_seam, take-append-add, get_or-append_seam}
-use Rattle.std.proofs.lemmas.List.Sums.{fold-append, length-filter, count_by-le-length}
+use Rattle.std.proofs.lemmas.List.Sums.{fold-append}
 use Rattle.std.proofs.lemmas.List.Elements.{All-append, All-head, All-tail, All-take}
 use Rattle.net_model.specs.Circuit.{Circuit, IsCircuit}
 use Rattle.net_model.specs.FaultList.{fault_count}
-use Rattle.net_model.specs.ClassTable.{ClassTable, first_table, refined_table, cuts_class, class_at, members, representative, SplitBy}
+use Rattle.net_model.specs.ClassTable.{ClassTable, first_table, refined_table, cuts_class, class_at, representative, SplitBy}
 use Rattle.net_model.specs.PatternRows.{IsAnswerRow, AreAnswerRows, IsTableOf, SplitsClass}
 use Rattle.net_model.proofs.Listed.{some_number}
-use Rattle.net_model.proofs.Elements.{get_or-replicate_anywhere}
 use Rattle.class_refine.specs.Fields.{IsWhole}
 use Rattle.class_refine.proofs.Pieces.{representative_lowest}
 use Rattle.class_refine.proofs.Refined.{sound_from, from_cuts, adds_split, whole-first, representative-member}
 use Rattle.class_refine.proofs.Names.{numbers_after}
 use Rattle.word_sim.specs.GoodSim.{GoodSim, vectors_of}
 use Rattle.fault_sim.specs.FaultyLanes.{vector_at}
-use Rattle.kept_vectors.specs.declared.notes.Note.{Note}
 use Rattle.kept_vectors.specs.Kept.{KeptSoFar, nothing_kept, with_vector, Keeps, KeepsFirst, SplitInTurn, IsFiner}
 use Rattle.kept_vectors.specs.Keeper.{keeper_with, IsKeeper}
-use Rattle.kept_vectors.specs.Notes.{is_noted, AreRightNotes, AreAlikeAt, IsRowBlank, bit_in}
+use Rattle.kept_vectors.specs.Notes.{AreAlikeAt}
 use Rattle.kept_vectors.proofs.AnswerLemmas.{row_exists, answer_in_row}
-use Rattle.kept_vectors.proofs.RowLemmas.{AreNotedAt, tell_same}
-use Rattle.kept_vectors.proofs.SameCuts.{same_kept, none_kept, whole_kept}
+use Rattle.kept_vectors.proofs.SameCuts.{none_kept, whole_kept}
 
 -- ---- vectors with their rows
 
@@ -246,15 +242,6 @@ keeps_lane {old} {mid} {new} good all lane ran inside before one =
     subst (λ (vs : List (List Bool)). Keeps good.circuit vs old new) (sym more) (keeps_more before one)
 
 module _ (good : GoodSim) (is : IsCircuit good.circuit) (kept : KeptSoFar) (numbers : length kept.table.class_of ≡ fault_count good.circuit) (lane : ℕ) (live : lane < length (vectors_of good)) where
-  -- a lane whose vector is offered with the row of what is noted
-  pub offered_lane : (notes : List Note) → AreRightNotes good notes → ((m n : ℕ) → m < length kept.table.class_of → n < length kept.table.class_of → class_at kept.table m ≡ class_at kept.table n → AreNotedAt good lane notes m n)
-      → (row : List (List Bool)) → ((number position : ℕ) → bit_in row number position ≡ is_noted notes lane number position)
-      → ((number : ℕ) → number < fault_count good.circuit → length (get_or row number []) ≡ length good.circuit.positions)
-      → (new : KeptSoFar) → new ≡ with_vector kept (vector_at good lane, row) → Keeps good.circuit (vector_at good lane ∷ []) kept new
-  offered_lane notes right noted row set widths new offered =
-      keeps_one good.circuit (vector_at good lane) kept new (λ answers are.
-      offered ∙ same_kept kept (vector_at good lane) row answers (tell_same good is notes right kept.table numbers lane live noted row answers set widths are))
-
   -- a lane that splits no class
   pub skipped_lane : IsWhole kept.table → ((m n : ℕ) → m < length kept.table.class_of → n < length kept.table.class_of → class_at kept.table m ≡ class_at kept.table n → AreAlikeAt good lane m n)
       → Keeps good.circuit (vector_at good lane ∷ []) kept kept
@@ -263,25 +250,3 @@ module _ (good : GoodSim) (is : IsCircuit good.circuit) (kept : KeptSoFar) (numb
       keeps_one good.circuit v kept kept (λ answers are.
       sym (none_kept kept v answers whole (λ m n hm hn e. alike m n hm hn e (get_or answers m []) (get_or answers n [])
       (answer_in_row good.circuit v answers are m (omega (arith, hm, numbers))) (answer_in_row good.circuit v answers are n (omega (arith, hn, numbers))))))
-
--- a class has no more members than there are numbers
-pub few_members : (t : ClassTable) (class : ℕ) → length (members t class) ≤ length t.class_of
-unfolding members
-few_members t class =
-    let numbers = range_with_len 0 (length t.class_of) in
-    omega (arith, length-filter (λ n. eqb (class_at t n) class) numbers, count_by-le-length (λ n. eqb (class_at t n) class) numbers, length-range_with_len 0 (length t.class_of))
-
-no_bit_in : (count width number position : ℕ) → bit_in (replicate count (replicate width false)) number position ≡ false
-no_bit_in zero width number position = refl
-no_bit_in (suc count) width zero position = get_or-replicate_anywhere width position false
-no_bit_in (suc count) width (suc number) position = no_bit_in count width number position
-
--- a row of zeros is blank
-pub blank_zeros : (c : Circuit) (row : List (List Bool)) (count width : ℕ) → row ≡ replicate count (replicate width false) → count ≡ fault_count c → width ≡ length c.positions → IsRowBlank c row
-blank_zeros c row count width is numbers positions = record {
-  count = ap length is ∙ (length-replicate count (replicate width false) ∙ numbers);
-  widths = λ number h.
-      ap (λ (r : List (List Bool)). length (get_or r number [])) is
-      ∙ (ap length (get_or-replicate count number (replicate width false) [] (omega (arith, h, numbers, length-replicate count (replicate width false)))) ∙ (length-replicate width false ∙ positions));
-  clear = λ number position. ap (λ (r : List (List Bool)). bit_in r number position) is ∙ no_bit_in count width number position;
-}

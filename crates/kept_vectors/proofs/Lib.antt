@@ -1,13 +1,16 @@
 pub mod AnswerLemmas
 mod NoteLemmas
-mod SpanLemmas
-mod RowLemmas
-mod WrittenLemmas
-mod ShownLemmas
+mod ApartLemmas
+mod FirstLane
+mod GroupLemmas
+mod WaitLemmas
+mod OrderLemmas
+mod LeaveLemmas
 mod SameCuts
 mod CubeLemmas
 pub mod KeepLemmas
 pub mod JudgeLemmas
+mod LaneLemmas
 mod RootLemmas
 mod ScanLemmas
 pub mod StreamLemmas

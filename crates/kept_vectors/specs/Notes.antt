@@ -1,6 +1,6 @@
 -- What is noted of the answers of fault numbers to the vectors of a block.
-use Rattle.std.specs.Prelude.{◌≡◌, ◌≤◌, ℕ, ◌+◌, ◌<◌, ◌⊎◌, Bool, true, false, List, [], length, All, slice_index, slice_index_or, slice_range, Some, IsSome, ◌==◌, ◌&&◌}
-use Rattle.std.specs.List.{list_any}
+use Rattle.std.specs.Prelude.{◌≡◌, ◌≤◌, ℕ, ◌<◌, ◌⊎◌, Bool, List, length, map, filter, All, Contains, slice_index, slice_index_or, slice_range, Some, IsSome, ◌==◌, ◌&&◌}
+use Rattle.std.specs.List.{list_any, AllPairs}
 use Rattle.net_model.specs.Circuit.{Circuit, IsCircuit}
 use Rattle.net_model.specs.declared.fault.Fault.{Fault}
 use Rattle.net_model.specs.FaultList.{faults, fault_count, fault_numbered}
@@ -12,86 +12,106 @@ use Rattle.word_sim.specs.GoodSim.{GoodSim, vectors_of}
 use Rattle.fault_sim.specs.FaultyLanes.{vector_at}
 use Rattle.fault_sim.specs.FaultSim.{FaultSim, lanes_at, IsDifference}
 use Rattle.kept_vectors.specs.declared.notes.Note.{Note}
-use Rattle.kept_vectors.specs.declared.spans.Span.{Span}
+use Rattle.kept_vectors.specs.declared.notes.Span.{Span}
 use Rattle.kept_vectors.specs.declared.differences.Differences.{Differences}
-use Rattle.kept_vectors.specs.Spans.{ArePartsOf, lane_notes}
 
--- whether a note has the lane, for a position of a number
-abbrev pub has_lane : ℕ → ℕ → ℕ → Note → Bool
-has_lane lane number position note = note.number == number && note.position == position && bit_at note.lanes lane
+-- whether a note has the lane, for a position
+abbrev pub has_lane : ℕ → ℕ → Note → Bool
+has_lane lane position note = note.position == position && bit_at note.lanes lane
 
-abbrev pub is_noted : List Note → ℕ → ℕ → ℕ → Bool
-is_noted notes lane number position = list_any (has_lane lane number position) notes
+abbrev pub is_noted : List Note → ℕ → ℕ → Bool
+is_noted notes lane position = list_any (has_lane lane position) notes
 
--- the same of another number
-abbrev pub renumbered : ℕ → Note → Note
-renumbered number note = record { number = number; position = note.position; lanes = note.lanes }
+-- the positions of the notes that have the lane
+abbrev pub lane_positions : List Note → ℕ → List ℕ
+lane_positions notes lane = map (λ note. note.position) (filter (λ note. bit_at note.lanes lane) notes)
 
--- The notes are all of this number, and say in which lanes the simulator's answers differ.
-pub record AreNotesAt (sim : FaultSim) (number : ℕ) (notes : List Note) : Type 0 where
-  pub numbers : All (λ note. note.number ≡ number) notes
+-- The notes come by position, at most one of each.
+abbrev pub AreAscending : List Note → Type 0
+AreAscending notes = AllPairs (λ a b. a.position < b.position) notes
+
+-- The same is noted in the lane.
+abbrev pub AreNotedAlike : ℕ → List Note → List Note → Type 0
+AreNotedAlike lane one other = (position : ℕ) → is_noted one lane position ≡ is_noted other lane position
+
+-- The span is a part of the notes.
+abbrev pub IsSpanIn : List Note → Span → Type 0
+IsSpanIn notes span = (span.start ≤ span.end) × (span.end ≤ length notes)
+
+abbrev pub noted_in : List Note → Span → List Note
+noted_in notes span = slice_range notes span.start span.end
+
+abbrev pub no_span : Span
+no_span = record { start = 0; end = 0 }
+
+-- the notes of a number
+abbrev pub number_notes : List Note → List Span → ℕ → List Note
+number_notes notes spans number = noted_in notes (slice_index_or spans number no_span)
+
+-- The number has a part of the notes, which come by position.
+pub record HasNotes (notes : List Note) (spans : List Span) (number : ℕ) : Type 0 where
+  pub below : number < length spans
+  pub within : IsSpanIn notes (slice_index_or spans number no_span)
+  pub ascend : AreAscending (number_notes notes spans number)
+
+-- The notes say in which lanes the simulator's answers differ.
+pub record AreNotesAt (sim : FaultSim) (notes : List Note) : Type 0 where
   pub positions : All (λ note. note.position < length sim.circuit.positions) notes
-  pub noted : (position lane : ℕ) → position < length sim.circuit.positions → lane < LANES → is_noted notes lane number position ≡ bit_at (lanes_at sim position) lane
+  pub ascend : AreAscending notes
+  pub noted : (position lane : ℕ) → position < length sim.circuit.positions → lane < LANES → is_noted notes lane position ≡ bit_at (lanes_at sim position) lane
 
 module _ (good : GoodSim) where
   -- The bit is true exactly where the number's answer at the position differs from the fault-free one, in this lane.
   abbrev pub IsDifferenceOf : ℕ → ℕ → ℕ → Bool → Type 0
   IsDifferenceOf number position lane bit = IsDifference good.circuit (fault_numbered good.circuit number) (vector_at good lane) position bit
 
-  -- The notes are all of this number, and say in which lanes its answers differ from the fault-free ones.
+  -- The notes come by position, are of the circuit's, and say where the number's answers differ.
   pub record IsReportOf (number : ℕ) (notes : List Note) : Type 0 where
-    pub numbers : All (λ note. note.number ≡ number) notes
     pub positions : All (λ note. note.position < length good.circuit.positions) notes
-    pub differ : (position lane : ℕ) → position < length good.circuit.positions → lane < length (vectors_of good) → IsDifferenceOf number position lane (is_noted notes lane number position)
-
-  -- The notes are of numbers and positions of the circuit, and the answers differ where they say so.
-  pub record AreRightNotes (notes : List Note) : Type 0 where
-    pub numbers : All (λ note. note.number < fault_count good.circuit) notes
-    pub positions : All (λ note. note.position < length good.circuit.positions) notes
-    pub differ : (number position lane : ℕ) → position < length good.circuit.positions → lane < length (vectors_of good) → is_noted notes lane number position ≡ true
-        → IsDifferenceOf number position lane true
-
-  -- The answers of the number don't differ where the notes don't say so.
-  abbrev pub IsWholeOf : List Note → ℕ → Type 0
-  IsWholeOf notes number = (position lane : ℕ) → position < length good.circuit.positions → lane < length (vectors_of good) → is_noted notes lane number position ≡ false
-      → IsDifferenceOf number position lane false
-
-  -- Nothing is noted of the number.
-  abbrev pub IsUnnoted : List Note → ℕ → Type 0
-  IsUnnoted notes number = (position lane : ℕ) → position < length good.circuit.positions → lane < length (vectors_of good) → is_noted notes lane number position ≡ false
+    pub ascend : AreAscending notes
+    pub differ : (position lane : ℕ) → position < length good.circuit.positions → lane < length (vectors_of good) → IsDifferenceOf number position lane (is_noted notes lane position)
 
   -- The two numbers answer alike to the vector of the lane.
   abbrev pub AreAlikeAt : ℕ → ℕ → ℕ → Type 0
   AreAlikeAt lane m n = (first second : List Bool) → IsAnswer good.circuit (fault_numbered good.circuit m) (vector_at good lane) first
       → IsAnswer good.circuit (fault_numbered good.circuit n) (vector_at good lane) second → first ≡ second
 
-  -- The notes tell whether the two numbers answer alike: both are noted in whole, or neither is, and they answer alike in all lanes.
-  abbrev pub AreNoted : List Note → ℕ → ℕ → Type 0
-  AreNoted notes m n = (IsWholeOf notes m × IsWholeOf notes n) ⊎ (IsUnnoted notes m × IsUnnoted notes n × ((lane : ℕ) → lane < length (vectors_of good) → AreAlikeAt lane m n))
+  -- All numbers of the number's class answer as it does.
+  abbrev pub AreMatesAlike : ClassTable → ℕ → Type 0
+  AreMatesAlike t number = (other lane : ℕ) → other < length t.class_of → class_at t other ≡ class_at t number → lane < length (vectors_of good) → AreAlikeAt lane number other
 
-  -- All that is noted of the number in the lane is shown, or nothing is.
-  abbrev pub IsNumberShown : List Note → List Note → ℕ → ℕ → Type 0
-  IsNumberShown shown notes lane number = (position : ℕ) → position < length good.circuit.positions → is_noted shown lane number position ≡ is_noted notes lane number position
+  module _ (notes : List Note) (spans : List Span) where
+    -- It is noted in which lanes the number's answers differ.
+    pub record IsNumberNoted (number : ℕ) : Type 0 where
+      pub below : number < length spans
+      pub within : IsSpanIn notes (slice_index_or spans number no_span)
+      pub report : IsReportOf number (number_notes notes spans number)
 
-  abbrev pub IsHidden : List Note → ℕ → ℕ → Type 0
-  IsHidden shown lane number = (position : ℕ) → position < length good.circuit.positions → is_noted shown lane number position ≡ false
+    -- All numbers of the number's class are noted.
+    abbrev pub AreMatesNoted : ClassTable → ℕ → Type 0
+    AreMatesNoted t number = (other : ℕ) → other < length t.class_of → class_at t other ≡ class_at t number → IsNumberNoted other
 
-  -- Both numbers are shown in the lane, or neither is, and they answer alike to its vector.
-  abbrev pub AreShownAlike : List Note → List Note → ℕ → ℕ → ℕ → Type 0
-  AreShownAlike shown notes lane m n = (IsNumberShown shown notes lane m × IsNumberShown shown notes lane n) ⊎ (IsHidden shown lane m × IsHidden shown lane n × AreAlikeAt lane m n)
+    -- The numbers of a group are noted, and they are all that was added to the numbers; or they all answer alike, and none was added.
+    abbrev pub IsGroupNoted : List ℕ → List ℕ → List ℕ → Type 0
+    IsGroupNoted group old new = (All IsNumberNoted group × ((n : ℕ) → Contains group n → Contains new n) × ((n : ℕ) → Contains new n → Contains old n ⊎ Contains group n) × ((n : ℕ) → Contains old n → Contains new n))
+        ⊎ ((new ≡ old) × ((m n lane : ℕ) → Contains group m → Contains group n → lane < length (vectors_of good) → AreAlikeAt lane m n))
 
--- The circuit has run these vectors, and it is noted how the numbers of each class of the table answer to them. A lane that is false in
--- `splitting` tells no two of one class apart, nor does one that is false in the span of a class two of that class.
-pub record AreTold (good : GoodSim) (vectors : List (List Bool)) (splitting : List Bool) (spans : List Span) (notes : List Note) (t : ClassTable) : Type 0 where
+    -- These are numbers whose classes are noted, and any other answers as all of its class.
+    pub record AreAsked (t : ClassTable) (numbers : List ℕ) : Type 0 where
+      pub mates : All (λ n. (n < length t.class_of) × AreMatesNoted t n) numbers
+      pub others : (n : ℕ) → n < length t.class_of → Contains numbers n ⊎ AreMatesAlike t n
+
+  -- A number that was noted is noted.
+  abbrev pub AreNotedLater : Differences → Differences → Type 0
+  AreNotedLater old new = (n : ℕ) → IsNumberNoted old.notes.items old.spans.items n → IsNumberNoted new.notes.items new.spans.items n
+
+-- The circuit has run these vectors, and of each class of the table all numbers are noted or all answer alike.
+pub record AreTold (good : GoodSim) (vectors : List (List Bool)) (notes : List Note) (spans : List Span) (t : ClassTable) : Type 0 where
   pub circuit : IsCircuit good.circuit
   pub ran : good.ran ≡ Some vectors
   pub whole : IsWhole t
   pub numbers : length t.class_of ≡ fault_count good.circuit
-  pub right : AreRightNotes good notes
-  pub noted : (m n : ℕ) → m < length t.class_of → n < length t.class_of → class_at t m ≡ class_at t n → AreNoted good notes m n
-  pub alike : (m n lane : ℕ) → m < length t.class_of → n < length t.class_of → class_at t m ≡ class_at t n → lane < length (vectors_of good) → bit_at splitting lane ≡ false → AreAlikeAt good lane m n
-  pub parts : ArePartsOf notes spans
-  pub shown : (m n lane : ℕ) → m < length t.class_of → n < length t.class_of → class_at t m ≡ class_at t n → lane < length (vectors_of good) → AreShownAlike good (lane_notes spans notes lane) notes lane m n
+  pub noted : (n : ℕ) → n < length t.class_of → AreMatesNoted good notes spans t n ⊎ AreMatesAlike good t n
 
 -- Numbers with one root answer alike to every vector.
 pub record AreRootsOf (c : Circuit) (roots : List ℕ) : Type 0 where
@@ -108,33 +128,8 @@ pub record HasRunBlock (good : GoodSim) (listed : List Fault) (roots : List ℕ)
   pub faults_are : listed ≡ faults good.circuit
   pub roots_are : AreRootsOf good.circuit roots
 
--- Both simulators are those of the circuit, and there is room for its numbers.
+-- The simulator is that of the circuit, and there is room for its numbers.
 pub record AreOf (c : Circuit) (d : Differences) : Type 0 where
-  pub lead : d.lead.circuit ≡ c
-  pub member : d.member.circuit ≡ c
+  pub sim : d.sim.circuit ≡ c
+  pub spans : length d.spans.items ≡ fault_count c
   pub places : length d.places.items ≡ fault_count c
-  pub starts : length d.starts.items ≡ fault_count c + 1
-
--- Where the notes of each of the first places of a group are.
-abbrev pub AreSpans : GoodSim → List ℕ → ℕ → List ℕ → List Note → Type 0
-AreSpans good group at starts notes = (k : ℕ) → k < at → (slice_index starts k ≤ slice_index starts (k + 1)) × (slice_index starts (k + 1) ≤ length notes)
-    × IsReportOf good (slice_index group k) (slice_range notes (slice_index starts k) (slice_index starts (k + 1)))
-
--- the bit of a number's row at a position
-abbrev pub bit_in : List (List Bool) → ℕ → ℕ → Bool
-bit_in row number position = bit_at (slice_index_or row number []) position
-
--- The row has the places of the notes.
-abbrev pub AreNotesWithin : List (List Bool) → List Note → Type 0
-AreNotesWithin row notes = All (λ note. (note.number < length row) × (note.position < length (slice_index_or row note.number []))) notes
-
--- The rows have the same places.
-pub record HaveSamePlaces (old new : List (List Bool)) : Type 0 where
-  pub count : length new ≡ length old
-  pub widths : (number : ℕ) → length (slice_index_or new number []) ≡ length (slice_index_or old number [])
-
--- The row has a place for each number and position of the circuit, and nothing is set.
-pub record IsRowBlank (c : Circuit) (row : List (List Bool)) : Type 0 where
-  pub count : length row ≡ fault_count c
-  pub widths : (number : ℕ) → number < fault_count c → length (slice_index_or row number []) ≡ length c.positions
-  pub clear : (number position : ℕ) → bit_in row number position ≡ false

@@ -7,7 +7,6 @@ ghost use Rattle.kept_vectors.specs.Cube.{IsOfCube};
 ghost use Rattle.kept_vectors.specs.Kept.{Keeps};
 ghost use Rattle.kept_vectors.specs.Scan.{kept_now, IsScan};
 
-use crate::differences::Differences;
 use crate::scan::{Kept, Scan, judge_lane};
 use std::alloc::AllocError;
 use word_sim::Block;
@@ -40,17 +39,19 @@ impl Scan<'_> {
         ensures err { OnErr result (kept_now kept.new ≡ kept_now kept.old) }
     {
         let live = self.block.live();
-        let splitting = self.note(&kept.classes)?;
+        self.note(&kept.classes, true)?;
         let lane = self.differences.tally.fullest(live);
-        let Differences { spans, notes, .. } = &self.differences;
+        let (good, differences) = (&self.good, &self.differences);
+        self.waiting
+            .wait_all(good, differences, &kept.classes, lane, lane + 1)?;
         judge_lane(
             &self.block,
-            &self.good,
+            good,
             lane,
-            splitting,
-            spans.as_slice(),
-            notes.as_slice(),
-            &mut self.row,
+            lane + 1,
+            differences,
+            &mut self.waiting,
+            &mut self.leaving,
             kept,
         )?;
         Ok(())

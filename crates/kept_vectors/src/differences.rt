@@ -1,35 +1,30 @@
-//! In which lanes the answers of fault numbers differ: from the fault-free ones, and within a class.
+//! What is noted of fault numbers: in which lanes their answers differ from the fault-free ones.
 
-ghost use Rattle.std.specs.Prelude.{◌≡◌, ◌≤◌, ◌<◌, ◌+◌, ◌^◌, ◌++◌, ℕ, List, false, length, All, Contains, IfOk, OnOk, MatchOption, slice_index};
-ghost use Rattle.net_model.specs.FaultList.{fault_count, fault_numbered};
-ghost use Rattle.net_model.specs.Answer.{bit_at};
-ghost use Rattle.net_model.specs.ClassTable.{class_at};
-ghost use Rattle.word_sim.specs.GoodSim.{vectors_of};
-ghost use Rattle.fault_sim.specs.FaultSim.{lanes_at, AreDifferences};
-ghost use Rattle.kept_vectors.specs.Notes.{AreRightNotes, AreNoted, IsUnnoted, AreAlikeAt, HasRunBlock, AreOf, AreSpans, IsReportOf, AreShownAlike};
-ghost use Rattle.kept_vectors.specs.Spans.{ArePartsOf, lane_notes};
+ghost use Rattle.std.specs.Prelude.{◌≡◌, ◌<◌, ◌^◌, ◌⊎◌, ◌++◌, ℕ, [], ◌∷◌, length, All, IfOk, OnOk, MatchOption, slice_index, slice_index_or};
+ghost use Rattle.net_model.specs.FaultList.{fault_count};
+ghost use Rattle.class_refine.specs.Fields.{IsWhole};
+ghost use Rattle.kept_vectors.specs.Notes.{IsSpanIn, no_span, number_notes, IsNumberNoted, HasNotes, HasRunBlock, AreOf, AreNotedLater, IsGroupNoted, AreMatesNoted, AreMatesAlike, AreAsked};
 
-use crate::notes::{Note, copy_notes, have_one_root, simulate};
-use crate::spans::{Span, add_span};
+use crate::apart::apart;
+use crate::notes::{Note, Span, have_one_root, notes_in, simulate};
 use crate::tally::Tally;
 use class_refine::Classes;
 use fault_list::FaultList;
 use fault_sim::FaultSim;
 use net_model::Circuit;
 use std::alloc::{AllocError, Global};
-use word_sim::{GoodSim, LANES, Lanes};
+use word_sim::GoodSim;
 
-// The simulators of a class's representative and of its other members, and what was noted of the numbers' answers
-// to the vectors of a block, with the spans of the classes of which something was. In a class only one number of each
-// root is simulated: `places` has by root the place of the number that was, and `starts` by place where its notes start.
-// `tally` has by lane how many of them answer otherwise than their representatives.
+// The simulator of faults, and what was noted of the answers of numbers to the vectors of a block: by number where its
+// notes stand, and the numbers of which something was noted. In a class only one number of each root is simulated:
+// `places` has by root the place of the number that was. `tally` has by lane how many of these answer otherwise than
+// their representatives, where they are counted.
 pub(crate) struct Differences<'a> {
-    pub(crate) lead: FaultSim<'a>,
-    pub(crate) member: FaultSim<'a>,
+    pub(crate) sim: FaultSim<'a>,
     pub(crate) notes: Vec<Note>,
     pub(crate) spans: Vec<Span>,
+    pub(crate) numbers: Vec<u32>,
     pub(crate) places: Vec<usize>,
-    pub(crate) starts: Vec<usize>,
     pub(crate) tally: Tally,
 }
 
@@ -37,12 +32,11 @@ pub(crate) struct Differences<'a> {
 impl Drop for Differences<'_> {
     fn drop(self) {
         let Differences {
-            lead: _,
-            member: _,
+            sim: _,
             notes: _,
             spans: _,
+            numbers: _,
             places: _,
-            starts: _,
             tally: _,
         } = self;
     }
@@ -58,116 +52,96 @@ impl<'a> Differences<'a> {
         requires numbers { numbers ≡ fault_count circuit.now }
         ensures { IfOk result (AreOf circuit.now) }
     {
+        let nowhere = Span { start: 0, end: 0 };
         // (what is dropped after an error is proved for each `?`, so the large ones come late, and behind them what can't fail)
         Ok(Differences {
             places: vec![in alloc; 0; numbers]?,
-            starts: vec![in alloc; 0; numbers + 1]?,
+            spans: vec![in alloc; nowhere; numbers]?,
             tally: Tally::new(alloc)?,
-            lead: FaultSim::new(alloc, circuit)?,
-            member: FaultSim::new(alloc, circuit)?,
+            sim: FaultSim::new(alloc, circuit)?,
             notes: Vec::new(alloc),
-            spans: Vec::new(alloc),
+            numbers: Vec::new(alloc),
         })
     }
 
-    // Notes the answers of all numbers that can be told apart within their classes. Answers the lanes that can split a
-    // class: a lane that is false splits none.
+    // The notes of a number.
+    pub(crate) fn notes_of(&self, number: u32) -> &[Note]
+        requires below { number < length self.now.spans.items }
+        requires within { IsSpanIn self.now.notes.items (slice_index_or self.now.spans.items number no_span) }
+        ensures { result.now ≡ number_notes self.now.notes.items self.now.spans.items number }
+    {
+        notes_in(self.notes.as_slice(), self.spans[number as usize])
+    }
+
+    // Notes the answers of all numbers that can be told apart within their classes.
     pub(crate) fn note_classes(
         &mut self,
         listed: &FaultList,
         good: &GoodSim,
         roots: &[u32],
         classes: &Classes,
-    ) -> Result<Lanes, AllocError>
+        counting: bool,
+    ) -> Result<(), AllocError>
         requires run { HasRunBlock good.now listed.now roots.now }
-        requires numbers { length classes.now.class_of ≡ fault_count good.now.circuit }
         requires of { AreOf good.now.circuit self.old }
+        requires whole { IsWhole classes.now }
+        requires numbers { length classes.now.class_of ≡ fault_count good.now.circuit }
         ensures of { AreOf good.now.circuit self.new }
-        ensures right { OnOk result (AreRightNotes good.now self.new.notes.items) }
-        ensures noted { OnOk result ((m n : ℕ) → m < length classes.now.class_of → n < length classes.now.class_of → class_at classes.now m ≡ class_at classes.now n → AreNoted good.now self.new.notes.items m n) }
-        ensures alike { IfOk result (λ lanes. (m n lane : ℕ) → m < length classes.now.class_of → n < length classes.now.class_of → class_at classes.now m ≡ class_at classes.now n → lane < length (vectors_of good.now) → bit_at lanes lane ≡ false → AreAlikeAt good.now lane m n) }
-        ensures parts { OnOk result (ArePartsOf self.new.notes.items self.new.spans.items) }
-        ensures shown { OnOk result ((m n lane : ℕ) → m < length classes.now.class_of → n < length classes.now.class_of → class_at classes.now m ≡ class_at classes.now n → lane < length (vectors_of good.now) → AreShownAlike good.now (lane_notes self.new.spans.items self.new.notes.items lane) self.new.notes.items lane m n) }
+        ensures noted { OnOk result ((n : ℕ) → n < length classes.now.class_of → AreMatesNoted good.now self.new.notes.items self.new.spans.items classes.now n ⊎ AreMatesAlike good.now classes.now n) }
+        ensures asked { OnOk result (AreAsked good.now self.new.notes.items self.new.spans.items classes.now self.new.numbers.items) }
     {
         self.notes.clear();
-        self.spans.clear();
+        self.numbers.clear();
         self.tally.clear();
-        let mut lanes = Lanes::all(false);
         for class in 0..classes.count() {
-            let start = self.notes.len();
-            let apart = self.note_class(listed, good, roots, classes.members(class))?;
-            let span = Span {
-                lanes: apart,
-                start,
-                end: self.notes.len(),
-            };
-            add_span(&mut self.spans, span)?;
-            lanes = lanes.or(apart);
+            self.note_class(listed, good, roots, classes.members(class), counting)?;
         }
-        Ok(lanes)
+        Ok(())
     }
 
-    // Notes the answers of the numbers of a group with more roots than one. A lane that is false tells no two of them apart.
+    // Notes the answers of the numbers of a group with more roots than one.
     fn note_class(
         &mut self,
         listed: &FaultList,
         good: &GoodSim,
         roots: &[u32],
         group: &[u32],
-    ) -> Result<Lanes, AllocError>
-        requires run { HasRunBlock good.now listed.now roots.now }
-        requires inside { All (λ number. number < fault_count good.now.circuit) group.now }
-        requires room { length group.now ≤ fault_count good.now.circuit }
-        requires fresh { All (IsUnnoted good.now self.old.notes.items) group.now }
-        requires of { AreOf good.now.circuit self.old }
-        requires right { AreRightNotes good.now self.old.notes.items }
-        ensures of { AreOf good.now.circuit self.new }
-        ensures spans { self.new.spans ≡ self.old.spans }
-        ensures right { OnOk result (AreRightNotes good.now self.new.notes.items) }
-        ensures more { OnOk result ((more : List Note) × (self.new.notes.items ≡ self.old.notes.items ++ more) × All (λ note. Contains group.now note.number) more) }
-        ensures noted { OnOk result ((m n : ℕ) → Contains group.now m → Contains group.now n → AreNoted good.now self.new.notes.items m n) }
-        ensures alike { IfOk result (λ lanes. (m n lane : ℕ) → Contains group.now m → Contains group.now n → lane < length (vectors_of good.now) → bit_at lanes lane ≡ false → AreAlikeAt good.now lane m n) }
-    {
-        let mut lanes = Lanes::all(false);
-        if have_one_root(roots, group) {
-            return Ok(lanes);
-        }
-        self.note_lead(listed, good, roots, group)?;
-        for at in 1..group.len() {
-            lanes = self.note_member(listed, good, roots, group, at, lanes)?;
-        }
-        Ok(lanes)
-    }
-
-    // Notes the answers of the first number of a group.
-    fn note_lead(
-        &mut self,
-        listed: &FaultList,
-        good: &GoodSim,
-        roots: &[u32],
-        group: &[u32],
+        counting: bool,
     ) -> Result<(), AllocError>
         requires run { HasRunBlock good.now listed.now roots.now }
         requires inside { All (λ number. number < fault_count good.now.circuit) group.now }
-        requires room { length group.now ≤ fault_count good.now.circuit }
-        requires some { 0 < length group.now }
         requires of { AreOf good.now.circuit self.old }
         ensures of { AreOf good.now.circuit self.new }
-        ensures kept { self.new.spans ≡ self.old.spans }
-        ensures lead { OnOk result (AreDifferences good.now.circuit (fault_numbered good.now.circuit (slice_index group.now 0)) (vectors_of good.now) self.new.lead.differences) }
-        ensures more { OnOk result ((more : List Note) × (self.new.notes.items ≡ self.old.notes.items ++ more) × IsReportOf good.now (slice_index group.now 0) more) }
-        ensures spans { OnOk result (AreSpans good.now group.now 1 self.new.starts.items self.new.notes.items) }
-        ensures start { OnOk result (slice_index self.new.starts.items 1 ≡ length self.new.notes.items) }
+        ensures later { OnOk result (AreNotedLater good.now self.old self.new) }
+        ensures noted { OnOk result (IsGroupNoted good.now self.new.notes.items self.new.spans.items group.now self.old.numbers.items self.new.numbers.items) }
     {
-        self.starts[0] = self.notes.len();
-        simulate(&mut self.lead, listed, good, group[0], &mut self.notes)?;
-        self.starts[1] = self.notes.len();
-        self.places[roots[group[0] as usize] as usize] = 0;
+        if have_one_root(roots, group) {
+            return Ok(());
+        }
+        for at in 0..group.len() {
+            self.note_member(listed, good, roots, group, at)?;
+            self.count(roots, group, at, counting);
+        }
         Ok(())
     }
 
-    // Notes the answers of the number at a place of a group, behind those of the places before. A lane that is false
-    // tells none of them from the first.
+    // Counts where the number at a place of a group answers otherwise than the first, if it is to be counted and was
+    // simulated.
+    fn count(&mut self, roots: &[u32], group: &[u32], at: usize, counting: bool)
+        requires at { at < length group.now }
+        requires roots { All (λ number. number < length roots.now) group.now }
+        requires places { All (λ root. root < length self.old.places.items) roots.now }
+        requires first { HasNotes self.old.notes.items self.old.spans.items (slice_index group.now 0) }
+        requires here { HasNotes self.old.notes.items self.old.spans.items (slice_index group.now at) }
+        ensures { self.new ≡ (record { sim = self.old.sim; notes = self.old.notes; spans = self.old.spans; numbers = self.old.numbers; places = self.old.places; tally = self.new.tally }) }
+    {
+        if counting && self.places[roots[group[at] as usize] as usize] == at {
+            let told = apart(self.notes_of(group[0]), self.notes_of(group[at]));
+            self.tally.add(told);
+        }
+    }
+
+    // Notes the answers of the number at a place of a group.
     fn note_member(
         &mut self,
         listed: &FaultList,
@@ -175,38 +149,32 @@ impl<'a> Differences<'a> {
         roots: &[u32],
         group: &[u32],
         at: usize,
-        lanes: Lanes,
-    ) -> Result<Lanes, AllocError>
+    ) -> Result<(), AllocError>
         requires run { HasRunBlock good.now listed.now roots.now }
         requires inside { All (λ number. number < fault_count good.now.circuit) group.now }
-        requires room { length group.now ≤ fault_count good.now.circuit }
         requires of { AreOf good.now.circuit self.old }
         requires at { at < length group.now }
-        requires lead { AreDifferences good.now.circuit (fault_numbered good.now.circuit (slice_index group.now 0)) (vectors_of good.now) self.old.lead.differences }
-        requires spans { AreSpans good.now group.now at self.old.starts.items self.old.notes.items }
-        requires start { slice_index self.old.starts.items at ≡ length self.old.notes.items }
-        requires alike { (k lane : ℕ) → k < at → lane < length (vectors_of good.now) → bit_at lanes lane ≡ false → AreAlikeAt good.now lane (slice_index group.now 0) (slice_index group.now k) }
+        requires before { (k : ℕ) → k < at → IsNumberNoted good.now self.old.notes.items self.old.spans.items (slice_index group.now k) }
         ensures of { AreOf good.now.circuit self.new }
-        ensures kept { self.new.spans ≡ self.old.spans }
-        ensures lead { OnOk result (self.new.lead ≡ self.old.lead) }
-        ensures more { OnOk result ((more : List Note) × (self.new.notes.items ≡ self.old.notes.items ++ more) × IsReportOf good.now (slice_index group.now at) more) }
-        ensures spans { OnOk result (AreSpans good.now group.now (at + 1) self.new.starts.items self.new.notes.items) }
-        ensures start { OnOk result (slice_index self.new.starts.items (at + 1) ≡ length self.new.notes.items) }
-        ensures alike { IfOk result (λ lanes. (k lane : ℕ) → k < at + 1 → lane < length (vectors_of good.now) → bit_at lanes lane ≡ false → AreAlikeAt good.now lane (slice_index group.now 0) (slice_index group.now k)) }
+        ensures later { OnOk result (AreNotedLater good.now self.old self.new) }
+        ensures noted { OnOk result (IsNumberNoted good.now self.new.notes.items self.new.spans.items (slice_index group.now at)) }
+        ensures numbers { OnOk result (self.new.numbers.items ≡ self.old.numbers.items ++ slice_index group.now at ∷ []) }
     {
         let number = group[at];
+        self.numbers.push(number)?;
         if let Some(place) = twin_at(self.places.as_slice(), roots, group, at) {
-            let (start, end) = (self.starts[place], self.starts[place + 1]);
-            copy_notes(&mut self.notes, start, end, number)?;
-            self.starts[at + 1] = self.notes.len();
-            return Ok(lanes);
+            self.spans[number as usize] = self.spans[group[place] as usize];
+            return Ok(());
         }
-        simulate(&mut self.member, listed, good, number, &mut self.notes)?;
-        self.starts[at + 1] = self.notes.len();
+        self.spans[number as usize] = simulate(
+            &mut self.sim,
+            listed,
+            good,
+            number,
+            &mut self.notes,
+        )?;
         self.places[roots[number as usize] as usize] = at;
-        let told = apart(&self.lead, &self.member);
-        self.tally.add(told);
-        Ok(lanes.or(told))
+        Ok(())
     }
 }
 
@@ -223,29 +191,4 @@ fn twin_at(places: &[usize], roots: &[u32], group: &[u32], at: usize) -> Option<
         return Some(place);
     }
     None
-}
-
-// 1 in the lanes in which the answers differ.
-fn apart(one: &FaultSim, other: &FaultSim) -> Lanes
-    requires { one.now.circuit ≡ other.now.circuit }
-    ensures { (lane position : ℕ) → lane < LANES → position < length one.now.circuit.positions → bit_at result lane ≡ false → bit_at (lanes_at one.now position) lane ≡ bit_at (lanes_at other.now position) lane }
-{
-    apart_at(one, other, one.differing_positions()).or(apart_at(
-        one,
-        other,
-        other.differing_positions(),
-    ))
-}
-
-// 1 in the lanes in which the answers differ at one of these positions.
-fn apart_at(one: &FaultSim, other: &FaultSim, positions: &[u32]) -> Lanes
-    requires circuit { one.now.circuit ≡ other.now.circuit }
-    requires inside { All (λ position. position < length one.now.circuit.positions) positions.now }
-    ensures { (lane position : ℕ) → lane < LANES → Contains positions.now position → bit_at result lane ≡ false → bit_at (lanes_at one.now position) lane ≡ bit_at (lanes_at other.now position) lane }
-{
-    let mut lanes = Lanes::all(false);
-    for position in positions {
-        lanes = lanes.or(one.differs(*position).xor(other.differs(*position)));
-    }
-    lanes
 }

@@ -1,13 +1,14 @@
 //! The vectors that are kept for a circuit: each that splits a class of those kept before it.
 #![tactic(auto)]
 
-mod answers;
+mod apart;
 mod cube;
 mod differences;
 mod keeper;
+mod leaving;
 mod notes;
 mod scan;
-mod spans;
 mod tally;
+mod waiting;
 
 pub use keeper::Keeper;

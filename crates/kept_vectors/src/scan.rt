@@ -1,28 +1,26 @@
 //! The scan of a block for vectors that split a class.
 
-ghost use Rattle.std.specs.Prelude.{◌≡◌, ◌≤◌, ◌<◌, ◌++◌, ◌⊎◌, ℕ, [], ◌∷◌, All, Contains, IfOk, OnOk, OnErr, length};
-ghost use Rattle.std.specs.List.Sorted.{IsStrictlyIncreasing};
+ghost use Rattle.std.specs.Prelude.{◌≡◌, ◌≤◌, ◌<◌, ◌+◌, ◌++◌, ◌⊎◌, ℕ, List, Bool, [], ◌∷◌, IfOk, OnOk, OnErr, length, true};
 ghost use Rattle.net_model.specs.FaultList.{faults as faults_of, fault_count};
-ghost use Rattle.net_model.specs.ClassTable.{class_at};
-ghost use Rattle.class_refine.specs.CutIn.{AreClassesOf, AreAlikeElsewhere};
 ghost use Rattle.class_refine.specs.Fields.{IsWhole};
+ghost use Rattle.class_refine.specs.Leavers.{AreLeavers};
 ghost use Rattle.fault_collapse.specs.Forest.{IsForestOf};
 ghost use Rattle.fault_sim.specs.FaultyLanes.{vector_at};
 ghost use Rattle.kept_vectors.specs.Kept.{with_vector, Keeps, KeepsFirst};
 ghost use Rattle.kept_vectors.specs.Scan.{kept_now, IsScan, IsOffered, HasJudged, IsScanEnd};
-ghost use Rattle.kept_vectors.specs.Notes.{AreOf, AreTold, IsRowBlank};
+ghost use Rattle.kept_vectors.specs.Notes.{AreOf, AreTold, AreAsked};
+ghost use Rattle.kept_vectors.specs.Waits.{AreWaiting};
 ghost use Rattle.word_sim.specs.Block.{IsBlock};
 
-use crate::answers::{clear_row, fill_row};
 use crate::differences::Differences;
-use crate::notes::Note;
-use crate::spans::{Span, notes_at};
+use crate::leaving::Leaving;
+use crate::waiting::Waiting;
 use class_refine::Classes;
 use fault_collapse::Forest;
 use fault_list::FaultList;
-use net_model::{AnswerRows, Circuit, Vector};
+use net_model::{Circuit, Vector};
 use std::alloc::{AllocError, Global};
-use word_sim::{Block, GoodSim, LANES, Lanes};
+use word_sim::{Block, GoodSim, LANES};
 
 // The kept vectors, and their classes.
 #[derive(Drop)]
@@ -32,36 +30,20 @@ pub(crate) struct Kept {
 }
 
 impl Kept {
-    // Keeps a vector with this row of answers where it splits a class. Answers whether it does. It can split no classes
-    // but these.
-    fn offer(&mut self, v: Vector, classes: &[u32], row: &AnswerRows) -> Result<bool, AllocError>
-        requires rows { length row.now ≡ length self.old.classes.class_of }
-        requires classes { AreClassesOf self.old.classes classes.now }
-        requires elsewhere { AreAlikeElsewhere self.old.classes row.now classes.now }
-        ensures ok { OnOk result (kept_now self.new ≡ with_vector (kept_now self.old) (v, row.now)) }
-        ensures kept { IfOk result (λ splits. IsOffered splits v (kept_now self.old) (kept_now self.new)) }
+    // Keeps a vector at which numbers leave their classes: these, whose answers these positions tell.
+    fn offer(&mut self, v: Vector, leaving: &Leaving) -> Result<(), AllocError>
+        requires whole { IsWhole self.old.classes }
+        requires some { 0 < length leaving.now.leavers.items }
+        requires leave { (row : List (List Bool)) × AreLeavers self.old.classes row leaving.now.leavers.items leaving.now.positions.items }
+        ensures ok { OnOk result ((row : List (List Bool)) → AreLeavers self.old.classes row leaving.now.leavers.items leaving.now.positions.items → kept_now self.new ≡ with_vector (kept_now self.old) (v, row)) }
+        ensures kept { OnOk result ((kept_now self.new).vectors ≡ (kept_now self.old).vectors ++ v ∷ []) }
         ensures err { OnErr result (kept_now self.new ≡ kept_now self.old) }
     {
         self.vectors.reserve(1)?;
-        let splits = self.classes.refine_in(classes, row)? > 0;
-        if splits {
-            self.vectors.push_reserved(v);
-        }
-        Ok(splits)
-    }
-
-    // The classes of the numbers of these notes, ascending.
-    fn classes_of(&self, notes: &[Note]) -> Result<Vec<u32>, AllocError>
-        requires { All (λ note. note.number < length self.now.classes.class_of) notes.now }
-        ensures classes { IfOk result (λ listed. AreClassesOf self.now.classes listed.items) }
-        ensures listed { IfOk result (λ listed. All (λ note. Contains listed.items (class_at self.now.classes note.number)) notes.now) }
-    {
-        let mut listed = Vec::new(*self.vectors.allocator());
-        for note in notes {
-            list(&mut listed, self.classes.class_of(note.number))?;
-        }
-        put_in_order(&mut listed);
-        Ok(listed)
+        let (leavers, positions) = (leaving.leavers.as_slice(), leaving.positions.as_slice());
+        self.classes.part(leavers, positions)?;
+        self.vectors.push_reserved(v);
+        Ok(())
     }
 
     // The vectors and the classes.
@@ -74,38 +56,17 @@ impl Kept {
     }
 }
 
-// Lists a class, unless it is the last that was listed.
-fn list(listed: &mut Vec<u32>, class: u32) -> Result<(), AllocError>
-    ensures { OnOk result ((Contains listed.old.items class × (listed.new.items ≡ listed.old.items)) ⊎ (listed.new.items ≡ listed.old.items ++ class ∷ [])) }
-{
-    let len = listed.len();
-    if len > 0 && listed[len - 1] == class {
-        return Ok(());
-    }
-    listed.push(class)?;
-    Ok(())
-}
-
-// Puts classes in order, each once.
-fn put_in_order(listed: &mut Vec<u32>)
-    ensures ascend { IsStrictlyIncreasing listed.new.items }
-    ensures all { (class : ℕ) → Contains listed.old.items class → Contains listed.new.items class }
-    ensures others { (class : ℕ) → Contains listed.new.items class → Contains listed.old.items class }
-{
-    listed.sort_unstable();
-    listed.dedup();
-}
-
 // What tells which vectors split a class: the circuit's faults and the forest in which they collapse, a block of
-// vectors, the simulators of the block and of faults on it with what the faults showed, and a row of answers, which is
-// clear between two vectors.
+// vectors, the simulators of the block and of faults on it with what the faults showed, the numbers that wait for a lane
+// at which they leave their classes, and those that leave at one.
 pub(crate) struct Scan<'a> {
     pub(crate) listed: &'a FaultList,
     pub(crate) forest: &'a Forest,
     pub(crate) block: Block,
     pub(crate) good: GoodSim<'a>,
     pub(crate) differences: Differences<'a>,
-    pub(crate) row: AnswerRows,
+    pub(crate) waiting: Waiting,
+    pub(crate) leaving: Leaving,
 }
 
 // Written out, as a keeper's.
@@ -117,7 +78,8 @@ impl Drop for Scan<'_> {
             block: _,
             good: _,
             differences: _,
-            row: _,
+            waiting: _,
+            leaving: _,
         } = self;
     }
 }
@@ -154,7 +116,8 @@ impl<'a> Scan<'a> {
         ensures circuit { IfOk result (λ scan. scan.good.circuit ≡ good.entry.circuit) }
     {
         let circuit = good.circuit();
-        let row = AnswerRows::zeros(alloc, listed.len() as usize, circuit.positions().len())?;
+        let waiting = Waiting::new(alloc)?;
+        let leaving = Leaving::new(alloc);
         let block = Block::new(alloc, circuit.sources())?;
         Ok(Scan {
             listed,
@@ -162,7 +125,8 @@ impl<'a> Scan<'a> {
             block,
             good,
             differences,
-            row,
+            waiting,
+            leaving,
         })
     }
 
@@ -192,25 +156,27 @@ impl<'a> Scan<'a> {
         ensures ended { IfOk result (λ count. IsScanEnd self.old.good.circuit self.old.block.vectors run count (kept_now kept.new)) }
         ensures err { OnErr result ((count : ℕ) × (count < length self.old.block.vectors) × HasJudged self.old.good.circuit self.old.block.vectors run count (kept_now kept.old) (kept_now kept.new)) }
     {
-        if self.block.live() == 0 {
+        let live = self.block.live();
+        if live == 0 {
             return Ok(0);
         }
-        let splitting = self.note(&kept.classes)?;
-        let Differences { spans, notes, .. } = &self.differences;
+        self.note(&kept.classes, false)?;
+        let (good, differences) = (&self.good, &self.differences);
+        self.waiting
+            .wait_all(good, differences, &kept.classes, 0, live)?;
         judge_lanes(
             &self.block,
-            &self.good,
-            splitting,
-            spans.as_slice(),
-            notes.as_slice(),
-            &mut self.row,
+            good,
+            differences,
+            &mut self.waiting,
+            &mut self.leaving,
             kept,
             run,
         )
     }
 
-    // Notes how the numbers of each class answer to the vectors of the block. Answers the lanes that can split a class.
-    pub(crate) fn note(&mut self, classes: &Classes) -> Result<Lanes, AllocError>
+    // Notes how the numbers of each class answer to the vectors of the block.
+    pub(crate) fn note(&mut self, classes: &Classes, counting: bool) -> Result<(), AllocError>
         requires scan { IsScan self.old }
         requires block { IsBlock self.old.block }
         requires whole { IsWhole classes.now }
@@ -218,36 +184,36 @@ impl<'a> Scan<'a> {
         ensures scan { IsScan self.new }
         ensures block { self.new.block ≡ self.old.block }
         ensures circuit { self.new.good.circuit ≡ self.old.good.circuit }
-        ensures told { IfOk result (λ splitting. AreTold self.new.good self.old.block.vectors splitting self.new.differences.spans.items self.new.differences.notes.items classes.now) }
+        ensures told { OnOk result (AreTold self.new.good self.old.block.vectors self.new.differences.notes.items self.new.differences.spans.items classes.now) }
+        ensures asked { OnOk result (AreAsked self.new.good self.new.differences.notes.items self.new.differences.spans.items classes.now self.new.differences.numbers.items) }
     {
         self.good.run(&self.block);
         let roots = self.forest.roots();
         self.differences
-            .note_classes(self.listed, &self.good, roots, classes)
+            .note_classes(self.listed, &self.good, roots, classes, counting)
     }
 }
 
-// Judges the vectors of a block by what is noted of them. A lane that is false in `splitting` splits no class.
+// Judges the vectors of a block by what is noted of them and by who waits where.
 fn judge_lanes(
     block: &Block,
     good: &GoodSim,
-    splitting: Lanes,
-    spans: &[Span],
-    notes: &[Note],
-    row: &mut AnswerRows,
+    differences: &Differences,
+    waiting: &mut Waiting,
+    leaving: &mut Leaving,
     kept: &mut Kept,
     run: bool,
 ) -> Result<u32, AllocError>
-    requires told { AreTold good.now block.now.vectors splitting spans.now notes.now kept.old.classes }
-    requires blank { IsRowBlank good.now.circuit row.old }
-    ensures blank { IsRowBlank good.now.circuit row.new }
+    requires told { AreTold good.now block.now.vectors differences.now.notes.items differences.now.spans.items kept.old.classes }
+    requires waits { AreWaiting good.now kept.old.classes 0 (length block.now.vectors) waiting.old.lanes.items [] }
+    ensures count { length waiting.new.lanes.items ≡ length waiting.old.lanes.items }
     ensures ok { IfOk result (λ count. HasJudged good.now.circuit block.now.vectors run count (kept_now kept.old) (kept_now kept.new)) }
     ensures ended { IfOk result (λ count. IsScanEnd good.now.circuit block.now.vectors run count (kept_now kept.new)) }
     ensures err { OnErr result ((count : ℕ) × (count < length block.now.vectors) × HasJudged good.now.circuit block.now.vectors run count (kept_now kept.old) (kept_now kept.new)) }
 {
     let live = block.live();
     for lane in 0..live {
-        let splits = judge_lane(block, good, lane, splitting, spans, notes, row, kept)?;
+        let splits = judge_lane(block, good, lane, live, differences, waiting, leaving, kept)?;
         if run && !splits {
             return Ok(lane);
         }
@@ -255,35 +221,37 @@ fn judge_lanes(
     Ok(live)
 }
 
-// Keeps the vector of a lane if it splits a class. Answers whether it does.
+// Keeps the vector of a lane if it splits a class, and lets those that left their classes wait at lanes behind it. Answers
+// whether it does.
 pub(crate) fn judge_lane(
     block: &Block,
     good: &GoodSim,
     lane: u32,
-    splitting: Lanes,
-    spans: &[Span],
-    notes: &[Note],
-    row: &mut AnswerRows,
+    live: u32,
+    differences: &Differences,
+    waiting: &mut Waiting,
+    leaving: &mut Leaving,
     kept: &mut Kept,
 ) -> Result<bool, AllocError>
-    requires told { AreTold good.now block.now.vectors splitting spans.now notes.now kept.old.classes }
-    requires blank { IsRowBlank good.now.circuit row.old }
-    requires lane { lane < length block.now.vectors }
+    requires told { AreTold good.now block.now.vectors differences.now.notes.items differences.now.spans.items kept.old.classes }
+    requires waits { AreWaiting good.now kept.old.classes lane live waiting.old.lanes.items [] }
+    requires lane { lane < live }
+    requires live { live ≤ length block.now.vectors }
     requires few { length block.now.vectors ≤ LANES }
-    ensures blank { IsRowBlank good.now.circuit row.new }
+    ensures count { length waiting.new.lanes.items ≡ length waiting.old.lanes.items }
+    ensures waits { OnOk result (AreWaiting good.now kept.new.classes (lane + 1) live waiting.new.lanes.items []) }
     ensures ok { OnOk result (Keeps good.now.circuit (vector_at good.now lane ∷ []) (kept_now kept.old) (kept_now kept.new)) }
     ensures offered { IfOk result (λ splits. IsOffered splits (vector_at good.now lane) (kept_now kept.old) (kept_now kept.new)) }
-    ensures err { OnErr result (kept_now kept.new ≡ kept_now kept.old) }
+    ensures err { OnErr result ((kept_now kept.new ≡ kept_now kept.old) ⊎ ((lane + 1 < live) × Keeps good.now.circuit (vector_at good.now lane ∷ []) (kept_now kept.old) (kept_now kept.new) × IsOffered true (vector_at good.now lane) (kept_now kept.old) (kept_now kept.new))) }
 {
-    if !splitting.get(lane) {
+    leaving.put_in_order(&kept.classes, waiting.at(lane))?;
+    if leaving.numbers.is_empty() {
         return Ok(false);
     }
     let v = block.vector(lane)?;
-    let picked = notes_at(*kept.vectors.allocator(), spans, notes, lane)?;
-    let shown = picked.as_slice();
-    let classes = kept.classes_of(shown)?;
-    fill_row(shown, lane, row);
-    let offered = kept.offer(v, classes.as_slice(), row);
-    clear_row(shown, lane, row);
-    offered
+    leaving.tell(differences, lane)?;
+    kept.offer(v, leaving)?;
+    let numbers = leaving.numbers.as_slice();
+    waiting.wait(good, differences, &kept.classes, numbers, lane + 1, live)?;
+    Ok(true)
 }

@@ -10,9 +10,8 @@ use Rattle.std.proofs.lemmas.List.Elements.{All-push, Contains-get_or, Contains-
 use Rattle.net_model.specs.Rows.{IsPacked}
 use Rattle.net_model.proofs.Elements.{true_false, none_in}
 use Rattle.net_model.proofs.RowLemmas.{packed_once, unpacked_once}
-use Rattle.class_refine.specs.Steps.{words_order}
 use Rattle.class_refine.proofs.Leaving.{AreNoted, same_words, in_either}
-use Rattle.table_dicts.specs.Grouped.{IsLeastUnused, AreGroupNumbers, AreDifferent, IsGrouped, AreFirstsOf, AreGroupsOf, IsFirstRepeat}
+use Rattle.table_dicts.specs.Grouped.{words_order, IsLeastUnused, AreGroupNumbers, AreDifferent, IsGrouped, AreFirstsOf, AreGroupsOf, IsFirstRepeat}
 
 -- ---- group numbers, one more
 

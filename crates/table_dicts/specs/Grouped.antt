@@ -1,5 +1,13 @@
 -- Numbers in groups, one entry row for each group.
 use Rattle.std.specs.Prelude.{◌≡◌, ℕ, ◌<◌, ◌⊎◌, ◌↔◌, Bool, List, [], length, take, slice_index, slice_index_or, All, Contains}
+use Rattle.std.specs.Borrow.{Bor}
+use Rattle.std.specs.Cmp.Lexicographic.{slice_cmp}
+use Rattle.std.specs.Ordering.{nat_cmp}
+use Rattle.std.specs.declared.cmp.Ordering.{Ordering}
+
+-- the order of the words of rows
+abbrev pub words_order : Bor (List ℕ) → Bor (List ℕ) → Ordering
+words_order a b = slice_cmp nat_cmp a.now b.now
 
 -- The number isn't used, and each lower one is.
 pub record IsLeastUnused (used : List ℕ) (group : ℕ) : Type 0 where

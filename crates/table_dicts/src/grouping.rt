@@ -1,12 +1,11 @@
 //! Equal rows in groups, by an ordered map over their words.
 
-ghost use Rattle.class_refine.specs.Steps.{words_order};
 ghost use Rattle.net_model.specs.Rows.{row_at};
 ghost use Rattle.std.specs.BTreeMap.{get};
 ghost use Rattle.std.specs.Borrow.{Bor};
 ghost use Rattle.std.specs.Ordering.{is_eq};
 ghost use Rattle.std.specs.Prelude.{◌≡◌, ◌↔◌, ◌<◌, ◌≤◌, ◌^◌, ◌&&◌, ◌==◌, ℕ, List, [], ◌∷◌, ◌++◌, if◌then◌else◌, not, is_none, unwrap_or, length, map, Some, IsTrue, IfOk, OnOk, MatchOption};
-ghost use Rattle.table_dicts.specs.Grouped.{AreGroupsOf, AreDifferent, IsFirstRepeat, AreFirstsOf};
+ghost use Rattle.table_dicts.specs.Grouped.{words_order, AreGroupsOf, AreDifferent, IsFirstRepeat, AreFirstsOf};
 
 use crate::bits::rows_at;
 use crate::dict::Groups;

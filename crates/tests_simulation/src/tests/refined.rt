@@ -1,8 +1,9 @@
-//! Two small tables, worked out by hand.
+//! Three small tables, worked out by hand.
 
 ghost use Rattle.std.specs.Prelude.{◌≡◌, length, IfOk};
+ghost use Rattle.net_model.specs.ClassTable.{first_table};
 
-use class_refine::Classes;
+use class_refine::{Classes, Leaver};
 use net_model::AnswerRows;
 use std::alloc::Global;
 use std::test::Fail;
@@ -108,5 +109,40 @@ fn new_numbers_go_by_class(rt: HostRuntime) -> Result<(), Fail> {
     assert!(rt; are_added(rt.alloc(), &mut classes, 6, 2, &CUTS_BY_CLASS)?);
     let numbered = classes.count() == 5 && classes.class_of(2) == 3 && classes.class_of(5) == 4;
     assert!(rt; numbered && classes.born(4) == Some((1, 1)));
+    Ok(())
+}
+
+// Numbers 1 and 3 leave class 0 with one answer, and 2 with another. Gives how many classes are added.
+fn added_by_leavers(classes: &mut Classes) -> Result<u32, Fail>
+    requires { classes.old ≡ first_table 5 }
+    ensures { length classes.new.class_of ≡ 5 }
+{
+    let leavers = [
+        Leaver {
+            number: 1,
+            start: 0,
+            end: 1,
+        },
+        Leaver {
+            number: 2,
+            start: 1,
+            end: 1,
+        },
+        Leaver {
+            number: 3,
+            start: 1,
+            end: 2,
+        },
+    ];
+    let positions = [7, 7];
+    Ok(classes.part(leavers.as_slice(), positions.as_slice())?)
+}
+
+#[test]
+fn leavers_of_one_answer_stay_together(rt: HostRuntime) -> Result<(), Fail> {
+    let mut classes = Classes::new(rt.alloc(), 5)?;
+    assert!(rt; added_by_leavers(&mut classes)? == 2);
+    let numbered = classes.class_of(3) == 1 && classes.class_of(2) == 2 && classes.class_of(4) == 0;
+    assert!(rt; numbered && classes.count() == 3 && classes.patterns() == 1);
     Ok(())
 }

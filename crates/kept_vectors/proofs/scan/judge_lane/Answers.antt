@@ -1,109 +1,120 @@
-use Rattle.std.proofs.Common.{◌≡◌, ◌<◌, Bool, List, [], false, length, get_or, refl, sym, ap, subst, ◌∙◌, arith}
-use Rattle.std.specs.Prelude.{IfOk}
-use Rattle.std.proofs.lemmas.Result.{on_ok_weaker}
-use Rattle.class_refine.specs.CutIn.{AreClassesOf}
-use Rattle.net_model.specs.Answer.{bit_at}
-use Rattle.word_sim.specs.GoodSim.{vectors_of}
+use Rattle.std.proofs.Common.{◌≡◌, ◌∙◌, ◌∷◌, ◌++◌, ◌<◌, ℕ, [], List, Bool, false, eqb, length, get_or, refl, sym, ap, subst, arith, inl, inr}
+use Rattle.std.specs.Prelude.{Contains}
+use Rattle.std.specs.Vec.{vec_len}
+use Rattle.std.proofs.lemmas.Bool.{cases_eq, eqb-true, eq-eqb, false≢true}
+use Rattle.std.proofs.lemmas.List.Elements.{Contains-get_or}
+use Rattle.std.proofs.lemmas.Result.{err_from_is_err_and}
+use Rattle.std.proofs.lemmas.List.{length-map}
+use Rattle.class_refine.specs.declared.leaver.Leaver.{Leaver}
+use Rattle.class_refine.specs.Leavers.{AreLeavers}
 use Rattle.fault_sim.specs.FaultyLanes.{vector_at}
-use Rattle.kept_vectors.specs.declared.notes.Note.{Note}
 use Rattle.kept_vectors.specs.Kept.{with_vector}
-use Rattle.kept_vectors.specs.Notes.{AreRightNotes, is_noted}
-use Rattle.kept_vectors.specs.Scan.{kept_now, IsOffered}
-use Rattle.kept_vectors.specs.Spans.{lane_notes}
-use Rattle.kept_vectors.proofs.KeepLemmas.{ran_vectors, offered_lane, skipped_lane}
-use Rattle.kept_vectors.proofs.ShownLemmas.{right_shown, told_at, notes_within, alike_elsewhere}
+use Rattle.kept_vectors.specs.Scan.{kept_now}
+use Rattle.kept_vectors.proofs.KeepLemmas.{ran_vectors}
+use Rattle.kept_vectors.proofs.LaneLemmas.{IsLaneKept, mates_here, leaver_below, none_kept_here, none_moved_here, some_leavers, lane_kept, mates_behind}
 use Rattle.kept_vectors.proofs.scan.judge_lane.Goals as goal
-use Rattle.kept_vectors.proofs.scan.judge_lane.Goals.{After-as_slice-shown}
+use Rattle.kept_vectors.proofs.scan.judge_lane.Goals.{After-as_slice-numbers, Then-is_empty}
 
--- the notes that the lane shows
-shown : (c : After-as_slice-shown) → c.as_slice-shown.result.now ≡ lane_notes c.args.spans.now c.args.notes.now c.args.lane
-shown c = c.as_slice-shown.ensures.value ∙ c.in_ok-picked.ensures
+pub put_in_order-requires : goal.put_in_order-requires
+put_in_order-requires c k d h =
+    let ns = c.at.result.now in
+    let has : Contains (get_or c.args.waiting.now.lanes.items c.args.lane []) (get_or ns k d) = subst (λ (xs : List ℕ). Contains xs (get_or ns k d)) c.at.ensures (Contains-get_or ns k d h) in
+    (c.requires.waits.right (get_or ns k d) c.args.lane (omega arith) c.requires.lane has).number
 
-right : (c : After-as_slice-shown) → AreRightNotes c.args.good.now c.as_slice-shown.result.now
-right c = subst (AreRightNotes c.args.good.now) (sym (shown c)) (right_shown c.args.good.now c.args.spans.now c.args.notes.now c.args.lane c.requires.told.right)
+-- those that wait are those in order
+moved_all : {now listed : List ℕ} (ns : List ℕ) → now ≡ listed → ((n : ℕ) → Contains now n → Contains ns n) → (n : ℕ) → Contains listed n → Contains ns n
+moved_all ns e f n has = f n (subst (λ (xs : List ℕ). Contains xs n) (sym e) has)
 
-pub notes_at-requires-clause-lane : goal.notes_at-requires-clause-lane
-notes_at-requires-clause-lane c = omega (arith, c.requires.lane, c.requires.few)
+moved_others : {now listed : List ℕ} (ns : List ℕ) → now ≡ listed → ((n : ℕ) → Contains ns n → Contains now n) → (n : ℕ) → Contains ns n → Contains listed n
+moved_others ns e f n has = subst (λ (xs : List ℕ). Contains xs n) e (f n has)
 
-pub classes_of-requires : goal.classes_of-requires
-classes_of-requires c k d h =
-    let at = (goal.at.classes_of-requires c).After-as_slice-shown in
-    let inside = (right at).numbers k d h in
-    omega (arith, inside, c.requires.told.numbers)
+no_items : (ns : List ℕ) → length ns ≡ 0 → ns ≡ []
+no_items [] e = refl
+no_items (n ∷ ns) e = absurd (omega (arith, e))
 
-pub fill_row-requires-clause-lane : goal.fill_row-requires-clause-lane
-fill_row-requires-clause-lane c = omega (arith, c.requires.lane, c.requires.few)
+not_zero : (n : ℕ) → false ≡ eqb n 0 → 0 < n
+not_zero n e = elim (cases_eq n 0) [ inl is ↦ absurd (false≢true (e ∙ eq-eqb n 0 is)) | inr ne ↦ omega (arith, ne) ]
 
-pub fill_row-requires-clause-inside : goal.fill_row-requires-clause-inside
-fill_row-requires-clause-inside c =
-    let row = c.args.row.now in
-    notes_within c.args.good.now row c.requires.blank row (record { count = refl; widths = λ number. refl }) c.as_slice-shown.result.now (right ((goal.at.fill_row-requires-clause-inside c).After-as_slice-shown))
+empty : (c : Then-is_empty) → c.put_in_order.new.self.numbers.items ≡ []
+empty c = no_items c.put_in_order.new.self.numbers.items (omega (arith, c.put_in_order.new.self.numbers.ok.0, eqb-true (vec_len c.put_in_order.new.self.numbers) 0 (sym c.if-is_empty.ensures)))
 
-pub offer-offered-requires-clause-elsewhere : goal.offer-offered-requires-clause-elsewhere
-offer-offered-requires-clause-elsewhere c =
-    rw c.as_slice.ensures.value
-    (alike_elsewhere c.args.good.now c.args.row.now c.requires.blank c.fill_row.new.row c.fill_row.ensures.places c.as_slice-shown.result.now c.args.kept.now.classes c.in_ok-classes.classes.items c.args.lane c.requires.told.numbers c.fill_row.ensures.set
-    c.in_ok-classes.ensures.listed)
+pub returns-then-is_empty-clause-waits : goal.returns-then-is_empty-clause-waits
+returns-then-is_empty-clause-waits c =
+    let ordered = c.in_ok-put_in_order.ensures in
+    none_moved_here (kept_now c.args.kept.now) c.requires.told c.args.lane c.args.live c.requires.lane c.requires.live c.args.waiting.now.lanes.items c.requires.waits c.put_in_order.new.self.numbers.items (moved_all _ c.at.ensures ordered.all) (moved_others _ c.at.ensures ordered.others)
+    (empty c)
 
-pub clear_row-requires-clause-lane : goal.clear_row-requires-clause-lane
-clear_row-requires-clause-lane c = omega (arith, c.requires.lane, c.requires.few)
+pub returns-then-is_empty-clause-ok : goal.returns-then-is_empty-clause-ok
+returns-then-is_empty-clause-ok c =
+    let ordered = c.in_ok-put_in_order.ensures in
+    none_kept_here (kept_now c.args.kept.now) c.requires.told c.args.lane c.args.live c.requires.lane c.requires.live c.args.waiting.now.lanes.items c.requires.waits c.put_in_order.new.self.numbers.items (moved_all _ c.at.ensures ordered.all) (moved_others _ c.at.ensures ordered.others)
+    (empty c)
 
-pub clear_row-requires-clause-inside : goal.clear_row-requires-clause-inside
-clear_row-requires-clause-inside c =
-    notes_within c.args.good.now c.args.row.now c.requires.blank c.fill_row.new.row c.fill_row.ensures.places c.as_slice-shown.result.now (right ((goal.at.clear_row-requires-clause-inside c).After-as_slice-shown))
+pub tell-requires-clause-noted : goal.tell-requires-clause-noted
+tell-requires-clause-noted c k d h =
+    let ordered = c.in_ok-put_in_order.ensures in
+    let ns = c.put_in_order.new.self.numbers.items in
+    let n = get_or ns k d in
+    let has = Contains-get_or ns k d h in
+    let old = kept_now c.args.kept.now in
+    let all = moved_all _ c.at.ensures ordered.all in
+    let others = moved_others _ c.at.ensures ordered.others in
+    let inside = leaver_below old c.requires.told c.args.lane c.args.live c.requires.lane c.requires.live c.args.waiting.now.lanes.items c.requires.waits ns all others n has in
+    let noted = mates_here old c.requires.told c.args.lane c.args.live c.requires.lane c.requires.live c.args.waiting.now.lanes.items c.requires.waits ns all others n has n inside refl in
+    (noted.below, noted.within)
 
-pub returns-then-not-get-clause-ok : goal.returns-then-not-get-clause-ok
-returns-then-not-get-clause-ok c =
-    let good = c.args.good.now in
-    let lane = c.args.lane in
-    let live : lane < length (vectors_of good) = subst (λ (vs : List (List Bool)). lane < length vs) (sym (ran_vectors good c.args.block.now.vectors c.requires.told.ran)) c.requires.lane in
-    let none : bit_at c.args.splitting lane ≡ false = sym c.get.ensures.value ∙ c.if-not-get.true in
-    skipped_lane good c.requires.told.circuit (kept_now c.args.kept.now) c.requires.told.numbers lane live c.requires.told.whole (λ m n hm hn e. c.requires.told.alike m n lane hm hn e live none)
+pub offer-requires-clause-leave : goal.offer-requires-clause-leave
+offer-requires-clause-leave c =
+    let ordered = c.in_ok-put_in_order.ensures in
+    some_leavers (kept_now c.args.kept.now) c.requires.told c.args.lane c.args.live c.requires.lane c.requires.live c.args.waiting.now.lanes.items c.requires.waits c.put_in_order.new.self.numbers.items (moved_all _ c.at.ensures ordered.all) (moved_others _ c.at.ensures ordered.others)
+    c.tell.new.self.leavers.items c.tell.new.self.positions.items ordered.ordered c.in_ok-tell.ensures.told
+
+-- the vector is that of the lane
+vector_is : (c : After-as_slice-numbers) → c.in_ok-v.v ≡ vector_at c.args.good.now c.args.lane
+vector_is c = c.in_ok-v.ensures.value ∙ ap (λ (vs : List (List Bool)). get_or vs c.args.lane []) (sym (ran_vectors c.args.good.now c.args.block.now.vectors c.requires.told.ran))
+
+kept : (c : After-as_slice-numbers) → IsLaneKept c.args.good.now c.args.lane c.args.live c.args.waiting.now.lanes.items c.put_in_order.new.self.numbers.items (kept_now c.args.kept.now) (kept_now c.offer.new.self)
+kept c =
+    let ordered = c.in_ok-put_in_order.ensures in
+    let old = kept_now c.args.kept.now in
+    let new = kept_now c.offer.new.self in
+    let leavers = c.tell.new.self.leavers.items in
+    let positions = c.tell.new.self.positions.items in
+    let tells = c.in_ok-tell.ensures.told in
+    let offered : (row : List (List Bool)) → AreLeavers old.table row leavers positions → new ≡ with_vector old (vector_at c.args.good.now c.args.lane, row) =
+    λ row are. c.in_ok-offer.ensures.ok row are ∙ ap (λ (v : List Bool). with_vector old (v, row)) (vector_is c) in
+    lane_kept old c.requires.told c.args.lane c.args.live c.requires.lane c.requires.live c.args.waiting.now.lanes.items c.requires.waits c.put_in_order.new.self.numbers.items (moved_all _ c.at.ensures ordered.all) (moved_others _ c.at.ensures ordered.others)
+    leavers positions ordered.ordered tells (omega (arith, not_zero (vec_len c.put_in_order.new.self.numbers) c.if-is_empty.ensures, ap length tells.numbers_are, length-map leavers (λ (l : Leaver). l.number), c.put_in_order.new.self.numbers.ok.0)) new offered
+
+pub wait-requires-clause-whole : goal.wait-requires-clause-whole
+wait-requires-clause-whole c = (kept (goal.at.wait-requires-clause-whole c).After-as_slice-numbers).whole
+
+pub wait-requires-clause-numbers : goal.wait-requires-clause-numbers
+wait-requires-clause-numbers c = (kept (goal.at.wait-requires-clause-numbers c).After-as_slice-numbers).finer.numbers ∙ c.requires.told.numbers
+
+-- those that wait anew
+again : (c : After-as_slice-numbers) → c.as_slice-numbers.result.now ≡ c.put_in_order.new.self.numbers.items
+again c = c.as_slice-numbers.ensures.value ∙ c.tell.ensures.numbers
+
+pub wait-requires-clause-noted : goal.wait-requires-clause-noted
+wait-requires-clause-noted c =
+    let at = (goal.at.wait-requires-clause-noted c).After-as_slice-numbers in
+    let ordered = c.in_ok-put_in_order.ensures in
+    rw (again at)
+    (mates_behind (kept_now c.args.kept.now) c.requires.told c.args.lane c.args.live c.requires.lane c.requires.live c.args.waiting.now.lanes.items c.requires.waits c.put_in_order.new.self.numbers.items (moved_all _ c.at.ensures ordered.all) (moved_others _ c.at.ensures ordered.others)
+    c.tell.new.self.leavers.items c.tell.new.self.positions.items ordered.ordered c.in_ok-tell.ensures.told (kept_now c.offer.new.self) (kept at))
+
+pub wait-requires-clause-waits : goal.wait-requires-clause-waits
+wait-requires-clause-waits c = let at = (goal.at.wait-requires-clause-waits c).After-as_slice-numbers in rw (again at) (kept at).waits
+
+pub returns-in_err-wait-clause-err : goal.returns-in_err-wait-clause-err
+returns-in_err-wait-clause-err c =
+    let at = (goal.at.returns-in_err-wait-clause-err c).After-as_slice-numbers in
+    let p = err_from_is_err_and c.from_residual-in_err-wait.result c.from_residual-in_err-wait.ensures.1 in
+    rw p.1 (inr (c.in_err-wait.ensures.short, (kept at).keeps, c.in_ok-offer.ensures.kept ∙ ap (λ (v : List Bool). c.args.kept.now.vectors.items ++ v ∷ []) (vector_is at)))
 
 pub returns-clause-ok : goal.returns-clause-ok
-returns-clause-ok c =
-    let at = (goal.at.returns-clause-ok c).After-as_slice-shown in
-    let good = c.args.good.now in
-    let lane = c.args.lane in
-    let spans = c.args.spans.now in
-    let notes = c.args.notes.now in
-    let told = c.requires.told in
-    let old = kept_now c.args.kept.now in
-    let vectors_are = ran_vectors good c.args.block.now.vectors told.ran in
-    let v : c.in_ok-v.v ≡ vector_at good lane = c.in_ok-v.ensures.value ∙ ap (λ (vs : List (List Bool)). get_or vs lane []) (sym vectors_are) in
-    let live : lane < length (vectors_of good) = subst (λ (vs : List (List Bool)). lane < length vs) (sym vectors_are) c.requires.lane in
-    on_ok_weaker c.offer-offered.result (λ offered.
-    offered_lane good told.circuit old told.numbers lane live (lane_notes spans notes lane) (right_shown good spans notes lane told.right)
-    (λ m n hm hn e. told_at good spans notes lane m n live (told.noted m n hm hn e) (told.shown m n lane hm hn e live)) c.fill_row.new.row
-    (λ number position. c.fill_row.ensures.set number position ∙ ap (λ (ns : List Note). is_noted ns lane number position) (shown at))
-    (λ number h. c.fill_row.ensures.places.widths number ∙ c.requires.blank.widths number h) (kept_now c.offer-offered.new.self)
-    (offered ∙ ap (λ (x : List Bool). with_vector old (x, c.fill_row.new.row)) v)) c.offer-offered.ensures.ok
+returns-clause-ok c = (kept (goal.at.returns-clause-ok c).After-as_slice-numbers).keeps
 
 pub returns-clause-offered : goal.returns-clause-offered
-returns-clause-offered c =
-    let good = c.args.good.now in
-    let v : c.in_ok-v.v ≡ vector_at good c.args.lane =
-    c.in_ok-v.ensures.value ∙ ap (λ (vs : List (List Bool)). get_or vs c.args.lane []) (sym (ran_vectors good c.args.block.now.vectors c.requires.told.ran)) in
-    subst (λ x. IfOk c.offer-offered.result (λ splits. IsOffered splits x (kept_now c.args.kept.now) (kept_now c.offer-offered.new.self))) v c.offer-offered.ensures.kept
-
-pub returns-clause-err : goal.returns-clause-err
-returns-clause-err c = c.offer-offered.ensures.err
-
-pub returns-clause-blank : goal.returns-clause-blank
-returns-clause-blank c =
-    let filled = c.fill_row.ensures.places in
-    let cleared = c.clear_row.ensures.places in
-    record {
-      count = cleared.count ∙ filled.count ∙ c.requires.blank.count;
-      widths = λ number h. cleared.widths number ∙ filled.widths number ∙ c.requires.blank.widths number h;
-      clear = c.clear_row.ensures.clear;
-    }
-
-pub offer-offered-requires-clause-rows : goal.offer-offered-requires-clause-rows
-offer-offered-requires-clause-rows c = c.fill_row.ensures.places.count ∙ c.requires.blank.count ∙ sym c.requires.told.numbers
-
-pub offer-offered-requires-clause-classes : goal.offer-offered-requires-clause-classes
-offer-offered-requires-clause-classes c = subst (AreClassesOf c.args.kept.now.classes) (sym c.as_slice.ensures.value) c.in_ok-classes.ensures.classes
-
-pub clear_row-requires-clause-set : goal.clear_row-requires-clause-set
-clear_row-requires-clause-set c = c.fill_row.ensures.set
+returns-clause-offered c = c.in_ok-offer.ensures.kept ∙ ap (λ (v : List Bool). c.args.kept.now.vectors.items ++ v ∷ []) (vector_is (goal.at.returns-clause-offered c).After-as_slice-numbers)

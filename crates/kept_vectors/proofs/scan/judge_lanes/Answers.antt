@@ -1,13 +1,15 @@
-use Rattle.std.proofs.Common.{take, sym, ◌∙◌, arith, IsTrue}
+use Rattle.std.proofs.Common.{◌+◌, take, true, refl, sym, subst, ◌∙◌, arith, IsTrue, inl, inr}
 use Rattle.std.proofs.lemmas.Bool.{false≢true}
-use Rattle.kept_vectors.specs.Scan.{kept_now}
+use Rattle.std.proofs.lemmas.Result.{err_from_is_err_and}
+use Rattle.kept_vectors.specs.Kept.{KeptSoFar}
+use Rattle.kept_vectors.specs.Scan.{kept_now, HasJudged}
 use Rattle.kept_vectors.proofs.KeepLemmas.{whole_after}
 use Rattle.kept_vectors.proofs.JudgeLemmas.{told_later, judged_none, judged_more}
 use Rattle.kept_vectors.proofs.scan.judge_lanes.Goals as goal
 use Rattle.kept_vectors.proofs.scan.judge_lanes.Goals.{else-run-via-then-run+else-not-splits, else-run-via-else-run}
 
 pub loop-lane-init : goal.loop-lane-init
-loop-lane-init c = record { blank = c.requires.blank; judged = judged_none c.args.good.now.circuit c.args.block.now.vectors c.args.run (kept_now c.args.kept.now) }
+loop-lane-init c = record { count = refl; waits = c.requires.waits; judged = judged_none c.args.good.now.circuit c.args.block.now.vectors c.args.run (kept_now c.args.kept.now) }
 
 pub judge_lane-requires-clause-told : goal.judge_lane-requires-clause-told
 judge_lane-requires-clause-told c =
@@ -23,6 +25,25 @@ loop-lane-preserved c =
       | else-run-via-else-run w ↦ λ is. absurd (false≢true (sym w.if-run.false ∙ is))
     ] in
     record {
-      blank = c.in_ok-splits.ensures.blank;
-      judged = judged_more c.args.good.now c.args.block.now.vectors c.args.run c.in_ok-splits.splits c.loop-lane.lane c.requires.told.ran (let h = c.loop-lane-test.true in omega arith) c.loop-lane.invariant.judged c.in_ok-splits.ensures.ok c.in_ok-splits.ensures.offered must;
+      count = c.judge_lane.ensures.count ∙ c.loop-lane.invariant.count;
+      waits = rw c.live-live.ensures.value at c.in_ok-splits.ensures.waits;
+      judged = judged_more c.args.good.now c.args.block.now.vectors c.args.run c.in_ok-splits.splits c.loop-lane.lane c.requires.told.ran (let h = c.loop-lane-test.true in omega (arith, h, c.live-live.ensures.value)) c.loop-lane.invariant.judged c.in_ok-splits.ensures.ok c.in_ok-splits.ensures.offered must;
     }
+
+pub returns-in_err-splits-clause-err : goal.returns-in_err-splits-clause-err
+returns-in_err-splits-clause-err c =
+    let p = err_from_is_err_and c.from_residual.result c.from_residual.ensures.1 in
+    let good = c.args.good.now in
+    let vectors = c.args.block.now.vectors in
+    let lane = c.loop-lane.lane in
+    let run = c.args.run in
+    let first = kept_now c.args.kept.now in
+    let judged = c.loop-lane.invariant.judged in
+    rw p.1 (elim c.in_err-splits.ensures.err [
+      | inl same ↦ (lane, omega (arith, c.loop-lane-test.true, c.live-live.ensures.value), subst (λ (k : KeptSoFar). HasJudged good.circuit vectors run lane first k) (sym same) judged)
+      | inr more ↦ (
+        lane + 1,
+        omega (arith, more.0, c.live-live.ensures.value),
+        judged_more good vectors run true lane c.requires.told.ran (omega (arith, c.loop-lane-test.true, c.live-live.ensures.value)) judged more.1 more.2 (λ is. refl),
+      )
+    ])

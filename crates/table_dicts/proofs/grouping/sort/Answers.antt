@@ -1,9 +1,8 @@
 use Rattle.std.proofs.Common.{◌≡◌, ◌∙◌, ◌+◌, ◌<◌, ℕ, List, [], ◌∷◌, ◌++◌, length, refl, subst, sym, None, rules, arith, inl, inr}
 use Rattle.std.specs.BTreeMap.{get}
 use Rattle.std.proofs.lemmas.Bool.{cases_Bool}
-use Rattle.class_refine.specs.Steps.{words_order}
 use Rattle.class_refine.proofs.Leaving.{AreNoted}
-use Rattle.table_dicts.specs.Grouped.{AreFirstsOf}
+use Rattle.table_dicts.specs.Grouped.{words_order, AreFirstsOf}
 use Rattle.table_dicts.proofs.GroupLemmas.{firsts_none, few_firsts, Turn, turn, first_turn}
 use Rattle.table_dicts.proofs.grouping.sort.Goals as goal
 use Rattle.table_dicts.proofs.grouping.sort.Goals.{In_ok-group}

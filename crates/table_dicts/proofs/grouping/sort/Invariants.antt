@@ -1,7 +1,6 @@
 use Rattle.std.specs.BTreeMap.{get}
-use Rattle.class_refine.specs.Steps.{words_order}
 use Rattle.class_refine.proofs.Leaving.{AreNoted}
-use Rattle.table_dicts.specs.Grouped.{AreFirstsOf}
+use Rattle.table_dicts.specs.Grouped.{words_order, AreFirstsOf}
 use Rattle.table_dicts.proofs.grouping.sort.Given as goal
 
 abbrev pub invariant-loop-row : goal.invariant-loop-row

@@ -4,9 +4,9 @@ use Rattle.std.proofs.lemmas.List.{length-map, take_all}
 use Rattle.net_model.specs.ClassTable.{ClassTable, class_at, members, representative, answer_at, piece_lowest, begins_class}
 use Rattle.net_model.specs.Rows.{IsPacked}
 use Rattle.net_model.proofs.Elements.{true_false}
-use Rattle.class_refine.specs.Steps.{words_order, put_in}
+use Rattle.class_refine.specs.Steps.{put_in}
 use Rattle.class_refine.proofs.Pieces.{members-All}
-use Rattle.class_refine.proofs.Leaving.{begun, AreNoted, Turn, turn, stays_here, all_pieces}
+use Rattle.class_refine.proofs.Leaving.{words_order, begun, AreNoted, Turn, turn, stays_here, all_pieces}
 use Rattle.class_refine.proofs.classes.Classes.cut_class.Goals as goal
 use Rattle.class_refine.proofs.classes.Classes.cut_class.Goals.{In_ok-place, then-n-lead-via-then-n-lead, then-n-lead-via-else-n-lead+then-same_rows}
 

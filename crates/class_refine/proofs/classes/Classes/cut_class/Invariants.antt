@@ -1,8 +1,7 @@
 use Rattle.std.proofs.Common.{◌≡◌, map}
 use Rattle.std.specs.BTreeMap.{get}
 use Rattle.net_model.specs.ClassTable.{class_at}
-use Rattle.class_refine.specs.Steps.{words_order}
-use Rattle.class_refine.proofs.Leaving.{begun, so_far, AreNoted}
+use Rattle.class_refine.proofs.Leaving.{words_order, begun, so_far, AreNoted}
 use Rattle.class_refine.proofs.classes.Classes.cut_class.Given as goal
 
 abbrev pub invariant-loop-n : goal.invariant-loop-n

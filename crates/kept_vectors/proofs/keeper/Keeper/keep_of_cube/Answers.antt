@@ -29,7 +29,7 @@ keep_fullest-requires-clause-scan c =
       forest_of = scan.forest_of;
       block = c.fix_sources.ensures.sources ∙ c.fill.ensures.sources ∙ ap (λ (s : StreamState). s.sources) c.self.invariant.stream.1;
       differences = scan.differences;
-      blank = scan.blank;
+      lanes = scan.lanes;
     }
 
 pub keep_fullest-requires-clause-numbers : goal.keep_fullest-requires-clause-numbers

@@ -47,7 +47,7 @@ keep_block-requires-clause-scan c =
       forest_of = scan.forest_of;
       block = c.fill-left.ensures.sources ∙ ap (λ (s : StreamState). s.sources) c.loop-left.invariant.place ∙ ap (λ (k : Circuit). k.sources) (sym c.loop-left.invariant.circuit);
       differences = scan.differences;
-      blank = scan.blank;
+      lanes = scan.lanes;
     }
 
 pub keep_block-requires-clause-numbers : goal.keep_block-requires-clause-numbers

@@ -1,0 +1,23 @@
+-- Numbers that wait at the lanes at which they leave their classes.
+use Rattle.std.specs.Prelude.{◌≡◌, ◌≤◌, ◌<◌, ◌⊎◌, ℕ, List, [], length, slice_index_or, Contains}
+use Rattle.net_model.specs.ClassTable.{ClassTable, class_at, representative}
+use Rattle.word_sim.specs.declared.lanes.TheConstants.{LANES}
+use Rattle.word_sim.specs.GoodSim.{GoodSim}
+use Rattle.kept_vectors.specs.Notes.{AreAlikeAt}
+
+module _ (good : GoodSim) (t : ClassTable) where
+  -- The number answers in the lane as the representative of its class.
+  abbrev pub IsLed : ℕ → ℕ → Type 0
+  IsLed lane n = AreAlikeAt good lane n (representative t (class_at t n))
+
+  -- The lane is the first from one on at which the number answers otherwise than the representative of its class.
+  pub record LeavesFirst (from lane n : ℕ) : Type 0 where
+    pub number : n < length t.class_of
+    pub differs : IsLed lane n → ⊥
+    pub before : (earlier : ℕ) → from ≤ earlier → earlier < lane → IsLed earlier n
+
+  -- From a lane on each number waits at the first lane at which it leaves its class, if one below `live` is one; but those that are left to come may not wait yet.
+  pub record AreWaiting (from live : ℕ) (lists : List (List ℕ)) (left : List ℕ) : Type 0 where
+    pub count : length lists ≡ LANES
+    pub right : (n lane : ℕ) → from ≤ lane → lane < live → Contains (slice_index_or lists lane []) n → LeavesFirst from lane n
+    pub all : (n lane : ℕ) → from ≤ lane → lane < live → LeavesFirst from lane n → Contains (slice_index_or lists lane []) n ⊎ Contains left n

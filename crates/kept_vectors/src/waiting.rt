@@ -1,0 +1,179 @@
+//! Numbers that wait at the lanes at which they leave their classes.
+
+ghost use Rattle.std.specs.Prelude.{◌≡◌, ◌≤◌, ◌<◌, ◌++◌, ℕ, [], ◌∷◌, All, IfOk, OnOk, OnErr, length, slice_index_or};
+ghost use Rattle.net_model.specs.Circuit.{IsCircuit};
+ghost use Rattle.net_model.specs.FaultList.{fault_count};
+ghost use Rattle.class_refine.specs.Fields.{IsWhole};
+ghost use Rattle.word_sim.specs.GoodSim.{vectors_of};
+ghost use Rattle.kept_vectors.specs.Notes.{AreMatesNoted, AreAsked};
+ghost use Rattle.kept_vectors.specs.Waits.{IsLed, LeavesFirst, AreWaiting};
+
+use crate::apart::{apart, first_lane};
+use crate::differences::Differences;
+use class_refine::Classes;
+use std::alloc::{AllocError, Global};
+use std::marker::Model;
+use word_sim::{GoodSim, LANES};
+
+// The numbers that wait at one lane.
+#[derive(Drop)]
+pub(crate) struct Waiters {
+    numbers: Vec<u32>,
+}
+
+impl Model for Waiters {
+    ghost use Rattle.std.specs.Prelude.{List, ℕ};
+
+    ghost Value = { List ℕ };
+
+    ghost view = { λ waiters. waiters.numbers.items };
+}
+
+impl Waiters {
+    fn new(alloc: Global) -> Waiters
+        ensures { result ≡ [] }
+    {
+        Waiters {
+            numbers: Vec::new(alloc),
+        }
+    }
+
+    fn as_slice(&self) -> &[u32]
+        ensures { result.now ≡ self.now }
+    {
+        self.numbers.as_slice()
+    }
+
+    fn push(&mut self, number: u32) -> Result<(), AllocError>
+        ensures { OnOk result (self.new ≡ self.old ++ number ∷ []) }
+    {
+        self.numbers.push(number)?;
+        Ok(())
+    }
+
+    fn clear(&mut self)
+        ensures { self.new ≡ [] }
+    {
+        self.numbers.clear();
+    }
+}
+
+// By lane the numbers that wait there.
+#[derive(Drop)]
+pub(crate) struct Waiting {
+    pub(crate) lanes: Vec<Waiters>,
+}
+
+impl Waiting {
+    pub(crate) fn new(alloc: Global) -> Result<Waiting, AllocError>
+        ensures { IfOk result (λ waiting. length waiting.lanes.items ≡ LANES) }
+    {
+        let mut lanes = Vec::new(alloc);
+        for _lane in 0..LANES {
+            lanes.push(Waiters::new(alloc))?;
+        }
+        Ok(Waiting { lanes })
+    }
+
+    // The numbers that wait at a lane.
+    pub(crate) fn at(&self, lane: u32) -> &[u32]
+        requires { lane < length self.now.lanes.items }
+        ensures { result.now ≡ slice_index_or self.now.lanes.items lane [] }
+    {
+        self.lanes[lane as usize].as_slice()
+    }
+
+    // Nobody waits any more.
+    fn clear(&mut self)
+        ensures count { length self.new.lanes.items ≡ length self.old.lanes.items }
+        ensures empty { All (λ waiters. waiters ≡ []) self.new.lanes.items }
+    {
+        for lane in 0..self.lanes.len() {
+            self.lanes[lane].clear();
+        }
+    }
+
+    // Lets all numbers whose classes are noted wait at lanes from one on, and nobody else.
+    pub(crate) fn wait_all(
+        &mut self,
+        good: &GoodSim,
+        differences: &Differences,
+        classes: &Classes,
+        from: u32,
+        live: u32,
+    ) -> Result<(), AllocError>
+        requires circuit { IsCircuit good.now.circuit }
+        requires whole { IsWhole classes.now }
+        requires numbers { length classes.now.class_of ≡ fault_count good.now.circuit }
+        requires asked { AreAsked good.now differences.now.notes.items differences.now.spans.items classes.now differences.now.numbers.items }
+        requires live { live ≤ length (vectors_of good.now) }
+        requires few { live ≤ LANES }
+        requires lanes { length self.old.lanes.items ≡ LANES }
+        ensures count { length self.new.lanes.items ≡ length self.old.lanes.items }
+        ensures waits { OnOk result (AreWaiting good.now classes.now from live self.new.lanes.items []) }
+    {
+        self.clear();
+        let numbers = differences.numbers.as_slice();
+        self.wait(good, differences, classes, numbers, from, live)
+    }
+
+    // Lets each of these numbers wait at the first lane from `from` on at which it answers otherwise than the
+    // representative of its class, if a lane below `live` is one.
+    pub(crate) fn wait(
+        &mut self,
+        good: &GoodSim,
+        differences: &Differences,
+        classes: &Classes,
+        numbers: &[u32],
+        from: u32,
+        live: u32,
+    ) -> Result<(), AllocError>
+        requires circuit { IsCircuit good.now.circuit }
+        requires whole { IsWhole classes.now }
+        requires numbers { length classes.now.class_of ≡ fault_count good.now.circuit }
+        requires noted { All (λ n. (n < length classes.now.class_of) × AreMatesNoted good.now differences.now.notes.items differences.now.spans.items classes.now n) numbers.now }
+        requires live { live ≤ length (vectors_of good.now) }
+        requires few { live ≤ LANES }
+        requires waits { AreWaiting good.now classes.now from live self.old.lanes.items numbers.now }
+        ensures count { length self.new.lanes.items ≡ length self.old.lanes.items }
+        ensures waits { OnOk result (AreWaiting good.now classes.now from live self.new.lanes.items []) }
+        ensures short { OnErr result (from < live) }
+    {
+        if from >= live {
+            return Ok(());
+        }
+        for number in numbers {
+            let lane = leaves_at(good, differences, classes, *number, from, live);
+            if lane < live {
+                self.lanes[lane as usize].push(*number)?;
+            }
+        }
+        Ok(())
+    }
+}
+
+// The first lane from `from` on at which a number answers otherwise than the representative of its class, if one below
+// `live` is one.
+fn leaves_at(
+    good: &GoodSim,
+    differences: &Differences,
+    classes: &Classes,
+    number: u32,
+    from: u32,
+    live: u32,
+) -> u32
+    requires circuit { IsCircuit good.now.circuit }
+    requires whole { IsWhole classes.now }
+    requires numbers { length classes.now.class_of ≡ fault_count good.now.circuit }
+    requires number { number < length classes.now.class_of }
+    requires noted { AreMatesNoted good.now differences.now.notes.items differences.now.spans.items classes.now number }
+    requires live { live ≤ length (vectors_of good.now) }
+    requires few { live ≤ LANES }
+    ensures from { from ≤ result }
+    ensures first { result < live → LeavesFirst good.now classes.now from result number }
+    ensures before { (lane : ℕ) → from ≤ lane → lane < result → lane < live → IsLed good.now classes.now lane number }
+{
+    let lead = classes.representative(classes.class_of(number));
+    let told = apart(differences.notes_of(lead), differences.notes_of(number));
+    first_lane(told, from, live)
+}
