@@ -3,6 +3,7 @@
 ghost use Rattle.std.specs.Prelude.{◌≡◌, ◌≢◌, ◌≤◌, ◌<◌, [], OnOk, IsErrOf};
 ghost use Rattle.net_model.specs.Fault.{IsFaultOf};
 ghost use Rattle.net_model.specs.FaultList.{fault_count, fault_numbered};
+ghost use Rattle.pair_miter.specs.Adds.{KeepsPlaces};
 ghost use Rattle.pair_miter.specs.Miter.{miter};
 ghost use Rattle.refute_check.specs.declared.refusal.Refusal.{Refusal};
 ghost use Rattle.refute_check.specs.LogRefusal.{IsRightLog};
@@ -19,8 +20,8 @@ use refute_check::{CheckFault, EvidenceKind, check_log, check_tree};
 use result_file::{Budgets, Evidence, Proof};
 use std::alloc::Global;
 
-/// Checks the proof of evidence within the budgets. The pool is empty, and is so again whatever is answered. Where the proof isn't
-/// right, the answer has the rule that it breaks, and the token or chain that breaks it.
+/// Checks the proof of evidence within the budgets. The pool is empty, and whatever is answered it is so again, with no fewer
+/// places. Where the proof isn't right, the answer has the rule that it breaks, and the token or chain that breaks it.
 pub fn check_evidence(
     alloc: Global,
     subject: &Subject,
@@ -35,6 +36,7 @@ pub fn check_evidence(
     ensures right { OnOk result (IsRightProof subject.now (fault_numbered subject.now evidence.now.partner) (fault_numbered subject.now evidence.now.member) budgets evidence.now.proof) }
     ensures refused { (refusal : Refusal) → IsErrOf result (CheckFault.Refused refusal) → ProofRefused subject.now (fault_numbered subject.now evidence.now.partner) (fault_numbered subject.now evidence.now.member) budgets evidence.now.proof refusal }
     ensures emptied { pool.new.clauses ≡ [] }
+    ensures places { KeepsPlaces pool.old pool.new }
 {
     let f = subject.fault(evidence.partner);
     let g = subject.fault(evidence.member);
@@ -66,6 +68,7 @@ fn check_proof(
     ensures right { OnOk result (IsRightProof circuit.now f.now g.now budgets proof.now) }
     ensures refused { (refusal : Refusal) → IsErrOf result (CheckFault.Refused refusal) → ProofRefused circuit.now f.now g.now budgets proof.now refusal }
     ensures emptied { pool.new.clauses ≡ [] }
+    ensures places { KeepsPlaces pool.old pool.new }
 {
     match proof {
         Proof::Collapse => Ok(()),
@@ -105,6 +108,7 @@ fn check_pair(
     ensures log { OnOk result (IsRightLog kind (miter circuit.now f.now g.now) budgets.conflicts log.now) }
     ensures refused { (refusal : Refusal) → IsErrOf result (CheckFault.Refused refusal) → PairRefused circuit.now f.now g.now kind budgets tree.now log.now refusal }
     ensures emptied { pool.new.clauses ≡ [] }
+    ensures places { KeepsPlaces pool.old pool.new }
 {
     check_tree(alloc, circuit, f, g, tree, kind, budgets.cubes)?;
     miter_is_small();

@@ -1,5 +1,6 @@
 -- A search over the miter of a pair, from step to step.
 use Rattle.std.proofs.Common.{◌≡◌, ◌∙◌, ℕ, ◌+◌, ◌<◌, ◌≤◌, ◌^◌, List, length, ap, sym, subst, arith, Vec, Global}
+use Rattle.std.specs.Prelude.{Result, Ok, Err, OnErr}
 use Rattle.clause_pool.specs.Clauses.{Clause, BeginsWith}
 use Rattle.clause_pool.proofs.Numbered.{begins_through}
 use Rattle.pair_miter.specs.ChainView.{ChainView}
@@ -9,9 +10,15 @@ use Rattle.solver_trail.specs.Trail.{TrailState}
 use Rattle.learn_solver.specs.declared.search.Search.{Search}
 use Rattle.learn_solver.specs.Learning.{IsLearning}
 use Rattle.learn_solver.specs.Ready.{IsSolverReady}
-use Rattle.learn_solver.specs.Search.{IsSearchReady, IsSearch, LearnsClause, miter_clauses}
+use Rattle.learn_solver.specs.Search.{IsSearchReady, IsSearch, LearnsAtMost, LearnsClause, miter_clauses}
+use Rattle.learn_solver.specs.Solved.{HasLearned}
 use Rattle.learn_solver.specs.Walk.{AreUnmarked}
-use Rattle.learn_solver.proofs.Solving.{learning_long}
+use Rattle.learn_solver.proofs.Solving.{learned_within, learning_long}
+
+-- what holds in any case holds after an error
+pub on_error : {T E P : Type 0} (result : Result T E) → P → OnErr result P
+on_error (Ok x) p = tt
+on_error (Err fault) p = p
 
 -- another trail that is ready, too
 pub prepared_on : (old : Search) (clauses : List Clause) (trail : TrailState) (decider : ℕ) → IsSearchReady old clauses → IsSolverReady trail clauses → trail.assignment.variables ≡ old.trail.assignment.variables → decider ≡ old.decider
@@ -54,3 +61,10 @@ module _ (m : Miter) (conflicts : ℕ) (old : Search) (pool : List Clause) (h : 
     few = omega (arith, l.count, ap length chains, left);
     begins = begins_through more pool (miter_clauses m) begins h.begins;
   }
+
+  -- all that the pool has behind the miter's clauses was learned
+  pub learned_so_far : HasLearned (miter_clauses m) conflicts pool
+  learned_so_far = learned_within (miter_clauses m) pool old.chains.items conflicts h.learning h.few
+
+  pub learned_then : (mid : Search) (more : List Clause) → mid.chains.items ≡ old.chains.items → LearnsAtMost mid pool more → length old.chains.items < conflicts → HasLearned (miter_clauses m) conflicts more
+  learned_then mid more chains l left = l (miter_clauses m) conflicts (subst (IsLearning (miter_clauses m) pool) (sym chains) h.learning) (omega (arith, ap length chains, left))

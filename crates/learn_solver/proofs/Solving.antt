@@ -17,7 +17,8 @@ use Rattle.solver_trail.specs.Assignment.{Assignment}
 use Rattle.learn_solver.specs.Learned.{ChainEndsIn, IsLearned}
 use Rattle.learn_solver.specs.Learning.{IsLearning}
 use Rattle.learn_solver.specs.Logs.{without_literal}
-use Rattle.learn_solver.specs.Solved.{HasRefutation, HasSpentLog}
+use Rattle.learn_solver.specs.Search.{AddsAtMost}
+use Rattle.learn_solver.specs.Solved.{HasLearned, HasRefutation, HasSpentLog}
 use Rattle.pair_miter.proofs.SameLiterals.{same_trans, empty_alike}
 use Rattle.pair_miter.proofs.Alike.{alike_some, chain_alike, fresh_alike, alike_first, alike_more}
 use Rattle.pair_miter.proofs.LogEnds.{log_more, log_long}
@@ -59,6 +60,17 @@ bare_ends clauses [] = refl
 bare_ends clauses (chain ∷ chains) =
     ap (option_and_then (λ end. option_map (λ ends. end ∷ ends) (log_ends (clauses ++ end ∷ []) (map without_literal chains)))) (named_end clauses chain None)
     ∙ (λ i. option_and_then (λ end. option_map (λ ends. end ∷ ends) (bare_ends (clauses ++ end ∷ []) chains i)) (chain_end clauses chain))
+
+-- as many chains as the budget allows
+pub spends : (clauses pool : List Clause) (chains : List ChainView) (conflicts : ℕ) → IsLearning clauses pool chains → length chains ≡ conflicts → HasSpentLog clauses conflicts pool chains
+spends clauses pool chains conflicts h full = record {
+  spent = record { ends = h.ends; are = h.are; full = full; fresh = h.fresh };
+  alike = h.alike;
+}
+
+-- what is learned within the budget
+pub learned_within : (clauses pool : List Clause) (chains : List ChainView) (limit : ℕ) → IsLearning clauses pool chains → length chains ≤ limit → HasLearned clauses limit pool
+learned_within clauses pool chains limit h few = record { log = chains; few = few; learned = spends clauses pool chains (length chains) h refl }
 
 module _ (clauses pool : List Clause) (chains : List ChainView) (h : IsLearning clauses pool chains)
     (chain : ChainView) (clause : Clause) (own : ChainEndsIn pool chain clause) where
@@ -110,12 +122,14 @@ module _ (clauses pool : List Clause) (chains : List ChainView) (h : IsLearning 
       ends_fresh : EndsFresh (clauses ++ h.ends) chain own_end.0
       ends_fresh = record { nonempty = not_empty; at = fresh.at; is_at = fresh.is_at; fresh = fresh_alike (clauses ++ h.ends) pool h.alike own_end.0 clause fresh.at own_same fresh.fresh }
 
--- as many chains as the budget allows
-pub spends : (clauses pool : List Clause) (chains : List ChainView) (conflicts : ℕ) → IsLearning clauses pool chains → length chains ≡ conflicts → HasSpentLog clauses conflicts pool chains
-spends clauses pool chains conflicts h full = record {
-  spent = record { ends = h.ends; are = h.are; full = full; fresh = h.fresh };
-  alike = h.alike;
-}
+-- all that is in the pool was learned, whether the fresh clause came to it or not
+pub learned_at_most : (clauses pool : List Clause) (chains : List ChainView) (h : IsLearning clauses pool chains) (chain : ChainView) (clause : Clause) → ChainEndsIn pool chain clause → EndsFresh pool chain clause
+    → (new : List Clause) → AddsAtMost pool clause new → (limit : ℕ) → length chains < limit → HasLearned clauses limit new
+learned_at_most clauses pool chains h chain clause own fresh new (inl same) limit few =
+    subst (HasLearned clauses limit) (sym same) (learned_within clauses pool chains limit h (omega (arith, few)))
+learned_at_most clauses pool chains h chain clause own fresh new (inr more) limit few =
+    subst (HasLearned clauses limit) (sym more)
+    (learned_within clauses (pool ++ clause ∷ []) (chains ++ chain ∷ []) limit (learning_more clauses pool chains h chain clause own fresh) (omega (arith, few, length_push chains chain)))
 
 -- a learned clause with literals comes from a conflict above level 0
 pub learned_above : (a : Assignment) (pool : List Clause) (chain : ChainView) (clause : Clause) (back : ℕ) → IsLearned a pool chain clause back → 0 < length clause → 0 < a.level

@@ -1,5 +1,5 @@
 -- A search under way, and what it learns.
-use Rattle.std.specs.Prelude.{◌≡◌, ℕ, ◌+◌, ◌≤◌, List, ◌∷◌, [], ◌++◌, map, length, All, Option, None, Some}
+use Rattle.std.specs.Prelude.{◌≡◌, ◌⊎◌, ℕ, ◌+◌, ◌<◌, ◌≤◌, List, ◌∷◌, [], ◌++◌, map, length, All, Option, None, Some}
 use Rattle.clause_pool.specs.Clauses.{Clause, BeginsWith}
 use Rattle.clause_pool.specs.Partial.{IsQuiet}
 use Rattle.pair_miter.specs.ChainView.{ChainView}
@@ -16,7 +16,7 @@ use Rattle.learn_solver.specs.Decisions.{AreAllSet}
 use Rattle.learn_solver.specs.Learning.{IsLearning}
 use Rattle.learn_solver.specs.Logs.{without_literal}
 use Rattle.learn_solver.specs.Ready.{IsSolverReady}
-use Rattle.learn_solver.specs.Solved.{HasRefutation}
+use Rattle.learn_solver.specs.Solved.{HasLearned, HasRefutation}
 use Rattle.learn_solver.specs.Walk.{AreUnmarked}
 
 -- the clauses of a miter
@@ -42,7 +42,15 @@ Refutes search pool last first conflicts = HasRefutation first conflicts pool (m
 abbrev pub Learns : Search → List Clause → Search → List Clause → Option ChainView → Type 0
 Learns old clauses new more None = LearnsClause old clauses new more
 Learns old clauses new more (Some last) = (first : List Clause) (conflicts : ℕ) → IsLearning first clauses old.chains.items → length old.chains.items ≤ conflicts
-    → Refutes new more last first conflicts
+    → Refutes new more last first conflicts × HasLearned first conflicts more
+
+-- The clause stands behind the old ones, or nothing does.
+abbrev pub AddsAtMost : List Clause → Clause → List Clause → Type 0
+AddsAtMost old clause new = (new ≡ old) ⊎ (new ≡ old ++ clause ∷ [])
+
+-- A call that failed has learned one more clause at most: all that stands in the pool behind the first clauses was learned.
+abbrev pub LearnsAtMost : Search → List Clause → List Clause → Type 0
+LearnsAtMost old clauses more = (first : List Clause) (conflicts : ℕ) → IsLearning first clauses old.chains.items → length old.chains.items < conflicts → HasLearned first conflicts more
 
 -- The search over the miter of a pair has learned some clauses, at most so many. They are in the pool behind the miter's.
 pub record IsSearch (m : Miter) (conflicts : ℕ) (search : Search) (pool : List Clause) : Type 0 where
@@ -56,9 +64,9 @@ pub record IsSearch (m : Miter) (conflicts : ℕ) (search : Search) (pool : List
 abbrev pub EndsStep : Miter → ℕ → Aim → Search → Search → List Clause → Step → Type 0
 EndsStep m conflicts aim old new pool Learned = IsSearch m conflicts new pool × (length new.chains.items ≡ length old.chains.items + 1)
 EndsStep m conflicts aim old new pool Open = IsSearch m conflicts new pool × All (IsQuiet (assigned_literals new.trail.assignment)) pool × (aim ≡ Model → AreAllSet new.trail.assignment)
-EndsStep m conflicts aim old new pool (Refuted last) = Refutes new pool last (miter_clauses m) conflicts
+EndsStep m conflicts aim old new pool (Refuted last) = Refutes new pool last (miter_clauses m) conflicts × HasLearned (miter_clauses m) conflicts pool
 
 -- The search can go on; or, with a chain, the clauses are refuted.
 abbrev pub EndsSweep : Miter → ℕ → Search → List Clause → Option ChainView → Type 0
 EndsSweep m conflicts search pool None = IsSearch m conflicts search pool
-EndsSweep m conflicts search pool (Some last) = Refutes search pool last (miter_clauses m) conflicts
+EndsSweep m conflicts search pool (Some last) = Refutes search pool last (miter_clauses m) conflicts × HasLearned (miter_clauses m) conflicts pool

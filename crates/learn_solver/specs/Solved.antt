@@ -23,14 +23,17 @@ pub record HasSpentLog (clauses : List Clause) (conflicts : ℕ) (pool : List Cl
   pub spent : IsSpentLog clauses conflicts log
   pub alike : AreAlike (clauses ++ spent.ends) pool
 
--- The vector separates the faults, and the clauses in the pool behind the miter's are the fresh ends of a log within the budget.
-pub record HasSeparatingVector (c : Circuit) (f g : Fault) (conflicts : ℕ) (pool : List Clause) (v : List Bool) : Type 0 where
-  pub separates : Separates c v f g
-  -- the chains of what was learned before the vector was found
+-- What stands in the pool behind the clauses was learned: the fresh ends of a log within the budget, and no other clause.
+pub record HasLearned (clauses : List Clause) (conflicts : ℕ) (pool : List Clause) : Type 0 where
+  -- the chains of what was learned
   pub log : List ChainView
   pub few : length log ≤ conflicts
-  -- Each of them ends fresh, and the pool has their ends and no other clause behind the miter's.
-  pub learned : HasSpentLog (miter c f g) (length log) pool log
+  pub learned : HasSpentLog clauses (length log) pool log
+
+-- The vector separates the faults, and the pool has the miter's clauses and what was learned before the vector was found.
+pub record HasSeparatingVector (c : Circuit) (f g : Fault) (conflicts : ℕ) (pool : List Clause) (v : List Bool) : Type 0 where
+  pub separates : Separates c v f g
+  pub learned : HasLearned (miter c f g) conflicts pool
 
 -- what the solver answers for a pair of faults and a budget, with the clauses that the pool then has
 abbrev pub IsSolved : Circuit → Fault → Fault → ℕ → List Clause → Solved → Type 0

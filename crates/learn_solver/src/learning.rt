@@ -1,9 +1,10 @@
 //! What is learned is added to the pool, and propagation goes over it from the back-jump level on.
 
-ghost use Rattle.std.specs.Prelude.{◌≡◌, ◌+◌, ◌<◌, ◌^◌, ◌∷◌, ◌++◌, [], OnOk, length};
-ghost use Rattle.clause_pool.specs.Clauses.{BeginsWith};
+ghost use Rattle.std.specs.Prelude.{◌≡◌, ◌+◌, ◌<◌, ◌^◌, ◌∷◌, ◌++◌, [], OnErr, OnOk, length};
+ghost use Rattle.pair_miter.specs.Adds.{Grows};
 ghost use Rattle.learn_solver.specs.Ready.{IsSolverReady};
 ghost use Rattle.learn_solver.specs.Learned.{IsQuietBelow};
+ghost use Rattle.learn_solver.specs.Search.{AddsAtMost};
 
 use clause_pool::{Lit, Pool};
 use solver_trail::{Trail, longer_pool_fits};
@@ -22,7 +23,8 @@ pub(crate) fn learn(
     ensures added { OnOk result (pool.new.clauses ≡ pool.old.clauses ++ clause.now ∷ []) }
     ensures ready { OnOk result (IsSolverReady trail.new pool.new.clauses) }
     ensures variables { trail.new.assignment.variables ≡ trail.old.assignment.variables }
-    ensures begins { BeginsWith pool.new.clauses pool.old.clauses }
+    ensures err { OnErr result (AddsAtMost pool.old.clauses clause.now pool.new.clauses) }
+    ensures grows { Grows pool.old pool.new }
 {
     let number = pool.add(clause)?;
     longer_pool_fits();

@@ -1,12 +1,12 @@
 //! A search under way.
 
-ghost use Rattle.std.specs.Prelude.{[], ◌≡◌, ◌∷◌, ◌+◌, ◌++◌, ◌<◌, ◌^◌, All, IfOk, OnOk, length};
-ghost use Rattle.clause_pool.specs.Clauses.{BeginsWith};
+ghost use Rattle.std.specs.Prelude.{[], ◌≡◌, ◌∷◌, ◌+◌, ◌++◌, ◌<◌, ◌^◌, All, IfOk, OnErr, OnOk, length};
+ghost use Rattle.pair_miter.specs.Adds.{Grows};
 ghost use Rattle.clause_pool.specs.Proper.{IsProper};
 ghost use Rattle.pair_miter.specs.Log.{EndsFresh};
 ghost use Rattle.learn_solver.specs.Learned.{ChainEndsIn, IsQuietBelow};
 ghost use Rattle.learn_solver.specs.Ready.{IsSolverReady, IsConflictClause};
-ghost use Rattle.learn_solver.specs.Search.{IsSearchReady, Learns, LearnsClause};
+ghost use Rattle.learn_solver.specs.Search.{AddsAtMost, IsSearchReady, Learns, LearnsAtMost, LearnsClause};
 
 use crate::analysis::{Learned, analyze};
 use crate::decider::Decider;
@@ -69,7 +69,8 @@ pub(crate) fn learn_from(
     requires conflict { IsConflictClause search.old.trail pool.old.clauses conflict }
     requires few { length pool.old.clauses + 1 < 2 ^ 32 }
     ensures learned { IfOk result (Learns search.old pool.old.clauses search.new pool.new.clauses) }
-    ensures begins { BeginsWith pool.new.clauses pool.old.clauses }
+    ensures err { OnErr result (LearnsAtMost search.old pool.old.clauses pool.new.clauses) }
+    ensures grows { Grows pool.old pool.new }
 {
     let learned = analyze(alloc, &search.trail, pool, &mut search.marks, conflict)?;
     let Learned {
@@ -101,7 +102,8 @@ fn add(
     requires quiet { IsQuietBelow search.old.trail.assignment back clause.now }
     requires few { length pool.old.clauses + 1 < 2 ^ 32 }
     ensures learned { OnOk result (LearnsClause search.old pool.old.clauses search.new pool.new.clauses) }
-    ensures begins { BeginsWith pool.new.clauses pool.old.clauses }
+    ensures err { OnErr result (LearnsAtMost search.old pool.old.clauses pool.new.clauses) }
+    ensures grows { Grows pool.old pool.new }
 {
     take_in(alloc, search, pool, clause, back)?;
     search.chains.push(chain)?;
@@ -123,7 +125,8 @@ fn take_in(
     ensures added { OnOk result (pool.new.clauses ≡ pool.old.clauses ++ clause.now ∷ []) }
     ensures variables { search.new.trail.assignment.variables ≡ search.old.trail.assignment.variables }
     ensures chains { search.new.chains.items ≡ search.old.chains.items }
-    ensures begins { BeginsWith pool.new.clauses pool.old.clauses }
+    ensures err { OnErr result (AddsAtMost pool.old.clauses clause.now pool.new.clauses) }
+    ensures grows { Grows pool.old pool.new }
 {
     search.decider.renew(alloc, search.marks.met())?;
     search.marks.clear_met();

@@ -1,14 +1,15 @@
 //! The solver.
 
-ghost use Rattle.std.specs.Prelude.{◌≡◌, ◌+◌, ◌<◌, ◌≤◌, ◌^◌, All, IfOk, length};
+ghost use Rattle.std.specs.Prelude.{◌≡◌, ◌+◌, ◌<◌, ◌≤◌, ◌^◌, All, IfOk, OnErr, length};
 ghost use Rattle.net_model.specs.Answer.{Separates};
 ghost use Rattle.clause_pool.specs.Clauses.{BeginsWith};
+ghost use Rattle.pair_miter.specs.Adds.{Grows, GrowsFor};
 ghost use Rattle.clause_pool.specs.Partial.{IsQuiet};
 ghost use Rattle.pair_miter.specs.Variables.{variable_count};
 ghost use Rattle.pair_miter.specs.Miter as spec;
 ghost use Rattle.learn_solver.specs.Decisions.{AreAllSet};
 ghost use Rattle.learn_solver.specs.Search.{IsSearch, miter_clauses};
-ghost use Rattle.learn_solver.specs.Solved.{IsSolved};
+ghost use Rattle.learn_solver.specs.Solved.{HasLearned, IsSolved};
 ghost use Rattle.solver_trail.specs.Assignment.{IsTrail, assigned_literals};
 
 use crate::aim::Aim;
@@ -26,7 +27,7 @@ use solver_trail::Trail;
 use std::alloc::{AllocError, Global};
 
 /// Searches a model of a miter, and learns a clause from each conflict, up to so many. The pool, which holds the clauses of
-/// the miter, then has the learned ones behind them.
+/// the miter, then has the learned ones behind them, after an error too, and grew only where it had no room for them.
 pub fn solve(
     alloc: Global,
     miter: &Miter,
@@ -37,7 +38,9 @@ pub fn solve(
     requires clauses { pool.old.clauses ≡ spec.miter miter.now.circuit miter.now.f miter.now.g }
     requires few { length pool.old.clauses + conflicts < 2 ^ 32 }
     ensures solved { IfOk result (IsSolved miter.now.circuit miter.now.f miter.now.g conflicts pool.new.clauses) }
+    ensures err { OnErr result (HasLearned (spec.miter miter.now.circuit miter.now.f miter.now.g) conflicts pool.new.clauses) }
     ensures begins { BeginsWith pool.new.clauses pool.old.clauses }
+    ensures places { GrowsFor pool.old pool.new pool.new.clauses }
 {
     let mut search = begin(alloc, pool, miter.variables())?;
     run(alloc, miter, &mut search, pool, conflicts)
@@ -54,7 +57,8 @@ fn run(
     requires search { IsSearch miter.now conflicts search.old pool.old.clauses }
     requires few { length (miter_clauses miter.now) + conflicts < 2 ^ 32 }
     ensures solved { IfOk result (IsSolved miter.now.circuit miter.now.f miter.now.g conflicts pool.new.clauses) }
-    ensures begins { BeginsWith pool.new.clauses (miter_clauses miter.now) }
+    ensures err { OnErr result (HasLearned (miter_clauses miter.now) conflicts pool.new.clauses) }
+    ensures grows { Grows pool.old pool.new }
 {
     match sweep(alloc, miter, search, pool, conflicts)? {
         Some(last) => Ok(Solved::Refuted(bare_log(alloc, &mut search.chains, last)?)),
@@ -73,7 +77,8 @@ fn search_on(
     requires search { IsSearch miter.now conflicts search.old pool.old.clauses }
     requires few { length (miter_clauses miter.now) + conflicts < 2 ^ 32 }
     ensures solved { IfOk result (IsSolved miter.now.circuit miter.now.f miter.now.g conflicts pool.new.clauses) }
-    ensures begins { BeginsWith pool.new.clauses (miter_clauses miter.now) }
+    ensures err { OnErr result (HasLearned (miter_clauses miter.now) conflicts pool.new.clauses) }
+    ensures grows { Grows pool.old pool.new }
 {
     let mut restarts = Restarts::new();
     'conflicts: while search.chains.len() < conflicts as usize {

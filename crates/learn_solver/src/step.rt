@@ -1,9 +1,10 @@
 //! One step of a search: a descent, and what it teaches.
 
-ghost use Rattle.std.specs.Prelude.{◌+◌, ◌<◌, ◌^◌, IfOk, length};
-ghost use Rattle.clause_pool.specs.Clauses.{BeginsWith};
+ghost use Rattle.std.specs.Prelude.{◌+◌, ◌<◌, ◌^◌, IfOk, OnErr, length};
+ghost use Rattle.pair_miter.specs.Adds.{Grows};
 ghost use Rattle.pair_miter.specs.Variables.{variable_count};
 ghost use Rattle.learn_solver.specs.Decisions.{IsAim};
+ghost use Rattle.learn_solver.specs.Solved.{HasLearned};
 ghost use Rattle.learn_solver.specs.Search.{IsSearch, EndsStep, miter_clauses};
 
 use crate::aim::Aim;
@@ -36,7 +37,8 @@ pub(crate) fn take_step(
     requires few { length (miter_clauses miter.now) + conflicts < 2 ^ 32 }
     requires aim { IsAim (variable_count miter.now.circuit miter.now.f miter.now.g) aim.now }
     ensures ends { IfOk result (EndsStep miter.now conflicts aim.now search.old search.new pool.new.clauses) }
-    ensures begins { BeginsWith pool.new.clauses (miter_clauses miter.now) }
+    ensures err { OnErr result (HasLearned (miter_clauses miter.now) conflicts pool.new.clauses) }
+    ensures grows { Grows pool.old pool.new }
 {
     match descend(&mut search.trail, pool, &mut search.decider, aim) {
         Propagated::Quiet => Ok(Step::Open),

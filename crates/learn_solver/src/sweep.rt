@@ -1,11 +1,12 @@
 //! A sweep from the faults outward: whether the two copies of a line can differ, line by line. Where they can't, the clauses
 //! that are learned say so, and what stands on them later is short.
 
-ghost use Rattle.std.specs.Prelude.{◌+◌, ◌<◌, ◌^◌, All, IfOk, length};
-ghost use Rattle.clause_pool.specs.Clauses.{BeginsWith};
+ghost use Rattle.std.specs.Prelude.{◌+◌, ◌<◌, ◌^◌, All, IfOk, OnErr, length};
+ghost use Rattle.pair_miter.specs.Adds.{Grows};
 ghost use Rattle.pair_miter.specs.SplitLines.{AreVariables};
 ghost use Rattle.pair_miter.specs.Variables.{variable_count};
 ghost use Rattle.learn_solver.specs.Decisions.{AreBoth};
+ghost use Rattle.learn_solver.specs.Solved.{HasLearned};
 ghost use Rattle.learn_solver.specs.Search.{IsSearch, EndsSweep, miter_clauses};
 
 use crate::aim::{Aim, Both};
@@ -29,7 +30,8 @@ pub(crate) fn sweep(
     requires search { IsSearch miter.now conflicts search.old pool.old.clauses }
     requires few { length (miter_clauses miter.now) + conflicts < 2 ^ 32 }
     ensures ends { IfOk result (EndsSweep miter.now conflicts search.new pool.new.clauses) }
-    ensures begins { BeginsWith pool.new.clauses (miter_clauses miter.now) }
+    ensures err { OnErr result (HasLearned (miter_clauses miter.now) conflicts pool.new.clauses) }
+    ensures grows { Grows pool.old pool.new }
 {
     let lines = miter.split_lines()?;
     try_all(alloc, miter, search, pool, conflicts, lines.as_slice())
@@ -48,7 +50,8 @@ fn try_all(
     requires few { length (miter_clauses miter.now) + conflicts < 2 ^ 32 }
     requires lines { All (AreVariables (variable_count miter.now.circuit miter.now.f miter.now.g)) lines.now }
     ensures ends { IfOk result (EndsSweep miter.now conflicts search.new pool.new.clauses) }
-    ensures begins { BeginsWith pool.new.clauses (miter_clauses miter.now) }
+    ensures err { OnErr result (HasLearned (miter_clauses miter.now) conflicts pool.new.clauses) }
+    ensures grows { Grows pool.old pool.new }
 {
     let variables = miter.variables();
     for copies in lines {
@@ -90,7 +93,8 @@ fn reach(
     requires few { length (miter_clauses miter.now) + conflicts < 2 ^ 32 }
     requires both { AreBoth (variable_count miter.now.circuit miter.now.f miter.now.g) both }
     ensures ends { IfOk result (EndsSweep miter.now conflicts search.new pool.new.clauses) }
-    ensures begins { BeginsWith pool.new.clauses (miter_clauses miter.now) }
+    ensures err { OnErr result (HasLearned (miter_clauses miter.now) conflicts pool.new.clauses) }
+    ensures grows { Grows pool.old pool.new }
 {
     search.decider.turn_to(both.highest);
     let aim = Aim::Both(both);

@@ -2,11 +2,11 @@
 use Rattle.std.proofs.Common.{◌≡◌, ◌+◌, ◌<◌, ◌^◌, refl, sym, ap, ◌∙◌, subst, arith}
 use Rattle.std.specs.Prelude.{Result, Ok, Err, IsErr, OnOk, List, [], ◌∷◌, ◌++◌, length}
 use Rattle.std.proofs.lemmas.List.{append-nil, append_assoc, length-append}
-use Rattle.std.proofs.lemmas.List.Sums.{sum_by-append}
-use Rattle.clause_pool.specs.Clauses.{Clause, Clauses, literal_count}
+use Rattle.clause_pool.specs.Clauses.{Clause, Clauses}
 use Rattle.clause_pool.proofs.Numbered.{begins_through}
-use Rattle.pair_miter.specs.Adds.{Adds, HasRoom, KeepsClauses, SamePlaces, WritesClauses}
+use Rattle.pair_miter.specs.Adds.{Adds, GrowsFor, KeepsClauses, WritesClauses}
 use Rattle.pair_miter.specs.Miter.{tidy}
+use Rattle.pair_miter.proofs.PlaceSteps.{AreFewer, fewer_before, room_more, room_same, room_through}
 use Rattle.pair_miter.proofs.TidyParts.{tidy-append, tidy_none}
 
 -- a call that fails has kept what was there
@@ -19,47 +19,42 @@ on_ok (Ok x) p = p
 on_ok (Err e) p = tt
 
 pub adds_none : (pool : Clauses) → Adds pool pool []
-adds_none pool = record { written = sym (append-nil pool.clauses); in_room = λ room. record { of_clauses = refl; of_literals = refl } }
+adds_none pool = record { written = sym (append-nil pool.clauses); places = room_same pool (pool.clauses ++ []) }
 
--- room for both is room for the first clauses, which take it, and then for the others
-rooms_of : (a b : Clauses) (xs ys : List Clause) → Adds a b xs → HasRoom a (xs ++ ys) → SamePlaces a b × HasRoom b ys
-rooms_of a b xs ys first room =
-    let clauses = length-append xs ys in
-    let literals = sum_by-append length xs ys in
-    let same = first.in_room (record { enough_clauses = omega (arith, room.enough_clauses, clauses); enough_literals = omega (arith, room.enough_literals, literals) }) in
-    let more = ap length first.written ∙ length-append a.clauses xs in
-    let more_literals = ap literal_count first.written ∙ sum_by-append length a.clauses xs in (
-      same,
-      record {
-        enough_clauses = omega (arith, room.enough_clauses, clauses, same.of_clauses, more);
-        enough_literals = omega (arith, room.enough_literals, literals, same.of_literals, more_literals);
-      },
-    )
+-- what stands after the first clauses needs room behind them
+behind : (a b : Clauses) (xs ys : List Clause) → b.clauses ≡ a.clauses ++ xs → b.clauses ++ ys ≡ a.clauses ++ (xs ++ ys)
+behind a b xs ys written = ap (λ cs. cs ++ ys) written ∙ append_assoc a.clauses xs ys
+
+rooms_both : (a b c : Clauses) (xs ys : List Clause) → Adds a b xs → GrowsFor b c (b.clauses ++ ys) → GrowsFor a c (a.clauses ++ (xs ++ ys))
+rooms_both a b c xs ys first second =
+    let all = behind a b xs ys first.written in
+    let fewer = subst (AreFewer (a.clauses ++ xs)) (append_assoc a.clauses xs ys) (fewer_before (a.clauses ++ xs) ys) in
+    room_through a b c (a.clauses ++ xs) (a.clauses ++ (xs ++ ys)) fewer first.places (subst (GrowsFor b c) all second)
 
 pub adds_both : (a b c : Clauses) (xs ys : List Clause) → Adds a b xs → Adds b c ys → Adds a c (xs ++ ys)
 adds_both a b c xs ys first second = record {
-  written = second.written ∙ (ap (λ cs. cs ++ ys) first.written ∙ append_assoc a.clauses xs ys);
-  in_room = λ room. let rooms = rooms_of a b xs ys first room in let then = second.in_room rooms.1 in record { of_clauses = then.of_clauses ∙ rooms.0.of_clauses; of_literals = then.of_literals ∙ rooms.0.of_literals };
+  written = second.written ∙ behind a b xs ys first.written;
+  places = rooms_both a b c xs ys first second.places;
 }
 
 -- what is added to is kept
 pub adds_keeps : (old new : Clauses) (clauses : List Clause) → Adds old new clauses → KeepsClauses old new clauses
-adds_keeps old new clauses adds = record { begins = record { more = clauses; are = adds.written }; in_room = adds.in_room }
+adds_keeps old new clauses adds = record { begins = record { more = clauses; are = adds.written }; places = adds.places }
 
 pub keeps_all : (pool : Clauses) (clauses : List Clause) → KeepsClauses pool pool clauses
-keeps_all pool clauses = record { begins = record { more = []; are = sym (append-nil pool.clauses) }; in_room = λ room. record { of_clauses = refl; of_literals = refl } }
+keeps_all pool clauses = record { begins = record { more = []; are = sym (append-nil pool.clauses) }; places = room_same pool (pool.clauses ++ clauses) }
 
 -- where the first clauses are written and the others fail, or the first fail already
 pub keeps_both : (a b c : Clauses) (xs ys : List Clause) → Adds a b xs → KeepsClauses b c ys → KeepsClauses a c (xs ++ ys)
 keeps_both a b c xs ys first second = record {
   begins = begins_through c.clauses b.clauses a.clauses second.begins (record { more = xs; are = first.written });
-  in_room = λ room. let rooms = rooms_of a b xs ys first room in let then = second.in_room rooms.1 in record { of_clauses = then.of_clauses ∙ rooms.0.of_clauses; of_literals = then.of_literals ∙ rooms.0.of_literals };
+  places = rooms_both a b c xs ys first second.places;
 }
 
 pub keeps_first : (a b : Clauses) (xs ys : List Clause) → KeepsClauses a b xs → KeepsClauses a b (xs ++ ys)
 keeps_first a b xs ys first = record {
   begins = first.begins;
-  in_room = λ room. first.in_room (record { enough_clauses = omega (arith, room.enough_clauses, length-append xs ys); enough_literals = omega (arith, room.enough_literals, sum_by-append length xs ys) });
+  places = room_more a b (a.clauses ++ xs) (a.clauses ++ (xs ++ ys)) (subst (AreFewer (a.clauses ++ xs)) (append_assoc a.clauses xs ys) (fewer_before (a.clauses ++ xs) ys)) first.places;
 }
 
 -- The first of some clauses, and those that are left.

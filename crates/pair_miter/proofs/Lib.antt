@@ -19,6 +19,7 @@ pub mod MiterParts
 pub mod Examples
 pub mod TidyParts
 pub mod MarkSteps
+pub mod PlaceSteps
 pub mod AddSteps
 pub mod OperandSteps
 pub mod RowParts

@@ -5,7 +5,7 @@ ghost use Rattle.net_model.specs.Circuit.{IsCircuit};
 ghost use Rattle.net_model.specs.Fault.{IsFaultOf};
 ghost use Rattle.net_model.specs.Scope.{reached_positions};
 ghost use Rattle.pair_miter.specs.declared.side.Side.TheVariants.{First};
-ghost use Rattle.pair_miter.specs.Adds.{HasRoom, SamePlaces, WritesClauses};
+ghost use Rattle.pair_miter.specs.Adds.{GrowsFor, WritesClauses};
 ghost use Rattle.pair_miter.specs.Miter.{differences_part, lines_part, miter, tidy};
 ghost use Rattle.pair_miter.specs.MiterView.{miter_with};
 ghost use Rattle.pair_miter.specs.Variables.{difference_variable, first_helper, variable_count};
@@ -18,8 +18,8 @@ use clause_pool::Pool;
 use net_model::{Circuit, Fault};
 use std::alloc::{AllocError, Global};
 
-/// Builds the miter of two faults of a circuit: an empty pool then has its clauses. The pool grows only where it has too
-/// little room, and it is empty again after an error.
+/// Builds the miter of two faults of a circuit: an empty pool then has its clauses. After an error it is empty again. In both
+/// cases it has its old places, and grew only where they were too few, to no more than the miter needs.
 pub fn build<'a>(
     alloc: Global,
     circuit: &'a Circuit,
@@ -33,7 +33,7 @@ pub fn build<'a>(
     ensures miter { IfOk result (λ built. built ≡ miter_with circuit.now f.now g.now) }
     ensures clauses { OnOk result (pool.new.clauses ≡ miter circuit.now f.now g.now) }
     ensures err { OnErr result (pool.new.clauses ≡ []) }
-    ensures in_room { HasRoom pool.old (miter circuit.now f.now g.now) → SamePlaces pool.old pool.new }
+    ensures places { GrowsFor pool.old pool.new (miter circuit.now f.now g.now) }
 {
     let empty = pool.mark();
     let built = write_miter(alloc, circuit, *f, *g, pool);

@@ -7,5 +7,6 @@ pub mod Reached
 pub mod Propagation
 pub mod TreeRefusal
 pub mod LogRefusal
+pub mod PoolEnds
 pub mod Walk
 pub mod Laws

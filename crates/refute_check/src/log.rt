@@ -1,14 +1,16 @@
 //! The check of a log of resolutions.
 
-ghost use Rattle.std.specs.Prelude.{◌≡◌, ◌≢◌, ◌↔◌, ◌+◌, ◌<◌, ◌≤◌, ◌^◌, [], ◌∷◌, ◌++◌, All, IfOk, IsTrue, OnOk, IsErrOf, ℕ, List, length};
+ghost use Rattle.std.specs.Prelude.{◌≡◌, ◌≢◌, ◌↔◌, ◌+◌, ◌-◌, ◌<◌, ◌≤◌, ◌^◌, [], ◌∷◌, ◌++◌, All, IfOk, IsTrue, OnErr, OnOk, IsErrOf, ℕ, List, length};
 ghost use Rattle.clause_pool.specs.Clauses.{BeginsWith, Clause as PoolClause};
 ghost use Rattle.clause_pool.specs.LiteralCode.{code_of};
 ghost use Rattle.clause_pool.specs.Proper.{HasVariablesUpTo};
+ghost use Rattle.pair_miter.specs.Adds.{Grows, GrowsFor};
 ghost use Rattle.pair_miter.specs.Log.{EndsFresh};
 ghost use Rattle.pair_miter.specs.Miter as spec;
 ghost use Rattle.refute_check.specs.declared.refusal.Refusal.{Refusal};
 ghost use Rattle.refute_check.specs.declared.refusal.EvidenceKind.{EvidenceKind};
 ghost use Rattle.refute_check.specs.LogRefusal.{ChainStops, EndsAs, HasRightLength, IsRightLog, IsRuleFor, LogRefused};
+ghost use Rattle.refute_check.specs.PoolEnds.{HasEndsOf, HasSomeEnds, right_chains};
 ghost use Rattle.refute_check.specs.Propagation.{IsPropagatorReady, IsReadyFor};
 ghost use Rattle.refute_check.specs.Reached.{IsReached};
 
@@ -23,7 +25,8 @@ use std::alloc::{AllocError, Global};
 
 /// Checks the log of evidence over the clauses of a miter, with a budget of so many clauses that aren't empty. It is accepted
 /// exactly where it is what this kind of evidence needs; else its number of chains is answered, or the first chain that
-/// breaks a rule. The ends of its chains are added to the pool.
+/// breaks a rule. The ends of the chains before that one, or before the last of a right log, then stand in the pool behind the
+/// miter's clauses, and after want of memory those of some first chains. The pool grew only where it had no room for them.
 pub fn check_log(
     alloc: Global,
     miter: &Miter,
@@ -38,6 +41,10 @@ pub fn check_log(
     ensures right { OnOk result (IsRightLog kind pool.old.clauses conflicts log.now) }
     ensures refused { (refusal : Refusal) → IsErrOf result (CheckFault.Refused refusal) → LogRefused kind pool.old.clauses conflicts log.now refusal }
     ensures begins { BeginsWith pool.new.clauses pool.old.clauses }
+    ensures ok { OnOk result (HasEndsOf pool.old.clauses log.now (length log.now - 1) pool.new.clauses) }
+    ensures stopped { (refusal : Refusal) → IsErrOf result (CheckFault.Refused refusal) → HasEndsOf pool.old.clauses log.now (right_chains refusal) pool.new.clauses }
+    ensures err { OnErr result (HasSomeEnds pool.old.clauses log.now pool.new.clauses) }
+    ensures places { GrowsFor pool.old pool.new pool.new.clauses }
 {
     let chains = log.as_slice();
     if !has_right_length(kind, chains, conflicts) {
@@ -74,7 +81,10 @@ fn check_chains(
     requires few { length pool.old.clauses + length chains.now ≤ 2 ^ 32 }
     ensures right { OnOk result ((conflicts : ℕ) → HasRightLength kind conflicts chains.now → IsRightLog kind pool.old.clauses conflicts chains.now) }
     ensures refused { (conflicts : ℕ) (refusal : Refusal) → HasRightLength kind conflicts chains.now → IsErrOf result (CheckFault.Refused refusal) → LogRefused kind pool.old.clauses conflicts chains.now refusal }
-    ensures begins { BeginsWith pool.new.clauses pool.old.clauses }
+    ensures ok { OnOk result (HasEndsOf pool.old.clauses chains.now (length chains.now - 1) pool.new.clauses) }
+    ensures stopped { (refusal : Refusal) → IsErrOf result (CheckFault.Refused refusal) → HasEndsOf pool.old.clauses chains.now (right_chains refusal) pool.new.clauses }
+    ensures err { OnErr result (HasSomeEnds pool.old.clauses chains.now pool.new.clauses) }
+    ensures grows { Grows pool.old pool.new }
 {
     for (at, chain) in chains.iter().enumerate() {
         let end = end_of(alloc, reached, pool, chain, at)?;

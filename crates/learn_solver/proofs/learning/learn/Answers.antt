@@ -1,9 +1,11 @@
-use Rattle.std.proofs.Common.{◌∙◌, ◌∷◌, ◌++◌, [], length, ap, sym, subst, arith}
+use Rattle.std.proofs.Common.{◌∙◌, ◌∷◌, ◌++◌, [], length, ap, inl, inr, sym, subst, arith}
 use Rattle.std.proofs.lemmas.List.{length_push}
 use Rattle.std.proofs.lemmas.Result.{on_ok_weaker}
-use Rattle.clause_pool.specs.Clauses.{numbered_clause}
+use Rattle.clause_pool.specs.Clauses.{Clauses, numbered_clause}
 use Rattle.clause_pool.specs.Proper.{IsProper}
 use Rattle.clause_pool.proofs.Numbered.{begins_appended, numbered_last, same_clause}
+use Rattle.pair_miter.specs.Adds.{Grows}
+use Rattle.pair_miter.proofs.PlaceSteps.{grows_added, grows_none}
 use Rattle.solver_trail.specs.Trail.{Fits}
 use Rattle.learn_solver.proofs.LearnSteps.{ready_learned}
 use Rattle.learn_solver.proofs.learning.learn.Goals as goal
@@ -36,3 +38,11 @@ returns-clause-ready c =
 
 pub attach-requires-clause-from : goal.attach-requires-clause-from
 attach-requires-clause-from c = omega (arith, c.in_ok-number.ensures.number, ap length c.in_ok-number.ensures.clauses, length_push c.args.pool.now.clauses c.args.clause.now)
+
+pub returns-clause-grows : goal.returns-clause-grows
+returns-clause-grows c =
+    let e = c.in_ok-number.ensures in
+    grows_added c.args.pool.now c.add.new.self c.args.clause.now e.clauses e.spare_clauses e.spare_literals
+
+pub returns-in_err-number-clause-grows : goal.returns-in_err-number-clause-grows
+returns-in_err-number-clause-grows c = subst (Grows c.args.pool.now) (sym c.in_err-number.ensures.err) (grows_none c.args.pool.now)

@@ -6,15 +6,18 @@ use Rattle.pair_miter.specs.Fresh.{IsFresh}
 use Rattle.pair_miter.specs.Log.{EndsFresh}
 use Rattle.learn_solver.specs.Learned.{IsAsserting}
 use Rattle.learn_solver.proofs.LearnSteps.{learned_fresh, quiet_below}
-use Rattle.learn_solver.proofs.Solving.{ends_named, learned_above, named_at, refutes}
+use Rattle.learn_solver.proofs.Searching.{on_error}
+use Rattle.learn_solver.proofs.Solving.{ends_named, learned_above, learned_within, named_at, refutes}
 use Rattle.learn_solver.proofs.search.learn_from.Goals as goal
 
 pub returns-then-is_empty-clause-learned : goal.returns-then-is_empty-clause-learned
 returns-then-is_empty-clause-learned c = λ first conflicts learning few.
     let learned = c.in_ok-learned.learned in
     let is = c.in_ok-learned.ensures.learned in
-    let none : length learned.clause.items ≡ 0 = omega (arith, eqb-true (vec_len learned.clause) 0 (sym c.is_empty.ensures ∙ c.if-is_empty.true), learned.clause.ok.0) in
-    refutes first c.args.pool.now.clauses c.args.search.now.chains.items learning learned.chain learned.clause.items is.ends_in is.bare (nil_from_length learned.clause.items none) conflicts few
+    let none : length learned.clause.items ≡ 0 = omega (arith, eqb-true (vec_len learned.clause) 0 (sym c.is_empty.ensures ∙ c.if-is_empty.true), learned.clause.ok.0) in (
+      refutes first c.args.pool.now.clauses c.args.search.now.chains.items learning learned.chain learned.clause.items is.ends_in is.bare (nil_from_length learned.clause.items none) conflicts few,
+      learned_within first c.args.pool.now.clauses c.args.search.now.chains.items conflicts learning few,
+    )
 
 pub add-requires-clause-prepared : goal.add-requires-clause-prepared
 add-requires-clause-prepared c = record {
@@ -54,3 +57,7 @@ fresh_end c =
 
 pub add-requires-clause-fresh : goal.add-requires-clause-fresh
 add-requires-clause-fresh c = rw (c.set_at.ensures, c.as_slice.ensures.value) (fresh_end c)
+
+pub returns-in_err-learned-clause-err : goal.returns-in_err-learned-clause-err
+returns-in_err-learned-clause-err c = on_error c.from_residual.result (λ first conflicts learning few.
+    learned_within first c.args.pool.now.clauses c.args.search.now.chains.items conflicts learning (omega (arith, few)))

@@ -5,7 +5,9 @@ use Rattle.clause_pool.specs.Proper.{IsProper}
 use Rattle.clause_pool.proofs.Numbered.{begins_itself}
 use Rattle.learn_solver.specs.Learning.{IsLearning}
 use Rattle.learn_solver.specs.Search.{miter_clauses}
-use Rattle.learn_solver.proofs.Solving.{learning_none}
+use Rattle.learn_solver.specs.Solved.{HasLearned}
+use Rattle.learn_solver.proofs.Searching.{on_error}
+use Rattle.learn_solver.proofs.Solving.{learned_within, learning_none}
 use Rattle.learn_solver.proofs.solver.solve.Goals as goal
 
 pub begin-requires-clause-proper : goal.begin-requires-clause-proper
@@ -22,3 +24,8 @@ run-requires-clause-search c =
       few = omega (arith, ap length e.none);
       begins = subst (λ cs. BeginsWith cs first) (sym c.requires.clauses) (begins_itself first);
     }
+
+pub returns-in_err-search-clause-err : goal.returns-in_err-search-clause-err
+returns-in_err-search-clause-err c =
+    let first = miter_clauses c.args.miter.now in
+    on_error c.from_residual.result (subst (HasLearned first c.args.conflicts) (sym c.requires.clauses) (learned_within first first [] c.args.conflicts (learning_none first) (omega arith)))

@@ -1,5 +1,5 @@
 use Rattle.std.proofs.Common.{refl, sym, subst}
-use Rattle.clause_pool.proofs.Numbered.{begins_through}
+use Rattle.pair_miter.proofs.PlaceSteps.{grows_none}
 use Rattle.learn_solver.specs.Decisions.{IsAim}
 use Rattle.learn_solver.specs.Descent.{IsFoundAt}
 use Rattle.learn_solver.specs.Search.{Learns}
@@ -36,7 +36,7 @@ returns-in-None-clause-ends c =
     let new = c.learn_from.new.search in
     let more = c.learn_from.new.pool.clauses in
     let learns = subst (Learns mid clauses new more) c.in-None.is c.in_ok-learn_from-in-Conflict.ensures.learned in
-    (search_more c.args.miter.now c.args.conflicts old clauses c.requires.search mid new more c.descend.ensures.variables refl learns c.learn_from.ensures.begins c.requires.left, learns.count)
+    (search_more c.args.miter.now c.args.conflicts old clauses c.requires.search mid new more c.descend.ensures.variables refl learns c.learn_from.ensures.grows.begins c.requires.left, learns.count)
 
 pub returns-in-Some-clause-ends : goal.returns-in-Some-clause-ends
 returns-in-Some-clause-ends c =
@@ -46,11 +46,5 @@ returns-in-Some-clause-ends c =
     let search = c.requires.search in
     subst (Learns mid clauses c.learn_from.new.search c.learn_from.new.pool.clauses) c.in-Some.is c.in_ok-learn_from-in-Conflict.ensures.learned _ _ search.learning search.few
 
-pub returns-in-Some-clause-begins : goal.returns-in-Some-clause-begins
-returns-in-Some-clause-begins c = begins_through _ _ _ c.learn_from.ensures.begins c.requires.search.begins
-
-pub returns-in-None-clause-begins : goal.returns-in-None-clause-begins
-returns-in-None-clause-begins c = begins_through _ _ _ c.learn_from.ensures.begins c.requires.search.begins
-
-pub returns-in_err-learn_from-in-Conflict-clause-begins : goal.returns-in_err-learn_from-in-Conflict-clause-begins
-returns-in_err-learn_from-in-Conflict-clause-begins c = begins_through _ _ _ c.learn_from.ensures.begins c.requires.search.begins
+pub returns-in-Quiet-clause-grows : goal.returns-in-Quiet-clause-grows
+returns-in-Quiet-clause-grows c = grows_none c.args.pool.now

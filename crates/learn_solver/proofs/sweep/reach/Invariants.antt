@@ -1,5 +1,9 @@
+use Rattle.pair_miter.specs.Adds.{Grows}
 use Rattle.learn_solver.specs.Search.{IsSearch}
 use Rattle.learn_solver.proofs.sweep.reach.Given as goal
 
 abbrev pub invariant-loop-turn : goal.invariant-loop-turn
-invariant-loop-turn l = IsSearch l.miter l.conflicts l.search l.pool.clauses
+invariant-loop-turn l = record {
+  search : IsSearch l.miter l.conflicts l.search l.pool.clauses;
+  grows : Grows l.initial.pool l.pool;
+}

@@ -1,10 +1,11 @@
-use Rattle.std.proofs.Common.{◌≡◌, ◌∙◌, ◌<◌, ◌+◌, ◌++◌, ◌∷◌, [], length, rules, sym, ap, subst, arith}
+use Rattle.std.proofs.Common.{◌≡◌, ◌∙◌, ◌<◌, ◌+◌, ◌-◌, ◌++◌, ◌∷◌, [], length, min, rules, sym, ap, subst, arith}
 use Rattle.std.specs.Prelude.{All, Result, Err}
 use Rattle.std.proofs.lemmas.List.{length-append}
 use Rattle.std.proofs.lemmas.List.Elements.{All-append, All-cons, All-nil}
 use Rattle.clause_pool.specs.LiteralCode.{code_of}
-use Rattle.clause_pool.specs.Clauses.{BeginsWith, Clause, Clauses}
-use Rattle.clause_pool.proofs.Numbered.{begins_itself, begins_further}
+use Rattle.clause_pool.specs.Clauses.{Clause, Clauses}
+use Rattle.pair_miter.specs.Adds.{Grows}
+use Rattle.pair_miter.proofs.PlaceSteps.{grows_added, grows_none, grows_through}
 use Rattle.clause_pool.specs.Proper.{HasVariablesUpTo}
 use Rattle.refute_check.specs.declared.refusal.CheckFault.{CheckFault}
 use Rattle.refute_check.specs.declared.refusal.CheckFault.TheVariants.{Refused}
@@ -14,14 +15,16 @@ use Rattle.pair_miter.specs.Resolution.{AreAlike}
 use Rattle.refute_check.specs.Propagation.{IsReadyFor}
 use Rattle.refute_check.proofs.IndexLemmas.{places_for}
 use Rattle.refute_check.proofs.Chains.{before_first, first_ends, right_log}
-use Rattle.refute_check.proofs.LogSteps.{end_within, next_chain, rule_told, refused_step, refused_end, right_step, alike_next}
+use Rattle.refute_check.specs.PoolEnds.{HasEndsOf}
+use Rattle.refute_check.proofs.LogSteps.{ends_none, end_within, held_next, on_error, stopped_end, stopped_step, next_chain, rule_told, refused_step, refused_end, right_step, alike_next}
 use Rattle.refute_check.proofs.log.check_chains.Goals as goal
 use Rattle.refute_check.proofs.log.check_chains.Goals.{then-not-last+in_ok-add+in_ok-take_in, else-not-last}
 
 pub loop-at-init : goal.loop-at-init
 loop-at-init c = record {
   before = before_first c.args.kind c.args.pool.now.clauses c.args.chains.now;
-  begins = begins_itself c.args.pool.now.clauses;
+  grows = grows_none c.args.pool.now;
+  held = subst (λ count. HasEndsOf c.args.pool.now.clauses c.args.chains.now count c.args.pool.now.clauses) (let none : 0 ≡ min 0 (length c.args.chains.now - 1) = omega arith in none) (ends_none c.args.kind c.args.pool.now.clauses c.args.chains.now);
   alike = λ _. subst (λ ends. AreAlike (c.args.pool.now.clauses ++ ends) c.args.pool.now.clauses) (sym (first_ends c.args.kind c.args.pool.now.clauses c.args.chains.now)) (alike_first c.args.pool.now.clauses);
   within = c.requires.clauses;
   few = omega arith;
@@ -52,12 +55,28 @@ returns-in-Some-clause-refused c conflicts refusal long e =
     (let w : ◌≡◌ {A = Result (Unit {0}) CheckFault} (Err (Refused (record { kind = c.in-Some.rule; step = c.loop-at.at }))) (Err (Refused refusal)) = sym (ap Err c.refused.ensures) ∙ e in cc) in
     refused_end n c.in_ok-end.end.literals c.in_ok-end.ensures.ended conflicts refusal long c.in-Some.rule some.0 some.1 (sym is)
 
-pub returns-in_err-add-clause-begins : goal.returns-in_err-add-clause-begins
-returns-in_err-add-clause-begins c = subst (λ (p : Clauses). BeginsWith p.clauses c.args.pool.now.clauses) (sym c.in_err-add.ensures.err) c.loop-at.invariant.begins
+pub returns-in_err-end-clause-stopped : goal.returns-in_err-end-clause-stopped
+returns-in_err-end-clause-stopped c refusal e =
+    let n = next_chain c.loop-at-test.true c.index-chains-at.is c.loop-at.invariant.before c.loop-at.invariant.alike in
+    let own = c.in_err-end.ensures.refused refusal (search rules) in
+    stopped_step n refusal own.0 own.1
 
-pub returns-in_err-take_in-clause-begins : goal.returns-in_err-take_in-clause-begins
-returns-in_err-take_in-clause-begins c =
-    subst (λ cs. BeginsWith cs c.args.pool.now.clauses) (sym c.in_ok-add.ensures.clauses) (begins_further c.loop-at.pool.clauses c.args.pool.now.clauses (c.as_slice.result.now ∷ []) c.loop-at.invariant.begins)
+pub returns-in-Some-clause-stopped : goal.returns-in-Some-clause-stopped
+returns-in-Some-clause-stopped c refusal e =
+    let n = next_chain c.loop-at-test.true c.index-chains-at.is c.loop-at.invariant.before c.loop-at.invariant.alike in
+    let last = is_last c.args.chains.now c.loop-at.at in
+    let some = rule_told c.args.kind last c.loop-at.pool.clauses c.index-chains-at.result c.in_ok-end.end.literals c.in-Some.is c.wrong_end.ensures.rule in
+    let is : record { kind = c.in-Some.rule; step = c.loop-at.at } ≡ refusal =
+    (let w : ◌≡◌ {A = Result (Unit {0}) CheckFault} (Err (Refused (record { kind = c.in-Some.rule; step = c.loop-at.at }))) (Err (Refused refusal)) = sym (ap Err c.refused.ensures) ∙ e in cc) in
+    stopped_end n last c.in_ok-end.end.literals c.in-Some.rule some.1 refusal (sym is)
+
+pub returns-in_err-add-clause-grows : goal.returns-in_err-add-clause-grows
+returns-in_err-add-clause-grows c = subst (Grows c.args.pool.now) (sym c.in_err-add.ensures.err) c.loop-at.invariant.grows
+
+pub returns-in_err-take_in-clause-grows : goal.returns-in_err-take_in-clause-grows
+returns-in_err-take_in-clause-grows c =
+    let e = c.in_ok-add.ensures in
+    grows_through c.args.pool.now c.loop-at.pool c.add.new.self c.loop-at.invariant.grows (grows_added c.loop-at.pool c.add.new.self c.as_slice.result.now e.clauses e.spare_clauses e.spare_literals)
 
 pub loop-at-preserved : goal.loop-at-preserved
 loop-at-preserved c =
@@ -73,7 +92,14 @@ loop-at-preserved c =
           let bound = end_within c.args.variables pool c.index-chains-at.result literals c.loop-at.invariant.within c.in_ok-end.ensures.ended in
           record {
             before = next;
-            begins = subst (λ cs. BeginsWith cs clauses) (sym added) (begins_further pool clauses (literals ∷ []) c.loop-at.invariant.begins);
+            grows =
+                let e = w.in_ok-add.ensures in
+                subst (Grows c.args.pool.now) (sym w.pool-is)
+                (grows_through c.args.pool.now c.loop-at.pool w.add.new.self c.loop-at.invariant.grows (grows_added c.loop-at.pool w.add.new.self w.as_slice.result.now e.clauses e.spare_clauses e.spare_literals));
+            held =
+                let more : c.loop-at.at + 1 ≡ min (c.loop-at.at + 1) (length c.args.chains.now - 1) = omega (arith, w.if-not-last.true, c.loop-at-test.true) in
+                subst (λ count. HasEndsOf clauses c.args.chains.now count c.if-not-last.pool.clauses) more
+                (record { ends = next.ends; are = next.are; alike = subst (AreAlike (clauses ++ next.ends)) (sym added) (alike_next n literals c.in_ok-end.ensures.ended right) });
             alike = λ _. subst (AreAlike (clauses ++ next.ends)) (sym added) (alike_next n literals c.in_ok-end.ensures.ended right);
             within = subst (All (HasVariablesUpTo c.args.variables)) (sym added)
                 (All-append (HasVariablesUpTo c.args.variables) pool (literals ∷ []) c.loop-at.invariant.within
@@ -91,7 +117,10 @@ loop-at-preserved c =
           let last : c.loop-at.at + 1 ≡ length c.args.chains.now = w.if-not-last.false in
           record {
             before = next;
-            begins = subst (λ cs. BeginsWith cs clauses) (sym kept) c.loop-at.invariant.begins;
+            grows = subst (Grows c.args.pool.now) (sym w.pool-is) c.loop-at.invariant.grows;
+            held =
+                let same : min c.loop-at.at (length c.args.chains.now - 1) ≡ min (c.loop-at.at + 1) (length c.args.chains.now - 1) = omega (arith, last) in
+                subst (λ count. HasEndsOf clauses c.args.chains.now count c.if-not-last.pool.clauses) same (subst (HasEndsOf clauses c.args.chains.now (min c.loop-at.at (length c.args.chains.now - 1))) (sym kept) c.loop-at.invariant.held);
             alike = λ h. absurd (omega (arith, h, last));
             within = subst (All (HasVariablesUpTo c.args.variables)) (sym kept) c.loop-at.invariant.within;
             few = omega (arith, ap length kept, c.loop-at.invariant.few);
@@ -107,3 +136,23 @@ returns-clause-right c = λ conflicts long.
     let chains = c.args.chains.now in
     let all : c.loop-at.at ≡ length chains = omega (arith, c.loop-at-test.false, c.loop-at.auto.at-end) in
     right_log c.args.kind c.args.pool.now.clauses conflicts chains long (subst (AreRightBefore c.args.kind c.args.pool.now.clauses chains) all c.loop-at.invariant.before)
+
+pub returns-clause-ok : goal.returns-clause-ok
+returns-clause-ok c =
+    let chains = c.args.chains.now in
+    let all : min c.loop-at.at (length chains - 1) ≡ length chains - 1 = omega (arith, c.loop-at-test.false, c.loop-at.auto.at-end) in
+    subst (λ count. HasEndsOf c.args.pool.now.clauses chains count c.loop-at.pool.clauses) all c.loop-at.invariant.held
+
+pub returns-in_err-add-clause-err : goal.returns-in_err-add-clause-err
+returns-in_err-add-clause-err c =
+    let count = min c.loop-at.at (length c.args.chains.now - 1) in
+    on_error c.from_residual-in_err-add.result (count, subst (λ (p : Clauses). HasEndsOf c.args.pool.now.clauses c.args.chains.now count p.clauses) (sym c.in_err-add.ensures.err) c.loop-at.invariant.held)
+
+pub returns-in_err-take_in-clause-err : goal.returns-in_err-take_in-clause-err
+returns-in_err-take_in-clause-err c =
+    let pool = c.loop-at.pool.clauses in
+    let literals = c.in_ok-end.end.literals in
+    let n = next_chain c.loop-at-test.true c.index-chains-at.is c.loop-at.invariant.before c.loop-at.invariant.alike in
+    let right = rule_told c.args.kind (is_last c.args.chains.now c.loop-at.at) pool c.index-chains-at.result literals c.in_default.is c.wrong_end.ensures.rule in
+    let added : c.add.new.self.clauses ≡ pool ++ literals ∷ [] = c.in_ok-add.ensures.clauses ∙ ap (λ (l : Clause). pool ++ l ∷ []) c.as_slice.ensures.value in
+    on_error c.from_residual-in_err-take_in.result (c.loop-at.at + 1, subst (HasEndsOf c.args.pool.now.clauses c.args.chains.now (c.loop-at.at + 1)) (sym added) (held_next n literals c.in_ok-end.ensures.ended right))
