@@ -2,17 +2,19 @@
 
 ghost use Rattle.std.specs.Prelude.{◌≡◌, ◌+◌, ◌<◌, ◌≤◌, ◌^◌, length, map, All, IfOk, OnOk};
 ghost use Rattle.std.specs.List.{range_with_len};
+ghost use Rattle.net_model.specs.Answer.{IsAnswer};
 ghost use Rattle.net_model.specs.Circuit.{IsCircuit};
 ghost use Rattle.net_model.specs.ClassTable.{class_count, representative};
 ghost use Rattle.net_model.specs.FaultList.{fault_count};
-ghost use Rattle.answer_numbers.specs.AnswerNumbers.{numbered_vectors};
+ghost use Rattle.net_model.specs.declared.fault.Fault.TheVariants.{Free};
+ghost use Rattle.answer_numbers.specs.AnswerNumbers.{numbered_vectors, vector_in};
 ghost use Rattle.table_dicts.specs.Setting.{IsSetting};
 ghost use Rattle.adaptive_tree.specs.Numbering.{AreClassNumbers};
 ghost use Rattle.adaptive_tree.specs.CircuitNumbers.{AreLaneNumbers, AddsLane, AddsLanes, AreLeadsNumbered};
 
 use crate::class_numbers::ClassNumbers;
 use answer_numbers::AnswerNumbers;
-use net_model::Bits;
+use packed_bits::PackedBits;
 use std::alloc::{AllocError, Global};
 use table_dicts::{Setting, fill_block};
 use word_sim::{Block, LANES};
@@ -85,12 +87,13 @@ fn add_lane(
     requires few { length numbers.old.firsts.items + 1 < 2 ^ 32 }
     ensures { OnOk result (AddsLane source.now lane numbers.old numbers.new) }
 {
+    let free = source.free_answer(alloc, lane)?;
     let mut found = LaneNumbers {
         numbers: Vec::with_capacity(alloc, leads)?,
         answers: Vec::new(alloc),
     };
     for place in 0..leads {
-        found.add(alloc, source, lane, place)?;
+        found.add(source, lane, place, &free)?;
     }
     numbers.add_pattern(found.numbers.as_slice(), &mut found.answers)?;
     Ok(())
@@ -100,28 +103,29 @@ fn add_lane(
 #[derive(Drop)]
 pub(crate) struct LaneNumbers {
     pub(crate) numbers: Vec<u32>,
-    pub(crate) answers: Vec<Bits>,
+    pub(crate) answers: Vec<PackedBits>,
 }
 
 impl LaneNumbers {
-    // Adds the next place. Numbers go up in order of the lowest place that gives each answer.
+    // Adds the next place, by the fault-free answer. Numbers go up in order of the lowest place that gives each answer.
     fn add(
         &mut self,
-        alloc: Global,
         source: &AnswerNumbers,
         lane: u32,
         place: usize,
+        free: &PackedBits,
     ) -> Result<(), AllocError>
         requires circuit { IsCircuit source.now.circuit }
         requires lane { lane < length (numbered_vectors source.now) }
         requires place { place < length source.now.leads }
+        requires free { IsAnswer source.now.circuit Free (vector_in source.now lane) free.now }
         requires numbers { AreLaneNumbers source.now lane place self.old }
         ensures { OnOk result (AreLaneNumbers source.now lane (place + 1) self.new) }
     {
         let number = source.number(lane, place);
         self.numbers.push(number)?;
         if number as usize == self.answers.len() {
-            self.answers.push(source.answer(alloc, lane, place)?)?;
+            self.answers.push(source.answer_over(lane, place, free)?)?;
         }
         Ok(())
     }

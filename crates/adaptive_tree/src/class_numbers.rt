@@ -3,7 +3,7 @@
 ghost use Rattle.std.specs.Prelude.{◌≡◌, ◌<◌, ◌∷◌, ◌++◌, [], length, slice_index_or, IfOk, OnOk};
 ghost use Rattle.adaptive_tree.specs.Numbering.{AreClassNumbers, class_number, own_numbers, number_for, numbered_bits};
 
-use net_model::Bits;
+use packed_bits::PackedBits;
 use std::alloc::{AllocError, Global};
 use std::marker::Model;
 
@@ -52,7 +52,7 @@ pub(crate) struct ClassNumbers {
     // All answers, and the pattern of each. The place of an answer is its number, unless it is class 0's. The first one stands
     // for nothing.
     pub(crate) patterns: Vec<u32>,
-    pub(crate) answers: Vec<Bits>,
+    pub(crate) answers: Vec<PackedBits>,
     // The numbers of each class that aren't 0, at most one for each pattern.
     pub(crate) own: Vec<OwnNumbers>,
 }
@@ -102,7 +102,7 @@ impl ClassNumbers {
     }
 
     /// The answer to a pattern that has a number.
-    pub(crate) fn answer(&self, pattern: u32, number: u32) -> Result<Bits, AllocError>
+    pub(crate) fn answer(&self, pattern: u32, number: u32) -> Result<PackedBits, AllocError>
         requires numbers { AreClassNumbers self.now }
         requires pattern { pattern < length self.now.firsts.items }
         requires number { number < length self.now.patterns.items }

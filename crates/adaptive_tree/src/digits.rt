@@ -5,7 +5,7 @@ ghost use Rattle.net_model.specs.BitText.{bit_digit, bits_text};
 ghost use Rattle.diagnose.specs.Lines.{digit_bits, IsDigit};
 ghost use Rattle.adaptive_tree.specs.Forms.{AreDigitsIn};
 
-use net_model::Bits;
+use packed_bits::PackedBits;
 use std::alloc::{AllocError, Global};
 
 /// The digits of a field of bits: all of it, but for a dash, where there are none.
@@ -32,10 +32,10 @@ fn are_digits(field: &[u8]) -> bool
 }
 
 /// The bits of digits.
-pub(crate) fn bits_of(alloc: Global, digits: &[u8]) -> Result<Bits, AllocError>
+pub(crate) fn bits_of(alloc: Global, digits: &[u8]) -> Result<PackedBits, AllocError>
     ensures { IfOk result (λ bits. bits ≡ digit_bits digits.now) }
 {
-    let mut bits = Bits::zeros(alloc, digits.len())?;
+    let mut bits = PackedBits::zeros(alloc, digits.len())?;
     for (at, digit) in digits.iter().enumerate() {
         bits.set(at, *digit == b'1');
     }

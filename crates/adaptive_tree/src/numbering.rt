@@ -4,7 +4,7 @@ ghost use Rattle.std.specs.Prelude.{◌≡◌, ◌+◌, ◌<◌, ◌≤◌, ◌^
 ghost use Rattle.adaptive_tree.specs.Numbering.{AreClassNumbers, AreNumbersTo, AddsPattern, HasPattern, HaveMore};
 
 use crate::class_numbers::{ClassNumbers, OwnNumbers};
-use net_model::Bits;
+use packed_bits::PackedBits;
 use std::alloc::{AllocError, Global};
 
 impl ClassNumbers {
@@ -16,7 +16,7 @@ impl ClassNumbers {
         ensures classes { IfOk result (λ numbers. length numbers.own.items ≡ classes) }
     {
         let mut answers = Vec::new(alloc);
-        answers.push(Bits::zeros(alloc, 0)?)?;
+        answers.push(PackedBits::zeros(alloc, 0)?)?;
         let mut own = Vec::with_capacity(alloc, classes)?;
         for _ in 0..classes {
             own.push(OwnNumbers::new(alloc))?;
@@ -33,7 +33,7 @@ impl ClassNumbers {
     pub(crate) fn add_pattern(
         &mut self,
         numbers: &[u32],
-        answers: &mut Vec<Bits>,
+        answers: &mut Vec<PackedBits>,
     ) -> Result<(), AllocError>
         requires are { AreClassNumbers self.old }
         requires few { length self.old.firsts.items + 1 < 2 ^ 32 }
@@ -50,7 +50,11 @@ impl ClassNumbers {
     }
 
     // The same, where 32 bits number the answers.
-    fn push_pattern(&mut self, numbers: &[u32], answers: &mut Vec<Bits>) -> Result<(), AllocError>
+    fn push_pattern(
+        &mut self,
+        numbers: &[u32],
+        answers: &mut Vec<PackedBits>,
+    ) -> Result<(), AllocError>
         requires few { length self.old.patterns.items + length answers.old.items < 2 ^ 32 }
         requires few_patterns { length self.old.firsts.items < 2 ^ 32 }
         requires one_each { length numbers.now ≡ length self.old.own.items }

@@ -10,7 +10,7 @@ ghost use Rattle.adaptive_tree.specs.Places.{IsWalkAt, IsWalkSomewhere, HasBranc
 
 use crate::outcome::Outcome;
 use crate::steps::Step;
-use net_model::Bits;
+use packed_bits::PackedBits;
 
 /// The outcome of a walk that has come to this place, or to none.
 pub(crate) fn outcome_at(steps: &[Step], place: Option<usize>) -> Outcome
@@ -67,7 +67,7 @@ fn is_branch_for(step: &Step, digits: &[u8]) -> bool
 }
 
 // Whether bits are those of digits.
-fn is_same(bits: &Bits, digits: &[u8]) -> bool
+fn is_same(bits: &PackedBits, digits: &[u8]) -> bool
     ensures { result ≡ same_bits bits.now (digit_bits digits.now) }
 {
     if bits.len() != digits.len() {

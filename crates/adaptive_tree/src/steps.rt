@@ -4,7 +4,7 @@ ghost use Rattle.std.specs.Prelude.{◌≡◌, [], ◌∷◌, ◌++◌, length, 
 ghost use Rattle.adaptive_tree.specs.OpenWays.{open_ways};
 
 use crate::open_ways::OpenWays;
-use net_model::Bits;
+use packed_bits::PackedBits;
 use std::alloc::{AllocError, Global};
 use std::marker::Model;
 
@@ -12,7 +12,7 @@ use std::marker::Model;
 #[derive(Drop)]
 pub enum Step {
     Ask(u32, u32),
-    On(Bits),
+    On(PackedBits),
     Class(u32),
 }
 

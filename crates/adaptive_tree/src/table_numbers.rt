@@ -8,7 +8,8 @@ ghost use Rattle.adaptive_tree.specs.Numbering.{AreClassNumbers, AreNumbersTo, A
 
 use crate::class_numbers::ClassNumbers;
 use class_refine::Classes;
-use net_model::{AnswerRows, Bits};
+use net_model::AnswerRows;
+use packed_bits::PackedBits;
 use std::alloc::{AllocError, Global};
 use table_dicts::{AnswerTable, group_rows, representatives};
 
@@ -83,7 +84,7 @@ fn copy_answers(table: &AnswerTable, leads: &[u32], pattern: u32, rows: &mut Ans
 }
 
 // The rows, each as bits.
-fn rows_as_bits(alloc: Global, rows: &AnswerRows) -> Result<Vec<Bits>, AllocError>
+fn rows_as_bits(alloc: Global, rows: &AnswerRows) -> Result<Vec<PackedBits>, AllocError>
     ensures { IfOk result (λ all. all.items ≡ rows.now) }
 {
     let mut all = Vec::with_capacity(alloc, rows.rows())?;
@@ -94,12 +95,12 @@ fn rows_as_bits(alloc: Global, rows: &AnswerRows) -> Result<Vec<Bits>, AllocErro
 }
 
 // A row as bits.
-fn row_as_bits(alloc: Global, rows: &AnswerRows, row: usize) -> Result<Bits, AllocError>
+fn row_as_bits(alloc: Global, rows: &AnswerRows, row: usize) -> Result<PackedBits, AllocError>
     requires { row < length rows.now }
     ensures { IfOk result (λ bits. bits ≡ slice_index_or rows.now row []) }
 {
     let width = rows.width();
-    let mut bits = Bits::zeros(alloc, width)?;
+    let mut bits = PackedBits::zeros(alloc, width)?;
     for at in 0..width {
         bits.set(at, rows.get(row, at));
     }

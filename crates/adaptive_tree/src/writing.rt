@@ -8,7 +8,7 @@ ghost use Rattle.adaptive_tree.specs.PlanText.{head, step, end, plan_line, plan_
 ghost use Rattle.adaptive_tree.specs.WellFormed.{IsWellFormed};
 
 use crate::steps::{Plan, Step};
-use net_model::Bits;
+use packed_bits::PackedBits;
 use std::alloc::{AllocError, Global};
 
 /// The text of a plan. It may have more bytes than `read_plan` reads.
@@ -56,7 +56,7 @@ fn push_step(text: &mut String, s: &Step) -> Result<(), AllocError>
 }
 
 #[tactic(auto, unfolding(crate::specs::PlanText::plan_line))]
-fn push_branch(text: &mut String, answer: &Bits) -> Result<(), AllocError>
+fn push_branch(text: &mut String, answer: &PackedBits) -> Result<(), AllocError>
     ensures { OnOk result (string_bytes text.new ≡ string_bytes text.old ++ plan_line (step (On answer.now)) ++ 10 ∷ []) }
 {
     text.push_str("on ")?;
@@ -66,7 +66,7 @@ fn push_branch(text: &mut String, answer: &Bits) -> Result<(), AllocError>
 }
 
 // Appends the digits of bits, or a dash where there are none.
-fn push_bits(text: &mut String, bits: &Bits) -> Result<(), AllocError>
+fn push_bits(text: &mut String, bits: &PackedBits) -> Result<(), AllocError>
     ensures { OnOk result (string_bytes text.new ≡ string_bytes text.old ++ bits_text bits.now) }
 {
     if bits.len() == 0 {

@@ -20,6 +20,11 @@ module _ (a : Inside) (n : Numbered) (is : a.numbered ≡ Some n) (s : AnswerNum
   moved P holds =
       subst (λ vs. P s.circuit s.leads vs) same_vectors (subst (λ ls. P s.circuit ls (vectors_of a.good)) same_leads (subst (λ k. P k a.leads.now (vectors_of a.good)) (ap (λ (x : AnswerNumbers). x.circuit) view) holds))
 
+  -- and the other way
+  pub held : (P : Circuit → List ℕ → List (List Bool) → Type 0) → P s.circuit s.leads (numbered_vectors s) → P a.good.circuit a.leads.now (vectors_of a.good)
+  held P holds =
+      subst (λ vs. P a.good.circuit a.leads.now vs) (sym same_vectors) (subst (λ ls. P a.good.circuit ls (numbered_vectors s)) (sym same_leads) (subst (λ k. P k s.leads (numbered_vectors s)) (sym (ap (λ (x : AnswerNumbers). x.circuit) view)) holds))
+
   pub lane_known : (lane : ℕ) → lane < length (numbered_vectors s) → lane < length (vectors_of a.good)
   lane_known lane h = omega (arith, h, ap length same_vectors)
 

@@ -16,7 +16,8 @@ use crate::node_numbers::NodeNumbers;
 use crate::trees::LaneTrees;
 use fault_list::FaultList;
 use fault_sim::FaultSim;
-use net_model::{Answer, Bits, Circuit};
+use net_model::{Answer, Circuit};
+use packed_bits::PackedBits;
 use std::alloc::{AllocError, Global};
 use std::marker::Model;
 use word_sim::{Block, GoodSim, Lanes};
@@ -144,10 +145,39 @@ impl<'a> AnswerNumbers<'a> {
         requires place { place < length self.now.leads }
         ensures { IfOk result (λ answer. IsAnswer self.now.circuit (lead_fault self.now.circuit self.now.leads place) (vector_in self.now lane) answer) }
     {
+        let free = self.free_answer(alloc, lane)?;
+        let answer = self.answer_over(lane, place, &free)?;
+        answer.unpack(alloc)
+    }
+
+    /// The fault-free answer to the vector of a lane.
+    pub fn free_answer(&self, alloc: Global, lane: u32) -> Result<PackedBits, AllocError>
+        requires { lane < length (numbered_vectors self.now) }
+        ensures { IfOk result (λ free. IsAnswer self.now.circuit Free (vector_in self.now lane) free) }
+    {
+        let Some(_) = &self.numbered else {
+            unreachable!()
+        };
+        let free = free_answer(alloc, &self.good, lane)?;
+        Ok(free)
+    }
+
+    /// A place's answer to the vector of a lane, packed, by the fault-free one.
+    pub fn answer_over(
+        &self,
+        lane: u32,
+        place: usize,
+        free: &PackedBits,
+    ) -> Result<PackedBits, AllocError>
+        requires lane { lane < length (numbered_vectors self.now) }
+        requires place { place < length self.now.leads }
+        requires free { IsAnswer self.now.circuit Free (vector_in self.now lane) free.now }
+        ensures { IfOk result (λ answer. IsAnswer self.now.circuit (lead_fault self.now.circuit self.now.leads place) (vector_in self.now lane) answer) }
+    {
         let Some(numbered) = &self.numbered else {
             unreachable!()
         };
-        let mut answer = free_answer(alloc, &self.good, lane)?;
+        let mut answer = free.copy()?;
         let node = numbered.trees.stand(place, lane);
         numbered.trees.turn_bits(node, &mut answer);
         Ok(answer)
@@ -224,12 +254,12 @@ fn compare(
 }
 
 // The fault-free answer to the vector of a lane.
-fn free_answer(alloc: Global, good: &GoodSim, lane: u32) -> Result<Answer, AllocError>
+fn free_answer(alloc: Global, good: &GoodSim, lane: u32) -> Result<PackedBits, AllocError>
     requires { lane < length (vectors_of good.now) }
     ensures { IfOk result (IsAnswer good.now.circuit Free (slice_index_or (vectors_of good.now) lane [])) }
 {
     let positions = good.circuit().positions();
-    let mut answer = Bits::zeros(alloc, positions.len())?;
+    let mut answer = PackedBits::zeros(alloc, positions.len())?;
     for (position, line) in positions.iter().enumerate() {
         answer.set(position, good.bit(*line, lane));
     }

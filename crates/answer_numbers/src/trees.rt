@@ -6,7 +6,7 @@ ghost use Rattle.answer_numbers.specs.NodeNumbers.{stand_of};
 ghost use Rattle.answer_numbers.specs.Trees.{AreTrees, IsForest, HasChild, AreGrown, AreBareTrees, node_at, way_of, turned};
 
 use crate::differences::numbers_below;
-use net_model::Bits;
+use packed_bits::PackedBits;
 use std::alloc::{AllocError, Global};
 
 /// A node of a tree.
@@ -106,7 +106,7 @@ impl LaneTrees {
     }
 
     /// Turns the bits of the positions on the way up from a node.
-    pub(crate) fn turn_bits(&self, node: u32, bits: &mut Bits)
+    pub(crate) fn turn_bits(&self, node: u32, bits: &mut PackedBits)
         requires lower { (n : ℕ) → self.now.lanes ≤ n → n < length self.now.nodes.items → (node_at self.now.nodes.items n).above < n }
         requires node { node < length self.now.nodes.items }
         requires within { All (λ position. position < length bits.old) (way_of self.now.lanes self.now.nodes.items node).positions }

@@ -19,8 +19,8 @@ returns-in_ok-push-2 c =
           let all = answer_list (length n.leads) answer in
           let long = list_long n.circuit n.leads (vector_in n c.args.lane) answer so in
           let is = c.number-number.ensures all (list_answers n.circuit n.leads (vector_in n c.args.lane) answer so) in
-          let pushed : c.in_ok-answer.field-0 ≡ get_or all c.args.place [] =
-          one_answer n.circuit c.requires.circuit (lead_fault n.circuit n.leads c.args.place) (vector_in n c.args.lane) c.in_ok-answer.field-0 (answer c.args.place) c.in_ok-answer.ensures (so c.args.place c.requires.place)
+          let pushed : c.in_ok-answer_over.field-0 ≡ get_or all c.args.place [] =
+          one_answer n.circuit c.requires.circuit (lead_fault n.circuit n.leads c.args.place) (vector_in n c.args.lane) c.in_ok-answer_over.field-0 (answer c.args.place) c.in_ok-answer_over.ensures (so c.args.place c.requires.place)
           ∙ sym (list_at n.circuit n.leads (vector_in n c.args.lane) answer so c.args.place c.requires.place) in
           let more = place_new all c.args.place number (omega (arith, long, c.requires.place)) is found.numbers.items found.answers.items c.requires.numbers.count (c.requires.numbers.places answer so) many in
           subst (λ (ns : List ℕ). AreFirstPlaces all (c.args.place + 1) ns c.push-then-number-len.new.self.items) (sym items)
