@@ -22,11 +22,11 @@ use Rattle.ranked_diag.specs.SeenWords.{seen_in, word_mismatches, seen_mismatche
 
 -- ---- counts over a range
 
-abbrev one_of : (ℕ → Bool) → ℕ → ℕ
+abbrev pub one_of : (ℕ → Bool) → ℕ → ℕ
 one_of p k = cond (p k) 1 0
 
 -- tests that agree count the same
-count-agree : (p q : ℕ → Bool) (a n : ℕ) → ((k : ℕ) → a ≤ k → k < a + n → p k ≡ q k) → count_by p (range_with_len a n) ≡ count_by q (range_with_len a n)
+pub count-agree : (p q : ℕ → Bool) (a n : ℕ) → ((k : ℕ) → a ≤ k → k < a + n → p k ≡ q k) → count_by p (range_with_len a n) ≡ count_by q (range_with_len a n)
 count-agree p q a zero agree = refl
 count-agree p q a (suc n) agree =
     sum_by-cons (one_of p) a (range_with_len (a + 1) n)
@@ -56,7 +56,7 @@ count-one_more p q at a (suc n) low high none same =
     above : (a ≡ at → ⊥) → a + 1 ≤ at
     above other = omega (arith, low, other)
 
-count-none : (p : ℕ → Bool) (a n : ℕ) → ((k : ℕ) → p k ≡ false) → count_by p (range_with_len a n) ≡ 0
+pub count-none : (p : ℕ → Bool) (a n : ℕ) → ((k : ℕ) → p k ≡ false) → count_by p (range_with_len a n) ≡ 0
 count-none p a zero none = refl
 count-none p a (suc n) none =
     let no : one_of p a ≡ 0 = ap (λ (b : Bool). cond {A = ℕ} b 1 0) (none a) in
@@ -69,7 +69,7 @@ digit_back zero h = refl
 digit_back (suc zero) h = refl
 digit_back (suc (suc d)) h = absurd (omega (arith, h))
 
-ones-counted : (width n : ℕ) → n < 2 ^ width → count_ones n ≡ count_by (bit_of n) (range_with_len 0 width)
+pub ones-counted : (width n : ℕ) → n < 2 ^ width → count_ones n ≡ count_by (bit_of n) (range_with_len 0 width)
 ones-counted width n h =
     let bits = map (bit_of n) (range_with_len 0 width) in
     let long : length bits ≡ width = length-map-range_with_len (bit_of n) 0 width in

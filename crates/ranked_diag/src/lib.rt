@@ -17,4 +17,4 @@ pub use laws::{counts_have_one_ranking, partial_log_is_read_once, whole_log_rank
 pub use nearest::ranking;
 pub use partial::{Partial, Seen};
 pub use ranks::{Counts, Ranking};
-pub use reading::read_partial;
+pub use reading::{read_partial, read_partial_of};

@@ -51,8 +51,8 @@ impl Partial {
         Ok(self.lines.push((pattern, seen))?)
     }
 
-    // A pattern, and what was seen at each position.
-    pub(crate) fn line(&self, at: usize) -> (u32, &[Seen])
+    /// A pattern, and what was seen at each position.
+    pub fn line(&self, at: usize) -> (u32, &[Seen])
         requires { at < length self.now }
         ensures { slice_get self.now at ≡ Some (result.0, result.1.now) }
     {

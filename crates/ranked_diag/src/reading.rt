@@ -17,8 +17,23 @@ pub fn read_partial(alloc: Global, dict: &Dict, bytes: &[u8]) -> Result<Partial,
     ensures read { IfOk result (IsPartialLog dict.now.patterns dict.now.positions bytes.now) }
     ensures refused { IfErr result (TellsLogFault (PartialRefused dict.now.patterns dict.now.positions bytes.now)) }
 {
+    read_partial_of(alloc, dict.patterns, dict.positions, bytes)
+}
+
+/// The lines that a partial log tells, of so many patterns and positions.
+///
+/// A log has at most 2^30 bytes. A fault tells the first line that breaks a rule.
+pub fn read_partial_of(
+    alloc: Global,
+    patterns: u32,
+    positions: u32,
+    bytes: &[u8],
+) -> Result<Partial, LogFault>
+    ensures read { IfOk result (IsPartialLog patterns positions bytes.now) }
+    ensures refused { IfErr result (TellsLogFault (PartialRefused patterns positions bytes.now)) }
+{
     check_size(bytes)?;
-    read_lines(alloc, dict.patterns, dict.positions, bytes)
+    read_lines(alloc, patterns, positions, bytes)
 }
 
 fn read_lines(

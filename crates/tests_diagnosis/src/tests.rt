@@ -1,8 +1,10 @@
 //! The modules, by what they test.
 
 mod adaptive;
+mod kept;
 mod lists;
 mod logs;
 mod ranked;
 mod refused;
 mod simulated;
+mod suspected;

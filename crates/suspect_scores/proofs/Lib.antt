@@ -1,0 +1,17 @@
+pub mod Tests
+pub mod Examples
+pub mod ExamplesC17
+pub mod ScoreLemmas
+pub mod ClassLemmas
+pub mod CoverLemmas
+pub mod SuspectLemmas
+pub mod OwnLines
+pub mod SingleFault
+pub mod RangeSums
+pub mod WordScores
+pub mod MarkLemmas
+pub mod LoggedLemmas
+pub mod ScoredLemmas
+pub mod ExpectedLemmas
+pub mod HittingLemmas
+pub mod ChosenLemmas

@@ -1,0 +1,65 @@
+-- Numbers that are chosen one after another, each for what it explains of the lines that are left.
+use Rattle.std.specs.Prelude.{◌≡◌, ℕ, ◌+◌, ◌<◌, ◌≤◌, ◌&&◌, Bool, true, not, List, [], ◌∷◌, length, map, slice_index}
+use Rattle.std.specs.List.{range_with_len}
+use Rattle.net_model.specs.Answer.{bit_at}
+use Rattle.net_model.specs.Rows.{row_at, HaveSameShape}
+use Rattle.table_dicts.specs.AnswerTable.{Answers}
+use Rattle.ranked_diag.specs.PartialLog.{Line}
+use Rattle.suspect_scores.specs.declared.choices.Choice.{Choice}
+use Rattle.suspect_scores.specs.declared.choosing.Best.{Best}
+use Rattle.suspect_scores.specs.declared.marks.Marks.{Marks}
+use Rattle.suspect_scores.specs.Scores.{is_failing, explains}
+use Rattle.suspect_scores.specs.Scored.{count_to, line_score, does_explain}
+
+-- ---- rows of lines
+
+-- which lines are failing and explained, by the score of each
+abbrev pub explained_row : Marks → Answers → ℕ → List Bool
+explained_row m answers place = map (λ line. does_explain (line_score m answers place line)) (range_with_len 0 (length answers.rows))
+
+-- which are, by the definitions
+abbrev pub explained_by : Answers → List Line → ℕ → List Bool
+explained_by table lines number = map (λ line. is_failing table line && explains table number line) lines
+
+-- The new rows have what the numbers of the answers explain from the first one on, so many, and the others as before.
+pub record AreNoted (old new : List (List Bool)) (first count : ℕ) (m : Marks) (answers : Answers) : Type 0 where
+  pub shape : HaveSameShape old new
+  pub here : (place : ℕ) → place < count → row_at new (first + place) ≡ explained_row m answers place
+  pub before : (row : ℕ) → row < first → row_at new row ≡ row_at old row
+
+-- ---- lines that are left
+
+-- how many lines that are left a row has
+unfoldable pub left_count : List Bool → List Bool → ℕ
+left_count row left = count_to (λ k. bit_at left k && bit_at row k) (length left)
+
+-- All lines, so many, are left.
+pub record AreAllLeft (lines : ℕ) (left : List Bool) : Type 0 where
+  pub many : length left ≡ lines
+  pub each : (k : ℕ) → k < lines → bit_at left k ≡ true
+
+-- The new lines are those of the old ones that a row doesn't have.
+pub record IsWithout (row old new : List Bool) : Type 0 where
+  pub many : length new ≡ length old
+  pub each : (k : ℕ) → k < length old → bit_at new k ≡ (bit_at old k && not (bit_at row k))
+
+module _ (rows : List (List Bool)) (numbers : List ℕ) where
+  abbrev pub count_at : List Bool → ℕ → ℕ
+  count_at left place = left_count (row_at rows place) left
+
+  -- Of the first rows, so many, it is the one with most lines that are left, of several that of the lowest number.
+  pub record IsHighest (left : List Bool) (end : ℕ) (best : Best) : Type 0 where
+    pub within : best.place < end
+    pub own : count_at left best.place ≡ best.count
+    pub lowest : (p : ℕ) → p < end → count_at left p ≡ best.count → slice_index numbers best.place ≤ slice_index numbers p
+
+  -- It is so, or none of them has any.
+  pub record IsBestOf (left : List Bool) (end : ℕ) (best : Best) : Type 0 where
+    pub most : (p : ℕ) → p < end → count_at left p ≤ best.count
+    pub some : 0 < best.count → IsHighest left end best
+
+  -- Each is the best of those that are left, with its count, until none has any.
+  abbrev pub AreChosenFrom : List Bool → List Choice → Type 0
+  AreChosenFrom left [] = (p : ℕ) → p < length numbers → count_at left p ≡ 0
+  AreChosenFrom left (choice ∷ choices) =
+      (best : Best) × (next : List Bool) × IsBestOf left (length numbers) best × (0 < best.count) × (choice ≡ record { number = slice_index numbers best.place; explained = best.count }) × IsWithout (row_at rows best.place) left next × AreChosenFrom next choices

@@ -1,0 +1,64 @@
+//! The log that a chip without a fault gives.
+
+ghost use Rattle.std.specs.Prelude.{◌≡◌, ◌<◌, ◌++◌, ◌∷◌, [], length, IfOk, OnOk};
+ghost use Rattle.std.specs.String.{string_bytes};
+ghost use Rattle.net_model.specs.BitText.{bits_text};
+ghost use Rattle.table_dicts.specs.AnswerTable.{Answers, answer_to};
+ghost use Rattle.table_dicts.specs.Entries.{answers_of};
+ghost use Rattle.table_dicts.specs.Setting.{IsSetting, AreAnswersAt};
+ghost use Rattle.diagnose.specs.Lines.{lines_from};
+ghost use Rattle.diagnose.specs.LogText.{log_line};
+ghost use Rattle.suspect_scores.specs.Expected.{expected_text};
+
+use std::alloc::{AllocError, Global};
+use table_dicts::{AnswerTable, Setting, number_answers_at};
+
+/// The log that a chip without a fault gives to the patterns.
+pub fn expected_log(alloc: Global, setting: &Setting) -> Result<Vec<u8>, AllocError>
+    requires { IsSetting setting.now }
+    ensures { IfOk result (λ text. (table : Answers) → AreAnswersAt setting.now table → text.items ≡ expected_text table) }
+{
+    let patterns = setting.patterns.as_slice();
+    let free = number_answers_at(alloc, setting.circuit, setting.faults, patterns, &[0])?;
+    log_text(alloc, &free)
+}
+
+// The log of what number 0 answers.
+fn log_text(alloc: Global, free: &AnswerTable) -> Result<Vec<u8>, AllocError>
+    requires { 0 < free.now.numbers }
+    ensures { IfOk result (λ text. text.items ≡ lines_from log_line 0 (answers_of free.now.rows 0)) }
+{
+    let mut text = String::new(alloc);
+    for pattern in 0..free.patterns() {
+        push_line(&mut text, free, pattern)?;
+    }
+    Ok(text.into_bytes())
+}
+
+// Appends the line of a pattern.
+fn push_line(text: &mut String, free: &AnswerTable, pattern: u32) -> Result<(), AllocError>
+    requires pattern { pattern < length free.now.rows }
+    requires some { 0 < free.now.numbers }
+    ensures { OnOk result (string_bytes text.new ≡ string_bytes text.old ++ (log_line pattern (answer_to free.now pattern 0) ++ 10 ∷ [])) }
+{
+    write!(text, "{pattern} ")?;
+    push_bits(text, free, pattern)?;
+    text.push('\n')
+}
+
+// Appends the bits of number 0's answer to a pattern, or a dash where there are no positions.
+fn push_bits(text: &mut String, free: &AnswerTable, pattern: u32) -> Result<(), AllocError>
+    requires pattern { pattern < length free.now.rows }
+    requires some { 0 < free.now.numbers }
+    ensures { OnOk result (string_bytes text.new ≡ string_bytes text.old ++ bits_text (answer_to free.now pattern 0)) }
+{
+    let positions = free.positions();
+    if positions == 0 {
+        text.push('-')?;
+    }
+    for position in 0..positions {
+        let bit = free.get(pattern, 0, position);
+        text.push(if bit { '1' } else { '0' })?;
+    }
+    Ok(())
+}

@@ -1,0 +1,24 @@
+//! Which faults explain what a chip answered, though none may explain all of it.
+#![tactic(auto)]
+
+mod choices;
+mod choosing;
+mod covering;
+mod expecting;
+mod explaining;
+mod laws;
+mod logged;
+mod marks;
+mod scoring;
+mod suspect;
+mod suspecting;
+
+pub use choices::{Choice, Cover};
+pub use covering::cover;
+pub use expecting::expected_log;
+pub use laws::{
+    circuits_are_classed, expected_log_lists_nothing, members_score_alike, one_cover_explains,
+    one_list_of_suspects,
+};
+pub use suspect::{Suspect, Suspects};
+pub use suspecting::suspects;

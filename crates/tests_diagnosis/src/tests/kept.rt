@@ -1,0 +1,100 @@
+//! Vectors that split classes of a circuit, and the classes of all of them.
+
+ghost use Rattle.std.specs.Prelude.{◌≡◌, ◌<◌, ◌^◌, length, All, IfOk, OnOk};
+ghost use Rattle.net_model.specs.FaultList.{faults as faults_of};
+ghost use Rattle.net_model.specs.PatternRows.{IsTableOf};
+
+use class_refine::Classes;
+use fault_collapse::collapse;
+use fault_list::FaultList;
+use kept_vectors::Keeper;
+use net_model::{Circuit, Vector, Vectors};
+use sample_circuits::bits;
+use std::alloc::Global;
+use std::test::Fail;
+
+// Vectors of which each splits a class of those before it, and the classes of all of them.
+#[derive(Drop)]
+pub(crate) struct Kept {
+    pub(crate) patterns: Vectors,
+    pub(crate) classes: Classes,
+}
+
+// What is kept of these vectors.
+pub(crate) fn kept_of(
+    alloc: Global,
+    circuit: &Circuit,
+    faults: &FaultList,
+    texts: &[&str],
+) -> Result<Kept, Fail>
+    requires { faults.now ≡ faults_of circuit.now }
+    ensures widths { IfOk result (λ kept. All (λ v. length v ≡ circuit.now.sources) kept.patterns) }
+    ensures few { IfOk result (λ kept. length kept.patterns < 2 ^ 32) }
+    ensures table { IfOk result (λ kept. IsTableOf circuit.now kept.patterns kept.classes) }
+{
+    let forest = collapse(alloc, circuit, faults)?;
+    let mut keeper = Keeper::new(alloc, circuit, faults, &forest)?;
+    keep_all(alloc, circuit, &mut keeper, texts)?;
+    kept_by(alloc, keeper)
+}
+
+// Shows these vectors to a keeper of the circuit.
+fn keep_all(
+    alloc: Global,
+    circuit: &Circuit,
+    keeper: &mut Keeper,
+    texts: &[&str],
+) -> Result<(), Fail>
+    requires { keeper.old.circuit ≡ circuit.now }
+    ensures { OnOk result (keeper.new.circuit ≡ circuit.now) }
+{
+    for text in texts {
+        keep_text(alloc, circuit, keeper, text)?;
+    }
+    Ok(())
+}
+
+fn keep_text(alloc: Global, circuit: &Circuit, keeper: &mut Keeper, text: &str) -> Result<(), Fail>
+    requires { keeper.old.circuit ≡ circuit.now }
+    ensures { OnOk result (keeper.new.circuit ≡ circuit.now) }
+{
+    let v = bits(alloc, text)?;
+    keep_vector(circuit, keeper, &v)
+}
+
+fn keep_vector(circuit: &Circuit, keeper: &mut Keeper, v: &Vector) -> Result<(), Fail>
+    requires { keeper.old.circuit ≡ circuit.now }
+    ensures { OnOk result (keeper.new.circuit ≡ circuit.now) }
+{
+    if v.len() != circuit.sources() as usize {
+        return Err(Fail::new("a vector has another width"));
+    }
+    keeper.keep(v)?;
+    Ok(())
+}
+
+// What a keeper has kept.
+fn kept_by(alloc: Global, keeper: Keeper) -> Result<Kept, Fail>
+    ensures widths { IfOk result (λ kept. All (λ v. length v ≡ keeper.entry.circuit.sources) kept.patterns) }
+    ensures few { IfOk result (λ kept. length kept.patterns < 2 ^ 32) }
+    ensures table { IfOk result (λ kept. IsTableOf keeper.entry.circuit kept.patterns kept.classes) }
+{
+    let (vectors, classes) = keeper.into_kept();
+    let patterns = listed(alloc, vectors)?;
+    Ok(Kept { patterns, classes })
+}
+
+// These vectors as a list, which isn't long.
+fn listed(alloc: Global, vectors: Vec<Vector>) -> Result<Vectors, Fail>
+    ensures list { IfOk result (λ list. list ≡ vectors.items) }
+    ensures few { IfOk result (λ list. length list < 2 ^ 32) }
+{
+    if vectors.len() > 1000 {
+        return Err(Fail::new("there are too many vectors"));
+    }
+    let mut list = Vectors::new(alloc);
+    for v in vectors {
+        list.push(v)?;
+    }
+    Ok(list)
+}
