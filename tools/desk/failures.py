@@ -1,0 +1,77 @@
+"""Why a file can't be read or written."""
+
+import errno
+import os
+import stat
+
+from telling import named
+
+WHY = {
+    errno.ENOENT: "there is no such file",
+    errno.ENOTDIR: "there is no such file, since a part of the name is no folder",
+    errno.EISDIR: "it is a folder",
+    errno.EACCES: "there is no permission",
+    errno.EPERM: "there is no permission",
+    errno.EROFS: "what it stands on can't be written",
+    errno.ENOSPC: "the disk is full",
+    errno.EDQUOT: "the quota of the disk is used up",
+    errno.EFBIG: "it would be longer than a file may be here",
+    errno.EBADF: "it is closed",
+    errno.EPIPE: "its reader has closed it",
+}
+
+
+def why(error):
+    """The cause of a failed call."""
+    return WHY.get(error.errno) or (error.strerror or "the cause isn't known").lower()
+
+
+def unread(name):
+    """Why a file can't be read, if it can't."""
+    try:
+        kind = os.stat(name).st_mode
+        if stat.S_ISREG(kind) or stat.S_ISDIR(kind):
+            with open(name, "rb") as file:
+                file.read(1)
+    except OSError as error:
+        return f"{named(name)} can't be read: {why(error)}"
+    return None
+
+
+def uncreated(name, folder):
+    """Why a file can't be created in a folder, if it can't."""
+    if not os.path.isdir(folder):
+        return f"{named(name)} can't be created: there is no folder {named(folder)}"
+    if not os.access(folder, os.W_OK | os.X_OK):
+        return f"{named(name)} can't be created: there is no permission to write in the folder {named(folder)}"
+    return None
+
+
+def unwritten(name):
+    """Why a file can't be written, if it can't. It is neither created nor changed."""
+    folder = os.path.dirname(name) or "."
+    try:
+        kind = os.stat(name).st_mode
+        if stat.S_ISCHR(kind):
+            return f"{named(name)} can't be written: it is a device, which took no more bytes"
+        if stat.S_ISREG(kind) or stat.S_ISDIR(kind):
+            os.close(os.open(name, os.O_WRONLY))
+    except FileNotFoundError as error:
+        cause = uncreated(name, folder) if name else f"{named(name)} can't be created: {why(error)}"
+        return cause or full(name, folder)
+    except OSError as error:
+        return f"{named(name)} can't be written: {why(error)}"
+    return full(name, folder)
+
+
+def full(name, folder):
+    """Whether no byte more fits on the disk of a file, tried with a file that has no name."""
+    try:
+        with open(os.open(folder, os.O_TMPFILE | os.O_WRONLY), "wb", buffering=0) as file:
+            wanted, piece = 1 << 20, bytes(1 << 20)
+            while wanted > 0:
+                wanted -= file.write(piece[:wanted])
+    except OSError as error:
+        if error.errno in (errno.ENOSPC, errno.EDQUOT, errno.EFBIG):
+            return f"{named(name)} is cut short: {why(error)}"
+    return None

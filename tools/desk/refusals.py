@@ -1,0 +1,193 @@
+"""Where a file is refused, and what the rule asks that it breaks."""
+
+import re
+import struct
+from itertools import islice
+
+import bench
+from telling import bytes_caret, caret, line_start, named, plain_file
+
+LONGEST = 1 << 24  # bytes of a line that are looked at
+
+STATEMENT = "A statement is INPUT(n), OUTPUT(n) or n = GATE(n, n); `#` begins a comment, which ends with its line."
+NETLIST = {
+    "TooLong": "A netlist has at most 16,777,216 bytes.",
+    "BadByte": "Outside comments a netlist has printable ASCII, spaces, tabs and ends of lines. `#` begins a comment.",
+    "UnknownGate": STATEMENT + " The gates are AND, NAND, OR, NOR, XOR, XNOR, NOT, BUFF, BUF, DFF, MUX, CONST0 and CONST1.",
+    "Expected": "Something else has to stand here, or the text ends too early. " + STATEMENT,
+    "WrongPins": "NOT, BUFF, BUF and DFF take one pin, MUX takes three, CONST0 and CONST1 none, and any other gate one or more.",
+    "DrivenTwice": "A name is driven once, by an INPUT or by a gate, and this one was driven before.",
+    "Undriven": "Each pin and each OUTPUT has to be an INPUT or a name that a gate drives. Upper and lower case differ.",
+    "Loop": "A gate doesn't reach itself but through a DFF. The names behind the colon are the way round.",
+}
+
+RESULT = {
+    "TooLong": "A result has at most 2^40 bytes.",
+    "Syntax": "The line is no record of a result: one space parts its fields, numbers have no zeros in front, and one LF ends it.",
+    "Order": "Another record has to stand here.",
+    "Head": "`diatest 1` is followed by how many sources, positions and fault numbers this netlist has; no budget is above its limit.",
+    "Pattern": "A pattern has a bit for each source, and parts members of some class.",
+    "Member": "Evidence is about the lowest number without a mark that isn't the lowest of its class, and about that lowest one.",
+    "Roots": "`C` is for faults with one root in the collapse, and T, R and O are for others.",
+    "Table": "Classes and members have to be those that the patterns make, in order, with the marks that the evidence gives.",
+    "BadTree": "A tree splits an undecided cube by a free source that can still matter, and has a token for each cube and no more.",
+    "LeafOpen": "A `.` closes a cube in which each position shows the same of both faults, and in this one some may differ.",
+    "WrongCount": "The tree or the log has another number of closed cubes, open cubes or chains than its letter and the budget ask.",
+    "NoSuchClause": "The chain uses the number of a clause that doesn't stand before it.",
+    "NoPivot": "The pivot has to stand in the clause so far, and its opposite in the other one.",
+    "EmptyEarly": "Only the last chain of an R log may end in the empty clause.",
+    "NotEmpty": "The last chain of an R log has to end in the empty clause.",
+    "NotFresh": "The end of a chain of an O log has to be a clause that unit propagation couldn't see before.",
+}
+
+DICTIONARY = {
+    "TooLong": "A dictionary has at most 2^40 bytes.",
+    "Short": "The file ends inside a field or a row: it was cut short.",
+    "Magic": "A dictionary begins with the bytes DIAT.",
+    "Version": "The version is 1 or 2.",
+    "Kind": "The kind is 1 (pass/fail), 2 (full) or 3 (same/different).",
+    "Value": "The number is outside its bounds, or a row has padding that isn't 0 or repeats an earlier one.",
+    "Trailing": "Bytes follow the last row.",
+}
+
+PLAN = {
+    "TooLong": "A plan that is read has at most 1,073,741,824 bytes.",
+    "Syntax": "A line is `adapt 1 positions patterns classes`, `ask pattern branches`, `on bits`, `class number` or `end`, and one LF.",
+    "Order": "Behind the head comes one node, then `end`. A node is a class, or an ask and its branches; a branch is `on bits` and a node.",
+    "Value": "A number is outside its bounds, a pattern is asked twice on its way, or bits are of another width or stand there already.",
+}
+
+NUMBER, BITS, SEEN, END = rb"0|[1-9][0-9]*", rb"[01]+|-", rb"[01x]+|-", rb"\n"
+LOG_FORM = {"sim": (BITS, END), "rank": (NUMBER, rb" ", SEEN, END)}
+LOG_WORDS = {
+    "sim": "A line is a vector's bits, source 0 first, and one LF",
+    "rank": "A line is a pattern's number without zeros in front, one space, the bits that were seen (x for one that wasn't), and one LF",
+}
+WHOLE_FORM, WHOLE_WORDS = (NUMBER, rb" ", BITS, END), "A line is a pattern's number without zeros in front, one space, the bits, and one LF"
+
+HEADS = ((b"DIAT", "a dictionary"), (b"diatest 1 ", "a result"), (b"adapt 1 ", "an adaptive plan"))
+WANTED = {"result": "a result", "dictionary": "a dictionary", "plan": "an adaptive plan"}
+NAMES = {
+    "netlist": ("NETLIST",),
+    "result": ("RESULT",),
+    "dictionary": ("DICTIONARY", "OLD"),
+    "log": ("LOG", "VECTORS"),
+    "plan": ("PLAN",),
+}
+SAID = re.compile(r"(netlist|result|dictionary|log|plan): (?:Evidence )?(\w+) at (?:step (\d+), )?(?:byte (\d+))?(?:, )?(?:line (\d+))?")
+
+
+def first_wrong(text, form):
+    """The place in a line where it leaves its form, and the line's end if it doesn't."""
+    at = 0
+    for part in form:
+        found = re.compile(part).match(text, at)
+        if not found:
+            return at
+        at = found.end()
+    return at
+
+
+def sizes(command, files):
+    """How many patterns there are, if that is known, and how many bits a line has: by the file that the log goes with."""
+    if command == "sim":
+        return None, len(bench.read(files["NETLIST"]).sources)
+    with open(files["PLAN" if command == "follow" else "DICTIONARY"], "rb") as file:
+        if command == "follow":
+            positions, patterns = file.readline(80).split()[2:4]
+            return int(patterns), int(positions)
+        positions, patterns = struct.unpack(">II", file.read(15)[7:])
+        return patterns, positions
+
+
+def log_order(command, line, text, patterns):
+    """What the number of a line of a log has to be."""
+    if command == "rank":
+        return f"The number is below {patterns} and above that of the line before: patterns are counted from 0."
+    if command == "follow":
+        return "The line has to answer the pattern that the plan asks there: `follow` with the lines above tells it."
+    if line > patterns:
+        return f"There are {patterns} patterns, and each has had its line."
+    counted = " This log seems to begin with 1." if line == 1 and text.startswith(b"1 ") else ""
+    return f"Line {line} has the number {line - 1}: patterns are counted from 0, and `diagnose` wants each (`rank` doesn't).{counted}"
+
+
+def log_place(command, files, rule, line, text):
+    """The place of the caret in a line of a log, and what the rule asks."""
+    words = LOG_WORDS.get(command, WHOLE_WORDS)
+    if rule == "TooLong":
+        return 0, "The text has at most 1,073,741,824 bytes."
+    if rule == "Syntax":
+        feeds = " This line ends with CR and LF: `tr -d '\\r'` leaves the CRs out." if text.endswith(b"\r\n") else ""
+        return first_wrong(text, LOG_FORM.get(command, WHOLE_FORM)), f"{words}.{feeds}"
+    patterns, width = sizes(command, files)
+    if rule == "Order":
+        return 0, log_order(command, line, text, patterns)
+    if rule == "Missing":
+        return 0, f"The log ends before the last of the {patterns} patterns. `rank` takes a log in which some are wanting."
+    begin = text.rfind(b" ") + 1
+    bits = 0 if text[begin:] == b"-\n" else len(text) - 1 - begin
+    return begin + min(width, bits), f"Each line has {width} bits, and this one has {bits}."
+
+
+def result_place(rule, step, text):
+    """The place of the caret in a line of a result."""
+    field, at = rb"[^ \n]+", 0
+    if rule in ("BadTree", "LeafOpen"):
+        at = 4 + step
+    elif rule in ("Pattern", "Member", "Table"):
+        at = 1
+    elif rule == "Roots":
+        at = 3
+    elif rule == "WrongCount":
+        at = len(text)
+    elif step is not None:
+        field, at = rb"(?<= );", step
+    found = next(islice(re.finditer(field, text), at, None), None)
+    return found.start() if found else len(text.rstrip(b"\n"))
+
+
+def another(kind, file):
+    """What a file seems to be that is refused, where that is another than the one that is asked for."""
+    file.seek(0)
+    head = file.read(16)
+    for begin, what in HEADS:
+        if head.startswith(begin) and what != WANTED.get(kind):
+            return f" This file begins as {what}."
+    return ""
+
+
+def in_text(kind, command, files, rule, step, line, file):
+    """The place of the caret in a log, a result or a plan, and what the rule asks."""
+    start = line_start(file, line)
+    file.seek(start)
+    text = file.readline(LONGEST)
+    if kind == "log":
+        place, sentence = log_place(command, files, rule, line, text)
+    elif kind == "plan":
+        place, sentence = 0, PLAN.get(rule, "")
+    else:
+        place, sentence = result_place(rule, step, text), RESULT.get(rule, "")
+    if kind != "log" and rule == "Order" and not text:
+        sentence = "The file ends before its line `end`: it was cut short."
+    return start + place, sentence
+
+
+def explain(command, files, console):
+    """What a refusal on the console leaves open, as a text."""
+    said = SAID.match(console)
+    if not said:
+        return ""
+    kind, rule = said[1], said[2]
+    step, byte, line = (int(it) if it else None for it in said.group(3, 4, 5))
+    name = next(files[it] for it in NAMES[kind] if it in files)
+    file = plain_file(name)
+    if file is None:
+        return f"diatest: {named(name)} can't be read a second time, to show the place\n"
+    with file:
+        if kind == "dictionary":
+            return f"diatest: {named(name)}, byte {byte}:\n{bytes_caret(file, byte)}\n{DICTIONARY.get(rule, '')}{another(kind, file)}\n"
+        sentence = NETLIST.get(rule, "")
+        if kind != "netlist":
+            byte, sentence = in_text(kind, command, files, rule, step, line, file)
+        return f"diatest: {named(name)}, line {line}:\n{caret(file, byte)}\n{sentence}{another(kind, file)}\n"

@@ -1,0 +1,103 @@
+"""The commands: which words they take, which files they read and write, and the usage of each.
+
+usage.py [COMMAND] prints the usage on standard error."""
+
+import sys
+from typing import NamedTuple
+
+from telling import say
+
+
+class Option(NamedTuple):
+    name: str
+    most: int
+    default: int
+    work: str
+
+
+class Command(NamedTuple):
+    words: str
+    read: str  # the names among the words that are read, in this order
+    made: str  # those that are written
+    work: str
+    options: tuple = ()
+
+
+BUDGETS = (
+    Option("blocks", 65_536, 4, "blocks of the stream that are tried, of 64 vectors each"),
+    Option("cubes", 1_048_576, 64, "closed cubes that are spent on a pair of faults before it is given to the solver"),
+    Option("conflicts", 100_000, 2_000, "clauses that the solver learns for a pair of faults before it is left open"),
+)
+WITHIN = Option("within", 1_000_000, 0, "mismatches above the least that a number may have that is listed")
+
+COMMANDS = {
+    "gen": Command(
+        "NETLIST RESULT", "NETLIST", "RESULT", "generates a result for the netlist: patterns, classes, and evidence of each", BUDGETS
+    ),
+    "check": Command("NETLIST RESULT", "NETLIST RESULT", "", "says whether the result is valid for the netlist"),
+    "dict": Command(
+        "passfail|full|samediff NETLIST RESULT DICTIONARY",
+        "NETLIST RESULT",
+        "DICTIONARY",
+        "checks the result, and writes the dictionary of this kind at its patterns",
+    ),
+    "compact": Command(
+        "NETLIST RESULT NEW", "NETLIST RESULT", "NEW", "checks the result, and writes it without the patterns that its classes don't need"
+    ),
+    "convert": Command("OLD NEW", "OLD", "NEW", "writes a dictionary of either version in version 2"),
+    "diagnose": Command(
+        "DICTIONARY LOG", "DICTIONARY LOG", "", "lists the fault numbers whose entry is that of the answers in a tester's log"
+    ),
+    "rank": Command(
+        "DICTIONARY LOG", "DICTIONARY LOG", "", "lists the fault numbers that a log contradicts least, which may have gaps", (WITHIN,)
+    ),
+    "adapt": Command(
+        "NETLIST RESULT PLAN",
+        "NETLIST RESULT",
+        "PLAN",
+        "checks the result, and writes which of its patterns to apply next, given the answers so far",
+    ),
+    "follow": Command("PLAN LOG", "PLAN LOG", "", "says where the answers so far lead in a plan"),
+    "faults": Command("NETLIST", "NETLIST", "", "lists the faults: number, number of the root in the collapse, name"),
+    "sim": Command(
+        "NETLIST VECTORS", "NETLIST VECTORS", "", "prints what the circuit answers to each vector, and each fault that answers otherwise"
+    ),
+    "synth": Command("N NETLIST RESULT", "", "NETLIST RESULT", "writes a netlist of N cells, 1 to 2,000, and a result for it"),
+}
+
+
+def files_of(command, words):
+    """The words of an understood command, by their names in its usage."""
+    names, plain, value = [], False, False
+    for word in words:
+        if value:
+            value = False
+        elif not plain and word == "--":
+            plain = True
+        elif not plain and word.startswith("--"):
+            value = "=" not in word
+        else:
+            names.append(word)
+    return dict(zip(COMMANDS[command].words.split(), names))
+
+
+def first_line(name):
+    """The words of a command."""
+    command = COMMANDS[name]
+    return " ".join(["diatest", name, command.words, *(f"[--{it.name} N]" for it in command.options)])
+
+
+def usage(name=None):
+    """The usage of a command, or of all."""
+    if name not in COMMANDS:
+        lines = [("       " if at else "usage: ") + first_line(it) for at, it in enumerate(COMMANDS)]
+        return "\n".join([*lines, "       diatest help COMMAND", ""])
+    lines = [f"usage: {first_line(name)}", COMMANDS[name].work]
+    options = COMMANDS[name].options
+    wide = max((len(it.name) for it in options), default=0)
+    lines += [f"  --{it.name} N{'':{wide - len(it.name)}}  0 to {it.most:,}, else {it.default:,}: {it.work}" for it in options]
+    return "\n".join([*lines, ""])
+
+
+if __name__ == "__main__":
+    say(usage(*sys.argv[1:2]))
