@@ -13,7 +13,7 @@ use Rattle.net_model.specs.Answer.{bit_at, shown_bits, Agrees, IsAnswer}
 use Rattle.net_model.proofs.Copies.{same_bits_same_list}
 use Rattle.net_model.proofs.Evaluation.{Agrees-exists}
 use Rattle.net_model.proofs.Seen.{length-seen_bits}
-use Rattle.fault_sim.proofs.FaultyLemmas.{seen_at}
+use Rattle.fault_heads.proofs.SeenPins.{seen_at}
 use Rattle.answer_numbers.specs.Growing.{passing_below}
 use Rattle.answer_numbers.specs.Trees.{turned}
 

@@ -1,5 +1,5 @@
 pub mod RowsLemmas
-pub mod FaultyLemmas
+pub mod TurnedLemmas
 pub mod SettledLemmas
 pub mod ShownLemmas
 pub mod DifferenceLemmas

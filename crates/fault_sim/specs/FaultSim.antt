@@ -5,6 +5,9 @@ use Rattle.net_model.specs.declared.fault.Fault.TheVariants.{Free}
 use Rattle.net_model.specs.Circuit.{Circuit}
 use Rattle.net_model.specs.Answer.{bit_at, IsAnswer}
 use Rattle.word_sim.specs.declared.lanes.TheConstants.{LANES}
+use Rattle.word_sim.specs.GoodSim.{GoodSim, vectors_of}
+use Rattle.fault_heads.specs.declared.head.Head.{Head}
+use Rattle.fault_heads.specs.Turned.{vector_at, turned_if, IsFreeLane}
 
 -- a circuit, and for each observed position a bit for each lane: whether the answers differ there
 pub record FaultSim : Type 0 where
@@ -24,6 +27,13 @@ pub record AreDifferences (c : Circuit) (f : Fault) (vectors rows : List (List B
   pub whole : length rows ≡ length c.positions
   pub live : (position lane : ℕ) → position < length c.positions → lane < length vectors → IsDifference c f (slice_index_or vectors lane []) position (bit_at (slice_index_or rows position []) lane)
   pub past : (position lane : ℕ) → position < length c.positions → length vectors ≤ lane → lane < LANES → bit_at (slice_index_or rows position []) lane ≡ false
+
+-- There is a row for each position. In the lanes of the vectors it says where the answer with the head turned, if it is turned there, differs from the fault-free one; in the others it is false.
+pub record AreTurnedDifferences (good : GoodSim) (head : Head) (lanes : List Bool) (rows : List (List Bool)) : Type 0 where
+  pub whole : length rows ≡ length good.circuit.positions
+  pub live : (position lane : ℕ) (free : List Bool) → position < length good.circuit.positions → IsFreeLane good lane free
+      → IsDifference good.circuit (turned_if good.circuit free head (bit_at lanes lane)) (vector_at good lane) position (bit_at (slice_index_or rows position []) lane)
+  pub past : (position lane : ℕ) → position < length good.circuit.positions → length (vectors_of good) ≤ lane → lane < LANES → bit_at (slice_index_or rows position []) lane ≡ false
 
 -- Some position differs in the lane.
 abbrev pub IsSomeDifference : FaultSim → ℕ → Type 0

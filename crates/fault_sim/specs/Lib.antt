@@ -1,6 +1,6 @@
 pub mod Rows
 pub mod RowsFields
-pub mod FaultyLanes
+pub mod TurnedLines
 pub mod Events
 pub mod FaultSim
 pub mod FaultSimFields

@@ -2,8 +2,8 @@
 #![tactic(auto)]
 
 mod events;
-mod faulty;
 mod rows;
 mod sim;
+mod turned;
 
 pub use sim::FaultSim;

@@ -1,21 +1,25 @@
 //! The simulator of single stuck-at faults (parallel-pattern single-fault propagation, PPSFP).
 
 ghost use Rattle.std.specs.Prelude.{◌≡◌, ℕ, ◌<◌, ◌↔◌, length, All, AllPairs, Contains, IsSome, IsTrue, IfOk};
+ghost use Rattle.net_model.specs.Circuit.{IsCircuit};
 ghost use Rattle.net_model.specs.Fault.{IsFaultOf};
 ghost use Rattle.net_model.specs.Answer.{bit_at};
 ghost use Rattle.word_sim.specs.GoodSim.{vectors_of};
+ghost use Rattle.fault_heads.specs.Turned.{IsHeadOf, IsLive};
 ghost use Rattle.fault_sim.specs.Rows.{IsFalse, IsTrueSomewhere};
-ghost use Rattle.fault_sim.specs.FaultSim.{lanes_at, AreDifferences, IsSomeDifference};
+ghost use Rattle.fault_sim.specs.FaultSim.{lanes_at, AreDifferences, AreTurnedDifferences, IsSomeDifference};
 
-use crate::events::{change_lines, mark_positions, show_positions};
+use crate::events::{mark_positions, show_positions, turn_line};
 use crate::rows::Rows;
 use event_queue::NumberQueue;
+use fault_heads::{Head, first_turn};
 use net_model::{Circuit, Fault};
 use std::alloc::{AllocError, Global};
 use std::marker::Model;
 use word_sim::{GoodSim, LANES, Lanes};
 
-/// Where the answers under the last injected fault differ from the fault-free ones, in each lane.
+/// Where the answers under the fault that was injected last, or with the head that was turned last, differ from the fault-free
+/// ones, in each lane.
 pub struct FaultSim<'a> {
     circuit: &'a Circuit,
     queue: NumberQueue,
@@ -50,7 +54,7 @@ impl<'a> Model for FaultSim<'a> {
 }
 
 impl<'a> FaultSim<'a> {
-    /// The simulator of a circuit's faults. Nothing differs before the first injection.
+    /// The simulator of a circuit's faults. Nothing differs before the first injection or turn.
     pub fn new(alloc: Global, circuit: &'a Circuit) -> Result<FaultSim<'a>, AllocError>
         ensures circuit { IfOk result (λ sim. sim.circuit ≡ circuit.now) }
         ensures whole { IfOk result (λ sim. length sim.differences ≡ length circuit.now.positions) }
@@ -68,7 +72,7 @@ impl<'a> FaultSim<'a> {
     }
 
     /// Evaluates a fault at the vectors of the block that the fault-free simulator ran last.
-    /// Only the fault's line and the gates that read a changed line are evaluated. It takes no memory.
+    /// Only the fault's own gate and the gates that read a changed line are evaluated. It takes no memory.
     pub fn inject(&mut self, good: &GoodSim, fault: &Fault)
         requires circuit { good.now.circuit ≡ self.old.circuit }
         requires ran { IsSome good.now.ran }
@@ -76,20 +80,59 @@ impl<'a> FaultSim<'a> {
         ensures circuit { self.new.circuit ≡ self.old.circuit }
         ensures differences { AreDifferences self.new.circuit fault.now (vectors_of good.now) self.new.differences }
     {
-        let (live, fault) = (good.live(), *fault);
+        let live = good.live();
+        match first_turn(good, *fault) {
+            Some(turn) => self.flip_live(good, live, turn.head, turn.lanes),
+            None => self.clear(),
+        }
+    }
+
+    /// Evaluates a head turned in these lanes, at the vectors of the block that the fault-free simulator ran last. Lanes with no
+    /// vector are left out. Only gates that read a changed line are evaluated, and never the head's own. It takes no memory.
+    pub fn flip(&mut self, good: &GoodSim, head: Head, lanes: Lanes)
+        requires circuit { good.now.circuit ≡ self.old.circuit }
+        requires ran { IsSome good.now.ran }
+        requires head { IsHeadOf self.old.circuit head }
+        ensures circuit { self.new.circuit ≡ self.old.circuit }
+        ensures differences { AreTurnedDifferences good.now head lanes self.new.differences }
+    {
+        self.flip_live(good, good.live(), head, lanes);
+    }
+
+    // The same, where it is known which lanes have a vector.
+    fn flip_live(&mut self, good: &GoodSim, live: Lanes, head: Head, lanes: Lanes)
+        requires circuit { good.now.circuit ≡ self.old.circuit }
+        requires live { IsLive good.now live }
+        requires head { IsHeadOf self.old.circuit head }
+        ensures circuit { self.new.circuit ≡ self.old.circuit }
+        ensures differences { AreTurnedDifferences good.now head lanes self.new.differences }
+    {
+        let turned = lanes.and(live);
         self.lines.clear();
         self.positions.clear();
-        change_lines(good, live, fault, &mut self.queue, &mut self.lines);
-        mark_positions(self.circuit, fault, &self.lines, &mut self.marks);
-        let lines = self.lines.as_slice();
-        show_positions(
-            good,
-            live,
-            fault,
-            lines,
-            &mut self.marks,
-            &mut self.positions,
-        );
+        if !turned.any() {
+            return;
+        }
+        match head {
+            Head::Line(line) => {
+                turn_line(good, live, line, turned, &mut self.queue, &mut self.lines);
+                mark_positions(self.circuit, &self.lines, &mut self.marks);
+                let (shown, lines) = (self.circuit.positions(), self.lines.as_slice());
+                show_positions(shown, lines, &mut self.marks, &mut self.positions);
+            }
+            Head::Position(at) => self.positions.set(at, turned),
+        }
+    }
+
+    // Nothing differs from now on.
+    fn clear(&mut self)
+        ensures circuit { self.new.circuit ≡ self.old.circuit }
+        ensures whole { length self.new.differences ≡ length self.new.circuit.positions }
+        ensures same { All IsFalse self.new.differences }
+        ensures built { IsCircuit self.new.circuit }
+    {
+        self.lines.clear();
+        self.positions.clear();
     }
 
     /// In which lanes the answers differ at a position. A lane with no vector is false.

@@ -18,7 +18,7 @@ use Rattle.class_refine.proofs.Pieces.{representative_lowest}
 use Rattle.class_refine.proofs.Refined.{sound_from, from_cuts, adds_split, whole-first, representative-member}
 use Rattle.class_refine.proofs.Names.{numbers_after}
 use Rattle.word_sim.specs.GoodSim.{GoodSim, vectors_of}
-use Rattle.fault_sim.specs.FaultyLanes.{vector_at}
+use Rattle.fault_heads.specs.Turned.{vector_at}
 use Rattle.kept_vectors.specs.Kept.{KeptSoFar, nothing_kept, with_vector, Keeps, KeepsFirst, SplitInTurn, IsFiner}
 use Rattle.kept_vectors.specs.Keeper.{keeper_with, IsKeeper}
 use Rattle.kept_vectors.specs.Notes.{AreAlikeAt}

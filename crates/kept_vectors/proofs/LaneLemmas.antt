@@ -11,12 +11,10 @@ use Rattle.class_refine.specs.declared.leaver.Leaver.{Leaver}
 use Rattle.class_refine.specs.Leavers.{LeavesClass, AreLeavers}
 use Rattle.class_refine.proofs.Refinement.{refined_is}
 use Rattle.word_sim.specs.GoodSim.{GoodSim, vectors_of}
-use Rattle.fault_sim.specs.FaultyLanes.{vector_at}
-use Rattle.kept_vectors.specs.declared.notes.Note.{Note}
-use Rattle.kept_vectors.specs.declared.notes.Span.{Span}
+use Rattle.fault_heads.specs.Turned.{vector_at}
 use Rattle.kept_vectors.specs.Kept.{KeptSoFar, with_vector, Keeps, IsFiner}
 use Rattle.kept_vectors.specs.Leaves.{AreToldAt}
-use Rattle.kept_vectors.specs.Notes.{AreTold, AreMatesNoted}
+use Rattle.kept_vectors.specs.Notes.{Noted, AreTold, AreMatesNoted}
 use Rattle.kept_vectors.specs.Waits.{AreWaiting}
 use Rattle.kept_vectors.proofs.AnswerLemmas.{row_exists}
 use Rattle.kept_vectors.proofs.KeepLemmas.{ran_vectors, keeps_one, skipped_lane, whole_after}
@@ -29,7 +27,7 @@ pub record IsLaneKept (good : GoodSim) (lane limit : ℕ) (lists : List (List �
   pub finer : IsFiner old.table new.table
   pub waits : AreWaiting good new.table (lane + 1) limit lists left
 
-module _ {good : GoodSim} {vectors : List (List Bool)} {notes : List Note} {spans : List Span} (old : KeptSoFar) (told : AreTold good vectors notes spans old.table) (lane limit : ℕ) (below : lane < limit) (within : limit ≤ length vectors)
+module _ {good : GoodSim} {vectors : List (List Bool)} {noted : Noted} (old : KeptSoFar) (told : AreTold good vectors noted old.table) (lane limit : ℕ) (below : lane < limit) (within : limit ≤ length vectors)
     (lists : List (List ℕ)) (waits : AreWaiting good old.table lane limit lists []) (ns : List ℕ) (all : (n : ℕ) → Contains (get_or lists lane []) n → Contains ns n) (others : (n : ℕ) → Contains ns n → Contains (get_or lists lane []) n) where
   live : lane < length (vectors_of good)
   live = subst (λ (vs : List (List Bool)). lane < length vs) (sym (ran_vectors good vectors told.ran)) (omega (arith, below, within))
@@ -42,10 +40,10 @@ module _ {good : GoodSim} {vectors : List (List Bool)} {notes : List Note} {span
       all_leave good told.circuit old.table told.whole told.numbers lane live row answers lists limit below waits ns all others n (first_here good told.circuit old.table told.whole told.numbers lane live row answers n leaves)
 
   -- all numbers of a leaver's class are noted
-  pub mates_here : (n : ℕ) → Contains ns n → AreMatesNoted good notes spans old.table n
+  pub mates_here : (n : ℕ) → Contains ns n → AreMatesNoted good noted old.table n
   mates_here n has =
       let r = row_of in
-      mates_of good told.circuit old.table told.whole told.numbers lane live r.0 r.1 lists limit below waits ns all others notes spans told.noted n
+      mates_of good told.circuit old.table told.whole told.numbers lane live r.0 r.1 lists limit below waits ns all others noted told.mates n
       (some_leaves good told.circuit old.table told.whole told.numbers lane live r.0 r.1 lists limit below waits ns all others n has)
 
   pub leaver_below : (n : ℕ) → Contains ns n → n < length old.table.class_of
@@ -60,11 +58,11 @@ module _ {good : GoodSim} {vectors : List (List Bool)} {notes : List Note} {span
   pub none_moved_here : ns ≡ [] → AreWaiting good old.table (lane + 1) limit lists []
   none_moved_here none = let r = row_of in waits_on good told.circuit old.table told.whole told.numbers lane live r.0 r.1 lists limit below waits ns (left_here r.0 r.1) none
 
-  module _ (leavers : List Leaver) (positions : List ℕ) (ordered : AllPairs (ComesBefore old.table) ns) (tells : AreToldAt notes spans lane ns leavers positions) where
+  module _ (leavers : List Leaver) (positions : List ℕ) (ordered : AllPairs (ComesBefore old.table) ns) (tells : AreToldAt noted lane ns leavers positions) where
     -- they are the leavers by the row of answers
     pub leavers_here : (row : List (List Bool)) → IsAnswerRow good.circuit (vector_at good lane) row → AreLeavers old.table row leavers positions
     leavers_here row answers =
-        are_leavers good told.circuit old.table told.whole told.numbers lane live row answers lists limit below waits ns all others notes spans told.noted leavers positions ordered tells.numbers_are tells.parts tells.tells
+        are_leavers good told.circuit old.table told.whole told.numbers lane live row answers lists limit below waits ns all others noted told.mates leavers positions ordered tells.numbers_are tells.parts tells.tells
 
     pub some_leavers : (row : List (List Bool)) × AreLeavers old.table row leavers positions
     some_leavers = let r = row_of in (r.0, leavers_here r.0 r.1)
@@ -87,7 +85,7 @@ module _ {good : GoodSim} {vectors : List (List Bool)} {notes : List Note} {span
         }
 
     -- of whom all numbers of the new classes are noted
-    pub mates_behind : (new : KeptSoFar) → IsLaneKept good lane limit lists ns old new → All (λ n. (n < length new.table.class_of) × AreMatesNoted good notes spans new.table n) ns
+    pub mates_behind : (new : KeptSoFar) → IsLaneKept good lane limit lists ns old new → All (λ n. (n < length new.table.class_of) × AreMatesNoted good noted new.table n) ns
     mates_behind new kept k d h =
         let n = get_or ns k d in
         let has = Contains-get_or ns k d h in

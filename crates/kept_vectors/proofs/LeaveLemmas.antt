@@ -24,10 +24,9 @@ use Rattle.kept_vectors.specs.Kept.{KeptSoFar, with_vector}
 use Rattle.class_refine.proofs.Ranges.{same_ordered}
 use Rattle.class_refine.proofs.Refined.{representative-member, sound_from, split_adds, cuts_from}
 use Rattle.word_sim.specs.GoodSim.{GoodSim, vectors_of}
-use Rattle.fault_sim.specs.FaultyLanes.{vector_at}
+use Rattle.fault_heads.specs.Turned.{vector_at}
 use Rattle.kept_vectors.specs.declared.notes.Note.{Note}
-use Rattle.kept_vectors.specs.declared.notes.Span.{Span}
-use Rattle.kept_vectors.specs.Notes.{has_lane, is_noted, lane_positions, AreAscending, AreNotedAlike, AreAlikeAt, AreMatesNoted, AreMatesAlike, number_notes}
+use Rattle.kept_vectors.specs.Notes.{has_lane, is_noted, lane_positions, AreAscending, AreNotedAlike, AreAlikeAt, AreMatesNoted, AreMatesAlike, Noted, number_notes}
 use Rattle.kept_vectors.specs.Waits.{IsLed, LeavesFirst, AreWaiting}
 use Rattle.kept_vectors.proofs.AnswerLemmas.{answer_in_row}
 use Rattle.kept_vectors.proofs.NoteLemmas.{alike_by_notes}
@@ -128,17 +127,17 @@ module _ (good : GoodSim) (is : IsCircuit good.circuit) (t : ClassTable) (whole 
     pub all_leave : (n : ℕ) → LeavesFirst good t lane lane n → Contains ns n
     all_leave n first = elim (waits.all n lane (omega arith) below first) [ inl has ↦ all n has | inr (k, h, e) ↦ absurd (omega (arith, h)) ]
 
-    module _ (notes : List Note) (spans : List Span) (noted : (n : ℕ) → n < length t.class_of → AreMatesNoted good notes spans t n ⊎ AreMatesAlike good t n) where
+    module _ (noted : Noted) (mates_or : (n : ℕ) → n < length t.class_of → AreMatesNoted good noted t n ⊎ AreMatesAlike good t n) where
       -- all numbers of a leaver's class are noted
-      pub mates_of : (n : ℕ) → LeavesFirst good t lane lane n → AreMatesNoted good notes spans t n
-      mates_of n first = elim (noted n first.number) [
+      pub mates_of : (n : ℕ) → LeavesFirst good t lane lane n → AreMatesNoted good noted t n
+      mates_of n first = elim (mates_or n first.number) [
         | inl mates ↦ mates
         | inr alike ↦ let lead = lead_below n first.number in absurd (first.differs (alike (representative t (class_at t n)) lane lead.0 lead.1 live))
       ]
 
       module _ (leavers : List Leaver) (positions : List ℕ) (ordered : AllPairs (ComesBefore t) ns) (numbers_are : map (λ (l : Leaver). l.number) leavers ≡ ns)
           (parts : All (λ (l : Leaver). (l.start ≤ l.end) × (l.end ≤ length positions)) leavers)
-          (tells : All (λ (l : Leaver). told positions l ≡ lane_positions (number_notes notes spans l.number) lane) leavers) where
+          (tells : All (λ (l : Leaver). told positions l ≡ lane_positions (number_notes noted l.number lane) lane) leavers) where
         number_at : (k : ℕ) (d : Leaver) → k < length leavers → get_or ns k 0 ≡ (get_or leavers k d).number
         number_at k d h = ap (λ (xs : List ℕ). get_or xs k 0) (sym numbers_are) ∙ get_or-map (λ (l : Leaver). l.number) leavers k d 0 h
 
@@ -162,10 +161,10 @@ module _ (good : GoodSim) (is : IsCircuit good.circuit) (t : ClassTable) (whole 
               let first = leaver_first i d hi in
               let second = leaver_first j d h in
               let mates = mates_of a first in
-              let one = (mates a first.number refl).report in
-              let other = (mates b second.number (sym same)).report in
-              let by_notes = alike_by_notes good is a b lane (number_notes notes spans a) (number_notes notes spans b) one other live in
-              let by_positions = same_positions lane (number_notes notes spans a) (number_notes notes spans b) one.ascend other.ascend in (
+              let one = (mates a first.number refl).report lane live in
+              let other = (mates b second.number (sym same)).report lane live in
+              let by_notes = alike_by_notes good is a b lane (number_notes noted a lane) (number_notes noted b lane) one other in
+              let by_positions = same_positions lane (number_notes noted a lane) (number_notes noted b lane) one.ascend other.ascend in (
                 λ e. alike_in_row a b first.number second.number (by_notes.0 (by_positions.0 (sym (tells i d hi) ∙ (e ∙ tells j d h)))),
                 λ e. tells i d hi ∙ (by_positions.1 (by_notes.1 (alike_from_row a b first.number second.number e)) ∙ sym (tells j d h)),
               );

@@ -1,5 +1,7 @@
 pub mod AnswerLemmas
 mod NoteLemmas
+mod TurnLemmas
+mod AskLemmas
 mod ApartLemmas
 mod FirstLane
 mod GroupLemmas

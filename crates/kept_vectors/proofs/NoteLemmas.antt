@@ -1,27 +1,32 @@
 -- What is noted of numbers: one number more, and whole groups.
-use Rattle.std.proofs.Common.{◌≡◌, ◌≢◌, ◌↔◌, ℕ, zero, suc, ◌-◌, ◌<◌, ◌≤◌, Bool, true, false, ◌&&◌, ◌||◌, eqb, List, [], ◌∷◌, ◌++◌, map, take, drop, length, get_or, set, refl, sym, ap, subst, ◌∙◌, arith, IsTrue, inl, inr}
+use Rattle.std.proofs.Common.{◌≡◌, ◌↔◌, ℕ, zero, suc, ◌+◌, ◌-◌, Option, None, lt-ltb, le-ltb, ◌<◌, ◌≤◌, Bool, true, false, ◌&&◌, ◌||◌, eqb, List, [], ◌∷◌, ◌++◌, map, take, drop, length, get_or, set, refl, sym, ap, subst, ◌∙◌, arith, IsTrue, inl, inr}
 use Rattle.std.specs.Prelude.{Some, All, Contains, slice_get, slice_range}
 use Rattle.std.specs.List.{list_any, AllPairs}
-use Rattle.std.proofs.lemmas.Bool.{and_parts, and_from, cases_eq, cases_lt, ne_eqb, or_cases, or_left, or_right, eqb-true, eq-eqb, false≢true}
+use Rattle.std.proofs.lemmas.Bool.{cases_Bool, and_parts, and_from, cases_eq, cases_lt, ne_eqb, or_cases, or_left, or_right, eqb-true, eq-eqb, false≢true}
 use Rattle.std.proofs.lemmas.List.{drop-append-le, take-append-le, take_all, length-append, length-drop, length-map, length-set, get_or-map, get_or-set_same, get_or-set_other, get_or_default}
 use Rattle.std.proofs.lemmas.List.Elements.{All-map, All-head, All-tail}
 use Rattle.std.proofs.lemmas.Option.{get_or_from_slice_get, slice_get_within}
 use Rattle.std.specs.Cmp.Derive.{one_truth}
 use Rattle.net_model.specs.declared.fault.Fault.{Fault}
 use Rattle.net_model.specs.declared.fault.Fault.TheVariants.{Free}
-use Rattle.net_model.specs.Circuit.{Circuit, IsCircuit}
+use Rattle.net_model.specs.Circuit.{Circuit, IsCircuit, line_count}
 use Rattle.net_model.specs.Fault.{IsFaultOf}
 use Rattle.net_model.specs.FaultList.{faults, fault_count, fault_numbered}
-use Rattle.net_model.specs.Answer.{bit_at, AreEqual}
+use Rattle.net_model.specs.Answer.{bit_at, IsAnswer}
+use Rattle.net_model.proofs.OneAnswer.{one_answer}
+use Rattle.net_model.proofs.Evaluation.{Agrees-exists}
 use Rattle.net_model.proofs.Listed.{listed as all_stand}
 use Rattle.word_sim.specs.declared.lanes.TheConstants.{LANES}
 use Rattle.word_sim.specs.GoodSim.{GoodSim, vectors_of}
-use Rattle.fault_sim.specs.FaultyLanes.{vector_at}
-use Rattle.fault_sim.specs.Rows.{IsTrueSomewhere}
-use Rattle.fault_sim.specs.FaultSim.{FaultSim, lanes_at, AreDifferences, IsDifference}
+use Rattle.fault_heads.specs.Turned.{vector_at, IsFreeLane, IsHeadOf, turned_if, TurnsHead}
+use Rattle.fault_heads.specs.declared.head.Head.{Head}
+use Rattle.fault_heads.specs.declared.head.Head.TheVariants as heads
+use Rattle.fault_heads.specs.declared.head.Turn.{Turn}
+use Rattle.fault_sim.specs.Rows.{IsFalse, IsTrueSomewhere}
+use Rattle.fault_sim.specs.FaultSim.{FaultSim, lanes_at, AreTurnedDifferences, IsDifference}
 use Rattle.kept_vectors.specs.declared.notes.Note.{Note}
-use Rattle.kept_vectors.specs.declared.notes.Span.{Span}
-use Rattle.kept_vectors.specs.Notes.{has_lane, is_noted, AreAscending, AreNotesAt, IsDifferenceOf, IsReportOf, IsSpanIn, noted_in, no_span, HasNotes, IsNumberNoted, AreNotedAlike, AreAlikeAt, AreRootsOf}
+use Rattle.kept_vectors.specs.declared.notes.Shown.{Shown}
+use Rattle.kept_vectors.specs.Notes.{has_lane, is_noted, AreAscending, AreNotesAt, IsDifferenceOf, IsReportOf, IsHeadReport, IsShownAs, IsSpanIn, noted_in, nothing_shown, AreNotedAlike, AreAlikeAt, AreRootsOf, Noted, place_of, head_at, head_notes, turn_of, turn_notes, lane_notes, IsPlaceShown, IsTurnShown, HasNotes, IsTurnNeeded, IsNumberAsked, IsPlaceNoted, IsNumberNoted}
 use Rattle.kept_vectors.proofs.AnswerLemmas.{answer_exists, alike_by_differences, same_difference}
 
 -- ---- the notes of one number
@@ -65,32 +70,14 @@ notes_of sim listed within ascend exactly = record {
         let h : j < length ps = omega (arith, below, length-map ps (note_at sim)) in
         rw (get_or-map (note_at sim) ps i 0 d (omega (arith, less, h)), get_or-map (note_at sim) ps j 0 d h) (up i j 0 less h)
 
--- so they report the number whose fault was injected
-pub report_of : (good : GoodSim) (sim : FaultSim) (number : ℕ) (notes : List Note) → length (vectors_of good) ≤ LANES → sim.circuit ≡ good.circuit
-    → AreDifferences good.circuit (fault_numbered good.circuit number) (vectors_of good) sim.differences → AreNotesAt sim notes → IsReportOf good number notes
-report_of good sim number notes few same differ are = record {
+-- so they report the head that was turned
+pub head_report : (good : GoodSim) (sim : FaultSim) (head : Head) (row : List Bool) (notes : List Note) → sim.circuit ≡ good.circuit → AreTurnedDifferences good head row sim.differences → AreNotesAt sim notes → IsHeadReport good head row notes
+head_report good sim head row notes same differ are = record {
   positions = subst (λ c. All (λ note. note.position < length c.positions) notes) same are.positions;
   ascend = are.ascend;
-  differ = λ position lane h live.
-      let noted = are.noted position lane (subst (λ c. position < length c.positions) (sym same) h) (omega (arith, live, few)) in
-      subst (λ b. IsDifferenceOf good number position lane b) (sym noted) (differ.live position lane h live);
-}
-
--- the bit of a difference is the same of an equal fault
-same_difference_of : (c : Circuit) → IsCircuit c → (f g : Fault) (v : List Bool) (position : ℕ) (bit : Bool) → length v ≡ c.sources → AreEqual c f g → IsDifference c f v position bit → IsDifference c g v position bit
-same_difference_of c is f g v position bit width equal differ answer free a b =
-    let twin = answer_exists c is f v in
-    let same : twin.0 ≡ answer = equal v twin.0 answer width twin.1 a in
-    subst (λ x. IsTrue bit ↔ (bit_at x position ≢ bit_at free position)) same (differ twin.0 free twin.1 b)
-
--- the notes of a number report an equal one too
-pub report_copied : (good : GoodSim) → IsCircuit good.circuit → All (λ v. length v ≡ good.circuit.sources) (vectors_of good) → (twin number : ℕ) → AreEqual good.circuit (fault_numbered good.circuit twin) (fault_numbered good.circuit number)
-    → (notes : List Note) → IsReportOf good twin notes → IsReportOf good number notes
-report_copied good is widths twin number equal notes report = record {
-  positions = report.positions;
-  ascend = report.ascend;
-  differ = λ position lane h live.
-      same_difference_of good.circuit is (fault_numbered good.circuit twin) (fault_numbered good.circuit number) (vector_at good lane) position (is_noted notes lane position) (widths lane [] live) equal (report.differ position lane h live);
+  differ = λ position lane free h live.
+      let noted = are.noted position lane (subst (λ c. position < length c.positions) (sym same) h) live.within in
+      subst (λ b. IsDifference good.circuit (turned_if good.circuit free head (bit_at row lane)) (vector_at good lane) position b) (sym noted) (differ.live position lane free h live);
 }
 
 -- ---- notes behind notes
@@ -109,44 +96,109 @@ pub range_behind : {X : Type 0} (xs ys : List X) (a b : ℕ) → a ≡ length xs
 range_behind {X} xs ys a b start end =
     ap (λ (n : ℕ). take (b - a) (drop n (xs ++ ys))) start ∙ ap (take (b - a)) (drop_all_append xs ys) ∙ take_all (b - a) ys (omega (arith, start, end, length-append xs ys))
 
--- a number whose span is set is noted
-pub noted_here : (good : GoodSim) (notes : List Note) (spans : List Span) (number : ℕ) (span : Span) → number < length spans → IsSpanIn notes span → IsReportOf good number (noted_in notes span) → IsNumberNoted good notes (set spans number span) number
-noted_here good notes spans number span inside within report =
-    let is : get_or (set spans number span) number no_span ≡ span = get_or-set_same spans number span no_span inside in
+-- ---- the heads of places
+
+-- a part that is noted is noted once there are more notes
+pub shown_later : {good : GoodSim} {head : Head} {row : List Bool} {old notes : List Note} {shown : Shown} (more : List Note) → notes ≡ old ++ more → IsShownAs good head row old shown → IsShownAs good head row notes shown
+shown_later {good} {head} {row} {old} {notes} {shown} more longer is =
+    let same : noted_in notes shown ≡ noted_in old shown = ap (λ (ns : List Note). noted_in ns shown) longer ∙ range_longer old more shown.start shown.end is.within.0 is.within.1 in
     record {
-      below = omega (arith, inside, length-set spans number span);
-      within = rw is within;
-      report = rw is report;
+      within = (is.within.0, omega (arith, is.within.1, length-append old more, ap length longer));
+      report = rw same is.report;
+      any = rw same is.any;
     }
 
--- a number that was noted is noted once there are more notes, and another span is set that is that of a number's own notes
-pub noted_later : (good : GoodSim) (old more notes : List Note) (spans : List Span) (number : ℕ) (span : Span) → notes ≡ old ++ more → IsSpanIn notes span → IsReportOf good number (noted_in notes span) → (n : ℕ)
-    → IsNumberNoted good old spans n → IsNumberNoted good notes (set spans number span) n
-noted_later good old more notes spans number span longer within report n noted = elim (cases_eq n number) [
-  | inl same ↦
-      let inside : number < length spans = omega (arith, same, noted.below) in
-      subst (IsNumberNoted good notes (set spans number span)) (sym same) (noted_here good notes spans number span inside within report)
-  | inr other ↦
-      let is : get_or (set spans number span) n no_span ≡ get_or spans n no_span = get_or-set_other spans number n span no_span other in
-      let own = get_or spans n no_span in
-      let same : noted_in notes own ≡ noted_in old own = ap (λ (ns : List Note). noted_in ns own) longer ∙ range_longer old more own.start own.end noted.within.0 noted.within.1 in
-      record {
-        below = omega (arith, noted.below, length-set spans number span);
-        within = rw is (noted.within.0, omega (arith, noted.within.1, length-append old more, ap length longer));
-        report = rw (is, same) noted.report;
-      }
-]
+-- the place whose part is set, and another
+pub place_here : (good : GoodSim) (needs : List (List Bool)) (notes : List Note) (shown : List Shown) (place : ℕ) (part : Shown) → place < length shown → IsShownAs good (head_at (line_count good.circuit) place) (get_or needs place []) notes part → IsPlaceNoted good needs notes (set shown place part) place
+place_here good needs notes shown place part inside is =
+    let at : get_or (set shown place part) place nothing_shown ≡ part = get_or-set_same shown place part nothing_shown inside in
+    record { below = omega (arith, inside, length-set shown place part); shows = rw at is }
 
--- the span of a number is one of an equal number's notes
-pub noted_twin : (good : GoodSim) → IsCircuit good.circuit → All (λ v. length v ≡ good.circuit.sources) (vectors_of good) → (notes : List Note) (spans : List Span) (twin number : ℕ) (span : Span) → span ≡ get_or spans twin span
-    → AreEqual good.circuit (fault_numbered good.circuit twin) (fault_numbered good.circuit number) → IsNumberNoted good notes spans twin → IsSpanIn notes span × IsReportOf good number (noted_in notes span)
-noted_twin good is widths notes spans twin number span at equal noted =
-    let same : get_or spans twin no_span ≡ span = get_or_default spans twin no_span span noted.below ∙ sym at in
-    (subst (IsSpanIn notes) same noted.within, report_copied good is widths twin number equal (noted_in notes span) (subst (λ (s : Span). IsReportOf good twin (noted_in notes s)) same noted.report))
+pub place_later : (good : GoodSim) (needs : List (List Bool)) (old more notes : List Note) (shown : List Shown) (place : ℕ) (part : Shown) → notes ≡ old ++ more → (other : ℕ) → other < place → IsPlaceNoted good needs old shown other → IsPlaceNoted good needs notes (set shown place part) other
+place_later good needs old more notes shown place part longer other less is =
+    let at : get_or (set shown place part) other nothing_shown ≡ get_or shown other nothing_shown = get_or-set_other shown place other part nothing_shown (omega (arith, less)) in
+    record { below = omega (arith, is.below, length-set shown place part); shows = rw at (shown_later more longer is.shows) }
 
--- what is noted of a number comes by position
-pub has_notes : {good : GoodSim} {notes : List Note} {spans : List Span} {number : ℕ} → IsNumberNoted good notes spans number → HasNotes notes spans number
-has_notes noted = record { below = noted.below; within = noted.within; ascend = noted.report.ascend }
+-- without a fault nothing differs
+free_difference : (c : Circuit) → IsCircuit c → (v : List Bool) (position : ℕ) → IsDifference c Free v position false
+free_difference c is v position answer free a b = (λ e. absurd (false≢true e), λ ne. absurd (ne (ap (λ (xs : List Bool). bit_at xs position) (one_answer c is Free v answer free a b))))
+
+-- a head that isn't needed shows nothing
+pub nothing_needed : (good : GoodSim) → IsCircuit good.circuit → (head : Head) (row : List Bool) (notes : List Note) (any : List Bool) → IsFalse row → ((lane : ℕ) → lane < LANES → bit_at any lane ≡ false) → IsShownAs good head row notes (record { start = 0; end = 0; any = any })
+nothing_needed good is head row notes any off none = record {
+  within = (omega arith, omega arith);
+  report = record {
+    positions = λ k d h. absurd (omega (arith, h));
+    ascend = λ i j d less h. absurd (omega (arith, h));
+    differ = λ position lane free h live. rw (off lane live.within) (free_difference good.circuit is (vector_at good lane) position);
+  };
+  any = λ lane h. (λ e position. refl, λ same. none lane h);
+}
+
+-- the head of a head's place is it
+pub head_back : (c : Circuit) (head : Head) → IsHeadOf c head → head_at (line_count c) (place_of (line_count c) head) ≡ head
+head_back c (heads.Line line) inside = rw (lt-ltb line (line_count c) inside) refl
+head_back c (heads.Position at) inside =
+    let e : line_count c + at - line_count c ≡ at = omega arith in
+    rw (le-ltb (line_count c + at) (line_count c) (omega arith)) (ap heads.Position e)
+
+pub place_below : (c : Circuit) (head : Head) → IsHeadOf c head → place_of (line_count c) head < line_count c + length c.positions
+place_below c (heads.Line line) inside = omega (arith, inside)
+place_below c (heads.Position at) inside = omega (arith, inside)
+
+-- ---- the notes of one number
+
+module _ (good : GoodSim) (is : IsCircuit good.circuit) (few : length (vectors_of good) ≤ LANES) (needs : List (List Bool)) (noted : Noted) (lines : noted.lines ≡ line_count good.circuit)
+    (places : (place : ℕ) → place < line_count good.circuit + length good.circuit.positions → IsPlaceNoted good needs noted.notes noted.shown place) (number : ℕ) where
+  nothing_noted : (lane : ℕ) → ((answer : List Bool) → IsAnswer good.circuit (fault_numbered good.circuit number) (vector_at good lane) answer → IsAnswer good.circuit Free (vector_at good lane) answer) → IsReportOf good number lane []
+  nothing_noted lane free = record {
+    positions = λ k d h. absurd (omega (arith, h));
+    ascend = λ i j d less h. absurd (omega (arith, h));
+    differ = λ position h answer other a b. free_difference good.circuit is (vector_at good lane) position answer other (free answer a) b;
+  }
+
+  -- what is noted of a turn
+  abbrev pub IsTurnNoted : Option Turn → Type 0
+  IsTurnNoted turn = IsTurnShown noted turn × ((lane : ℕ) → lane < length (vectors_of good) → IsReportOf good number lane (lane_notes noted turn lane))
+
+  pub turn_noted : (turn : Option Turn) → IsTurnNeeded good needs number turn → IsTurnNoted turn
+  turn_noted None free = (tt, λ lane live. nothing_noted lane (λ answer a. subst (λ f. IsAnswer good.circuit f (vector_at good lane) answer) free a))
+  turn_noted (Some turn) (inside, turns, needed) =
+      let c = good.circuit in
+      let place = place_of noted.lines turn.head in
+      let below : place < line_count c + length c.positions = subst (λ (l : ℕ). place_of l turn.head < line_count c + length c.positions) (sym lines) (place_below c turn.head inside) in
+      let back : head_at (line_count c) place ≡ turn.head = subst (λ (l : ℕ). head_at (line_count c) (place_of l turn.head) ≡ turn.head) (sym lines) (head_back c turn.head inside) in
+      let one = places place below in
+      let own : IsPlaceShown noted place = record { below = one.below; within = one.shows.within; ascend = one.shows.report.ascend; any = one.shows.any } in
+      let report = one.shows.report in (
+        own,
+        λ lane live. elim (cases_Bool (bit_at turn.lanes lane)) [
+          | inr off ↦
+              let valued = Agrees-exists c Free (vector_at good lane) is in
+              let free : IsFreeLane good lane valued.0 = record { within = omega (arith, live, few); live = live; agrees = valued.1 } in
+              rw off (nothing_noted lane (λ answer a. subst (λ (b : Bool). IsAnswer c (turned_if c valued.0 turn.head b) (vector_at good lane) answer) off (turns lane valued.0 answer free a)))
+          | inl on ↦
+              let valued = Agrees-exists c Free (vector_at good lane) is in
+              let free : IsFreeLane good lane valued.0 = record { within = omega (arith, live, few); live = live; agrees = valued.1 } in
+              let need : bit_at (get_or needs place []) lane ≡ true = subst (λ (l : ℕ). bit_at (get_or needs (place_of l turn.head) []) lane ≡ true) (sym lines) (needed lane (omega (arith, live, few)) on) in
+              let here : IsReportOf good number lane (head_notes noted place) = record {
+                positions = report.positions;
+                ascend = report.ascend;
+                differ = λ position h answer other a b.
+                    let by_head = report.differ position lane valued.0 h free in
+                    let moved : IsDifference c (turned_if c valued.0 turn.head true) (vector_at good lane) position (is_noted (head_notes noted place) lane position) =
+                    subst (λ (b : Bool). IsDifference c (turned_if c valued.0 turn.head b) (vector_at good lane) position (is_noted (head_notes noted place) lane position)) need
+                    (subst (λ (h : Head). IsDifference c (turned_if c valued.0 h (bit_at (get_or needs place []) lane)) (vector_at good lane) position (is_noted (head_notes noted place) lane position)) back by_head) in
+                    moved answer other (subst (λ (b : Bool). IsAnswer c (turned_if c valued.0 turn.head b) (vector_at good lane) answer) on (turns lane valued.0 answer free a)) b;
+              } in
+              rw on here
+        ],
+      )
+
+  pub number_noted : IsNumberAsked good needs noted.turns number → IsNumberNoted good noted number
+  number_noted asked =
+      let both = turn_noted (turn_of noted number) asked.turn in
+      record { notes = record { below = asked.below; shown = both.0 }; report = both.1 }
 
 -- ---- alike
 
@@ -164,32 +216,29 @@ none_beyond limit lane position (n ∷ notes) all over =
     λ i. (other i && bit_at n.lanes lane) || rest i
 
 -- two numbers answer alike in a lane exactly where the same is noted
-pub alike_by_notes : (good : GoodSim) → IsCircuit good.circuit → (m n lane : ℕ) (one other : List Note) → IsReportOf good m one → IsReportOf good n other → lane < length (vectors_of good) → AreNotedAlike lane one other ↔ AreAlikeAt good lane m n
-alike_by_notes good is m n lane one other first second live = (
+pub alike_by_notes : (good : GoodSim) → IsCircuit good.circuit → (m n lane : ℕ) (one other : List Note) → IsReportOf good m lane one → IsReportOf good n lane other → AreNotedAlike lane one other ↔ AreAlikeAt good lane m n
+alike_by_notes good is m n lane one other first second = (
   λ same. alike_by_differences good.circuit is (fault_numbered good.circuit m) (fault_numbered good.circuit n) (vector_at good lane) (is_noted one lane)
-      (λ position h. (first.differ position lane h live, subst (λ b. IsDifferenceOf good n position lane b) (sym (same position)) (second.differ position lane h live))),
+      (λ position h. (first.differ position h, subst (λ b. IsDifferenceOf good n position lane b) (sym (same position)) (second.differ position h))),
   λ alike position. elim (cases_lt position (length good.circuit.positions)) [
     | inr over ↦ none_beyond (length good.circuit.positions) lane position one first.positions over ∙ sym (none_beyond (length good.circuit.positions) lane position other second.positions over)
     | inl h ↦
         let free = answer_exists good.circuit is Free (vector_at good lane) in
         let a = answer_exists good.circuit is (fault_numbered good.circuit m) (vector_at good lane) in
         let b = answer_exists good.circuit is (fault_numbered good.circuit n) (vector_at good lane) in
-        same_difference (is_noted one lane position) (is_noted other lane position) (bit_at a.0 position) (bit_at b.0 position) (bit_at free.0 position) (first.differ position lane h live a.0 free.0 a.1 free.1)
-        (second.differ position lane h live b.0 free.0 b.1 free.1) (ap (λ (xs : List Bool). bit_at xs position) (alike a.0 b.0 a.1 b.1))
+        same_difference (is_noted one lane position) (is_noted other lane position) (bit_at a.0 position) (bit_at b.0 position) (bit_at free.0 position) (first.differ position h a.0 free.0 a.1 free.1)
+        (second.differ position h b.0 free.0 b.1 free.1) (ap (λ (xs : List Bool). bit_at xs position) (alike a.0 b.0 a.1 b.1))
   ],
 )
 
 -- ---- the fault list
-
--- what an injection says in the words of the fault list
-pub injected : (good : GoodSim) (listed : List Fault) (number : ℕ) (fault : Fault) (circuit : Circuit) (new : FaultSim) → listed ≡ faults good.circuit → slice_get listed number ≡ Some fault → circuit ≡ good.circuit → new.circuit ≡ circuit
-    → AreDifferences new.circuit fault (vectors_of good) new.differences → AreDifferences good.circuit (fault_numbered good.circuit number) (vectors_of good) new.differences
-injected good listed number fault circuit new same get of kept differ =
-    let is : fault ≡ fault_numbered good.circuit number = sym (get_or_from_slice_get listed number fault Free get) ∙ ap (λ (fs : List Fault). get_or fs number Free) same in
-    subst (λ f. AreDifferences good.circuit f (vectors_of good) new.differences) is (subst (λ c. AreDifferences c fault (vectors_of good) new.differences) (kept ∙ of) differ)
 
 -- what is got from the fault list is a fault of the circuit
 pub listed_stands : (c : Circuit) (listed : List Fault) (number : ℕ) (fault : Fault) (circuit : Circuit) → listed ≡ faults c → slice_get listed number ≡ Some fault → circuit ≡ c → IsFaultOf circuit fault
 listed_stands c listed number fault circuit same get of =
     let there : slice_get (faults c) number ≡ Some fault = ap (λ (fs : List Fault). slice_get fs number) (sym same) ∙ get in
     subst (λ k. IsFaultOf k fault) (sym of) (subst (λ f. IsFaultOf c f) (get_or_from_slice_get (faults c) number fault Free there) (all_stand c number Free (slice_get_within (faults c) number fault there)))
+
+-- what is got from the fault list is the fault of the number
+pub got_is : (listed : List Fault) (c : Circuit) (number : ℕ) (fault : Fault) → listed ≡ faults c → slice_get listed number ≡ Some fault → fault ≡ fault_numbered c number
+got_is listed c number fault same get = sym (get_or_from_slice_get listed number fault Free get) ∙ ap (λ (fs : List Fault). get_or fs number Free) same

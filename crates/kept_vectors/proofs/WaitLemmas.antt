@@ -10,8 +10,7 @@ use Rattle.net_model.specs.ClassTable.{ClassTable, class_at, representative}
 use Rattle.word_sim.specs.declared.lanes.TheConstants.{LANES}
 use Rattle.word_sim.specs.GoodSim.{GoodSim, vectors_of}
 use Rattle.kept_vectors.specs.declared.notes.Note.{Note}
-use Rattle.kept_vectors.specs.Notes.{AreNotedAlike, AreAlikeAt, IsReportOf, AreAsked}
-use Rattle.kept_vectors.specs.declared.notes.Span.{Span}
+use Rattle.kept_vectors.specs.Notes.{Noted, AreNotedAlike, AreAlikeAt, IsReportOf, AreAsked}
 use Rattle.class_refine.specs.Fields.{IsWhole}
 use Rattle.class_refine.proofs.Refined.{representative-member}
 use Rattle.kept_vectors.proofs.NoteLemmas.{alike_by_notes}
@@ -79,18 +78,18 @@ module _ (good : GoodSim) (t : ClassTable) (from live : ℕ) where
         }
 
 -- where the notes of a number and of its representative are apart in a lane, it leaves its class there, and nowhere else
-pub led_by_bit : (good : GoodSim) → IsCircuit good.circuit → (t : ClassTable) (number lead lane : ℕ) (bits : List Bool) (one other : List Note) → lead ≡ representative t (class_at t number) → IsReportOf good lead one → IsReportOf good number other
+pub led_by_bit : (good : GoodSim) → IsCircuit good.circuit → (t : ClassTable) (number lead lane : ℕ) (bits : List Bool) (one other : List Note) → lead ≡ representative t (class_at t number) → IsReportOf good lead lane one → IsReportOf good number lane other
     → lane < length (vectors_of good) → (bit_at bits lane ≡ false) ↔ AreNotedAlike lane one other → (bit_at bits lane ≡ false) ↔ IsLed good t lane number
 led_by_bit good is t number lead lane bits one other lead_is first second live by_bit =
-    let by_notes = alike_by_notes good is number lead lane other one second first live in (
+    let by_notes = alike_by_notes good is number lead lane other one second first in (
       λ off. subst (AreAlikeAt good lane number) lead_is (by_notes.0 (λ position. sym (by_bit.0 off position))),
       λ led. by_bit.1 (λ position. sym (by_notes.1 (subst (AreAlikeAt good lane number) (sym lead_is) led) position)),
     )
 
 -- before anyone waits, all whose classes are noted are left to come
-pub none_wait : (good : GoodSim) (t : ClassTable) → IsWhole t → (from live : ℕ) (lists : List (List ℕ)) (left : List ℕ) (notes : List Note) (spans : List Span) → All (λ ns. ns ≡ []) lists → length lists ≡ LANES → live ≤ LANES → live ≤ length (vectors_of good)
-    → AreAsked good notes spans t left → AreWaiting good t from live lists left
-none_wait good t whole from live lists left notes spans empty count few known asked = record {
+pub none_wait : (good : GoodSim) (t : ClassTable) → IsWhole t → (from live : ℕ) (lists : List (List ℕ)) (left : List ℕ) (noted : Noted) → All (λ ns. ns ≡ []) lists → length lists ≡ LANES → live ≤ LANES → live ≤ length (vectors_of good)
+    → AreAsked good noted t left → AreWaiting good t from live lists left
+none_wait good t whole from live lists left noted empty count few known asked = record {
   count = count;
   right = λ n lane low h (k, inside, is). absurd (omega (arith, inside, ap length (empty lane [] (omega (arith, h, few, count)))));
   all = λ n lane low h first. elim (asked.others n first.number) [

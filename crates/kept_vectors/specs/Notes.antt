@@ -1,18 +1,22 @@
 -- What is noted of the answers of fault numbers to the vectors of a block.
-use Rattle.std.specs.Prelude.{◌≡◌, ◌≤◌, ℕ, ◌<◌, ◌⊎◌, Bool, List, length, map, filter, All, Contains, slice_index, slice_index_or, slice_range, Some, IsSome, ◌==◌, ◌&&◌}
+use Rattle.std.specs.Prelude.{◌≡◌, ◌≤◌, ℕ, ◌<◌, ◌+◌, ◌-◌, ◌↔◌, ◌⊎◌, Bool, true, false, List, [], length, map, filter, All, Contains, slice_index, slice_index_or, slice_range, Option, None, Some, IsSome, ⊤, ◌==◌, ◌&&◌, nat_lt, if◌then◌else◌}
 use Rattle.std.specs.List.{list_any, AllPairs}
-use Rattle.net_model.specs.Circuit.{Circuit, IsCircuit}
+use Rattle.net_model.specs.Circuit.{Circuit, IsCircuit, line_count}
 use Rattle.net_model.specs.declared.fault.Fault.{Fault}
+use Rattle.net_model.specs.declared.fault.Fault.TheVariants.{Free}
 use Rattle.net_model.specs.FaultList.{faults, fault_count, fault_numbered}
 use Rattle.net_model.specs.Answer.{bit_at, IsAnswer, AreEqual}
 use Rattle.net_model.specs.ClassTable.{ClassTable, class_at}
 use Rattle.class_refine.specs.Fields.{IsWhole}
 use Rattle.word_sim.specs.declared.lanes.TheConstants.{LANES}
 use Rattle.word_sim.specs.GoodSim.{GoodSim, vectors_of}
-use Rattle.fault_sim.specs.FaultyLanes.{vector_at}
+use Rattle.fault_heads.specs.declared.head.Head.{Head}
+use Rattle.fault_heads.specs.declared.head.Head.TheVariants as head
+use Rattle.fault_heads.specs.declared.head.Turn.{Turn}
+use Rattle.fault_heads.specs.Turned.{vector_at, IsFreeLane, IsHeadOf, turned_if, TurnsHead}
 use Rattle.fault_sim.specs.FaultSim.{FaultSim, lanes_at, IsDifference}
 use Rattle.kept_vectors.specs.declared.notes.Note.{Note}
-use Rattle.kept_vectors.specs.declared.notes.Span.{Span}
+use Rattle.kept_vectors.specs.declared.notes.Shown.{Shown}
 use Rattle.kept_vectors.specs.declared.differences.Differences.{Differences}
 
 -- whether a note has the lane, for a position
@@ -34,25 +38,15 @@ AreAscending notes = AllPairs (λ a b. a.position < b.position) notes
 abbrev pub AreNotedAlike : ℕ → List Note → List Note → Type 0
 AreNotedAlike lane one other = (position : ℕ) → is_noted one lane position ≡ is_noted other lane position
 
--- The span is a part of the notes.
-abbrev pub IsSpanIn : List Note → Span → Type 0
-IsSpanIn notes span = (span.start ≤ span.end) × (span.end ≤ length notes)
+-- The part of the notes is one.
+abbrev pub IsSpanIn : List Note → Shown → Type 0
+IsSpanIn notes shown = (shown.start ≤ shown.end) × (shown.end ≤ length notes)
 
-abbrev pub noted_in : List Note → Span → List Note
-noted_in notes span = slice_range notes span.start span.end
+abbrev pub noted_in : List Note → Shown → List Note
+noted_in notes shown = slice_range notes shown.start shown.end
 
-abbrev pub no_span : Span
-no_span = record { start = 0; end = 0 }
-
--- the notes of a number
-abbrev pub number_notes : List Note → List Span → ℕ → List Note
-number_notes notes spans number = noted_in notes (slice_index_or spans number no_span)
-
--- The number has a part of the notes, which come by position.
-pub record HasNotes (notes : List Note) (spans : List Span) (number : ℕ) : Type 0 where
-  pub below : number < length spans
-  pub within : IsSpanIn notes (slice_index_or spans number no_span)
-  pub ascend : AreAscending (number_notes notes spans number)
+abbrev pub nothing_shown : Shown
+nothing_shown = record { start = 0; end = 0; any = [] }
 
 -- The notes say in which lanes the simulator's answers differ.
 pub record AreNotesAt (sim : FaultSim) (notes : List Note) : Type 0 where
@@ -60,16 +54,97 @@ pub record AreNotesAt (sim : FaultSim) (notes : List Note) : Type 0 where
   pub ascend : AreAscending notes
   pub noted : (position lane : ℕ) → position < length sim.circuit.positions → lane < LANES → is_noted notes lane position ≡ bit_at (lanes_at sim position) lane
 
+-- ---- heads and their places
+
+-- the place of a head: the lines come first, and then the positions
+abbrev pub place_of : ℕ → Head → ℕ
+place_of lines (head.Line line) = line
+place_of lines (head.Position at) = lines + at
+
+-- the head of a place
+abbrev pub head_at : ℕ → ℕ → Head
+head_at lines place = if nat_lt place lines then head.Line place else head.Position (place - lines)
+
+-- what is noted: by its place what a head shows, and by number what it turns
+pub record Noted : Type 0 where
+  pub lines : ℕ
+  pub notes : List Note
+  pub shown : List Shown
+  pub turns : List (Option Turn)
+
+abbrev pub noted_by : Differences → Noted
+noted_by d = record { lines = d.lines; notes = d.notes.items; shown = d.shown.items; turns = d.turns.items }
+
+module _ (noted : Noted) where
+  abbrev pub shown_at : ℕ → Shown
+  shown_at place = slice_index_or noted.shown place nothing_shown
+
+  -- the notes of the head of a place
+  abbrev pub head_notes : ℕ → List Note
+  head_notes place = noted_in noted.notes (shown_at place)
+
+  -- what a number turns
+  abbrev pub turn_of : ℕ → Option Turn
+  turn_of number = slice_index_or noted.turns number None
+
+-- the lanes in which something is turned
+abbrev pub row_of : Option Turn → List Bool
+row_of None = []
+row_of (Some turn) = turn.lanes
+
+module _ (noted : Noted) where
+  -- the notes of the head that is turned
+  abbrev pub turn_notes : Option Turn → List Note
+  turn_notes None = []
+  turn_notes (Some turn) = head_notes noted (place_of noted.lines turn.head)
+
+  -- the same in a lane, where it has it
+  abbrev pub lane_notes : Option Turn → ℕ → List Note
+  lane_notes turn lane = if bit_at (row_of turn) lane then turn_notes turn else []
+
+  -- the notes of a number in a lane
+  abbrev pub number_notes : ℕ → ℕ → List Note
+  number_notes number lane = lane_notes (turn_of noted number) lane
+
+  -- A part of the notes is that of the head of a place. They come by position, and it is known in which lanes there are some.
+  pub record IsPlaceShown (place : ℕ) : Type 0 where
+    pub below : place < length noted.shown
+    pub within : IsSpanIn noted.notes (shown_at noted place)
+    pub ascend : AreAscending (head_notes noted place)
+    pub any : (lane : ℕ) → lane < LANES → (bit_at (shown_at noted place).any lane ≡ false) ↔ AreNotedAlike lane (head_notes noted place) []
+
+  abbrev pub IsTurnShown : Option Turn → Type 0
+  IsTurnShown None = ⊤
+  IsTurnShown (Some turn) = IsPlaceShown (place_of noted.lines turn.head)
+
+  -- What the number turns is shown.
+  pub record HasNotes (number : ℕ) : Type 0 where
+    pub below : number < length noted.turns
+    pub shown : IsTurnShown (turn_of noted number)
+
 module _ (good : GoodSim) where
   -- The bit is true exactly where the number's answer at the position differs from the fault-free one, in this lane.
   abbrev pub IsDifferenceOf : ℕ → ℕ → ℕ → Bool → Type 0
   IsDifferenceOf number position lane bit = IsDifference good.circuit (fault_numbered good.circuit number) (vector_at good lane) position bit
 
-  -- The notes come by position, are of the circuit's, and say where the number's answers differ.
-  pub record IsReportOf (number : ℕ) (notes : List Note) : Type 0 where
+  -- The notes come by position, are of the circuit's, and say where the number's answers differ in the lane.
+  pub record IsReportOf (number lane : ℕ) (notes : List Note) : Type 0 where
     pub positions : All (λ note. note.position < length good.circuit.positions) notes
     pub ascend : AreAscending notes
-    pub differ : (position lane : ℕ) → position < length good.circuit.positions → lane < length (vectors_of good) → IsDifferenceOf number position lane (is_noted notes lane position)
+    pub differ : (position : ℕ) → position < length good.circuit.positions → IsDifferenceOf number position lane (is_noted notes lane position)
+
+  -- The notes come by position, are of the circuit's, and say where the answers differ with the head turned in the lanes of the row.
+  pub record IsHeadReport (head : Head) (row : List Bool) (notes : List Note) : Type 0 where
+    pub positions : All (λ note. note.position < length good.circuit.positions) notes
+    pub ascend : AreAscending notes
+    pub differ : (position lane : ℕ) (free : List Bool) → position < length good.circuit.positions → IsFreeLane good lane free
+        → IsDifference good.circuit (turned_if good.circuit free head (bit_at row lane)) (vector_at good lane) position (is_noted notes lane position)
+
+  -- The part of the notes is that of the head turned in the lanes of the row.
+  pub record IsShownAs (head : Head) (row : List Bool) (notes : List Note) (shown : Shown) : Type 0 where
+    pub within : IsSpanIn notes shown
+    pub report : IsHeadReport head row (noted_in notes shown)
+    pub any : (lane : ℕ) → lane < LANES → (bit_at shown.any lane ≡ false) ↔ AreNotedAlike lane (noted_in notes shown) []
 
   -- The two numbers answer alike to the vector of the lane.
   abbrev pub AreAlikeAt : ℕ → ℕ → ℕ → Type 0
@@ -80,38 +155,67 @@ module _ (good : GoodSim) where
   abbrev pub AreMatesAlike : ClassTable → ℕ → Type 0
   AreMatesAlike t number = (other lane : ℕ) → other < length t.class_of → class_at t other ≡ class_at t number → lane < length (vectors_of good) → AreAlikeAt lane number other
 
-  module _ (notes : List Note) (spans : List Span) where
+  -- ---- what is asked
+
+  module _ (needs : List (List Bool)) where
+    -- The number turns a head of the circuit, which is needed in all lanes in which it does; or it is no fault.
+    abbrev pub IsTurnNeeded : ℕ → Option Turn → Type 0
+    IsTurnNeeded number None = fault_numbered good.circuit number ≡ Free
+    IsTurnNeeded number (Some turn) = IsHeadOf good.circuit turn.head × TurnsHead good (fault_numbered good.circuit number) turn.head turn.lanes
+        × ((lane : ℕ) → lane < LANES → bit_at turn.lanes lane ≡ true → bit_at (slice_index_or needs (place_of (line_count good.circuit) turn.head) []) lane ≡ true)
+
+    -- It is known what the number turns, and that is needed.
+    pub record IsNumberAsked (turns : List (Option Turn)) (number : ℕ) : Type 0 where
+      pub below : number < length turns
+      pub turn : IsTurnNeeded number (slice_index_or turns number None)
+
+    -- The head of a place is shown in the lanes in which it is needed.
+    pub record IsPlaceNoted (notes : List Note) (shown : List Shown) (place : ℕ) : Type 0 where
+      pub below : place < length shown
+      pub shows : IsShownAs (head_at (line_count good.circuit) place) (slice_index_or needs place []) notes (slice_index_or shown place nothing_shown)
+
+  module _ (noted : Noted) where
     -- It is noted in which lanes the number's answers differ.
     pub record IsNumberNoted (number : ℕ) : Type 0 where
-      pub below : number < length spans
-      pub within : IsSpanIn notes (slice_index_or spans number no_span)
-      pub report : IsReportOf number (number_notes notes spans number)
+      pub notes : HasNotes noted number
+      pub report : (lane : ℕ) → lane < length (vectors_of good) → IsReportOf number lane (number_notes noted number lane)
 
-    -- All numbers of the number's class are noted.
-    abbrev pub AreMatesNoted : ClassTable → ℕ → Type 0
-    AreMatesNoted t number = (other : ℕ) → other < length t.class_of → class_at t other ≡ class_at t number → IsNumberNoted other
+  -- ---- groups and classes of which something is known
 
-    -- The numbers of a group are noted, and they are all that was added to the numbers; or they all answer alike, and none was added.
-    abbrev pub IsGroupNoted : List ℕ → List ℕ → List ℕ → Type 0
-    IsGroupNoted group old new = (All IsNumberNoted group × ((n : ℕ) → Contains group n → Contains new n) × ((n : ℕ) → Contains new n → Contains old n ⊎ Contains group n) × ((n : ℕ) → Contains old n → Contains new n))
+  module _ (IsKnown : ℕ → Type 0) where
+    -- It is known of all numbers of the number's class.
+    abbrev pub AreMatesKnown : ClassTable → ℕ → Type 0
+    AreMatesKnown t number = (other : ℕ) → other < length t.class_of → class_at t other ≡ class_at t number → IsKnown other
+
+    -- It is known of the numbers of a group, and they are all that was added to the numbers; or they all answer alike, and none was added.
+    abbrev pub IsGroupKnown : List ℕ → List ℕ → List ℕ → Type 0
+    IsGroupKnown group old new = (All IsKnown group × ((n : ℕ) → Contains group n → Contains new n) × ((n : ℕ) → Contains new n → Contains old n ⊎ Contains group n) × ((n : ℕ) → Contains old n → Contains new n))
         ⊎ ((new ≡ old) × ((m n lane : ℕ) → Contains group m → Contains group n → lane < length (vectors_of good) → AreAlikeAt lane m n))
 
-    -- These are numbers whose classes are noted, and any other answers as all of its class.
-    pub record AreAsked (t : ClassTable) (numbers : List ℕ) : Type 0 where
-      pub mates : All (λ n. (n < length t.class_of) × AreMatesNoted t n) numbers
+    -- It is known of all numbers of the classes of these numbers, and any other answers as all of its class.
+    pub record AreKnown (t : ClassTable) (numbers : List ℕ) : Type 0 where
+      pub mates : All (λ n. (n < length t.class_of) × AreMatesKnown t n) numbers
       pub others : (n : ℕ) → n < length t.class_of → Contains numbers n ⊎ AreMatesAlike t n
 
-  -- A number that was noted is noted.
-  abbrev pub AreNotedLater : Differences → Differences → Type 0
-  AreNotedLater old new = (n : ℕ) → IsNumberNoted old.notes.items old.spans.items n → IsNumberNoted new.notes.items new.spans.items n
+  -- All numbers of the number's class are noted.
+  abbrev pub AreMatesNoted : Noted → ClassTable → ℕ → Type 0
+  AreMatesNoted noted = AreMatesKnown (IsNumberNoted noted)
+
+  -- These are numbers whose classes are noted, and any other answers as all of its class.
+  abbrev pub AreAsked : Noted → ClassTable → List ℕ → Type 0
+  AreAsked noted = AreKnown (IsNumberNoted noted)
+
+  -- A number that was asked is asked.
+  abbrev pub AreAskedLater : Differences → Differences → Type 0
+  AreAskedLater old new = (n : ℕ) → IsNumberAsked old.needs.items old.turns.items n → IsNumberAsked new.needs.items new.turns.items n
 
 -- The circuit has run these vectors, and of each class of the table all numbers are noted or all answer alike.
-pub record AreTold (good : GoodSim) (vectors : List (List Bool)) (notes : List Note) (spans : List Span) (t : ClassTable) : Type 0 where
+pub record AreTold (good : GoodSim) (vectors : List (List Bool)) (noted : Noted) (t : ClassTable) : Type 0 where
   pub circuit : IsCircuit good.circuit
   pub ran : good.ran ≡ Some vectors
   pub whole : IsWhole t
   pub numbers : length t.class_of ≡ fault_count good.circuit
-  pub noted : (n : ℕ) → n < length t.class_of → AreMatesNoted good notes spans t n ⊎ AreMatesAlike good t n
+  pub mates : (n : ℕ) → n < length t.class_of → AreMatesNoted good noted t n ⊎ AreMatesAlike good t n
 
 -- Numbers with one root answer alike to every vector.
 pub record AreRootsOf (c : Circuit) (roots : List ℕ) : Type 0 where
@@ -128,8 +232,11 @@ pub record HasRunBlock (good : GoodSim) (listed : List Fault) (roots : List ℕ)
   pub faults_are : listed ≡ faults good.circuit
   pub roots_are : AreRootsOf good.circuit roots
 
--- The simulator is that of the circuit, and there is room for its numbers.
+-- The heads and the simulator are those of the circuit, and there is room for its heads and numbers.
 pub record AreOf (c : Circuit) (d : Differences) : Type 0 where
+  pub lines : d.lines ≡ line_count c
+  pub heads : d.heads.circuit ≡ c
   pub sim : d.sim.circuit ≡ c
-  pub spans : length d.spans.items ≡ fault_count c
-  pub places : length d.places.items ≡ fault_count c
+  pub needs : length d.needs.items ≡ line_count c + length c.positions
+  pub shown : length d.shown.items ≡ line_count c + length c.positions
+  pub turns : length d.turns.items ≡ fault_count c

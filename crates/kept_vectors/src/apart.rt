@@ -33,7 +33,7 @@ pub(crate) fn apart(one: &[Note], other: &[Note]) -> Lanes
 }
 
 // 1 in the lanes of the notes from a place on.
-fn any_lane(notes: &[Note], from: usize) -> Lanes
+pub(crate) fn any_lane(notes: &[Note], from: usize) -> Lanes
     requires from { from ≤ length notes.now }
     requires ascend { AreAscending notes.now }
     ensures { (lane : ℕ) → lane < LANES → (bit_at result lane ≡ false) ↔ AreNotedAlike lane (drop from notes.now) [] }

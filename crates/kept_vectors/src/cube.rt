@@ -4,12 +4,16 @@ ghost use Rattle.std.specs.Prelude.{◌≡◌, ◌<◌, List, Bool, [], ◌∷�
 ghost use Rattle.net_model.specs.FaultList.{fault_count};
 ghost use Rattle.class_refine.specs.Fields.{IsWhole};
 ghost use Rattle.kept_vectors.specs.Cube.{IsOfCube};
+ghost use Rattle.kept_vectors.specs.Notes.{noted_by, AreAsked};
 ghost use Rattle.kept_vectors.specs.Kept.{Keeps};
 ghost use Rattle.kept_vectors.specs.Scan.{kept_now, IsScan};
 
+use crate::differences::Differences;
 use crate::scan::{Kept, Scan, judge_lane};
+use crate::tally::Tally;
+use class_refine::Classes;
 use std::alloc::AllocError;
-use word_sim::Block;
+use word_sim::{Block, GoodSim};
 
 // Gives the fixed sources of a cube their bits in all vectors of a block.
 pub(crate) fn fix_sources(block: &mut Block, cube: &[Option<bool>])
@@ -39,9 +43,11 @@ impl Scan<'_> {
         ensures err { OnErr result (kept_now kept.new ≡ kept_now kept.old) }
     {
         let live = self.block.live();
-        self.note(&kept.classes, true)?;
-        let lane = self.differences.tally.fullest(live);
+        self.note(&kept.classes)?;
         let (good, differences) = (&self.good, &self.differences);
+        let numbers = differences.numbers.as_slice();
+        count_told(good, differences, &kept.classes, numbers, &mut self.tally);
+        let lane = self.tally.fullest(live);
         self.waiting
             .wait_all(good, differences, &kept.classes, lane, lane + 1)?;
         judge_lane(
@@ -55,5 +61,23 @@ impl Scan<'_> {
             kept,
         )?;
         Ok(())
+    }
+}
+
+// Counts in each lane how many of these numbers answer otherwise than the representatives of their classes.
+fn count_told(
+    good: &GoodSim,
+    differences: &Differences,
+    classes: &Classes,
+    numbers: &[u32],
+    tally: &mut Tally,
+)
+    requires whole { IsWhole classes.now }
+    requires asked { AreAsked good.now (noted_by differences.now) classes.now numbers.now }
+{
+    tally.clear();
+    for number in numbers {
+        let lead = classes.representative(classes.class_of(*number));
+        tally.add(differences.apart(lead, *number));
     }
 }

@@ -1,44 +1,86 @@
-//! What is noted of fault numbers: in which lanes their answers differ from the fault-free ones.
+//! In which lanes the answers of fault numbers differ from the fault-free ones: each turns a head, and its head is simulated.
 
-ghost use Rattle.std.specs.Prelude.{◌≡◌, ◌<◌, ◌^◌, ◌⊎◌, ◌++◌, ℕ, [], ◌∷◌, length, All, IfOk, OnOk, MatchOption, slice_index, slice_index_or};
-ghost use Rattle.net_model.specs.FaultList.{fault_count};
+ghost use Rattle.std.specs.Prelude.{◌≡◌, ◌≤◌, ◌<◌, ◌+◌, ◌^◌, ◌↔◌, ◌++◌, ℕ, List, [], ◌∷◌, true, false, length, All, IfOk, OnOk, IsSome};
+ghost use Rattle.net_model.specs.Answer.{bit_at};
+ghost use Rattle.net_model.specs.Circuit.{IsCircuit, line_count};
+ghost use Rattle.net_model.specs.FaultList.{faults, fault_count};
 ghost use Rattle.class_refine.specs.Fields.{IsWhole};
-ghost use Rattle.kept_vectors.specs.Notes.{IsSpanIn, no_span, number_notes, IsNumberNoted, HasNotes, HasRunBlock, AreOf, AreNotedLater, IsGroupNoted, AreMatesNoted, AreMatesAlike, AreAsked};
+ghost use Rattle.word_sim.specs.GoodSim.{vectors_of};
+ghost use Rattle.fault_heads.specs.Turned.{IsHeadOf};
+ghost use Rattle.fault_heads.specs.Ways.{AreWays};
+ghost use Rattle.kept_vectors.specs.Notes.{Noted, place_of, head_at, row_of, turn_of, turn_notes, lane_notes, number_notes, noted_by, HasNotes, IsTurnShown, HasRunBlock, AreOf, IsNumberAsked, AreAskedLater, IsGroupKnown, AreNotedAlike, AreKnown, AreAsked, IsPlaceNoted};
 
 use crate::apart::apart;
-use crate::notes::{Note, Span, have_one_root, notes_in, simulate};
-use crate::tally::Tally;
+use crate::notes::{Note, Shown, have_one_root, notes_in, show_head};
 use class_refine::Classes;
+use fault_heads::{Head, Heads, Turn};
 use fault_list::FaultList;
 use fault_sim::FaultSim;
 use net_model::Circuit;
 use std::alloc::{AllocError, Global};
-use word_sim::GoodSim;
+use word_sim::{GoodSim, LANES, Lanes};
 
-// The simulator of faults, and what was noted of the answers of numbers to the vectors of a block: by number where its
-// notes stand, and the numbers of which something was noted. In a class only one number of each root is simulated:
-// `places` has by root the place of the number that was. `tally` has by lane how many of these answer otherwise than
-// their representatives, where they are counted.
+// What was noted of the answers of numbers to the vectors of a block. Heads stand one behind another: the lines, and then
+// the positions. Of each number that was asked there is what it turns, of each head in which lanes it is needed and what
+// it shows, and `numbers` are those that were asked.
 pub(crate) struct Differences<'a> {
+    pub(crate) lines: u32,
+    pub(crate) heads: Heads<'a>,
     pub(crate) sim: FaultSim<'a>,
     pub(crate) notes: Vec<Note>,
-    pub(crate) spans: Vec<Span>,
+    pub(crate) shown: Vec<Shown>,
+    pub(crate) needs: Vec<Lanes>,
+    pub(crate) turns: Vec<Option<Turn>>,
     pub(crate) numbers: Vec<u32>,
-    pub(crate) places: Vec<usize>,
-    pub(crate) tally: Tally,
 }
 
 // Written out, as a keeper's.
 impl Drop for Differences<'_> {
     fn drop(self) {
         let Differences {
+            lines: _,
+            heads: _,
             sim: _,
             notes: _,
-            spans: _,
+            shown: _,
+            needs: _,
+            turns: _,
             numbers: _,
-            places: _,
-            tally: _,
         } = self;
+    }
+}
+
+// The lanes in which something is turned.
+fn row(turn: &Option<Turn>) -> Lanes
+    ensures { (lane : ℕ) → lane < LANES → bit_at result lane ≡ bit_at (row_of turn.now) lane }
+{
+    match turn {
+        Some(turn) => turn.lanes,
+        None => Lanes::all(false),
+    }
+}
+
+// The place of a head, of so many lines.
+fn place(lines: u32, head: Head) -> usize
+    ensures { result ≡ place_of lines head }
+{
+    match head {
+        Head::Line(line) => line as usize,
+        Head::Position(at) => lines as usize + at as usize,
+    }
+}
+
+// The head of a place.
+fn head_of(circuit: &Circuit, place: usize) -> Head
+    requires { place < line_count circuit.now + length circuit.now.positions }
+    ensures value { result ≡ head_at (line_count circuit.now) place }
+    ensures stands { IsHeadOf circuit.now result }
+{
+    let lines = circuit.lines() as usize;
+    if place < lines {
+        Head::Line(place as u32)
+    } else {
+        Head::Position((place - lines) as u32)
     }
 }
 
@@ -48,29 +90,92 @@ impl<'a> Differences<'a> {
         circuit: &'a Circuit,
         numbers: usize,
     ) -> Result<Differences<'a>, AllocError>
-        requires few { numbers < 2 ^ 32 }
         requires numbers { numbers ≡ fault_count circuit.now }
         ensures { IfOk result (AreOf circuit.now) }
     {
-        let nowhere = Span { start: 0, end: 0 };
+        let lines = circuit.lines();
+        let heads = lines as usize + circuit.positions().len();
+        let none = Lanes::all(false);
+        let nothing = Shown {
+            start: 0,
+            end: 0,
+            any: none,
+        };
         // (what is dropped after an error is proved for each `?`, so the large ones come late, and behind them what can't fail)
         Ok(Differences {
-            places: vec![in alloc; 0; numbers]?,
-            spans: vec![in alloc; nowhere; numbers]?,
-            tally: Tally::new(alloc)?,
+            lines,
+            needs: vec![in alloc; none; heads]?,
+            shown: vec![in alloc; nothing; heads]?,
+            turns: vec![in alloc; None; numbers]?,
+            heads: Heads::new(alloc, circuit)?,
             sim: FaultSim::new(alloc, circuit)?,
             notes: Vec::new(alloc),
             numbers: Vec::new(alloc),
         })
     }
 
-    // The notes of a number.
-    pub(crate) fn notes_of(&self, number: u32) -> &[Note]
-        requires below { number < length self.now.spans.items }
-        requires within { IsSpanIn self.now.notes.items (slice_index_or self.now.spans.items number no_span) }
-        ensures { result.now ≡ number_notes self.now.notes.items self.now.spans.items number }
+    // What a number turns.
+    fn turn_of(&self, number: u32) -> &Option<Turn>
+        requires { number < length self.now.turns.items }
+        ensures { result.now ≡ turn_of (noted_by self.now) number }
     {
-        notes_in(self.notes.as_slice(), self.spans[number as usize])
+        &self.turns[number as usize]
+    }
+
+    // The notes of what is turned.
+    fn turn_notes(&self, turn: &Option<Turn>) -> &[Note]
+        requires { IsTurnShown (noted_by self.now) turn.now }
+        ensures { result.now ≡ turn_notes (noted_by self.now) turn.now }
+    {
+        match turn {
+            Some(turn) => notes_in(
+                self.notes.as_slice(),
+                self.shown[place(self.lines, turn.head)],
+            ),
+            None => &[],
+        }
+    }
+
+    // The notes of a number in a lane.
+    pub(crate) fn notes_at(&self, number: u32, lane: u32) -> &[Note]
+        requires lane { lane < LANES }
+        requires noted { HasNotes (noted_by self.now) number }
+        ensures { result.now ≡ number_notes (noted_by self.now) number lane }
+    {
+        let turn = self.turn_of(number);
+        if !row(turn).get(lane) {
+            return &[];
+        }
+        self.turn_notes(turn)
+    }
+
+    // The lanes in which what is turned shows.
+    fn lanes_of(&self, turn: &Option<Turn>) -> Lanes
+        requires { IsTurnShown (noted_by self.now) turn.now }
+        ensures turned { (lane : ℕ) → lane < LANES → bit_at result lane ≡ true → bit_at (row_of turn.now) lane ≡ true }
+        ensures shows { (lane : ℕ) → lane < LANES → (bit_at result lane ≡ false) ↔ AreNotedAlike lane (lane_notes (noted_by self.now) turn.now lane) [] }
+    {
+        match turn {
+            Some(turn) => turn.lanes.and(self.shown[place(self.lines, turn.head)].any),
+            None => Lanes::all(false),
+        }
+    }
+
+    // In which lanes two numbers answer differently: where one of them shows and the other doesn't, and where both do and
+    // their heads show differently.
+    pub(crate) fn apart(&self, one: u32, other: u32) -> Lanes
+        requires one { HasNotes (noted_by self.now) one }
+        requires other { HasNotes (noted_by self.now) other }
+        ensures { (lane : ℕ) → lane < LANES → (bit_at result lane ≡ false) ↔ AreNotedAlike lane (number_notes (noted_by self.now) one lane) (number_notes (noted_by self.now) other lane) }
+    {
+        let (first, second) = (self.turn_of(one), self.turn_of(other));
+        let (left, right) = (self.lanes_of(first), self.lanes_of(second));
+        let (alone, both) = (left.xor(right), left.and(right));
+        if !both.any() || have_one_head(first, second) {
+            return alone;
+        }
+        let told = apart(self.turn_notes(first), self.turn_notes(second));
+        alone.or(both.and(told))
     }
 
     // Notes the answers of all numbers that can be told apart within their classes.
@@ -80,115 +185,154 @@ impl<'a> Differences<'a> {
         good: &GoodSim,
         roots: &[u32],
         classes: &Classes,
-        counting: bool,
     ) -> Result<(), AllocError>
         requires run { HasRunBlock good.now listed.now roots.now }
         requires of { AreOf good.now.circuit self.old }
         requires whole { IsWhole classes.now }
         requires numbers { length classes.now.class_of ≡ fault_count good.now.circuit }
         ensures of { AreOf good.now.circuit self.new }
-        ensures noted { OnOk result ((n : ℕ) → n < length classes.now.class_of → AreMatesNoted good.now self.new.notes.items self.new.spans.items classes.now n ⊎ AreMatesAlike good.now classes.now n) }
-        ensures asked { OnOk result (AreAsked good.now self.new.notes.items self.new.spans.items classes.now self.new.numbers.items) }
+        ensures asked { OnOk result (AreAsked good.now (noted_by self.new) classes.now self.new.numbers.items) }
     {
-        self.notes.clear();
+        self.heads.run(good);
+        self.ask_classes(listed, good, roots, classes)?;
+        self.show_heads(good)
+    }
+
+    // Asks for all numbers that can be told apart within their classes.
+    fn ask_classes(
+        &mut self,
+        listed: &FaultList,
+        good: &GoodSim,
+        roots: &[u32],
+        classes: &Classes,
+    ) -> Result<(), AllocError>
+        requires run { HasRunBlock good.now listed.now roots.now }
+        requires of { AreOf good.now.circuit self.old }
+        requires ways { AreWays good.now self.old.heads.ways }
+        requires whole { IsWhole classes.now }
+        requires numbers { length classes.now.class_of ≡ fault_count good.now.circuit }
+        ensures of { AreOf good.now.circuit self.new }
+        ensures asked { OnOk result (AreKnown good.now (IsNumberAsked good.now self.new.needs.items self.new.turns.items) classes.now self.new.numbers.items) }
+    {
         self.numbers.clear();
-        self.tally.clear();
+        need_nothing(&mut self.needs);
         for class in 0..classes.count() {
-            self.note_class(listed, good, roots, classes.members(class), counting)?;
+            self.ask_class(listed, good, roots, classes.members(class))?;
         }
         Ok(())
     }
 
-    // Notes the answers of the numbers of a group with more roots than one.
-    fn note_class(
+    // Asks for the numbers of a group with more roots than one.
+    fn ask_class(
         &mut self,
         listed: &FaultList,
         good: &GoodSim,
         roots: &[u32],
         group: &[u32],
-        counting: bool,
     ) -> Result<(), AllocError>
         requires run { HasRunBlock good.now listed.now roots.now }
         requires inside { All (λ number. number < fault_count good.now.circuit) group.now }
         requires of { AreOf good.now.circuit self.old }
+        requires ways { AreWays good.now self.old.heads.ways }
         ensures of { AreOf good.now.circuit self.new }
-        ensures later { OnOk result (AreNotedLater good.now self.old self.new) }
-        ensures noted { OnOk result (IsGroupNoted good.now self.new.notes.items self.new.spans.items group.now self.old.numbers.items self.new.numbers.items) }
+        ensures ways { AreWays good.now self.new.heads.ways }
+        ensures later { OnOk result (AreAskedLater good.now self.old self.new) }
+        ensures asked { OnOk result (IsGroupKnown good.now (IsNumberAsked good.now self.new.needs.items self.new.turns.items) group.now self.old.numbers.items self.new.numbers.items) }
     {
         if have_one_root(roots, group) {
             return Ok(());
         }
-        for at in 0..group.len() {
-            self.note_member(listed, good, roots, group, at)?;
-            self.count(roots, group, at, counting);
+        for number in group {
+            self.ask(listed, good, *number)?;
         }
         Ok(())
     }
 
-    // Counts where the number at a place of a group answers otherwise than the first, if it is to be counted and was
-    // simulated.
-    fn count(&mut self, roots: &[u32], group: &[u32], at: usize, counting: bool)
-        requires at { at < length group.now }
-        requires roots { All (λ number. number < length roots.now) group.now }
-        requires places { All (λ root. root < length self.old.places.items) roots.now }
-        requires first { HasNotes self.old.notes.items self.old.spans.items (slice_index group.now 0) }
-        requires here { HasNotes self.old.notes.items self.old.spans.items (slice_index group.now at) }
-        ensures { self.new ≡ (record { sim = self.old.sim; notes = self.old.notes; spans = self.old.spans; numbers = self.old.numbers; places = self.old.places; tally = self.new.tally }) }
+    // Asks for a number: its head is needed where it turns it.
+    fn ask(&mut self, listed: &FaultList, good: &GoodSim, number: u32) -> Result<(), AllocError>
+        requires faults { listed.now ≡ faults good.now.circuit }
+        requires number { number < fault_count good.now.circuit }
+        requires of { AreOf good.now.circuit self.old }
+        requires ways { AreWays good.now self.old.heads.ways }
+        ensures of { AreOf good.now.circuit self.new }
+        ensures ways { AreWays good.now self.new.heads.ways }
+        ensures later { OnOk result (AreAskedLater good.now self.old self.new) }
+        ensures asked { OnOk result (IsNumberAsked good.now self.new.needs.items self.new.turns.items number) }
+        ensures numbers { OnOk result (self.new.numbers.items ≡ self.old.numbers.items ++ number ∷ []) }
     {
-        if counting && self.places[roots[group[at] as usize] as usize] == at {
-            let told = apart(self.notes_of(group[0]), self.notes_of(group[at]));
-            self.tally.add(told);
+        self.numbers.push(number)?;
+        let turn = self.heads.turn(good, listed.get(number));
+        if let Some(turn) = &turn {
+            let place = place(self.lines, turn.head);
+            self.needs[place] = self.needs[place].or(turn.lanes);
         }
+        self.turns[number as usize] = turn;
+        Ok(())
     }
 
-    // Notes the answers of the number at a place of a group.
-    fn note_member(
-        &mut self,
-        listed: &FaultList,
-        good: &GoodSim,
-        roots: &[u32],
-        group: &[u32],
-        at: usize,
-    ) -> Result<(), AllocError>
-        requires run { HasRunBlock good.now listed.now roots.now }
-        requires inside { All (λ number. number < fault_count good.now.circuit) group.now }
+    // Simulates each head where it is needed, and notes where it shows.
+    fn show_heads(&mut self, good: &GoodSim) -> Result<(), AllocError>
+        requires circuit { IsCircuit good.now.circuit }
+        requires ran { IsSome good.now.ran }
+        requires few { length (vectors_of good.now) ≤ LANES }
         requires of { AreOf good.now.circuit self.old }
-        requires at { at < length group.now }
-        requires before { (k : ℕ) → k < at → IsNumberNoted good.now self.old.notes.items self.old.spans.items (slice_index group.now k) }
         ensures of { AreOf good.now.circuit self.new }
-        ensures later { OnOk result (AreNotedLater good.now self.old self.new) }
-        ensures noted { OnOk result (IsNumberNoted good.now self.new.notes.items self.new.spans.items (slice_index group.now at)) }
-        ensures numbers { OnOk result (self.new.numbers.items ≡ self.old.numbers.items ++ slice_index group.now at ∷ []) }
+        ensures needs { self.new.needs.items ≡ self.old.needs.items }
+        ensures places { OnOk result ((place : ℕ) → place < length self.old.needs.items → IsPlaceNoted good.now self.old.needs.items self.new.notes.items self.new.shown.items place) }
+        ensures turns { self.new.turns.items ≡ self.old.turns.items }
+        ensures numbers { self.new.numbers.items ≡ self.old.numbers.items }
     {
-        let number = group[at];
-        self.numbers.push(number)?;
-        if let Some(place) = twin_at(self.places.as_slice(), roots, group, at) {
-            self.spans[number as usize] = self.spans[group[place] as usize];
-            return Ok(());
+        self.notes.clear();
+        for place in 0..self.needs.len() {
+            self.show(good, place)?;
         }
-        self.spans[number as usize] = simulate(
-            &mut self.sim,
-            listed,
-            good,
-            number,
-            &mut self.notes,
-        )?;
-        self.places[roots[number as usize] as usize] = at;
+        Ok(())
+    }
+
+    // Simulates the head of a place where it is needed, and notes where it shows.
+    fn show(&mut self, good: &GoodSim, place: usize) -> Result<(), AllocError>
+        requires circuit { IsCircuit good.now.circuit }
+        requires ran { IsSome good.now.ran }
+        requires few { length (vectors_of good.now) ≤ LANES }
+        requires of { AreOf good.now.circuit self.old }
+        requires place { place < length self.old.needs.items }
+        ensures of { AreOf good.now.circuit self.new }
+        ensures needs { self.new.needs.items ≡ self.old.needs.items }
+        ensures turns { self.new.turns.items ≡ self.old.turns.items }
+        ensures numbers { self.new.numbers.items ≡ self.old.numbers.items }
+        ensures later { OnOk result ((other : ℕ) → other < place → IsPlaceNoted good.now self.old.needs.items self.old.notes.items self.old.shown.items other → IsPlaceNoted good.now self.old.needs.items self.new.notes.items self.new.shown.items other) }
+        ensures here { OnOk result (IsPlaceNoted good.now self.old.needs.items self.new.notes.items self.new.shown.items place) }
+    {
+        let needed = self.needs[place];
+        let mut shown = Shown {
+            start: 0,
+            end: 0,
+            any: Lanes::all(false),
+        };
+        if needed.any() {
+            let head = head_of(good.circuit(), place);
+            shown = show_head(&mut self.sim, good, head, needed, &mut self.notes)?;
+        }
+        self.shown[place] = shown;
         Ok(())
     }
 }
 
-// The place of an earlier number of a group that was simulated and has the root of the one at a place, if there is one.
-fn twin_at(places: &[usize], roots: &[u32], group: &[u32], at: usize) -> Option<usize>
-    requires at { at < length group.now }
-    requires numbers { All (λ number. number < length roots.now) group.now }
-    requires roots { All (λ root. root < length places.now) roots.now }
-    ensures { MatchOption result (Unit {0}) (λ place. (place < at) × (slice_index roots.now (slice_index group.now place) ≡ slice_index roots.now (slice_index group.now at))) }
+// No head is needed.
+fn need_nothing(needs: &mut [Lanes])
+    ensures { length needs.new ≡ length needs.old }
 {
-    let root = roots[group[at] as usize];
-    let place = places[root as usize];
-    if place < at && roots[group[place] as usize] == root {
-        return Some(place);
+    for place in 0..needs.len() {
+        needs[place] = Lanes::all(false);
     }
-    None
+}
+
+// Whether two numbers turn the same head.
+fn have_one_head(one: &Option<Turn>, other: &Option<Turn>) -> bool
+    ensures { result ≡ true → (noted : Noted) → turn_notes noted one.now ≡ turn_notes noted other.now }
+{
+    match (one, other) {
+        (Some(one), Some(other)) => one.head == other.head,
+        _ => false,
+    }
 }

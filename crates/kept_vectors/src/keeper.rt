@@ -106,9 +106,9 @@ impl<'a> Keeper<'a> {
         self.scan.keep_block(&mut self.kept)
     }
 
-    /// Keeps a vector of a cube if it splits a class: of the next block of the stream, with the bits of the cube in each
-    /// vector, the one at which most members of classes answer otherwise than their representatives. After an error what is
-    /// kept has not changed.
+    /// Keeps a vector of a cube if it splits a class: of the next blocks of the stream, as many as there are lanes for, with the
+    /// bits of the cube in each vector, the one at which most members of classes answer otherwise than their representatives.
+    /// After an error what is kept has not changed.
     pub fn keep_of_cube(&mut self, cube: &[Option<bool>]) -> Result<(), AllocError>
         requires { length cube.now ≡ self.old.circuit.sources }
         ensures circuit { self.new.circuit ≡ self.old.circuit }
@@ -116,7 +116,7 @@ impl<'a> Keeper<'a> {
         ensures err { OnErr result (self.new.kept ≡ self.old.kept) }
     {
         self.scan.block.clear();
-        self.stream.fill(1, &mut self.scan.block);
+        self.stream.fill(LANES / 64, &mut self.scan.block);
         fix_sources(&mut self.scan.block, cube);
         self.scan.keep_fullest(&mut self.kept)
     }

@@ -1,52 +1,66 @@
-//! Notes of where the answers of fault numbers differ from the fault-free ones.
+//! Notes of where turned heads show.
 
-ghost use Rattle.std.specs.Prelude.{◌≡◌, ◌≤◌, ◌<◌, ◌++◌, ℕ, List, true, false, All, IfOk, IsSome, OnOk, length, map, filter, slice_index, slice_index_or};
-ghost use Rattle.kept_vectors.specs.Notes.{IsReportOf, AreNotesAt, IsSpanIn, noted_in, number_notes, no_span, lane_positions};
-ghost use Rattle.net_model.specs.FaultList.{faults};
+ghost use Rattle.std.specs.Prelude.{◌≡◌, ◌≤◌, ◌<◌, ◌↔◌, ◌++◌, ℕ, List, [], true, false, All, IfOk, IsSome, OnOk, length, slice_index, slice_range};
+ghost use Rattle.net_model.specs.Answer.{bit_at};
+ghost use Rattle.fault_heads.specs.Turned.{IsHeadOf};
+ghost use Rattle.kept_vectors.specs.Notes.{AreAscending, AreNotesAt, AreNotedAlike, IsSpanIn, IsShownAs, noted_in, lane_positions};
 ghost use Rattle.word_sim.specs.GoodSim.{vectors_of};
 
-use fault_list::FaultList;
+use crate::apart::any_lane;
+use fault_heads::Head;
 use fault_sim::FaultSim;
 use std::alloc::AllocError;
 use word_sim::{GoodSim, LANES, Lanes};
 
-// A position at which the answers of a number differ from the fault-free ones, in these lanes.
+// A position at which the answers with a head turned differ from the fault-free ones, in these lanes.
 #[derive(Clone, Copy)]
 pub(crate) struct Note {
     pub(crate) position: u32,
     pub(crate) lanes: Lanes,
 }
 
-// Where the notes of a number stand: from `start` to before `end`.
+// Where the notes of a head stand, from `start` to before `end`, and the lanes in which it shows at all.
 #[derive(Clone, Copy)]
-pub(crate) struct Span {
+pub(crate) struct Shown {
     pub(crate) start: usize,
     pub(crate) end: usize,
+    pub(crate) any: Lanes,
 }
 
-// Simulates a number, and notes where its answers differ in some lane.
-pub(crate) fn simulate(
+// Simulates a head turned in these lanes, and notes where it shows.
+pub(crate) fn show_head(
     sim: &mut FaultSim,
-    listed: &FaultList,
     good: &GoodSim,
-    number: u32,
+    head: Head,
+    needed: Lanes,
     notes: &mut Vec<Note>,
-) -> Result<Span, AllocError>
+) -> Result<Shown, AllocError>
     requires ran { IsSome good.now.ran }
     requires few { length (vectors_of good.now) ≤ LANES }
-    requires faults { listed.now ≡ faults good.now.circuit }
-    requires number { number < length listed.now }
+    requires head { IsHeadOf good.now.circuit head }
     requires circuit { sim.old.circuit ≡ good.now.circuit }
     ensures circuit { sim.new.circuit ≡ good.now.circuit }
     ensures more { OnOk result ((more : List Note) × (notes.new.items ≡ notes.old.items ++ more)) }
-    ensures within { IfOk result (IsSpanIn notes.new.items) }
-    ensures report { IfOk result (λ span. IsReportOf good.now number (noted_in notes.new.items span)) }
+    ensures shown { IfOk result (IsShownAs good.now head needed notes.new.items) }
 {
     let start = notes.len();
-    sim.inject(good, &listed.get(number));
+    sim.flip(good, head, needed);
     note_differences(sim, notes)?;
     let end = notes.len();
-    Ok(Span { start, end })
+    Ok(shown_in(notes.as_slice(), start, end))
+}
+
+// What a part of the notes shows.
+fn shown_in(notes: &[Note], start: usize, end: usize) -> Shown
+    requires low { start ≤ end }
+    requires high { end ≤ length notes.now }
+    requires ascend { AreAscending (slice_range notes.now start end) }
+    ensures start { result.start ≡ start }
+    ensures end { result.end ≡ end }
+    ensures any { (lane : ℕ) → lane < LANES → (bit_at result.any lane ≡ false) ↔ AreNotedAlike lane (slice_range notes.now start end) [] }
+{
+    let any = any_lane(&notes[start..end], 0);
+    Shown { start, end, any }
 }
 
 // Notes where the answers differ in some lane.
@@ -62,12 +76,12 @@ fn note_differences(sim: &FaultSim, notes: &mut Vec<Note>) -> Result<(), AllocEr
     Ok(())
 }
 
-// The notes of a span.
-pub(crate) fn notes_in(notes: &[Note], span: Span) -> &[Note]
-    requires { IsSpanIn notes.now span }
-    ensures { result.now ≡ noted_in notes.now span }
+// The notes of a head.
+pub(crate) fn notes_in(notes: &[Note], shown: Shown) -> &[Note]
+    requires { IsSpanIn notes.now shown }
+    ensures { result.now ≡ noted_in notes.now shown }
 {
-    &notes[span.start..span.end]
+    &notes[shown.start..shown.end]
 }
 
 // Adds the positions at which the answer differs in a lane.

@@ -5,15 +5,16 @@ ghost use Rattle.net_model.specs.FaultList.{faults as faults_of, fault_count};
 ghost use Rattle.class_refine.specs.Fields.{IsWhole};
 ghost use Rattle.class_refine.specs.Leavers.{AreLeavers};
 ghost use Rattle.fault_collapse.specs.Forest.{IsForestOf};
-ghost use Rattle.fault_sim.specs.FaultyLanes.{vector_at};
+ghost use Rattle.fault_heads.specs.Turned.{vector_at};
 ghost use Rattle.kept_vectors.specs.Kept.{with_vector, Keeps, KeepsFirst};
 ghost use Rattle.kept_vectors.specs.Scan.{kept_now, IsScan, IsOffered, HasJudged, IsScanEnd};
-ghost use Rattle.kept_vectors.specs.Notes.{AreOf, AreTold, AreAsked};
+ghost use Rattle.kept_vectors.specs.Notes.{noted_by, AreOf, AreTold, AreAsked};
 ghost use Rattle.kept_vectors.specs.Waits.{AreWaiting};
 ghost use Rattle.word_sim.specs.Block.{IsBlock};
 
 use crate::differences::Differences;
 use crate::leaving::Leaving;
+use crate::tally::Tally;
 use crate::waiting::Waiting;
 use class_refine::Classes;
 use fault_collapse::Forest;
@@ -67,6 +68,7 @@ pub(crate) struct Scan<'a> {
     pub(crate) differences: Differences<'a>,
     pub(crate) waiting: Waiting,
     pub(crate) leaving: Leaving,
+    pub(crate) tally: Tally,
 }
 
 // Written out, as a keeper's.
@@ -80,6 +82,7 @@ impl Drop for Scan<'_> {
             differences: _,
             waiting: _,
             leaving: _,
+            tally: _,
         } = self;
     }
 }
@@ -118,6 +121,7 @@ impl<'a> Scan<'a> {
         let circuit = good.circuit();
         let waiting = Waiting::new(alloc)?;
         let leaving = Leaving::new(alloc);
+        let tally = Tally::new(alloc)?;
         let block = Block::new(alloc, circuit.sources())?;
         Ok(Scan {
             listed,
@@ -127,6 +131,7 @@ impl<'a> Scan<'a> {
             differences,
             waiting,
             leaving,
+            tally,
         })
     }
 
@@ -160,7 +165,7 @@ impl<'a> Scan<'a> {
         if live == 0 {
             return Ok(0);
         }
-        self.note(&kept.classes, false)?;
+        self.note(&kept.classes)?;
         let (good, differences) = (&self.good, &self.differences);
         self.waiting
             .wait_all(good, differences, &kept.classes, 0, live)?;
@@ -176,7 +181,7 @@ impl<'a> Scan<'a> {
     }
 
     // Notes how the numbers of each class answer to the vectors of the block.
-    pub(crate) fn note(&mut self, classes: &Classes, counting: bool) -> Result<(), AllocError>
+    pub(crate) fn note(&mut self, classes: &Classes) -> Result<(), AllocError>
         requires scan { IsScan self.old }
         requires block { IsBlock self.old.block }
         requires whole { IsWhole classes.now }
@@ -184,13 +189,13 @@ impl<'a> Scan<'a> {
         ensures scan { IsScan self.new }
         ensures block { self.new.block ≡ self.old.block }
         ensures circuit { self.new.good.circuit ≡ self.old.good.circuit }
-        ensures told { OnOk result (AreTold self.new.good self.old.block.vectors self.new.differences.notes.items self.new.differences.spans.items classes.now) }
-        ensures asked { OnOk result (AreAsked self.new.good self.new.differences.notes.items self.new.differences.spans.items classes.now self.new.differences.numbers.items) }
+        ensures told { OnOk result (AreTold self.new.good self.old.block.vectors (noted_by self.new.differences) classes.now) }
+        ensures asked { OnOk result (AreAsked self.new.good (noted_by self.new.differences) classes.now self.new.differences.numbers.items) }
     {
         self.good.run(&self.block);
         let roots = self.forest.roots();
         self.differences
-            .note_classes(self.listed, &self.good, roots, classes, counting)
+            .note_classes(self.listed, &self.good, roots, classes)
     }
 }
 
@@ -204,7 +209,7 @@ fn judge_lanes(
     kept: &mut Kept,
     run: bool,
 ) -> Result<u32, AllocError>
-    requires told { AreTold good.now block.now.vectors differences.now.notes.items differences.now.spans.items kept.old.classes }
+    requires told { AreTold good.now block.now.vectors (noted_by differences.now) kept.old.classes }
     requires waits { AreWaiting good.now kept.old.classes 0 (length block.now.vectors) waiting.old.lanes.items [] }
     ensures count { length waiting.new.lanes.items ≡ length waiting.old.lanes.items }
     ensures ok { IfOk result (λ count. HasJudged good.now.circuit block.now.vectors run count (kept_now kept.old) (kept_now kept.new)) }
@@ -233,7 +238,7 @@ pub(crate) fn judge_lane(
     leaving: &mut Leaving,
     kept: &mut Kept,
 ) -> Result<bool, AllocError>
-    requires told { AreTold good.now block.now.vectors differences.now.notes.items differences.now.spans.items kept.old.classes }
+    requires told { AreTold good.now block.now.vectors (noted_by differences.now) kept.old.classes }
     requires waits { AreWaiting good.now kept.old.classes lane live waiting.old.lanes.items [] }
     requires lane { lane < live }
     requires live { live ≤ length block.now.vectors }

@@ -5,10 +5,10 @@ ghost use Rattle.net_model.specs.Circuit.{IsCircuit};
 ghost use Rattle.net_model.specs.FaultList.{fault_count};
 ghost use Rattle.class_refine.specs.Fields.{IsWhole};
 ghost use Rattle.word_sim.specs.GoodSim.{vectors_of};
-ghost use Rattle.kept_vectors.specs.Notes.{AreMatesNoted, AreAsked};
+ghost use Rattle.kept_vectors.specs.Notes.{noted_by, AreMatesNoted, AreAsked};
 ghost use Rattle.kept_vectors.specs.Waits.{IsLed, LeavesFirst, AreWaiting};
 
-use crate::apart::{apart, first_lane};
+use crate::apart::first_lane;
 use crate::differences::Differences;
 use class_refine::Classes;
 use std::alloc::{AllocError, Global};
@@ -105,7 +105,7 @@ impl Waiting {
         requires circuit { IsCircuit good.now.circuit }
         requires whole { IsWhole classes.now }
         requires numbers { length classes.now.class_of ≡ fault_count good.now.circuit }
-        requires asked { AreAsked good.now differences.now.notes.items differences.now.spans.items classes.now differences.now.numbers.items }
+        requires asked { AreAsked good.now (noted_by differences.now) classes.now differences.now.numbers.items }
         requires live { live ≤ length (vectors_of good.now) }
         requires few { live ≤ LANES }
         requires lanes { length self.old.lanes.items ≡ LANES }
@@ -131,7 +131,7 @@ impl Waiting {
         requires circuit { IsCircuit good.now.circuit }
         requires whole { IsWhole classes.now }
         requires numbers { length classes.now.class_of ≡ fault_count good.now.circuit }
-        requires noted { All (λ n. (n < length classes.now.class_of) × AreMatesNoted good.now differences.now.notes.items differences.now.spans.items classes.now n) numbers.now }
+        requires noted { All (λ n. (n < length classes.now.class_of) × AreMatesNoted good.now (noted_by differences.now) classes.now n) numbers.now }
         requires live { live ≤ length (vectors_of good.now) }
         requires few { live ≤ LANES }
         requires waits { AreWaiting good.now classes.now from live self.old.lanes.items numbers.now }
@@ -166,7 +166,7 @@ fn leaves_at(
     requires whole { IsWhole classes.now }
     requires numbers { length classes.now.class_of ≡ fault_count good.now.circuit }
     requires number { number < length classes.now.class_of }
-    requires noted { AreMatesNoted good.now differences.now.notes.items differences.now.spans.items classes.now number }
+    requires noted { AreMatesNoted good.now (noted_by differences.now) classes.now number }
     requires live { live ≤ length (vectors_of good.now) }
     requires few { live ≤ LANES }
     ensures from { from ≤ result }
@@ -174,6 +174,5 @@ fn leaves_at(
     ensures before { (lane : ℕ) → from ≤ lane → lane < result → lane < live → IsLed good.now classes.now lane number }
 {
     let lead = classes.representative(classes.class_of(number));
-    let told = apart(differences.notes_of(lead), differences.notes_of(number));
-    first_lane(told, from, live)
+    first_lane(differences.apart(lead, number), from, live)
 }

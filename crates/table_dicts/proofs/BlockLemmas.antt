@@ -16,7 +16,7 @@ use Rattle.net_model.specs.ClassTable.{same_bits}
 use Rattle.net_model.proofs.Copies.{same_bits_same_list}
 use Rattle.net_model.proofs.Listed.{listed}
 use Rattle.class_refine.proofs.Ranges.{zip_at}
-use Rattle.fault_sim.proofs.FaultyLemmas.{seen_at}
+use Rattle.fault_heads.proofs.SeenPins.{seen_at}
 use Rattle.kept_vectors.proofs.AnswerLemmas.{answer_exists, answer_width, answer_in_row}
 use Rattle.kept_vectors.proofs.KeepLemmas.{rows_exist}
 use Rattle.table_dicts.proofs.EntryLemmas.{same_bits-Decides}

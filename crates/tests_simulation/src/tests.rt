@@ -1,7 +1,9 @@
 //! The modules, by what they test.
 
 mod cubes;
+mod flipped;
 mod injected;
 mod lanes;
 mod refined;
 mod searches;
+mod turned;

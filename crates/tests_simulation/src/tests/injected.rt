@@ -13,7 +13,7 @@ use word_sim::{Block, GoodSim, LANES, Stream};
 
 // The sources 0 and 1; 2 is the XOR of 3 and 4, which are the AND and the OR of the sources.
 // The AND is shown first, then the OR and then the XOR.
-const PARITY: Parts<'static> = Parts {
+pub(super) const PARITY: Parts<'static> = Parts {
     sources: 2,
     gates: &[
         (Kind::Xor, &[3, 4]),
@@ -25,7 +25,7 @@ const PARITY: Parts<'static> = Parts {
 
 // The sources s, a and b; 3 is the constant 1, 4 is b where s is 1 and else a, and 5 is the XOR of the constant and of that.
 // Shown are s, the chosen bit and the XOR.
-const CHOICE: Parts<'static> = Parts {
+pub(super) const CHOICE: Parts<'static> = Parts {
     sources: 3,
     gates: &[
         (Kind::Const1, &[]),
@@ -36,7 +36,7 @@ const CHOICE: Parts<'static> = Parts {
 };
 
 // The vectors 00, 10, 01 and 11.
-fn four_vectors(alloc: Global) -> Result<Block, AllocError>
+pub(super) fn four_vectors(alloc: Global) -> Result<Block, AllocError>
     ensures { IfOk result (λ block. block.sources ≡ 2) }
 {
     let mut block = Block::new(alloc, 2)?;
@@ -53,7 +53,7 @@ fn four_vectors(alloc: Global) -> Result<Block, AllocError>
 }
 
 // The vectors 000, 100, 010, 110, 001, 101, 011 and 111, and these again and again.
-fn counted_vectors(alloc: Global) -> Result<Block, AllocError>
+pub(super) fn counted_vectors(alloc: Global) -> Result<Block, AllocError>
     ensures { IfOk result (λ block. block.sources ≡ 3) }
 {
     let mut block = Block::new(alloc, 3)?;
@@ -124,7 +124,7 @@ fn differs_so(
 }
 
 // Whether the first eight lanes differ so at the positions.
-fn shows_all(sim: &FaultSim, expected: &[&[u8; 8]; 3]) -> bool
+pub(super) fn shows_all(sim: &FaultSim, expected: &[&[u8; 8]; 3]) -> bool
     requires { length sim.now.circuit.positions ≡ 3 }
 {
     shows_so(sim, 0, expected[0]) && shows_so(sim, 1, expected[1]) && shows_so(sim, 2, expected[2])
@@ -148,9 +148,9 @@ fn shows_so(sim: &FaultSim, position: u32, expected: &[u8; 8]) -> bool
     true
 }
 
-const NONE: &[u8; 8] = b"00000000";
+pub(super) const NONE: &[u8; 8] = b"00000000";
 
-const ALL: &[u8; 8] = b"11111111";
+pub(super) const ALL: &[u8; 8] = b"11111111";
 
 const FIRST: &[u8; 8] = b"10000000";
 

@@ -1,6 +1,6 @@
 use Rattle.std.proofs.Common.{◌∙◌, length, ap, subst, arith}
 use Rattle.net_model.specs.Circuit.{Circuit, IsCircuit}
-use Rattle.fault_sim.specs.FaultyLanes.{vector_at}
+use Rattle.fault_heads.specs.Turned.{vector_at}
 use Rattle.answer_numbers.proofs.FreeLemmas.{free_is}
 use Rattle.answer_numbers.proofs.numbers.free_answer.Goals as goal
 

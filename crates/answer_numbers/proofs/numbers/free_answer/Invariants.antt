@@ -1,7 +1,7 @@
 use Rattle.std.proofs.Common.{◌≡◌, ◌<◌, ℕ, Bool, List, length, get_or}
 use Rattle.net_model.specs.declared.fault.Fault.TheVariants.{Free}
 use Rattle.net_model.specs.Answer.{bit_at, Agrees}
-use Rattle.fault_sim.specs.FaultyLanes.{vector_at}
+use Rattle.fault_heads.specs.Turned.{vector_at}
 use Rattle.answer_numbers.proofs.numbers.free_answer.Given as goal
 
 abbrev pub invariant-loop-position : goal.invariant-loop-position

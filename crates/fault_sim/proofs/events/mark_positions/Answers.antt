@@ -1,11 +1,11 @@
-use Rattle.std.proofs.Common.{◌≡◌, ◌≢◌, ◌∙◌, [], ℕ, get_or, take, sym, ap, arith, subst, inl, inr}
-use Rattle.std.specs.Prelude.{Contains, Option, None, Some}
+use Rattle.std.proofs.Common.{◌∙◌, [], get_or, take, sym, arith, subst, inl, inr}
+use Rattle.std.specs.Prelude.{Contains}
 use Rattle.std.proofs.lemmas.List.{take_more, take_all}
 use Rattle.std.proofs.lemmas.List.Elements.{Contains-get_or, Contains-push_cases}
 use Rattle.net_model.proofs.Elements.{true_false}
 use Rattle.event_queue.specs.Pending.{is_pending}
 use Rattle.fault_sim.specs.Rows.{AreFalseBut}
-use Rattle.fault_sim.proofs.ShownLemmas.{untouched_idle}
+use Rattle.fault_sim.proofs.ShownLemmas.{unmarked_false}
 use Rattle.fault_sim.proofs.events.mark_positions.Goals as goal
 
 pub wake-requires : goal.wake-requires
@@ -34,23 +34,10 @@ loop-line-preserved c =
       ];
     }
 
-pub returns-in_default-clause-others : goal.returns-in_default-clause-others
-returns-in_default-clause-others c = λ position h idle.
-    let items = c.listed-line-items.result.now in
-    let marks = c.loop-line.marks in
-    let others : AreFalseBut items c.args.lines.now.rows = subst (λ ls. AreFalseBut ls c.args.lines.now.rows) (sym c.listed-line-items.ensures.value) c.listed-line-items.ensures.others in
-    untouched_idle c.args.circuit.now c.wiring-wiring.result.now c.wiring-wiring.ensures c.args.fault c.args.lines.now.rows items c.requires.width others position h
-    (λ stands. let clash : ◌≡◌ {A = Option ℕ} None (Some position) = sym c.in_default.is ∙ c.position_of.ensures ∙ stands in cc)
-    (λ line has uses. true_false (is_pending marks position) (c.loop-line.invariant.marked line position (subst (λ ls. Contains ls line) (sym (take_all c.loop-line.line-index items c.loop-line-test.false)) has) uses) idle)
-
 pub returns-clause-others : goal.returns-clause-others
 returns-clause-others c = λ position h idle.
     let items = c.listed-line-items.result.now in
     let marks = c.loop-line.marks in
-    let at = c.in-Some.at in
     let others : AreFalseBut items c.args.lines.now.rows = subst (λ ls. AreFalseBut ls c.args.lines.now.rows) (sym c.listed-line-items.ensures.value) c.listed-line-items.ensures.others in
-    let apart : position ≢ at = λ e. true_false (is_pending c.insert.new.self position) (ap (is_pending c.insert.new.self) e ∙ c.insert.ensures.here) idle in
-    untouched_idle c.args.circuit.now c.wiring-wiring.result.now c.wiring-wiring.ensures c.args.fault c.args.lines.now.rows items c.requires.width others position h
-    (λ stands. apart (let same : ◌≡◌ {A = Option ℕ} (Some position) (Some at) = sym stands ∙ sym c.position_of.ensures ∙ c.in-Some.is in cc))
-    (λ line has uses. true_false (is_pending marks position) (c.loop-line.invariant.marked line position (subst (λ ls. Contains ls line) (sym (take_all c.loop-line.line-index items c.loop-line-test.false)) has) uses)
-    (sym (c.insert.ensures.others position apart) ∙ idle))
+    unmarked_false c.args.circuit.now c.wiring-wiring.result.now c.wiring-wiring.ensures c.args.lines.now.rows items c.requires.width others position h
+    (λ line has uses. true_false (is_pending marks position) (c.loop-line.invariant.marked line position (subst (λ ls. Contains ls line) (sym (take_all c.loop-line.line-index items c.loop-line-test.false)) has) uses) idle)

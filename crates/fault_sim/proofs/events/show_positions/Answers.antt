@@ -1,33 +1,23 @@
-use Rattle.std.proofs.Common.{◌≡◌, ◌≢◌, ◌<◌, ◌≤◌, ◌+◌, ◌∙◌, [], ℕ, List, length, get_or, true, false, sym, ap, arith, subst, refl}
-use Rattle.std.specs.Prelude.{All, AllPairs}
-use Rattle.std.proofs.lemmas.List.{length-set, length_push, get_or-set_other}
+use Rattle.std.proofs.Common.{◌≡◌, ◌≢◌, ◌<◌, ◌≤◌, ◌+◌, ◌∙◌, [], ◌∷◌, ◌++◌, ℕ, set, length, get_or, true, false, sym, ap, arith, subst, refl}
+use Rattle.std.specs.Prelude.{All, AllPairs, IsTrue, ◌↔◌}
+use Rattle.std.proofs.lemmas.List.{length-set, length_push, get_or-set_other, get_or_read}
 use Rattle.std.proofs.lemmas.List.Elements.{All-nil}
 use Rattle.std.proofs.lemmas.Bool.{false_from_ne_true}
-use Rattle.net_model.specs.Circuit.{Circuit, line_count}
-use Rattle.word_sim.specs.GoodSim.{GoodSim}
 use Rattle.event_queue.specs.Pending.{is_pending, IsLowest}
-use Rattle.fault_sim.specs.Rows.{Rows, IsFalse, IsTrueSomewhere}
-use Rattle.fault_sim.specs.Events.{IsPositionShown}
+use Rattle.fault_sim.specs.Rows.{Rows, rows_with, IsFalse, IsTrueSomewhere}
+use Rattle.fault_sim.specs.Events.{IsSameRow, row_shown}
 use Rattle.event_queue.proofs.Marks.{lowest_left, not_before}
 use Rattle.fault_sim.proofs.SettledLemmas.{none_true}
 use Rattle.net_model.proofs.Elements.{none_in}
-use Rattle.fault_sim.proofs.ShownLemmas.{shown_untouched, shown_same, shown_more, shown_kept, below_more, below_later, some_more, ascending_more}
+use Rattle.fault_sim.proofs.ShownLemmas.{shown_more, shown_kept, below_more, below_later, some_more, ascending_more}
 use Rattle.fault_sim.proofs.events.show_positions.Goals as goal
 use Rattle.fault_sim.proofs.events.show_positions.Goals.{then-any, else-any}
 
-positions_are : (good : GoodSim) (circuit : Circuit) (positions : List ℕ) → circuit ≡ good.circuit → positions ≡ circuit.positions → positions ≡ good.circuit.positions
-positions_are good circuit positions same value = value ∙ ap (λ (n : Circuit). n.positions) same
-
 pub loop-at-init : goal.loop-at-init
 loop-at-init c =
-    let good = c.args.good.now in
-    let lines = c.args.lines.now in
-    let circuit = good.circuit in
-    let clear : (position : ℕ) → position < length circuit.positions → IsFalse (get_or c.args.positions.now.rows position []) =
+    let rows = c.args.positions.now.rows in
+    let clear : (position : ℕ) → position < length c.args.shown.now → IsFalse (get_or rows position []) =
     λ position h. c.requires.clear position (omega (arith, c.requires.whole)) (none_in position) in
-    let pos_is = positions_are good c.circuit.result.now c.positions-shown.result.now c.circuit.ensures c.positions-shown.ensures.value in
-    let line_in : (position : ℕ) → position < length circuit.positions → get_or circuit.positions position 0 < line_count circuit =
-    λ position h. let bound = rw pos_is at c.positions-shown.ensures.inside in subst (λ (n : Circuit). get_or circuit.positions position 0 < line_count n) c.circuit.ensures (bound position 0 h) in
     record {
       from = omega arith;
       marks = refl;
@@ -38,38 +28,34 @@ loop-at-init c =
       within = c.requires.within;
       later = λ position low h. clear position h;
       below = subst (All (λ position. position < 0)) (sym c.requires.listed) (All-nil (λ position. position < 0));
-      some = subst (All (λ position. IsTrueSomewhere (get_or c.args.positions.now.rows position []))) (sym c.requires.listed) (All-nil (λ position. IsTrueSomewhere (get_or c.args.positions.now.rows position [])));
+      some = subst (All (λ position. IsTrueSomewhere (get_or rows position []))) (sym c.requires.listed) (All-nil (λ position. IsTrueSomewhere (get_or rows position [])));
       ascending = subst (AllPairs ◌<◌) (sym c.requires.listed) (λ i j d before h. absurd (omega arith));
-      shown = λ position h idle.
-          shown_untouched good c.args.fault lines position (get_or c.args.positions.now.rows position [])
-          (omega (arith, c.requires.width, line_in position h))
-          (c.requires.others position h idle) (clear position h);
+      shown = λ position h idle lane within. clear position h lane within ∙ sym (c.requires.others position h idle lane within);
     }
 
 pub loop-at-preserved : goal.loop-at-preserved
 loop-at-preserved c =
-    let good = c.args.good.now in
-    let circuit = good.circuit in
+    let shown = c.args.shown.now in
     let lines = c.args.lines.now in
     let at = c.in-Some.at in
     let rows = c.loop-at.positions.rows in
-    let row = c.position_change-row.result in
-    let count = length circuit.positions in
+    let count = length shown in
     let lowest : IsLowest c.loop-at.marks c.take_lowest.new.self at = c.in-Some.ensures.cases in
     let inside : at < count = c.loop-at.invariant.within at lowest.was in
     let low : c.loop-at.from ≤ at = not_before c.loop-at.marks c.loop-at.from at c.loop-at.invariant.low lowest.was in
-    let pos_is : c.positions-shown.result.now ≡ good.circuit.positions = positions_are good c.circuit.result.now c.positions-shown.result.now c.circuit.ensures c.positions-shown.ensures.value in
-    let here : IsPositionShown good c.args.fault lines at row =
-    record { live = rw pos_is at c.position_change-row.ensures.live; past = c.position_change-row.ensures.past } in
+    let row = row_shown shown lines at in
+    let line_in : get_or shown at 0 < length lines = c.requires.inside at 0 inside in
+    let row_is : c.index-lines-shown.result ≡ row = get_or_read lines (get_or shown at 0) c.index-lines-shown.result line_in c.index-lines-shown.is [] in
+    let any = subst (λ r. IsTrue c.any.result ↔ IsTrueSomewhere r) row_is c.any.ensures in
     let rest : (position : ℕ) → is_pending c.take_lowest.new.self position ≡ true → (at < position) × (is_pending c.loop-at.marks position ≡ true) = lowest_left c.loop-at.marks c.take_lowest.new.self at lowest in
     let Facts : Rows → Type 0 =
     λ p. (length p.rows ≡ length rows) × (p.room ≡ c.loop-at.positions.room) × (length p.listed ≤ length c.loop-at.positions.listed + 1)
     × ((position : ℕ) → at + 1 ≤ position → position < count → IsFalse (get_or p.rows position []))
     × All (λ position. position < at + 1) p.listed × All (λ position. IsTrueSomewhere (get_or p.rows position [])) p.listed × AllPairs ◌<◌ p.listed
-    × ((position : ℕ) → position < count → is_pending c.take_lowest.new.self position ≡ false → IsPositionShown good c.args.fault lines position (get_or p.rows position [])) in
+    × ((position : ℕ) → position < count → is_pending c.take_lowest.new.self position ≡ false → IsSameRow (get_or p.rows position []) (row_shown shown lines position)) in
     let set_at : at < length rows = omega (arith, c.loop-at.invariant.whole, c.requires.whole) in
     let facts : Facts c.if-any.positions = elim c.if-any.branch [
-      | then-any w ↦ subst Facts (sym (w.positions-is ∙ w.set.ensures)) (
+      | then-any w ↦ subst Facts (sym (w.positions-is ∙ w.set.ensures ∙ ap (λ r. rows_with (set rows at r) (c.loop-at.positions.listed ++ at ∷ []) c.loop-at.positions.room) row_is)) (
         length-set rows at row,
         refl,
         omega (arith, length_push c.loop-at.positions.listed at),
@@ -77,9 +63,9 @@ loop-at-preserved c =
             let ne : position ≢ at = omega arith in
             subst IsFalse (sym (get_or-set_other rows at position row [] ne)) (c.loop-at.invariant.later position (omega arith) h),
         below_more c.loop-at.from at c.loop-at.positions.listed low c.loop-at.invariant.below,
-        some_more rows c.loop-at.from at row c.loop-at.positions.listed low set_at c.loop-at.invariant.below c.loop-at.invariant.some (c.any.ensures.0 w.if-any.true),
+        some_more rows c.loop-at.from at row c.loop-at.positions.listed low set_at c.loop-at.invariant.below c.loop-at.invariant.some (any.0 w.if-any.true),
         ascending_more c.loop-at.from at c.loop-at.positions.listed low c.loop-at.invariant.below c.loop-at.invariant.ascending,
-        shown_more good c.args.fault lines rows c.loop-at.marks c.take_lowest.new.self at lowest count c.loop-at.invariant.shown row set_at here,
+        shown_more shown lines rows c.loop-at.marks c.take_lowest.new.self at lowest count c.loop-at.invariant.shown set_at,
       )
       | else-any w ↦ subst Facts (sym w.positions-is) (
         refl,
@@ -89,9 +75,8 @@ loop-at-preserved c =
         below_later c.loop-at.from at c.loop-at.positions.listed low c.loop-at.invariant.below,
         c.loop-at.invariant.some,
         c.loop-at.invariant.ascending,
-        shown_kept good c.args.fault lines rows c.loop-at.marks c.take_lowest.new.self at lowest count c.loop-at.invariant.shown
-            (shown_same good c.args.fault lines at row (get_or rows at [])
-            (λ lane h. c.loop-at.invariant.later at low inside lane h ∙ sym (none_true row c.any.result c.any.ensures w.if-any.false lane h)) here),
+        shown_kept shown lines rows c.loop-at.marks c.take_lowest.new.self at lowest count c.loop-at.invariant.shown
+            (λ lane within. c.loop-at.invariant.later at low inside lane within ∙ sym (none_true row c.any.result any w.if-any.false lane within)),
       )
     ] in
     record {

@@ -7,7 +7,7 @@ use Rattle.std.proofs.lemmas.Result.{err_from_is_err_and}
 use Rattle.std.proofs.lemmas.List.{length-map}
 use Rattle.class_refine.specs.declared.leaver.Leaver.{Leaver}
 use Rattle.class_refine.specs.Leavers.{AreLeavers}
-use Rattle.fault_sim.specs.FaultyLanes.{vector_at}
+use Rattle.fault_heads.specs.Turned.{vector_at}
 use Rattle.kept_vectors.specs.Kept.{with_vector}
 use Rattle.kept_vectors.specs.Scan.{kept_now}
 use Rattle.kept_vectors.proofs.KeepLemmas.{ran_vectors}
@@ -61,7 +61,7 @@ tell-requires-clause-noted c k d h =
     let others = moved_others _ c.at.ensures ordered.others in
     let inside = leaver_below old c.requires.told c.args.lane c.args.live c.requires.lane c.requires.live c.args.waiting.now.lanes.items c.requires.waits ns all others n has in
     let noted = mates_here old c.requires.told c.args.lane c.args.live c.requires.lane c.requires.live c.args.waiting.now.lanes.items c.requires.waits ns all others n has n inside refl in
-    (noted.below, noted.within)
+    noted.notes
 
 pub offer-requires-clause-leave : goal.offer-requires-clause-leave
 offer-requires-clause-leave c =

@@ -1,32 +1,19 @@
-use Rattle.std.proofs.Common.{◌<◌, arith, inl, inr}
-use Rattle.net_model.specs.ClassTable.{class_at}
-use Rattle.class_refine.proofs.Pieces.{members-All}
-use Rattle.kept_vectors.proofs.GroupLemmas.{below_more}
+use Rattle.std.proofs.Common.{◌≡◌, List, Option, sym, subst, arith}
+use Rattle.std.proofs.lemmas.Result.{on_ok_weaker}
+use Rattle.fault_heads.specs.declared.head.Turn.{Turn}
+use Rattle.kept_vectors.specs.Notes.{noted_by, AreAsked, IsNumberAsked}
+use Rattle.kept_vectors.proofs.NoteLemmas.{number_noted}
+use Rattle.kept_vectors.proofs.GroupLemmas.{known_as}
 use Rattle.kept_vectors.proofs.differences.Differences.note_classes.Goals as goal
 
-pub note_class-requires-clause-inside : goal.note_class-requires-clause-inside
-note_class-requires-clause-inside c =
-    rw c.members.ensures (λ k d h. let all = members-All c.args.classes.now c.loop-class.class k d h in omega (arith, all.0, c.requires.numbers))
-
-pub loop-class-preserved : goal.loop-class-preserved
-loop-class-preserved c =
-    let old = c.loop-class.self in
-    let new = c.note_class.new.self in
-    record {
-      of = c.note_class.ensures.of;
-      noted = below_more c.args.good.now c.args.classes.now c.loop-class.class old.notes.items new.notes.items old.spans.items new.spans.items old.numbers.items new.numbers.items c.in_ok-note_class.ensures.later
-          (rw c.members.ensures at c.in_ok-note_class.ensures.noted) c.loop-class.invariant.noted;
-    }
-
-pub returns-clause-noted : goal.returns-clause-noted
-returns-clause-noted c n h =
-    let less : class_at c.args.classes.now n < c.loop-class.class = omega (arith, c.requires.whole.classes n h, c.count-class-end.ensures.value, c.loop-class-test.false) in
-    elim (c.loop-class.invariant.noted.noted n h less) [ inl both ↦ inl both.1 | inr alike ↦ inr alike ]
-
 pub returns-clause-asked : goal.returns-clause-asked
-returns-clause-asked c = record {
-  mates = c.loop-class.invariant.noted.mates;
-  others = λ n h.
-      let less : class_at c.args.classes.now n < c.loop-class.class = omega (arith, c.requires.whole.classes n h, c.count-class-end.ensures.value, c.loop-class-test.false) in
-      elim (c.loop-class.invariant.noted.noted n h less) [ inl both ↦ inl both.0 | inr alike ↦ inr alike ];
-}
+returns-clause-asked c =
+    let good = c.args.good.now in
+    let run = c.requires.run in
+    let asked = c.ask_classes.new.self in
+    let new = c.show_heads.new.self in
+    let needs = asked.needs.items in
+    on_ok_weaker c.show_heads.result
+    (λ places. subst (AreAsked good (noted_by new) c.args.classes.now) (sym c.show_heads.ensures.numbers)
+    (known_as (λ n one. number_noted good run.circuit run.few needs (noted_by new) c.show_heads.ensures.of.lines (λ place h. places place (omega (arith, h, c.ask_classes.ensures.of.needs))) n
+    (subst (λ (ts : List (Option Turn)). IsNumberAsked good needs ts n) (sym c.show_heads.ensures.turns) one)) c.in_ok-ask_classes.ensures.asked)) c.show_heads.ensures.places
