@@ -1,5 +1,6 @@
 pub mod Assignment
 pub mod StackFields
+pub mod LinkCode
 pub mod Watches
 pub mod Trail
 pub mod TrailFields

@@ -8,7 +8,7 @@ use Rattle.solver_trail.specs.declared.set_literals.SetLiteral.{SetLiteral}
 use Rattle.solver_trail.specs.declared.watches.Watches.{Watches}
 use Rattle.solver_trail.specs.Assignment.{Assignment, assigned_literals}
 use Rattle.solver_trail.specs.Trail.{TrailState, AreAttached, AreReasons, IsFalseClause}
-use Rattle.solver_trail.specs.Watches.{AreWatching, EachWatch, IsAhead, IsWatchAmong}
+use Rattle.solver_trail.specs.Watches.{AreWatching, EachWatch, IsAhead, IsWatchAmong, watched_literals}
 
 -- the numbers of the attached clauses
 abbrev pub numbers_attached : Attached → List ℕ
@@ -16,7 +16,7 @@ numbers_attached attached = attached.short.items ++ attached.long.items
 
 -- what a trail shows
 abbrev pub trail_state : Assignment → Attached → Watches → TrailState
-trail_state a attached w = record { assignment = a; short = attached.short.items; long = attached.long.items; watched = w.literals.items }
+trail_state a attached w = record { assignment = a; short = attached.short.items; long = attached.long.items; watched = watched_literals w }
 
 -- The clauses of these numbers are satisfied.
 abbrev pub AreSatisfied : List Literal → List ℕ → List Clause → Type 0
@@ -56,12 +56,16 @@ IsVisited clauses number assigned_literals lit other target = (clause : Clause) 
 pub record HasWatches (attached : Attached) (clauses : List Clause) (a : Assignment) (w : Watches) : Type 0 where
   pub in_pool : AreAttached a.variables (numbers_attached attached) clauses
   pub reasons : AreReasons (numbers_attached attached) clauses a.literals
-  pub watching : AreWatching attached.long.items clauses w.literals.items
-  pub size : length w.literals.items ≡ 2 * length attached.long.items
+  pub watching : AreWatching attached.long.items clauses (watched_literals w)
+  pub size : length (watched_literals w) ≡ 2 * length attached.long.items
   pub codes : length w.firsts.items ≡ 2 * a.variables + 2
 
--- The watches of a literal are gone through: at each that isn't ahead the partner's literal is true.
-pub record IsWatchWalk (attached : Attached) (clauses : List Clause) (lit : Literal) (a : Assignment) (w : Watches) (first : Option ℕ) : Type 0 where
+-- The list of a literal is gone through up to a last watch that stays: at each watch of it that isn't ahead the partner's literal is true.
+pub record IsWatchWalk (attached : Attached) (clauses : List Clause) (lit : Literal) (a : Assignment) (w : Watches) (last : Option ℕ) : Type 0 where
   pub watches : HasWatches attached clauses a w
-  pub ahead : IsAhead w lit first
-  pub seen : EachWatch (λ watch l other. l ≡ lit → Contains (assigned_literals a) other ⊎ IsWatchAmong ahead.rest watch) w.literals.items
+  pub ahead : IsAhead w lit last
+  pub seen : EachWatch (λ watch l other. l ≡ lit → Contains (assigned_literals a) other ⊎ IsWatchAmong ahead.rest watch) (watched_literals w)
+
+-- At each watch of the literal the partner's literal is true.
+abbrev pub ArePartnersTrue : Literal → Assignment → Watches → Type 0
+ArePartnersTrue lit a w = EachWatch (λ watch l other. l ≡ lit → Contains (assigned_literals a) other) (watched_literals w)

@@ -2,7 +2,7 @@
 use Rattle.std.specs.Prelude.{◌≡◌, ℕ, ◌+◌, ◌*◌, ◌≤◌, [], length}
 use Rattle.solver_trail.specs.declared.watches.Watches.{Watches}
 use Rattle.solver_trail.specs.Assignment.{Assignment, IsTrail}
-use Rattle.solver_trail.specs.Watches.{AreInLists, AreKept}
+use Rattle.solver_trail.specs.Watches.{AreInLists, AreKept, watched_literals}
 
 -- The watches are in their lists. Where one watches a literal that is false by one of those that were visited for good, its
 -- partner's literal is true and of no higher level.
@@ -10,5 +10,5 @@ pub record AreWatchesReady (a : Assignment) (w : Watches) (visited : ℕ) : Type
   pub trail : IsTrail a
   pub listed : AreInLists w []
   pub codes : length w.firsts.items ≡ 2 * a.variables + 2
-  pub kept : AreKept a.literals visited visited w.literals.items
+  pub kept : AreKept a.literals visited visited (watched_literals w)
   pub reached : visited ≤ length a.literals

@@ -1,9 +1,10 @@
 -- The literals that clauses watch, and the lists of each literal's watches.
-use Rattle.std.specs.Prelude.{◌≡◌, ◌≢◌, ◌⊎◌, ⊤, ℕ, ◌+◌, ◌-◌, ◌/◌, ◌%◌, ◌<◌, ◌≤◌, ◌==◌, List, [], ◌∷◌, length, Contains, Option, None, Some, slice_index, slice_index_or, slice_set, if◌then◌else◌}
+use Rattle.std.specs.Prelude.{◌≡◌, ◌≢◌, ◌⊎◌, ⊤, ℕ, ◌+◌, ◌-◌, ◌/◌, ◌%◌, ◌^◌, ◌<◌, ◌≤◌, ◌==◌, List, [], ◌∷◌, ◌++◌, map, length, Contains, Option, None, Some, slice_index, slice_index_or, slice_set, if◌then◌else◌}
 use Rattle.clause_pool.specs.Literal.{Literal, pos_literal, opposite}
 use Rattle.clause_pool.specs.LiteralCode.{code_of}
 use Rattle.clause_pool.specs.Clauses.{Clause, numbered_clause}
 use Rattle.solver_trail.specs.declared.set_literals.SetLiteral.{SetLiteral}
+use Rattle.solver_trail.specs.declared.watches.Watch.{Watch}
 use Rattle.solver_trail.specs.declared.watches.Watches.{Watches}
 
 -- ---- the watched literals: those of a clause stand next to each other
@@ -41,7 +42,15 @@ WatchesIn clauses number l m = (clause : Clause) → numbered_clause clauses num
 abbrev pub AreWatching : List ℕ → List Clause → List Literal → Type 0
 AreWatching numbers clauses literals = EachWatch (λ watch l m. WatchesIn clauses (owner numbers watch) l m) literals
 
+-- the literals of all watches, by number
+abbrev pub watched_literals : Watches → List Literal
+watched_literals w = map (λ (watch : Watch). watch.literal) w.watches.items
+
 -- ---- lists of watches
+
+-- the watch that follows each one in its list, by number
+abbrev pub next_watches : Watches → List (Option ℕ)
+next_watches w = map (λ (watch : Watch). watch.next) w.watches.items
 
 -- the first watch of a literal
 abbrev pub head_of : List (Option ℕ) → Literal → Option ℕ
@@ -74,29 +83,56 @@ pub record IsListOf (firsts nexts : List (Option ℕ)) (literals : List Literal)
 
 pub record AreWatchesListed (firsts nexts : List (Option ℕ)) (literals : List Literal) (out : List ℕ) : Type 0 where
   pub size : length nexts ≡ length literals
+  pub few : length literals < 2 ^ 32
   pub lists : (code : ℕ) → code < length firsts → IsListOf firsts nexts literals out code
 
 -- Each watch is in the list of its literal, but for those that are taken out.
 abbrev pub AreInLists : Watches → List ℕ → Type 0
-AreInLists w out = AreWatchesListed w.firsts.items w.nexts.items w.literals.items out
+AreInLists w out = AreWatchesListed w.firsts.items (next_watches w) (watched_literals w) out
 
 -- A watch is put to the front of the list of the literal that it watches now.
-pub record IsRewatched (old new : Watches) (watch : ℕ) (lit : Literal) : Type 0 where
-  pub literals : new.literals.items ≡ slice_set old.literals.items watch lit
-  pub nexts : new.nexts.items ≡ slice_set old.nexts.items watch (head_of old.firsts.items lit)
+pub record IsLinked (old new : Watches) (watch : ℕ) (lit : Literal) : Type 0 where
+  pub literals : watched_literals new ≡ slice_set (watched_literals old) watch lit
+  pub nexts : next_watches new ≡ slice_set (next_watches old) watch (head_of old.firsts.items lit)
   pub firsts : new.firsts.items ≡ slice_set old.firsts.items (code_of lit) (Some watch)
 
--- The watch watches the literal.
-abbrev pub IsWatchOf : List Literal → ℕ → Literal → Type 0
-IsWatchOf literals watch lit = (watch < length literals) × (watched literals watch ≡ lit)
+-- the watch that follows one in the list of the literal, or begins it
+abbrev pub link_after : Watches → Literal → Option ℕ → Option ℕ
+link_after w lit None = head_of w.firsts.items lit
+link_after w lit (Some last) = slice_index_or (next_watches w) last None
 
--- The watches from a first one on are taken out, and all of them watch the literal.
-pub record IsAhead (w : Watches) (lit : Literal) (first : Option ℕ) : Type 0 where
+-- what the first watches and the ones that follow become where another watch follows
+abbrev pub firsts_with : List (Option ℕ) → Literal → Option ℕ → Option ℕ → List (Option ℕ)
+firsts_with firsts lit None next = slice_set firsts (code_of lit) next
+firsts_with firsts lit (Some last) next = firsts
+
+abbrev pub nexts_with : List (Option ℕ) → Option ℕ → Option ℕ → List (Option ℕ)
+nexts_with nexts None next = nexts
+nexts_with nexts (Some last) next = slice_set nexts last next
+
+-- The watch is left out of the list of the literal: what followed it follows the one before it, or begins the list.
+pub record IsUnlinked (old new : Watches) (lit : Literal) (last : Option ℕ) (watch : ℕ) : Type 0 where
+  pub literals : watched_literals new ≡ watched_literals old
+  pub firsts : new.firsts.items ≡ firsts_with old.firsts.items lit last (slice_index_or (next_watches old) watch None)
+  pub nexts : next_watches new ≡ nexts_with (next_watches old) last (slice_index_or (next_watches old) watch None)
+
+-- The last of these is the watch, or there are none.
+abbrev pub HasLastWatch : List ℕ → Option ℕ → Type 0
+HasLastWatch watches None = watches ≡ []
+HasLastWatch watches (Some last) = (before : List ℕ) × (watches ≡ before ++ last ∷ [])
+
+-- The list of a literal is gone through: the watches up to a last one stay in it, and the others are ahead.
+pub record IsAhead (w : Watches) (lit : Literal) (last : Option ℕ) : Type 0 where
+  pub stay : List ℕ
   pub rest : List ℕ
-  pub chain : IsChain w.nexts.items first rest
-  pub apart : AreListedOnce rest
-  pub owned : (watch : ℕ) → IsWatchAmong rest watch → IsWatchOf w.literals.items watch lit
-  pub listed : AreInLists w rest
+  pub ends : HasLastWatch stay last
+  pub list : IsListOf w.firsts.items (next_watches w) (watched_literals w) [] (code_of lit)
+  pub parts : list.members ≡ stay ++ rest
+  pub listed : AreInLists w []
+
+-- Where watches were ahead, the watch was the first of them, and the others still are ahead.
+abbrev pub IsPassed : Watches → Watches → Literal → Option ℕ → Option ℕ → ℕ → Type 0
+IsPassed old new lit last now watch = (before : IsAhead old lit last) → (after : IsAhead new lit now) × (before.rest ≡ watch ∷ after.rest)
 
 -- ---- what propagation has gone through
 

@@ -8,6 +8,7 @@
 //! ```text
 //! set_literals   the literals that are set, each with its level and its reason
 //! choice         which two of its literals a clause watches when it is attached
+//! link           a link from one watch to the next
 //! watches        the watched literals, and for each literal the list of its watches
 //! propagation    propagation over clauses of one literal, and over the watches of literals that have become false
 //! trail          what a solver calls
@@ -16,6 +17,7 @@
 
 mod choice;
 mod laws;
+mod link;
 mod propagation;
 mod set_literals;
 mod trail;

@@ -3,12 +3,13 @@
 
 ghost use Rattle.std.specs.Prelude.{◌≡◌, ℕ, ◌+◌, ◌<◌, ◌≤◌, [], None, Some, Contains, IsNone, IfSome, MatchOption, is_none, if◌then◌else◌, length};
 ghost use Rattle.clause_pool.specs.Literal.{opposite};
+ghost use Rattle.clause_pool.specs.LiteralCode.{code_of};
 ghost use Rattle.clause_pool.specs.Clauses.{Clause, numbered_clause};
 ghost use Rattle.clause_pool.specs.Proper.{IsProper};
 ghost use Rattle.solver_trail.specs.Assignment.{IsTrail, Propagates, assigned_literals};
 ghost use Rattle.solver_trail.specs.Trail.{AreAttached, AreReasons, AreShort, IsPropagated};
-ghost use Rattle.solver_trail.specs.Watches.{AreInLists, AreKept};
-ghost use Rattle.solver_trail.specs.Propagation.{numbers_attached, trail_state, AreSatisfied, AreOthersFalse, IsOpenOther, IsVisited, IsConflict, KeepsReasons, HasWatches, IsWatchWalk};
+ghost use Rattle.solver_trail.specs.Watches.{AreInLists, AreKept, watched_literals};
+ghost use Rattle.solver_trail.specs.Propagation.{numbers_attached, trail_state, AreSatisfied, AreOthersFalse, IsOpenOther, IsVisited, IsConflict, KeepsReasons, HasWatches, ArePartnersTrue};
 
 use crate::set_literals::SetLiterals;
 use crate::trail::Propagated;
@@ -38,7 +39,7 @@ pub(crate) fn propagate(
     requires watches { HasWatches attached.now pool.now.clauses set.old watches.old }
     requires listed { AreInLists watches.old [] }
     requires short { AreShort attached.now.short.items pool.now.clauses }
-    requires kept { AreKept set.old.literals place.old place.old watches.old.literals.items }
+    requires kept { AreKept set.old.literals place.old place.old (watched_literals watches.old) }
     ensures found { IsPropagated (trail_state set.new attached.now watches.new) pool.now.clauses result }
     ensures set { Propagates set.old set.new }
     ensures trail { IsTrail set.new }
@@ -46,7 +47,7 @@ pub(crate) fn propagate(
     ensures listed { AreInLists watches.new [] }
     ensures from { place.old ≤ place.new }
     ensures below { place.new ≤ length set.new.literals }
-    ensures kept { AreKept set.new.literals place.old place.new watches.new.literals.items }
+    ensures kept { AreKept set.new.literals place.old place.new (watched_literals watches.new) }
 {
     match set_units(set, attached, pool) {
         Some(number) => Propagated::Conflict(number),
@@ -102,7 +103,7 @@ fn follow(
     ensures trail { IsTrail set.new }
     ensures watches { HasWatches attached.now pool.now.clauses set.new watches.new }
     ensures listed { AreInLists watches.new [] }
-    ensures kept { AreKept set.old.literals place.old place.old watches.old.literals.items → AreKept set.new.literals place.old place.new watches.new.literals.items }
+    ensures kept { AreKept set.old.literals place.old place.old (watched_literals watches.old) → AreKept set.new.literals place.old place.new (watched_literals watches.new) }
     ensures conflict { IfSome result (IsConflict (numbers_attached attached.now) pool.now.clauses (assigned_literals set.new)) }
 {
     while *place < set.literals().len() {
@@ -130,41 +131,41 @@ fn visit_list(
     ensures trail { IsTrail set.new }
     ensures watches { HasWatches attached.now pool.now.clauses set.new watches.new }
     ensures listed { AreInLists watches.new [] }
-    ensures kept { (visited : ℕ) → visited ≤ place → AreKept set.old.literals visited place watches.old.literals.items → AreKept set.new.literals visited (if is_none result then place + 1 else place) watches.new.literals.items }
+    ensures kept { (visited : ℕ) → visited ≤ place → AreKept set.old.literals visited place (watched_literals watches.old) → AreKept set.new.literals visited (if is_none result then place + 1 else place) (watched_literals watches.new) }
     ensures conflict { IfSome result (IsConflict (numbers_attached attached.now) pool.now.clauses (assigned_literals set.new)) }
 {
     let lit = set.literals()[place].opposite();
-    let mut ahead = watches.take(lit);
-    let found = visit_ahead(set, watches, attached, pool, lit, &mut ahead);
-    watches.put_back(ahead, lit);
-    found
+    visit_watches(set, watches, attached, pool, lit)
 }
 
-// Visits the clauses of the watches that are ahead, which watch a literal that is false, up to a clause that is false.
-fn visit_ahead(
+// Visits the clauses that watch a literal that is false, up to a clause that is false. Watches that stay are left where they are.
+fn visit_watches(
     set: &mut SetLiterals,
     watches: &mut Watches,
     attached: &Attached,
     pool: &Pool,
     lit: Lit,
-    ahead: &mut Option<usize>,
 ) -> Option<u32>
     requires trail { IsTrail set.old }
     requires lit { Contains (assigned_literals set.old) (opposite lit) }
-    requires walk { IsWatchWalk attached.now pool.now.clauses lit set.old watches.old ahead.old }
+    requires code { code_of lit < length watches.old.firsts.items }
+    requires watches { HasWatches attached.now pool.now.clauses set.old watches.old }
+    requires listed { AreInLists watches.old [] }
     ensures set { Propagates set.old set.new }
     ensures trail { IsTrail set.new }
-    ensures walk { IsWatchWalk attached.now pool.now.clauses lit set.new watches.new ahead.new }
-    ensures kept { (visited reached : ℕ) → reached ≤ length set.old.literals → AreKept set.old.literals visited reached watches.old.literals.items → AreKept set.new.literals visited reached watches.new.literals.items }
-    ensures done { IsNone result → ahead.new ≡ None }
+    ensures watches { HasWatches attached.now pool.now.clauses set.new watches.new }
+    ensures listed { AreInLists watches.new [] }
+    ensures kept { (visited reached : ℕ) → reached ≤ length set.old.literals → AreKept set.old.literals visited reached (watched_literals watches.old) → AreKept set.new.literals visited reached (watched_literals watches.new) }
+    ensures done { IsNone result → ArePartnersTrue lit set.new watches.new }
     ensures conflict { IfSome result (IsConflict (numbers_attached attached.now) pool.now.clauses (assigned_literals set.new)) }
 {
-    for _ in 0..watches.literals.len() {
-        let watch = (*ahead)?;
+    let mut last = None;
+    for _ in 0..watches.len() {
+        let watch = watches.after(lit, last)?;
         let number = attached.long[watch / 2];
-        let other = watches.literals[partner(watch)];
+        let other = watches.literal(partner(watch));
         match visit(set, pool, number, lit, other) {
-            Some(target) => *ahead = watches.rewatch(watch, target),
+            Some(target) => last = watches.rewatch(lit, last, watch, target),
             None => return Some(number),
         }
     }

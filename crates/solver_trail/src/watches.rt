@@ -1,52 +1,61 @@
 //! The literals that attached clauses watch, and for each literal the list of its watches (Moskewicz et al. 2001).
 
-ghost use Rattle.std.specs.Prelude.{◌≡◌, ◌+◌, ◌*◌, ◌<◌, ◌^◌, [], ◌∷◌, ◌++◌, None, Some, IfOk, is_ok, if◌then◌else◌, length, vec_len, vec_capacity, replicate, slice_set, slice_index_or};
+ghost use Rattle.std.specs.Prelude.{◌≡◌, ◌+◌, ◌*◌, ◌<◌, ◌^◌, [], ◌∷◌, ◌++◌, None, Some, IfOk, IfSome, is_ok, if◌then◌else◌, length, vec_len, vec_capacity, replicate, slice_set};
 ghost use Rattle.clause_pool.specs.LiteralCode.{code_of};
 ghost use Rattle.solver_trail.specs.Watches as spec;
-ghost use Rattle.solver_trail.specs.Watches.{AreInLists, IsAhead, IsRewatched, head_of};
+ghost use Rattle.solver_trail.specs.Watches.{AreInLists, IsAhead, IsLinked, IsPassed, IsUnlinked, link_after, watched, watched_literals};
 
+use crate::link::Link;
 use clause_pool::Lit;
 use std::alloc::{AllocError, Global};
+
+/// A watch of a clause, in eight bytes.
+#[derive(Clone, Copy)]
+pub(crate) struct Watch {
+    /// The literal that it watches.
+    pub(crate) literal: Lit,
+    /// The watch that follows this one in the list of the literal.
+    pub(crate) next: Link,
+}
 
 /// The watches of clauses, two for each. A watch is a number, and those of the k-th clause are 2 k and 2 k + 1.
 ///
 /// The watches of a literal are a linked list, so that a watch moves to another literal without memory.
 #[derive(Drop)]
 pub(crate) struct Watches {
-    /// The literal that each watch watches.
-    pub(crate) literals: Vec<Lit>,
+    /// The watches, by number.
+    pub(crate) watches: Vec<Watch>,
     /// The first watch of each literal, by the literal's code.
-    pub(crate) firsts: Vec<Option<usize>>,
-    /// The watch that follows each one in its list.
-    pub(crate) nexts: Vec<Option<usize>>,
+    pub(crate) firsts: Vec<Link>,
 }
 
 impl Watches {
     /// No clause watches a literal.
     pub(crate) fn new(alloc: Global, variables: u32) -> Result<Watches, AllocError>
-        ensures literals { IfOk result (λ watches. watches.literals.items ≡ []) }
+        ensures watches { IfOk result (λ watches. watches.watches.items ≡ []) }
         ensures firsts { IfOk result (λ watches. watches.firsts.items ≡ replicate (2 * variables + 2) None) }
-        ensures nexts { IfOk result (λ watches. watches.nexts.items ≡ []) }
     {
-        let firsts = vec![in alloc; None; 2 * variables as usize + 2]?;
+        let none = Link::none();
+        let firsts = vec![in alloc; none; 2 * variables as usize + 2]?;
         Ok(Watches {
-            literals: Vec::new(alloc),
+            watches: Vec::new(alloc),
             firsts,
-            nexts: Vec::new(alloc),
         })
     }
 
-    /// Adds the two watches of a clause.
+    /// Adds the two watches of a clause. More watches than a `u32` counts are want of memory.
     pub(crate) fn watch(&mut self, first: Lit, second: Lit) -> Result<(), AllocError>
         requires first { code_of first < length self.old.firsts.items }
         requires second { code_of second < length self.old.firsts.items }
         requires listed { AreInLists self.old [] }
-        ensures literals { self.new.literals.items ≡ (if is_ok result then self.old.literals.items ++ first ∷ second ∷ [] else self.old.literals.items) }
+        ensures literals { watched_literals self.new ≡ (if is_ok result then watched_literals self.old ++ first ∷ second ∷ [] else watched_literals self.old) }
         ensures firsts { length self.new.firsts.items ≡ length self.old.firsts.items }
         ensures listed { AreInLists self.new [] }
     {
-        self.literals.reserve(2)?;
-        self.nexts.reserve(2)?;
+        if self.watches.len() > u32::MAX as usize - 2 {
+            return Err(AllocError);
+        }
+        self.watches.reserve(2)?;
         self.push(first);
         self.push(second);
         Ok(())
@@ -55,69 +64,104 @@ impl Watches {
     // Adds a watch, for which there is room.
     fn push(&mut self, lit: Lit)
         requires lit { code_of lit < length self.old.firsts.items }
-        requires literal_room { vec_len self.old.literals < vec_capacity self.old.literals }
-        requires next_room { vec_len self.old.nexts < vec_capacity self.old.nexts }
+        requires few { vec_len self.old.watches + 1 < 2 ^ 32 }
+        requires room { vec_len self.old.watches < vec_capacity self.old.watches }
         requires listed { AreInLists self.old [] }
-        ensures literals { self.new.literals.items ≡ self.old.literals.items ++ lit ∷ [] }
+        ensures literals { watched_literals self.new ≡ watched_literals self.old ++ lit ∷ [] }
         ensures firsts { length self.new.firsts.items ≡ length self.old.firsts.items }
-        ensures literal_room { vec_capacity self.new.literals ≡ vec_capacity self.old.literals }
-        ensures next_room { vec_capacity self.new.nexts ≡ vec_capacity self.old.nexts }
+        ensures length { vec_len self.new.watches ≡ vec_len self.old.watches + 1 }
+        ensures room { vec_capacity self.new.watches ≡ vec_capacity self.old.watches }
         ensures listed { AreInLists self.new [] }
     {
-        let at = self.literals.len();
-        self.literals.push_reserved(lit);
-        self.nexts.push_reserved(None);
-        let _ = self.rewatch(at, lit);
+        let at = self.watches.len();
+        self.watches.push_reserved(Watch {
+            literal: lit,
+            next: Link::none(),
+        });
+        self.link(at, lit);
     }
 
-    /// Takes all watches out of a literal's list. It answers the first one.
-    pub(crate) fn take(&mut self, lit: Lit) -> Option<usize>
-        requires { code_of lit < length self.old.firsts.items }
-        ensures first { result ≡ head_of self.old.firsts.items lit }
-        ensures firsts { self.new.firsts.items ≡ slice_set self.old.firsts.items (code_of lit) None }
-        ensures nexts { self.new.nexts ≡ self.old.nexts }
-        ensures literals { self.new.literals ≡ self.old.literals }
+    /// How many watches there are.
+    pub(crate) fn len(&self) -> usize
+        ensures { result ≡ length (watched_literals self.now) }
     {
-        let code = lit.code();
-        let first = self.firsts[code];
-        self.firsts[code] = None;
-        first
+        self.watches.len()
     }
 
-    /// Has a watch, which is in no list, watch a literal, and puts it to the front of the literal's list. It answers the
-    /// watch that followed this one so far.
-    pub(crate) fn rewatch(&mut self, at: usize, lit: Lit) -> Option<usize>
-        requires at { at < length self.old.literals.items }
-        requires next { at < length self.old.nexts.items }
-        requires lit { code_of lit < length self.old.firsts.items }
-        ensures followed { result ≡ slice_index_or self.old.nexts.items at None }
-        ensures rewatched { IsRewatched self.old self.new at lit }
-        ensures literal_room { vec_capacity self.new.literals ≡ vec_capacity self.old.literals }
-        ensures next_room { vec_capacity self.new.nexts ≡ vec_capacity self.old.nexts }
+    /// The literal that a watch watches.
+    pub(crate) fn literal(&self, watch: usize) -> Lit
+        requires { watch < length (watched_literals self.now) }
+        ensures { result ≡ watched (watched_literals self.now) watch }
     {
-        let code = lit.code();
-        let followed = self.nexts[at];
-        self.literals[at] = lit;
-        self.nexts[at] = self.firsts[code];
-        self.firsts[code] = Some(at);
-        followed
+        self.watches[watch].literal
     }
 
-    /// Puts the watches that are ahead back into the list of the literal that they watch.
-    pub(crate) fn put_back(&mut self, ahead: Option<usize>, lit: Lit)
-        requires lit { code_of lit < length self.old.firsts.items }
-        requires ahead { IsAhead self.old lit ahead }
-        ensures literals { self.new.literals.items ≡ self.old.literals.items }
-        ensures firsts { length self.new.firsts.items ≡ length self.old.firsts.items }
-        ensures listed { AreInLists self.new [] }
+    /// The watch that follows one in a literal's list, or begins the list.
+    pub(crate) fn after(&self, lit: Lit, last: Option<usize>) -> Option<usize>
+        requires lit { code_of lit < length self.now.firsts.items }
+        requires last { IfSome last (λ at. at < length (watched_literals self.now)) }
+        ensures { result ≡ link_after self.now lit last }
     {
-        let mut ahead = ahead;
-        for _ in 0..self.literals.len() {
-            match ahead {
-                Some(at) => ahead = self.rewatch(at, lit),
-                None => return,
-            }
+        match last {
+            Some(at) => self.watches[at].next.get(),
+            None => self.firsts[lit.code()].get(),
         }
+    }
+
+    /// Has the first watch ahead in a literal's list watch a literal, the same one or another. A watch of the same literal
+    /// stays where it is, another goes to the front of its new list. It answers the last watch that stays.
+    pub(crate) fn rewatch(
+        &mut self,
+        lit: Lit,
+        last: Option<usize>,
+        at: usize,
+        target: Lit,
+    ) -> Option<usize>
+        requires lit { code_of lit < length self.old.firsts.items }
+        requires target { code_of target < length self.old.firsts.items }
+        requires ahead { IsAhead self.old lit last }
+        requires at { link_after self.old lit last ≡ Some at }
+        ensures literals { watched_literals self.new ≡ slice_set (watched_literals self.old) at target }
+        ensures firsts { length self.new.firsts.items ≡ length self.old.firsts.items }
+        ensures ahead { IsPassed self.old self.new lit last result at }
+    {
+        if target == lit {
+            return Some(at);
+        }
+        self.unlink(lit, last, at);
+        self.link(at, target);
+        last
+    }
+
+    // Leaves the watch that follows one in a literal's list, or begins it, out of the list.
+    fn unlink(&mut self, lit: Lit, last: Option<usize>, at: usize)
+        requires lit { code_of lit < length self.old.firsts.items }
+        requires last { IfSome last (λ at. at < length (watched_literals self.old)) }
+        requires at { at < length (watched_literals self.old) }
+        ensures { IsUnlinked self.old self.new lit last at }
+    {
+        let next = self.watches[at].next;
+        match last {
+            Some(before) => self.watches[before].next = next,
+            None => self.firsts[lit.code()] = next,
+        }
+    }
+
+    // Has a watch, which is in no list, watch a literal, and puts it to the front of the literal's list.
+    fn link(&mut self, at: usize, lit: Lit)
+        requires at { at < length (watched_literals self.old) }
+        requires few { at + 1 < 2 ^ 32 }
+        requires lit { code_of lit < length self.old.firsts.items }
+        ensures linked { IsLinked self.old self.new at lit }
+        ensures length { vec_len self.new.watches ≡ vec_len self.old.watches }
+        ensures room { vec_capacity self.new.watches ≡ vec_capacity self.old.watches }
+    {
+        let code = lit.code();
+        self.watches[at] = Watch {
+            literal: lit,
+            next: self.firsts[code],
+        };
+        self.firsts[code] = Link::to(at);
     }
 }
 

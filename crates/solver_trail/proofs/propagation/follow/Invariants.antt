@@ -1,6 +1,6 @@
 use Rattle.std.proofs.Common.{[], ◌-◌, ◌≤◌, length}
 use Rattle.solver_trail.specs.Assignment.{IsTrail, Propagates}
-use Rattle.solver_trail.specs.Watches.{AreInLists, AreKept}
+use Rattle.solver_trail.specs.Watches.{watched_literals, AreInLists, AreKept}
 use Rattle.solver_trail.specs.Propagation.{HasWatches}
 use Rattle.solver_trail.proofs.propagation.follow.Given as goal
 
@@ -12,8 +12,8 @@ invariant-loop-place l = record {
   listed : AreInLists l.watches [];
   above : l.initial.place ≤ l.place;
   below : l.place ≤ length l.set.literals;
-  kept : AreKept l.initial.set.literals l.initial.place l.initial.place l.initial.watches.literals.items
-      → AreKept l.set.literals l.initial.place l.place l.watches.literals.items;
+  kept : AreKept l.initial.set.literals l.initial.place l.initial.place (watched_literals l.initial.watches)
+      → AreKept l.set.literals l.initial.place l.place (watched_literals l.watches);
 }
 
 abbrev pub decreases-loop-place : goal.decreases-loop-place

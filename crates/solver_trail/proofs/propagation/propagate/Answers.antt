@@ -1,7 +1,7 @@
 use Rattle.std.proofs.Common.{length, refl, sym, ap, subst, arith, length-append}
 use Rattle.solver_trail.specs.Assignment.{assigned_literals}
 use Rattle.solver_trail.specs.Trail.{AreAttached}
-use Rattle.solver_trail.specs.Watches.{AreKept}
+use Rattle.solver_trail.specs.Watches.{watched_literals, AreKept}
 use Rattle.solver_trail.specs.Propagation.{AreSatisfied, HasWatches, numbers_attached}
 use Rattle.solver_trail.proofs.Forced.{held_more, propagates_two}
 use Rattle.solver_trail.proofs.Kept.{kept_more}
@@ -43,11 +43,11 @@ pub returns-in-Some-follow-clause-found : goal.returns-in-Some-follow-clause-fou
 returns-in-Some-follow-clause-found c = c.in-Some-follow.ensures.conflict
 
 pub returns-in-Some-clause-kept : goal.returns-in-Some-clause-kept
-returns-in-Some-clause-kept c = kept_more c.set_units.ensures.set c.args.place.now c.args.place.now c.args.watches.now.literals.items c.requires.place c.requires.kept
+returns-in-Some-clause-kept c = kept_more c.set_units.ensures.set c.args.place.now c.args.place.now (watched_literals c.args.watches.now) c.requires.place c.requires.kept
 
 -- what is kept once the units are set and their consequences are
-kept : (c : After-follow) → AreKept c.follow.new.set.literals c.args.place.now c.follow.new.place c.follow.new.watches.literals.items
-kept c = c.follow.ensures.kept (kept_more c.set_units.ensures.set c.args.place.now c.args.place.now c.args.watches.now.literals.items c.requires.place c.requires.kept)
+kept : (c : After-follow) → AreKept c.follow.new.set.literals c.args.place.now c.follow.new.place (watched_literals c.follow.new.watches)
+kept c = c.follow.ensures.kept (kept_more c.set_units.ensures.set c.args.place.now c.args.place.now (watched_literals c.args.watches.now) c.requires.place c.requires.kept)
 
 pub returns-in-Some-follow-clause-set : goal.returns-in-Some-follow-clause-set
 returns-in-Some-follow-clause-set c = propagates_two c.set_units.ensures.set c.follow.ensures.set
@@ -66,7 +66,7 @@ returns-in-None-follow-clause-found c =
     let a = c.follow.new.set in
     let short = c.args.attached.now.short.items in
     let w = c.follow.ensures.watches in
-    let literals = c.follow.new.watches.literals.items in
+    let literals = (watched_literals c.follow.new.watches) in
     let units : AreSatisfied (assigned_literals a) short c.args.pool.now.clauses = λ number clause is_in e.
     let s = c.in-None.ensures.units refl number clause is_in e in
     record { literal = s.literal; inside = s.inside; is_held = held_more c.follow.ensures.set s.literal s.is_held } in

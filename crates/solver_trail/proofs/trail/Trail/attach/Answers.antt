@@ -6,7 +6,7 @@ use Rattle.clause_pool.specs.Clauses.{Clause, numbered_clause}
 use Rattle.clause_pool.specs.Proper.{IsProper, IsVariable}
 use Rattle.clause_pool.proofs.Literals.{code_within}
 use Rattle.solver_trail.specs.Trail.{TrailState, Attaches, Fits, attached_numbers}
-use Rattle.solver_trail.specs.Watches.{AreKept, AreWatched}
+use Rattle.solver_trail.specs.Watches.{watched_literals, AreKept, AreWatched}
 use Rattle.solver_trail.proofs.Fits.{attaches_long, attaches_short, fits_long, fits_short, kept_two}
 use Rattle.solver_trail.proofs.Kept.{kept_weaker}
 use Rattle.solver_trail.proofs.trail.Trail.attach.Goals as goal
@@ -15,7 +15,7 @@ use Rattle.solver_trail.proofs.trail.Trail.attach.Goals.{After-two_to_watch, Aft
 -- ---- what held before
 
 fits : (c : After-two_to_watch)
-    → Fits (record { assignment = c.self.inside.set; short = c.self.inside.attached.short.items; long = c.self.inside.attached.long.items; watched = c.self.inside.watches.literals.items }) c.args.pool.now.clauses
+    → Fits (record { assignment = c.self.inside.set; short = c.self.inside.attached.short.items; long = c.self.inside.attached.long.items; watched = watched_literals c.self.inside.watches }) c.args.pool.now.clauses
 fits c = subst (λ (t : TrailState). Fits t c.args.pool.now.clauses) (sym c.self.view_is) c.requires.fits
 
 proper : (c : After-two_to_watch) → IsProper c.self.inside.set.variables c.get-clause.result.now
@@ -75,10 +75,10 @@ invariant_of-self-in-Some c =
       listed = c.in_ok-watch-in-Some.ensures.listed;
       codes = c.in_ok-watch-in-Some.ensures.firsts ∙ h.codes;
       kept = subst (AreKept i.set.literals visited visited) (sym c.in_ok-watch-in-Some.ensures.literals)
-          (kept_two i.set.literals visited (length i.attached.long.items) i.watches.literals.items (fits d).size first second
+          (kept_two i.set.literals visited (length i.attached.long.items) (watched_literals i.watches) (fits d).size first second
           (λ j x below. c.false_from-first.ensures j x (omega arith) (omega (arith, h.reached)))
           (λ j x below. c.false_from-second.ensures j x (omega arith) (omega (arith, h.reached)))
-          (kept_weaker i.set.literals i.visited i.visited visited visited i.watches.literals.items le le h.kept));
+          (kept_weaker i.set.literals i.visited i.visited visited visited (watched_literals i.watches) le le h.kept));
       reached = omega (arith, le, h.reached);
     }
 

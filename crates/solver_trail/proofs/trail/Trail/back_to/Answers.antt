@@ -1,7 +1,7 @@
 use Rattle.std.proofs.Common.{◌≡◌, ◌∙◌, length, sym, ap, subst, arith}
 use Rattle.std.specs.Prelude.{min}
 use Rattle.solver_trail.specs.Trail.{TrailState, Fits}
-use Rattle.solver_trail.specs.Watches.{AreKept}
+use Rattle.solver_trail.specs.Watches.{watched_literals, AreKept}
 use Rattle.solver_trail.proofs.Held.{length-literals_of}
 use Rattle.solver_trail.proofs.Fits.{fits_again, reasons_cut}
 use Rattle.solver_trail.proofs.Kept.{kept_cut}
@@ -17,7 +17,7 @@ invariant_of-self c =
       trail = c.back_to.ensures.trail;
       listed = h.listed;
       codes = omega (arith, h.codes, c.back_to.ensures.cut.variables);
-      kept = subst (λ n. AreKept new.literals n n c.self.inside.watches.literals.items) (sym visited) (kept_cut c.back_to.ensures.cut c.self.inside.visited c.self.inside.watches.literals.items h.kept);
+      kept = subst (λ n. AreKept new.literals n n (watched_literals c.self.inside.watches)) (sym visited) (kept_cut c.back_to.ensures.cut c.self.inside.visited (watched_literals c.self.inside.watches) h.kept);
       reached = omega (arith, visited);
     }
 

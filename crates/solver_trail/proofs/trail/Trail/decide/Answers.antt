@@ -1,3 +1,4 @@
+use Rattle.solver_trail.specs.Watches.{watched_literals}
 use Rattle.std.proofs.Common.{◌≡◌, ℕ, ◌∷◌, ◌++◌, [], ◌+◌, None, Option, Some, refl, sym, subst, arith}
 use Rattle.std.proofs.lemmas.List.{length_push}
 use Rattle.solver_trail.specs.declared.set_literals.SetLiteral.{SetLiteral}
@@ -18,7 +19,7 @@ invariant_of-self c =
       trail = trail;
       listed = h.listed;
       codes = h.codes;
-      kept = kept_append set.literals (s ∷ []) c.self.inside.visited c.self.inside.visited c.self.inside.watches.literals.items h.reached h.kept;
+      kept = kept_append set.literals (s ∷ []) c.self.inside.visited c.self.inside.visited (watched_literals c.self.inside.watches) h.reached h.kept;
       reached = omega (arith, h.reached, length_push set.literals s);
     })
 

@@ -9,6 +9,7 @@ use Rattle.solver_trail.proofs.trail.Trail.new.Goals as goal
 none_listed : (n : ℕ) → AreWatchesListed (replicate n None) [] [] []
 none_listed n = record {
   size = refl;
+  few = omega arith;
   lists = λ code below. record {
     members = [];
     chain = get_or-replicate n code None None (omega (arith, below, length-replicate {A = Option ℕ} n None));
@@ -24,7 +25,7 @@ invariant_of-result c =
     let n = 2 * c.args.variables + 2 in
     record {
       trail = c.level.ensures.trail;
-      listed = rw (e.firsts, e.nexts, e.literals) (none_listed n);
+      listed = rw (e.firsts, e.watches) (none_listed n);
       codes = omega (arith, ap length e.firsts, length-replicate {A = Option ℕ} n None, ap (λ (a : Assignment). a.variables) c.in_ok-set.ensures);
       kept = λ watch less j d none. absurd (omega (arith, none));
       reached = omega arith;

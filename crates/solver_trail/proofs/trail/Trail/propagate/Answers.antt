@@ -1,3 +1,4 @@
+use Rattle.solver_trail.specs.Watches.{watched_literals}
 use Rattle.std.proofs.Common.{sym, subst, arith}
 use Rattle.solver_trail.specs.Trail.{TrailState, Fits}
 use Rattle.solver_trail.proofs.Kept.{kept_steady, kept_weaker, steady_more}
@@ -18,7 +19,7 @@ invariant_of-self c =
       trail = e.trail;
       listed = e.listed;
       codes = e.watches.codes;
-      kept = kept_steady new.literals new.level c.self.inside.visited c.propagate-found.new.place c.propagate-found.new.watches.literals.items e.trail.levels e.below steady e.kept;
+      kept = kept_steady new.literals new.level c.self.inside.visited c.propagate-found.new.place (watched_literals c.propagate-found.new.watches) e.trail.levels e.below steady e.kept;
       reached = e.below;
     }
 
@@ -31,12 +32,12 @@ invariant_of-self-else-steady c =
       trail = e.trail;
       listed = e.listed;
       codes = e.watches.codes;
-      kept = kept_weaker new.literals visited c.propagate-found.new.place visited visited c.propagate-found.new.watches.literals.items (omega arith) e.from e.kept;
+      kept = kept_weaker new.literals visited c.propagate-found.new.place visited visited (watched_literals c.propagate-found.new.watches) (omega arith) e.from e.kept;
       reached = omega (arith, e.from, e.below);
     }
 
 fits_after : (c : After-propagate-found)
-    → Fits (record { assignment = c.propagate-found.new.set; short = c.self.inside.attached.short.items; long = c.self.inside.attached.long.items; watched = c.propagate-found.new.watches.literals.items }) c.args.pool.now.clauses
+    → Fits (record { assignment = c.propagate-found.new.set; short = c.self.inside.attached.short.items; long = c.self.inside.attached.long.items; watched = watched_literals c.propagate-found.new.watches }) c.args.pool.now.clauses
 fits_after c =
     let w = c.propagate-found.ensures.watches in
     let fits = subst (λ (t : TrailState). Fits t c.args.pool.now.clauses) (sym c.self.view_is) c.requires in
