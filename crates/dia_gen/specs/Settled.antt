@@ -28,7 +28,7 @@ use Rattle.dia_gen.specs.Made.{HasNoSearch, HasNoRefutation}
 abbrev pub HasRelevant : Circuit → Fault → Fault → List Bool → List (Option Bool) → Type 0
 HasRelevant c f g v cube = (source : ℕ) → source < length v → is_relevant c f g source ≡ true → slice_index_or cube source None ≡ Some (bit_at v source)
 
--- The solver answers this for the two within so many conflicts, with the clauses that a pool then has.
+-- This is an answer of the solver's for the two within so many conflicts, with these clauses in a pool.
 pub record IsSolvedFor (c : Circuit) (f g : Fault) (conflicts : ℕ) (solved : Solved) : Type 0 where
   pub clauses : List Clause
   pub is : IsSolved c f g conflicts clauses solved

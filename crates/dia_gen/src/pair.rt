@@ -16,6 +16,7 @@ use pair_miter::{Log, build};
 use pair_sets::{PairSim, Token, Tree};
 use result_file::Proof;
 use std::alloc::{AllocError, Global};
+use trimmed_logs::trim;
 
 // A cube whose vectors all separate the two, or evidence.
 #[derive(Drop)]
@@ -108,6 +109,7 @@ fn learn(
 }
 
 // What the solver answers for a pair within so many conflicts.
+// A refutation comes without the chains that its end doesn't need.
 fn solve_pair(
     alloc: Global,
     circuit: &Circuit,
@@ -127,9 +129,14 @@ fn solve_pair(
 {
     let empty = pool.mark();
     let miter = build(alloc, circuit, f, g, pool)?;
+    let count = pool.len();
     let solved = solve(alloc, &miter, pool, conflicts)?;
     pool.release(empty);
-    Ok(solved)
+    match solved {
+        Solved::Vector(v) => Ok(Solved::Vector(v)),
+        Solved::Refuted(log) => Ok(Solved::Refuted(trim(alloc, &log, count)?)),
+        Solved::Spent(log) => Ok(Solved::Spent(log)),
+    }
 }
 
 // The cube of the bits that a vector has at the relevant sources of two faults. The others are free.

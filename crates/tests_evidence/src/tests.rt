@@ -6,3 +6,4 @@ mod pools;
 mod solvers;
 mod trails;
 mod trees;
+mod trimmed;

@@ -17,13 +17,13 @@ use sample_circuits::{NOT_AND_OR, Parts, circuit, stands};
 use std::alloc::{AllocError, Global};
 use std::test::Fail;
 
-// A literal of one of the first hundred variables.
-fn lit(number: i32) -> Lit {
+/// A literal of one of the first hundred variables.
+pub(crate) fn lit(number: i32) -> Lit {
     Lit::new(number.unsigned_abs().clamp(1, 100), number > 0)
 }
 
-// A chain: the literal of a fresh clause, the number of the first clause, and the literals and clauses of the steps.
-type Linked = (Option<i32>, u32, &'static [(i32, u32)]);
+/// A chain: the literal of a fresh clause, the number of the first clause, and the literals and clauses of the steps.
+pub(crate) type Linked = (Option<i32>, u32, &'static [(i32, u32)]);
 
 // How many clauses may be learned, the chains of a log, and the refusal, or none. Where the first chain has a literal the log
 // is one that spends its budget, and else a refutation.
@@ -80,8 +80,8 @@ fn push_steps(chain: &mut Chain, steps: &[(i32, u32)]) -> Result<(), AllocError>
     Ok(())
 }
 
-// The log of these chains.
-fn log_of(alloc: Global, chains: &[Linked]) -> Result<Log, AllocError> {
+/// The log of these chains.
+pub(crate) fn log_of(alloc: Global, chains: &[Linked]) -> Result<Log, AllocError> {
     let mut log = Log::new(alloc);
     for (literal, first, steps) in chains {
         let mut chain = Chain::new(alloc, *first, literal.map(lit));

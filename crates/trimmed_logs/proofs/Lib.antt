@@ -1,0 +1,4 @@
+pub mod MarkSteps
+pub mod TrimSteps
+pub mod TrimEnds
+pub mod Shortened
