@@ -58,11 +58,10 @@ PLAN = {
 }
 
 NUMBER, BITS, SEEN, END = rb"0|[1-9][0-9]*", rb"[01]+|-", rb"[01x]+|-", rb"\n"
-LOG_FORM = {"sim": (BITS, END), "rank": (NUMBER, rb" ", SEEN, END)}
-LOG_WORDS = {
-    "sim": "A line is a vector's bits, source 0 first, and one LF",
-    "rank": "A line is a pattern's number without zeros in front, one space, the bits that were seen (x for one that wasn't), and one LF",
-}
+PARTIAL = ("rank", "suspects", "cover")
+SEEN_WORDS = "A line is a pattern's number without zeros in front, one space, the bits that were seen (x for one that wasn't), and one LF"
+LOG_FORM = {"sim": (BITS, END), **dict.fromkeys(PARTIAL, (NUMBER, rb" ", SEEN, END))}
+LOG_WORDS = {"sim": "A line is a vector's bits, source 0 first, and one LF", **dict.fromkeys(PARTIAL, SEEN_WORDS)}
 WHOLE_FORM, WHOLE_WORDS = (NUMBER, rb" ", BITS, END), "A line is a pattern's number without zeros in front, one space, the bits, and one LF"
 
 HEADS = ((b"DIAT", "a dictionary"), (b"diatest 1 ", "a result"), (b"adapt 1 ", "an adaptive plan"))
@@ -92,6 +91,10 @@ def sizes(command, files):
     """How many patterns there are, if that is known, and how many bits a line has: by the file that the log goes with."""
     if command == "sim":
         return None, len(bench.read(files["NETLIST"]).sources)
+    if "RESULT" in files:
+        with open(files["RESULT"], "rb") as file:
+            positions = int(file.readline(80).split()[3])
+            return sum(line.startswith(b"pattern ") for line in file), positions
     with open(files["PLAN" if command == "follow" else "DICTIONARY"], "rb") as file:
         if command == "follow":
             positions, patterns = file.readline(80).split()[2:4]
@@ -102,7 +105,7 @@ def sizes(command, files):
 
 def log_order(command, line, text, patterns):
     """What the number of a line of a log has to be."""
-    if command == "rank":
+    if command in PARTIAL:
         return f"The number is below {patterns} and above that of the line before: patterns are counted from 0."
     if command == "follow":
         return "The line has to answer the pattern that the plan asks there: `follow` with the lines above tells it."

@@ -13,6 +13,7 @@ class Option(NamedTuple):
     most: int
     default: int
     work: str
+    least: int = 0
 
 
 class Command(NamedTuple):
@@ -29,6 +30,7 @@ BUDGETS = (
     Option("conflicts", 100_000, 2_000, "clauses that the solver learns for a pair of faults before it is left open"),
 )
 WITHIN = Option("within", 1_000_000, 0, "mismatches above the least that a number may have that is listed")
+MOST = Option("most", 1_000_000, 20, "suspects that are listed at the most", 1)
 
 COMMANDS = {
     "gen": Command(
@@ -58,6 +60,22 @@ COMMANDS = {
         "checks the result, and writes which of its patterns to apply next, given the answers so far",
     ),
     "follow": Command("PLAN LOG", "PLAN LOG", "", "says where the answers so far lead in a plan"),
+    "expect": Command(
+        "NETLIST RESULT LOG", "NETLIST RESULT", "LOG", "checks the result, and writes what a chip without a fault answers to its patterns"
+    ),
+    "suspects": Command(
+        "NETLIST RESULT LOG",
+        "NETLIST RESULT LOG",
+        "",
+        "checks the result, and lists the classes that explain most of what fails in a log, best first",
+        (MOST,),
+    ),
+    "cover": Command(
+        "NETLIST RESULT LOG",
+        "NETLIST RESULT LOG",
+        "",
+        "checks the result, and lists classes that together explain what fails in a log",
+    ),
     "faults": Command("NETLIST", "NETLIST", "", "lists the faults: number, number of the root in the collapse, name"),
     "sim": Command(
         "NETLIST VECTORS", "NETLIST VECTORS", "", "prints what the circuit answers to each vector, and each fault that answers otherwise"
@@ -95,7 +113,7 @@ def usage(name=None):
     lines = [f"usage: {first_line(name)}", COMMANDS[name].work]
     options = COMMANDS[name].options
     wide = max((len(it.name) for it in options), default=0)
-    lines += [f"  --{it.name} N{'':{wide - len(it.name)}}  0 to {it.most:,}, else {it.default:,}: {it.work}" for it in options]
+    lines += [f"  --{it.name} N{'':{wide - len(it.name)}}  {it.least} to {it.most:,}, else {it.default:,}: {it.work}" for it in options]
     return "\n".join([*lines, ""])
 
 

@@ -27,7 +27,8 @@ use Rattle.adaptive_tree.specs.declared.outcome.Outcome.{Outcome as WalkOutcome}
 use Rattle.adaptive_tree.specs.declared.steps.Plan.{Plan as AdaptivePlan}
 use Rattle.dia_commands.specs.Logs.{IsLogFor, IsRefusedLog, IsPartialFor, IsRefusedPartial, IsLogTo, IsRefusedWalk, IsListFor, IsRefusedList}
 use Rattle.dia_commands.specs.AdaptivePlans.{IsAdaptivePlanFile, IsRefusedPlan}
-use Rattle.dia_commands.specs.Plans.{with_netlist, with_result, with_dictionary, with_log, with_partial, with_adaptive_plan, with_walk, with_vectors}
+use Rattle.dia_commands.specs.Suspects.{IsLogAt, IsRefusedAt}
+use Rattle.dia_commands.specs.Plans.{with_netlist, with_result, with_dictionary, with_log, with_partial, with_log_at, with_adaptive_plan, with_walk, with_vectors}
 use Rattle.dia_commands.specs.Ran.{IsAmong, Ends, Follows}
 use Rattle.dia_commands.specs.Steps.{HasOnlyRead, HasReadBytes, CouldNotRead, by_failure, by_memory, WasAccepted, IsOver, by_refusal, by_reading}
 use Rattle.dia_commands.proofs.HandedOn.{handed_on}
@@ -118,7 +119,7 @@ netlist_over {endings} {outputs} {why} {bench} {a} {b} may among next over = fol
 pub result_over : {endings : List Ending} {outputs : List Text} {why : RunFault} {result : Text} {c : Circuit} {a b : State} → MayRead endings → IsAmong (refused kind.Result) endings → (next : Text → Plan) → IsOver result kind.Result (IsRefusedResult c) why a b → Follows (with_result result c next) endings outputs (Err why) a b
 result_over {endings} {outputs} {why} {result} {c} {a} {b} may among next over = follows_over may result kind.Result Text (IsRefusedResult c) (IsResult c) next among over
 
--- or a dictionary, an adaptive plan, a log, whole, partial or of a walk, or a list of vectors
+-- or a dictionary, an adaptive plan, a log, whole, partial, for a result or of a walk, or a list of vectors
 pub dictionary_over : {endings : List Ending} {outputs : List Text} {why : RunFault} {dict : Text} {a b : State} → MayRead endings → IsAmong (refused kind.Dictionary) endings → (next : Dict → Plan) → IsOver dict kind.Dictionary IsRefusedDictionary why a b → Follows (with_dictionary dict next) endings outputs (Err why) a b
 dictionary_over {endings} {outputs} {why} {dict} {a} {b} may among next over = follows_over may dict kind.Dictionary Dict IsRefusedDictionary IsDictionaryFile next among over
 
@@ -127,6 +128,9 @@ log_over d {endings} {outputs} {why} {log} {a} {b} may among next over = follows
 
 pub partial_over : (d : Dict) {endings : List Ending} {outputs : List Text} {why : RunFault} {log : Text} {a b : State} → MayRead endings → IsAmong (refused kind.Log) endings → (next : List Line → Plan) → IsOver log kind.Log (IsRefusedPartial d) why a b → Follows (with_partial log d next) endings outputs (Err why) a b
 partial_over d {endings} {outputs} {why} {log} {a} {b} may among next over = follows_over may log kind.Log (List Line) (IsRefusedPartial d) (IsPartialFor d) next among over
+
+pub log_at_over : (c : Circuit) (result : Text) {endings : List Ending} {outputs : List Text} {why : RunFault} {log : Text} {a b : State} → MayRead endings → IsAmong (refused kind.Log) endings → (next : List Line → Plan) → IsOver log kind.Log (IsRefusedAt c result) why a b → Follows (with_log_at log c result next) endings outputs (Err why) a b
+log_at_over c result {endings} {outputs} {why} {log} {a} {b} may among next over = follows_over may log kind.Log (List Line) (IsRefusedAt c result) (IsLogAt c result) next among over
 
 pub adaptive_plan_over : {endings : List Ending} {outputs : List Text} {why : RunFault} {plan : Text} {a b : State} → MayRead endings → IsAmong (refused kind.AdaptivePlan) endings → (next : AdaptivePlan → Plan) → IsOver plan kind.AdaptivePlan IsRefusedPlan why a b → Follows (with_adaptive_plan plan next) endings outputs (Err why) a b
 adaptive_plan_over {endings} {outputs} {why} {plan} {a} {b} may among next over = follows_over may plan kind.AdaptivePlan AdaptivePlan IsRefusedPlan IsAdaptivePlanFile next among over
@@ -187,6 +191,9 @@ log_then d {endings} {outputs} {ending} {log} {observed} {a} {b} {c} next law wa
 
 pub partial_then : (d : Dict) {endings : List Ending} {outputs : List Text} {ending : Ending} {log : Text} {lines : List Line} {a b c : State} → (next : List Line → Plan) → (IsTrue a.sure → IsTrue a.tells) → WasAccepted log (IsPartialFor d) lines a b → Follows (next lines) endings outputs ending b c → Follows (with_partial log d next) endings outputs ending a c
 partial_then d {endings} {outputs} {ending} {log} {lines} {a} {b} {c} next law was r = follows_then log kind.Log (List Line) (IsRefusedPartial d) (IsPartialFor d) next lines law was r
+
+pub log_at_then : (circuit : Circuit) (result : Text) {endings : List Ending} {outputs : List Text} {ending : Ending} {log : Text} {lines : List Line} {a b c : State} → (next : List Line → Plan) → (IsTrue a.sure → IsTrue a.tells) → WasAccepted log (IsLogAt circuit result) lines a b → Follows (next lines) endings outputs ending b c → Follows (with_log_at log circuit result next) endings outputs ending a c
+log_at_then circuit result {endings} {outputs} {ending} {log} {lines} {a} {b} {c} next law was r = follows_then log kind.Log (List Line) (IsRefusedAt circuit result) (IsLogAt circuit result) next lines law was r
 
 pub adaptive_plan_then : {endings : List Ending} {outputs : List Text} {ending : Ending} {plan : Text} {adaptive : AdaptivePlan} {a b c : State} → (next : AdaptivePlan → Plan) → (IsTrue a.sure → IsTrue a.tells) → WasAccepted plan IsAdaptivePlanFile adaptive a b → Follows (next adaptive) endings outputs ending b c → Follows (with_adaptive_plan plan next) endings outputs ending a c
 adaptive_plan_then {endings} {outputs} {ending} {plan} {adaptive} {a} {b} {c} next law was r = follows_then plan kind.AdaptivePlan AdaptivePlan IsRefusedPlan IsAdaptivePlanFile next adaptive law was r

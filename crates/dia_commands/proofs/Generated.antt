@@ -32,7 +32,8 @@ one_read = record { failed = inr (inr (inl refl)); breaks = record { write = inr
 pub two_read : MayRead (done ∷ refused kind.Netlist ∷ refused kind.Result ∷ read_endings)
 two_read = record { failed = inr (inr (inr (inl refl))); breaks = record { write = inr (inr (inr (inr (inl refl)))); memory = inr (inr (inr (inr (inr (inl refl))))) } }
 
--- ---- endings of requests that read a dictionary, a log too, a netlist and a list of vectors, or an adaptive plan and a log
+-- ---- endings of requests that read a dictionary, a log too, a netlist and a list of vectors, a netlist, a result and a log, or an
+-- adaptive plan and a log
 
 pub dictionary_read : MayRead (done ∷ refused kind.Dictionary ∷ read_endings)
 dictionary_read = record { failed = inr (inr (inl refl)); breaks = record { write = inr (inr (inr (inl refl))); memory = inr (inr (inr (inr (inl refl)))) } }
@@ -42,6 +43,9 @@ log_read = record { failed = inr (inr (inr (inl refl))); breaks = record { write
 
 pub list_read : MayRead (done ∷ refused kind.Netlist ∷ refused kind.Log ∷ read_endings)
 list_read = record { failed = inr (inr (inr (inl refl))); breaks = record { write = inr (inr (inr (inr (inl refl)))); memory = inr (inr (inr (inr (inr (inl refl))))) } }
+
+pub three_read : MayRead (done ∷ refused kind.Netlist ∷ refused kind.Result ∷ refused kind.Log ∷ read_endings)
+three_read = record { failed = inr (inr (inr (inr (inl refl)))); breaks = record { write = inr (inr (inr (inr (inr (inl refl))))); memory = inr (inr (inr (inr (inr (inr (inl refl)))))) } }
 
 pub walk_read : MayRead (done ∷ refused kind.AdaptivePlan ∷ refused kind.Log ∷ read_endings)
 walk_read = record { failed = inr (inr (inr (inl refl))); breaks = record { write = inr (inr (inr (inr (inl refl)))); memory = inr (inr (inr (inr (inr (inl refl))))) } }

@@ -7,6 +7,7 @@ pub mod NetlistLemmas
 pub mod Refusals
 pub mod Generated
 pub mod SimLemmas
+pub mod SuspectLemmas
 mod WrittenLemmas
 pub mod MadeLemmas
 pub mod FullApart

@@ -21,7 +21,7 @@ use Rattle.adaptive_tree.specs.Refusal as plan
 use Rattle.adaptive_tree.specs.AnswerLog as walk
 use Rattle.request_words.specs.Request.{Text}
 use Rattle.dia_commands.specs.Dictionaries.{IsDictionaryFile, IsRefusedDictionary}
-use Rattle.dia_commands.specs.Logs.{IsRefusedBySome, IsLogFor, IsPartialFor, IsRefusedPartial, IsLogTo, IsRefusedWalk, IsListFor}
+use Rattle.dia_commands.specs.Logs.{IsRefusedBySome, IsLogFor, IsRefusedPartialOf, IsLogTo, IsRefusedWalk, IsListFor}
 use Rattle.dia_commands.specs.AdaptivePlans.{IsAdaptivePlanFile, IsRefusedPlan}
 
 pub read_whole : (limit : ℕ) (all : List ℕ) → length all ≤ limit → read_of limit all ≡ all
@@ -89,11 +89,11 @@ partial_text_read {patterns} {positions} {all} {bytes} {kind} {number} e refused
   | inr short ↦ subst (λ (b : Text). partial.PartialRefused patterns positions b kind number) (e ∙ read_whole 1073741824 all short) refused
 ]
 
-pub refused_partial_read : (d : Dict) {all bytes console : Text} → bytes ≡ read_of 1073741824 all → IsRefusedPartial d bytes console → IsRefusedPartial d all console
-refused_partial_read d {all} {bytes} {console} e is = record { kind = is.kind; line = is.line; refused = partial_text_read e is.refused; console_is = is.console_is }
+pub refused_partial_read : (patterns positions : ℕ) {all bytes console : Text} → bytes ≡ read_of 1073741824 all → IsRefusedPartialOf patterns positions bytes console → IsRefusedPartialOf patterns positions all console
+refused_partial_read patterns positions {all} {bytes} {console} e is = record { kind = is.kind; line = is.line; refused = partial_text_read e is.refused; console_is = is.console_is }
 
-pub partial_read : (d : Dict) {all bytes : Text} {lines : List partial.Line} → bytes ≡ read_of 1073741824 all → IsPartialFor d bytes lines → IsPartialFor d all lines
-partial_read d {all} {bytes} {lines} e is = said_of_file (λ (b : Text). IsPartialFor d b lines) (λ (log : IsPartialFor d bytes lines). log.short) e is
+pub partial_read : (patterns positions : ℕ) {all bytes : Text} {lines : List partial.Line} → bytes ≡ read_of 1073741824 all → partial.IsPartialLog patterns positions bytes lines → partial.IsPartialLog patterns positions all lines
+partial_read patterns positions {all} {bytes} {lines} e is = said_of_file (λ (b : Text). partial.IsPartialLog patterns positions b lines) (λ (log : partial.IsPartialLog patterns positions bytes lines). log.short) e is
 
 -- ---- adaptive plans
 

@@ -8,6 +8,7 @@ pub mod Logs
 pub mod AdaptivePlans
 pub mod Compactions
 pub mod Rankings
+pub mod Suspects
 pub mod Ending
 pub mod Outcome
 pub mod Plan

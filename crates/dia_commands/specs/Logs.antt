@@ -30,12 +30,16 @@ IsRefusedLog d bytes console = IsRefusedBySome (TesterLogRefused d.patterns d.po
 
 -- ---- partial logs
 
+-- The bytes are refused as a log of so many patterns and positions, with this text.
+abbrev pub IsRefusedPartialOf : ℕ → ℕ → Text → Text → Type 0
+IsRefusedPartialOf patterns positions bytes console = IsRefusedBySome (PartialRefused patterns positions bytes) console
+
 -- The bytes are the partial log of these lines, for a dictionary.
 abbrev pub IsPartialFor : Dict → Text → List Line → Type 0
 IsPartialFor d bytes lines = IsPartialLog d.patterns d.positions bytes lines
 
 abbrev pub IsRefusedPartial : Dict → Text → Text → Type 0
-IsRefusedPartial d bytes console = IsRefusedBySome (PartialRefused d.patterns d.positions bytes) console
+IsRefusedPartial d bytes console = IsRefusedPartialOf d.patterns d.positions bytes console
 
 -- ---- logs of walks
 

@@ -1,7 +1,7 @@
 -- What a request writes.
 use Rattle.std.specs.Prelude.{List, [], ◌∷◌, Option, Some, None}
 use Rattle.result_file.specs.declared.record.Budgets.{Budgets}
-use Rattle.request_words.specs.Request.{Text, Request, gen, check, make_dict, convert, diagnose, list_faults, simulate, synth, compact, rank, adapt, follow}
+use Rattle.request_words.specs.Request.{Text, Request, gen, check, make_dict, convert, diagnose, list_faults, simulate, synth, compact, rank, adapt, follow, expect, suspects, cover}
 
 -- the budgets of `synth`
 abbrev pub synth_budgets : Budgets
@@ -22,3 +22,6 @@ outputs_of (Some (compact bench result new)) = new ∷ []
 outputs_of (Some (rank dict log within)) = []
 outputs_of (Some (adapt bench result plan)) = plan ∷ []
 outputs_of (Some (follow plan log)) = []
+outputs_of (Some (expect bench result log)) = log ∷ []
+outputs_of (Some (suspects bench result log most)) = []
+outputs_of (Some (cover bench result log)) = []

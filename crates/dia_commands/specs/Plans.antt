@@ -6,7 +6,7 @@ use Rattle.sim_listing.specs.SimText.{IsSimText}
 use Rattle.result_file.specs.declared.record.Budgets.{Budgets}
 use Rattle.result_file.specs.declared.record.Summary.{Summary}
 use Rattle.dia_gen.specs.Made.{IsMade, IsCutFile}
-use Rattle.request_words.specs.Request.{Text, Request, gen, check, make_dict, convert, diagnose, list_faults, simulate, synth, compact, rank, adapt, follow}
+use Rattle.request_words.specs.Request.{Text, Request, gen, check, make_dict, convert, diagnose, list_faults, simulate, synth, compact, rank, adapt, follow, expect, suspects, cover}
 use Rattle.dia_commands.specs.Outputs.{synth_budgets}
 use Rattle.synth_netlist.specs.Synth.{synth_text}
 use Rattle.dia_commands.specs.Texts.{summary_text, not_understood_text}
@@ -22,6 +22,7 @@ use Rattle.adaptive_tree.specs.declared.steps.Plan.{Plan as AdaptivePlan}
 use Rattle.dia_commands.specs.Logs.{IsLogFor, IsRefusedLog, IsPartialFor, IsRefusedPartial, IsLogTo, IsRefusedWalk, IsOutcomeText, IsListFor, IsRefusedList}
 use Rattle.dia_commands.specs.AdaptivePlans.{IsAdaptivePlanFile, IsRefusedPlan, IsMadePlan}
 use Rattle.dia_commands.specs.Rankings.{IsRankText}
+use Rattle.dia_commands.specs.Suspects.{IsLogAt, IsRefusedAt, IsExpectedLog, IsSuspectsText, IsCoverText}
 use Rattle.dia_commands.specs.declared.ending.FileKind.TheVariants as kind
 use Rattle.dia_commands.specs.Ending.{done, not_understood}
 use Rattle.dia_commands.specs.Outcome.{Outcome, said, saved, IsCut}
@@ -48,6 +49,10 @@ with_log log d next = judged log kind.Log (List (List Bool)) (IsRefusedLog d) (I
 -- a partial log for a dictionary
 abbrev pub with_partial : Text → Dict → (List Line → Plan) → Plan
 with_partial log d next = judged log kind.Log (List Line) (IsRefusedPartial d) (IsPartialFor d) next
+
+-- a partial log for a result
+abbrev pub with_log_at : Text → Circuit → Text → (List Line → Plan) → Plan
+with_log_at log c result next = judged log kind.Log (List Line) (IsRefusedAt c result) (IsLogAt c result) next
 
 -- an adaptive plan
 abbrev pub with_adaptive_plan : Text → (AdaptivePlan → Plan) → Plan
@@ -117,3 +122,6 @@ plan_of (Some (compact bench result new)) = with_netlist bench (λ design. with_
 plan_of (Some (rank dict log within)) = with_dictionary dict (λ d. with_partial log d (λ lines. says (IsRankText d lines within)))
 plan_of (Some (adapt bench result plan)) = with_netlist bench (λ design. with_result result design.circuit (λ file. makes_file plan (IsMadePlan design.circuit file)))
 plan_of (Some (follow plan log)) = with_adaptive_plan plan (λ adaptive. with_walk log adaptive (λ outcome. says (IsOutcomeText outcome)))
+plan_of (Some (expect bench result log)) = with_netlist bench (λ design. with_result result design.circuit (λ file. makes_file log (IsExpectedLog design.circuit file)))
+plan_of (Some (suspects bench result log most)) = with_netlist bench (λ design. with_result result design.circuit (λ file. with_log_at log design.circuit file (λ lines. says (IsSuspectsText design.circuit file lines most))))
+plan_of (Some (cover bench result log)) = with_netlist bench (λ design. with_result result design.circuit (λ file. with_log_at log design.circuit file (λ lines. says (IsCoverText design.circuit file lines))))

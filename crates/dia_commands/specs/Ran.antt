@@ -7,7 +7,7 @@ use Rattle.net_model.specs.Circuit.{Circuit}
 use Rattle.result_file.specs.declared.record.Budgets.{Budgets}
 use Rattle.result_file.specs.declared.record.Summary.{Summary}
 use Rattle.dia_gen.specs.Made.{IsMade}
-use Rattle.request_words.specs.Request.{Text, Request, gen, check, make_dict, convert, diagnose, list_faults, simulate, synth, compact, rank, adapt, follow}
+use Rattle.request_words.specs.Request.{Text, Request, gen, check, make_dict, convert, diagnose, list_faults, simulate, synth, compact, rank, adapt, follow, expect, suspects, cover}
 use Rattle.dia_commands.specs.declared.ending.FileKind.TheVariants as kind
 use Rattle.dia_commands.specs.Ending.{Ending, done, not_understood, refused, read_failed, write_failed, no_memory, IsDecided}
 use Rattle.dia_commands.specs.Outputs.{outputs_of}
@@ -44,6 +44,9 @@ endings_of (Some (compact bench result new)) = done ∷ refused kind.Netlist ∷
 endings_of (Some (rank dict log within)) = done ∷ refused kind.Dictionary ∷ refused kind.Log ∷ read_endings
 endings_of (Some (adapt bench result plan)) = done ∷ refused kind.Netlist ∷ refused kind.Result ∷ read_endings
 endings_of (Some (follow plan log)) = done ∷ refused kind.AdaptivePlan ∷ refused kind.Log ∷ read_endings
+endings_of (Some (expect bench result log)) = done ∷ refused kind.Netlist ∷ refused kind.Result ∷ read_endings
+endings_of (Some (suspects bench result log most)) = done ∷ refused kind.Netlist ∷ refused kind.Result ∷ refused kind.Log ∷ read_endings
+endings_of (Some (cover bench result log)) = done ∷ refused kind.Netlist ∷ refused kind.Result ∷ refused kind.Log ∷ read_endings
 
 -- No count falls, and what a shelf tells and whether it is sure stay.
 pub record Stays (old new : State) : Type 0 where

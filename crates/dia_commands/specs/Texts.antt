@@ -1,5 +1,5 @@
 -- The lines of the console.
-use Rattle.std.specs.Prelude.{ℕ, List, ◌∷◌, ◌++◌, codes, decimal, flat_map, length, Option, Some, None}
+use Rattle.std.specs.Prelude.{ℕ, List, ◌∷◌, ◌++◌, codes, decimal, flat_map, sum_by, length, Option, Some, None}
 use Rattle.bench_reader.specs.declared.fault.Place.{Place}
 use Rattle.bench_reader.specs.declared.fault.NetKind.{NetKind}
 use Rattle.bench_reader.specs.declared.fault.NetKind.TheVariants.{BadByte, Expected, UnknownGate, WrongPins, DrivenTwice, Undriven, TooLong}
@@ -14,6 +14,8 @@ use Rattle.dict_file.specs.declared.fault.DictFault.{DictFault}
 use Rattle.dict_file.specs.declared.fault.DictFault.TheVariants as dict
 use Rattle.diagnose.specs.declared.fault.LogKind.{LogKind}
 use Rattle.diagnose.specs.declared.fault.LogKind.TheVariants as log
+use Rattle.suspect_scores.specs.declared.suspect.Suspect.{Suspect}
+use Rattle.suspect_scores.specs.declared.choices.Choice.{Choice}
 use Rattle.adaptive_tree.specs.declared.fault.PlanKind.{PlanKind}
 use Rattle.adaptive_tree.specs.declared.fault.PlanKind.TheVariants as plan
 use Rattle.adaptive_tree.specs.declared.outcome.Outcome.{Outcome as WalkOutcome}
@@ -167,6 +169,37 @@ least_text listed least = codes "listed " ++ (decimal listed ++ (codes " least "
 -- ranked numbers, one to a line, how many they are, and the least count
 unfoldable pub ranks_text : List (ℕ × ℕ) → ℕ → Text
 ranks_text ranks least = flat_map rank_line ranks ++ least_text (length ranks) least
+
+-- ---- expected logs, suspects and covers
+
+-- the patterns and positions of an expected log
+unfoldable pub expected_counts_text : ℕ → ℕ → Text
+expected_counts_text patterns positions = codes "patterns " ++ (decimal patterns ++ (codes " positions " ++ (decimal positions ++ codes "\n")))
+
+-- a suspect with its scores
+unfoldable pub suspect_line : Suspect → Text
+suspect_line s =
+    decimal s.number ++ (codes " " ++ (decimal s.explained ++ (codes " " ++ (decimal s.hit_bits ++ (codes " " ++ (decimal s.missed_bits ++ (codes " " ++ (decimal s.false_bits ++ codes "\n"))))))))
+
+-- how many suspects are listed, and how many patterns are failing and logged
+unfoldable pub suspects_end : ℕ → ℕ → ℕ → Text
+suspects_end listed failing logged = codes "listed " ++ (decimal listed ++ (codes " failing " ++ (decimal failing ++ (codes " logged " ++ (decimal logged ++ codes "\n")))))
+
+-- suspects, one to a line, how many they are, and how many patterns are failing and logged
+unfoldable pub suspects_text : List Suspect → ℕ → ℕ → Text
+suspects_text listed failing logged = flat_map suspect_line listed ++ suspects_end (length listed) failing logged
+
+-- a number, and how many patterns it explains
+unfoldable pub choice_line : Choice → Text
+choice_line choice = decimal choice.number ++ (codes " " ++ (decimal choice.explained ++ codes "\n"))
+
+-- how many numbers are listed, and how many failing patterns are explained of how many
+unfoldable pub cover_end : ℕ → ℕ → ℕ → Text
+cover_end listed explained failing = codes "listed " ++ (decimal listed ++ (codes " explained " ++ (decimal explained ++ (codes " failing " ++ (decimal failing ++ codes "\n")))))
+
+-- the numbers of a cover, one to a line, how many they are, and how many failing patterns are explained of how many
+unfoldable pub cover_text : List Choice → ℕ → Text
+cover_text choices failing = flat_map choice_line choices ++ cover_end (length choices) (sum_by (λ choice. choice.explained) choices) failing
 
 -- ---- adaptive plans
 

@@ -3,9 +3,9 @@
 ghost use Rattle.std.specs.Prelude.{Err, IfErr, IfOk};
 ghost use Rattle.table_dicts.specs.Rows.{AreRows};
 ghost use Rattle.net_model.specs.Rows.{AreWide};
-ghost use Rattle.ranked_diag.specs.PartialLog.{ArePartial};
+ghost use Rattle.ranked_diag.specs.PartialLog.{ArePartial, IsPartialLog};
 ghost use Rattle.adaptive_tree.specs.WellFormed.{IsWellFormed};
-ghost use Rattle.dia_commands.specs.Logs.{IsLogFor, IsRefusedLog, IsPartialFor, IsRefusedPartial, IsLogTo, IsRefusedWalk, IsListFor, IsRefusedList};
+ghost use Rattle.dia_commands.specs.Logs.{IsLogFor, IsRefusedLog, IsRefusedPartialOf, IsLogTo, IsRefusedWalk, IsListFor, IsRefusedList};
 ghost use Rattle.dia_commands.specs.declared.ending.FileKind.TheVariants as file;
 ghost use Rattle.dia_commands.specs.Ending.{refused};
 ghost use Rattle.dia_commands.specs.Outcome.{said, IsPartOf};
@@ -20,7 +20,7 @@ use adaptive_tree::{Outcome, Plan, follow};
 use diag_shelf::Shelf;
 use diagnose::{LogFault, LogKind, read_log, read_vectors};
 use net_model::{AnswerRows, Circuit, Vectors};
-use ranked_diag::{Partial, read_partial};
+use ranked_diag::{Partial, read_partial_of};
 use std::alloc::Global;
 use table_dicts::Dict;
 
@@ -46,19 +46,21 @@ pub(crate) fn read_observed<S: Shelf>(
     }
 }
 
-/// Reads and judges the partial log under a name. Where it isn't accepted, the console says why, and the run is over.
+/// Reads and judges the partial log under a name, of so many patterns and positions. Where it isn't accepted, the console says
+/// why, and the run is over.
 pub(crate) fn read_partial_log<S: Shelf>(
     alloc: Global,
     shelf: &mut S,
-    dict: &Dict,
+    patterns: u32,
+    positions: u32,
     name: &str,
 ) -> Result<Partial, RunFault>
-    ensures lines { IfOk result (ArePartial dict.now.patterns dict.now.positions) }
-    ensures ok { IfOk result (λ partial. WasAccepted name.now (IsPartialFor dict.now) partial (S.state shelf.old) (S.state shelf.new)) }
-    ensures err { IfErr result (λ why. IsOver name.now file.Log (IsRefusedPartial dict.now) why (S.state shelf.old) (S.state shelf.new)) }
+    ensures lines { IfOk result (ArePartial patterns positions) }
+    ensures ok { IfOk result (λ partial. WasAccepted name.now (IsPartialLog patterns positions) partial (S.state shelf.old) (S.state shelf.new)) }
+    ensures err { IfErr result (λ why. IsOver name.now file.Log (IsRefusedPartialOf patterns positions) why (S.state shelf.old) (S.state shelf.new)) }
 {
     let bytes = read_file(alloc, shelf, name, TEXT_LIMIT)?;
-    match read_partial(alloc, dict, &bytes) {
+    match read_partial_of(alloc, patterns, positions, &bytes) {
         Ok(partial) => Ok(partial),
         Err(LogFault::At(kind, line)) => Err(say_refusal(alloc, shelf, kind, line)),
         Err(LogFault::NoMemory) => Err(RunFault::NoMemory),

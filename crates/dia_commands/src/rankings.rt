@@ -45,7 +45,7 @@ fn rank_by<S: Shelf>(
     requires { HasDictSpelling dict.now }
     ensures { (name : List ℕ) → RanOn (rank name log.now within) (with_partial log.now dict.now (λ (lines : List Line). says (IsRankText dict.now lines within))) result (S.state shelf.old) (S.state shelf.new) }
 {
-    let partial = read_partial_log(alloc, shelf, dict, log)?;
+    let partial = read_partial_log(alloc, shelf, dict.patterns, dict.positions, log)?;
     let text = ranked_text(alloc, dict, &partial, within)?;
     say(shelf, text.as_bytes())
 }

@@ -1,7 +1,7 @@
 //! The lines of the console.
 
 ghost use Rattle.std.specs.Prelude.{◌≡◌, ◌++◌, IfOk, OnOk, string_bytes};
-ghost use Rattle.dia_commands.specs.Texts.{kind_name, refusal_text, loop_start, line_start, count_text, summary_counts, summary_text, valid_text, dropped_text, evidence_rule, evidence_text, result_rule, result_text, dictionary_text, apart_text, groups_text, log_rule, log_text, number_line, listed_text, rank_line, least_text, plan_rule, plan_fault_text, plan_counts_text, outcome_text};
+ghost use Rattle.dia_commands.specs.Texts.{kind_name, refusal_text, loop_start, line_start, count_text, summary_counts, summary_text, valid_text, dropped_text, evidence_rule, evidence_text, result_rule, result_text, dictionary_text, apart_text, groups_text, log_rule, log_text, number_line, listed_text, rank_line, least_text, expected_counts_text, suspect_line, suspects_end, choice_line, cover_end, plan_rule, plan_fault_text, plan_counts_text, outcome_text};
 
 use adaptive_tree::{Outcome, PlanKind};
 use bench_reader::{NetKind, Place};
@@ -9,6 +9,7 @@ use diagnose::LogKind;
 use refute_check::{Refusal, RefusalKind};
 use result_file::{ResultFault, ResultKind, Summary};
 use std::alloc::{AllocError, Global};
+use suspect_scores::{Choice, Suspect};
 
 fn kind_name(kind: NetKind) -> &'static str
     ensures { result.now ≡ kind_name kind }
@@ -245,6 +246,74 @@ pub(crate) fn push_least(text: &mut String, listed: usize, least: u64) -> Result
     ensures { OnOk result (string_bytes text.new ≡ string_bytes text.old ++ least_text listed least) }
 {
     writeln!(text, "listed {listed} least {least}")
+}
+
+/// The patterns and positions of an expected log.
+#[tactic(auto, unfolding(crate::specs::Texts::expected_counts_text))]
+pub(crate) fn expected_counts_text(
+    alloc: Global,
+    patterns: u32,
+    positions: u32,
+) -> Result<String, AllocError>
+    ensures { IfOk result (λ text. string_bytes text ≡ expected_counts_text patterns positions) }
+{
+    format!(in alloc; "patterns {patterns} positions {positions}\n")
+}
+
+/// Appends a suspect with its scores.
+#[tactic(auto, unfolding(crate::specs::Texts::suspect_line))]
+pub(crate) fn push_suspect(text: &mut String, suspect: Suspect) -> Result<(), AllocError>
+    ensures { OnOk result (string_bytes text.new ≡ string_bytes text.old ++ suspect_line suspect) }
+{
+    let Suspect {
+        number,
+        explained,
+        hit_bits,
+        missed_bits,
+        false_bits,
+    } = suspect;
+    writeln!(
+        text,
+        "{number} {explained} {hit_bits} {missed_bits} {false_bits}"
+    )
+}
+
+/// Appends how many suspects are listed, and how many patterns are failing and logged.
+#[tactic(auto, unfolding(crate::specs::Texts::suspects_end))]
+pub(crate) fn push_suspects_end(
+    text: &mut String,
+    listed: usize,
+    failing: usize,
+    logged: usize,
+) -> Result<(), AllocError>
+    ensures { OnOk result (string_bytes text.new ≡ string_bytes text.old ++ suspects_end listed failing logged) }
+{
+    writeln!(text, "listed {listed} failing {failing} logged {logged}")
+}
+
+/// Appends a number, and how many patterns it explains.
+#[tactic(auto, unfolding(crate::specs::Texts::choice_line))]
+pub(crate) fn push_choice(text: &mut String, choice: Choice) -> Result<(), AllocError>
+    ensures { OnOk result (string_bytes text.new ≡ string_bytes text.old ++ choice_line choice) }
+{
+    let Choice { number, explained } = choice;
+    writeln!(text, "{number} {explained}")
+}
+
+/// Appends how many numbers are listed, and how many failing patterns are explained of how many.
+#[tactic(auto, unfolding(crate::specs::Texts::cover_end))]
+pub(crate) fn push_cover_end(
+    text: &mut String,
+    listed: usize,
+    explained: u128,
+    failing: usize,
+) -> Result<(), AllocError>
+    ensures { OnOk result (string_bytes text.new ≡ string_bytes text.old ++ cover_end listed explained failing) }
+{
+    writeln!(
+        text,
+        "listed {listed} explained {explained} failing {failing}"
+    )
 }
 
 /// Why a plan is refused.

@@ -12,7 +12,7 @@ use Rattle.result_file.specs.Summary.{summary_of}
 use Rattle.result_file.specs.Laws.{ValidIsTrue}
 use Rattle.result_file.specs.Valid.{IsValid}
 use Rattle.dia_gen.proofs.Written.{made_closed}
-use Rattle.request_words.specs.Request.{Text, Request, gen, check, make_dict, convert, diagnose, list_faults, simulate, synth, compact, rank, adapt, follow}
+use Rattle.request_words.specs.Request.{Text, Request, gen, check, make_dict, convert, diagnose, list_faults, simulate, synth, compact, rank, adapt, follow, expect, suspects, cover}
 use Rattle.synth_netlist.specs.Synth.{synth_text}
 use Rattle.dia_commands.specs.Texts.{valid_text}
 use Rattle.dia_commands.specs.Netlists.{IsDesign}
@@ -157,6 +157,9 @@ of_request (compact bench result new) = (tt, (tt, (tt, (tt, (tt, (tt, tt))))))
 of_request (rank dict log within) = (tt, (tt, (tt, (tt, (tt, (tt, tt))))))
 of_request (adapt bench result plan) = (tt, (tt, (tt, (tt, (tt, (tt, tt))))))
 of_request (follow plan log) = (tt, (tt, (tt, (tt, (tt, (tt, tt))))))
+of_request (expect bench result log) = (tt, (tt, (tt, (tt, (tt, (tt, tt))))))
+of_request (suspects bench result log most) = (tt, (tt, (tt, (tt, (tt, (tt, (tt, tt)))))))
+of_request (cover bench result log) = (tt, (tt, (tt, (tt, (tt, (tt, (tt, tt)))))))
 
 pub words_of : (asked : Option Request) {ending : Ending} → IsAmong ending (endings_of asked) → ending ≡ not_understood → asked ≡ None
 words_of None {ending} among is = refl

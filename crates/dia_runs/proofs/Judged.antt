@@ -8,12 +8,13 @@ use Rattle.bench_reader.specs.Netlist.{Netlist}
 use Rattle.bench_reader.specs.Laws.{NeverAcceptedAndRefused, OneNetlist}
 use Rattle.scan_cut.specs.Cut.{cut_circuit, cut_design}
 use Rattle.synth_netlist.proofs.LoopWalks.{walk_first}
-use Rattle.request_words.specs.Request.{Text, Request, gen, check, make_dict, convert, diagnose, list_faults, simulate, synth, compact, rank, adapt, follow}
+use Rattle.request_words.specs.Request.{Text, Request, gen, check, make_dict, convert, diagnose, list_faults, simulate, synth, compact, rank, adapt, follow, expect, suspects, cover}
 use Rattle.dia_commands.specs.Netlists.{IsDesign, IsRefused, by_text, by_loop}
 use Rattle.dia_commands.specs.Results.{IsResult, IsRefusedResult}
 use Rattle.dia_commands.specs.Dictionaries.{IsDictionaryFile, IsRefusedDictionary}
 use Rattle.dia_commands.specs.Logs.{IsLogFor, IsRefusedLog, IsPartialFor, IsRefusedPartial, IsLogTo, IsRefusedWalk, IsListFor, IsRefusedList}
 use Rattle.dia_commands.specs.AdaptivePlans.{IsAdaptivePlanFile, IsRefusedPlan}
+use Rattle.dia_commands.specs.Suspects.{IsLogAt, IsRefusedAt}
 use Rattle.table_dicts.specs.declared.dict.Dict.{Dict}
 use Rattle.dict_file.specs.Laws.{RefusedIsWrong, OneDictionary}
 use Rattle.diagnose.specs.Laws.{RefusedTesterLogIsWrong, OneLogReading, RefusedListIsWrong, OneListReading}
@@ -27,9 +28,10 @@ use Rattle.dia_commands.specs.Outcome.{Outcome}
 use Rattle.dia_commands.specs.Plans.{plan_of}
 use Rattle.dia_commands.specs.Plan.{IsClearFile, IsClear}
 use Rattle.result_file.specs.Refusal.{FileRefused}
-use Rattle.result_file.specs.Laws.{RefusedFileIsWrong}
+use Rattle.result_file.specs.Laws.{RefusedFileIsWrong, OneSpelling, SpellingIsLine}
 use Rattle.fault_collapse.specs.Laws.{SameRootEqual}
 use Rattle.pair_sets.specs.Laws.{CoveringEqual, LeavesClosed, SpendingBounded}
+use Rattle.dia_runs.proofs.ResultLogs.{log_is_clear}
 use Rattle.result_file.proofs.Truth.{AreSound}
 use Rattle.result_file.proofs.SoundLemmas.{sound_circuit}
 
@@ -40,6 +42,8 @@ pub record HasLaws : Type 0 where
   pub none : NoneReachesItself
   pub walk : WalkReachesItself
   pub results : RefusedFileIsWrong
+  pub one_spelling : OneSpelling
+  pub one_line : SpellingIsLine
   pub dictionaries : RefusedIsWrong
   pub one_dictionary : OneDictionary
   pub logs : RefusedTesterLogIsWrong
@@ -97,6 +101,9 @@ clear_partial laws d few = record {
   once = λ bytes x y is also. laws.one_partial d.patterns d.positions bytes x y (omega (arith, few)) is also;
 }
 
+clear_log_at : HasLaws → {c : Circuit} → IsCircuit c → (result : Text) → IsClearFile (List Line) (IsRefusedAt c result) (IsLogAt c result)
+clear_log_at laws {c} circuit result = log_is_clear laws.one_spelling laws.one_line laws.partial_logs laws.one_partial c circuit result
+
 clear_plan : HasLaws → IsClearFile AdaptivePlan IsRefusedPlan IsAdaptivePlanFile
 clear_plan laws = record {
   apart = λ bytes console plan is refused. laws.plans bytes plan refused.kind refused.line refused.refused is;
@@ -130,6 +137,9 @@ clear laws (synth n bench result) = λ o both. ending_is both.2.outcome
 clear laws (compact bench result new) = (clear_netlist laws, λ bytes design is. (clear_result laws (circuit_of is), λ bytes file valid o made. ending_is made.3))
 clear laws (rank dict log within) = (clear_dictionary laws, λ bytes d is. (clear_partial laws d is.1.has.patterns, λ bytes lines read o says. ending_is says.2))
 clear laws (adapt bench result plan) = (clear_netlist laws, λ bytes design is. (clear_result laws (circuit_of is), λ bytes file valid o made. ending_is made.3))
+clear laws (expect bench result log) = (clear_netlist laws, λ bytes design is. (clear_result laws (circuit_of is), λ bytes file valid o made. ending_is made.3))
+clear laws (suspects bench result log most) = (clear_netlist laws, λ bytes design is. (clear_result laws (circuit_of is), λ bytes file valid. (clear_log_at laws (circuit_of is) file, λ bytes lines read o says. ending_is says.2)))
+clear laws (cover bench result log) = (clear_netlist laws, λ bytes design is. (clear_result laws (circuit_of is), λ bytes file valid. (clear_log_at laws (circuit_of is) file, λ bytes lines read o says. ending_is says.2)))
 clear laws (follow plan log) = (clear_plan laws, λ bytes adaptive is. (clear_walk laws adaptive is.well_formed, λ bytes outcome read o says. ending_is says.2))
 
 -- ---- what evidence means

@@ -1,4 +1,6 @@
 pub mod PlanLemmas
+pub mod FewPatterns
+pub mod ResultLogs
 pub mod Judged
 pub mod Clauses
 pub mod DictionaryClauses
@@ -6,4 +8,5 @@ pub mod SimulationClauses
 pub mod CompactionClauses
 pub mod RankingClauses
 pub mod AdaptiveClauses
+pub mod SuspectClauses
 pub mod RunLemmas

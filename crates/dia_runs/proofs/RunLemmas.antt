@@ -15,6 +15,7 @@ use Rattle.dia_runs.proofs.SimulationClauses.{simulated_of}
 use Rattle.dia_runs.proofs.CompactionClauses.{compacted_of}
 use Rattle.dia_runs.proofs.RankingClauses.{RankingLaws, ranked_of}
 use Rattle.dia_runs.proofs.AdaptiveClauses.{adapted_of, followed_of}
+use Rattle.dia_runs.proofs.SuspectClauses.{expected_of, suspected_of, covered_of}
 use Rattle.dia_runs.proofs.DictionaryClauses.{dictionary_made, converted_of, diagnosed_of}
 
 pub run_of : EvidenceLaws → ValidIsTrue → ThinIsSound → RankingLaws → WrittenIsRead → FilesAreJudgedOnce → (asked : Option Request) {ending : Ending} {a b : State} → Ran asked ending a b → IsRunOf asked ending a b
@@ -31,6 +32,9 @@ run_of laws valid sound ranking written once asked {ending} {a} {b} r = record {
   compacted = λ told. compacted_of (r.done told) valid sound;
   adapted = λ told. adapted_of (r.done told) valid written;
   followed = λ told. followed_of (r.done told);
+  expected = λ told. expected_of (r.done told) valid;
+  suspected = λ told. suspected_of (r.done told) valid;
+  covered = λ told. covered_of (r.done told) valid;
   ends = r.ends;
   words = words_of asked r.ends;
   not_asked = not_understood_of asked r.ends;

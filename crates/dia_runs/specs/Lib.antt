@@ -4,4 +4,5 @@ pub mod Simulations
 pub mod Compactions
 pub mod Rankings
 pub mod AdaptiveRuns
+pub mod SuspectRuns
 pub mod Run

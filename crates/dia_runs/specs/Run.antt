@@ -14,6 +14,7 @@ use Rattle.dia_runs.specs.Simulations.{PrintsSimulation}
 use Rattle.dia_runs.specs.Compactions.{CompactsResult}
 use Rattle.dia_runs.specs.Rankings.{PrintsRanking}
 use Rattle.dia_runs.specs.AdaptiveRuns.{AdaptsPlan, PrintsOutcome}
+use Rattle.dia_runs.specs.SuspectRuns.{WritesExpectedLog, PrintsSuspects, PrintsCover}
 
 pub record IsRunOf (asked : Option Request) (ending : Ending) (old new : State) : Type 0 where
   -- ---- what `gen` and `check` leave where they are done
@@ -48,6 +49,14 @@ pub record IsRunOf (asked : Option Request) (ending : Ending) (old new : State) 
   pub adapted : Told old new (AdaptsPlan asked ending)
   -- `follow` prints where the log's answers lead in the plan: to a class, to the pattern to ask next, or nowhere.
   pub followed : Told old new (PrintsOutcome asked ending)
+  -- `expect` accepts a result as `check` does, and leaves the log that a chip without a fault gives to its patterns. That is read back within
+  -- the limit of bytes, and with it nothing is listed.
+  pub expected : Told old new (WritesExpectedLog asked ending)
+  -- `suspects` prints exactly the classes whose faults hit a failing bit of the log, best first, so many at the most. With the whole log of
+  -- one fault its class stands first.
+  pub suspected : Told old new (PrintsSuspects asked ending)
+  -- `cover` prints classes one after another, each that explains most of the failing patterns that are left, until none explains any.
+  pub covered : Told old new (PrintsCover asked ending)
   -- ---- the ending, and its causes
 
   -- It is one of those that these words can have.

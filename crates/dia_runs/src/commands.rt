@@ -13,9 +13,9 @@ use adaptive_tree::{plan_is_read_once, walk_is_read_once, written_plan_is_read};
 use bench_reader::{never_accepted_and_refused, one_netlist};
 use compact_tests::thin_is_sound;
 use dia_commands::{
-    RunFault, check_result, compact_result, convert_file, diagnose_log, follow_log, generate_file,
-    list_faults, make_dictionary, make_plan, one_ending_each, rank_log, refuse_words, simulate,
-    status_of, synthesize,
+    RunFault, check_result, compact_result, convert_file, diagnose_log, expect_log, follow_log,
+    generate_file, list_cover, list_faults, list_suspects, make_dictionary, make_plan,
+    one_ending_each, rank_log, refuse_words, simulate, status_of, synthesize,
 };
 use diag_shelf::Shelf;
 use diagnose::{list_is_read_once, log_is_read_once};
@@ -25,7 +25,7 @@ use net_model::{none_reaches_itself, walk_reaches_itself};
 use pair_sets::{covering_is_equal, full_tree_is_covered, leaves_are_closed};
 use ranked_diag::{partial_log_is_read_once, whole_log_ranks_as_listed};
 use request_words::{Request, WordsFault, read_words};
-use result_file::{file_is_refused_once, valid_is_true};
+use result_file::{file_is_refused_once, record_is_spelled_once, valid_is_true};
 use std::alloc::Global;
 use synth_netlist::{each_number_is_accepted, no_number_is_refused};
 
@@ -74,6 +74,7 @@ fn files_are_judged_once()
     none_reaches_itself();
     walk_reaches_itself();
     file_is_refused_once();
+    record_is_spelled_once();
     dictionary_is_read_once();
     log_is_read_once();
     partial_log_is_read_once();
@@ -113,5 +114,10 @@ fn carry_out<S: Shelf>(alloc: Global, request: Request<'_>, shelf: &mut S) -> Re
         Request::Rank(dict, log, within) => rank_log(alloc, shelf, dict, log, within),
         Request::Adapt(bench, result, plan) => make_plan(alloc, shelf, bench, result, plan),
         Request::Follow(plan, log) => follow_log(alloc, shelf, plan, log),
+        Request::Expect(bench, result, log) => expect_log(alloc, shelf, bench, result, log),
+        Request::Suspects(bench, result, log, most) => {
+            list_suspects(alloc, shelf, bench, result, log, most)
+        }
+        Request::Cover(bench, result, log) => list_cover(alloc, shelf, bench, result, log),
     }
 }

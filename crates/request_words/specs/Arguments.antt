@@ -29,9 +29,9 @@ two_names_app name first second = with_rule (with_rule (bare_app name) (name_rul
 abbrev pub number_rule : Text → ℕ → Rule
 number_rule id most = record (name_rule id) { parser = Some (vp.Signed (pos 1) (pos most)) }
 
--- an option with a number of at most this, and its default
-abbrev pub option_rule : Text → Text → ℕ → Rule
-option_rule id default most = record (new_rule id) { long = Some id; defaults = default ∷ []; parser = Some (vp.Signed (pos 0) (pos most)) }
+-- an option with a number from a least to a most, and its default
+abbrev pub option_rule : Text → Text → ℕ → ℕ → Rule
+option_rule id default least most = record (new_rule id) { long = Some id; defaults = default ∷ []; parser = Some (vp.Signed (pos least) (pos most)) }
 
 -- ---- matches
 

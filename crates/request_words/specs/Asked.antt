@@ -3,7 +3,7 @@ use Rattle.std.specs.Prelude.{◌≤◌}
 use Rattle.result_file.specs.Lines.{AreWithinLimits}
 use Rattle.request_words.specs.Request as spec
 use Rattle.request_words.specs.declared.request.Request.{Request}
-use Rattle.request_words.specs.declared.request.Request.TheVariants.{Gen, Check, MakeDict, Convert, Diagnose, ListFaults, Simulate, Synth, Compact, Rank, Adapt, Follow}
+use Rattle.request_words.specs.declared.request.Request.TheVariants.{Gen, Check, MakeDict, Convert, Diagnose, ListFaults, Simulate, Synth, Compact, Rank, Adapt, Follow, Expect, Suspects, Cover}
 
 abbrev pub asked : Request → spec.Request
 asked (Gen bench result budgets) = spec.gen bench.now result.now budgets
@@ -18,6 +18,9 @@ asked (Compact bench result new) = spec.compact bench.now result.now new.now
 asked (Rank dict log within) = spec.rank dict.now log.now within
 asked (Adapt bench result plan) = spec.adapt bench.now result.now plan.now
 asked (Follow plan log) = spec.follow plan.now log.now
+asked (Expect bench result log) = spec.expect bench.now result.now log.now
+asked (Suspects bench result log most) = spec.suspects bench.now result.now log.now most
+asked (Cover bench result log) = spec.cover bench.now result.now log.now
 
 -- The numbers of a request are within their limits.
 abbrev pub HasLimits : Request → Type 0
@@ -33,3 +36,6 @@ HasLimits (Compact bench result new) = Unit {0}
 HasLimits (Rank dict log within) = within ≤ 1000000
 HasLimits (Adapt bench result plan) = Unit {0}
 HasLimits (Follow plan log) = Unit {0}
+HasLimits (Expect bench result log) = Unit {0}
+HasLimits (Suspects bench result log most) = (1 ≤ most) × (most ≤ 1000000)
+HasLimits (Cover bench result log) = Unit {0}

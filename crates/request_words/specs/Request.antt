@@ -5,7 +5,7 @@ use Rattle.clap.specs.Words.{App, Row, matches_of, with_rule}
 use Rattle.result_file.specs.declared.record.Budgets.{Budgets}
 use Rattle.request_words.specs.Arguments.{bare_app, two_names_app, name_rule, number_rule, option_rule, is_taken, name_in, number_in, kind_named}
 use Rattle.request_words.specs.declared.request.Verb.{Verb}
-use Rattle.request_words.specs.declared.request.Verb.TheVariants.{Gen, Check, Dict, Convert, Diagnose, Faults, Sim, Synth, Compact, Rank, Adapt, Follow}
+use Rattle.request_words.specs.declared.request.Verb.TheVariants.{Gen, Check, Dict, Convert, Diagnose, Faults, Sim, Synth, Compact, Rank, Adapt, Follow, Expect, Suspects, Cover}
 use Rattle.request_words.specs.declared.request.EntryKind.{EntryKind}
 
 abbrev pub Text : Type 0
@@ -36,12 +36,18 @@ pub data Request : Type 0 where
   adapt : (bench result plan : Text) → Request
   -- tell where a log of answers leads in a plan
   follow : (plan log : Text) → Request
+  -- write the log that a chip without a fault gives, for a netlist and a result
+  expect : (bench result log : Text) → Request
+  -- list the classes that a partial log suspects, so many at the most, for a netlist and a result
+  suspects : (bench result log : Text) (most : ℕ) → Request
+  -- list classes that together explain what fails in a partial log, for a netlist and a result
+  cover : (bench result log : Text) → Request
 
 -- ---- each command: how its words are read, and what they ask for
 
 unfoldable pub gen_app : App
 gen_app = with_rule (with_rule (with_rule (two_names_app (codes "gen") (codes "bench") (codes "result"))
-    (option_rule (codes "blocks") (codes "4") 65536)) (option_rule (codes "cubes") (codes "64") 1048576)) (option_rule (codes "conflicts") (codes "2000") 100000)
+    (option_rule (codes "blocks") (codes "4") 0 65536)) (option_rule (codes "cubes") (codes "64") 0 1048576)) (option_rule (codes "conflicts") (codes "2000") 0 100000)
 
 abbrev pub gen_by : List Row → Request
 gen_by rows = gen (name_in (codes "bench") rows) (name_in (codes "result") rows)
@@ -97,7 +103,7 @@ abbrev pub compact_by : List Row → Request
 compact_by rows = compact (name_in (codes "bench") rows) (name_in (codes "result") rows) (name_in (codes "new") rows)
 
 unfoldable pub rank_app : App
-rank_app = with_rule (two_names_app (codes "rank") (codes "dict") (codes "log")) (option_rule (codes "within") (codes "0") 1000000)
+rank_app = with_rule (two_names_app (codes "rank") (codes "dict") (codes "log")) (option_rule (codes "within") (codes "0") 0 1000000)
 
 abbrev pub rank_by : List Row → Request
 rank_by rows = rank (name_in (codes "dict") rows) (name_in (codes "log") rows) (number_in (codes "within") 0 1000000 rows)
@@ -113,6 +119,28 @@ follow_app = two_names_app (codes "follow") (codes "plan") (codes "log")
 
 abbrev pub follow_by : List Row → Request
 follow_by rows = follow (name_in (codes "plan") rows) (name_in (codes "log") rows)
+
+-- a command of a netlist, a result and a log
+abbrev pub log_app : Text → App
+log_app name = with_rule (two_names_app name (codes "bench") (codes "result")) (name_rule (codes "log"))
+
+unfoldable pub expect_app : App
+expect_app = log_app (codes "expect")
+
+abbrev pub expect_by : List Row → Request
+expect_by rows = expect (name_in (codes "bench") rows) (name_in (codes "result") rows) (name_in (codes "log") rows)
+
+unfoldable pub suspects_app : App
+suspects_app = with_rule (log_app (codes "suspects")) (option_rule (codes "most") (codes "20") 1 1000000)
+
+abbrev pub suspects_by : List Row → Request
+suspects_by rows = suspects (name_in (codes "bench") rows) (name_in (codes "result") rows) (name_in (codes "log") rows) (number_in (codes "most") 1 1000000 rows)
+
+unfoldable pub cover_app : App
+cover_app = log_app (codes "cover")
+
+abbrev pub cover_by : List Row → Request
+cover_by rows = cover (name_in (codes "bench") rows) (name_in (codes "result") rows) (name_in (codes "log") rows)
 
 -- ---- the table of commands
 
@@ -131,6 +159,9 @@ verb_named name =
     else if bytes_eq name (codes "rank") then Some Rank
     else if bytes_eq name (codes "adapt") then Some Adapt
     else if bytes_eq name (codes "follow") then Some Follow
+    else if bytes_eq name (codes "expect") then Some Expect
+    else if bytes_eq name (codes "suspects") then Some Suspects
+    else if bytes_eq name (codes "cover") then Some Cover
     else None
 
 -- the words that a command takes, and what they ask for
@@ -147,6 +178,9 @@ table Compact = (compact_app, λ rows. Some (compact_by rows))
 table Rank = (rank_app, λ rows. Some (rank_by rows))
 table Adapt = (adapt_app, λ rows. Some (adapt_by rows))
 table Follow = (follow_app, λ rows. Some (follow_by rows))
+table Expect = (expect_app, λ rows. Some (expect_by rows))
+table Suspects = (suspects_app, λ rows. Some (suspects_by rows))
+table Cover = (cover_app, λ rows. Some (cover_by rows))
 
 abbrev pub app_for : Verb → App
 app_for verb = (table verb).0

@@ -83,28 +83,29 @@ pub(crate) fn number_arg<'a>(alloc: Global, id: &'a str, most: u32) -> Arg<'a>
     name_arg(alloc, id).value_parser(number_parser(1, most))
 }
 
-// An option with a number of at most this, and its default.
-fn option_arg<'a>(alloc: Global, id: &'a str, default: &'a str, most: u32) -> Arg<'a>
-    ensures rule { rule_of result ≡ option_rule id.entry.now default.entry.now most }
+// An option with a number from a least to a most, and its default.
+fn option_arg<'a>(alloc: Global, id: &'a str, default: &'a str, least: u32, most: u32) -> Arg<'a>
+    ensures rule { rule_of result ≡ option_rule id.entry.now default.entry.now least most }
     ensures local { result.global ≡ false }
 {
     Arg::new(alloc, id)
         .long(id)
         .default_value(default)
-        .value_parser(number_parser(0, most))
+        .value_parser(number_parser(least, most))
 }
 
-/// A command with an option more: a number of at most this, and its default.
+/// A command with an option more: a number from a least to a most, and its default.
 pub(crate) fn with_option<'a>(
     alloc: Global,
     command: Command<'a>,
     id: &'a str,
     default: &'a str,
+    least: u32,
     most: u32,
 ) -> Result<Command<'a>, AllocError>
-    ensures { IfOk result (λ c. app_of c ≡ with_rule (app_of command.entry) (option_rule id.entry.now default.entry.now most)) }
+    ensures { IfOk result (λ c. app_of c ≡ with_rule (app_of command.entry) (option_rule id.entry.now default.entry.now least most)) }
 {
-    command.arg(option_arg(alloc, id, default, most))
+    command.arg(option_arg(alloc, id, default, least, most))
 }
 
 // What takes the numbers from a least to a most.

@@ -1,10 +1,10 @@
-//! The words of the commands that take more or less than two names: `gen`, `dict`, `faults`, `synth`, `compact`, `rank`
-//! and `adapt`.
+//! The words of the commands that take more or less than two names: `gen`, `dict`, `faults`, `synth`, `compact`, `rank`,
+//! `adapt`, `expect`, `suspects` and `cover`.
 
 ghost use Rattle.std.specs.Prelude.{◌≡◌, IfOk, IfSome, codes, option_map};
 ghost use Rattle.clap.specs.Words.{app_of, found_of, rows_of, with_rule};
 ghost use Rattle.request_words.specs.Arguments.{option_rule};
-ghost use Rattle.request_words.specs.Request.{gen_app, gen_by, dict_app, dict_by, faults_app, faults_by, synth_app, synth_by, compact_app, compact_by, rank_app, rank_by, adapt_app, adapt_by};
+ghost use Rattle.request_words.specs.Request.{gen_app, gen_by, dict_app, dict_by, faults_app, faults_by, synth_app, synth_by, compact_app, compact_by, rank_app, rank_by, adapt_app, adapt_by, log_app, expect_by, suspects_app, suspects_by, cover_by};
 ghost use Rattle.request_words.specs.Asked.{asked, HasLimits};
 
 use crate::arguments::{
@@ -31,6 +31,9 @@ const SYNTH_LIMIT: u32 = 2000;
 // The most mismatches above the least.
 const WITHIN_LIMIT: u32 = 1_000_000;
 
+// The most suspects that are listed.
+const MOST_LIMIT: u32 = 1_000_000;
+
 /// Two names and three options.
 pub(crate) fn gen_command<'a>(alloc: Global) -> Result<Command<'a>, AllocError>
     ensures { IfOk result (λ c. app_of c ≡ gen_app) }
@@ -40,11 +43,11 @@ pub(crate) fn gen_command<'a>(alloc: Global) -> Result<Command<'a>, AllocError>
 
 // A command with the options of `gen`.
 fn with_options<'a>(alloc: Global, command: Command<'a>) -> Result<Command<'a>, AllocError>
-    ensures { IfOk result (λ c. app_of c ≡ with_rule (with_rule (with_rule (app_of command.entry) (option_rule (codes "blocks") (codes "4") 65536)) (option_rule (codes "cubes") (codes "64") 1048576)) (option_rule (codes "conflicts") (codes "2000") 100000)) }
+    ensures { IfOk result (λ c. app_of c ≡ with_rule (with_rule (with_rule (app_of command.entry) (option_rule (codes "blocks") (codes "4") 0 65536)) (option_rule (codes "cubes") (codes "64") 0 1048576)) (option_rule (codes "conflicts") (codes "2000") 0 100000)) }
 {
-    let command = with_option(alloc, command, "blocks", "4", BLOCKS_LIMIT)?;
-    let command = with_option(alloc, command, "cubes", "64", CUBES_LIMIT)?;
-    with_option(alloc, command, "conflicts", "2000", CONFLICTS_LIMIT)
+    let command = with_option(alloc, command, "blocks", "4", 0, BLOCKS_LIMIT)?;
+    let command = with_option(alloc, command, "cubes", "64", 0, CUBES_LIMIT)?;
+    with_option(alloc, command, "conflicts", "2000", 0, CONFLICTS_LIMIT)
 }
 
 /// The request of its matches.
@@ -149,7 +152,7 @@ pub(crate) fn rank_command<'a>(alloc: Global) -> Result<Command<'a>, AllocError>
     ensures { IfOk result (λ c. app_of c ≡ rank_app) }
 {
     let command = two_names(alloc, "rank", "dict", "log")?;
-    with_option(alloc, command, "within", "0", WITHIN_LIMIT)
+    with_option(alloc, command, "within", "0", 0, WITHIN_LIMIT)
 }
 
 /// The request of its matches.
@@ -180,5 +183,57 @@ pub(crate) fn adapt_in<'a>(matches: &ArgMatches<'a>) -> Request<'a>
         name_in(matches, "bench"),
         name_in(matches, "result"),
         name_in(matches, "plan"),
+    )
+}
+
+/// Three names, of which the last is a log.
+pub(crate) fn log_command<'a>(alloc: Global, name: &'a str) -> Result<Command<'a>, AllocError>
+    ensures { IfOk result (λ c. app_of c ≡ log_app name.entry.now) }
+{
+    two_names(alloc, name, "bench", "result")?.arg(name_arg(alloc, "log"))
+}
+
+/// The request of the matches of `expect`.
+pub(crate) fn expect_in<'a>(matches: &ArgMatches<'a>) -> Request<'a>
+    ensures asked { asked result ≡ expect_by (rows_of (found_of matches.now)) }
+    ensures limits { HasLimits result }
+{
+    Request::Expect(
+        name_in(matches, "bench"),
+        name_in(matches, "result"),
+        name_in(matches, "log"),
+    )
+}
+
+/// Three names and an option.
+pub(crate) fn suspects_command<'a>(alloc: Global) -> Result<Command<'a>, AllocError>
+    ensures { IfOk result (λ c. app_of c ≡ suspects_app) }
+{
+    let command = log_command(alloc, "suspects")?;
+    with_option(alloc, command, "most", "20", 1, MOST_LIMIT)
+}
+
+/// The request of its matches.
+pub(crate) fn suspects_in<'a>(matches: &ArgMatches<'a>) -> Request<'a>
+    ensures asked { asked result ≡ suspects_by (rows_of (found_of matches.now)) }
+    ensures limits { HasLimits result }
+{
+    Request::Suspects(
+        name_in(matches, "bench"),
+        name_in(matches, "result"),
+        name_in(matches, "log"),
+        number_in(matches, "most", 1, MOST_LIMIT),
+    )
+}
+
+/// The request of the matches of `cover`.
+pub(crate) fn cover_in<'a>(matches: &ArgMatches<'a>) -> Request<'a>
+    ensures asked { asked result ≡ cover_by (rows_of (found_of matches.now)) }
+    ensures limits { HasLimits result }
+{
+    Request::Cover(
+        name_in(matches, "bench"),
+        name_in(matches, "result"),
+        name_in(matches, "log"),
     )
 }

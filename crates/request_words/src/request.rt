@@ -7,8 +7,9 @@ ghost use Rattle.request_words.specs.Asked.{asked, HasLimits};
 
 use crate::arguments::{WordsFault, name_in, parse, two_names};
 use crate::commands::{
-    adapt_command, adapt_in, compact_command, compact_in, dict_command, dict_in, faults_command,
-    faults_in, gen_command, gen_in, rank_command, rank_in, synth_command, synth_in,
+    adapt_command, adapt_in, compact_command, compact_in, cover_in, dict_command, dict_in,
+    expect_in, faults_command, faults_in, gen_command, gen_in, log_command, rank_command, rank_in,
+    suspects_command, suspects_in, synth_command, synth_in,
 };
 use clap::{ArgMatches, Command};
 use result_file::Budgets;
@@ -29,6 +30,9 @@ pub(crate) enum Verb {
     Rank,
     Adapt,
     Follow,
+    Expect,
+    Suspects,
+    Cover,
 }
 
 /// What the entries of a dictionary tell of a number: at which patterns it answers otherwise than the fault-free circuit, all
@@ -67,6 +71,12 @@ pub enum Request<'a> {
     Adapt(&'a str, &'a str, &'a str),
     /// To tell where a log of answers leads in a plan.
     Follow(&'a str, &'a str),
+    /// To write the log that a chip without a fault gives, for a netlist and a result.
+    Expect(&'a str, &'a str, &'a str),
+    /// To list the classes that a partial log suspects, so many at the most, for a netlist and a result.
+    Suspects(&'a str, &'a str, &'a str, u32),
+    /// To list classes that together explain what fails in a partial log, for a netlist and a result.
+    Cover(&'a str, &'a str, &'a str),
 }
 
 /// The request of the words: the first is a command, which reads the others.
@@ -103,6 +113,9 @@ fn verb_named(name: &str) -> Option<Verb>
         "rank" => Some(Verb::Rank),
         "adapt" => Some(Verb::Adapt),
         "follow" => Some(Verb::Follow),
+        "expect" => Some(Verb::Expect),
+        "suspects" => Some(Verb::Suspects),
+        "cover" => Some(Verb::Cover),
         _ => None,
     }
 }
@@ -121,7 +134,7 @@ fn read_request(alloc: Global, verb: Verb, words: &[String]) -> Result<Request<'
 }
 
 // How `clap` reads the words behind a command's name.
-#[tactic(auto, unfolding(crate::specs::Request::check_app, crate::specs::Request::convert_app, crate::specs::Request::diagnose_app, crate::specs::Request::sim_app, crate::specs::Request::follow_app))]
+#[tactic(auto, unfolding(crate::specs::Request::check_app, crate::specs::Request::convert_app, crate::specs::Request::diagnose_app, crate::specs::Request::sim_app, crate::specs::Request::follow_app, crate::specs::Request::expect_app, crate::specs::Request::cover_app))]
 fn definition<'a>(alloc: Global, verb: Verb) -> Result<Command<'a>, AllocError>
     ensures { IfOk result (λ c. app_of c ≡ app_for verb) }
 {
@@ -138,6 +151,9 @@ fn definition<'a>(alloc: Global, verb: Verb) -> Result<Command<'a>, AllocError>
         Verb::Rank => rank_command(alloc),
         Verb::Adapt => adapt_command(alloc),
         Verb::Follow => two_names(alloc, "follow", "plan", "log"),
+        Verb::Expect => log_command(alloc, "expect"),
+        Verb::Suspects => suspects_command(alloc),
+        Verb::Cover => log_command(alloc, "cover"),
     }
 }
 
@@ -165,5 +181,8 @@ fn requested<'a>(verb: Verb, matches: &ArgMatches<'a>) -> Option<Request<'a>>
         Verb::Rank => Some(rank_in(matches)),
         Verb::Adapt => Some(adapt_in(matches)),
         Verb::Follow => Some(Request::Follow(name_in(matches, "plan"), name_in(matches, "log"))),
+        Verb::Expect => Some(expect_in(matches)),
+        Verb::Suspects => Some(suspects_in(matches)),
+        Verb::Cover => Some(cover_in(matches)),
     }
 }

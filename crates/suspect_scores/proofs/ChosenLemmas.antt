@@ -18,7 +18,7 @@ use Rattle.suspect_scores.specs.declared.choices.Choice.{Choice}
 use Rattle.suspect_scores.specs.declared.choosing.Best.{Best}
 use Rattle.suspect_scores.specs.Scores.{is_failing, explains, explained_count}
 use Rattle.suspect_scores.specs.Scored.{count_to}
-use Rattle.suspect_scores.specs.Marks.{line_at}
+use Rattle.suspect_scores.specs.Marks.{logged_line}
 use Rattle.suspect_scores.specs.Listed.{representatives}
 use Rattle.suspect_scores.specs.Covering.{Covers, IsCover, left_by}
 use Rattle.suspect_scores.specs.Chosen.{explained_by, explained_row, AreNoted, left_count, AreAllLeft, IsWithout, count_at, IsBestOf, AreChosenFrom}
@@ -193,7 +193,7 @@ count_first p n =
     let shifted = count_shifted p (λ k. p (suc k)) 1 0 n (λ k h. let at : 1 + k ≡ suc (0 + k) = omega arith in ap p at) in
     omega (arith, sum_by-cons (one_of p) 0 (range_with_len 1 n), shifted)
 
-kept_count : (f e : ℕ → Bool) (p q : Line → Bool) (lines : List Line) → ((k : ℕ) → k < length lines → e k ≡ (p (line_at lines k) && q (line_at lines k))) → count_to (λ k. f k && e k) (length lines) ≡ count_by q (kept f p lines)
+kept_count : (f e : ℕ → Bool) (p q : Line → Bool) (lines : List Line) → ((k : ℕ) → k < length lines → e k ≡ (p (logged_line lines k) && q (logged_line lines k))) → count_to (λ k. f k && e k) (length lines) ≡ count_by q (kept f p lines)
 kept_count f e p q [] same = refl
 kept_count f e p q (l ∷ lines) same = by (kept_count (λ k. f (suc k)) (λ k. e (suc k)) p q lines (λ k h. same (suc k) (omega (arith, h)))) (f 0) (p l) refl refl
   where
@@ -211,7 +211,7 @@ kept_count f e p q (l ∷ lines) same = by (kept_count (λ k. f (suc k)) (λ k. 
         let are : kept f p (l ∷ lines) ≡ kept (λ k. f (suc k)) p lines = λ i. cond (fa i && p l) (l ∷ kept (λ k. f (suc k)) p lines) (kept (λ k. f (suc k)) p lines) in
         omega (arith, count_first (λ k. f k && e k) (length lines), one, so, ap (count_by q) are)
 
-kept_without : (f g e : ℕ → Bool) (p q : Line → Bool) (lines : List Line) → ((k : ℕ) → k < length lines → e k ≡ (p (line_at lines k) && q (line_at lines k))) → ((k : ℕ) → k < length lines → g k ≡ (f k && not (e k)))
+kept_without : (f g e : ℕ → Bool) (p q : Line → Bool) (lines : List Line) → ((k : ℕ) → k < length lines → e k ≡ (p (logged_line lines k) && q (logged_line lines k))) → ((k : ℕ) → k < length lines → g k ≡ (f k && not (e k)))
     → kept g p lines ≡ filter (λ l. not (q l)) (kept f p lines)
 kept_without f g e p q [] same without = refl
 kept_without f g e p q (l ∷ lines) same without =
@@ -245,7 +245,7 @@ module _ (t : ClassTable) (table : Answers) (lines : List Line) (rows : List (Li
   abbrev those : List Bool → List Line
   those left = kept (bit_at left) (is_failing table) lines
 
-  bit_is : (p : ℕ) → p < length (representatives t) → (k : ℕ) → k < length lines → bit_at (row_at rows p) k ≡ (is_failing table (line_at lines k) && explains table (number p) (line_at lines k))
+  bit_is : (p : ℕ) → p < length (representatives t) → (k : ℕ) → k < length lines → bit_at (row_at rows p) k ≡ (is_failing table (logged_line lines k) && explains table (number p) (logged_line lines k))
   bit_is p hp k h = ap (λ (row : List Bool). bit_at row k) (are p hp) ∙ get_or-map (λ (line : Line). is_failing table line && explains table (number p) line) lines k (0, []) false h
 
   count_is : (left : List Bool) → length left ≡ length lines → (p : ℕ) → p < length (representatives t) → count_at rows (representatives t) left p ≡ explained_count table (number p) (those left)

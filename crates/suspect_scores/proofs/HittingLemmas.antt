@@ -21,7 +21,7 @@ use Rattle.suspect_scores.specs.declared.suspect.Suspect.{Suspect}
 use Rattle.suspect_scores.specs.Listed.{suspect_of}
 use Rattle.suspect_scores.specs.Scores.{is_failing, explains}
 use Rattle.suspect_scores.specs.Scored.{has_hit, scored, line_score, does_explain}
-use Rattle.suspect_scores.specs.Marks.{line_at, AreLogged, IsLogged}
+use Rattle.suspect_scores.specs.Marks.{logged_line, AreLogged, IsLogged}
 use Rattle.suspect_scores.specs.declared.marks.Marks.{Marks}
 use Rattle.suspect_scores.specs.Chosen.{explained_row, explained_by, AreNoted}
 use Rattle.suspect_scores.proofs.ScoredLemmas.{scored_is, explains_is}
@@ -76,18 +76,18 @@ pub score_right : (s : Setting) (lines : List Line) (table : Answers) (logged : 
 score_right s lines table logged some answers is are own known place h =
     let c = s.circuit.now in
     let whole = is_table c s.patterns.now table are in
-    let inside : (k : ℕ) → k < length lines → (line_at lines k).0 < length table.rows = λ k low. omega (arith, is.inside k (0, []) low, patterns_are c s.patterns.now table are) in
+    let inside : (k : ℕ) → k < length lines → (logged_line lines k).0 < length table.rows = λ k low. omega (arith, is.inside k (0, []) low, patterns_are c s.patterns.now table are) in
     let number : get_or some place 0 < table.numbers = omega (arith, known place 0 h, are.numbers) in
     ap (scored logged.marks answers place (get_or some place 0)) own.sizes.patterns_are
     ∙ scored_is table lines some logged.marks answers place (is.marks_are table are) own h (λ k d low. is.wide k d low ∙ sym are.positions)
-    (λ k low. whole.positions (line_at lines k).0 0 (inside k low) (omega (arith, some_number c, are.numbers))) (λ k low. whole.positions (line_at lines k).0 (get_or some place 0) (inside k low) number)
+    (λ k low. whole.positions (logged_line lines k).0 0 (inside k low) (omega (arith, some_number c, are.numbers))) (λ k low. whole.positions (logged_line lines k).0 (get_or some place 0) (inside k low) number)
 
 pub explained_right : (s : Setting) (lines : List Line) (table : Answers) (logged : Logged) (some : List ℕ) (answers : Answers) → IsLogged s lines logged → AreAnswersAt s table → AreLogged table lines some answers → All (λ number. number < fault_count s.circuit.now) some
     → (place : ℕ) → place < length some → explained_row logged.marks answers place ≡ explained_by table lines (get_or some place 0)
 explained_right s lines table logged some answers is are own known place h =
     let c = s.circuit.now in
     let whole = is_table c s.patterns.now table are in
-    let inside : (k : ℕ) → k < length lines → (line_at lines k).0 < length table.rows = λ k low. omega (arith, is.inside k (0, []) low, patterns_are c s.patterns.now table are) in
+    let inside : (k : ℕ) → k < length lines → (logged_line lines k).0 < length table.rows = λ k low. omega (arith, is.inside k (0, []) low, patterns_are c s.patterns.now table are) in
     let number : get_or some place 0 < table.numbers = omega (arith, known place 0 h, are.numbers) in
     let row : ℕ → Bool = λ line. does_explain (line_score logged.marks answers place line) in
     ap (λ (n : ℕ). map row (range_with_len 0 n)) own.sizes.patterns_are
@@ -96,7 +96,7 @@ explained_right s lines table logged some answers is are own known place h =
     let start : 0 + k ≡ k = omega arith in
     ap row start
     ∙ explains_is table lines some logged.marks answers place (is.marks_are table are) own h (λ k d low. is.wide k d low ∙ sym are.positions)
-    (λ k low. whole.positions (line_at lines k).0 0 (inside k low) (omega (arith, some_number c, are.numbers))) (λ k low. whole.positions (line_at lines k).0 (get_or some place 0) (inside k low) number) k low)
+    (λ k low. whole.positions (logged_line lines k).0 0 (inside k low) (omega (arith, some_number c, are.numbers))) (λ k low. whole.positions (logged_line lines k).0 (get_or some place 0) (inside k low) number) k low)
 
 -- Of the first numbers, so many, the rows say what they explain.
 pub record AreExplained (s : Setting) (logged : Logged) (numbers : List ℕ) (first : ℕ) (rows : List (List Bool)) : Type 0 where

@@ -13,5 +13,6 @@ pub mod MarkLemmas
 pub mod LoggedLemmas
 pub mod ScoredLemmas
 pub mod ExpectedLemmas
+pub mod FailedLemmas
 pub mod HittingLemmas
 pub mod ChosenLemmas

@@ -11,7 +11,7 @@ use Rattle.net_model.specs.PatternRows.{IsAnswerRow}
 use Rattle.table_dicts.specs.declared.setting.Setting.{Setting}
 use Rattle.table_dicts.specs.AnswerTable.{Answers, HasSizes, AreAnswerable, AreAnswers, answer_to}
 use Rattle.ranked_diag.specs.PartialLog.{Line, AreInOrder, ArePartial, patterns_of}
-use Rattle.suspect_scores.specs.Marks.{line_at, logged_vectors, AreLogged}
+use Rattle.suspect_scores.specs.Marks.{logged_line, logged_vectors, AreLogged}
 use Rattle.suspect_scores.proofs.MarkLemmas.{got_line}
 
 pub vectors_more : (patterns : List (List Bool)) (lines : List Line) (k : ℕ) (line : Line) → k < length lines → slice_get lines k ≡ Some line
@@ -20,7 +20,7 @@ vectors_more patterns lines k line h got vector d inside is =
     let at : Line → List Bool = λ l. get_or patterns l.0 [] in
     let same : get_or patterns line.0 [] ≡ vector = get_or_default patterns line.0 [] d inside ∙ sym is in
     ap (map at) (take_more lines k (0, []) h)
-    ∙ (map-append at (take k lines) (line_at lines k ∷ []) ∙ ((λ i. map at (take k lines) ++ at (got_line lines k line got i) ∷ []) ∙ (λ i. map at (take k lines) ++ same i ∷ [])))
+    ∙ (map-append at (take k lines) (logged_line lines k ∷ []) ∙ ((λ i. map at (take k lines) ++ at (got_line lines k line got i) ∷ []) ∙ (λ i. map at (take k lines) ++ same i ∷ [])))
 
 -- ---- lines in order
 
@@ -52,7 +52,7 @@ vectors_answerable c s lines vectors is inside few are = subst (AreAnswerable c 
   widths = λ k d h.
       let at : Line → List Bool = λ l. get_or s.patterns.now l.0 [] in
       let below : k < length lines = omega (arith, h, length-map lines at) in
-      ap length (get_or-map at lines k (0, []) d below) ∙ is.widths (line_at lines k).0 [] (inside k (0, []) below);
+      ap length (get_or-map at lines k (0, []) d below) ∙ is.widths (logged_line lines k).0 [] (inside k (0, []) below);
   few = omega (arith, is.few, few, length-map lines (λ (l : Line). get_or s.patterns.now l.0 []));
 })
 
@@ -71,7 +71,7 @@ module _ (c : Circuit) (patterns : List (List Bool)) (table : Answers) (are : Ar
       rows_are (l ∷ some) all =
           (zip_at (IsAnswerRow c) patterns table.rows l.0 [] [] are.rows (All-head (λ (line : Line). line.0 < length patterns) l some all), rows_are some (All-tail (λ (line : Line). line.0 < length patterns) l some all))
 
-  pub logged_answer : (k number : ℕ) → k < length lines → answer_to logged_table k number ≡ answer_to table (line_at lines k).0 number
+  pub logged_answer : (k number : ℕ) → k < length lines → answer_to logged_table k number ≡ answer_to table (logged_line lines k).0 number
   logged_answer k number h = ap (λ (row : List (List Bool)). get_or row number []) (get_or-map (λ (l : Line). get_or table.rows l.0 []) lines k (0, []) [] h)
 
 abbrev pub AreAllAnswers : Circuit → List (List Bool) → List ℕ → Answers → Type 0

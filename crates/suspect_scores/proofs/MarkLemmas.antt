@@ -8,7 +8,7 @@ use Rattle.table_dicts.proofs.RowLemmas.{rows_more}
 use Rattle.ranked_diag.specs.declared.partial.Seen.{Seen}
 use Rattle.ranked_diag.specs.PartialLog.{Line}
 use Rattle.suspect_scores.specs.declared.marks.Marks.{Marks}
-use Rattle.suspect_scores.specs.Marks.{line_at, wrong_row, right_row, AreMarksBegun, AreMarksOf}
+use Rattle.suspect_scores.specs.Marks.{logged_line, wrong_row, right_row, AreMarksBegun, AreMarksOf}
 use Rattle.suspect_scores.specs.Scored.{AreMarkRows}
 
 -- ---- one row
@@ -36,13 +36,13 @@ pub record IsMarkedTo (old new : Marks) (line at : ℕ) (seen : List Seen) : Typ
 
 -- ---- all rows
 
-pub got_line : (lines : List Line) (k : ℕ) (line : Line) → slice_get lines k ≡ Some line → line_at lines k ≡ line
+pub got_line : (lines : List Line) (k : ℕ) (line : Line) → slice_get lines k ≡ Some line → logged_line lines k ≡ line
 got_line [] k line e = let clash = e in cc
 got_line (x ∷ lines) zero line e = let same = e in cc
 got_line (x ∷ lines) (suc k) line e = got_line lines k line e
 
 pub marks_more : (free : ℕ → List Bool) (positions : ℕ) (lines : List Line) (k : ℕ) (seen : List Seen) (old new : Marks) (freed : List (List Bool)) → AreMarksBegun free positions lines k old → IsRowSet old.free freed k (free k) → new.free ≡ freed
-    → (line_at lines k).1 ≡ seen → IsRowSet old.wrong new.wrong k (wrong_row (row_at freed k) seen) → IsRowSet old.right new.right k (right_row (row_at freed k) seen) → AreMarksBegun free positions lines (k + 1) new
+    → (logged_line lines k).1 ≡ seen → IsRowSet old.wrong new.wrong k (wrong_row (row_at freed k) seen) → IsRowSet old.right new.right k (right_row (row_at freed k) seen) → AreMarksBegun free positions lines (k + 1) new
 marks_more free positions lines k seen old new freed so_far one same is wrong right = record {
   frees = subst (λ rows. AreRowsBegun (length lines) positions (k + 1) free rows) (sym same) (rows_more so_far.frees one);
   wrongs = rows_more so_far.wrongs (subst (λ row. IsRowSet old.wrong new.wrong k row) ((λ i. wrong_row (one.here i) seen) ∙ (λ i. wrong_row (free k) (sym is i))) wrong);
@@ -56,8 +56,8 @@ mark_rows free positions lines done m are = record { frees = are.frees.are; wron
 pub marks_as : (free other : ℕ → List Bool) (positions places : ℕ) (lines : List Line) (m : Marks) → positions ≡ places → ((k : ℕ) → k < length lines → free k ≡ other k) → AreMarksOf free positions lines m → AreMarksOf other places lines m
 marks_as free other positions places lines m wide same are = subst (λ n. AreMarksOf other n lines m) wide (record {
   frees = record { are = are.frees.are; begun = λ k h. are.frees.begun k h ∙ same k h };
-  wrongs = record { are = are.wrongs.are; begun = λ k h. are.wrongs.begun k h ∙ (λ i. wrong_row (same k h i) (line_at lines k).1) };
-  rights = record { are = are.rights.are; begun = λ k h. are.rights.begun k h ∙ (λ i. right_row (same k h i) (line_at lines k).1) };
+  wrongs = record { are = are.wrongs.are; begun = λ k h. are.wrongs.begun k h ∙ (λ i. wrong_row (same k h i) (logged_line lines k).1) };
+  rights = record { are = are.rights.are; begun = λ k h. are.rights.begun k h ∙ (λ i. right_row (same k h i) (logged_line lines k).1) };
 })
 
 pub line_long : (positions : ℕ) (lines : List Line) (k : ℕ) (line : Line) → slice_get lines k ≡ Some line → All (λ l. length l.1 ≡ positions) lines → k < length lines → length line.1 ≡ positions

@@ -20,7 +20,7 @@ use Rattle.table_dicts.proofs.FailLemmas.{is_table}
 use Rattle.ranked_diag.specs.declared.partial.Seen.{Seen}
 use Rattle.ranked_diag.specs.Seen.{differs, differing_bits}
 use Rattle.ranked_diag.specs.PartialLog.{Line, patterns_of}
-use Rattle.suspect_scores.specs.Scores.{Told, is_hit, is_missed, is_false, told_of, wrong_bits, failing, explained_count, bits_where, hit_bits, missed_bits, false_bits}
+use Rattle.suspect_scores.specs.Scores.{SeenBits, is_hit, is_missed, is_false, told_of, wrong_bits, failing, explained_count, bits_where, hit_bits, missed_bits, false_bits}
 use Rattle.suspect_scores.specs.Laws.{IsClassed, CircuitsAreClassed, ScoreAlike, MembersScoreAlike, HitAndMissedAddUp}
 
 pub circuits_are_classed : CircuitsAreClassed
@@ -65,7 +65,7 @@ module _ (t : ClassTable) (table : Answers) (classed : IsClassed t table) where
 score_alike : (table : Answers) (lines : List Line) (m n : ℕ) → ((pattern : ℕ) → answer_to table pattern m ≡ answer_to table pattern n) → ScoreAlike table lines m n
 unfolding explained_count hit_bits missed_bits false_bits
 score_alike table lines m n same =
-    let counted : (test : Told → Bool) → bits_where table test lines m ≡ bits_where table test lines n = λ test i. sum_by (λ line. count_by test (zip line.1 (zip (answer_to table line.0 0) (same line.0 i)))) lines in
+    let counted : (test : SeenBits → Bool) → bits_where table test lines m ≡ bits_where table test lines n = λ test i. sum_by (λ line. count_by test (zip line.1 (zip (answer_to table line.0 0) (same line.0 i)))) lines in
     record { explained = λ i. count_by (λ line. differing_bits line.1 (same line.0 i) == 0) (failing table lines); hit = counted is_hit; missed = counted is_missed; wrong = counted is_false }
 
 pub members_score_alike : MembersScoreAlike

@@ -15,10 +15,10 @@ use Rattle.ranked_diag.specs.PartialLog.{Line}
 use Rattle.suspect_scores.specs.declared.marks.Marks.{Marks}
 use Rattle.suspect_scores.specs.declared.scoring.LineScore.{LineScore}
 use Rattle.suspect_scores.specs.declared.suspect.Suspect.{Suspect}
-use Rattle.suspect_scores.specs.Scores.{Told, is_hit, is_missed, is_false, told_of, is_failing, explains, explained_count, hit_bits, missed_bits, false_bits}
+use Rattle.suspect_scores.specs.Scores.{SeenBits, is_hit, is_missed, is_false, told_of, is_failing, explains, explained_count, hit_bits, missed_bits, false_bits}
 use Rattle.suspect_scores.specs.Listed.{suspect_of}
-use Rattle.suspect_scores.specs.Scored.{count_to, is_other, is_changed, score_to, line_score, scored, does_explain, IsLineAdded, CanAddLine}
-use Rattle.suspect_scores.specs.Marks.{line_at, AreMarks, AreLogged}
+use Rattle.suspect_scores.specs.Scored.{count_to, is_other, is_changed, score_to, line_score, scored, does_explain, HasLineMore, CanAddLine}
+use Rattle.suspect_scores.specs.Marks.{logged_line, AreMarks, AreLogged}
 use Rattle.suspect_scores.proofs.Tests.{both_true}
 use Rattle.suspect_scores.proofs.ScoreLemmas.{count_more, hit_or_missed}
 use Rattle.suspect_scores.proofs.RangeSums.{one_of, sum_more, sum_listed, count_listed, count_small, sum_small}
@@ -26,7 +26,7 @@ use Rattle.suspect_scores.proofs.MarkLemmas.{tested_at}
 
 -- ---- a line more
 
-pub added : (m : Marks) (t : Answers) (place number line : ℕ) (old new : Suspect) → old ≡ scored m t place number line → IsLineAdded old new (line_score m t place line) → new ≡ scored m t place number (line + 1)
+pub added : (m : Marks) (t : Answers) (place number line : ℕ) (old new : Suspect) → old ≡ scored m t place number line → HasLineMore old new (line_score m t place line) → new ≡ scored m t place number (line + 1)
 unfolding scored
 added m t place number line old new is more =
     let score = line_score m t place in
@@ -139,21 +139,21 @@ count_filtered {X} p q (x ∷ xs) = by (count_filtered p q xs) (p x) refl
         ap (count_by q) kept ∙ omega (arith, count_more (λ y. p y && q y) x xs, none, rest)
 
 module _ (table : Answers) (lines : List Line) (numbers : List ℕ) (m : Marks) (answers : Answers) (place : ℕ) (marks : AreMarks table lines m) (logged : AreLogged table lines numbers answers) (at : place < length numbers)
-    (wide : All (λ line. length line.1 ≡ table.positions) lines) (free_wide : (k : ℕ) → k < length lines → length (answer_to table (line_at lines k).0 0) ≡ table.positions)
-    (own_wide : (k : ℕ) → k < length lines → length (answer_to table (line_at lines k).0 (get_or numbers place 0)) ≡ table.positions) where
+    (wide : All (λ line. length line.1 ≡ table.positions) lines) (free_wide : (k : ℕ) → k < length lines → length (answer_to table (logged_line lines k).0 0) ≡ table.positions)
+    (own_wide : (k : ℕ) → k < length lines → length (answer_to table (logged_line lines k).0 (get_or numbers place 0)) ≡ table.positions) where
   abbrev pub number : ℕ
   number = get_or numbers place 0
 
   abbrev pub seen : ℕ → List Seen
-  seen k = (line_at lines k).1
+  seen k = (logged_line lines k).1
 
   abbrev pub free : ℕ → List Bool
-  free k = answer_to table (line_at lines k).0 0
+  free k = answer_to table (logged_line lines k).0 0
 
   abbrev pub own : ℕ → List Bool
-  own k = answer_to table (line_at lines k).0 number
+  own k = answer_to table (logged_line lines k).0 number
 
-  abbrev pub told : ℕ → List Told
+  abbrev pub told : ℕ → List SeenBits
   told k = zip (seen k) (zip (free k) (own k))
 
   module _ (line : ℕ) (h : line < length lines) where
@@ -175,7 +175,7 @@ module _ (table : Answers) (lines : List Line) (numbers : List ℕ) (m : Marks) 
     right_is : (k : ℕ) → k < length (seen line) → row_bit m.right line k ≡ (is_seen (get_or (seen line) k Unseen) && not (differs (get_or (seen line) k Unseen) (bit_at (free line) k)))
     right_is k low = (λ i. bit_at (marks.rights.begun line h i) k) ∙ tested_at (λ s b. is_seen s && not (differs s b)) (free line) (seen line) k Unseen frees low
 
-    counted : (p : ℕ → Bool) (test : Told → Bool) → ((k : ℕ) → k < length (seen line) → p k ≡ test (get_or (seen line) k Unseen, (bit_at (free line) k, bit_at (own line) k))) → count_to p answers.positions ≡ count_by test (told line)
+    counted : (p : ℕ → Bool) (test : SeenBits → Bool) → ((k : ℕ) → k < length (seen line) → p k ≡ test (get_or (seen line) k Unseen, (bit_at (free line) k, bit_at (own line) k))) → count_to p answers.positions ≡ count_by test (told line)
     counted p test same =
         let long = told_long (seen line) (free line) (own line) frees owns in
         let many : answers.positions ≡ length (told line) = logged.sizes.positions_are ∙ (sym seen_long ∙ sym long) in
@@ -201,7 +201,7 @@ module _ (table : Answers) (lines : List Line) (numbers : List ℕ) (m : Marks) 
         (λ k low. ap₂ (λ (a b : Bool). a && b) (right_is k low) (changed_is k)
         ∙ sym (both_and (is_seen (get_or (seen line) k Unseen)) (not (differs (get_or (seen line) k Unseen) (bit_at (free line) k))) (not (beq (bit_at (own line) k) (bit_at (free line) k)))))
 
-    pub explains_is : does_explain (line_score m answers place line) ≡ (is_failing table (line_at lines line) && explains table number (line_at lines line))
+    pub explains_is : does_explain (line_score m answers place line) ≡ (is_failing table (logged_line lines line) && explains table number (logged_line lines line))
     explains_is =
         let same = owns ∙ sym frees in
         (λ i. nat_lt 0 (hit_is i) && (missed_is i == 0 && false_is i == 0))

@@ -12,8 +12,8 @@ use Rattle.suspect_scores.specs.declared.logged.Logged.{Logged}
 use Rattle.suspect_scores.specs.Scored.{AreMarkRows}
 
 -- the line at a place
-abbrev pub line_at : List Line → ℕ → Line
-line_at lines k = slice_index_or lines k (0, [])
+abbrev pub logged_line : List Line → ℕ → Line
+logged_line lines k = slice_index_or lines k (0, [])
 
 -- the pattern of each line
 abbrev pub logged_vectors : List (List Bool) → List Line → List (List Bool)
@@ -30,8 +30,8 @@ right_row free seen = map (λ x. is_seen x.0 && not (differs x.0 x.1)) (zip seen
 -- There is a row for each line, and the first ones, so many, are marked.
 pub record AreMarksBegun (free : ℕ → List Bool) (positions : ℕ) (lines : List Line) (done : ℕ) (m : Marks) : Type 0 where
   pub frees : AreRowsBegun (length lines) positions done free m.free
-  pub wrongs : AreRowsBegun (length lines) positions done (λ k. wrong_row (free k) (line_at lines k).1) m.wrong
-  pub rights : AreRowsBegun (length lines) positions done (λ k. right_row (free k) (line_at lines k).1) m.right
+  pub wrongs : AreRowsBegun (length lines) positions done (λ k. wrong_row (free k) (logged_line lines k).1) m.wrong
+  pub rights : AreRowsBegun (length lines) positions done (λ k. right_row (free k) (logged_line lines k).1) m.right
 
 -- All are, by what number 0 answers to the pattern of each line.
 abbrev pub AreMarksOf : (ℕ → List Bool) → ℕ → List Line → Marks → Type 0
@@ -39,21 +39,21 @@ AreMarksOf free positions lines m = AreMarksBegun free positions lines (length l
 
 -- So they are by a table of answers.
 abbrev pub AreMarks : Answers → List Line → Marks → Type 0
-AreMarks table lines m = AreMarksOf (λ k. answer_to table (line_at lines k).0 0) table.positions lines m
+AreMarks table lines m = AreMarksOf (λ k. answer_to table (logged_line lines k).0 0) table.positions lines m
 
 -- The answers are those of these numbers to the patterns of the lines.
 pub record AreLogged (table : Answers) (lines : List Line) (numbers : List ℕ) (answers : Answers) : Type 0 where
   pub sizes : HasSizes answers (length lines) (length numbers) table.positions
-  pub each : (k place : ℕ) → k < length lines → place < length numbers → answer_to answers k place ≡ answer_to table (line_at lines k).0 (slice_index numbers place)
+  pub each : (k place : ℕ) → k < length lines → place < length numbers → answer_to answers k place ≡ answer_to table (logged_line lines k).0 (slice_index numbers place)
 
 -- The patterns can be answered, and there are marks for each.
-pub record IsAnswered (s : Setting) (logged : Logged) : Type 0 where
+pub record IsMarked (s : Setting) (logged : Logged) : Type 0 where
   pub answerable : AreAnswerable s.circuit.now s.faults.now logged.patterns.items
   pub marks : AreMarkRows (length logged.patterns.items) (length s.circuit.now.positions) logged.marks
 
 -- The patterns and marks are those of the lines.
 pub record IsLogged (s : Setting) (lines : List Line) (logged : Logged) : Type 0 where
-  pub answered : IsAnswered s logged
+  pub answered : IsMarked s logged
   pub inside : All (λ line. line.0 < length s.patterns.now) lines
   pub wide : All (λ line. length line.1 ≡ length s.circuit.now.positions) lines
   pub patterns_are : logged.patterns.items ≡ logged_vectors s.patterns.now lines

@@ -1,6 +1,7 @@
 -- The score of a number by the marks of a log.
-use Rattle.std.specs.Prelude.{◌≡◌, ℕ, ◌+◌, ◌<◌, ◌^◌, ◌==◌, ◌&&◌, Bool, not, sum_by, count_by, nat_lt, if◌then◌else◌}
+use Rattle.std.specs.Prelude.{◌≡◌, ℕ, ◌+◌, ◌<◌, ◌^◌, ◌==◌, ◌&&◌, Bool, not, List, length, sum_by, count_by, nat_lt, if◌then◌else◌}
 use Rattle.std.specs.List.{range_with_len}
+use Rattle.net_model.specs.Answer.{bit_at}
 use Rattle.net_model.specs.Rows.{bit_of, row_bit}
 use Rattle.table_dicts.specs.AnswerTable.{Answers, answer_bit}
 use Rattle.table_dicts.specs.Rows.{AreRows}
@@ -31,6 +32,10 @@ score_to changed wrong right n = record {
   missed_bits = count_to (λ k. wrong k && not (changed k)) n;
   false_bits = count_to (λ k. right k && changed k) n;
 }
+
+-- how many bits of a row are set
+unfoldable pub row_bits : List Bool → ℕ
+row_bits row = count_to (bit_at row) (length row)
 
 -- the score of a word of each
 abbrev pub word_score : ℕ → ℕ → ℕ → LineScore
@@ -79,7 +84,7 @@ pub record CanAddLine (s : Suspect) (line : LineScore) : Type 0 where
   pub wrong : s.false_bits + line.false_bits < 2 ^ 64
 
 -- The new score has a line more.
-pub record IsLineAdded (old new : Suspect) (line : LineScore) : Type 0 where
+pub record HasLineMore (old new : Suspect) (line : LineScore) : Type 0 where
   pub number : new.number ≡ old.number
   pub explained : new.explained ≡ old.explained + (if does_explain line then 1 else 0)
   pub hit : new.hit_bits ≡ old.hit_bits + line.hit_bits

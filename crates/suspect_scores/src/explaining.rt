@@ -7,7 +7,7 @@ ghost use Rattle.table_dicts.specs.AnswerTable.{Answers};
 ghost use Rattle.table_dicts.specs.Rows.{AreRows, IsRowSet};
 ghost use Rattle.table_dicts.specs.Setting.{AreAnswersAt};
 ghost use Rattle.ranked_diag.specs.PartialLog.{Line};
-ghost use Rattle.suspect_scores.specs.Marks.{IsLogged, IsAnswered};
+ghost use Rattle.suspect_scores.specs.Marks.{IsLogged, IsMarked};
 ghost use Rattle.suspect_scores.specs.Scored.{AreMarkRows};
 ghost use Rattle.suspect_scores.specs.Chosen.{explained_row, explained_by, AreNoted};
 
@@ -25,7 +25,7 @@ pub(crate) fn explained_rows(
     logged: &Logged,
     numbers: &[u32],
 ) -> Result<AnswerRows, AllocError>
-    requires answered { IsAnswered setting.now logged.now }
+    requires answered { IsMarked setting.now logged.now }
     requires numbers { All (λ number. number < fault_count setting.now.circuit.now) numbers.now }
     ensures shape { IfOk result (AreRows (length numbers.now) (length logged.now.patterns.items)) }
     ensures rows { IfOk result (λ rows. (lines : List Line) (table : Answers) → IsLogged setting.now lines logged.now → AreAnswersAt setting.now table → (place : ℕ) → place < length numbers.now → row_at rows place ≡ explained_by table lines (slice_index numbers.now place)) }

@@ -6,6 +6,7 @@ mod choosing;
 mod covering;
 mod expecting;
 mod explaining;
+mod failed;
 mod laws;
 mod logged;
 mod marks;
@@ -16,6 +17,7 @@ mod suspecting;
 pub use choices::{Choice, Cover};
 pub use covering::cover;
 pub use expecting::expected_log;
+pub use failed::count_failing;
 pub use laws::{
     circuits_are_classed, expected_log_lists_nothing, members_score_alike, one_cover_explains,
     one_list_of_suspects,

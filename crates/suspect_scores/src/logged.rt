@@ -5,7 +5,7 @@ ghost use Rattle.net_model.specs.FaultList.{fault_count};
 ghost use Rattle.table_dicts.specs.AnswerTable.{Answers, HasSizes};
 ghost use Rattle.table_dicts.specs.Setting.{IsSetting, AreAnswersAt};
 ghost use Rattle.ranked_diag.specs.PartialLog.{Line, ArePartial};
-ghost use Rattle.suspect_scores.specs.Marks.{IsLogged, AreLogged, IsAnswered, logged_vectors};
+ghost use Rattle.suspect_scores.specs.Marks.{IsLogged, AreLogged, IsMarked, logged_vectors};
 
 use crate::marks::Marks;
 use net_model::Vector;
@@ -47,7 +47,7 @@ impl Logged {
         setting: &Setting,
         numbers: &[u32],
     ) -> Result<AnswerTable, AllocError>
-        requires answered { IsAnswered setting.now self.now }
+        requires answered { IsMarked setting.now self.now }
         requires numbers { All (λ number. number < fault_count setting.now.circuit.now) numbers.now }
         requires count { length numbers.now < 2 ^ 32 }
         ensures sizes { IfOk result (λ answers. HasSizes answers (length self.now.patterns.items) (length numbers.now) (length setting.now.circuit.now.positions)) }

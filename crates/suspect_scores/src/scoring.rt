@@ -3,7 +3,7 @@
 ghost use Rattle.std.specs.Prelude.{◌≡◌, ◌+◌, ◌<◌, ◌^◌, length};
 ghost use Rattle.table_dicts.specs.AnswerTable.{IsTable};
 ghost use Rattle.table_dicts.specs.Rows.{AreRows};
-ghost use Rattle.suspect_scores.specs.Scored.{AreMarkRows, DoFit, score_sum, word_score, line_score, does_explain, scored, IsLineAdded, CanAddLine};
+ghost use Rattle.suspect_scores.specs.Scored.{AreMarkRows, DoFit, score_sum, word_score, line_score, does_explain, scored, HasLineMore, CanAddLine};
 
 use crate::marks::Marks;
 use crate::suspect::Suspect;
@@ -96,7 +96,7 @@ pub(crate) fn score(marks: &Marks, answers: &AnswerTable, place: u32, number: u3
 // Adds the score of a line.
 fn add_line(suspect: &mut Suspect, line: LineScore)
     requires { CanAddLine suspect.old line }
-    ensures { IsLineAdded suspect.old suspect.new line }
+    ensures { HasLineMore suspect.old suspect.new line }
 {
     suspect.explained += u32::from(line.explains());
     suspect.hit_bits += line.hit_bits;

@@ -7,7 +7,7 @@ ghost use Rattle.table_dicts.specs.AnswerTable.{Answers};
 ghost use Rattle.table_dicts.specs.Setting.{IsSetting, AreAnswersAt};
 ghost use Rattle.ranked_diag.specs.PartialLog.{Line, ArePartial};
 ghost use Rattle.suspect_scores.specs.Listed.{AreSuspects, suspect_of, suspect_cmp, unlike_bits};
-ghost use Rattle.suspect_scores.specs.Marks.{IsLogged, IsAnswered};
+ghost use Rattle.suspect_scores.specs.Marks.{IsLogged, IsMarked};
 ghost use Rattle.suspect_scores.specs.Scored.{AreMarkRows, has_hit, scored};
 
 use crate::logged::{Logged, TOGETHER, part};
@@ -45,7 +45,7 @@ fn hitting(
     logged: &Logged,
     numbers: &[u32],
 ) -> Result<Vec<Suspect>, AllocError>
-    requires answered { IsAnswered setting.now logged.now }
+    requires answered { IsMarked setting.now logged.now }
     requires numbers { All (λ number. number < fault_count setting.now.circuit.now) numbers.now }
     ensures { IfOk result (λ listed. (lines : List Line) (table : Answers) → IsLogged setting.now lines logged.now → AreAnswersAt setting.now table → listed.items ≡ filter has_hit (map (suspect_of table lines) numbers.now)) }
 {

@@ -5,6 +5,8 @@ pub returns : goal.returns
 returns c =
     let laws : HasLaws = record {
       results = c.file_is_refused_once.ensures.wrong;
+      one_spelling = c.record_is_spelled_once.ensures.once;
+      one_line = c.record_is_spelled_once.ensures.line;
       text = c.never_accepted_and_refused.ensures;
       walk = c.walk_reaches_itself.ensures;
       one = c.one_netlist.ensures;

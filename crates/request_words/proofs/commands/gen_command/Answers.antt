@@ -7,7 +7,7 @@ use Rattle.request_words.proofs.commands.gen_command.Goals as goal
 
 -- the options that it adds
 abbrev with_options : App → App
-with_options app = with_rule (with_rule (with_rule app (option_rule (codes "blocks") (codes "4") 65536)) (option_rule (codes "cubes") (codes "64") 1048576)) (option_rule (codes "conflicts") (codes "2000") 100000)
+with_options app = with_rule (with_rule (with_rule app (option_rule (codes "blocks") (codes "4") 0 65536)) (option_rule (codes "cubes") (codes "64") 0 1048576)) (option_rule (codes "conflicts") (codes "2000") 0 100000)
 
 pub returns : goal.returns
 unfolding gen_app

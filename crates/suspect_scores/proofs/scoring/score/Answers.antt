@@ -1,6 +1,6 @@
 use Rattle.std.proofs.Common.{length, refl, sym, subst, arith}
 use Rattle.suspect_scores.specs.declared.scoring.LineScore.{LineScore}
-use Rattle.suspect_scores.specs.Scored.{scored, CanAddLine, IsLineAdded}
+use Rattle.suspect_scores.specs.Scored.{scored, CanAddLine, HasLineMore}
 use Rattle.suspect_scores.proofs.ScoredLemmas.{added, can_add}
 use Rattle.suspect_scores.proofs.scoring.score.Goals as goal
 
@@ -17,4 +17,4 @@ add_line-requires c =
 pub loop-line-preserved : goal.loop-line-preserved
 loop-line-preserved c =
     added c.args.marks.now c.args.answers.now c.args.place c.args.number c.loop-line.line c.loop-line.suspect c.add_line.new.suspect c.loop-line.invariant
-    (subst (λ (s : LineScore). IsLineAdded c.loop-line.suspect c.add_line.new.suspect s) c.score_line.ensures c.add_line.ensures)
+    (subst (λ (s : LineScore). HasLineMore c.loop-line.suspect c.add_line.new.suspect s) c.score_line.ensures c.add_line.ensures)

@@ -4,7 +4,7 @@ use Rattle.std.proofs.lemmas.List.{length-map}
 use Rattle.net_model.proofs.Listed.{some_number}
 use Rattle.table_dicts.specs.AnswerTable.{answer_to}
 use Rattle.ranked_diag.specs.PartialLog.{Line}
-use Rattle.suspect_scores.specs.Marks.{line_at, logged_vectors}
+use Rattle.suspect_scores.specs.Marks.{logged_line, logged_vectors}
 use Rattle.suspect_scores.proofs.MarkLemmas.{marks_as, mark_rows, sized}
 use Rattle.suspect_scores.proofs.LoggedLemmas.{lines_inside, few_lines, vectors_answerable, are_logged}
 use Rattle.suspect_scores.proofs.logged.Logged.new.Goals as goal
@@ -48,5 +48,5 @@ returns c =
       patterns_are = are;
       marks_are = λ table answers.
           let logged = are_logged s.circuit.now s.patterns.now c.as_slice-logged.result.now lines table (0 ∷ []) c.in_ok-free.free answers inside slice_are c.in_ok-free.ensures.sizes c.in_ok-free.ensures.answers in
-          marks_as (λ k. answer_to c.in_ok-free.free k 0) (λ k. answer_to table (line_at lines k).0 0) c.in_ok-free.free.positions table.positions lines c.in_ok-marks.marks logged.sizes.positions_are (λ k h. logged.each k 0 h (omega arith)) c.in_ok-marks.ensures;
+          marks_as (λ k. answer_to c.in_ok-free.free k 0) (λ k. answer_to table (logged_line lines k).0 0) c.in_ok-free.free.positions table.positions lines c.in_ok-marks.marks logged.sizes.positions_are (λ k h. logged.each k 0 h (omega arith)) c.in_ok-marks.ensures;
     }

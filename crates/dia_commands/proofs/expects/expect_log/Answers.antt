@@ -1,0 +1,18 @@
+use Rattle.std.proofs.Common.{List, ℕ, refl, inl, inr}
+use Rattle.net_model.specs.declared.circuit.Design.{Design}
+use Rattle.dia_commands.specs.Suspects.{IsExpectedLog}
+use Rattle.dia_commands.specs.Plan.{Plan}
+use Rattle.dia_commands.specs.Plans.{with_result, makes_file}
+use Rattle.dia_commands.proofs.Followed.{handed_follows, netlist_over, netlist_then}
+use Rattle.dia_commands.proofs.Generated.{two_read}
+use Rattle.dia_commands.proofs.expects.expect_log.Goals as goal
+
+-- what follows the netlist
+abbrev reads_result : List ℕ → List ℕ → Design → Plan
+reads_result result log design = with_result result design.circuit (λ (file : List ℕ). makes_file log (IsExpectedLog design.circuit file))
+
+pub returns-in_err-design : goal.returns-in_err-design
+returns-in_err-design g c = handed_follows c.from_residual.result c.from_residual.ensures.1 (netlist_over two_read (inr (inl refl)) (reads_result c.args.results.now c.args.output.now) c.in_err-design.ensures.err)
+
+pub returns : goal.returns
+returns g c = netlist_then (reads_result c.args.results.now c.args.output.now) (g.met.S.Shelf.sure_tells _) c.in_ok-design.ensures.ok (c.expect_for.ensures c.args.bench.now)

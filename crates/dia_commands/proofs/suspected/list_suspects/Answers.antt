@@ -1,0 +1,19 @@
+use Rattle.std.proofs.Common.{List, ℕ, refl, inl, inr}
+use Rattle.net_model.specs.declared.circuit.Design.{Design}
+use Rattle.ranked_diag.specs.PartialLog.{Line}
+use Rattle.dia_commands.specs.Suspects.{IsSuspectsText}
+use Rattle.dia_commands.specs.Plan.{Plan}
+use Rattle.dia_commands.specs.Plans.{with_result, with_log_at, says}
+use Rattle.dia_commands.proofs.Followed.{handed_follows, netlist_over, netlist_then}
+use Rattle.dia_commands.proofs.Generated.{three_read}
+use Rattle.dia_commands.proofs.suspected.list_suspects.Goals as goal
+
+-- what follows the netlist
+abbrev reads_result : List ℕ → List ℕ → ℕ → Design → Plan
+reads_result result log most design = with_result result design.circuit (λ (file : List ℕ). with_log_at log design.circuit file (λ (lines : List Line). says (IsSuspectsText design.circuit file lines most)))
+
+pub returns-in_err-design : goal.returns-in_err-design
+returns-in_err-design g c = handed_follows c.from_residual.result c.from_residual.ensures.1 (netlist_over three_read (inr (inl refl)) (reads_result c.args.results.now c.args.log.now c.args.most) c.in_err-design.ensures.err)
+
+pub returns : goal.returns
+returns g c = netlist_then (reads_result c.args.results.now c.args.log.now c.args.most) (g.met.S.Shelf.sure_tells _) c.in_ok-design.ensures.ok (c.suspects_for.ensures c.args.bench.now)

@@ -1,0 +1,136 @@
+//! The command `cover`: classes that together explain what a log tells of failing patterns, one after another.
+
+ghost use Rattle.std.specs.Prelude.{◌≡◌, ◌++◌, ℕ, List, All, IfOk, OnOk, Some, flat_map, length, string_bytes, sum_by};
+ghost use Rattle.net_model.specs.PatternRows.{IsTableOf};
+ghost use Rattle.result_file.specs.declared.record.Record.{Record};
+ghost use Rattle.result_file.specs.Spelling.{text_of};
+ghost use Rattle.dia_check.specs.Accepted.{IsAccepted};
+ghost use Rattle.ranked_diag.specs.PartialLog.{Line, ArePartial};
+ghost use Rattle.request_words.specs.Request.{cover};
+ghost use Rattle.dia_commands.specs.Plans.{says, with_log_at, with_result};
+ghost use Rattle.dia_commands.specs.Ran.{Ran, RanOn};
+ghost use Rattle.dia_commands.specs.Suspects.{IsCoverOf, IsCoverText};
+ghost use Rattle.dia_commands.specs.Texts.{choice_line, cover_text};
+
+use crate::ending::RunFault;
+use crate::ends::say;
+use crate::log_reads::read_log_at;
+use crate::netlists::read_design;
+use crate::results::read_result;
+use crate::texts::{push_choice, push_cover_end};
+use dia_check::Checked;
+use diag_shelf::Shelf;
+use fault_list::list;
+use net_model::Circuit;
+use ranked_diag::Partial;
+use std::alloc::{AllocError, Global};
+use suspect_scores::{Cover, circuits_are_classed, count_failing, cover, one_cover_explains};
+use table_dicts::Setting;
+
+/// Reads and judges the netlist, then the result and then the log, and prints classes that together explain the failing patterns of the
+/// log.
+pub fn list_cover<S: Shelf>(
+    alloc: Global,
+    shelf: &mut S,
+    bench: &str,
+    results: &str,
+    log: &str,
+) -> Result<(), RunFault>
+    ensures { Ran (Some (cover bench.now results.now log.now)) result (S.state shelf.old) (S.state shelf.new) }
+{
+    let design = read_design(alloc, shelf, bench)?;
+    cover_for(alloc, shelf, &design.circuit, results, log)
+}
+
+// Reads and judges the result for a circuit and then the log, and prints the cover.
+fn cover_for<S: Shelf>(
+    alloc: Global,
+    shelf: &mut S,
+    circuit: &Circuit,
+    results: &str,
+    log: &str,
+) -> Result<(), RunFault>
+    ensures { (bench : List ℕ) → RanOn (cover bench results.now log.now) (with_result results.now circuit.now (λ (file : List ℕ). with_log_at log.now circuit.now file (λ (lines : List Line). says (IsCoverText circuit.now file lines)))) result (S.state shelf.old) (S.state shelf.new) }
+{
+    let checked = read_result(alloc, shelf, circuit, results)?;
+    cover_at(alloc, shelf, circuit, &checked, log)
+}
+
+// Reads and judges the log for a result that was checked, and prints the cover.
+fn cover_at<S: Shelf>(
+    alloc: Global,
+    shelf: &mut S,
+    circuit: &Circuit,
+    checked: &Checked,
+    log: &str,
+) -> Result<(), RunFault>
+    requires widths { All (λ v. length v ≡ circuit.now.sources) checked.now.patterns }
+    requires table { IsTableOf circuit.now checked.now.patterns checked.now.classes }
+    ensures { (bench results : List ℕ) (records : List Record) → IsAccepted circuit.now records checked.now → RanOn (cover bench results log.now) (with_log_at log.now circuit.now (text_of records) (λ (lines : List Line). says (IsCoverText circuit.now (text_of records) lines))) result (S.state shelf.old) (S.state shelf.new) }
+{
+    let partial = read_log_at(alloc, shelf, circuit, checked, log)?;
+    let text = text_at(alloc, circuit, checked, &partial)?;
+    say(shelf, text.as_bytes())
+}
+
+// The text of the cover of a log, for a result that was checked.
+fn text_at(
+    alloc: Global,
+    circuit: &Circuit,
+    checked: &Checked,
+    partial: &Partial,
+) -> Result<String, AllocError>
+    requires widths { All (λ v. length v ≡ circuit.now.sources) checked.now.patterns }
+    requires table { IsTableOf circuit.now checked.now.patterns checked.now.classes }
+    requires partial { ArePartial (length checked.now.patterns) (length circuit.now.positions) partial.now }
+    ensures { IfOk result (λ text. IsCoverOf circuit.now checked.now.patterns checked.now.classes partial.now (string_bytes text)) }
+{
+    // What a cover explains is known by these.
+    circuits_are_classed();
+    one_cover_explains();
+    let _patterns = checked.classes.patterns();
+    let _sources = circuit.sources();
+    let faults = list(alloc, circuit)?;
+    let setting = Setting {
+        circuit,
+        faults: &faults,
+        patterns: &checked.patterns,
+        classes: &checked.classes,
+    };
+    let choices = cover(alloc, &setting, partial)?;
+    let failing = count_failing(alloc, &setting, partial)?;
+    let text = cover_text(alloc, &choices, failing)?;
+    Ok(text)
+}
+
+// A line for each choice, how many they are, and how many failing patterns are explained of how many.
+#[tactic(auto, unfolding(crate::specs::Texts::cover_text))]
+fn cover_text(alloc: Global, choices: &Cover, failing: usize) -> Result<String, AllocError>
+    ensures { IfOk result (λ text. string_bytes text ≡ cover_text choices.now failing) }
+{
+    let mut text = String::new(alloc);
+    push_choices(&mut text, choices)?;
+    push_cover_end(&mut text, choices.len(), explained(choices), failing)?;
+    Ok(text)
+}
+
+// Appends a line for each choice.
+fn push_choices(text: &mut String, choices: &Cover) -> Result<(), AllocError>
+    ensures { OnOk result (string_bytes text.new ≡ string_bytes text.old ++ flat_map choice_line choices.now) }
+{
+    for at in 0..choices.len() {
+        push_choice(text, choices.get(at))?;
+    }
+    Ok(())
+}
+
+// How many failing patterns they explain together.
+fn explained(choices: &Cover) -> u128
+    ensures { result ≡ sum_by (λ choice. choice.explained) choices.now }
+{
+    let mut sum = 0;
+    for at in 0..choices.len() {
+        sum += u128::from(choices.get(at).explained);
+    }
+    sum
+}

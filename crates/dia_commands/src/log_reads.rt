@@ -1,0 +1,38 @@
+//! From the name of a log for a result to what it has, or to the end of the run.
+
+ghost use Rattle.std.specs.Prelude.{List, IfErr, IfOk, length};
+ghost use Rattle.net_model.specs.PatternRows.{IsTableOf};
+ghost use Rattle.result_file.specs.declared.record.Record.{Record};
+ghost use Rattle.result_file.specs.Spelling.{text_of};
+ghost use Rattle.dia_check.specs.Accepted.{IsAccepted};
+ghost use Rattle.ranked_diag.specs.PartialLog.{ArePartial};
+ghost use Rattle.dia_commands.specs.declared.ending.FileKind.TheVariants as file;
+ghost use Rattle.dia_commands.specs.Steps.{WasAccepted, IsOver};
+ghost use Rattle.dia_commands.specs.Suspects.{IsLogAt, IsRefusedAt};
+
+use crate::ending::RunFault;
+use crate::logs::read_partial_log;
+use dia_check::Checked;
+use diag_shelf::Shelf;
+use net_model::Circuit;
+use ranked_diag::Partial;
+use std::alloc::Global;
+
+/// Reads and judges the log under a name, for a result that was checked. Where it isn't accepted, the console says why, and the run is
+/// over.
+pub(crate) fn read_log_at<S: Shelf>(
+    alloc: Global,
+    shelf: &mut S,
+    circuit: &Circuit,
+    checked: &Checked,
+    name: &str,
+) -> Result<Partial, RunFault>
+    requires { IsTableOf circuit.now checked.now.patterns checked.now.classes }
+    ensures lines { IfOk result (ArePartial (length checked.now.patterns) (length circuit.now.positions)) }
+    ensures ok { IfOk result (λ partial. (records : List Record) → IsAccepted circuit.now records checked.now → WasAccepted name.now (IsLogAt circuit.now (text_of records)) partial (S.state shelf.old) (S.state shelf.new)) }
+    ensures err { IfErr result (λ why. (records : List Record) → IsAccepted circuit.now records checked.now → IsOver name.now file.Log (IsRefusedAt circuit.now (text_of records)) why (S.state shelf.old) (S.state shelf.new)) }
+{
+    let patterns = checked.classes.patterns();
+    let positions = circuit.positions().len() as u32;
+    read_partial_log(alloc, shelf, patterns, positions, name)
+}

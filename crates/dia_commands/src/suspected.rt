@@ -1,0 +1,138 @@
+//! The command `suspects`: the classes that may explain what a log tells of failing patterns, best first.
+
+ghost use Rattle.std.specs.Prelude.{◌≡◌, ◌++◌, ℕ, List, All, IfOk, OnOk, Some, flat_map, length, string_bytes};
+ghost use Rattle.net_model.specs.PatternRows.{IsTableOf};
+ghost use Rattle.result_file.specs.declared.record.Record.{Record};
+ghost use Rattle.result_file.specs.Spelling.{text_of};
+ghost use Rattle.dia_check.specs.Accepted.{IsAccepted};
+ghost use Rattle.ranked_diag.specs.PartialLog.{Line, ArePartial};
+ghost use Rattle.request_words.specs.Request.{suspects};
+ghost use Rattle.dia_commands.specs.Plans.{says, with_log_at, with_result};
+ghost use Rattle.dia_commands.specs.Ran.{Ran, RanOn};
+ghost use Rattle.dia_commands.specs.Suspects.{AreSuspectsOf, IsSuspectsText};
+ghost use Rattle.dia_commands.specs.Texts.{suspect_line, suspects_text};
+
+use crate::ending::RunFault;
+use crate::ends::say;
+use crate::log_reads::read_log_at;
+use crate::netlists::read_design;
+use crate::results::read_result;
+use crate::texts::{push_suspect, push_suspects_end};
+use dia_check::Checked;
+use diag_shelf::Shelf;
+use fault_list::list;
+use net_model::Circuit;
+use ranked_diag::Partial;
+use std::alloc::{AllocError, Global};
+use suspect_scores::{
+    Suspects, circuits_are_classed, count_failing, members_score_alike, one_list_of_suspects,
+    suspects,
+};
+use table_dicts::Setting;
+
+/// Reads and judges the netlist, then the result and then the log, and prints the classes whose faults hit a failing bit of the log, best
+/// first, so many at the most.
+pub fn list_suspects<S: Shelf>(
+    alloc: Global,
+    shelf: &mut S,
+    bench: &str,
+    results: &str,
+    log: &str,
+    most: u32,
+) -> Result<(), RunFault>
+    ensures { Ran (Some (suspects bench.now results.now log.now most)) result (S.state shelf.old) (S.state shelf.new) }
+{
+    let design = read_design(alloc, shelf, bench)?;
+    suspects_for(alloc, shelf, &design.circuit, results, log, most)
+}
+
+// Reads and judges the result for a circuit and then the log, and prints the suspects.
+fn suspects_for<S: Shelf>(
+    alloc: Global,
+    shelf: &mut S,
+    circuit: &Circuit,
+    results: &str,
+    log: &str,
+    most: u32,
+) -> Result<(), RunFault>
+    ensures { (bench : List ℕ) → RanOn (suspects bench results.now log.now most) (with_result results.now circuit.now (λ (file : List ℕ). with_log_at log.now circuit.now file (λ (lines : List Line). says (IsSuspectsText circuit.now file lines most)))) result (S.state shelf.old) (S.state shelf.new) }
+{
+    let checked = read_result(alloc, shelf, circuit, results)?;
+    suspects_at(alloc, shelf, circuit, &checked, log, most)
+}
+
+// Reads and judges the log for a result that was checked, and prints the suspects.
+fn suspects_at<S: Shelf>(
+    alloc: Global,
+    shelf: &mut S,
+    circuit: &Circuit,
+    checked: &Checked,
+    log: &str,
+    most: u32,
+) -> Result<(), RunFault>
+    requires widths { All (λ v. length v ≡ circuit.now.sources) checked.now.patterns }
+    requires table { IsTableOf circuit.now checked.now.patterns checked.now.classes }
+    ensures { (bench results : List ℕ) (records : List Record) → IsAccepted circuit.now records checked.now → RanOn (suspects bench results log.now most) (with_log_at log.now circuit.now (text_of records) (λ (lines : List Line). says (IsSuspectsText circuit.now (text_of records) lines most))) result (S.state shelf.old) (S.state shelf.new) }
+{
+    let partial = read_log_at(alloc, shelf, circuit, checked, log)?;
+    let text = text_at(alloc, circuit, checked, &partial, most)?;
+    say(shelf, text.as_bytes())
+}
+
+// The text of the suspects of a log, for a result that was checked.
+fn text_at(
+    alloc: Global,
+    circuit: &Circuit,
+    checked: &Checked,
+    partial: &Partial,
+    most: u32,
+) -> Result<String, AllocError>
+    requires widths { All (λ v. length v ≡ circuit.now.sources) checked.now.patterns }
+    requires table { IsTableOf circuit.now checked.now.patterns checked.now.classes }
+    requires partial { ArePartial (length checked.now.patterns) (length circuit.now.positions) partial.now }
+    ensures { IfOk result (λ text. AreSuspectsOf circuit.now checked.now.patterns checked.now.classes partial.now most (string_bytes text)) }
+{
+    // What holds of all members of a class and of the log of one fault is known by these.
+    circuits_are_classed();
+    members_score_alike();
+    one_list_of_suspects();
+    let _patterns = checked.classes.patterns();
+    let _sources = circuit.sources();
+    let faults = list(alloc, circuit)?;
+    let setting = Setting {
+        circuit,
+        faults: &faults,
+        patterns: &checked.patterns,
+        classes: &checked.classes,
+    };
+    let listed = suspects(alloc, &setting, partial, most)?;
+    let failing = count_failing(alloc, &setting, partial)?;
+    let text = suspects_text(alloc, &listed, failing, partial.len())?;
+    Ok(text)
+}
+
+// A line for each suspect, how many they are, and how many patterns are failing and logged.
+#[tactic(auto, unfolding(crate::specs::Texts::suspects_text))]
+fn suspects_text(
+    alloc: Global,
+    listed: &Suspects,
+    failing: usize,
+    logged: usize,
+) -> Result<String, AllocError>
+    ensures { IfOk result (λ text. string_bytes text ≡ suspects_text listed.now failing logged) }
+{
+    let mut text = String::new(alloc);
+    push_suspects(&mut text, listed)?;
+    push_suspects_end(&mut text, listed.len(), failing, logged)?;
+    Ok(text)
+}
+
+// Appends a line for each suspect.
+fn push_suspects(text: &mut String, listed: &Suspects) -> Result<(), AllocError>
+    ensures { OnOk result (string_bytes text.new ≡ string_bytes text.old ++ flat_map suspect_line listed.now) }
+{
+    for at in 0..listed.len() {
+        push_suspect(text, listed.get(at))?;
+    }
+    Ok(())
+}

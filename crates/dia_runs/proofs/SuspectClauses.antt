@@ -1,0 +1,58 @@
+-- What follows from the record of a run that writes the log of a chip without a fault, lists suspects or a cover.
+use Rattle.std.proofs.Common.{Option, ap}
+use Rattle.diag_shelf.specs.World.{World}
+use Rattle.result_file.specs.Laws.{ValidIsTrue}
+use Rattle.request_words.specs.Request.{Request, expect, suspects, cover}
+use Rattle.dia_commands.specs.Ending.{Ending}
+use Rattle.dia_commands.specs.Outcome.{Outcome}
+use Rattle.dia_commands.specs.Plans.{plan_of}
+use Rattle.dia_commands.specs.Ran.{IsDone}
+use Rattle.dia_runs.specs.SuspectRuns.{WritesExpectedLog, PrintsSuspects, PrintsCover}
+use Rattle.dia_runs.proofs.Clauses.{done_for, accepted_by, true_result}
+use Rattle.dia_runs.proofs.DictionaryClauses.{file_made, printed_text}
+
+module _ {asked : Option Request} {ending : Ending} {old new : World} (called : IsDone (plan_of asked) ending old new) where
+  pub expected_of : ValidIsTrue → WritesExpectedLog asked ending old new
+  expected_of law bench result log is z =
+      let d = done_for called (expect bench result log) is z in
+      let w = accepted_by d.1 d.2 in
+      let v = accepted_by w.then d.2 in
+      let made = v.then.2 in
+      record {
+        read = true_result law w.read.held w.read.accepted v.read.held v.read.accepted made.of.spelled made.of.valid;
+        file = v.then.0;
+        saved = file_made d.0 (ap (λ (p : Outcome). p.made) v.then.3) d.3;
+        text = v.then.1;
+        made = made;
+        printed = printed_text d.0 (ap (λ (p : Outcome). p.console) v.then.3) d.3;
+      }
+
+  pub suspected_of : ValidIsTrue → PrintsSuspects asked ending old new
+  suspected_of law bench result log most is z =
+      let d = done_for called (suspects bench result log most) is z in
+      let w = accepted_by d.1 d.2 in
+      let v = accepted_by w.then d.2 in
+      let l = accepted_by v.then d.2 in
+      let listed = l.then.1 in
+      record {
+        read = true_result law w.read.held w.read.accepted v.read.held v.read.accepted listed.of.spelled listed.of.valid;
+        lines = l.read;
+        text = l.then.0;
+        listed = listed;
+        printed = printed_text d.0 (ap (λ (p : Outcome). p.console) l.then.2) d.3;
+      }
+
+  pub covered_of : ValidIsTrue → PrintsCover asked ending old new
+  covered_of law bench result log is z =
+      let d = done_for called (cover bench result log) is z in
+      let w = accepted_by d.1 d.2 in
+      let v = accepted_by w.then d.2 in
+      let l = accepted_by v.then d.2 in
+      let covers = l.then.1 in
+      record {
+        read = true_result law w.read.held w.read.accepted v.read.held v.read.accepted covers.of.spelled covers.of.valid;
+        lines = l.read;
+        text = l.then.0;
+        covers = covers;
+        printed = printed_text d.0 (ap (λ (p : Outcome). p.console) l.then.2) d.3;
+      }

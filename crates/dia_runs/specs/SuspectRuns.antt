@@ -1,0 +1,47 @@
+-- What the runs of `expect`, `suspects` and `cover` whose work is done leave.
+use Rattle.std.specs.Prelude.{◌≡◌, ℕ, Option, Some}
+use Rattle.std.specs.FinMap.{get}
+use Rattle.diag_shelf.specs.World.{World}
+use Rattle.request_words.specs.Request.{Text, Request, expect, suspects, cover}
+use Rattle.dia_commands.specs.Ending.{Ending, done}
+use Rattle.dia_commands.specs.Outcome.{ConsoleGained}
+use Rattle.dia_commands.specs.Suspects.{IsLogAt, IsExpectedLog, IsSuspectsText, IsCoverText}
+use Rattle.dia_runs.specs.Promises.{WasRead, HoldsTrueResult}
+
+-- The result is valid and true. Under the log's name is what a chip without a fault answers to the result's patterns, and the console
+-- gained its sizes.
+pub record HasExpectedLog (bench result log : Text) (old new : World) : Type 0 where
+  pub read : HoldsTrueResult bench result old.files
+  pub file : Text
+  pub saved : get new.files log ≡ Some file
+  pub text : Text
+  pub made : IsExpectedLog read.design.circuit read.file file text
+  pub printed : ConsoleGained text old new
+
+-- A run of `expect` whose work is done leaves them.
+abbrev pub WritesExpectedLog : Option Request → Ending → World → World → Type 0
+WritesExpectedLog request ending old new = (bench result log : Text) → request ≡ Some (expect bench result log) → ending ≡ done → HasExpectedLog bench result log old new
+
+-- The result is valid and true. The console gained the suspects of the log, the first so many at the most.
+pub record HasSuspects (bench result log : Text) (most : ℕ) (old new : World) : Type 0 where
+  pub read : HoldsTrueResult bench result old.files
+  pub lines : WasRead old.files log (IsLogAt read.design.circuit read.file)
+  pub text : Text
+  pub listed : IsSuspectsText read.design.circuit read.file lines.thing most text
+  pub printed : ConsoleGained text old new
+
+-- A run of `suspects` whose work is done prints them.
+abbrev pub PrintsSuspects : Option Request → Ending → World → World → Type 0
+PrintsSuspects request ending old new = (bench result log : Text) (most : ℕ) → request ≡ Some (suspects bench result log most) → ending ≡ done → HasSuspects bench result log most old new
+
+-- The result is valid and true. The console gained the cover of the log.
+pub record HasCover (bench result log : Text) (old new : World) : Type 0 where
+  pub read : HoldsTrueResult bench result old.files
+  pub lines : WasRead old.files log (IsLogAt read.design.circuit read.file)
+  pub text : Text
+  pub covers : IsCoverText read.design.circuit read.file lines.thing text
+  pub printed : ConsoleGained text old new
+
+-- A run of `cover` whose work is done prints it.
+abbrev pub PrintsCover : Option Request → Ending → World → World → Type 0
+PrintsCover request ending old new = (bench result log : Text) → request ≡ Some (cover bench result log) → ending ≡ done → HasCover bench result log old new

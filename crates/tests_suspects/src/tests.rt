@@ -1,0 +1,9 @@
+//! A module tests the runs of a command.
+
+mod covers;
+mod expecting;
+mod failing;
+mod runs;
+mod suspecting;
+mod texts;
+mod words;

@@ -1,0 +1,72 @@
+//! Runs over a shelf of which one call fails.
+
+use crate::tests::runs::{File, left_by};
+use crate::tests::texts::{AND, AND_EXPECTED, AND_RESULT};
+use std::alloc::Global;
+use std::process::Abort;
+use std::test::Fail;
+
+// A call fails: its number, the status, and what stands under the log's name.
+type Failing = (u64, u8, Option<&'static [u8]>);
+
+// Each of these calls fails in a run, and prints last.
+fn each_fails(
+    rt: &impl Abort,
+    alloc: Global,
+    files: &[File],
+    words: &[&str],
+    cases: &[Failing],
+) -> Result<(), Fail> {
+    for (call, status, log) in cases {
+        let left = left_by(alloc, 4096, &[*call], files, words)?;
+        let failed = left.ended(*status, b"") && left.holds("l", *log);
+        assert!(rt; failed, "call {call}");
+    }
+    Ok(())
+}
+
+// The netlist is opened and read by calls 0 to 2, the result by calls 3 to 5; call 6 creates the log, call 7 writes it, and call
+// 8 prints.
+static OF_EXPECT: [Failing; 7] = [
+    (0, 7, None),
+    (2, 7, None),
+    (3, 7, None),
+    (5, 7, None),
+    (6, 8, None),
+    (7, 8, Some(b"")),
+    (8, 8, Some(AND_EXPECTED)),
+];
+
+#[test]
+fn each_failing_call_of_expect_shows(rt: HostRuntime) -> Result<(), Fail> {
+    let files = [("n", AND), ("r", AND_RESULT)];
+    let words = ["expect", "n", "r", "l"];
+    each_fails(&rt, rt.alloc(), &files, &words, &OF_EXPECT)
+}
+
+const TWO: &[u8] = b"0 1\n3 0\n";
+
+// The netlist is opened and read by calls 0 to 2, the result by calls 3 to 5, the log by calls 6 to 8, and call 9 prints.
+static OF_SUSPECTS: [Failing; 7] = [
+    (1, 7, Some(TWO)),
+    (3, 7, Some(TWO)),
+    (4, 7, Some(TWO)),
+    (6, 7, Some(TWO)),
+    (7, 7, Some(TWO)),
+    (8, 7, Some(TWO)),
+    (9, 8, Some(TWO)),
+];
+
+#[test]
+fn each_failing_call_of_suspects_and_cover_shows(rt: HostRuntime) -> Result<(), Fail> {
+    let files = [("n", AND), ("r", AND_RESULT), ("l", TWO)];
+    let suspects = ["suspects", "n", "r", "l"];
+    each_fails(&rt, rt.alloc(), &files, &suspects, &OF_SUSPECTS)?;
+    each_fails(
+        &rt,
+        rt.alloc(),
+        &files,
+        &["cover", "n", "r", "l"],
+        &OF_SUSPECTS,
+    )
+}
