@@ -1,5 +1,6 @@
 """Netlists in the .bench format, read and simulated. They are taken to be right: the program says where one isn't."""
 
+import functools
 import re
 
 TOKEN = re.compile(r"#[^\r\n]*|[(),=]|[^\s(),=#]+")
@@ -7,7 +8,8 @@ TOKEN = re.compile(r"#[^\r\n]*|[(),=]|[^\s(),=#]+")
 
 class Netlist:
     """The full-scan cut of a netlist: `sources` and `positions` hold pairs of what each is (input, output, cell) and its name or the
-    cell's, `shown` the name that each position shows, and `gates` the gate word and the pins of each driven name."""
+    cell's, `shown` the name that each position shows, `kinds` what each source is by its name, and `gates` the gate word and the pins of each
+    driven name."""
 
     def __init__(self, text):
         tokens = [it for it in TOKEN.findall(text) if not it.startswith("#")]
@@ -27,7 +29,9 @@ class Netlist:
         self.sources = [("input", it) for it in inputs] + [("cell", it) for it, _ in cells]
         self.positions = [("output", it) for it in outputs] + [("cell", it) for it, _ in cells]
         self.shown = outputs + [it for _, it in cells]
+        self.kinds = {name: kind for kind, name in self.sources}
 
+    @functools.cached_property
     def order(self):
         """The driven names, each behind those of its pins."""
         done, order = {it for _, it in self.sources}, []
@@ -43,6 +47,30 @@ class Netlist:
                     done.add(name)
                     order.append(name)
         return order
+
+    @functools.cached_property
+    def place(self):
+        """The place of each driven name in that order."""
+        return {name: at for at, name in enumerate(self.order)}
+
+    @functools.cached_property
+    def readers(self):
+        """The gates that read each name, in order, with the pin that does."""
+        found = {}
+        for gate, (_, pins) in self.gates.items():
+            for pin, name in enumerate(pins):
+                found.setdefault(name, []).append((gate, pin))
+        return found
+
+    def cone(self, names):
+        """The names whose values these can change, these too."""
+        found, stack = set(names), list(names)
+        while stack:
+            for gate, _ in self.readers.get(stack.pop(), ()):
+                if gate not in found:
+                    found.add(gate)
+                    stack.append(gate)
+        return found
 
 
 def read(name):
@@ -73,22 +101,40 @@ def gate_value(word, pins, full):
     return full & ~value if word in ("NAND", "NOR", "XNOR", "NOT") else value
 
 
-def answers(netlist, vectors, fault=None):
-    """What each position shows: a word with a bit for each vector, the first one lowest. A fault is its name's fields."""
-    full = (1 << len(vectors)) - 1
-    kind, site, stuck = (fault[0], fault[1:-1], full if fault[-1] == "1" else 0) if fault else ("free", [], 0)
-    value = {}
+def values(netlist, vectors, forced=None):
+    """The value of each name: a word with a bit for each vector, the first one lowest. `forced` has the words of names that a defect sets."""
+    full, value, forced = (1 << len(vectors)) - 1, {}, forced or {}
     for at, (_, name) in enumerate(netlist.sources):
-        value[name] = int("0" + "".join(it[at] for it in reversed(vectors)), 2)
-        if kind == "S" and site == [name]:
-            value[name] = stuck
-    for name in netlist.order():
+        value[name] = forced[name] if name in forced else int("0" + "".join(it[at] for it in reversed(vectors)), 2)
+    for name in netlist.order:
         word, pins = netlist.gates[name]
-        seen = [value[it] for it in pins]
-        if kind == "G" and site[1] == name:
-            seen[int(site[2])] = stuck
-        value[name] = stuck if kind == "S" and site == [name] else gate_value(word, seen, full)
-    shown = [value[it] for it in netlist.shown]
+        value[name] = forced[name] if name in forced else gate_value(word, [value[it] for it in pins], full)
+    return value
+
+
+def changed(netlist, value, fault, full):
+    """The values of the names that a fault changes, from those without it. A fault is its name's fields."""
+    kind, *site, stuck = fault
     if kind == "O":
-        shown[int(site[1])] = stuck
+        return {}
+    stuck, first = full if stuck == "1" else 0, site[1] if kind == "G" else site[0]
+    now = {first: stuck} if kind == "S" else {}
+    for name in sorted(netlist.cone([first]) - now.keys(), key=netlist.place.get):
+        word, pins = netlist.gates[name]
+        seen = [now.get(it, value[it]) for it in pins]
+        if kind == "G" and name == first:
+            seen[int(site[2])] = stuck
+        now[name] = gate_value(word, seen, full)
+    return now
+
+
+def answers(netlist, vectors, fault=None, free=None):
+    """What each position shows: a word with a bit for each vector, the first one lowest. A fault is its name's fields; `free` has the
+    values without it, where they are known."""
+    full = (1 << len(vectors)) - 1
+    value = free or values(netlist, vectors)
+    now = changed(netlist, value, fault, full) if fault else {}
+    shown = [now.get(it, value[it]) for it in netlist.shown]
+    if fault and fault[0] == "O":
+        shown[int(fault[2])] = full if fault[-1] == "1" else 0
     return shown

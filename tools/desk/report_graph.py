@@ -1,0 +1,161 @@
+"""The part of a circuit that a report draws: the ways from the suspects to the failing positions, straight chains folded.
+
+A node is the name of a line, or the number of a position."""
+
+from typing import NamedTuple
+
+MOST = 300  # nodes of a picture
+SITES = 16  # faults of a class that are drawn, where not all are
+GOALS = 24  # failing positions, likewise
+
+
+class Edge(NamedTuple):
+    """A line that leads to a pin of the node behind it, through the gates that are folded."""
+
+    tail: str
+    head: object
+    pin: int
+    through: tuple = ()
+
+
+class Part(NamedTuple):
+    """What is drawn: the numbers whose classes are shown, the faults of each, the nodes, the edges, and what was left out in words."""
+
+    numbers: list
+    faults: dict
+    nodes: set
+    edges: list
+    left_out: str
+
+
+def site(name):
+    """The node at which a fault stands."""
+    kind, line, *rest, _ = name
+    return {"S": line, "G": rest[0] if rest else line, "O": int(rest[0]) if kind == "O" else 0}[kind]
+
+
+def readers(netlist, shown_at, line):
+    """The nodes that read a line, with the pin that does."""
+    yield from netlist.readers.get(line, ())
+    for at in shown_at.get(line, ()):
+        yield at, 0
+
+
+def whole_cone(netlist, sites, goals):
+    """All edges on ways from the sites to the goals."""
+    ahead = netlist.cone([it for it in sites if isinstance(it, str)])
+    back = {netlist.shown[it] for it in goals if netlist.shown[it] in ahead}
+    edges = [Edge(netlist.shown[it], it, 0) for it in goals if netlist.shown[it] in ahead]
+    stack = list(back)
+    while stack:
+        gate = stack.pop()
+        for pin, line in enumerate(netlist.gates[gate][1] if gate in netlist.gates else ()):
+            if line in ahead:
+                edges.append(Edge(line, gate, pin))
+                if line not in back:
+                    back.add(line)
+                    stack.append(line)
+    return edges
+
+
+def ways(netlist, sites, goals):
+    """The edges of a shortest way to each goal from the nearest site."""
+    shown_at = {}
+    for at in goals:
+        shown_at.setdefault(netlist.shown[at], []).append(at)
+    came, layer = {it: None for it in sites}, [it for it in sites if isinstance(it, str)]
+    while layer:
+        behind = []
+        for line in layer:
+            for node, pin in readers(netlist, shown_at, line):
+                if node not in came:
+                    came[node] = Edge(line, node, pin)
+                    behind += [node] if isinstance(node, str) else []
+        layer = behind
+    found = {}
+    for node in goals:
+        while came.get(node) and node not in found:
+            found[node] = came[node]
+            node = came[node].tail
+    return list(found.values())
+
+
+def neighbours(edges):
+    """The edges into each node, and those out of it."""
+    into, out = {}, {}
+    for it in edges:
+        into.setdefault(it.head, []).append(it)
+        out.setdefault(it.tail, []).append(it)
+    return into, out
+
+
+def folded(edges, kept):
+    """The edges with each chain of two gates or more, between nodes that branch or are kept, as one edge."""
+    into, out = neighbours(edges)
+    inner = {it for it in into if it not in kept and len(into[it]) == 1 and len(out.get(it, ())) == 1}
+    found = []
+    for edge in edges:
+        if edge.tail in inner:
+            continue
+        chain, last = [], edge
+        while last.head in inner:
+            chain.append(last.head)
+            last = out[last.head][0]
+        if len(chain) > 1:
+            found.append(Edge(edge.tail, last.head, last.pin, tuple(chain)))
+        else:
+            found += [edge] if last is edge else [edge, last]
+    return found
+
+
+def reached(edges, starts):
+    """The nodes to which the edges lead from some, these too."""
+    _, out = neighbours(edges)
+    found, stack = set(starts), list(starts)
+    while stack:
+        for it in out.get(stack.pop(), ()):
+            if it.head not in found:
+                found.add(it.head)
+                stack.append(it.head)
+    return found
+
+
+def attempts(numbers, goals):
+    """What may be drawn, the most first: how many classes, whether whole cones, how many faults of each, and which failing positions."""
+    tops = sorted({min(it, len(numbers)) for it in (len(numbers), 10, 5, 3, 2)}, reverse=True)
+    for top in tops:
+        yield top, True, None, goals
+    for most in (None, SITES):
+        for top in [*tops, 1]:
+            yield top, False, most, goals[:GOALS]
+
+
+def part(case):
+    """What is drawn of a case: as much as stays below so many nodes."""
+    goals = sorted((it for it, word in enumerate(case.wrong) if word), key=lambda it: (-bin(case.wrong[it]).count("1"), it))
+    numbers = list(case.members)
+    for top, whole, most, positions in attempts(numbers, goals):
+        chosen = numbers[:top]
+        faults = {it: case.members[it][:most] for it in chosen}
+        sites = list(dict.fromkeys(site(case.names[it]) for number in chosen for it in faults[number]))
+        edges = (whole_cone if whole else ways)(case.netlist, sites, positions)
+        edges = folded(edges, {*sites})
+        nodes = {*sites, *(it.tail for it in edges), *(it.head for it in edges)}
+        if len(nodes) <= MOST:
+            return Part(chosen, faults, nodes, edges, left_out(case, top, whole, most, goals, positions, nodes))
+    return None
+
+
+def left_out(case, top, whole, most, goals, positions, nodes):
+    """What isn't drawn, in words."""
+    said = [] if top == len(case.members) else [f"the first {top} of {len(case.members)} classes are drawn"]
+    if not whole:
+        said.append("of all ways to a failing position a shortest one")
+    if most and any(len(it) > most for it in list(case.members.values())[:top]):
+        said.append(f"of a class at most {most} faults")
+    if len(positions) < len(goals):
+        said.append(f"the {len(positions)} positions that fail most, of {len(goals)}")
+    apart = sum(it not in nodes for it in positions)
+    if apart:
+        said.append(f"{apart} failing position{'' if apart == 1 else 's'} that no drawn fault reaches left out")
+    return "; ".join(said)

@@ -1,0 +1,150 @@
+"""The picture of a report: what is drawn of the circuit, as words of Graphviz, and the SVG that `dot` makes of them."""
+
+import re
+import shutil
+import subprocess
+from html import escape
+
+from report_graph import part, reached, site
+from report_words import driver, position
+
+PATIENCE = 60  # seconds for dot
+REDS = (("#c62828", "#ffffff"), ("#ef9a9a", "#000000"), ("#fbdcdc", "#000000"))  # of the first, the next and the other suspects
+ORANGE = "#ffb74d"
+PINS = 8  # of a gate that are drawn with their names, where not more are at fault
+HEAD = """digraph suspects {
+rankdir=LR; nodesep=0.12; ranksep=0.25; bgcolor=transparent;
+node [shape=plain fontname="Helvetica,Arial,sans-serif" fontsize=10];
+edge [arrowsize=0.5 color="#607080"];"""
+
+
+def label(text):
+    """A text in a node's table, in which dot would take a backslash for the beginning of a name of its own."""
+    return escape(text).replace("\\", "\\\\")
+
+
+def cell(text, colours=None, port=None, rows=1):
+    """A cell of a node's table."""
+    fill, ink = colours or ("#ffffff", "#000000")
+    port = "" if port is None else f' PORT="{port}"'
+    rows = f' ROWSPAN="{rows}"' if rows > 1 else ""
+    return f'<TD BGCOLOR="{fill}"{port}{rows}><FONT COLOR="{ink}">{text}</FONT></TD>'
+
+
+def table(rows):
+    """A node of rows of cells."""
+    return f'<<TABLE BORDER="0" CELLBORDER="1" CELLSPACING="0" CELLPADDING="3">{"".join(f"<TR>{it}</TR>" for it in rows)}</TABLE>>'
+
+
+class Picture:
+    """The drawn part of a case, with what is at fault at each node: for each pin, or for the line itself, ranks and stuck values."""
+
+    def __init__(self, case):
+        self.case, self.part = case, part(case)
+        self.at_fault, self.nodes = {}, {}
+        for rank, number in enumerate(self.part.numbers, 1):
+            for it in self.part.faults[number]:
+                kind, _, *rest, value = case.names[it]
+                where = int(rest[1]) if kind == "G" else None
+                self.at_fault.setdefault(site(case.names[it]), {}).setdefault(where, []).append((rank, case.marks[number], value))
+        self.names = {it: f"d{at}" for at, it in enumerate(sorted(self.part.nodes, key=str))}
+        starts = {number: {site(case.names[it]) for it in found} for number, found in self.part.faults.items()}
+        self.reach = {number: reached(self.part.edges, found) for number, found in starts.items()}
+
+    def stuck(self, node, where, text):
+        """The text of a pin or line with the marks and values of its faults, and its colours; no colours where it has none."""
+        found = self.at_fault.get(node, {}).get(where)
+        if not found:
+            return label(text), None
+        values = {}
+        for _, mark, value in found:
+            values.setdefault(value, []).append(mark)
+        said = "<BR/>".join(f"{' '.join(marks)}: {label(text)} at {value}" for value, marks in sorted(values.items()))
+        best = min(rank for rank, _, _ in found)
+        return f"<B>{said}</B>", REDS[0 if best == 1 else 1 if best <= 3 else 2]
+
+    def pins(self, gate):
+        """The pins of a gate that are drawn."""
+        word_pins = list(enumerate(self.case.netlist.gates[gate][1]))
+        if len(word_pins) <= PINS:
+            return word_pins
+        used = {it.pin for it in self.part.edges if it.head == gate} | set(self.at_fault.get(gate, {}))
+        return [it for it in word_pins if it[0] in used]
+
+    def line(self, name):
+        """The table of a line: a gate with its pins where a suspect stands there, else its word and name."""
+        word = driver(self.case.netlist, name)
+        text, colours = self.stuck(name, None, name)
+        gate = f'<FONT POINT-SIZE="8">{word}</FONT><BR/>{text}'
+        if name not in self.at_fault or name not in self.case.netlist.gates:
+            return table([cell(gate, colours, "y")])
+        pins = [cell(*self.stuck(name, pin, line), f"p{pin}") for pin, line in self.pins(name)]
+        if not pins:
+            return table([cell(gate, colours, "y")])
+        return table([pins[0] + cell(gate, colours, "y", len(pins)), *pins[1:]])
+
+    def goal(self, at):
+        """The table of a failing position, with its count."""
+        text, colours = self.stuck(at, None, position(self.case.netlist, at))
+        fails = bin(self.case.wrong[at]).count("1")
+        said = f'<FONT POINT-SIZE="8">position {at}: fails {fails:,} {"time" if fails == 1 else "times"}</FONT>'
+        fill = (ORANGE, "#000000")
+        rows = [cell(f"<B>{label(position(self.case.netlist, at))}</B><BR/>{said}", fill, "p0")]
+        return table([cell(text, colours), *rows] if colours else rows)
+
+    def lit(self, node):
+        """The classes in whose cone a node is, as the words of a class attribute."""
+        return " ".join(f"in{number}" for number, found in self.reach.items() if node in found)
+
+    def first(self, node):
+        """A word more where the first suspect stands."""
+        ranks = [rank for found in self.at_fault.get(node, {}).values() for rank, _, _ in found]
+        return "first " if 1 in ranks else ""
+
+    def words(self):
+        """The words for dot."""
+        said = [HEAD]
+        for node, name in self.names.items():
+            rows = self.line(node) if isinstance(node, str) else self.goal(node)
+            said.append(f'{name} [id="{name}" label={rows} class="{self.first(node)}{self.lit(node)}"];')
+        for at, it in enumerate(self.part.edges):
+            port = f"p{it.pin}" if isinstance(it.head, int) or it.head in self.at_fault else "y"
+            if isinstance(it.head, str) and it.head in self.at_fault and it.pin not in dict(self.pins(it.head)):
+                port = "y"
+            chain = " style=dashed" if it.through else ""
+            said.append(f'{self.names[it.tail]}:y -> {self.names[it.head]}:{port}:w [id="e{at}" class="{self.lit(it.tail)}"{chain}];')
+        return "\n".join([*said, "}\n"])
+
+    def title(self, kind, at):
+        """What is shown where the pointer rests on a node or an edge."""
+        if kind == "e":
+            it = self.part.edges[at]
+            head = it.head if isinstance(it.head, str) else position(self.case.netlist, it.head)
+            return " → ".join([it.tail, *it.through, head])
+        node = list(self.names)[at]
+        if isinstance(node, int):
+            return f"position {node}: {position(self.case.netlist, node)}"
+        word, pins = self.case.netlist.gates.get(node, (driver(self.case.netlist, node), []))
+        return f"{node} = {word}({', '.join(pins)})" if pins else f"{word} {node}"
+
+    def svg(self, drawn):
+        """The SVG of what dot drew, with titles that name lines."""
+        titled = re.compile(r'<g id="([de])([0-9]+)"([^>]*)>\s*<title>[^<]*</title>')
+        drawn = drawn[drawn.index("<svg") :].replace("<title>suspects</title>\n", "")
+        return titled.sub(lambda it: f'<g id="{it[1]}{it[2]}"{it[3]}><title>{escape(self.title(it[1], int(it[2])))}</title>', drawn)
+
+
+def picture(case):
+    """The SVG, and what it leaves out in words; or no SVG, and why there is none."""
+    if not case.members:
+        return "", "There is no suspect to draw."
+    if not shutil.which("dot"):
+        return "", "There is no picture, since Graphviz's dot isn't on the PATH (Debian's package graphviz)."
+    drawing = Picture(case)
+    try:
+        it = subprocess.run(["dot", "-Tsvg"], input=drawing.words(), capture_output=True, text=True, encoding="utf-8", timeout=PATIENCE)
+    except subprocess.TimeoutExpired:
+        return "", f"There is no picture, since dot took more than {PATIENCE} s."
+    if it.returncode:
+        return "", f"There is no picture, since dot ended with status {it.returncode}."
+    return drawing.svg(it.stdout), drawing.part.left_out

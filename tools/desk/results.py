@@ -1,0 +1,60 @@
+"""Results and names of faults, as the helpers read them. Nothing is checked: the program's `check` does that."""
+
+import os
+import subprocess
+
+TOP = os.path.dirname(os.path.dirname(os.path.dirname(os.path.realpath(__file__))))
+LONGEST = 1 << 24  # bytes of a line that are read; those behind are passed over
+MARKS = {
+    "C": "equal, as the gates alone show (C)",
+    "T": "equal, as a tree of cubes shows (T)",
+    "R": "equal, as a refutation shows (R)",
+    "O": "open: no vector that parts it from the lowest was found (O)",
+}
+
+
+def lines(name):
+    """The fields of each line of a result; of a long one those that stand first."""
+    with open(name, "rb") as file:
+        while line := file.readline(LONGEST):
+            yield line.decode("latin-1").split(maxsplit=4)
+            while line and not line.endswith(b"\n"):
+                line = file.readline(LONGEST)
+
+
+class Result:
+    """The patterns of a result, the class of each number, and the last evidence of each member."""
+
+    def __init__(self, name):
+        self.patterns, self.classes, self.evidence = [], {}, {}
+        for fields in lines(name):
+            if fields[0] == "pattern":
+                self.patterns.append("" if fields[1] == "-" else fields[1])
+            elif fields[0] == "same":
+                self.evidence[int(fields[1])] = fields[3]
+            elif fields[0] == "member":
+                self.classes[int(fields[1])] = int(fields[2])
+        if fields != ["end"]:
+            raise ValueError(f"{name} is no whole result: ./diatest check says where")
+
+
+def names_of(netlist, numbers):
+    """The root and the name's fields of each of these numbers, from the program's list of faults."""
+    found = {}
+    with subprocess.Popen([f"{TOP}/diatest", "faults", netlist], stdout=subprocess.PIPE, text=True, encoding="latin-1") as listing:
+        for line in listing.stdout:
+            number, root, *name = line.split()
+            if number.isdigit() and int(number) in numbers:
+                found[int(number)] = int(root), name
+    if listing.returncode:
+        raise ValueError(f"{netlist} has no list of faults")
+    return found
+
+
+def in_words(name):
+    """A fault's name in words."""
+    if name == ["free"]:
+        return "the circuit without a fault"
+    kind, line, *site, value = name
+    where = {"S": "", "G": " where gate {} reads it as its pin {}", "O": " where position {} shows it"}[kind].format(*site)
+    return f"line {line} stuck at {value}{where}"
