@@ -66,7 +66,7 @@ pub(crate) fn left_by(
     words: &[&str],
 ) -> Result<Left, AllocError> {
     let words = strings(alloc, words)?;
-    let mut shelf = MemoryShelf::new(alloc, chunk, failing.to_vec(alloc)?);
+    let mut shelf = MemoryShelf::new(alloc, chunk.max(1), failing.to_vec(alloc)?);
     for (name, bytes) in files {
         shelf.put_file(*name, *bytes)?;
     }
