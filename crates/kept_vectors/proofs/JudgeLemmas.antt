@@ -14,14 +14,15 @@ use Rattle.word_sim.specs.GoodSim.{GoodSim}
 use Rattle.fault_heads.specs.Turned.{vector_at}
 use Rattle.kept_vectors.specs.Kept.{KeptSoFar, Keeps, KeepsFirst, KeepsRun, IsFiner}
 use Rattle.kept_vectors.specs.Keeper.{keeper_with, IsKeeper}
+use Rattle.kept_vectors.specs.Units.{AreTogether}
 use Rattle.kept_vectors.specs.Notes.{Noted, AreTold}
 use Rattle.kept_vectors.specs.Scan.{IsOffered, HasJudged}
 use Rattle.net_model.proofs.OneAnswer.{one_table}
 use Rattle.kept_vectors.proofs.KeepLemmas.{ran_vectors, keeps_none, keeps_lane, keeper_after}
 
 -- what is told of a table is told of one in which more numbers are apart
-pub told_later : {good : GoodSim} {vectors : List (List Bool)} {noted : Noted} {t u : ClassTable} → IsWhole u → IsFiner t u → AreTold good vectors noted t → AreTold good vectors noted u
-told_later {t = t} {u = u} whole finer told =
+pub told_later : {good : GoodSim} {vectors : List (List Bool)} {noted : Noted} {t u : ClassTable} → IsWhole u → IsFiner t u → AreTogether noted.roots u → AreTold good vectors noted t → AreTold good vectors noted u
+told_later {t = t} {u = u} whole finer together told =
     let numbers = finer.numbers in
     let same : (m n : ℕ) → m < length u.class_of → n < length u.class_of → class_at u m ≡ class_at u n → (m < length t.class_of) × (class_at t m ≡ class_at t n) =
     λ m n hm hn e. (omega (arith, hm, numbers), finer.together m n (omega (arith, hm, numbers)) (omega (arith, hn, numbers)) e) in
@@ -30,6 +31,10 @@ told_later {t = t} {u = u} whole finer told =
       ran = told.ran;
       whole = whole;
       numbers = numbers ∙ told.numbers;
+      roots = told.roots ∙ sym numbers;
+      units = λ n hn.
+          let one = told.units n (omega (arith, hn, numbers)) in
+          record { below = omega (arith, one.below, numbers); itself = one.itself; together = together n hn; alike = one.alike };
       mates = λ n hn. elim (told.mates n (omega (arith, hn, numbers))) [
         | inl mates ↦ inl (λ m hm e. let old = same m n hm hn e in mates m old.0 old.1)
         | inr alike ↦ inr (λ m lane hm e live. let old = same m n hm hn e in alike m lane old.0 old.1 live)

@@ -15,20 +15,22 @@ use Rattle.fault_heads.specs.Turned.{vector_at}
 use Rattle.kept_vectors.specs.Kept.{KeptSoFar, with_vector, Keeps, IsFiner}
 use Rattle.kept_vectors.specs.Leaves.{AreToldAt}
 use Rattle.kept_vectors.specs.Notes.{Noted, AreTold, AreMatesNoted}
+use Rattle.kept_vectors.specs.Units.{AreTogether, AreOfUnits}
 use Rattle.kept_vectors.specs.Waits.{AreWaiting}
 use Rattle.kept_vectors.proofs.AnswerLemmas.{row_exists}
 use Rattle.kept_vectors.proofs.KeepLemmas.{ran_vectors, keeps_one, skipped_lane, whole_after}
-use Rattle.kept_vectors.proofs.LeaveLemmas.{first_here, some_leaves, all_leave, mates_of, are_leavers, waits_behind, waits_on, alike_there, cut_table}
+use Rattle.kept_vectors.proofs.LeaveLemmas.{alike_in_row, first_here, some_leaves, all_leave, mates_of, are_leavers, waits_behind, waits_on, alike_there, cut_table}
 
 -- The vector of the lane stands behind those that were kept, and those that left are left to wait behind it.
-pub record IsLaneKept (good : GoodSim) (lane limit : ℕ) (lists : List (List ℕ)) (left : List ℕ) (old new : KeptSoFar) : Type 0 where
+pub record IsLaneKept (good : GoodSim) (roots : List ℕ) (lane limit : ℕ) (lists : List (List ℕ)) (left : List ℕ) (old new : KeptSoFar) : Type 0 where
+  pub together : AreTogether roots new.table
   pub keeps : Keeps good.circuit (vector_at good lane ∷ []) old new
   pub whole : IsWhole new.table
   pub finer : IsFiner old.table new.table
-  pub waits : AreWaiting good new.table (lane + 1) limit lists left
+  pub waits : AreWaiting good roots new.table (lane + 1) limit lists left
 
 module _ {good : GoodSim} {vectors : List (List Bool)} {noted : Noted} (old : KeptSoFar) (told : AreTold good vectors noted old.table) (lane limit : ℕ) (below : lane < limit) (within : limit ≤ length vectors)
-    (lists : List (List ℕ)) (waits : AreWaiting good old.table lane limit lists []) (ns : List ℕ) (all : (n : ℕ) → Contains (get_or lists lane []) n → Contains ns n) (others : (n : ℕ) → Contains ns n → Contains (get_or lists lane []) n) where
+    (lists : List (List ℕ)) (waits : AreWaiting good noted.roots old.table lane limit lists []) (ns : List ℕ) (of : AreOfUnits noted.roots (get_or lists lane []) ns) where
   live : lane < length (vectors_of good)
   live = subst (λ (vs : List (List Bool)). lane < length vs) (sym (ran_vectors good vectors told.ran)) (omega (arith, below, within))
 
@@ -37,38 +39,38 @@ module _ {good : GoodSim} {vectors : List (List Bool)} {noted : Noted} (old : Ke
 
   left_here : (row : List (List Bool)) → IsAnswerRow good.circuit (vector_at good lane) row → (n : ℕ) → LeavesClass old.table row n → Contains ns n
   left_here row answers n leaves =
-      all_leave good told.circuit old.table told.whole told.numbers lane live row answers lists limit below waits ns all others n (first_here good told.circuit old.table told.whole told.numbers lane live row answers n leaves)
+      all_leave good told.circuit old.table told.whole told.numbers lane live row answers noted.roots told.roots told.units lists limit below waits ns of n (first_here good told.circuit old.table told.whole told.numbers lane live row answers n leaves)
 
   -- all numbers of a leaver's class are noted
   pub mates_here : (n : ℕ) → Contains ns n → AreMatesNoted good noted old.table n
   mates_here n has =
       let r = row_of in
-      mates_of good told.circuit old.table told.whole told.numbers lane live r.0 r.1 lists limit below waits ns all others noted told.mates n
-      (some_leaves good told.circuit old.table told.whole told.numbers lane live r.0 r.1 lists limit below waits ns all others n has)
+      mates_of good told.circuit old.table told.whole told.numbers lane live r.0 r.1 noted.roots told.roots told.units lists limit below waits ns of noted told.mates n
+      (some_leaves good told.circuit old.table told.whole told.numbers lane live r.0 r.1 noted.roots told.roots told.units lists limit below waits ns of n has)
 
   pub leaver_below : (n : ℕ) → Contains ns n → n < length old.table.class_of
-  leaver_below n has = (waits.right n lane (omega arith) below (others n has)).number
+  leaver_below n has = omega (arith, (of.only n has).0, told.roots)
 
   -- where none leaves, nothing changes
   pub none_kept_here : ns ≡ [] → Keeps good.circuit (vector_at good lane ∷ []) old old
   none_kept_here none =
       let r = row_of in
-      skipped_lane good told.circuit old told.numbers lane live told.whole (alike_there good told.circuit old.table told.whole told.numbers lane live r.0 r.1 lists limit below waits ns (left_here r.0 r.1) none)
+      skipped_lane good told.circuit old told.numbers lane live told.whole (alike_there good told.circuit old.table told.whole told.numbers lane live r.0 r.1 noted.roots lists limit below waits ns (left_here r.0 r.1) none)
 
-  pub none_moved_here : ns ≡ [] → AreWaiting good old.table (lane + 1) limit lists []
-  none_moved_here none = let r = row_of in waits_on good told.circuit old.table told.whole told.numbers lane live r.0 r.1 lists limit below waits ns (left_here r.0 r.1) none
+  pub none_moved_here : ns ≡ [] → AreWaiting good noted.roots old.table (lane + 1) limit lists []
+  none_moved_here none = let r = row_of in waits_on good told.circuit old.table told.whole told.numbers lane live r.0 r.1 noted.roots lists limit below waits ns (left_here r.0 r.1) none
 
   module _ (leavers : List Leaver) (positions : List ℕ) (ordered : AllPairs (ComesBefore old.table) ns) (tells : AreToldAt noted lane ns leavers positions) where
     -- they are the leavers by the row of answers
     pub leavers_here : (row : List (List Bool)) → IsAnswerRow good.circuit (vector_at good lane) row → AreLeavers old.table row leavers positions
     leavers_here row answers =
-        are_leavers good told.circuit old.table told.whole told.numbers lane live row answers lists limit below waits ns all others noted told.mates leavers positions ordered tells.numbers_are tells.parts tells.tells
+        are_leavers good told.circuit old.table told.whole told.numbers lane live row answers noted.roots told.roots told.units lists limit below waits ns of noted told.mates leavers positions ordered tells.numbers_are tells.parts tells.tells
 
     pub some_leavers : (row : List (List Bool)) × AreLeavers old.table row leavers positions
     some_leavers = let r = row_of in (r.0, leavers_here r.0 r.1)
 
     -- and the vector is kept
-    pub lane_kept : 0 < length leavers → (new : KeptSoFar) → ((row : List (List Bool)) → AreLeavers old.table row leavers positions → new ≡ with_vector old (vector_at good lane, row)) → IsLaneKept good lane limit lists ns old new
+    pub lane_kept : 0 < length leavers → (new : KeptSoFar) → ((row : List (List Bool)) → AreLeavers old.table row leavers positions → new ≡ with_vector old (vector_at good lane, row)) → IsLaneKept good noted.roots lane limit lists ns old new
     lane_kept some new offered =
         let r = row_of in
         let v = vector_at good lane in
@@ -78,14 +80,19 @@ module _ {good : GoodSim} {vectors : List (List Bool)} {noted : Noted} (old : Ke
         let tables : new.table ≡ refined_table old.table r.0 = ap (λ (k : KeptSoFar). k.table) (offered r.0 are ∙ cut_table old v r.0 leavers positions told.whole some are) in
         let refined : IsRefinement old.table r.0 new.table = subst (IsRefinement old.table r.0) (sym tables) (refined_is old.table r.0 told.whole) in
         record {
+          together = λ n h.
+              let inside : n < length old.table.class_of = omega (arith, h, refined.numbers) in
+              let unit = told.units n inside in
+              let root = get_or noted.roots n 0 in
+              (refined.together root n unit.below inside).1 (unit.together, sym (alike_in_row good told.circuit old.table told.whole told.numbers lane live r.0 r.1 n root inside unit.below (unit.alike lane live)));
           keeps = keeps;
           whole = after.0;
           finer = after.1;
-          waits = waits_behind good told.circuit old.table told.whole told.numbers lane live r.0 r.1 lists limit below waits ns (left_here r.0 r.1) new.table refined;
+          waits = waits_behind good told.circuit old.table told.whole told.numbers lane live r.0 r.1 noted.roots lists limit below waits ns (left_here r.0 r.1) new.table refined;
         }
 
     -- of whom all numbers of the new classes are noted
-    pub mates_behind : (new : KeptSoFar) → IsLaneKept good lane limit lists ns old new → All (λ n. (n < length new.table.class_of) × AreMatesNoted good noted new.table n) ns
+    pub mates_behind : (new : KeptSoFar) → IsLaneKept good noted.roots lane limit lists ns old new → All (λ n. (n < length new.table.class_of) × AreMatesNoted good noted new.table n) ns
     mates_behind new kept k d h =
         let n = get_or ns k d in
         let has = Contains-get_or ns k d h in

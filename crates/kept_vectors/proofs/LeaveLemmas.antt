@@ -26,7 +26,8 @@ use Rattle.class_refine.proofs.Refined.{representative-member, sound_from, split
 use Rattle.word_sim.specs.GoodSim.{GoodSim, vectors_of}
 use Rattle.fault_heads.specs.Turned.{vector_at}
 use Rattle.kept_vectors.specs.declared.notes.Note.{Note}
-use Rattle.kept_vectors.specs.Notes.{has_lane, is_noted, lane_positions, AreAscending, AreNotedAlike, AreAlikeAt, AreMatesNoted, AreMatesAlike, Noted, number_notes}
+use Rattle.kept_vectors.specs.Notes.{has_lane, is_noted, lane_positions, AreAscending, AreNotedAlike, AreAlikeAt, HasUnit, AreMatesNoted, AreMatesAlike, Noted, number_notes}
+use Rattle.kept_vectors.specs.Units.{AreOfUnits}
 use Rattle.kept_vectors.specs.Waits.{IsLed, LeavesFirst, AreWaiting}
 use Rattle.kept_vectors.proofs.AnswerLemmas.{answer_in_row}
 use Rattle.kept_vectors.proofs.NoteLemmas.{alike_by_notes}
@@ -84,7 +85,7 @@ module _ (good : GoodSim) (is : IsCircuit good.circuit) (t : ClassTable) (whole 
   in_row : (n : ℕ) → n < length t.class_of → IsAnswer good.circuit (fault_numbered good.circuit n) (vector_at good lane) (answer_at t row n)
   in_row n h = answer_in_row good.circuit (vector_at good lane) row answers n (omega (arith, h, numbers))
 
-  alike_in_row : (m n : ℕ) → m < length t.class_of → n < length t.class_of → AreAlikeAt good lane m n → answer_at t row m ≡ answer_at t row n
+  pub alike_in_row : (m n : ℕ) → m < length t.class_of → n < length t.class_of → AreAlikeAt good lane m n → answer_at t row m ≡ answer_at t row n
   alike_in_row m n hm hn alike = alike (answer_at t row m) (answer_at t row n) (in_row m hm) (in_row n hn)
 
   alike_from_row : (m n : ℕ) → m < length t.class_of → n < length t.class_of → answer_at t row m ≡ answer_at t row n → AreAlikeAt good lane m n
@@ -117,15 +118,40 @@ module _ (good : GoodSim) (is : IsCircuit good.circuit) (t : ClassTable) (whole 
         | inr fails ↦ inr (record { below = h; differs = λ e. true_false (stay_together t row n lead) (staying t row n lead (sym ((lead_below n h).1)) e) fails })
       ]
 
+  -- of two numbers of a class that answer alike both leave it or none
+  leaves_also : (m n : ℕ) → n < length t.class_of → class_at t m ≡ class_at t n → answer_at t row m ≡ answer_at t row n → LeavesClass t row m → LeavesClass t row n
+  leaves_also m n h class answer leaves = record {
+    below = h;
+    differs = λ e. leaves.differs (answer ∙ (e ∙ ap (λ (k : ℕ). answer_at t row (representative t k)) (sym class)));
+  }
+
+  module _ (roots : List ℕ) (n : ℕ) (h : n < length t.class_of) (unit : HasUnit good roots t n) where
+    same_answer : answer_at t row (get_or roots n 0) ≡ answer_at t row n
+    same_answer = sym (alike_in_row n (get_or roots n 0) h unit.below (unit.alike lane live))
+
+    leaves_as_root : LeavesFirst good t lane lane (get_or roots n 0) → LeavesFirst good t lane lane n
+    leaves_as_root first = first_here n (leaves_also (get_or roots n 0) n h unit.together same_answer (leaves_here (get_or roots n 0) lane first))
+
+    root_leaves : LeavesFirst good t lane lane n → LeavesFirst good t lane lane (get_or roots n 0)
+    root_leaves first = first_here (get_or roots n 0) (leaves_also n (get_or roots n 0) unit.below (sym unit.together) (sym same_answer) (leaves_here n lane first))
+
   -- ---- the leavers of a lane
 
-  module _ (lists : List (List ℕ)) (limit : ℕ) (below : lane < limit) (waits : AreWaiting good t lane limit lists []) (ns : List ℕ)
-      (all : (n : ℕ) → Contains (get_or lists lane []) n → Contains ns n) (others : (n : ℕ) → Contains ns n → Contains (get_or lists lane []) n) where
+  module _ (roots : List ℕ) (roots_are : length roots ≡ length t.class_of) (units : (n : ℕ) → n < length t.class_of → HasUnit good roots t n) (lists : List (List ℕ)) (limit : ℕ) (below : lane < limit)
+      (waits : AreWaiting good roots t lane limit lists []) (ns : List ℕ) (are : AreOfUnits roots (get_or lists lane []) ns) where
     pub some_leaves : (n : ℕ) → Contains ns n → LeavesFirst good t lane lane n
-    some_leaves n has = waits.right n lane (omega arith) below (others n has)
+    some_leaves n has =
+        let by_root = are.only n has in
+        let h : n < length t.class_of = omega (arith, by_root.0, roots_are) in
+        leaves_as_root roots n h (units n h) (waits.right (get_or roots n 0) lane (omega arith) below by_root.1)
 
     pub all_leave : (n : ℕ) → LeavesFirst good t lane lane n → Contains ns n
-    all_leave n first = elim (waits.all n lane (omega arith) below first) [ inl has ↦ all n has | inr (k, h, e) ↦ absurd (omega (arith, h)) ]
+    all_leave n first =
+        let unit = units n first.number in
+        elim (waits.all (get_or roots n 0) lane unit.itself (omega arith) below (root_leaves roots n first.number unit first)) [
+          | inl has ↦ are.all n (omega (arith, first.number, roots_are)) has
+          | inr (k, h, e) ↦ absurd (omega (arith, h))
+        ]
 
     module _ (noted : Noted) (mates_or : (n : ℕ) → n < length t.class_of → AreMatesNoted good noted t n ⊎ AreMatesAlike good t n) where
       -- all numbers of a leaver's class are noted
@@ -172,9 +198,9 @@ module _ (good : GoodSim) (is : IsCircuit good.circuit) (t : ClassTable) (whole 
 
   -- ---- behind the lane
 
-  module _ (lists : List (List ℕ)) (limit : ℕ) (below : lane < limit) (waits : AreWaiting good t lane limit lists []) (left : List ℕ) (leave : (n : ℕ) → LeavesClass t row n → Contains left n) where
+  module _ (roots : List ℕ) (lists : List (List ℕ)) (limit : ℕ) (below : lane < limit) (waits : AreWaiting good roots t lane limit lists []) (left : List ℕ) (leave : (n : ℕ) → LeavesClass t row n → Contains left n) where
     -- where numbers left, who stayed waits where it did
-    pub waits_behind : (u : ClassTable) → IsRefinement t row u → AreWaiting good u (lane + 1) limit lists left
+    pub waits_behind : (u : ClassTable) → IsRefinement t row u → AreWaiting good roots u (lane + 1) limit lists left
     waits_behind u refined =
         let led_now : (n other : ℕ) → n < length t.class_of → answer_at t row n ≡ answer_at t row (representative t (class_at t n)) → representative u (class_at u n) ≡ representative t (class_at t n) =
         λ n other h e. ap (representative u) (refined.stay n h e) ∙ (refined.leads (class_at t n) (whole.classes n h)).1 in
@@ -189,14 +215,14 @@ module _ (good : GoodSim) (is : IsCircuit good.circuit) (t : ClassTable) (whole 
                 differs = λ now. first.differs (subst (AreAlikeAt good other n) lead now);
                 before = λ earlier from less. subst (AreAlikeAt good earlier n) (sym lead) (first.before earlier (omega (arith, from)) less);
               };
-          all = λ n other low h first.
+          all = λ n other unit low h first.
               let inside : n < length t.class_of = omega (arith, first.number, refined.numbers) in
               elim (stays_or_leaves n inside) [
                 | inr leaves ↦ inr (leave n leaves)
                 | inl e ↦
                     let lead = led_now n other inside e in
                     let here : IsLed good t lane n = alike_from_row n (representative t (class_at t n)) inside ((lead_below n inside).0) e in
-                    elim (waits.all n other (omega (arith, low)) h (record {
+                    elim (waits.all n other unit (omega (arith, low)) h (record {
                       number = inside;
                       differs = λ now. first.differs (subst (AreAlikeAt good other n) (sym lead) now);
                       before = λ earlier from less. elim (cases_eq earlier lane) [
@@ -208,17 +234,17 @@ module _ (good : GoodSim) (is : IsCircuit good.circuit) (t : ClassTable) (whole 
         }
 
     -- where none left, they wait where they did
-    pub waits_on : left ≡ [] → AreWaiting good t (lane + 1) limit lists []
+    pub waits_on : left ≡ [] → AreWaiting good roots t (lane + 1) limit lists []
     waits_on none = record {
       count = waits.count;
       right = λ n other low h has.
           let first = waits.right n other (omega (arith, low)) h has in
           record { number = first.number; differs = first.differs; before = λ earlier from less. first.before earlier (omega (arith, from)) less };
-      all = λ n other low h first. elim (stays_or_leaves n first.number) [
+      all = λ n other unit low h first. elim (stays_or_leaves n first.number) [
         | inr leaves ↦ absurd (no_member n (subst (λ xs. Contains xs n) none (leave n leaves)))
         | inl e ↦
             let here : IsLed good t lane n = alike_from_row n (representative t (class_at t n)) first.number ((lead_below n first.number).0) e in
-            waits.all n other (omega (arith, low)) h (record {
+            waits.all n other unit (omega (arith, low)) h (record {
               number = first.number;
               differs = first.differs;
               before = λ earlier from less. elim (cases_eq earlier lane) [

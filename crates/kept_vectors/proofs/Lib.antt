@@ -5,6 +5,7 @@ mod AskLemmas
 mod ApartLemmas
 mod FirstLane
 mod GroupLemmas
+mod UnitLemmas
 mod WaitLemmas
 mod OrderLemmas
 mod LeaveLemmas

@@ -26,7 +26,7 @@ use Rattle.fault_sim.specs.Rows.{IsFalse, IsTrueSomewhere}
 use Rattle.fault_sim.specs.FaultSim.{FaultSim, lanes_at, AreTurnedDifferences, IsDifference}
 use Rattle.kept_vectors.specs.declared.notes.Note.{Note}
 use Rattle.kept_vectors.specs.declared.notes.Shown.{Shown}
-use Rattle.kept_vectors.specs.Notes.{has_lane, is_noted, AreAscending, AreNotesAt, IsDifferenceOf, IsReportOf, IsHeadReport, IsShownAs, IsSpanIn, noted_in, nothing_shown, AreNotedAlike, AreAlikeAt, AreRootsOf, Noted, place_of, head_at, head_notes, turn_of, turn_notes, lane_notes, IsPlaceShown, IsTurnShown, HasNotes, IsTurnNeeded, IsNumberAsked, IsPlaceNoted, IsNumberNoted}
+use Rattle.kept_vectors.specs.Notes.{has_lane, is_noted, AreAscending, AreNotesAt, IsDifferenceOf, IsReportOf, IsHeadReport, IsShownAs, IsSpanIn, noted_in, nothing_shown, AreNotedAlike, AreAlikeAt, AreRootsOf, Noted, place_of, head_at, head_notes, turn_of, turn_notes, lane_notes, number_notes, IsPlaceShown, IsTurnShown, HasNotes, IsTurnNeeded, IsNumberAsked, IsPlaceNoted, IsNumberNoted}
 use Rattle.kept_vectors.proofs.AnswerLemmas.{answer_exists, alike_by_differences, same_difference}
 
 -- ---- the notes of one number
@@ -195,10 +195,15 @@ module _ (good : GoodSim) (is : IsCircuit good.circuit) (few : length (vectors_o
         ],
       )
 
-  pub number_noted : IsNumberAsked good needs noted.turns number → IsNumberNoted good noted number
-  number_noted asked =
-      let both = turn_noted (turn_of noted number) asked.turn in
-      record { notes = record { below = asked.below; shown = both.0 }; report = both.1 }
+-- what is noted of a number is noted of another that answers alike in the lane
+report_alike : (good : GoodSim) → IsCircuit good.circuit → (m n lane : ℕ) (notes : List Note) → AreAlikeAt good lane n m → IsReportOf good m lane notes → IsReportOf good n lane notes
+report_alike good is m n lane notes alike report = record {
+  positions = report.positions;
+  ascend = report.ascend;
+  differ = λ position h answer free a b.
+      let other = answer_exists good.circuit is (fault_numbered good.circuit m) (vector_at good lane) in
+      report.differ position h answer free (subst (IsAnswer good.circuit (fault_numbered good.circuit m) (vector_at good lane)) (sym (alike answer other.0 a other.1)) other.1) b;
+}
 
 -- ---- alike
 
@@ -206,6 +211,18 @@ module _ (good : GoodSim) (is : IsCircuit good.circuit) (few : length (vectors_o
 pub alike_by_roots : (good : GoodSim) → IsCircuit good.circuit → (roots : List ℕ) → AreRootsOf good.circuit roots → All (λ v. length v ≡ good.circuit.sources) (vectors_of good) → (m n lane : ℕ) → m < fault_count good.circuit → n < fault_count good.circuit
     → get_or roots m 0 ≡ get_or roots n 0 → lane < length (vectors_of good) → AreAlikeAt good lane m n
 alike_by_roots good is roots are widths m n lane hm hn e live first second a b = are.equal is m n hm hn e (vector_at good lane) first second (widths lane [] live) a b
+
+-- where the root was asked, the number is noted
+pub number_noted : (good : GoodSim) → IsCircuit good.circuit → length (vectors_of good) ≤ LANES → All (λ v. length v ≡ good.circuit.sources) (vectors_of good) → (needs : List (List Bool)) (noted : Noted) → noted.lines ≡ line_count good.circuit
+    → ((place : ℕ) → place < line_count good.circuit + length good.circuit.positions → IsPlaceNoted good needs noted.notes noted.shown place) → AreRootsOf good.circuit noted.roots → (n : ℕ) → n < length noted.roots → IsNumberAsked good needs noted.turns (get_or noted.roots n 0) → IsNumberNoted good noted n
+number_noted good is few widths needs noted lines places are n inside asked =
+    let root = get_or noted.roots n 0 in
+    let h : n < fault_count good.circuit = omega (arith, inside, are.whole) in
+    let both = turn_noted good is few needs noted lines places root (turn_of noted n) asked.turn in
+    record {
+      notes = record { inside = inside; below = asked.below; shown = both.0 };
+      report = λ lane live. report_alike good is root n lane (number_notes noted n lane) (alike_by_roots good is noted.roots are widths n root lane h (are.within n 0 inside) (sym (are.itself n h)) live) (both.1 lane live);
+    }
 
 none_beyond : (limit lane position : ℕ) (notes : List Note) → All (λ n. n.position < limit) notes → limit ≤ position → is_noted notes lane position ≡ false
 none_beyond limit lane position [] all over = refl

@@ -5,4 +5,5 @@ pub mod Leaves
 pub mod KeeperFields
 pub mod Notes
 pub mod Scan
+pub mod Units
 pub mod Waits

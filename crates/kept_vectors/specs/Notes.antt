@@ -15,6 +15,7 @@ use Rattle.fault_heads.specs.declared.head.Head.TheVariants as head
 use Rattle.fault_heads.specs.declared.head.Turn.{Turn}
 use Rattle.fault_heads.specs.Turned.{vector_at, IsFreeLane, IsHeadOf, turned_if, TurnsHead}
 use Rattle.fault_sim.specs.FaultSim.{FaultSim, lanes_at, IsDifference}
+use Rattle.kept_vectors.specs.Units.{IsUnit, HasChains}
 use Rattle.kept_vectors.specs.declared.notes.Note.{Note}
 use Rattle.kept_vectors.specs.declared.notes.Shown.{Shown}
 use Rattle.kept_vectors.specs.declared.differences.Differences.{Differences}
@@ -65,15 +66,16 @@ place_of lines (head.Position at) = lines + at
 abbrev pub head_at : ℕ → ℕ → Head
 head_at lines place = if nat_lt place lines then head.Line place else head.Position (place - lines)
 
--- what is noted: by its place what a head shows, and by number what it turns
+-- what is noted: by its place what a head shows, by number its root, and by root what it turns
 pub record Noted : Type 0 where
   pub lines : ℕ
   pub notes : List Note
   pub shown : List Shown
+  pub roots : List ℕ
   pub turns : List (Option Turn)
 
 abbrev pub noted_by : Differences → Noted
-noted_by d = record { lines = d.lines; notes = d.notes.items; shown = d.shown.items; turns = d.turns.items }
+noted_by d = record { lines = d.lines; notes = d.notes.items; shown = d.shown.items; roots = d.units.roots.now; turns = d.turns.items }
 
 module _ (noted : Noted) where
   abbrev pub shown_at : ℕ → Shown
@@ -83,9 +85,9 @@ module _ (noted : Noted) where
   abbrev pub head_notes : ℕ → List Note
   head_notes place = noted_in noted.notes (shown_at place)
 
-  -- what a number turns
+  -- what a number's root turns
   abbrev pub turn_of : ℕ → Option Turn
-  turn_of number = slice_index_or noted.turns number None
+  turn_of number = slice_index_or noted.turns (slice_index noted.roots number) None
 
 -- the lanes in which something is turned
 abbrev pub row_of : Option Turn → List Bool
@@ -117,9 +119,10 @@ module _ (noted : Noted) where
   IsTurnShown None = ⊤
   IsTurnShown (Some turn) = IsPlaceShown (place_of noted.lines turn.head)
 
-  -- What the number turns is shown.
+  -- What the number's root turns is shown.
   pub record HasNotes (number : ℕ) : Type 0 where
-    pub below : number < length noted.turns
+    pub inside : number < length noted.roots
+    pub below : slice_index noted.roots number < length noted.turns
     pub shown : IsTurnShown (turn_of noted number)
 
 module _ (good : GoodSim) where
@@ -150,6 +153,13 @@ module _ (good : GoodSim) where
   abbrev pub AreAlikeAt : ℕ → ℕ → ℕ → Type 0
   AreAlikeAt lane m n = (first second : List Bool) → IsAnswer good.circuit (fault_numbered good.circuit m) (vector_at good lane) first
       → IsAnswer good.circuit (fault_numbered good.circuit n) (vector_at good lane) second → first ≡ second
+
+  -- The number's root is of its class and has itself as root, and both answer alike.
+  pub record HasUnit (roots : List ℕ) (t : ClassTable) (n : ℕ) : Type 0 where
+    pub below : slice_index roots n < length t.class_of
+    pub itself : IsUnit roots (slice_index roots n)
+    pub together : class_at t (slice_index roots n) ≡ class_at t n
+    pub alike : (lane : ℕ) → lane < length (vectors_of good) → AreAlikeAt lane n (slice_index roots n)
 
   -- All numbers of the number's class answer as it does.
   abbrev pub AreMatesAlike : ClassTable → ℕ → Type 0
@@ -182,57 +192,63 @@ module _ (good : GoodSim) where
 
   -- ---- groups and classes of which something is known
 
-  module _ (IsKnown : ℕ → Type 0) where
-    -- It is known of all numbers of the number's class.
-    abbrev pub AreMatesKnown : ClassTable → ℕ → Type 0
-    AreMatesKnown t number = (other : ℕ) → other < length t.class_of → class_at t other ≡ class_at t number → IsKnown other
+  -- It is known of all numbers of the number's class.
+  abbrev pub AreMatesKnown : (ℕ → Type 0) → ClassTable → ℕ → Type 0
+  AreMatesKnown IsKnown t number = (other : ℕ) → other < length t.class_of → class_at t other ≡ class_at t number → IsKnown other
 
-    -- It is known of the numbers of a group, and they are all that was added to the numbers; or they all answer alike, and none was added.
+  module _ (roots : List ℕ) (IsKnown : ℕ → Type 0) where
+    -- It is known of the numbers of a group, and its units were added to the numbers, and nothing else but numbers of it; or they all answer alike, and none was added.
     abbrev pub IsGroupKnown : List ℕ → List ℕ → List ℕ → Type 0
-    IsGroupKnown group old new = (All IsKnown group × ((n : ℕ) → Contains group n → Contains new n) × ((n : ℕ) → Contains new n → Contains old n ⊎ Contains group n) × ((n : ℕ) → Contains old n → Contains new n))
+    IsGroupKnown group old new = (All IsKnown group × ((n : ℕ) → Contains group n → IsUnit roots n → Contains new n) × ((n : ℕ) → Contains new n → Contains old n ⊎ Contains group n) × ((n : ℕ) → Contains old n → Contains new n))
         ⊎ ((new ≡ old) × ((m n lane : ℕ) → Contains group m → Contains group n → lane < length (vectors_of good) → AreAlikeAt lane m n))
 
-    -- It is known of all numbers of the classes of these numbers, and any other answers as all of its class.
+    -- It is known of all numbers of the classes of these numbers. Of any other class it is known, and its units are among these numbers, or its numbers answer alike.
     pub record AreKnown (t : ClassTable) (numbers : List ℕ) : Type 0 where
-      pub mates : All (λ n. (n < length t.class_of) × AreMatesKnown t n) numbers
-      pub others : (n : ℕ) → n < length t.class_of → Contains numbers n ⊎ AreMatesAlike t n
+      pub mates : All (λ n. (n < length t.class_of) × AreMatesKnown IsKnown t n) numbers
+      pub others : (n : ℕ) → n < length t.class_of → ((IsUnit roots n → Contains numbers n) × AreMatesKnown IsKnown t n) ⊎ AreMatesAlike t n
 
   -- All numbers of the number's class are noted.
   abbrev pub AreMatesNoted : Noted → ClassTable → ℕ → Type 0
   AreMatesNoted noted = AreMatesKnown (IsNumberNoted noted)
 
-  -- These are numbers whose classes are noted, and any other answers as all of its class.
+  -- These are numbers whose classes are noted, with all units of these classes, and any other number answers as all of its class.
   abbrev pub AreAsked : Noted → ClassTable → List ℕ → Type 0
-  AreAsked noted = AreKnown (IsNumberNoted noted)
+  AreAsked noted = AreKnown noted.roots (IsNumberNoted noted)
+
+  -- The number's root was asked.
+  abbrev pub IsUnitAsked : Differences → ℕ → Type 0
+  IsUnitAsked d n = (n < length d.units.roots.now) × IsNumberAsked d.needs.items d.turns.items (slice_index d.units.roots.now n)
 
   -- A number that was asked is asked.
   abbrev pub AreAskedLater : Differences → Differences → Type 0
   AreAskedLater old new = (n : ℕ) → IsNumberAsked old.needs.items old.turns.items n → IsNumberAsked new.needs.items new.turns.items n
 
--- The circuit has run these vectors, and of each class of the table all numbers are noted or all answer alike.
+-- The circuit has run these vectors, the units stand for their numbers, and of each class of the table all numbers are noted or all answer alike.
 pub record AreTold (good : GoodSim) (vectors : List (List Bool)) (noted : Noted) (t : ClassTable) : Type 0 where
   pub circuit : IsCircuit good.circuit
   pub ran : good.ran ≡ Some vectors
   pub whole : IsWhole t
   pub numbers : length t.class_of ≡ fault_count good.circuit
+  pub roots : length noted.roots ≡ length t.class_of
+  pub units : (n : ℕ) → n < length t.class_of → HasUnit good noted.roots t n
   pub mates : (n : ℕ) → n < length t.class_of → AreMatesNoted good noted t n ⊎ AreMatesAlike good t n
 
--- Numbers with one root answer alike to every vector.
+-- Numbers with one root answer alike to every vector, and a root is its own root.
 pub record AreRootsOf (c : Circuit) (roots : List ℕ) : Type 0 where
   pub whole : length roots ≡ fault_count c
   pub within : All (λ root. root < fault_count c) roots
+  pub itself : (n : ℕ) → n < fault_count c → IsUnit roots (slice_index roots n)
   pub equal : IsCircuit c → (m n : ℕ) → m < fault_count c → n < fault_count c → slice_index roots m ≡ slice_index roots n → AreEqual c (fault_numbered c m) (fault_numbered c n)
 
--- The circuit has run a block, and these are its faults and their roots.
-pub record HasRunBlock (good : GoodSim) (listed : List Fault) (roots : List ℕ) : Type 0 where
+-- The circuit has run a block, and these are its faults.
+pub record HasRunBlock (good : GoodSim) (listed : List Fault) : Type 0 where
   pub circuit : IsCircuit good.circuit
   pub ran : IsSome good.ran
   pub few : length (vectors_of good) ≤ LANES
   pub widths : All (λ v. length v ≡ good.circuit.sources) (vectors_of good)
   pub faults_are : listed ≡ faults good.circuit
-  pub roots_are : AreRootsOf good.circuit roots
 
--- The heads and the simulator are those of the circuit, and there is room for its heads and numbers.
+-- The heads, the simulator and the units are those of the circuit, and there is room for its heads and numbers.
 pub record AreOf (c : Circuit) (d : Differences) : Type 0 where
   pub lines : d.lines ≡ line_count c
   pub heads : d.heads.circuit ≡ c
@@ -240,3 +256,5 @@ pub record AreOf (c : Circuit) (d : Differences) : Type 0 where
   pub needs : length d.needs.items ≡ line_count c + length c.positions
   pub shown : length d.shown.items ≡ line_count c + length c.positions
   pub turns : length d.turns.items ≡ fault_count c
+  pub roots : AreRootsOf c d.units.roots.now
+  pub chains : HasChains d.units

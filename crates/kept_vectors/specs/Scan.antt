@@ -3,7 +3,6 @@ use Rattle.std.specs.Prelude.{◌≡◌, ℕ, ◌≤◌, ◌<◌, Bool, List, []
 use Rattle.std.specs.Bool.{MatchBool}
 use Rattle.net_model.specs.Circuit.{Circuit, IsCircuit}
 use Rattle.net_model.specs.FaultList.{faults}
-use Rattle.fault_collapse.specs.Forest.{IsForestOf}
 use Rattle.word_sim.specs.declared.lanes.TheConstants.{LANES}
 use Rattle.kept_vectors.specs.declared.scan.Kept.{Kept}
 use Rattle.kept_vectors.specs.declared.scan.Scan.{Scan}
@@ -14,11 +13,10 @@ use Rattle.kept_vectors.specs.Notes.{AreOf}
 abbrev pub kept_now : Kept → KeptSoFar
 kept_now kept = record { vectors = kept.vectors.items; table = kept.classes }
 
--- The faults and the forest are those of the simulators' circuit, there is room for all of it, and a list for each lane.
+-- The faults are those of the simulators' circuit, there is room for all of it, and a list for each lane.
 pub record IsScan (s : Scan) : Type 0 where
   pub circuit : IsCircuit s.good.circuit
   pub faults_are : s.listed.now ≡ faults s.good.circuit
-  pub forest_of : IsForestOf s.good.circuit s.forest.now
   pub block : s.block.sources ≡ s.good.circuit.sources
   pub differences : AreOf s.good.circuit s.differences
   pub lanes : length s.waiting.lanes.items ≡ LANES

@@ -1,8 +1,9 @@
--- Numbers that wait at the lanes at which they leave their classes.
+-- Units that wait at the lanes at which they leave their classes.
 use Rattle.std.specs.Prelude.{◌≡◌, ◌≤◌, ◌<◌, ◌⊎◌, ℕ, List, [], length, slice_index_or, Contains}
 use Rattle.net_model.specs.ClassTable.{ClassTable, class_at, representative}
 use Rattle.word_sim.specs.declared.lanes.TheConstants.{LANES}
 use Rattle.word_sim.specs.GoodSim.{GoodSim}
+use Rattle.kept_vectors.specs.Units.{IsUnit}
 use Rattle.kept_vectors.specs.Notes.{AreAlikeAt}
 
 module _ (good : GoodSim) (t : ClassTable) where
@@ -16,8 +17,9 @@ module _ (good : GoodSim) (t : ClassTable) where
     pub differs : IsLed lane n → ⊥
     pub before : (earlier : ℕ) → from ≤ earlier → earlier < lane → IsLed earlier n
 
-  -- From a lane on each number waits at the first lane at which it leaves its class, if one below `live` is one; but those that are left to come may not wait yet.
+-- From a lane on each unit waits at the first lane at which it leaves its class, if one below `live` is one; but those that are left to come may not wait yet.
+module _ (good : GoodSim) (roots : List ℕ) (t : ClassTable) where
   pub record AreWaiting (from live : ℕ) (lists : List (List ℕ)) (left : List ℕ) : Type 0 where
     pub count : length lists ≡ LANES
-    pub right : (n lane : ℕ) → from ≤ lane → lane < live → Contains (slice_index_or lists lane []) n → LeavesFirst from lane n
-    pub all : (n lane : ℕ) → from ≤ lane → lane < live → LeavesFirst from lane n → Contains (slice_index_or lists lane []) n ⊎ Contains left n
+    pub right : (n lane : ℕ) → from ≤ lane → lane < live → Contains (slice_index_or lists lane []) n → LeavesFirst good t from lane n
+    pub all : (n lane : ℕ) → IsUnit roots n → from ≤ lane → lane < live → LeavesFirst good t from lane n → Contains (slice_index_or lists lane []) n ⊎ Contains left n

@@ -7,6 +7,7 @@ ghost use Rattle.kept_vectors.specs.Cube.{IsOfCube};
 ghost use Rattle.kept_vectors.specs.Notes.{noted_by, AreAsked};
 ghost use Rattle.kept_vectors.specs.Kept.{Keeps};
 ghost use Rattle.kept_vectors.specs.Scan.{kept_now, IsScan};
+ghost use Rattle.kept_vectors.specs.Units.{AreTogether};
 
 use crate::differences::Differences;
 use crate::scan::{Kept, Scan, judge_lane};
@@ -30,12 +31,13 @@ pub(crate) fn fix_sources(block: &mut Block, cube: &[Option<bool>])
 }
 
 impl Scan<'_> {
-    // Keeps of the vectors of the block the one at which most members answer otherwise than their representatives, if it
-    // splits a class.
+    // Keeps of the vectors of the block the one at which most units answer otherwise than the representatives of their
+    // classes, if it splits a class.
     pub(crate) fn keep_fullest(&mut self, kept: &mut Kept) -> Result<(), AllocError>
         requires scan { IsScan self.old }
         requires whole { IsWhole kept.old.classes }
         requires numbers { length kept.old.classes.class_of ≡ fault_count self.old.good.circuit }
+        requires together { AreTogether self.old.differences.units.roots.now kept.old.classes }
         requires some { 0 < length self.old.block.vectors }
         ensures scan { IsScan self.new }
         ensures circuit { self.new.good.circuit ≡ self.old.good.circuit }

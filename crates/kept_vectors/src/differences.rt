@@ -1,6 +1,6 @@
 //! In which lanes the answers of fault numbers differ from the fault-free ones: each turns a head, and its head is simulated.
 
-ghost use Rattle.std.specs.Prelude.{◌≡◌, ◌≤◌, ◌<◌, ◌+◌, ◌^◌, ◌↔◌, ◌++◌, ℕ, List, [], ◌∷◌, true, false, length, All, IfOk, OnOk, IsSome};
+ghost use Rattle.std.specs.Prelude.{◌≡◌, ◌≤◌, ◌<◌, ◌+◌, ◌^◌, ◌↔◌, ◌++◌, ℕ, List, [], ◌∷◌, true, false, length, All, Contains, IfOk, OnOk, IsSome, slice_index};
 ghost use Rattle.net_model.specs.Answer.{bit_at};
 ghost use Rattle.net_model.specs.Circuit.{IsCircuit, line_count};
 ghost use Rattle.net_model.specs.FaultList.{faults, fault_count};
@@ -8,10 +8,12 @@ ghost use Rattle.class_refine.specs.Fields.{IsWhole};
 ghost use Rattle.word_sim.specs.GoodSim.{vectors_of};
 ghost use Rattle.fault_heads.specs.Turned.{IsHeadOf};
 ghost use Rattle.fault_heads.specs.Ways.{AreWays};
-ghost use Rattle.kept_vectors.specs.Notes.{Noted, place_of, head_at, row_of, turn_of, turn_notes, lane_notes, number_notes, noted_by, HasNotes, IsTurnShown, HasRunBlock, AreOf, IsNumberAsked, AreAskedLater, IsGroupKnown, AreNotedAlike, AreKnown, AreAsked, IsPlaceNoted};
+ghost use Rattle.kept_vectors.specs.Units.{AreTogether};
+ghost use Rattle.kept_vectors.specs.Notes.{Noted, place_of, head_at, row_of, turn_of, turn_notes, lane_notes, number_notes, noted_by, HasNotes, IsTurnShown, HasRunBlock, AreRootsOf, AreOf, IsNumberAsked, IsUnitAsked, AreAskedLater, IsGroupKnown, AreNotedAlike, AreKnown, AreAsked, IsPlaceNoted};
 
 use crate::apart::apart;
 use crate::notes::{Note, Shown, have_one_root, notes_in, show_head};
+use crate::units::Units;
 use class_refine::Classes;
 use fault_heads::{Head, Heads, Turn};
 use fault_list::FaultList;
@@ -21,8 +23,8 @@ use std::alloc::{AllocError, Global};
 use word_sim::{GoodSim, LANES, Lanes};
 
 // What was noted of the answers of numbers to the vectors of a block. Heads stand one behind another: the lines, and then
-// the positions. Of each number that was asked there is what it turns, of each head in which lanes it is needed and what
-// it shows, and `numbers` are those that were asked.
+// the positions. Of each unit that was asked there is what it turns, of each head in which lanes it is needed and what
+// it shows, and `numbers` are the units that were asked. A number answers as its unit.
 pub(crate) struct Differences<'a> {
     pub(crate) lines: u32,
     pub(crate) heads: Heads<'a>,
@@ -32,6 +34,7 @@ pub(crate) struct Differences<'a> {
     pub(crate) needs: Vec<Lanes>,
     pub(crate) turns: Vec<Option<Turn>>,
     pub(crate) numbers: Vec<u32>,
+    pub(crate) units: Units<'a>,
 }
 
 // Written out, as a keeper's.
@@ -46,6 +49,7 @@ impl Drop for Differences<'_> {
             needs: _,
             turns: _,
             numbers: _,
+            units: _,
         } = self;
     }
 }
@@ -88,9 +92,11 @@ impl<'a> Differences<'a> {
     pub(crate) fn new(
         alloc: Global,
         circuit: &'a Circuit,
-        numbers: usize,
+        roots: &'a [u32],
+        numbers: u32,
     ) -> Result<Differences<'a>, AllocError>
         requires numbers { numbers ≡ fault_count circuit.now }
+        requires roots { AreRootsOf circuit.now roots.now }
         ensures { IfOk result (AreOf circuit.now) }
     {
         let lines = circuit.lines();
@@ -106,7 +112,8 @@ impl<'a> Differences<'a> {
             lines,
             needs: vec![in alloc; none; heads]?,
             shown: vec![in alloc; nothing; heads]?,
-            turns: vec![in alloc; None; numbers]?,
+            turns: vec![in alloc; None; numbers as usize]?,
+            units: Units::new(alloc, roots, numbers)?,
             heads: Heads::new(alloc, circuit)?,
             sim: FaultSim::new(alloc, circuit)?,
             notes: Vec::new(alloc),
@@ -114,12 +121,12 @@ impl<'a> Differences<'a> {
         })
     }
 
-    // What a number turns.
+    // What a number's unit turns.
     fn turn_of(&self, number: u32) -> &Option<Turn>
-        requires { number < length self.now.turns.items }
+        requires { HasNotes (noted_by self.now) number }
         ensures { result.now ≡ turn_of (noted_by self.now) number }
     {
-        &self.turns[number as usize]
+        &self.turns[self.units.of(number) as usize]
     }
 
     // The notes of what is turned.
@@ -183,78 +190,84 @@ impl<'a> Differences<'a> {
         &mut self,
         listed: &FaultList,
         good: &GoodSim,
-        roots: &[u32],
         classes: &Classes,
     ) -> Result<(), AllocError>
-        requires run { HasRunBlock good.now listed.now roots.now }
+        requires run { HasRunBlock good.now listed.now }
         requires of { AreOf good.now.circuit self.old }
         requires whole { IsWhole classes.now }
         requires numbers { length classes.now.class_of ≡ fault_count good.now.circuit }
+        requires together { AreTogether self.old.units.roots.now classes.now }
         ensures of { AreOf good.now.circuit self.new }
+        ensures units { self.new.units.roots.now ≡ self.old.units.roots.now }
         ensures asked { OnOk result (AreAsked good.now (noted_by self.new) classes.now self.new.numbers.items) }
     {
         self.heads.run(good);
-        self.ask_classes(listed, good, roots, classes)?;
+        self.ask_classes(listed, good, classes)?;
         self.show_heads(good)
     }
 
-    // Asks for all numbers that can be told apart within their classes.
+    // Asks for all units that can be told apart within their classes.
     fn ask_classes(
         &mut self,
         listed: &FaultList,
         good: &GoodSim,
-        roots: &[u32],
         classes: &Classes,
     ) -> Result<(), AllocError>
-        requires run { HasRunBlock good.now listed.now roots.now }
+        requires run { HasRunBlock good.now listed.now }
         requires of { AreOf good.now.circuit self.old }
         requires ways { AreWays good.now self.old.heads.ways }
         requires whole { IsWhole classes.now }
         requires numbers { length classes.now.class_of ≡ fault_count good.now.circuit }
+        requires together { AreTogether self.old.units.roots.now classes.now }
         ensures of { AreOf good.now.circuit self.new }
-        ensures asked { OnOk result (AreKnown good.now (IsNumberAsked good.now self.new.needs.items self.new.turns.items) classes.now self.new.numbers.items) }
+        ensures units { self.new.units.roots.now ≡ self.old.units.roots.now }
+        ensures asked { OnOk result (AreKnown good.now self.new.units.roots.now (IsUnitAsked good.now self.new) classes.now self.new.numbers.items) }
     {
         self.numbers.clear();
         need_nothing(&mut self.needs);
         for class in 0..classes.count() {
-            self.ask_class(listed, good, roots, classes.members(class))?;
+            self.ask_class(listed, good, classes.members(class))?;
         }
         Ok(())
     }
 
-    // Asks for the numbers of a group with more roots than one.
+    // Asks for the units of a group with more of them than one.
     fn ask_class(
         &mut self,
         listed: &FaultList,
         good: &GoodSim,
-        roots: &[u32],
         group: &[u32],
     ) -> Result<(), AllocError>
-        requires run { HasRunBlock good.now listed.now roots.now }
+        requires run { HasRunBlock good.now listed.now }
         requires inside { All (λ number. number < fault_count good.now.circuit) group.now }
         requires of { AreOf good.now.circuit self.old }
         requires ways { AreWays good.now self.old.heads.ways }
+        requires units { (n : ℕ) → Contains group.now n → Contains group.now (slice_index self.old.units.roots.now n) }
         ensures of { AreOf good.now.circuit self.new }
+        ensures units { self.new.units.roots.now ≡ self.old.units.roots.now }
         ensures ways { AreWays good.now self.new.heads.ways }
         ensures later { OnOk result (AreAskedLater good.now self.old self.new) }
-        ensures asked { OnOk result (IsGroupKnown good.now (IsNumberAsked good.now self.new.needs.items self.new.turns.items) group.now self.old.numbers.items self.new.numbers.items) }
+        ensures asked { OnOk result (IsGroupKnown good.now self.new.units.roots.now (IsUnitAsked good.now self.new) group.now self.old.numbers.items self.new.numbers.items) }
     {
-        if have_one_root(roots, group) {
+        if have_one_root(self.units.roots, group) {
             return Ok(());
         }
         for number in group {
-            self.ask(listed, good, *number)?;
+            if self.units.has(*number) {
+                self.ask(listed, good, *number)?;
+            }
         }
         Ok(())
     }
 
-    // Asks for a number: its head is needed where it turns it.
+    // Asks for a unit: its head is needed where it turns it.
     fn ask(&mut self, listed: &FaultList, good: &GoodSim, number: u32) -> Result<(), AllocError>
         requires faults { listed.now ≡ faults good.now.circuit }
         requires number { number < fault_count good.now.circuit }
         requires of { AreOf good.now.circuit self.old }
         requires ways { AreWays good.now self.old.heads.ways }
         ensures of { AreOf good.now.circuit self.new }
+        ensures units { self.new.units.roots.now ≡ self.old.units.roots.now }
         ensures ways { AreWays good.now self.new.heads.ways }
         ensures later { OnOk result (AreAskedLater good.now self.old self.new) }
         ensures asked { OnOk result (IsNumberAsked good.now self.new.needs.items self.new.turns.items number) }
@@ -281,6 +294,7 @@ impl<'a> Differences<'a> {
         ensures places { OnOk result ((place : ℕ) → place < length self.old.needs.items → IsPlaceNoted good.now self.old.needs.items self.new.notes.items self.new.shown.items place) }
         ensures turns { self.new.turns.items ≡ self.old.turns.items }
         ensures numbers { self.new.numbers.items ≡ self.old.numbers.items }
+        ensures units { self.new.units.roots.now ≡ self.old.units.roots.now }
     {
         self.notes.clear();
         for place in 0..self.needs.len() {
@@ -300,6 +314,7 @@ impl<'a> Differences<'a> {
         ensures needs { self.new.needs.items ≡ self.old.needs.items }
         ensures turns { self.new.turns.items ≡ self.old.turns.items }
         ensures numbers { self.new.numbers.items ≡ self.old.numbers.items }
+        ensures units { self.new.units.roots.now ≡ self.old.units.roots.now }
         ensures later { OnOk result ((other : ℕ) → other < place → IsPlaceNoted good.now self.old.needs.items self.old.notes.items self.old.shown.items other → IsPlaceNoted good.now self.old.needs.items self.new.notes.items self.new.shown.items other) }
         ensures here { OnOk result (IsPlaceNoted good.now self.old.needs.items self.new.notes.items self.new.shown.items place) }
     {

@@ -107,8 +107,8 @@ impl<'a> Keeper<'a> {
     }
 
     /// Keeps a vector of a cube if it splits a class: of the next blocks of the stream, as many as there are lanes for, with the
-    /// bits of the cube in each vector, the one at which most members of classes answer otherwise than their representatives.
-    /// After an error what is kept has not changed.
+    /// bits of the cube in each vector, the one at which most roots of collapse answer otherwise than the representatives of
+    /// their classes. After an error what is kept has not changed.
     pub fn keep_of_cube(&mut self, cube: &[Option<bool>]) -> Result<(), AllocError>
         requires { length cube.now ≡ self.old.circuit.sources }
         ensures circuit { self.new.circuit ≡ self.old.circuit }

@@ -9,6 +9,7 @@ mod leaving;
 mod notes;
 mod scan;
 mod tally;
+mod units;
 mod waiting;
 
 pub use keeper::Keeper;

@@ -9,6 +9,7 @@ ghost use Rattle.fault_heads.specs.Turned.{vector_at};
 ghost use Rattle.kept_vectors.specs.Kept.{with_vector, Keeps, KeepsFirst};
 ghost use Rattle.kept_vectors.specs.Scan.{kept_now, IsScan, IsOffered, HasJudged, IsScanEnd};
 ghost use Rattle.kept_vectors.specs.Notes.{noted_by, AreOf, AreTold, AreAsked};
+ghost use Rattle.kept_vectors.specs.Units.{AreTogether, HasChains};
 ghost use Rattle.kept_vectors.specs.Waits.{AreWaiting};
 ghost use Rattle.word_sim.specs.Block.{IsBlock};
 
@@ -57,12 +58,11 @@ impl Kept {
     }
 }
 
-// What tells which vectors split a class: the circuit's faults and the forest in which they collapse, a block of
-// vectors, the simulators of the block and of faults on it with what the faults showed, the numbers that wait for a lane
-// at which they leave their classes, and those that leave at one.
+// What tells which vectors split a class: the circuit's faults, a block of vectors, the simulators of the block and of
+// faults on it with what the faults showed, the units that wait for a lane at which they leave their classes, and the
+// numbers that leave at one.
 pub(crate) struct Scan<'a> {
     pub(crate) listed: &'a FaultList,
-    pub(crate) forest: &'a Forest,
     pub(crate) block: Block,
     pub(crate) good: GoodSim<'a>,
     pub(crate) differences: Differences<'a>,
@@ -76,7 +76,6 @@ impl Drop for Scan<'_> {
     fn drop(self) {
         let Scan {
             listed: _,
-            forest: _,
             block: _,
             good: _,
             differences: _,
@@ -100,19 +99,17 @@ impl<'a> Scan<'a> {
         ensures circuit { IfOk result (λ scan. scan.good.circuit ≡ circuit.now) }
     {
         let good = GoodSim::new(alloc, circuit)?;
-        let differences = Differences::new(alloc, circuit, listed.len() as usize)?;
-        Scan::with(alloc, listed, forest, good, differences)
+        let differences = Differences::new(alloc, circuit, forest.roots(), listed.len())?;
+        Scan::with(alloc, listed, good, differences)
     }
 
     // The scan of a circuit with its simulators.
     fn with(
         alloc: Global,
         listed: &'a FaultList,
-        forest: &'a Forest,
         good: GoodSim<'a>,
         differences: Differences<'a>,
     ) -> Result<Scan<'a>, AllocError>
-        requires forest { IsForestOf good.circuit forest.now }
         requires faults { listed.now ≡ faults_of good.circuit }
         requires differences { AreOf good.circuit differences }
         ensures scan { IfOk result IsScan }
@@ -125,7 +122,6 @@ impl<'a> Scan<'a> {
         let block = Block::new(alloc, circuit.sources())?;
         Ok(Scan {
             listed,
-            forest,
             block,
             good,
             differences,
@@ -140,6 +136,7 @@ impl<'a> Scan<'a> {
         requires scan { IsScan self.old }
         requires whole { IsWhole kept.old.classes }
         requires numbers { length kept.old.classes.class_of ≡ fault_count self.old.good.circuit }
+        requires together { AreTogether self.old.differences.units.roots.now kept.old.classes }
         ensures scan { IsScan self.new }
         ensures circuit { self.new.good.circuit ≡ self.old.good.circuit }
         ensures ok { OnOk result (Keeps self.old.good.circuit self.old.block.vectors (kept_now kept.old) (kept_now kept.new)) }
@@ -155,6 +152,7 @@ impl<'a> Scan<'a> {
         requires scan { IsScan self.old }
         requires whole { IsWhole kept.old.classes }
         requires numbers { length kept.old.classes.class_of ≡ fault_count self.old.good.circuit }
+        requires together { AreTogether self.old.differences.units.roots.now kept.old.classes }
         ensures scan { IsScan self.new }
         ensures circuit { self.new.good.circuit ≡ self.old.good.circuit }
         ensures ok { IfOk result (λ count. HasJudged self.old.good.circuit self.old.block.vectors run count (kept_now kept.old) (kept_now kept.new)) }
@@ -186,6 +184,7 @@ impl<'a> Scan<'a> {
         requires block { IsBlock self.old.block }
         requires whole { IsWhole classes.now }
         requires numbers { length classes.now.class_of ≡ fault_count self.old.good.circuit }
+        requires together { AreTogether self.old.differences.units.roots.now classes.now }
         ensures scan { IsScan self.new }
         ensures block { self.new.block ≡ self.old.block }
         ensures circuit { self.new.good.circuit ≡ self.old.good.circuit }
@@ -193,9 +192,8 @@ impl<'a> Scan<'a> {
         ensures asked { OnOk result (AreAsked self.new.good (noted_by self.new.differences) classes.now self.new.differences.numbers.items) }
     {
         self.good.run(&self.block);
-        let roots = self.forest.roots();
         self.differences
-            .note_classes(self.listed, &self.good, roots, classes)
+            .note_classes(self.listed, &self.good, classes)
     }
 }
 
@@ -210,7 +208,8 @@ fn judge_lanes(
     run: bool,
 ) -> Result<u32, AllocError>
     requires told { AreTold good.now block.now.vectors (noted_by differences.now) kept.old.classes }
-    requires waits { AreWaiting good.now kept.old.classes 0 (length block.now.vectors) waiting.old.lanes.items [] }
+    requires units { HasChains differences.now.units }
+    requires waits { AreWaiting good.now differences.now.units.roots.now kept.old.classes 0 (length block.now.vectors) waiting.old.lanes.items [] }
     ensures count { length waiting.new.lanes.items ≡ length waiting.old.lanes.items }
     ensures ok { IfOk result (λ count. HasJudged good.now.circuit block.now.vectors run count (kept_now kept.old) (kept_now kept.new)) }
     ensures ended { IfOk result (λ count. IsScanEnd good.now.circuit block.now.vectors run count (kept_now kept.new)) }
@@ -239,17 +238,19 @@ pub(crate) fn judge_lane(
     kept: &mut Kept,
 ) -> Result<bool, AllocError>
     requires told { AreTold good.now block.now.vectors (noted_by differences.now) kept.old.classes }
-    requires waits { AreWaiting good.now kept.old.classes lane live waiting.old.lanes.items [] }
+    requires units { HasChains differences.now.units }
+    requires waits { AreWaiting good.now differences.now.units.roots.now kept.old.classes lane live waiting.old.lanes.items [] }
     requires lane { lane < live }
     requires live { live ≤ length block.now.vectors }
     requires few { length block.now.vectors ≤ LANES }
     ensures count { length waiting.new.lanes.items ≡ length waiting.old.lanes.items }
-    ensures waits { OnOk result (AreWaiting good.now kept.new.classes (lane + 1) live waiting.new.lanes.items []) }
+    ensures told { OnOk result (AreTold good.now block.now.vectors (noted_by differences.now) kept.new.classes) }
+    ensures waits { OnOk result (AreWaiting good.now differences.now.units.roots.now kept.new.classes (lane + 1) live waiting.new.lanes.items []) }
     ensures ok { OnOk result (Keeps good.now.circuit (vector_at good.now lane ∷ []) (kept_now kept.old) (kept_now kept.new)) }
     ensures offered { IfOk result (λ splits. IsOffered splits (vector_at good.now lane) (kept_now kept.old) (kept_now kept.new)) }
     ensures err { OnErr result ((kept_now kept.new ≡ kept_now kept.old) ⊎ ((lane + 1 < live) × Keeps good.now.circuit (vector_at good.now lane ∷ []) (kept_now kept.old) (kept_now kept.new) × IsOffered true (vector_at good.now lane) (kept_now kept.old) (kept_now kept.new))) }
 {
-    leaving.put_in_order(&kept.classes, waiting.at(lane))?;
+    leaving.put_in_order(&kept.classes, &differences.units, waiting.at(lane))?;
     if leaving.numbers.is_empty() {
         return Ok(false);
     }

@@ -1,4 +1,4 @@
-//! How many members answer otherwise than their representatives, lane by lane.
+//! How many units answer otherwise than the representatives of their classes, lane by lane.
 
 ghost use Rattle.std.specs.Prelude.{◌≤◌, ◌<◌};
 

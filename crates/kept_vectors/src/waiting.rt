@@ -1,4 +1,4 @@
-//! Numbers that wait at the lanes at which they leave their classes.
+//! Units that wait at the lanes at which they leave their classes.
 
 ghost use Rattle.std.specs.Prelude.{◌≡◌, ◌≤◌, ◌<◌, ◌++◌, ℕ, [], ◌∷◌, All, IfOk, OnOk, OnErr, length, slice_index_or};
 ghost use Rattle.net_model.specs.Circuit.{IsCircuit};
@@ -6,6 +6,7 @@ ghost use Rattle.net_model.specs.FaultList.{fault_count};
 ghost use Rattle.class_refine.specs.Fields.{IsWhole};
 ghost use Rattle.word_sim.specs.GoodSim.{vectors_of};
 ghost use Rattle.kept_vectors.specs.Notes.{noted_by, AreMatesNoted, AreAsked};
+ghost use Rattle.kept_vectors.specs.Units.{IsUnit};
 ghost use Rattle.kept_vectors.specs.Waits.{IsLed, LeavesFirst, AreWaiting};
 
 use crate::apart::first_lane;
@@ -58,7 +59,7 @@ impl Waiters {
     }
 }
 
-// By lane the numbers that wait there.
+// By lane the units that wait there.
 #[derive(Drop)]
 pub(crate) struct Waiting {
     pub(crate) lanes: Vec<Waiters>,
@@ -93,7 +94,7 @@ impl Waiting {
         }
     }
 
-    // Lets all numbers whose classes are noted wait at lanes from one on, and nobody else.
+    // Lets all units whose classes are noted wait at lanes from one on, and nobody else.
     pub(crate) fn wait_all(
         &mut self,
         good: &GoodSim,
@@ -110,14 +111,14 @@ impl Waiting {
         requires few { live ≤ LANES }
         requires lanes { length self.old.lanes.items ≡ LANES }
         ensures count { length self.new.lanes.items ≡ length self.old.lanes.items }
-        ensures waits { OnOk result (AreWaiting good.now classes.now from live self.new.lanes.items []) }
+        ensures waits { OnOk result (AreWaiting good.now differences.now.units.roots.now classes.now from live self.new.lanes.items []) }
     {
         self.clear();
         let numbers = differences.numbers.as_slice();
         self.wait(good, differences, classes, numbers, from, live)
     }
 
-    // Lets each of these numbers wait at the first lane from `from` on at which it answers otherwise than the
+    // Lets each unit of these numbers wait at the first lane from `from` on at which it answers otherwise than the
     // representative of its class, if a lane below `live` is one.
     pub(crate) fn wait(
         &mut self,
@@ -134,9 +135,9 @@ impl Waiting {
         requires noted { All (λ n. (n < length classes.now.class_of) × AreMatesNoted good.now (noted_by differences.now) classes.now n) numbers.now }
         requires live { live ≤ length (vectors_of good.now) }
         requires few { live ≤ LANES }
-        requires waits { AreWaiting good.now classes.now from live self.old.lanes.items numbers.now }
+        requires waits { AreWaiting good.now differences.now.units.roots.now classes.now from live self.old.lanes.items numbers.now }
         ensures count { length self.new.lanes.items ≡ length self.old.lanes.items }
-        ensures waits { OnOk result (AreWaiting good.now classes.now from live self.new.lanes.items []) }
+        ensures waits { OnOk result (AreWaiting good.now differences.now.units.roots.now classes.now from live self.new.lanes.items []) }
         ensures short { OnErr result (from < live) }
     {
         if from >= live {
@@ -152,8 +153,8 @@ impl Waiting {
     }
 }
 
-// The first lane from `from` on at which a number answers otherwise than the representative of its class, if one below
-// `live` is one.
+// The first lane from `from` on at which a unit answers otherwise than the representative of its class, if one below
+// `live` is one. Of any other number none is.
 fn leaves_at(
     good: &GoodSim,
     differences: &Differences,
@@ -169,10 +170,14 @@ fn leaves_at(
     requires noted { AreMatesNoted good.now (noted_by differences.now) classes.now number }
     requires live { live ≤ length (vectors_of good.now) }
     requires few { live ≤ LANES }
+    requires from { from ≤ live }
     ensures from { from ≤ result }
     ensures first { result < live → LeavesFirst good.now classes.now from result number }
-    ensures before { (lane : ℕ) → from ≤ lane → lane < result → lane < live → IsLed good.now classes.now lane number }
+    ensures before { IsUnit differences.now.units.roots.now number → (lane : ℕ) → from ≤ lane → lane < result → lane < live → IsLed good.now classes.now lane number }
 {
+    if !differences.units.has(number) {
+        return live;
+    }
     let lead = classes.representative(classes.class_of(number));
     first_lane(differences.apart(lead, number), from, live)
 }

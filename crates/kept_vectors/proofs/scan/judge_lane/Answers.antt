@@ -10,23 +10,22 @@ use Rattle.class_refine.specs.Leavers.{AreLeavers}
 use Rattle.fault_heads.specs.Turned.{vector_at}
 use Rattle.kept_vectors.specs.Kept.{with_vector}
 use Rattle.kept_vectors.specs.Scan.{kept_now}
+use Rattle.kept_vectors.specs.Units.{AreOfUnits}
 use Rattle.kept_vectors.proofs.KeepLemmas.{ran_vectors}
+use Rattle.kept_vectors.proofs.JudgeLemmas.{told_later}
 use Rattle.kept_vectors.proofs.LaneLemmas.{IsLaneKept, mates_here, leaver_below, none_kept_here, none_moved_here, some_leavers, lane_kept, mates_behind}
 use Rattle.kept_vectors.proofs.scan.judge_lane.Goals as goal
 use Rattle.kept_vectors.proofs.scan.judge_lane.Goals.{After-as_slice-numbers, Then-is_empty}
 
-pub put_in_order-requires : goal.put_in_order-requires
-put_in_order-requires c k d h =
+pub put_in_order-requires-clause-inside : goal.put_in_order-requires-clause-inside
+put_in_order-requires-clause-inside c k d h =
     let ns = c.at.result.now in
     let has : Contains (get_or c.args.waiting.now.lanes.items c.args.lane []) (get_or ns k d) = subst (λ (xs : List ℕ). Contains xs (get_or ns k d)) c.at.ensures (Contains-get_or ns k d h) in
     (c.requires.waits.right (get_or ns k d) c.args.lane (omega arith) c.requires.lane has).number
 
--- those that wait are those in order
-moved_all : {now listed : List ℕ} (ns : List ℕ) → now ≡ listed → ((n : ℕ) → Contains now n → Contains ns n) → (n : ℕ) → Contains listed n → Contains ns n
-moved_all ns e f n has = f n (subst (λ (xs : List ℕ). Contains xs n) (sym e) has)
-
-moved_others : {now listed : List ℕ} (ns : List ℕ) → now ≡ listed → ((n : ℕ) → Contains ns n → Contains now n) → (n : ℕ) → Contains ns n → Contains listed n
-moved_others ns e f n has = subst (λ (xs : List ℕ). Contains xs n) e (f n has)
+-- the numbers in order are those of the units that wait
+moved : {now listed : List ℕ} (roots ns : List ℕ) → now ≡ listed → AreOfUnits roots now ns → AreOfUnits roots listed ns
+moved roots ns e of = subst (λ (units : List ℕ). AreOfUnits roots units ns) e of
 
 no_items : (ns : List ℕ) → length ns ≡ 0 → ns ≡ []
 no_items [] e = refl
@@ -41,13 +40,13 @@ empty c = no_items c.put_in_order.new.self.numbers.items (omega (arith, c.put_in
 pub returns-then-is_empty-clause-waits : goal.returns-then-is_empty-clause-waits
 returns-then-is_empty-clause-waits c =
     let ordered = c.in_ok-put_in_order.ensures in
-    none_moved_here (kept_now c.args.kept.now) c.requires.told c.args.lane c.args.live c.requires.lane c.requires.live c.args.waiting.now.lanes.items c.requires.waits c.put_in_order.new.self.numbers.items (moved_all _ c.at.ensures ordered.all) (moved_others _ c.at.ensures ordered.others)
+    none_moved_here (kept_now c.args.kept.now) c.requires.told c.args.lane c.args.live c.requires.lane c.requires.live c.args.waiting.now.lanes.items c.requires.waits c.put_in_order.new.self.numbers.items (moved _ _ c.at.ensures ordered.all)
     (empty c)
 
 pub returns-then-is_empty-clause-ok : goal.returns-then-is_empty-clause-ok
 returns-then-is_empty-clause-ok c =
     let ordered = c.in_ok-put_in_order.ensures in
-    none_kept_here (kept_now c.args.kept.now) c.requires.told c.args.lane c.args.live c.requires.lane c.requires.live c.args.waiting.now.lanes.items c.requires.waits c.put_in_order.new.self.numbers.items (moved_all _ c.at.ensures ordered.all) (moved_others _ c.at.ensures ordered.others)
+    none_kept_here (kept_now c.args.kept.now) c.requires.told c.args.lane c.args.live c.requires.lane c.requires.live c.args.waiting.now.lanes.items c.requires.waits c.put_in_order.new.self.numbers.items (moved _ _ c.at.ensures ordered.all)
     (empty c)
 
 pub tell-requires-clause-noted : goal.tell-requires-clause-noted
@@ -57,23 +56,22 @@ tell-requires-clause-noted c k d h =
     let n = get_or ns k d in
     let has = Contains-get_or ns k d h in
     let old = kept_now c.args.kept.now in
-    let all = moved_all _ c.at.ensures ordered.all in
-    let others = moved_others _ c.at.ensures ordered.others in
-    let inside = leaver_below old c.requires.told c.args.lane c.args.live c.requires.lane c.requires.live c.args.waiting.now.lanes.items c.requires.waits ns all others n has in
-    let noted = mates_here old c.requires.told c.args.lane c.args.live c.requires.lane c.requires.live c.args.waiting.now.lanes.items c.requires.waits ns all others n has n inside refl in
+    let of = moved _ _ c.at.ensures ordered.all in
+    let inside = leaver_below old c.requires.told c.args.lane c.args.live c.requires.lane c.requires.live c.args.waiting.now.lanes.items c.requires.waits ns of n has in
+    let noted = mates_here old c.requires.told c.args.lane c.args.live c.requires.lane c.requires.live c.args.waiting.now.lanes.items c.requires.waits ns of n has n inside refl in
     noted.notes
 
 pub offer-requires-clause-leave : goal.offer-requires-clause-leave
 offer-requires-clause-leave c =
     let ordered = c.in_ok-put_in_order.ensures in
-    some_leavers (kept_now c.args.kept.now) c.requires.told c.args.lane c.args.live c.requires.lane c.requires.live c.args.waiting.now.lanes.items c.requires.waits c.put_in_order.new.self.numbers.items (moved_all _ c.at.ensures ordered.all) (moved_others _ c.at.ensures ordered.others)
+    some_leavers (kept_now c.args.kept.now) c.requires.told c.args.lane c.args.live c.requires.lane c.requires.live c.args.waiting.now.lanes.items c.requires.waits c.put_in_order.new.self.numbers.items (moved _ _ c.at.ensures ordered.all)
     c.tell.new.self.leavers.items c.tell.new.self.positions.items ordered.ordered c.in_ok-tell.ensures.told
 
 -- the vector is that of the lane
 vector_is : (c : After-as_slice-numbers) → c.in_ok-v.v ≡ vector_at c.args.good.now c.args.lane
 vector_is c = c.in_ok-v.ensures.value ∙ ap (λ (vs : List (List Bool)). get_or vs c.args.lane []) (sym (ran_vectors c.args.good.now c.args.block.now.vectors c.requires.told.ran))
 
-kept : (c : After-as_slice-numbers) → IsLaneKept c.args.good.now c.args.lane c.args.live c.args.waiting.now.lanes.items c.put_in_order.new.self.numbers.items (kept_now c.args.kept.now) (kept_now c.offer.new.self)
+kept : (c : After-as_slice-numbers) → IsLaneKept c.args.good.now c.args.differences.now.units.roots.now c.args.lane c.args.live c.args.waiting.now.lanes.items c.put_in_order.new.self.numbers.items (kept_now c.args.kept.now) (kept_now c.offer.new.self)
 kept c =
     let ordered = c.in_ok-put_in_order.ensures in
     let old = kept_now c.args.kept.now in
@@ -83,7 +81,7 @@ kept c =
     let tells = c.in_ok-tell.ensures.told in
     let offered : (row : List (List Bool)) → AreLeavers old.table row leavers positions → new ≡ with_vector old (vector_at c.args.good.now c.args.lane, row) =
     λ row are. c.in_ok-offer.ensures.ok row are ∙ ap (λ (v : List Bool). with_vector old (v, row)) (vector_is c) in
-    lane_kept old c.requires.told c.args.lane c.args.live c.requires.lane c.requires.live c.args.waiting.now.lanes.items c.requires.waits c.put_in_order.new.self.numbers.items (moved_all _ c.at.ensures ordered.all) (moved_others _ c.at.ensures ordered.others)
+    lane_kept old c.requires.told c.args.lane c.args.live c.requires.lane c.requires.live c.args.waiting.now.lanes.items c.requires.waits c.put_in_order.new.self.numbers.items (moved _ _ c.at.ensures ordered.all)
     leavers positions ordered.ordered tells (omega (arith, not_zero (vec_len c.put_in_order.new.self.numbers) c.if-is_empty.ensures, ap length tells.numbers_are, length-map leavers (λ (l : Leaver). l.number), c.put_in_order.new.self.numbers.ok.0)) new offered
 
 pub wait-requires-clause-whole : goal.wait-requires-clause-whole
@@ -101,7 +99,7 @@ wait-requires-clause-noted c =
     let at = (goal.at.wait-requires-clause-noted c).After-as_slice-numbers in
     let ordered = c.in_ok-put_in_order.ensures in
     rw (again at)
-    (mates_behind (kept_now c.args.kept.now) c.requires.told c.args.lane c.args.live c.requires.lane c.requires.live c.args.waiting.now.lanes.items c.requires.waits c.put_in_order.new.self.numbers.items (moved_all _ c.at.ensures ordered.all) (moved_others _ c.at.ensures ordered.others)
+    (mates_behind (kept_now c.args.kept.now) c.requires.told c.args.lane c.args.live c.requires.lane c.requires.live c.args.waiting.now.lanes.items c.requires.waits c.put_in_order.new.self.numbers.items (moved _ _ c.at.ensures ordered.all)
     c.tell.new.self.leavers.items c.tell.new.self.positions.items ordered.ordered c.in_ok-tell.ensures.told (kept_now c.offer.new.self) (kept at))
 
 pub wait-requires-clause-waits : goal.wait-requires-clause-waits
@@ -112,6 +110,11 @@ returns-in_err-wait-clause-err c =
     let at = (goal.at.returns-in_err-wait-clause-err c).After-as_slice-numbers in
     let p = err_from_is_err_and c.from_residual-in_err-wait.result c.from_residual-in_err-wait.ensures.1 in
     rw p.1 (inr (c.in_err-wait.ensures.short, (kept at).keeps, c.in_ok-offer.ensures.kept ∙ ap (λ (v : List Bool). c.args.kept.now.vectors.items ++ v ∷ []) (vector_is at)))
+
+pub returns-clause-told : goal.returns-clause-told
+returns-clause-told c =
+    let one = kept (goal.at.returns-clause-told c).After-as_slice-numbers in
+    told_later one.whole one.finer one.together c.requires.told
 
 pub returns-clause-ok : goal.returns-clause-ok
 returns-clause-ok c = (kept (goal.at.returns-clause-ok c).After-as_slice-numbers).keeps

@@ -34,4 +34,4 @@ returns-clause-first c below =
     }
 
 pub returns-clause-before : goal.returns-clause-before
-returns-clause-before c lane from less live = (told (goal.at.returns-clause-before c).After-first_lane lane live).0 (c.first_lane.ensures.before lane from less live)
+returns-clause-before c unit lane from less live = (told (goal.at.returns-clause-before c).After-first_lane lane live).0 (c.first_lane.ensures.before lane from less live)

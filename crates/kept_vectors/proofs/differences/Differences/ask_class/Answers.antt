@@ -1,14 +1,15 @@
-use Rattle.std.proofs.Common.{◌≡◌, ℕ, length, ◌<◌, ◌+◌, ◌++◌, ◌∷◌, [], List, get_or, take, refl, sym, ap, subst, ◌∙◌, arith, inl, inr}
+use Rattle.std.proofs.Common.{◌≡◌, ℕ, length, ◌<◌, List, get_or, refl, sym, subst, ◌∙◌, arith, inr}
 use Rattle.std.specs.Prelude.{Contains}
-use Rattle.std.proofs.lemmas.Bool.{cases_lt}
+use Rattle.std.proofs.lemmas.Bool.{false≢true}
 use Rattle.std.proofs.lemmas.Grind.{get_or_default_zero}
-use Rattle.std.proofs.lemmas.List.{append-nil, append_assoc, take_more}
 use Rattle.std.proofs.lemmas.List.Elements.{All-contains}
 use Rattle.net_model.specs.FaultList.{fault_count}
-use Rattle.kept_vectors.specs.Notes.{IsNumberAsked}
+use Rattle.kept_vectors.specs.Notes.{IsNumberAsked, IsUnitAsked}
 use Rattle.kept_vectors.proofs.NoteLemmas.{alike_by_roots}
-use Rattle.kept_vectors.proofs.GroupLemmas.{group_known}
+use Rattle.kept_vectors.specs.Units.{IsUnit}
+use Rattle.kept_vectors.proofs.GroupLemmas.{IsKnownSoFar, group_known, known_none, known_unit, known_other}
 use Rattle.kept_vectors.proofs.differences.Differences.ask_class.Goals as goal
+use Rattle.kept_vectors.proofs.differences.Differences.ask_class.Goals.{then-has+in_ok-ask, else-has}
 
 -- all members have the root of the first
 one_root : (group roots : List ℕ) (m : ℕ) → ((k : ℕ) → k < length group → get_or roots (get_or group k 0) 0 ≡ get_or roots (get_or group 0 0) 0) → Contains group m → get_or roots m 0 ≡ get_or roots (get_or group 0 0) 0
@@ -18,13 +19,13 @@ pub returns-then-have_one_root-clause-asked : goal.returns-then-have_one_root-cl
 returns-then-have_one_root-clause-asked c =
     let good = c.args.good.now in
     let group = c.args.group.now in
-    let roots = c.args.roots.now in
+    let roots = c.args.self.now.units.roots.now in
     let run = c.requires.run in
     let same = c.have_one_root.ensures c.if-have_one_root.true in
     inr (
       refl,
       λ m n lane hm hn live.
-          alike_by_roots good run.circuit roots run.roots_are run.widths m n lane (All-contains (λ k. k < fault_count good.circuit) group m c.requires.inside hm) (All-contains (λ k. k < fault_count good.circuit) group n c.requires.inside hn)
+          alike_by_roots good run.circuit roots c.requires.of.roots run.widths m n lane (All-contains (λ k. k < fault_count good.circuit) group m c.requires.inside hm) (All-contains (λ k. k < fault_count good.circuit) group n c.requires.inside hn)
           (one_root group roots m same hm ∙ sym (one_root group roots n same hn)) live,
     )
 
@@ -33,32 +34,47 @@ loop-number-init c = record {
   of = c.requires.of;
   ways = c.requires.ways;
   later = λ n asked. asked;
-  known = record { known = λ k h. absurd (omega (arith, h)); numbers_are = sym (append-nil c.args.self.now.numbers.items) };
+  units = refl;
+  known = known_none c.args.self.now.units.roots.now (IsNumberAsked c.args.good.now c.args.self.now.needs.items c.args.self.now.turns.items) c.args.group.now c.args.self.now.numbers.items;
 }
 
 pub loop-number-preserved : goal.loop-number-preserved
 loop-number-preserved c =
     let good = c.args.good.now in
-    let group = c.args.group.now in
-    let at = c.loop-number.number-index in
     let so_far = c.loop-number.invariant in
-    let old = c.args.self.now.numbers.items in
-    let new = c.ask.new.self in
-    let made = c.in_ok-ask.ensures in
-    let number = get_or group at 0 in
-    let more : take (at + 1) group ≡ take at group ++ number ∷ [] = take_more group at 0 c.loop-number-test.true in
-    record {
-      of = made.of;
-      ways = made.ways;
-      later = λ n asked. made.later n (so_far.later n asked);
-      known = record {
-        known = λ k h. elim (cases_lt k at) [
-          | inl less ↦ made.later (get_or group k 0) (so_far.known.known k less)
-          | inr most ↦ subst (λ (j : ℕ). IsNumberAsked good new.needs.items new.turns.items (get_or group j 0)) (let e : at ≡ k = omega (arith, h, most) in e) made.asked
-        ];
-        numbers_are = made.numbers ∙ (ap (λ (ns : List ℕ). ns ++ number ∷ []) so_far.known.numbers_are ∙ (append_assoc old (take at group) (number ∷ []) ∙ ap (λ (ns : List ℕ). old ++ ns) (sym more)));
-      };
-    }
+    elim c.if-has.branch [
+      | then-has+in_ok-ask w ↦
+          let made = w.in_ok-ask.ensures in
+          rw w.self-is (record {
+            of = made.of;
+            ways = made.ways;
+            later = λ n asked. made.later n (so_far.later n asked);
+            units = made.units ∙ so_far.units;
+            known = known_unit so_far.known made.later c.loop-number-test.true w.ask.new.self.numbers.items made.numbers made.asked;
+          })
+      | else-has w ↦
+          let none : IsUnit c.args.self.now.units.roots.now (get_or c.args.group.now c.loop-number.number-index 0) → ⊥ =
+          λ unit. false≢true (sym w.if-has.false ∙ c.has.ensures.1 (subst (λ (rs : List ℕ). IsUnit rs (get_or c.args.group.now c.loop-number.number-index 0)) (sym so_far.units) unit)) in
+          rw w.self-is (record {
+            of = so_far.of;
+            ways = so_far.ways;
+            later = so_far.later;
+            units = so_far.units;
+            known = known_other so_far.known (λ n asked. asked) c.loop-number-test.true c.loop-number.self.numbers.items refl none;
+          })
+    ]
 
 pub returns-clause-asked : goal.returns-clause-asked
-returns-clause-asked c = group_known c.args.good.now c.loop-number.invariant.known (omega (arith, c.loop-number-test.false))
+returns-clause-asked c =
+    let good = c.args.good.now in
+    let group = c.args.group.now in
+    let now = c.loop-number.self in
+    let roots = now.units.roots.now in
+    let so_far = c.loop-number.invariant in
+    let same : c.args.self.now.units.roots.now ≡ roots = sym so_far.units in
+    let closed : (n : ℕ) → Contains group n → Contains group (get_or roots n 0) = subst (λ (rs : List ℕ). (n : ℕ) → Contains group n → Contains group (get_or rs n 0)) same c.requires.units in
+    let known = subst (λ (rs : List ℕ). IsKnownSoFar rs (IsNumberAsked good now.needs.items now.turns.items) group c.loop-number.number-index c.args.self.now.numbers.items now.numbers.items) same so_far.known in
+    group_known good {IsRootKnown = IsUnitAsked good now} known (omega (arith, c.loop-number-test.false)) (λ n has.
+    let h : n < fault_count good.circuit = All-contains (λ k. k < fault_count good.circuit) group n c.requires.inside has in
+    let inside : n < length roots = omega (arith, h, so_far.of.roots.whole) in
+    (closed n has, so_far.of.roots.itself n h, λ asked. (inside, asked)))

@@ -15,6 +15,7 @@ loop-place-preserved c =
       of = made.of;
       needs = made.needs ∙ so_far.needs;
       turns = made.turns ∙ so_far.turns;
+      units = made.units ∙ so_far.units;
       numbers = made.numbers ∙ so_far.numbers;
       places = λ place h. subst (λ (ns : List (List Bool)). IsPlaceNoted good ns new.notes.items new.shown.items place) so_far.needs (elim (cases_lt place at) [
         | inl less ↦ made.later place less (subst (λ (ns : List (List Bool)). IsPlaceNoted good ns old.notes.items old.shown.items place) (sym so_far.needs) (so_far.places place less))

@@ -3,8 +3,12 @@ use Rattle.std.specs.Prelude.{All}
 use Rattle.word_sim.specs.Block.{Block}
 use Rattle.kept_vectors.specs.Keeper.{Keeper, keeper_with, IsKeeper}
 use Rattle.kept_vectors.specs.Scan.{kept_now}
+use Rattle.kept_vectors.proofs.RootLemmas.{keeper_together}
 use Rattle.kept_vectors.proofs.KeepLemmas.{table_numbers, either_way, keeper_after, keeper_first_after}
 use Rattle.kept_vectors.proofs.keeper.Keeper.keep.Goals as goal
+
+pub keep_block-requires-clause-together : goal.keep_block-requires-clause-together
+keep_block-requires-clause-together c = keeper_together _ c.self.invariant.keeper c.self.inside.scan.differences.units.roots.now c.self.invariant.scan.differences.roots
 
 pub keep_block-requires-clause-numbers : goal.keep_block-requires-clause-numbers
 keep_block-requires-clause-numbers c = table_numbers c.self.invariant.keeper.table

@@ -10,6 +10,7 @@ use Rattle.kept_vectors.specs.Cube.{IsOfCube}
 use Rattle.kept_vectors.specs.Kept.{Keeps}
 use Rattle.kept_vectors.specs.Keeper.{Keeper, keeper_with, IsKeeper}
 use Rattle.kept_vectors.specs.Scan.{kept_now}
+use Rattle.kept_vectors.proofs.RootLemmas.{keeper_together}
 use Rattle.kept_vectors.proofs.KeepLemmas.{table_numbers, either_way, keeper_after}
 use Rattle.kept_vectors.proofs.keeper.Keeper.keep_of_cube.Goals as goal
 
@@ -26,11 +27,13 @@ keep_fullest-requires-clause-scan c =
     record {
       circuit = scan.circuit;
       faults_are = scan.faults_are;
-      forest_of = scan.forest_of;
       block = c.fix_sources.ensures.sources ∙ c.fill.ensures.sources ∙ ap (λ (s : StreamState). s.sources) c.self.invariant.stream.1;
       differences = scan.differences;
       lanes = scan.lanes;
     }
+
+pub keep_fullest-requires-clause-together : goal.keep_fullest-requires-clause-together
+keep_fullest-requires-clause-together c = keeper_together _ c.self.invariant.keeper c.self.inside.scan.differences.units.roots.now c.self.invariant.scan.differences.roots
 
 pub keep_fullest-requires-clause-numbers : goal.keep_fullest-requires-clause-numbers
 keep_fullest-requires-clause-numbers c = table_numbers c.self.invariant.keeper.table

@@ -6,6 +6,7 @@ use Rattle.word_sim.specs.Block.{Block}
 use Rattle.kept_vectors.specs.Kept.{KeepsRun}
 use Rattle.kept_vectors.specs.Keeper.{Keeper, keeper_with, IsKeeper}
 use Rattle.kept_vectors.specs.Scan.{kept_now, HasJudged, IsScanEnd}
+use Rattle.kept_vectors.proofs.RootLemmas.{keeper_together}
 use Rattle.kept_vectors.proofs.KeepLemmas.{table_numbers}
 use Rattle.kept_vectors.proofs.JudgeLemmas.{keeper_judged, run_judged, splits_none}
 use Rattle.kept_vectors.proofs.keeper.Keeper.keep_run.Goals as goal
@@ -31,6 +32,9 @@ run c count judged =
 
 pub fill-requires-clause-widths : goal.fill-requires-clause-widths
 fill-requires-clause-widths c = λ k d below. c.requires.widths k d below ∙ ap (λ (k : Keeper). k.circuit.sources) (sym c.self.view_is) ∙ sym c.self.invariant.scan.block
+
+pub judge-requires-clause-together : goal.judge-requires-clause-together
+judge-requires-clause-together c = keeper_together _ c.self.invariant.keeper c.self.inside.scan.differences.units.roots.now c.self.invariant.scan.differences.roots
 
 pub judge-requires-clause-numbers : goal.judge-requires-clause-numbers
 judge-requires-clause-numbers c = table_numbers c.self.invariant.keeper.table

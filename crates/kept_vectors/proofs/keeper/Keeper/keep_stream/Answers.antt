@@ -8,6 +8,8 @@ use Rattle.word_sim.specs.Stream.{stream}
 use Rattle.kept_vectors.specs.Kept.{Keeps, KeepsFirst}
 use Rattle.kept_vectors.specs.Keeper.{Keeper}
 use Rattle.kept_vectors.specs.Scan.{kept_now}
+use Rattle.kept_vectors.specs.Notes.{AreRootsOf}
+use Rattle.kept_vectors.proofs.RootLemmas.{keeper_together}
 use Rattle.kept_vectors.proofs.KeepLemmas.{table_numbers, keeps_none, keeper_after, keeper_first_after}
 use Rattle.kept_vectors.proofs.StreamLemmas.{blocks_from, stream_widths, next_blocks, some_of, stream_more, stream_some}
 use Rattle.kept_vectors.proofs.keeper.Keeper.keep_stream.Goals as goal
@@ -44,11 +46,15 @@ keep_block-requires-clause-scan c =
     record {
       circuit = scan.circuit;
       faults_are = scan.faults_are;
-      forest_of = scan.forest_of;
       block = c.fill-left.ensures.sources ∙ ap (λ (s : StreamState). s.sources) c.loop-left.invariant.place ∙ ap (λ (k : Circuit). k.sources) (sym c.loop-left.invariant.circuit);
       differences = scan.differences;
       lanes = scan.lanes;
     }
+
+pub keep_block-requires-clause-together : goal.keep_block-requires-clause-together
+keep_block-requires-clause-together c =
+    let so_far = c.loop-left.invariant in
+    keeper_together _ so_far.keeper c.loop-left.self-inside.scan.differences.units.roots.now (subst (λ (k : Circuit). AreRootsOf k c.loop-left.self-inside.scan.differences.units.roots.now) so_far.circuit so_far.scan.differences.roots)
 
 pub keep_block-requires-clause-numbers : goal.keep_block-requires-clause-numbers
 keep_block-requires-clause-numbers c = table_numbers c.loop-left.invariant.keeper.table ∙ ap fault_count (sym c.loop-left.invariant.circuit)

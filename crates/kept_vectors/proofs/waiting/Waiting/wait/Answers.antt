@@ -10,6 +10,7 @@ use Rattle.kept_vectors.proofs.waiting.Waiting.wait.Goals.{then-lane-live+in_ok-
 pub loop-number-preserved : goal.loop-number-preserved
 loop-number-preserved c =
     let good = c.args.good.now in
+    let roots = c.args.differences.now.units.roots.now in
     let t = c.args.classes.now in
     let from = c.args.from in
     let live = c.args.live in
@@ -20,17 +21,17 @@ loop-number-preserved c =
     let lane = c.leaves_at-lane.result in
     let left : List ℕ = drop (k + 1) numbers in
     let first : drop k numbers ≡ number ∷ left = drop-cons numbers k 0 c.loop-number-test.true ∙ (let e : suc k ≡ k + 1 = omega arith in ap (λ (j : ℕ). number ∷ drop j numbers) e) in
-    let so_far = subst (AreWaiting good t from live old) first c.loop-number.invariant in
+    let so_far = subst (AreWaiting good roots t from live old) first c.loop-number.invariant in
     let low = c.leaves_at-lane.ensures.from in
     elim c.if-lane-live.branch [
       | then-lane-live+in_ok-push w ↦
           let less = w.if-lane-live.true in
           let value : w.index_mut.result.now ≡ get_or old lane [] = w.index_mut.ensures.value ∙ get_or_default old lane w.index_mut.result.now [] (omega (arith, less, c.requires.few, so_far.count)) in
           let pushed : w.push.new.self ≡ get_or old lane [] ++ number ∷ [] = w.in_ok-push.ensures ∙ ap (λ (ns : List ℕ). ns ++ number ∷ []) value in
-          subst (λ (s : Waiting). AreWaiting good t from live s.lanes.items left) (sym w.self-is)
-          (subst (λ (ns : List ℕ). AreWaiting good t from live (set old lane ns) left) (sym pushed)
-          (waits_here good t from live old number left so_far lane low less c.requires.few (c.leaves_at-lane.ensures.first less)))
+          subst (λ (s : Waiting). AreWaiting good roots t from live s.lanes.items left) (sym w.self-is)
+          (subst (λ (ns : List ℕ). AreWaiting good roots t from live (set old lane ns) left) (sym pushed)
+          (waits_here good roots t from live old number left so_far lane low less c.requires.few (c.leaves_at-lane.ensures.first less)))
       | else-lane-live w ↦
-          subst (λ (s : Waiting). AreWaiting good t from live s.lanes.items left) (sym w.self-is)
-          (waits_nowhere good t from live old number left so_far lane low w.if-lane-live.false c.leaves_at-lane.ensures.before)
+          subst (λ (s : Waiting). AreWaiting good roots t from live s.lanes.items left) (sym w.self-is)
+          (waits_nowhere good roots t from live old number left so_far lane low w.if-lane-live.false c.leaves_at-lane.ensures.before)
     ]
