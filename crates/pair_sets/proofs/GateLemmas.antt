@@ -15,7 +15,7 @@ use Rattle.net_model.specs.declared.operation.Fold.TheVariants.{AllOf, AnyOf, Od
 use Rattle.net_model.specs.declared.operation.Operation.TheVariants.{Folded, Chosen}
 use Rattle.net_model.specs.Gate.{gate_value, operation_value, odd_ones, folded_bit, inverted, inverts, operation_of}
 use Rattle.net_model.proofs.Elements.{odd_one}
-use Rattle.pair_sets.specs.PairSet.{PairSet, Pair, meets, second_turned, forced_pairs, value_pairs, gate_pairs, operation_pairs, fixed_pairs, some_pair, has_pair, has_first, has_second, IsWithin}
+use Rattle.pair_sets.specs.PairSet.{PairSet, Pair, forced_pairs, value_pairs, gate_pairs, operation_pairs, fixed_pairs, some_pair, has_pair, has_first, has_second, IsWithin}
 use Rattle.pair_sets.specs.Trail.{pairs_in_set}
 use Rattle.pair_sets.proofs.PairLemmas.{Has, same_set, value_pair, values_from, values_are}
 
@@ -139,6 +139,14 @@ and_set s t = record {
 
 abbrev pub not_set : PairSet → PairSet
 not_set s = record { both_zero = s.both_one; zero_one = s.one_zero; one_zero = s.zero_one; both_one = s.both_zero }
+
+-- whether two sets have a pair in common
+abbrev pub meets : PairSet → PairSet → Bool
+meets s t = (((s.both_zero && t.both_zero) || (s.zero_one && t.zero_one)) || (s.one_zero && t.one_zero)) || (s.both_one && t.both_one)
+
+-- the set with the bit in each pair's second place inverted
+abbrev pub second_turned : PairSet → PairSet
+second_turned s = record { both_zero = s.zero_one; zero_one = s.both_zero; one_zero = s.both_one; both_one = s.one_zero }
 
 abbrev pub xor_set : PairSet → PairSet → PairSet
 xor_set s t =

@@ -1,5 +1,7 @@
 pub mod PairLemmas
 pub mod GateLemmas
+pub mod ImageLemmas
+pub mod Elsewhere
 pub mod SeenLemmas
 pub mod TrailLemmas
 pub mod Bytes

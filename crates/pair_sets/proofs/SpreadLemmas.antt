@@ -10,13 +10,11 @@ use Rattle.net_model.specs.declared.gate.Gate.{Gate}
 use Rattle.net_model.specs.declared.fault.Fault.{Fault}
 use Rattle.net_model.specs.declared.fault.Fault.TheVariants.{Free}
 use Rattle.net_model.specs.Circuit.{Circuit, IsCircuit, line_count, gate_at, pins_of, Feeds}
-use Rattle.net_model.specs.Fault.{stuck_stem, stuck_pin}
 use Rattle.net_model.specs.Answer.{bit_at}
 use Rattle.net_model.specs.Scope.{first_changed, is_split, leads_within, leads_to, reaches_line}
 use Rattle.net_model.specs.Wiring.{Wiring, IsWiring}
 use Rattle.net_model.proofs.Copies.{pins_inside, same_readings}
 use Rattle.net_model.proofs.Elements.{passing, true_false}
-use Rattle.net_model.proofs.FirstChanged.{stem_elsewhere, pin_elsewhere}
 use Rattle.net_model.proofs.ScopeLaws.{leads_here, split_is_closed}
 use Rattle.fault_list.specs.Scope.{AreMarksOfTest, is_first_changed, begins_at}
 use Rattle.event_queue.specs.Pending.{is_pending, IsEmpty, IsLowest, IsIdle}
@@ -26,19 +24,10 @@ use Rattle.pair_sets.specs.CubeState.{set_at, source_pairs, seen_pairs, line_pai
 use Rattle.pair_sets.specs.Events.{AreWoken, WakesReaders}
 use Rattle.pair_sets.specs.Spread.{IsSpread}
 use Rattle.pair_sets.proofs.EventLemmas.{woken_waits, idle_before, settled_line}
+use Rattle.pair_sets.proofs.Elsewhere.{StickNothing, stick_nothing}
 use Rattle.pair_sets.proofs.SeenLemmas.{pin_set, same_line_pairs}
 
 -- ---- faults elsewhere
-
-not_first : (f : Fault) (line : ℕ) → is_first_changed f line ≡ false → first_changed f ≡ Some line → ⊥
-not_first f line other e = true_false (is_first_changed f line) (ap (λ o. option_map_or (λ from. from == line) o false) e ∙ eq-eqb line line refl) other
-
--- The two faults stick nothing at a line.
-record StickNothing (f g : Fault) (line : ℕ) : Type 0 where
-  pub first_stem : stuck_stem f line ≡ stuck_stem Free line
-  pub second_stem : stuck_stem g line ≡ stuck_stem Free line
-  pub first_pins : (pin : ℕ) → stuck_pin f line pin ≡ stuck_pin Free line pin
-  pub second_pins : (pin : ℕ) → stuck_pin g line pin ≡ stuck_pin Free line pin
 
 module _ (c : Circuit) (f g : Fault) (sets : List PairSet) (line : ℕ) (nothing : StickNothing f g line) where
   unstuck_driven : (o : Option Gate) → option_map_or (λ gate. gate_pairs gate.kind (seen_pairs f g sets line gate.pins)) o (source_pairs [] line) ≡ option_map_or (λ gate. gate_pairs gate.kind (seen_pairs Free Free sets line gate.pins)) o (source_pairs [] line)
@@ -124,12 +113,7 @@ module _ (c : Circuit) (w : IsCircuit c) (f g : Fault) (wiring : Wiring) (wired 
     settled = λ l h other idle.
         let first = or_parts (is_first_changed f l) (is_first_changed g l || false) other in
         let second = or_parts (is_first_changed g l) false first.1 in
-        let nothing : StickNothing f g l = record {
-          first_stem = stem_elsewhere f l (not_first f l first.0);
-          second_stem = stem_elsewhere g l (not_first g l second.0);
-          first_pins = λ pin. pin_elsewhere f l pin (not_first f l first.0);
-          second_pins = λ pin. pin_elsewhere g l pin (not_first g l second.0);
-        } in
+        let nothing = stick_nothing f g l (or_from (is_first_changed f l) (is_first_changed g l) first.0 second.0) in
         are.each l h ∙ sym (unstuck_line c f g sets l nothing);
     begun = λ l t other.
         let first = or_parts (is_first_changed f l) (is_first_changed g l || false) other in

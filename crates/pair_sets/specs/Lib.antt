@@ -1,6 +1,7 @@
 -- Sets of pairs, and those of a circuit's lines under a cube
 pub mod PairSet
 pub mod PairSetFields
+pub mod Images
 pub mod Cube
 pub mod CubeState
 -- Trees of cubes

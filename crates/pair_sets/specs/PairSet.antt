@@ -39,14 +39,6 @@ has_first s bit = has_pair s bit false || has_pair s bit true
 abbrev pub has_second : PairSet → Bool → Bool
 has_second s bit = has_pair s false bit || has_pair s true bit
 
--- whether two sets have a pair in common
-abbrev pub meets : PairSet → PairSet → Bool
-meets s t = (((s.both_zero && t.both_zero) || (s.zero_one && t.zero_one)) || (s.one_zero && t.one_zero)) || (s.both_one && t.both_one)
-
--- the set with the bit in each pair's second place inverted
-abbrev pub second_turned : PairSet → PairSet
-second_turned s = record { both_zero = s.zero_one; zero_one = s.both_zero; one_zero = s.both_one; both_one = s.one_zero }
-
 -- the set of the pairs that pass a test
 abbrev pub set_of : (Pair → Bool) → PairSet
 set_of test = record { both_zero = test (false, false); zero_one = test (false, true); one_zero = test (true, false); both_one = test (true, true) }

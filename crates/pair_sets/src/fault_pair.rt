@@ -5,12 +5,15 @@ ghost use Rattle.net_model.specs.declared.operation.Operation.TheVariants.{Folde
 ghost use Rattle.net_model.specs.Circuit.{line_count};
 ghost use Rattle.net_model.specs.Fault.{stuck_pin, stuck_stem};
 ghost use Rattle.net_model.specs.Gate.{takes_pins};
+ghost use Rattle.fault_list.specs.Scope.{begins_at, is_first_changed};
 ghost use Rattle.pair_sets.specs.Cube.{Cube};
 ghost use Rattle.pair_sets.specs.PairSet.{forced_pairs, gate_pairs, operation_pairs};
 ghost use Rattle.pair_sets.specs.CubeState.{set_at, seen_pairs, line_pairs, position_pairs};
 
 use crate::pair_set::PairSet;
-use net_model::{Circuit, Fault, Fold, Gate, Operation, stuck_pin, stuck_position, stuck_stem};
+use net_model::{
+    Circuit, Fault, Fold, Gate, Operation, first_changed, stuck_pin, stuck_position, stuck_stem,
+};
 
 /// Two faults and their circuit.
 #[derive(Clone, Copy)]
@@ -53,7 +56,13 @@ impl<'a> FaultPair<'a> {
         requires width { length sets.now ≡ line_count self.now.circuit.now }
         ensures { (cube : Cube) → result ≡ line_pairs self.now.circuit.now self.now.f self.now.g cube sets.now line }
     {
-        self.stem_pairs(line, self.gate_pairs(sets, line, self.circuit.gate(line)))
+        let begins = self.begins_at(line);
+        let pairs = self.gate_pairs(sets, line, self.circuit.gate(line), begins);
+        if begins {
+            self.stem_pairs(line, pairs)
+        } else {
+            pairs
+        }
     }
 
     /// The pairs of a line where all sources are free.
@@ -69,17 +78,40 @@ impl<'a> FaultPair<'a> {
         }
     }
 
+    // Whether one of the faults sticks the line or a pin of its gate.
+    #[inline]
+    fn begins_at(&self, line: u32) -> bool
+        ensures { result ≡ begins_at self.now.f self.now.g line }
+    {
+        is_first_changed(self.f, line) || is_first_changed(self.g, line)
+    }
+
+    // What a pin of a line's gate sees, where it is known whether a fault begins there.
+    #[inline]
+    fn seen_pairs(&self, sets: &[PairSet], line: u32, pin: u32, read: u32, begins: bool) -> PairSet
+        requires read { read < length sets.now }
+        requires begins { begins ≡ begins_at self.now.f self.now.g line }
+        ensures { result ≡ forced_pairs (stuck_pin self.now.f line pin) (stuck_pin self.now.g line pin) (set_at sets.now read) }
+    {
+        if begins {
+            self.pin_pairs(sets, line, pin, read)
+        } else {
+            sets[read as usize]
+        }
+    }
+
     // The pairs that the gate of a line gives on what its pins see.
-    fn gate_pairs(&self, sets: &[PairSet], line: u32, gate: &Gate) -> PairSet
+    fn gate_pairs(&self, sets: &[PairSet], line: u32, gate: &Gate, begins: bool) -> PairSet
         requires inside { All (λ pin. pin < length sets.now) gate.now.pins }
         requires few { length gate.now.pins < 2 ^ 32 }
         requires arity { IsTrue (takes_pins gate.now.kind (length gate.now.pins)) }
+        requires begins { begins ≡ begins_at self.now.f self.now.g line }
         ensures { result ≡ gate_pairs gate.now.kind (seen_pairs self.now.f self.now.g sets.now line gate.now.pins) }
     {
         let pins = gate.pins.as_slice();
         let pairs = match gate.kind.operation() {
-            Operation::Folded(fold) => self.folded(sets, line, pins, fold),
-            Operation::Chosen => self.chosen(sets, line, pins),
+            Operation::Folded(fold) => self.folded(sets, line, pins, fold, begins),
+            Operation::Chosen => self.chosen(sets, line, pins, begins),
         };
         if gate.kind.inverts() {
             pairs.not()
@@ -89,29 +121,43 @@ impl<'a> FaultPair<'a> {
     }
 
     // The pairs of a fold of these pins.
-    fn folded(&self, sets: &[PairSet], line: u32, pins: &[u32], fold: Fold) -> PairSet
+    #[inline]
+    fn folded(&self, sets: &[PairSet], line: u32, pins: &[u32], fold: Fold, begins: bool) -> PairSet
         requires inside { All (λ pin. pin < length sets.now) pins.now }
         requires few { length pins.now < 2 ^ 32 }
+        requires begins { begins ≡ begins_at self.now.f self.now.g line }
         ensures { result ≡ operation_pairs (Folded fold) (seen_pairs self.now.f self.now.g sets.now line pins.now) }
     {
         let mut pairs = PairSet::unit(fold);
         for k in (0..pins.len()).rev() {
             pairs = self
-                .pin_pairs(sets, line, k as u32, pins[k])
+                .seen_pairs(sets, line, k as u32, pins[k], begins)
                 .step(fold, pairs);
         }
         pairs
     }
 
     // The pairs of the choice that the first of three pins makes between the others.
-    fn chosen(&self, sets: &[PairSet], line: u32, pins: &[u32]) -> PairSet
+    fn chosen(&self, sets: &[PairSet], line: u32, pins: &[u32], begins: bool) -> PairSet
         requires inside { All (λ pin. pin < length sets.now) pins.now }
         requires three { length pins.now ≡ 3 }
+        requires begins { begins ≡ begins_at self.now.f self.now.g line }
         ensures { result ≡ operation_pairs Chosen (seen_pairs self.now.f self.now.g sets.now line pins.now) }
     {
-        let select = self.pin_pairs(sets, line, 0, pins[0]);
-        let low = self.pin_pairs(sets, line, 1, pins[1]);
-        let high = self.pin_pairs(sets, line, 2, pins[2]);
+        let select = self.seen_pairs(sets, line, 0, pins[0], begins);
+        let low = self.seen_pairs(sets, line, 1, pins[1], begins);
+        let high = self.seen_pairs(sets, line, 2, pins[2], begins);
         select.chosen(low, high)
+    }
+}
+
+// Whether the line is the first that a fault can change.
+#[inline]
+fn is_first_changed(fault: Fault, line: u32) -> bool
+    ensures { result ≡ is_first_changed fault line }
+{
+    match first_changed(fault) {
+        Some(from) => from == line,
+        None => false,
     }
 }

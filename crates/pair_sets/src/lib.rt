@@ -5,6 +5,7 @@ mod base;
 mod cone;
 mod events;
 mod fault_pair;
+mod images;
 mod laws;
 mod pair_set;
 mod reached;

@@ -3,59 +3,64 @@
 ghost use Rattle.std.specs.Prelude.{◌≡◌, ◌∷◌, [], Some, None};
 ghost use Rattle.net_model.specs.declared.gate.Kind.TheVariants.{Not};
 ghost use Rattle.net_model.specs.declared.operation.Operation.TheVariants.{Chosen, Folded};
-ghost use Rattle.net_model.specs.declared.operation.Fold.TheVariants.{AllOf, OddOf};
-ghost use Rattle.pair_sets.specs.PairSet.{forced_pairs, gate_pairs, operation_pairs, fixed_pairs, free_pairs, some_pair, has_first, has_second, has_pair, has_several, meets, only_equal, only_unequal, second_turned};
+ghost use Rattle.pair_sets.specs.PairSet.{forced_pairs, gate_pairs, operation_pairs, fixed_pairs, free_pairs, some_pair, has_first, has_second, has_pair, has_several, only_equal, only_unequal};
 
+use crate::images::{NOT, image_table};
 use net_model::Fold;
 use std::marker::Model;
 
 /// A set of pairs of bits: whether each of the four is in it.
 #[derive(Clone, Copy, PartialEq, Eq)]
 pub struct PairSet {
-    both_zero: bool,
-    zero_one: bool,
-    one_zero: bool,
-    both_one: bool,
+    // A binary digit for each pair, whose two bits are the number of the digit.
+    digits: u8,
 }
 
 impl Model for PairSet {
+    ghost use Rattle.std.specs.Prelude.{◌<◌};
     ghost use Rattle.pair_sets.specs.PairSet as spec;
 
     ghost Value = { spec.PairSet };
 
-    ghost use Rattle.pair_sets.specs.PairSetFields.{pair_set_of, fields_of};
+    ghost use Rattle.pair_sets.specs.PairSetFields.{pair_set_of, fields_of, fields_again};
 
     ghost view = { pair_set_of };
 
+    ghost invariant = { λ a. a.digits < 16 };
+
     ghost inverse = { fields_of };
+
+    ghost inverse_ok = { fields_again };
 }
 
 impl PairSet {
+    #[inline]
+    fn new(both_zero: bool, zero_one: bool, one_zero: bool, both_one: bool) -> PairSet
+        ensures { result ≡ record { both_zero = both_zero; zero_one = zero_one; one_zero = one_zero; both_one = both_one } }
+    {
+        let equal = u8::from(both_zero) + 8 * u8::from(both_one);
+        let unequal = 2 * u8::from(zero_one) + 4 * u8::from(one_zero);
+        PairSet {
+            digits: equal + unequal,
+        }
+    }
+
     // The equal pairs of both values, as a free source has them.
     pub(crate) fn free() -> PairSet
         ensures { result ≡ free_pairs }
     {
-        PairSet {
-            both_zero: true,
-            zero_one: false,
-            one_zero: false,
-            both_one: true,
-        }
+        PairSet { digits: 0b1001 }
     }
 
     // The equal pair of one value, as a fixed source has it.
     pub(crate) fn fixed(bit: bool) -> PairSet
         ensures { result ≡ fixed_pairs bit }
     {
-        PairSet {
-            both_zero: !bit,
-            zero_one: false,
-            one_zero: false,
-            both_one: bit,
-        }
+        PairSet::new(!bit, false, false, bit)
     }
 
     // The pairs of a fold of no pins.
+    #[inline]
     pub(crate) fn unit(fold: Fold) -> PairSet
         ensures { result ≡ operation_pairs (Folded fold) [] }
     {
@@ -70,67 +75,9 @@ impl PairSet {
     pub(crate) fn step(self, fold: Fold, other: PairSet) -> PairSet
         ensures { result ≡ operation_pairs (Folded fold) (self ∷ other ∷ []) }
     {
-        match fold {
-            Fold::AllOf => self.and(other),
-            Fold::AnyOf => self.not().and(other.not()).not(),
-            Fold::OddOf => self.xor(other),
-        }
-    }
-
-    // The pairs of an AND whose two pins see these sets.
-    #[inline]
-    fn and(self, other: PairSet) -> PairSet
-        ensures { result ≡ operation_pairs (Folded AllOf) (self ∷ other ∷ []) }
-    {
-        let (here, there) = (self.some(), other.some());
+        let place = 16 * usize::from(self.digits) + usize::from(other.digits);
         PairSet {
-            both_zero: (self.both_zero & there)
-                | (here & other.both_zero)
-                | (self.zero_one & other.one_zero)
-                | (self.one_zero & other.zero_one),
-            zero_one: (self.zero_one & (other.zero_one | other.both_one))
-                | (self.both_one & other.zero_one),
-            one_zero: (self.one_zero & (other.one_zero | other.both_one))
-                | (self.both_one & other.one_zero),
-            both_one: self.both_one & other.both_one,
-        }
-    }
-
-    // The pairs of an XOR whose two pins see these sets.
-    #[inline]
-    fn xor(self, other: PairSet) -> PairSet
-        ensures { result ≡ operation_pairs (Folded OddOf) (self ∷ other ∷ []) }
-    {
-        let turned = other.second_turned();
-        PairSet {
-            both_zero: self.meets(other),
-            zero_one: self.meets(turned),
-            one_zero: self.meets(turned.not()),
-            both_one: self.meets(other.not()),
-        }
-    }
-
-    // Whether the two sets have a pair in common.
-    #[inline]
-    fn meets(self, other: PairSet) -> bool
-        ensures { result ≡ meets self other }
-    {
-        (self.both_zero & other.both_zero)
-            | (self.zero_one & other.zero_one)
-            | (self.one_zero & other.one_zero)
-            | (self.both_one & other.both_one)
-    }
-
-    // The set with the bit in each pair's second place inverted.
-    #[inline]
-    fn second_turned(self) -> PairSet
-        ensures { result ≡ second_turned self }
-    {
-        PairSet {
-            both_zero: self.zero_one,
-            zero_one: self.both_zero,
-            one_zero: self.both_one,
-            both_one: self.one_zero,
+            digits: image_table(fold)[place],
         }
     }
 
@@ -140,10 +87,7 @@ impl PairSet {
         ensures { result ≡ gate_pairs Not (self ∷ []) }
     {
         PairSet {
-            both_zero: self.both_one,
-            zero_one: self.one_zero,
-            one_zero: self.zero_one,
-            both_one: self.both_zero,
+            digits: NOT[usize::from(self.digits)],
         }
     }
 
@@ -151,22 +95,22 @@ impl PairSet {
     pub(crate) fn chosen(self, low: PairSet, high: PairSet) -> PairSet
         ensures { result ≡ operation_pairs Chosen (self ∷ low ∷ high ∷ []) }
     {
-        PairSet {
-            both_zero: self.chooses(low, high, false, false),
-            zero_one: self.chooses(low, high, false, true),
-            one_zero: self.chooses(low, high, true, false),
-            both_one: self.chooses(low, high, true, true),
-        }
+        PairSet::new(
+            self.chooses(low, high, false, false),
+            self.chooses(low, high, false, true),
+            self.chooses(low, high, true, false),
+            self.chooses(low, high, true, true),
+        )
     }
 
     // Whether such a multiplexer has the pair of these two bits.
     fn chooses(self, low: PairSet, high: PairSet, first: bool, second: bool) -> bool
         ensures { result ≡ has_pair (operation_pairs Chosen (self ∷ low ∷ high ∷ [])) first second }
     {
-        (self.both_zero & low.has(first, second) & high.some())
-            | (self.zero_one & low.has_first(first) & high.has_second(second))
-            | (self.one_zero & high.has_first(first) & low.has_second(second))
-            | (self.both_one & low.some() & high.has(first, second))
+        (self.has(false, false) & low.has(first, second) & high.some())
+            | (self.has(false, true) & low.has_first(first) & high.has_second(second))
+            | (self.has(true, false) & high.has_first(first) & low.has_second(second))
+            | (self.has(true, true) & low.some() & high.has(first, second))
     }
 
     // Whether the set has a pair at all.
@@ -174,7 +118,7 @@ impl PairSet {
     fn some(self) -> bool
         ensures { result ≡ some_pair self }
     {
-        self.both_zero | self.zero_one | self.one_zero | self.both_one
+        self.digits != 0
     }
 
     // Whether some pair has this bit in its first place.
@@ -197,24 +141,16 @@ impl PairSet {
     fn with_first(self, bit: bool) -> PairSet
         ensures { result ≡ forced_pairs (Some bit) None self }
     {
-        PairSet {
-            both_zero: !bit & (self.both_zero | self.one_zero),
-            zero_one: !bit & (self.zero_one | self.both_one),
-            one_zero: bit & (self.both_zero | self.one_zero),
-            both_one: bit & (self.zero_one | self.both_one),
-        }
+        let (zero, one) = (self.has_second(false), self.has_second(true));
+        PairSet::new(!bit & zero, !bit & one, bit & zero, bit & one)
     }
 
     // The set with a value put in each pair's second place.
     fn with_second(self, bit: bool) -> PairSet
         ensures { result ≡ forced_pairs None (Some bit) self }
     {
-        PairSet {
-            both_zero: !bit & (self.both_zero | self.zero_one),
-            zero_one: bit & (self.both_zero | self.zero_one),
-            one_zero: !bit & (self.one_zero | self.both_one),
-            both_one: bit & (self.one_zero | self.both_one),
-        }
+        let (zero, one) = (self.has_first(false), self.has_first(true));
+        PairSet::new(!bit & zero, bit & zero, !bit & one, bit & one)
     }
 
     // The set with a value put in each pair's first place, where there is one to put.
@@ -245,10 +181,10 @@ impl PairSet {
         ensures { result ≡ has_pair self first second }
     {
         match (first, second) {
-            (false, false) => self.both_zero,
-            (false, true) => self.zero_one,
-            (true, false) => self.one_zero,
-            (true, true) => self.both_one,
+            (false, false) => self.digits & 1 != 0,
+            (false, true) => self.digits & 2 != 0,
+            (true, false) => self.digits & 4 != 0,
+            (true, true) => self.digits & 8 != 0,
         }
     }
 
@@ -257,9 +193,8 @@ impl PairSet {
     pub fn has_several(self) -> bool
         ensures { result ≡ has_several self }
     {
-        (self.both_zero & (self.zero_one | self.one_zero | self.both_one))
-            | (self.zero_one & (self.one_zero | self.both_one))
-            | (self.one_zero & self.both_one)
+        // without the lowest of its digits
+        self.digits & (self.digits + 15) != 0
     }
 
     /// Whether no pair has two values.
@@ -267,7 +202,7 @@ impl PairSet {
     pub fn only_equal(self) -> bool
         ensures { result ≡ only_equal self }
     {
-        !(self.zero_one | self.one_zero)
+        self.digits & 0b0110 == 0
     }
 
     /// Whether each pair has two values.
@@ -275,6 +210,6 @@ impl PairSet {
     pub fn only_unequal(self) -> bool
         ensures { result ≡ only_unequal self }
     {
-        !(self.both_zero | self.both_one)
+        self.digits & 0b1001 == 0
     }
 }

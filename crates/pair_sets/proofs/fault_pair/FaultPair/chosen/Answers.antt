@@ -6,5 +6,5 @@ use Rattle.pair_sets.proofs.fault_pair.FaultPair.chosen.Goals as goal
 
 pub returns : goal.returns
 returns c =
-    c.chosen.ensures ∙ (λ i. operation_pairs Chosen (c.pin_pairs-select.ensures i ∷ c.pin_pairs-low.ensures i ∷ c.pin_pairs-high.ensures i ∷ []))
+    c.chosen.ensures ∙ (λ i. operation_pairs Chosen (c.seen_pairs-select.ensures i ∷ c.seen_pairs-low.ensures i ∷ c.seen_pairs-high.ensures i ∷ []))
     ∙ (λ i. operation_pairs Chosen (sym (seen_three c.args.self.now.f c.args.self.now.g c.args.sets.now c.args.line c.args.pins.now c.requires.three) i))

@@ -21,5 +21,5 @@ loop-k-preserved c =
     let pins = c.args.pins.now in
     let k = c.loop-k.k - 1 in
     let next : c.loop-k.k ≡ k + 1 = omega arith in
-    c.step-pairs.ensures ∙ one_pin_more f g c.args.sets.now c.args.line c.args.fold pins k c.pin_pairs.result c.loop-k.pairs (omega arith) c.pin_pairs.ensures
+    c.step-pairs.ensures ∙ one_pin_more f g c.args.sets.now c.args.line c.args.fold pins k c.seen_pairs.result c.loop-k.pairs (omega arith) c.seen_pairs.ensures
     (c.loop-k.invariant ∙ ap (λ n. operation_pairs (Folded c.args.fold) (drop n (seen_pairs f g c.args.sets.now c.args.line pins))) next)
