@@ -1,6 +1,7 @@
 //! The proof of evidence, by its kind.
 
-ghost use Rattle.std.specs.Prelude.{◌≡◌, ◌≢◌, ◌≤◌, ◌<◌, [], OnOk, IsErrOf};
+ghost use Rattle.std.specs.Prelude.{◌≡◌, ◌≢◌, ◌≤◌, ◌<◌, [], List, IsTrue, OnOk, IsErrOf};
+ghost use Rattle.clause_pool.specs.Clauses.{Clause};
 ghost use Rattle.net_model.specs.Fault.{IsFaultOf};
 ghost use Rattle.net_model.specs.FaultList.{fault_count, fault_numbered};
 ghost use Rattle.pair_miter.specs.Adds.{KeepsPlaces};
@@ -111,10 +112,23 @@ fn check_pair(
     ensures places { KeepsPlaces pool.old pool.new }
 {
     check_tree(alloc, circuit, f, g, tree, kind, budgets.cubes)?;
+    if needs_no_clauses(kind, budgets.conflicts, log) {
+        return Ok(());
+    }
     miter_is_small();
     let empty = pool.mark();
     let miter = build(alloc, circuit, f, g, pool)?;
     let checked = check_log(alloc, &miter, pool, log, kind, budgets.conflicts);
     pool.release(empty);
     checked
+}
+
+// Whether a log is right over any clauses, so that none need be built for it: it has no chains, and spends a budget of none.
+fn needs_no_clauses(kind: EvidenceKind, conflicts: u32, log: &Log) -> bool
+    ensures { IsTrue result → (clauses : List Clause) → IsRightLog kind clauses conflicts log.now }
+{
+    match kind {
+        EvidenceKind::Spent if conflicts == 0 => log.as_slice().is_empty(),
+        _ => false,
+    }
 }
