@@ -1,5 +1,5 @@
 -- A walk through a tree: what is right at its cube, and how it goes on.
-use Rattle.std.proofs.Common.{◌≡◌, ℕ, ◌+◌, ◌<◌, List, [], ◌∷◌, ◌++◌, length, take, drop, below_more, refl, sym, ◌∙◌, ap, subst, arith}
+use Rattle.std.proofs.Common.{◌≡◌, ℕ, zero, suc, ◌+◌, ◌<◌, List, [], ◌∷◌, ◌++◌, length, take, drop, below_more, refl, sym, ◌∙◌, ap, subst, arith}
 use Rattle.std.specs.Prelude.{Bool, true, false, Option, None, Some, Vec, slice_get, reverse, cond, is_some, option_map, find, ◌==◌, ◌||◌, if◌then◌else◌}
 use Rattle.std.specs.List.{list_any}
 use Rattle.std.proofs.lemmas.List.{take_more, take_all, reverse-append}
@@ -138,6 +138,34 @@ pub record HasCome (c : Circuit) (f g : Fault) (tokens : List Token) (step : ℕ
   pub waiting : waiting_in walk ≡ waiting_after (take step tokens)
   pub right : (k : ℕ) → k < step → IsRightToken c f g tokens k
 
+module _ (c : Circuit) (f g : Fault) (tokens : List Token) (tree : IsTree c f g tokens) where
+  counts_of : (kind : EvidenceKind) (limit : ℕ) → IsRightTree c f g kind limit tokens → AreRightCounts kind limit tokens
+  counts_of Covered limit right = (right.covered, right.few)
+  counts_of Refuted limit right = (right.open_leaf, right.full)
+  counts_of Spent limit right = (right.open_leaf, right.full)
+
+  -- a tree with the right counts is right, and with others is refused
+  pub tree_counted : (kind : EvidenceKind) (limit : ℕ) → AreRightCounts kind limit tokens → IsRightTree c f g kind limit tokens
+  tree_counted Covered limit counts = record { tree = tree; covered = counts.0; few = counts.1 }
+  tree_counted Refuted limit counts = record { tree = tree; open_leaf = counts.0; full = counts.1 }
+  tree_counted Spent limit counts = record { tree = tree; open_leaf = counts.0; full = counts.1 }
+
+  pub tree_miscounted : (kind : EvidenceKind) (limit : ℕ) → (AreRightCounts kind limit tokens → ⊥) → TreeRefused c f g kind limit tokens (record { kind = WrongCount; step = length tokens })
+  tree_miscounted kind limit wrong = wrong_count tree (λ right. wrong (counts_of kind limit right)) refl
+
+-- an open leaf alone is a tree
+pub leaf_is_tree : (c : Circuit) (f g : Fault) (tokens : List Token) → tokens ≡ Rest ∷ [] → IsTree c f g tokens
+leaf_is_tree c f g tokens is =
+    subst (IsTree c f g) (sym is)
+    (record {
+      shape = record { whole = refl; free = λ at h. let r = only at h in (r.0, r.1, free_token c f g (token_at (Rest ∷ []) at) r.0 r.2) };
+      each = only;
+    })
+  where
+    only : (at : ℕ) → at < length (Rest ∷ []) → (cube : Cube) × (cube_at (Rest ∷ []) at ≡ Some cube) × IsRightAt c f g (token_at (Rest ∷ []) at) cube
+    only zero h = ([], refl, tt)
+    only (suc at) h = absurd (omega (arith, h))
+
 module _ (c : Circuit) (f g : Fault) (tokens : List Token) where
   module _ (step : ℕ) (walk : Walk) (come : HasCome c f g tokens step walk) where
     cube_here : walk.whole ≡ false → cube_at tokens step ≡ Some walk.sim.cube
@@ -206,17 +234,7 @@ module _ (c : Circuit) (f g : Fault) (tokens : List Token) where
     }
 
     pub counts_refused : walk.whole ≡ true → (AreRightCounts kind limit tokens → ⊥) → TreeRefused c f g kind limit tokens (record { kind = WrongCount; step = length tokens })
-    counts_refused whole wrong = wrong_count (tree_is whole) (λ right. wrong (counts_of kind limit right)) refl
-      where
-        counts_of : (kind : EvidenceKind) (limit : ℕ) → IsRightTree c f g kind limit tokens → AreRightCounts kind limit tokens
-        counts_of Covered limit right = (right.covered, right.few)
-        counts_of Refuted limit right = (right.open_leaf, right.full)
-        counts_of Spent limit right = (right.open_leaf, right.full)
+    counts_refused whole wrong = tree_miscounted c f g tokens (tree_is whole) kind limit wrong
 
     pub tree_right : walk.whole ≡ true → AreRightCounts kind limit tokens → IsRightTree c f g kind limit tokens
-    tree_right whole counts = with_counts kind limit counts
-      where
-        with_counts : (kind : EvidenceKind) (limit : ℕ) → AreRightCounts kind limit tokens → IsRightTree c f g kind limit tokens
-        with_counts Covered limit counts = record { tree = tree_is whole; covered = counts.0; few = counts.1 }
-        with_counts Refuted limit counts = record { tree = tree_is whole; open_leaf = counts.0; full = counts.1 }
-        with_counts Spent limit counts = record { tree = tree_is whole; open_leaf = counts.0; full = counts.1 }
+    tree_right whole counts = tree_counted c f g tokens (tree_is whole) kind limit counts

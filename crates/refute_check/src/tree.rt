@@ -1,10 +1,10 @@
 //! The check of a tree of cubes.
 
-ghost use Rattle.std.specs.Prelude.{◌≡◌, ◌==◌, ◌↔◌, ◌∷◌, [], IsTrue, IsErrOf, IfOk, OnOk, false};
+ghost use Rattle.std.specs.Prelude.{◌≡◌, ◌==◌, ◌↔◌, ◌∷◌, [], IsTrue, IsErrOf, IfOk, OnOk, false, length};
 ghost use Rattle.std.specs.List.{list_any};
 ghost use Rattle.net_model.specs.Fault.{IsFaultOf};
 ghost use Rattle.pair_sets.specs.declared.state.PairState.TheVariants.{Undecided};
-ghost use Rattle.pair_sets.specs.declared.tree.Token.TheVariants.{Split};
+ghost use Rattle.pair_sets.specs.declared.tree.Token.TheVariants.{Split, Rest};
 ghost use Rattle.pair_sets.specs.CubeState.{IsState};
 ghost use Rattle.pair_sets.specs.PairSim.{pair_sim};
 ghost use Rattle.pair_sets.specs.Tree.{IsRightAt, after_token, closed_count};
@@ -35,8 +35,31 @@ pub fn check_tree(
     ensures right { OnOk result (IsRightTree circuit.now f.now g.now kind cubes tree.now) }
     ensures refused { (refusal : Refusal) → IsErrOf result (CheckFault.Refused refusal) → TreeRefused circuit.now f.now g.now kind cubes tree.now refusal }
 {
+    if is_open_leaf(tree) {
+        return check_open_leaf(tree.as_slice(), kind, cubes);
+    }
     let mut walk = Walk::at_root(alloc, circuit, f, g)?;
     walk.check(tree.as_slice(), kind, cubes)
+}
+
+// Whether a tree is one open leaf. It is right at any cube, so nothing is simulated for it.
+fn is_open_leaf(tree: &Tree) -> bool
+    ensures { IsTrue result → tree.now ≡ Rest ∷ [] }
+{
+    let tokens = tree.as_slice();
+    tokens.len() == 1 && tokens[0] == Token::Rest
+}
+
+// Checks the counts of a tree that is one open leaf.
+fn check_open_leaf(tokens: &[Token], kind: EvidenceKind, cubes: u32) -> Result<(), CheckFault>
+    ensures right { OnOk result (AreRightCounts kind cubes tokens.now) }
+    ensures refused { (refusal : Refusal) → IsErrOf result (CheckFault.Refused refusal) → (¬ AreRightCounts kind cubes tokens.now) × (refusal ≡ record { kind = RefusalKind.WrongCount; step = length tokens.now }) }
+{
+    if has_right_counts(tokens, kind, cubes) {
+        Ok(())
+    } else {
+        Err(refused(RefusalKind::WrongCount, tokens.len()))
+    }
 }
 
 // A cube on the way through a tree: the splits above it with their bits, the last one last. Once the tree is whole there is
