@@ -1,4 +1,4 @@
--- The text of a simulation is printed block after block.
+-- The text of a simulation is printed part after part.
 use Rattle.std.proofs.Common.{◌≡◌, ◌≢◌, ◌∙◌, ℕ, ◌+◌, ◌-◌, ◌≤◌, ◌⊎◌, Bool, List, [], ◌∷◌, ◌++◌, length, length-append, take, drop, refl, sym, ap, subst, inl, inr, arith, append_assoc, zero-le}
 use Rattle.std.specs.Prelude.{slice_range}
 use Rattle.std.proofs.Math.Seq.{take-add, take-append-add}
@@ -106,7 +106,7 @@ says_part {text} {ending} {a} {b} more ne e = record {
   sure = e.sure;
 }
 
--- ---- blocks
+-- ---- parts
 
 -- The lines of the first vectors, so many, were printed.
 pub record ArePrinted (c : Circuit) (vectors : List (List Bool)) (count : ℕ) (a b : State) : Type 0 where
@@ -140,11 +140,11 @@ more_printed {c} {vectors} {count} {end} {text} {a} {b} {d} order within so_far 
   says = says_then so_far.says says;
 }
 
--- all blocks
+-- all vectors
 pub all_printed : {c : Circuit} {vectors : List (List Bool)} {count : ℕ} {a b : State} → length vectors ≤ count → ArePrinted c vectors count a b → PrintsText c vectors done a b
 all_printed {c} {vectors} {count} {a} {b} all so_far = (so_far.text, subst (λ (vs : List (List Bool)). IsSimText c vs so_far.text) (take_all count vectors all) so_far.simulated, so_far.says)
 
--- a block that breaks off
+-- a part that breaks off
 pub broken_off : {c : Circuit} {vectors : List (List Bool)} {count end : ℕ} {ending : Ending} {text : Text} {a b d : State} → IsCircuit c → count ≤ end → end ≤ length vectors → ending ≢ done → ArePrinted c vectors count a b → IsSimTextFrom c count (slice_range vectors count end) text
     → Ends (said done text) (IsPartOf (said done text)) ending b d → PrintsText c vectors ending a d
 broken_off {c} {vectors} {count} {end} {ending} {text} {a} {b} {d} is order within ne so_far simulated says =

@@ -1,8 +1,9 @@
 //! The command `sim`: what a circuit answers to a list of vectors, without a fault and with each.
 
-ghost use Rattle.std.specs.Prelude.{◌≡◌, ◌+◌, ◌≤◌, ℕ, Bool, List, All, Some, length, min, slice_range};
-ghost use Rattle.net_model.specs.FaultList.{faults as faults_of};
+ghost use Rattle.std.specs.Prelude.{◌≡◌, ◌+◌, ◌<◌, ℕ, Bool, List, All, Some, length, slice_range};
+ghost use Rattle.net_model.specs.Circuit.{IsCircuit};
 ghost use Rattle.sim_listing.specs.SimText.{IsSimTextFrom, IsSimText};
+ghost use Rattle.sim_listing.specs.VectorTexts.{HaveSameVectors};
 ghost use Rattle.request_words.specs.Request.{simulate};
 ghost use Rattle.dia_commands.specs.Ending.{done};
 ghost use Rattle.dia_commands.specs.Outcome.{said, IsPartOf};
@@ -14,11 +15,10 @@ use crate::ends::say;
 use crate::logs::read_list;
 use crate::netlists::read_design;
 use diag_shelf::Shelf;
-use fault_list::{FaultList, list};
+use fault_list::list;
 use net_model::{Circuit, Vector};
-use sim_listing::block_text;
+use sim_listing::{VectorTexts, root_places};
 use std::alloc::Global;
-use word_sim::LANES;
 
 /// Reads and judges the netlist and then the list of vectors, and prints what the netlist's circuit answers to each.
 pub fn simulate<S: Shelf>(
@@ -46,7 +46,7 @@ fn simulate_list<S: Shelf>(
     print_simulation(alloc, shelf, circuit, vectors.as_slice())
 }
 
-// Prints the text of the simulation, block after block.
+// Prints the text of the simulation, vector after vector.
 fn print_simulation<S: Shelf>(
     alloc: Global,
     shelf: &mut S,
@@ -58,29 +58,26 @@ fn print_simulation<S: Shelf>(
 {
     let _ = circuit.sources();
     let faults = list(alloc, circuit)?;
-    let mut first = 0;
-    while first < vectors.len() {
-        print_block(alloc, shelf, circuit, &faults, vectors, first)?;
-        first += (vectors.len() - first).min(LANES as usize);
+    let roots = root_places(alloc, circuit, &faults)?;
+    let mut texts = VectorTexts::new(alloc, circuit, &faults, &roots, vectors)?;
+    for number in 0..vectors.len() {
+        print_vector(alloc, shelf, &mut texts, number)?;
     }
     Ok(())
 }
 
-// Prints the lines of the vectors from the first one on, as many as there are lanes.
-fn print_block<S: Shelf>(
+// Prints the lines of the vector with this number.
+fn print_vector<S: Shelf>(
     alloc: Global,
     shelf: &mut S,
-    circuit: &Circuit,
-    faults: &FaultList,
-    vectors: &[Vector],
-    first: usize,
+    texts: &mut VectorTexts,
+    number: usize,
 ) -> Result<(), RunFault>
-    requires faults { faults.now ≡ faults_of circuit.now }
-    requires widths { All (λ v. length v ≡ circuit.now.sources) vectors.now }
-    requires first { first ≤ length vectors.now }
-    ensures { (text : List ℕ) × IsSimTextFrom circuit.now first (slice_range vectors.now first (min (first + LANES) (length vectors.now))) text × Ends (said done text) (IsPartOf (said done text)) result (S.state shelf.old) (S.state shelf.new) }
+    requires circuit { IsCircuit texts.old.circuit }
+    requires number { number < length texts.old.vectors }
+    ensures same { HaveSameVectors texts.old texts.new }
+    ensures said { (text : List ℕ) × IsSimTextFrom texts.old.circuit number (slice_range texts.old.vectors number (number + 1)) text × Ends (said done text) (IsPartOf (said done text)) result (S.state shelf.old) (S.state shelf.new) }
 {
-    let _ = circuit.sources();
-    let text = block_text(alloc, circuit, faults, vectors, first)?;
+    let text = texts.text(alloc, number)?;
     say(shelf, text.as_bytes())
 }

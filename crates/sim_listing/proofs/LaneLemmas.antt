@@ -38,32 +38,32 @@ module _ (l : LaneAnswers) (known : IsKnownLane l) (row : List (List Bool)) (is 
     one_each = length-map leads (answer_in row);
     each = λ place h.
         subst (λ answer. IsAnswer circuit (lead_fault circuit leads place) vector answer) (sym (get_or-map (answer_in row) leads place 0 [] h))
-        (answer_in_row circuit vector row is (get_or leads place 0) (known.equal.leads place 0 h));
+        (answer_in_row circuit vector row is (get_or leads place 0) (known.equal.roots.known place 0 h));
   }
 
   wide : length vector ≡ circuit.sources
   wide = known.equal.widths l.lane [] known.lane
 
   of_number : (number : ℕ) → number < length l.places.now → IsAnswer circuit (fault_numbered circuit number) vector (answer_in row number)
-  of_number number h = answer_in_row circuit vector row is number (omega (arith, h, known.equal.one_each))
+  of_number number h = answer_in_row circuit vector row is number (omega (arith, h, known.equal.roots.one_each))
 
   -- the lead at a number's place answers as it does
   pub lead_answer : (number : ℕ) (answer : List Bool) → number < length l.places.now → IsAnswer circuit (lead_fault circuit leads (get_or l.places.now number 0)) vector answer → answer ≡ answer_in row number
-  lead_answer number answer h of = known.equal.equal number h vector answer (answer_in row number) wide of (of_number number h)
+  lead_answer number answer h of = known.equal.roots.equal number h vector answer (answer_in row number) wide of (of_number number h)
 
   -- so its answer's number is the place of the number's answer
   pub lead_place : (number place : ℕ) → number < length l.places.now → IsLeadNumber circuit leads vector (get_or l.places.now number 0) place → IsAnswerPlace (lane_answers l row) (answer_in row number) place
   lead_place number place h numbered =
       let found = numbered (map (answer_in row) leads) leads_answer in
       let lead = get_or l.places.now number 0 in
-      let of = leads_answer.each lead (known.equal.within number h) in
+      let of = leads_answer.each lead (known.equal.roots.within number h) in
       record { within = found.within; own = found.own ∙ lead_answer number (row_at (map (answer_in row) leads) lead) h of }
 
   pub lead_count : (count : ℕ) → IsLeadCount circuit leads vector count → count ≡ length (lane_answers l row)
   lead_count count counted = counted (map (answer_in row) leads) leads_answer
 
   pub row_long : length row ≡ length l.places.now
-  row_long = AllZip-long (λ f answer. IsAnswer circuit f vector answer) (faults circuit) row is ∙ sym known.equal.one_each
+  row_long = AllZip-long (λ f answer. IsAnswer circuit f vector answer) (faults circuit) row is ∙ sym known.equal.roots.one_each
 
   -- answers at different places differ
   pub places_tell : (number place free : ℕ) → IsAnswerPlace (lane_answers l row) (answer_in row number) place → IsAnswerPlace (lane_answers l row) (answer_in row 0) free → not (place == free) ≡ answers_otherwise row number
@@ -77,14 +77,14 @@ module _ (l : LaneAnswers) (known : IsKnownLane l) (row : List (List Bool)) (is 
   ]
 
 pub some_place : (l : LaneAnswers) → IsKnownLane l → 0 < length l.places.now
-some_place l known = omega (arith, known.equal.one_each, some_number l.numbers.now.circuit)
+some_place l known = omega (arith, known.equal.roots.one_each, some_number l.numbers.now.circuit)
 
 -- ---- texts
 
 -- there is room for a text at each answer's place
 pub place_inside : (l : LaneAnswers) (texts : List (Option (String Global))) (number place : ℕ) → IsKnownLane l → AreLaneTexts l texts → IsNumberPlace l number place → place < length texts
 place_inside l texts number place known are at =
-    let row = row_exists l.numbers.now.circuit known.equal.circuit (vector_in l.numbers.now l.lane) in
+    let row = row_exists l.numbers.now.circuit known.equal.roots.circuit (vector_in l.numbers.now l.lane) in
     omega (arith, (at row.0 row.1).within, (are row.0 row.1).one_each)
 
 none_or : {x : Option (String Global)} {text : String Global} → x ≡ None → x ≡ Some text → ⊥

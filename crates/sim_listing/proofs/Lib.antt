@@ -2,4 +2,5 @@ pub mod TextLemmas
 mod AnswerLemmas
 mod RootLemmas
 mod LaneLemmas
-mod BlockLemmas
+mod EqualRoots
+mod SimulatedLemmas

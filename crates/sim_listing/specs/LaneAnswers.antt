@@ -3,7 +3,7 @@ use Rattle.std.specs.Prelude.{◌≡◌, ℕ, ◌<◌, ◌^◌, Bool, List, All,
 use Rattle.std.specs.declared.alloc.Global.{Global}
 use Rattle.net_model.specs.Answer.{AreEqual}
 use Rattle.net_model.specs.BitText.{bits_text}
-use Rattle.net_model.specs.Circuit.{IsCircuit}
+use Rattle.net_model.specs.Circuit.{Circuit, IsCircuit}
 use Rattle.net_model.specs.FaultList.{fault_count, fault_numbered}
 use Rattle.net_model.specs.PatternRows.{IsAnswerRow}
 use Rattle.net_model.specs.Rows.{row_at}
@@ -12,15 +12,20 @@ use Rattle.answer_numbers.specs.AnswerNumbers.{AnswerNumbers, numbered_vectors, 
 use Rattle.answer_numbers.specs.Distinct.{distinct_answers}
 use Rattle.sim_listing.specs.declared.lines.LaneAnswers.{LaneAnswers}
 
--- Each fault number is equal to the lead at its place.
-pub record HaveEqualLeads (n : AnswerNumbers) (places : List ℕ) : Type 0 where
-  pub circuit : IsCircuit n.circuit
-  pub leads : All (λ lead. lead < fault_count n.circuit) n.leads
-  pub widths : All (λ v. length v ≡ n.circuit.sources) (numbered_vectors n)
-  pub one_each : length places ≡ fault_count n.circuit
+-- Each fault number is equal to the root at its place.
+pub record AreEqualRoots (c : Circuit) (roots places : List ℕ) : Type 0 where
+  pub circuit : IsCircuit c
+  pub known : All (λ root. root < fault_count c) roots
+  pub one_each : length places ≡ fault_count c
+  pub few_roots : length roots < 2 ^ 32
   pub few : length places < 2 ^ 32
-  pub within : (number : ℕ) → number < length places → slice_index places number < length n.leads
-  pub equal : (number : ℕ) → number < length places → AreEqual n.circuit (lead_fault n.circuit n.leads (slice_index places number)) (fault_numbered n.circuit number)
+  pub within : (number : ℕ) → number < length places → slice_index places number < length roots
+  pub equal : (number : ℕ) → number < length places → AreEqual c (lead_fault c roots (slice_index places number)) (fault_numbered c number)
+
+-- Each is so to the lead at its place.
+pub record HaveEqualLeads (n : AnswerNumbers) (places : List ℕ) : Type 0 where
+  pub roots : AreEqualRoots n.circuit n.leads places
+  pub widths : All (λ v. length v ≡ n.circuit.sources) (numbered_vectors n)
 
 -- The lane is one of the block, and each number is equal to the lead at its place.
 pub record IsKnownLane (l : LaneAnswers) : Type 0 where

@@ -1,11 +1,12 @@
-//! The text of a simulation, a block of vectors at a time.
+//! The text of a simulation, a vector at a time.
 #![tactic(auto)]
 
-mod blocks;
 mod laws;
 mod lines;
 mod roots;
 mod texts;
+mod vector_texts;
 
-pub use blocks::block_text;
 pub use laws::{blocks_make_the_list, one_text_each};
+pub use roots::{RootPlaces, root_places};
+pub use vector_texts::VectorTexts;

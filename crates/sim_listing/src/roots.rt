@@ -1,21 +1,39 @@
 //! The roots of the faults, which alone are simulated.
 
 ghost use Rattle.std.specs.Prelude.{◌≡◌, ◌<◌, ◌^◌, ◌++◌, ◌∷◌, [], All, IfOk, OnOk, length, map, slice_index, if◌then◌else◌};
+ghost use Rattle.net_model.specs.FaultList.{faults as faults_of};
 ghost use Rattle.fault_collapse.specs.ForestFields.{AreForestFields};
+ghost use Rattle.sim_listing.specs.LaneAnswers.{AreEqualRoots};
 ghost use Rattle.sim_listing.specs.RootPlaces.{AreOwnPlaces, AreRootPlaces};
 
-use fault_collapse::Forest;
+use fault_collapse::{Forest, collapse};
+use fault_list::FaultList;
+use net_model::Circuit;
 use std::alloc::{AllocError, Global};
 
 /// The numbers that are their own roots, ascending, and for each number the place of its root among them.
 #[derive(Drop)]
-pub(crate) struct RootPlaces {
-    pub(crate) roots: Vec<u32>,
-    pub(crate) places: Vec<u32>,
+pub struct RootPlaces {
+    pub roots: Vec<u32>,
+    pub places: Vec<u32>,
 }
 
-/// The roots of the numbers, and their places.
-pub(crate) fn root_places(alloc: Global, forest: &Forest) -> Result<RootPlaces, AllocError>
+/// The roots of a circuit's faults, of which `faults` is the list: of the faults that collapse into one, the one that is simulated.
+pub fn root_places(
+    alloc: Global,
+    circuit: &Circuit,
+    faults: &FaultList,
+) -> Result<RootPlaces, AllocError>
+    requires { faults.now ≡ faults_of circuit.now }
+    ensures { IfOk result (λ found. AreEqualRoots circuit.now found.roots.items found.places.items) }
+{
+    let forest = collapse(alloc, circuit, faults)?;
+    let found = forest_places(alloc, &forest)?;
+    Ok(found)
+}
+
+// The roots of the numbers, and their places.
+fn forest_places(alloc: Global, forest: &Forest) -> Result<RootPlaces, AllocError>
     requires { AreForestFields forest.now }
     ensures { IfOk result (λ found. AreRootPlaces forest.now.roots found.roots.items found.places.items) }
 {

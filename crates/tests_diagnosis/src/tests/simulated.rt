@@ -1,12 +1,12 @@
 //! What is written of vectors of small circuits.
 
 ghost use Rattle.std.specs.Prelude.{◌≡◌, ◌<◌, All, IfOk, length};
-ghost use Rattle.net_model.specs.FaultList.{faults as faults_of};
+ghost use Rattle.sim_listing.specs.VectorTexts.{HaveSameVectors};
 
-use fault_list::{FaultList, list};
+use fault_list::list;
 use net_model::{Circuit, Kind, Vector, Vectors};
 use sample_circuits::{AND_OF_TWO, BUFFER, Parts, SHOWN_TWICE, bits, circuit};
-use sim_listing::block_text;
+use sim_listing::{VectorTexts, root_places};
 use std::alloc::{AllocError, Global};
 use std::test::Fail;
 use word_sim::LANES;
@@ -47,39 +47,35 @@ fn vector_of(alloc: Global, circuit: &Circuit, digits: &str) -> Result<Vector, F
     Ok(vector)
 }
 
-// Adds the text of a simulation, block after block.
-fn push_blocks(
+// Adds the text of a simulation, vector after vector.
+fn push_texts(
     alloc: Global,
     circuit: &Circuit,
-    faults: &FaultList,
     vectors: &[Vector],
     text: &mut Vec<u8>,
 ) -> Result<(), AllocError>
-    requires faults { faults.now ≡ faults_of circuit.now }
-    requires widths { All (λ v. length v ≡ circuit.now.sources) vectors.now }
+    requires { All (λ v. length v ≡ circuit.now.sources) vectors.now }
 {
-    let mut first = 0;
-    while first < vectors.len() {
-        push_block(alloc, circuit, faults, vectors, first, text)?;
-        first += (vectors.len() - first).min(LANES as usize);
+    let faults = list(alloc, circuit)?;
+    let roots = root_places(alloc, circuit, &faults)?;
+    let mut texts = VectorTexts::new(alloc, circuit, &faults, &roots, vectors)?;
+    for number in 0..vectors.len() {
+        push_text(alloc, &mut texts, number, text)?;
     }
     Ok(())
 }
 
-fn push_block(
+fn push_text(
     alloc: Global,
-    circuit: &Circuit,
-    faults: &FaultList,
-    vectors: &[Vector],
-    first: usize,
+    texts: &mut VectorTexts,
+    number: usize,
     text: &mut Vec<u8>,
 ) -> Result<(), AllocError>
-    requires faults { faults.now ≡ faults_of circuit.now }
-    requires widths { All (λ v. length v ≡ circuit.now.sources) vectors.now }
-    requires first { first < length vectors.now }
+    requires { number < length texts.old.vectors }
+    ensures { HaveSameVectors texts.old texts.new }
 {
-    let block = block_text(alloc, circuit, faults, vectors, first)?;
-    text.extend_from_slice(block.as_bytes())
+    let own = texts.text(alloc, number)?;
+    text.extend_from_slice(own.as_bytes())
 }
 
 // Whether this is the text of a simulation of a circuit at vectors.
@@ -91,9 +87,8 @@ fn is_text(
 ) -> Result<bool, AllocError>
     requires { All (λ v. length v ≡ circuit.now.sources) vectors.now }
 {
-    let faults = list(alloc, circuit)?;
     let mut text = Vec::new(alloc);
-    push_blocks(alloc, circuit, &faults, vectors, &mut text)?;
+    push_texts(alloc, circuit, vectors, &mut text)?;
     Ok(text.as_slice() == wanted)
 }
 

@@ -76,12 +76,13 @@ fn zeros(alloc: Global, count: u32) -> Result<Vec<u8>, AllocError> {
     Ok(list)
 }
 
-static BROKEN_OFF: [(u64, u8, u32); 5] = [
+static BROKEN_OFF: [(u64, u8, u32); 6] = [
     (2, 7, 0),
     (5, 7, 0),
     (6, 8, 0),
-    (7, 8, LANES),
-    (8, 0, LANES + 1),
+    (7, 8, 1),
+    (262, 8, LANES),
+    (263, 0, LANES + 1),
 ];
 
 fn all_break_off(rt: &impl Abort, alloc: Global, list: &[u8]) -> Result<(), Fail> {
@@ -94,10 +95,10 @@ fn all_break_off(rt: &impl Abort, alloc: Global, list: &[u8]) -> Result<(), Fail
     Ok(())
 }
 
-// The netlist is opened by call 0 and read by calls 1 and 2, and the list by calls 3 to 5; call 6 prints the lines of a
-// block of vectors, all in one piece, and call 7 those of the last one.
+// The netlist is opened by call 0 and read by calls 1 and 2, and the list by calls 3 to 5; call 6 prints the lines of the first
+// vector, and each later one those of the next, beyond a block of vectors too.
 #[test]
-fn each_failing_print_leaves_the_blocks_before_it(rt: HostRuntime) -> Result<(), Fail> {
+fn each_failing_print_leaves_the_vectors_before_it(rt: HostRuntime) -> Result<(), Fail> {
     let list = zeros(rt.alloc(), LANES + 1)?;
     all_break_off(&rt, rt.alloc(), &list)
 }

@@ -1,14 +1,9 @@
-use Rattle.std.proofs.Common.{◌≡◌, ◌∙◌, ℕ, List, length, get_or, map, subst}
-use Rattle.sim_listing.specs.RootPlaces.{AreOwnPlaces}
-use Rattle.sim_listing.proofs.RootLemmas.{root_places_are}
+use Rattle.table_dicts.proofs.RootLemmas.{settled}
+use Rattle.sim_listing.proofs.EqualRoots.{equal_roots}
 use Rattle.sim_listing.proofs.roots.root_places.Goals as goal
 
+pub forest_places-requires : goal.forest_places-requires
+forest_places-requires c = settled c.in_ok-forest.ensures
+
 pub returns : goal.returns
-returns c =
-    let forest = c.args.forest.now in
-    let roots = c.in_ok-roots.field-0.roots.items in
-    let own = c.in_ok-roots.field-0.places.items in
-    let slice : c.as_slice.result.now ≡ own = c.as_slice.ensures.value in
-    root_places_are forest roots own c.in_ok-places.places.items c.requires
-    (subst (λ (all : List ℕ). AreOwnPlaces all (length all) roots own) c.roots-all.ensures c.in_ok-roots.ensures)
-    (c.in_ok-places.ensures ∙ (λ i. map (λ root. get_or (slice i) root 0) (c.roots-all.ensures i)))
+returns c = equal_roots c.args.circuit.now c.in_ok-forest.forest c.in_ok-found.found.roots.items c.in_ok-found.found.places.items c.in_ok-forest.ensures c.in_ok-found.ensures

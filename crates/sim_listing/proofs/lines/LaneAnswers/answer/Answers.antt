@@ -5,7 +5,7 @@ use Rattle.sim_listing.proofs.LaneLemmas.{lead_answer}
 use Rattle.sim_listing.proofs.lines.LaneAnswers.answer.Goals as goal
 
 pub answer-requires-clause-place : goal.answer-requires-clause-place
-answer-requires-clause-place c = subst (λ p. p < length c.args.self.now.numbers.now.leads) (sym c.lead.ensures) (c.requires.lane.equal.within c.args.number c.requires.number)
+answer-requires-clause-place c = subst (λ p. p < length c.args.self.now.numbers.now.leads) (sym c.lead.ensures) (c.requires.lane.equal.roots.within c.args.number c.requires.number)
 
 pub returns : goal.returns
 returns c = λ row is.

@@ -4,7 +4,7 @@ use Rattle.sim_listing.proofs.LaneLemmas.{lead_place}
 use Rattle.sim_listing.proofs.lines.LaneAnswers.place.Goals as goal
 
 pub number-requires-clause-place : goal.number-requires-clause-place
-number-requires-clause-place c = subst (λ p. p < length c.args.self.now.numbers.now.leads) (sym c.lead.ensures) (c.requires.lane.equal.within c.args.number c.requires.number)
+number-requires-clause-place c = subst (λ p. p < length c.args.self.now.numbers.now.leads) (sym c.lead.ensures) (c.requires.lane.equal.roots.within c.args.number c.requires.number)
 
 pub returns : goal.returns
 returns c = λ row is.

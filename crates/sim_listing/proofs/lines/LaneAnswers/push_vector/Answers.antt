@@ -8,4 +8,4 @@ push_vector_line-requires-clause-texts c = λ row is.
     texts_none (lane_answers c.args.self.now row) c.in_ok-texts.texts.items (c.in_ok-texts.ensures.count ∙ lead_count c.args.self.now c.requires row is c.count.result c.count.ensures) c.in_ok-texts.ensures.none
 
 pub push_fault_lines-requires-clause-few : goal.push_fault_lines-requires-clause-few
-push_fault_lines-requires-clause-few c = c.requires.equal.few
+push_fault_lines-requires-clause-few c = c.requires.equal.roots.few

@@ -1,21 +1,20 @@
--- The roots of a circuit's faults as the leads of a block.
-use Rattle.std.proofs.Common.{◌≡◌, ◌∙◌, ℕ, ◌<◌, Bool, List, length, get_or, Some, refl, ap, arith}
-use Rattle.std.specs.Prelude.{All, ◌==◌}
+-- The roots of a circuit's faults.
+use Rattle.std.proofs.Common.{◌≡◌, ◌∙◌, ℕ, ◌<◌, List, length, get_or, refl, ap, arith}
+use Rattle.std.specs.Prelude.{◌==◌}
 use Rattle.std.proofs.lemmas.Bool.{eq-eqb}
 use Rattle.net_model.specs.Circuit.{Circuit}
 use Rattle.fault_collapse.specs.Forest.{Forest, IsForestOf, root_of}
 use Rattle.fault_collapse.proofs.Settled.{same_equal}
 use Rattle.table_dicts.proofs.RootLemmas.{settled}
-use Rattle.answer_numbers.specs.AnswerNumbers.{answer_numbers_with}
 use Rattle.sim_listing.specs.RootPlaces.{AreRootPlaces}
-use Rattle.sim_listing.specs.LaneAnswers.{HaveEqualLeads}
+use Rattle.sim_listing.specs.LaneAnswers.{AreEqualRoots}
 
-pub equal_leads : (c : Circuit) (forest : Forest) (roots places : List ℕ) (vectors : List (List Bool)) → IsForestOf c forest → AreRootPlaces forest.roots roots places → All (λ v. length v ≡ c.sources) vectors → HaveEqualLeads (answer_numbers_with c roots (Some vectors)) places
-equal_leads c forest roots places vectors of found widths = record {
+pub equal_roots : (c : Circuit) (forest : Forest) (roots places : List ℕ) → IsForestOf c forest → AreRootPlaces forest.roots roots places → AreEqualRoots c roots places
+equal_roots c forest roots places of found = record {
   circuit = of.circuit;
-  leads = λ k d h. omega (arith, found.known k d h, of.roots.whole);
-  widths = widths;
+  known = λ k d h. omega (arith, found.known k d h, of.roots.whole);
   one_each = found.one_each ∙ of.roots.whole;
+  few_roots = omega (arith, found.few, (settled of).few);
   few = omega (arith, (settled of).few, found.one_each);
   within = λ number h. found.within number (omega (arith, h, found.one_each));
   equal = λ number h.

@@ -1,0 +1,24 @@
+-- What a circuit answers to vectors, whose texts are made one at a time.
+use Rattle.std.specs.Prelude.{◌≡◌, ℕ, ◌+◌, ◌<◌, ◌≤◌, Bool, List}
+use Rattle.net_model.specs.Circuit.{Circuit}
+
+-- a circuit, the vectors, and which of them were simulated last: from the first one on, so many
+pub record VectorTexts : Type 0 where
+  pub circuit : Circuit
+  pub vectors : List (List Bool)
+  pub first : ℕ
+  pub count : ℕ
+
+-- those of which none was simulated
+abbrev pub texts_before : Circuit → List (List Bool) → VectorTexts
+texts_before circuit vectors = record { circuit = circuit; vectors = vectors; first = 0; count = 0 }
+
+-- The circuit and the vectors are the same.
+pub record HaveSameVectors (old new : VectorTexts) : Type 0 where
+  pub circuit : new.circuit ≡ old.circuit
+  pub vectors : new.vectors ≡ old.vectors
+
+-- The vector with this number is among those that were simulated last.
+pub record HasSimulated (t : VectorTexts) (number : ℕ) : Type 0 where
+  pub from : t.first ≤ number
+  pub below : number < t.first + t.count
