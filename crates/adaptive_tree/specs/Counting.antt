@@ -1,7 +1,7 @@
 -- How often answers occur in a set of classes, and how many pairs each pattern parts.
 use Rattle.std.specs.Prelude.{◌≡◌, ℕ, ◌+◌, ◌<◌, ◌≤◌, ◌==◌, Bool, not, List, [], ◌∷◌, map, filter, length, count_by, slice_index}
 use Rattle.adaptive_tree.specs.declared.class_numbers.ClassNumbers.{ClassNumbers}
-use Rattle.adaptive_tree.specs.declared.counting.Counts.{Counts}
+use Rattle.adaptive_tree.specs.declared.counting.AnswerCounts.{AnswerCounts}
 use Rattle.adaptive_tree.specs.Numbering.{number_for, class_number, own_numbers}
 
 -- how many pairs of places have different numbers
@@ -28,18 +28,18 @@ pub record AreListsCounted (patterns : List ℕ) (limit : ℕ) (lists : List (Li
   pub apart_is : (pattern : ℕ) → pattern < limit → slice_index apart pattern ≡ unequal_pairs (filter not_first (pattern_numbers patterns pattern lists))
 
 -- There is room for counts of all numbers and all patterns.
-pub record HaveCountRoom (c : ClassNumbers) (counts : Counts) : Type 0 where
+pub record HaveCountRoom (c : ClassNumbers) (counts : AnswerCounts) : Type 0 where
   pub often : length counts.often.items ≡ length c.patterns.items
   pub others : length counts.others.items ≡ length c.firsts.items
   pub apart : length counts.apart.items ≡ length c.firsts.items
 
 -- The counts are those of lists, one for each class.
-pub record AreCountsFor (c : ClassNumbers) (lists : List (List ℕ)) (counts : Counts) : Type 0 where
+pub record AreCountsFor (c : ClassNumbers) (lists : List (List ℕ)) (counts : AnswerCounts) : Type 0 where
   pub room : HaveCountRoom c counts
   pub counted : AreListsCounted c.patterns.items (length c.firsts.items) lists counts.often.items counts.others.items counts.apart.items
 
 -- The counts are those of a set.
-abbrev pub AreCountsOf : ClassNumbers → List ℕ → Counts → Type 0
+abbrev pub AreCountsOf : ClassNumbers → List ℕ → AnswerCounts → Type 0
 AreCountsOf c set counts = AreCountsFor c (set_lists c set) counts
 
 -- how many pairs of a set a pattern parts, by numbers

@@ -10,18 +10,18 @@ use std::alloc::{AllocError, Global};
 /// For each number how many classes of a set have it; and by pattern how many of them don't answer as class 0 does, and how
 /// many pairs of these answer differently. Between sets all counts are 0.
 #[derive(Drop)]
-pub(crate) struct Counts {
+pub(crate) struct AnswerCounts {
     pub(crate) often: Vec<u32>,
     pub(crate) others: Vec<u32>,
     pub(crate) apart: Vec<u64>,
 }
 
-impl Counts {
-    pub(crate) fn new(alloc: Global, numbers: &ClassNumbers) -> Result<Counts, AllocError>
+impl AnswerCounts {
+    pub(crate) fn new(alloc: Global, numbers: &ClassNumbers) -> Result<AnswerCounts, AllocError>
         ensures { IfOk result (AreCountsOf numbers.now []) }
     {
         let patterns = numbers.firsts.len();
-        Ok(Counts {
+        Ok(AnswerCounts {
             often: vec![in alloc; 0; numbers.patterns.len()]?,
             others: vec![in alloc; 0; patterns]?,
             apart: vec![in alloc; 0; patterns]?,

@@ -8,14 +8,14 @@ ghost use Rattle.adaptive_tree.specs.Numbering.{AreClassNumbers, AreAllTold, Are
 ghost use Rattle.adaptive_tree.specs.Planning.{IsPlanner, IsToldSet, AddsNode, AreNodeSteps, FinishesNode};
 
 use crate::class_numbers::ClassNumbers;
-use crate::counting::Counts;
+use crate::counting::AnswerCounts;
 use crate::parting::{Branch, part};
 use crate::steps::{Step, Steps};
 use std::alloc::{AllocError, Global};
 
 /// The steps so far, and the branches whose steps are still to come, the next one last.
 pub(crate) struct Planner {
-    pub(crate) counts: Counts,
+    pub(crate) counts: AnswerCounts,
     pub(crate) slots: Vec<u32>,
     pub(crate) waiting: Vec<Branch>,
     pub(crate) steps: Steps,
@@ -65,7 +65,7 @@ impl Planner {
         ensures steps { IfOk result (λ planner. planner.steps ≡ []) }
     {
         Ok(Planner {
-            counts: Counts::new(alloc, numbers)?,
+            counts: AnswerCounts::new(alloc, numbers)?,
             slots: vec![in alloc; 0; numbers.patterns.len()]?,
             waiting: Vec::new(alloc),
             steps: Steps::new(alloc),

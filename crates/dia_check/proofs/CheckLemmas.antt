@@ -22,14 +22,14 @@ use Rattle.dia_check.specs.declared.checker.Checker.{Checker}
 use Rattle.dia_check.specs.declared.stop.Stop.{Stop}
 use Rattle.dia_check.specs.declared.stop.Stop.TheVariants as stop
 use Rattle.dia_check.specs.Progress.{IsProgress}
-use Rattle.dia_check.specs.Checker.{IsChecker, AreWaiting, IsCheckOf, HasCheck, IsRefusedText, IsJudged, JudgesText, JudgesWaiting, record_line}
+use Rattle.dia_check.specs.Checker.{IsChecker, AreUnjudged, IsCheckOf, HasCheck, IsRefusedText, IsJudged, JudgesText, JudgesWaiting, record_line}
 use Rattle.dia_check.proofs.Counting.{read_same, text_more, lines_short}
 
 -- a fault of the line behind so many
 abbrev pub fault_behind : ResultKind → ℕ → ResultFault
 fault_behind kind lines = record { kind = kind; line = lines + 1 }
 
-pub nothing_waits : (c : Circuit) (seen : List Record) (waiting : List (List Bool)) → waiting ≡ [] → AreWaiting c seen waiting
+pub nothing_waits : (c : Circuit) (seen : List Record) (waiting : List (List Bool)) → waiting ≡ [] → AreUnjudged c seen waiting
 nothing_waits c seen waiting none = rw none (record {
   widths = λ k d below. absurd (omega arith);
   few = omega arith;

@@ -35,7 +35,7 @@ pub record IsChecker (c : Circuit) (seen : List Record) (k : Checker) : Type 0 w
   pub few : fault_count c < 2 ^ 27
 
 -- Patterns may stand behind the records, and have a bit for each source. Of their lines it is left open whether they split a class.
-pub record AreWaiting (c : Circuit) (seen : List Record) (waiting : List (List Bool)) : Type 0 where
+pub record AreUnjudged (c : Circuit) (seen : List Record) (waiting : List (List Bool)) : Type 0 where
   pub widths : All (λ v. length v ≡ c.sources) waiting
   pub few : length waiting ≤ LANES
   pub lines : All (λ v. ¬ Contains (spelling (Pattern v)) 10) waiting
@@ -45,7 +45,7 @@ pub record AreWaiting (c : Circuit) (seen : List Record) (waiting : List (List B
 pub record IsCheckOf (c : Circuit) (text : Text) (k : Checker) : Type 0 where
   pub seen : List Record
   pub is : IsChecker c seen k
-  pub waiting : AreWaiting c seen k.waiting.items
+  pub waiting : AreUnjudged c seen k.waiting.items
   pub text_is : text ≡ text_of (seen ++ map Pattern k.waiting.items)
   pub short : length text ≤ 2 ^ 40
 

@@ -18,12 +18,12 @@ use Rattle.kept_vectors.specs.Keeper.{keeper_with, IsKeeper}
 use Rattle.kept_vectors.proofs.KeepLemmas.{table_numbers}
 use Rattle.kept_vectors.proofs.StreamLemmas.{stream_kept}
 use Rattle.dia_gen.specs.declared.draft.Draft.{Draft}
-use Rattle.dia_gen.specs.Setting.{Setting}
+use Rattle.dia_gen.specs.GenerationSetting.{GenerationSetting}
 use Rattle.dia_gen.specs.Draft.{IsBegun, IsDrafted, IsDraft}
 use Rattle.member_marks.proofs.MarkLemmas.{given_none}
 use Rattle.dia_gen.proofs.DraftLemmas.{draft_first, drafted_on}
 
-pub begun : {s : Setting} {d : Draft} → IsBegun s d → IsKeeper d.keeper → IsDrafted s d d.keeper.kept.vectors []
+pub begun : {s : GenerationSetting} {d : Draft} → IsBegun s d → IsKeeper d.keeper → IsDrafted s d d.keeper.kept.vectors []
 begun {s} {d} b kept =
     let keeper : IsKeeper (keeper_with s.circuit d.keeper.kept) = subst (λ (c : Circuit). IsKeeper (keeper_with c d.keeper.kept)) b.circuit kept in
     let small = keeper.circuit.small in
@@ -39,7 +39,7 @@ begun {s} {d} b kept =
       pool = b.pool;
     }
 
-module _ {s : Setting} {d : Draft} (b : IsBegun s d) where
+module _ {s : GenerationSetting} {d : Draft} (b : IsBegun s d) where
   head_right : AreRightLines s.circuit (head_lines s.circuit s.budgets)
   head_right =
       let small = b.is_circuit.small in

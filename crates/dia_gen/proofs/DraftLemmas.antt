@@ -23,13 +23,13 @@ use Rattle.result_file.proofs.RightLines.{IsNextLine, right_next, right_head, ri
 use Rattle.kept_vectors.specs.Kept.{SplitInTurn}
 use Rattle.dia_gen.specs.Settled.{IsApartBy, IsProofFor}
 use Rattle.dia_gen.specs.declared.draft.Draft.{Draft}
-use Rattle.dia_gen.specs.Setting.{Setting}
+use Rattle.dia_gen.specs.GenerationSetting.{GenerationSetting}
 use Rattle.dia_gen.specs.Draft.{AreDraftLines, IsDrafted}
 use Rattle.result_file.specs.Spelling.{Text}
 use Rattle.dia_gen.specs.Made.{head_lines, lines_with, SeparatesNext, HasNoSearch, HasNoRefutation}
 
 -- what waits is no part of what the lines are made from
-pub drafted_on : {s : Setting} {d : Draft} {kept : List (List Bool)} {later : List Record} (wait : Text) → IsDrafted s d kept later → IsDrafted s (record d { gathered = wait }) kept later
+pub drafted_on : {s : GenerationSetting} {d : Draft} {kept : List (List Bool)} {later : List Record} (wait : Text) → IsDrafted s d kept later → IsDrafted s (record d { gathered = wait }) kept later
 drafted_on wait is = record {
   first = is.first;
   lines = is.lines;

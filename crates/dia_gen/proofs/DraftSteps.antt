@@ -25,7 +25,7 @@ use Rattle.kept_vectors.proofs.KeepLemmas.{table_numbers, leads_rise}
 use Rattle.kept_vectors.proofs.Separating.{IsAdded, separating_added}
 use Rattle.dia_gen.specs.declared.draft.Draft.{Draft}
 use Rattle.member_marks.specs.declared.marks.Given.{Given}
-use Rattle.dia_gen.specs.Setting.{Setting}
+use Rattle.dia_gen.specs.GenerationSetting.{GenerationSetting}
 use Rattle.member_marks.specs.Given.{IsLowestOpen}
 use Rattle.dia_gen.specs.Made.{lines_with}
 use Rattle.dia_gen.specs.Marked.{DoMarksStay}
@@ -38,18 +38,18 @@ use Rattle.dia_gen.proofs.DraftLemmas.{lines_more, pattern_added, evidence_added
 use Rattle.dia_gen.proofs.WritingLemmas.{gathered_then, broken, broken_here, stopped}
 
 -- where there is no memory the lines so far are written
-pub draft_broken : {s : Setting} {d : Draft} {start now : State} → IsDraft s d start now → BrokeOff s.circuit NoMemory start now
+pub draft_broken : {s : GenerationSetting} {d : Draft} {start now : State} → IsDraft s d start now → BrokeOff s.circuit NoMemory start now
 draft_broken {s} d = broken_here (lines_with s.circuit s.budgets d.kept d.later) d.is.lines.right d.written
 
 -- the lines with one line more, and none behind it
-pub one_right : (s : Setting) (kept : List (List Bool)) (later : List Record) (r : Record) → AreDraftLines s.circuit s.budgets kept (later ++ r ∷ []) → AreRightLines s.circuit (lines_with s.circuit s.budgets kept later ++ r ∷ [] ++ [])
+pub one_right : (s : GenerationSetting) (kept : List (List Bool)) (later : List Record) (r : Record) → AreDraftLines s.circuit s.budgets kept (later ++ r ∷ []) → AreRightLines s.circuit (lines_with s.circuit s.budgets kept later ++ r ∷ [] ++ [])
 one_right s kept later r lines = subst (AreRightLines s.circuit) (lines_more s.circuit s.budgets kept later r ∙ sym (append-nil (lines_with s.circuit s.budgets kept later ++ r ∷ []))) lines.right
 
 pub in_any_case : {P : Type 0} (result : Result (Unit {0}) ShelfFault) → P → OnOk result P
 in_any_case (Ok x) p = p
 in_any_case (Err fault) p = tt
 
-module _ {s : Setting} {d : Draft} {wait : Text} {start mid now : State} (kept : List (List Bool)) (later : List Record) (r : Record) (drafted : IsDrafted s d kept (later ++ r ∷ [])) (written : HasGathered (text_of (lines_with s.circuit s.budgets kept later)) [] wait start mid) where
+module _ {s : GenerationSetting} {d : Draft} {wait : Text} {start mid now : State} (kept : List (List Bool)) (later : List Record) (r : Record) (drafted : IsDrafted s d kept (later ++ r ∷ [])) (written : HasGathered (text_of (lines_with s.circuit s.budgets kept later)) [] wait start mid) where
   pub line_drafted : {after : Text} (result : Result (Unit {0}) ShelfFault) → Gathers (text_of (r ∷ [])) result wait after mid now → OnOk result (IsDraft s (record d { gathered = after }) start now)
   line_drafted {after} (Ok x) wrote = record {
     kept = kept;
@@ -63,7 +63,7 @@ module _ {s : Setting} {d : Draft} {wait : Text} {start mid now : State} (kept :
   line_stopped (Ok x) wrote = tt
   line_stopped (Err fault) wrote = broken (lines_with s.circuit s.budgets kept later) (r ∷ []) [] (one_right s kept later r drafted.lines) written wrote
 
-module _ {s : Setting} {d : Draft} {start now : State} (draft : IsDraft s d start now) where
+module _ {s : GenerationSetting} {d : Draft} {start now : State} (draft : IsDraft s d start now) where
   -- what waits is written, or its writing broke off
   pub draft_written : {after : Text} {later : State} (result : Result (Unit {0}) ShelfFault) → Gathers [] result d.gathered after now later → OnOk result (IsDraft s (record d { gathered = after }) start later)
   draft_written {after} {later} (Ok x) wrote = record {
@@ -78,7 +78,7 @@ module _ {s : Setting} {d : Draft} {start now : State} (draft : IsDraft s d star
   draft_stopped (Ok x) wrote = tt
   draft_stopped (Err fault) wrote = stopped (lines_with s.circuit s.budgets draft.kept draft.later) draft.is.lines.right draft.written wrote
 
-module _ {s : Setting} {d : Draft} {kept : List (List Bool)} {later : List Record} (is : IsDrafted s d kept later) (member : ℕ) (lowest : IsLowestOpen d.keeper.kept.table d.marks member) where
+module _ {s : GenerationSetting} {d : Draft} {kept : List (List Bool)} {later : List Record} (is : IsDrafted s d kept later) (member : ℕ) (lowest : IsLowestOpen d.keeper.kept.table d.marks member) where
   abbrev lead : ℕ
   lead = representative d.keeper.kept.table (class_at d.keeper.kept.table member)
 

@@ -15,7 +15,7 @@ use Rattle.result_file.proofs.Truth.{AreSound}
 use Rattle.result_file.proofs.RecordLists.{text-append}
 use Rattle.dia_gen.specs.declared.draft.Draft.{Draft}
 use Rattle.dia_gen.specs.declared.counts.Marked.{Marked}
-use Rattle.dia_gen.specs.Setting.{Setting}
+use Rattle.dia_gen.specs.GenerationSetting.{GenerationSetting}
 use Rattle.member_marks.specs.Given.{AreAllMarked}
 use Rattle.dia_gen.specs.Marked.{member_for, AreMarkedBelow}
 use Rattle.dia_gen.specs.Made.{lines_with, IsMade}
@@ -39,7 +39,7 @@ all_written {text} {mid} {after} {start} {between} {now} h w none =
     let is : text ≡ both.done = sym (append-nil text) ∙ both.is ∙ ap (λ (t : Text). both.done ++ t) none ∙ append-nil both.done in
     subst (λ (t : Text). HasWritten t start now) (sym is) both.written
 
-module _ {s : Setting} {d : Draft} {start now : State} (draft : IsDraft s d start now) (all : AreAllMarked d.keeper.kept.table d.marks) where
+module _ {s : GenerationSetting} {d : Draft} {start now : State} (draft : IsDraft s d start now) (all : AreAllMarked d.keeper.kept.table d.marks) where
   abbrev t : ClassTable
   t = d.keeper.kept.table
 

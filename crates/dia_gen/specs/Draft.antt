@@ -16,7 +16,7 @@ use Rattle.word_sim.specs.Stream.{stream}
 use Rattle.kept_vectors.specs.Kept.{IsKept, Keeps, nothing_kept}
 use Rattle.kept_vectors.specs.Keeper.{keeper_with, IsKeeper}
 use Rattle.dia_gen.specs.declared.draft.Draft.{Draft}
-use Rattle.dia_gen.specs.Setting.{Setting}
+use Rattle.dia_gen.specs.GenerationSetting.{GenerationSetting}
 use Rattle.member_marks.specs.Given.{AreGiven}
 use Rattle.dia_gen.specs.Made.{lines_with, SeparatesNext, HasNoSearch, HasNoRefutation}
 use Rattle.dia_gen.specs.Writing.{HasGathered}
@@ -32,7 +32,7 @@ pub record AreDraftLines (c : Circuit) (budgets : Budgets) (kept : List (List Bo
 
 -- What the lines are made from: these vectors of the stream are kept, and then the patterns of the later lines. The marks are those of
 -- their evidence, the simulation is one of the circuit, and the pool is empty.
-pub record IsDrafted (s : Setting) (d : Draft) (kept : List (List Bool)) (later : List Record) : Type 0 where
+pub record IsDrafted (s : GenerationSetting) (d : Draft) (kept : List (List Bool)) (later : List Record) : Type 0 where
   pub first : IsKept s.circuit s.budgets.blocks kept
   pub lines : AreDraftLines s.circuit s.budgets kept later
   pub few : fault_count s.circuit < 2 ^ 27
@@ -44,7 +44,7 @@ pub record IsDrafted (s : Setting) (d : Draft) (kept : List (List Bool)) (later 
   pub pool : d.pool.clauses ≡ []
 
 -- The vectors of the stream are kept, no number is marked, and no line is made.
-pub record IsBegun (s : Setting) (d : Draft) : Type 0 where
+pub record IsBegun (s : GenerationSetting) (d : Draft) : Type 0 where
   pub is_circuit : IsCircuit s.circuit
   pub circuit : d.keeper.circuit ≡ s.circuit
   pub kept : Keeps s.circuit (stream s.circuit.sources s.budgets.blocks) (nothing_kept (fault_count s.circuit)) d.keeper.kept
@@ -56,7 +56,7 @@ pub record IsBegun (s : Setting) (d : Draft) : Type 0 where
   pub gathered : d.gathered ≡ []
 
 -- The lines so far are written, but for those that wait.
-pub record IsDraft (s : Setting) (d : Draft) (start now : State) : Type 0 where
+pub record IsDraft (s : GenerationSetting) (d : Draft) (start now : State) : Type 0 where
   pub kept : List (List Bool)
   pub later : List Record
   pub is : IsDrafted s d kept later

@@ -1,6 +1,6 @@
 pub mod Made
 pub mod Laws
-pub mod Setting
+pub mod GenerationSetting
 pub mod Settled
 pub mod Draft
 pub mod Marked

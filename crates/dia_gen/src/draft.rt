@@ -13,7 +13,7 @@ ghost use Rattle.dia_gen.specs.Writing.{BrokeOff};
 use crate::fallen::lowest_fallen;
 use crate::gathered::Gathered;
 use crate::pair::{Settled, settle_pair};
-use crate::setting::Setting;
+use crate::setting::GenerationSetting;
 use crate::writing::{write_head, write_last, write_patterns};
 use clause_pool::Pool;
 use diag_shelf::{Shelf, ShelfFault};
@@ -49,7 +49,10 @@ impl Drop for Draft<'_> {
 
 impl<'a> Draft<'a> {
     // The vectors of the stream that are kept, and no mark.
-    pub(crate) fn begin(alloc: Global, setting: &Setting<'a>) -> Result<Draft<'a>, AllocError>
+    pub(crate) fn begin(
+        alloc: Global,
+        setting: &GenerationSetting<'a>,
+    ) -> Result<Draft<'a>, AllocError>
         ensures { IfOk result (IsBegun setting.now) }
     {
         let marks = Marks::none(alloc, setting.numbers())?;
@@ -68,7 +71,7 @@ impl<'a> Draft<'a> {
     // Writes the first two lines, and a line for each vector of the stream that is kept.
     pub(crate) fn start<S: Shelf>(
         &mut self,
-        setting: &Setting,
+        setting: &GenerationSetting,
         shelf: &mut S,
     ) -> Result<(), ShelfFault>
         requires { IsBegun setting.now self.old }
@@ -84,7 +87,7 @@ impl<'a> Draft<'a> {
     pub(crate) fn mark_all<S: Shelf>(
         &mut self,
         alloc: Global,
-        setting: &Setting,
+        setting: &GenerationSetting,
         shelf: &mut S,
     ) -> Result<(), ShelfFault>
         ghost start: { State }
@@ -106,7 +109,7 @@ impl<'a> Draft<'a> {
     fn mark_round<S: Shelf>(
         &mut self,
         alloc: Global,
-        setting: &Setting,
+        setting: &GenerationSetting,
         shelf: &mut S,
         first: u32,
     ) -> Result<Option<u32>, ShelfFault>
@@ -134,7 +137,7 @@ impl<'a> Draft<'a> {
     fn settle<S: Shelf>(
         &mut self,
         alloc: Global,
-        setting: &Setting,
+        setting: &GenerationSetting,
         shelf: &mut S,
         member: u32,
     ) -> Result<bool, ShelfFault>
@@ -167,7 +170,7 @@ impl<'a> Draft<'a> {
     // Writes the lines that wait, unless the two numbers have one root, so that no search follows.
     fn write_before_search<S: Shelf>(
         &mut self,
-        setting: &Setting,
+        setting: &GenerationSetting,
         shelf: &mut S,
         lead: u32,
         member: u32,
@@ -190,7 +193,7 @@ impl<'a> Draft<'a> {
     // Adds a pattern that tells a number from its representative.
     fn add_pattern<S: Shelf>(
         &mut self,
-        setting: &Setting,
+        setting: &GenerationSetting,
         shelf: &mut S,
         member: u32,
         cube: &[Option<bool>],
@@ -213,7 +216,7 @@ impl<'a> Draft<'a> {
     // Adds evidence for a number with its representative.
     fn add_evidence<S: Shelf>(
         &mut self,
-        setting: &Setting,
+        setting: &GenerationSetting,
         shelf: &mut S,
         lead: u32,
         member: u32,

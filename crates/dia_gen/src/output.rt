@@ -11,7 +11,7 @@ ghost use Rattle.dia_gen.specs.Writing.{HasWritten, BrokeOff};
 
 use crate::counts::count_marks;
 use crate::draft::Draft;
-use crate::setting::Setting;
+use crate::setting::GenerationSetting;
 use crate::writing::{write_classes, write_members};
 use class_refine::named_separates_faults;
 use diag_shelf::{Shelf, ShelfFault};
@@ -58,14 +58,14 @@ pub fn generate<S: Shelf>(
     let forest = collapse(alloc, circuit, &listed)?;
     let levels = Levels::new(alloc, circuit)?;
     let subject = Subject::new(circuit, &listed, &forest);
-    let setting = Setting::new(subject, &levels, budgets);
+    let setting = GenerationSetting::new(subject, &levels, budgets);
     write_result(alloc, &setting, shelf)
 }
 
 // Writes all lines of a result.
 fn write_result<S: Shelf>(
     alloc: Global,
-    setting: &Setting,
+    setting: &GenerationSetting,
     shelf: &mut S,
 ) -> Result<Summary, ShelfFault>
     ghost start: { State }
@@ -83,7 +83,7 @@ fn write_result<S: Shelf>(
 // Writes all lines of a result that is begun.
 fn write_lines<S: Shelf>(
     alloc: Global,
-    setting: &Setting,
+    setting: &GenerationSetting,
     shelf: &mut S,
     draft: &mut Draft,
 ) -> Result<Summary, ShelfFault>
@@ -101,7 +101,7 @@ fn write_lines<S: Shelf>(
 
 // Writes the lines of the classes and of the numbers, and the end.
 fn write_end<S: Shelf>(
-    setting: &Setting,
+    setting: &GenerationSetting,
     shelf: &mut S,
     draft: &mut Draft,
 ) -> Result<Summary, ShelfFault>

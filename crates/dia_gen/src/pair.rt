@@ -6,7 +6,7 @@ ghost use Rattle.net_model.specs.Fault.{IsFaultOf};
 ghost use Rattle.net_model.specs.FaultList.{fault_count};
 ghost use Rattle.dia_gen.specs.Settled.{HasRelevant, IsSettledFor, IsSearched, IsOpenFor, IsSolvedFor, IsSettledBy};
 
-use crate::setting::Setting;
+use crate::setting::GenerationSetting;
 use clause_pool::Pool;
 use distinguish_search::{Found, search};
 use fault_list::Scope;
@@ -29,7 +29,7 @@ pub(crate) enum Settled {
 // learns. The simulation is one of the circuit, and a search restarts it. The pool is empty, and stays so.
 pub(crate) fn settle_pair(
     alloc: Global,
-    setting: &Setting,
+    setting: &GenerationSetting,
     sim: &mut PairSim,
     pool: &mut Pool,
     lead: u32,
@@ -59,7 +59,7 @@ pub(crate) fn settle_pair(
 // What a search of cubes finds: without a budget for it, the tree of one open leaf.
 fn search_cubes(
     alloc: Global,
-    setting: &Setting,
+    setting: &GenerationSetting,
     sim: &mut PairSim,
     f: &Fault,
     g: &Fault,
@@ -82,7 +82,7 @@ fn search_cubes(
 // What the solver makes of a pair that a tree leaves open: without a budget for it, evidence without clauses.
 fn learn(
     alloc: Global,
-    setting: &Setting,
+    setting: &GenerationSetting,
     f: &Fault,
     g: &Fault,
     tree: Tree,

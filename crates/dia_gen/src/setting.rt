@@ -4,12 +4,12 @@ ghost use Rattle.std.specs.Prelude.{◌≡◌, ◌<◌, ◌↔◌, ◌^◌, IsTr
 ghost use Rattle.net_model.specs.Circuit.{IsCircuit};
 ghost use Rattle.net_model.specs.Fault.{IsFaultOf};
 ghost use Rattle.net_model.specs.Collapse.{root};
-ghost use Rattle.dia_gen.specs.Setting as spec;
+ghost use Rattle.dia_gen.specs.GenerationSetting as spec;
 ghost use Rattle.net_model.specs.FaultList.{fault_count, fault_numbered};
 ghost use Rattle.kept_vectors.specs.Kept.{Keeps, nothing_kept};
 ghost use Rattle.word_sim.specs.Stream.{stream};
 ghost use Rattle.result_file.specs.Lines.{AreWithinLimits};
-ghost use Rattle.dia_gen.specs.Setting.{setting_with};
+ghost use Rattle.dia_gen.specs.GenerationSetting.{setting_with};
 
 use distinguish_search::Levels;
 use kept_vectors::Keeper;
@@ -21,26 +21,30 @@ use std::marker::Model;
 
 // The circuit with its faults, the levels of its lines, and the budgets.
 #[derive(Drop)]
-pub(crate) struct Setting<'a> {
+pub(crate) struct GenerationSetting<'a> {
     subject: Subject<'a>,
     levels: &'a Levels,
     budgets: Budgets,
 }
 
-impl<'a> Model for Setting<'a> {
-    ghost Value = { spec.Setting };
+impl<'a> Model for GenerationSetting<'a> {
+    ghost Value = { spec.GenerationSetting };
 
     ghost view = { λ a. setting_with a.subject a.budgets };
 
     ghost invariant = { λ a. AreWithinLimits a.budgets };
 }
 
-impl<'a> Setting<'a> {
-    pub(crate) fn new(subject: Subject<'a>, levels: &'a Levels, budgets: Budgets) -> Setting<'a>
+impl<'a> GenerationSetting<'a> {
+    pub(crate) fn new(
+        subject: Subject<'a>,
+        levels: &'a Levels,
+        budgets: Budgets,
+    ) -> GenerationSetting<'a>
         requires { AreWithinLimits budgets }
         ensures { result ≡ setting_with subject.entry budgets }
     {
-        Setting {
+        GenerationSetting {
             subject,
             levels,
             budgets,

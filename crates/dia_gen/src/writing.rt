@@ -11,7 +11,7 @@ ghost use Rattle.dia_gen.specs.Marked.{member_for};
 ghost use Rattle.dia_gen.specs.Writing.{Gathers};
 
 use crate::gathered::Gathered;
-use crate::setting::Setting;
+use crate::setting::GenerationSetting;
 use class_refine::Classes;
 use diag_shelf::{Shelf, ShelfFault};
 use member_marks::Marks;
@@ -34,7 +34,7 @@ pub(crate) fn write_last<S: Shelf>(
 pub(crate) fn write_head<S: Shelf>(
     gathered: &mut Gathered,
     shelf: &mut S,
-    setting: &Setting,
+    setting: &GenerationSetting,
 ) -> Result<(), ShelfFault>
     ensures { Gathers (text_of (head_lines setting.now.circuit setting.now.budgets)) result gathered.old gathered.new (S.state shelf.old) (S.state shelf.new) }
 {

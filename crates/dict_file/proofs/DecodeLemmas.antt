@@ -7,7 +7,7 @@ use Rattle.table_dicts.specs.Grouped.{IsGrouped, AreGroupsOf}
 use Rattle.table_dicts.specs.Dictionary.{entry_of}
 use Rattle.dict_file.specs.declared.fault.DictVersion.{DictVersion}
 use Rattle.dict_file.specs.declared.fault.DictVersion.TheVariants.{One, Two}
-use Rattle.dict_file.specs.declared.head.Head.{Head}
+use Rattle.dict_file.specs.declared.head.FileHead.{FileHead}
 use Rattle.dict_file.specs.declared.row_bytes.ReadRows.{ReadRows}
 use Rattle.dict_file.specs.Heads.{IsDictHead, Begins, dict_with}
 use Rattle.dict_file.specs.Spelling.{version_number, entry_rows, SpellsDict}
@@ -20,7 +20,7 @@ use Rattle.dict_file.proofs.VersionTwo.{spells_two}
 use Rattle.dict_file.proofs.GroupReading.{grouped_read}
 use Rattle.dict_file.proofs.PlaceLemmas.{different_from_new, length-read}
 
-fields_with : (bytes : List ℕ) (v : DictVersion) (head : Head) (baselines : List (List Bool)) (groups : List ℕ) (entries : List (List Bool)) → IsDictHead bytes head → head.version ≡ v → AreFields bytes v (dict_with head baselines groups entries)
+fields_with : (bytes : List ℕ) (v : DictVersion) (head : FileHead) (baselines : List (List Bool)) (groups : List ℕ) (entries : List (List Bool)) → IsDictHead bytes head → head.version ≡ v → AreFields bytes v (dict_with head baselines groups entries)
 fields_with bytes v head baselines groups entries is same = record {
   version_is = sym is.version_is ∙ ap version_number same;
   kind_is = sym is.kind_is;
@@ -38,7 +38,7 @@ wide_entries rows groups entries width are wide = λ g d h.
     let group : get_or groups n 0 ≡ g = get_or_default groups n 0 g at.1 ∙ at.2 in
     ap length (get_or_default entries g d [] h ∙ (ap (λ k. get_or entries k []) (sym group) ∙ are.own n low)) ∙ wide n [] low
 
-pub read_one : {bytes : List ℕ} {head : Head} {above below : ReadRows} {groups : List ℕ} {entries : List (List Bool)} → AreBytes bytes → Begins bytes One head → AreRead bytes (row_part bytes) (baseline_rows_at bytes 19) above → AreRead bytes (row_part bytes) (entries_one bytes) below
+pub read_one : {bytes : List ℕ} {head : FileHead} {above below : ReadRows} {groups : List ℕ} {entries : List (List Bool)} → AreBytes bytes → Begins bytes One head → AreRead bytes (row_part bytes) (baseline_rows_at bytes 19) above → AreRead bytes (row_part bytes) (entries_one bytes) below
     → AreGroupsOf below.rows groups entries → length bytes ≤ below.end → SpellsDict One (dict_with head above.rows groups entries) bytes
 read_one {bytes} {head} {above} {below} {groups} {entries} fits begins base read are ends =
     let is = begins.is in
@@ -57,7 +57,7 @@ read_one {bytes} {head} {above} {below} {groups} {entries} fits begins base read
     })
     (base.right, (read.right, subst (λ n. length bytes ≤ n) read.end_is ends)) (spelled ∙ read.rows_are)
 
-pub read_two : {bytes : List ℕ} {head : Head} {above below : ReadRows} {groups : List ℕ} → AreBytes bytes → Begins bytes Two head → (group_count_part bytes).Right → AreRead bytes (row_part bytes) (baseline_rows_at bytes 23) above → groups ≡ groups_before bytes (reading.numbers bytes) → (groups_part bytes).Right
+pub read_two : {bytes : List ℕ} {head : FileHead} {above below : ReadRows} {groups : List ℕ} → AreBytes bytes → Begins bytes Two head → (group_count_part bytes).Right → AreRead bytes (row_part bytes) (baseline_rows_at bytes 23) above → groups ≡ groups_before bytes (reading.numbers bytes) → (groups_part bytes).Right
     → AreRead bytes (new_row_part bytes) (entries_two bytes) below → length bytes ≤ below.end → SpellsDict Two (dict_with head above.rows groups below.rows) bytes
 read_two {bytes} {head} {above} {below} {groups} fits begins counted base groups_are used read ends =
     let is = begins.is in

@@ -3,7 +3,7 @@ use Rattle.std.specs.Prelude.{◌≡◌, ◌≤◌, ℕ, Bool, List, length}
 use Rattle.table_dicts.specs.declared.dict.Dict.{Dict}
 use Rattle.table_dicts.specs.declared.dict.DictKind.{DictKind}
 use Rattle.dict_file.specs.declared.fault.DictVersion.{DictVersion}
-use Rattle.dict_file.specs.declared.head.Head.{Head}
+use Rattle.dict_file.specs.declared.head.FileHead.{FileHead}
 use Rattle.dict_file.specs.Spelling.{kind_number, version_number, most_bytes}
 use Rattle.dict_file.specs.Reading as reading
 use Rattle.dict_file.specs.Reading.{head_part}
@@ -16,7 +16,7 @@ abbrev pub IsKindAt : List ℕ → DictKind → Type 0
 IsKindAt bytes kind = kind_number kind ≡ reading.kind bytes
 
 -- The first 19 bytes are right, and these are their fields.
-pub record IsDictHead (bytes : List ℕ) (head : Head) : Type 0 where
+pub record IsDictHead (bytes : List ℕ) (head : FileHead) : Type 0 where
   pub right : (head_part bytes).Right
   pub version_is : IsVersionAt bytes head.version
   pub kind_is : IsKindAt bytes head.kind
@@ -25,11 +25,11 @@ pub record IsDictHead (bytes : List ℕ) (head : Head) : Type 0 where
   pub numbers_are : head.numbers ≡ reading.numbers bytes
 
 -- The bytes aren't too many, and begin with this head of this version.
-pub record Begins (bytes : List ℕ) (version : DictVersion) (head : Head) : Type 0 where
+pub record Begins (bytes : List ℕ) (version : DictVersion) (head : FileHead) : Type 0 where
   pub is : IsDictHead bytes head
   pub version_is : head.version ≡ version
   pub short : length bytes ≤ most_bytes
 
 -- the dictionary with the fields of a head
-abbrev pub dict_with : Head → List (List Bool) → List ℕ → List (List Bool) → Dict
+abbrev pub dict_with : FileHead → List (List Bool) → List ℕ → List (List Bool) → Dict
 dict_with head baselines groups entries = record { kind = head.kind; positions = head.positions; patterns = head.patterns; numbers = head.numbers; baselines = baselines; groups = groups; entries = entries }

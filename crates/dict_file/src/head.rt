@@ -13,7 +13,7 @@ use table_dicts::{Dict, DictKind, Grouped};
 
 /// The version, the kind and the sizes of a dictionary.
 #[derive(Clone, Copy)]
-pub(crate) struct Head {
+pub(crate) struct FileHead {
     pub(crate) version: DictVersion,
     pub(crate) kind: DictKind,
     pub(crate) positions: u32,
@@ -21,7 +21,7 @@ pub(crate) struct Head {
     pub(crate) numbers: u32,
 }
 
-impl Head {
+impl FileHead {
     /// The dictionary that has these fields, baselines and groups.
     pub(crate) fn with(self, baselines: AnswerRows, grouped: Grouped) -> Dict
         ensures { result ≡ dict_with self baselines grouped.groups grouped.entries }
@@ -39,7 +39,7 @@ impl Head {
 }
 
 /// Reads the first 19 bytes.
-pub(crate) fn read_head(bytes: &[u8]) -> Result<Head, DictFault>
+pub(crate) fn read_head(bytes: &[u8]) -> Result<FileHead, DictFault>
     ensures head { IfOk result (IsDictHead bytes.now) }
     ensures refused { IfErr result (head_part bytes.now).Refused }
 {
@@ -52,7 +52,7 @@ pub(crate) fn read_head(bytes: &[u8]) -> Result<Head, DictFault>
     if numbers == 0 {
         return Err(DictFault::Value(15));
     }
-    Ok(Head {
+    Ok(FileHead {
         version,
         kind,
         positions,

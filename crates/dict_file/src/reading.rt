@@ -12,7 +12,7 @@ ghost use Rattle.dict_file.specs.Reading.{IsRefusedBy, TellsDictFault, row_part,
 use crate::fault::{DictFault, DictVersion};
 use crate::fields::{number, reach};
 use crate::group_numbers::{group, read_groups};
-use crate::head::{Head, read_head};
+use crate::head::{FileHead, read_head};
 use crate::row_bytes::{ReadRows, RowsAt, read_new_rows, read_rows};
 use std::alloc::Global;
 use table_dicts::{Dict, DictKind, Grouped};
@@ -38,7 +38,7 @@ pub fn decode(alloc: Global, bytes: &[u8]) -> Result<Dict, DictFault>
     }
 }
 
-fn decode_one(alloc: Global, bytes: &[u8], head: Head) -> Result<Dict, DictFault>
+fn decode_one(alloc: Global, bytes: &[u8], head: FileHead) -> Result<Dict, DictFault>
     requires { Begins bytes.now dict_version.One head }
     ensures read { IfOk result (λ dict. IsFileOf dict bytes.now) }
     ensures refused { IfErr result (TellsDictFault (part_one bytes.now).Refused) }
@@ -50,7 +50,7 @@ fn decode_one(alloc: Global, bytes: &[u8], head: Head) -> Result<Dict, DictFault
     Ok(head.with(above.rows, grouped))
 }
 
-fn decode_two(alloc: Global, bytes: &[u8], head: Head) -> Result<Dict, DictFault>
+fn decode_two(alloc: Global, bytes: &[u8], head: FileHead) -> Result<Dict, DictFault>
     requires { Begins bytes.now dict_version.Two head }
     ensures read { IfOk result (λ dict. IsFileOf dict bytes.now) }
     ensures refused { IfErr result (TellsDictFault (part_two bytes.now).Refused) }
@@ -66,7 +66,7 @@ fn decode_two(alloc: Global, bytes: &[u8], head: Head) -> Result<Dict, DictFault
 }
 
 // How many groups version 2 says that there are.
-fn read_group_count(bytes: &[u8], head: Head) -> Result<u32, DictFault>
+fn read_group_count(bytes: &[u8], head: FileHead) -> Result<u32, DictFault>
     requires { IsDictHead bytes.now head }
     ensures value { IfOk result (λ count. count ≡ reading.groups bytes.now) }
     ensures right { OnOk result (group_count_part bytes.now).Right }
@@ -81,7 +81,12 @@ fn read_group_count(bytes: &[u8], head: Head) -> Result<u32, DictFault>
 }
 
 // The baselines, from a byte on.
-fn baselines(alloc: Global, bytes: &[u8], head: Head, from: usize) -> Result<ReadRows, DictFault>
+fn baselines(
+    alloc: Global,
+    bytes: &[u8],
+    head: FileHead,
+    from: usize,
+) -> Result<ReadRows, DictFault>
     requires head { IsDictHead bytes.now head }
     requires begins { from ≤ length bytes.now }
     requires short { length bytes.now ≤ most_bytes }
@@ -93,7 +98,7 @@ fn baselines(alloc: Global, bytes: &[u8], head: Head, from: usize) -> Result<Rea
 }
 
 // The entries of version 1, one for each number.
-fn entries(alloc: Global, bytes: &[u8], head: Head, from: usize) -> Result<ReadRows, DictFault>
+fn entries(alloc: Global, bytes: &[u8], head: FileHead, from: usize) -> Result<ReadRows, DictFault>
     requires head { IsDictHead bytes.now head }
     requires from { from ≡ rows_end (reading.baseline_rows_at bytes.now 19) }
     requires begins { from ≤ length bytes.now }
@@ -109,7 +114,7 @@ fn entries(alloc: Global, bytes: &[u8], head: Head, from: usize) -> Result<ReadR
 fn new_entries(
     alloc: Global,
     bytes: &[u8],
-    head: Head,
+    head: FileHead,
     from: usize,
     count: u32,
 ) -> Result<ReadRows, DictFault>
@@ -126,7 +131,7 @@ fn new_entries(
 }
 
 // Where the baselines are.
-fn baselines_at(head: Head, from: usize) -> RowsAt
+fn baselines_at(head: FileHead, from: usize) -> RowsAt
     ensures { (bytes : List ℕ) → IsDictHead bytes head → result ≡ reading.baseline_rows_at bytes from }
 {
     RowsAt {
@@ -137,7 +142,7 @@ fn baselines_at(head: Head, from: usize) -> RowsAt
 }
 
 // How many baselines there are.
-fn baseline_count(head: Head) -> usize
+fn baseline_count(head: FileHead) -> usize
     ensures { (bytes : List ℕ) → IsDictHead bytes head → result ≡ reading.read_baseline_count bytes }
 {
     match head.kind {
@@ -147,7 +152,7 @@ fn baseline_count(head: Head) -> usize
 }
 
 // Where entry rows are, so many.
-fn entries_at(head: Head, from: usize, count: u32) -> RowsAt
+fn entries_at(head: FileHead, from: usize, count: u32) -> RowsAt
     ensures { (bytes : List ℕ) → IsDictHead bytes head → result ≡ reading.entries_at bytes from count }
 {
     RowsAt {
@@ -158,7 +163,7 @@ fn entries_at(head: Head, from: usize, count: u32) -> RowsAt
 }
 
 // How many bits an entry has.
-fn entry_width(head: Head) -> usize
+fn entry_width(head: FileHead) -> usize
     ensures { (bytes : List ℕ) → IsDictHead bytes head → result ≡ reading.read_entry_width bytes }
 {
     match head.kind {

@@ -11,23 +11,23 @@ use pair_sets::{PairSet, PairSim};
 
 /// A line, and the bit that is asked of it.
 #[derive(Clone, Copy)]
-pub(crate) struct Step {
+pub(crate) struct Objective {
     pub(crate) line: u32,
     pub(crate) bit: bool,
 }
 
 /// A step from a line that a gate drives.
-pub(crate) fn step_back(sim: &PairSim, rule: Rule, from: Step) -> Step
+pub(crate) fn step_back(sim: &PairSim, rule: Rule, from: Objective) -> Objective
     requires gate { sim.now.circuit.sources ≤ from.line }
     requires open { IsLineOpen sim.now.circuit sim.now.f sim.now.g sim.now.cube from.line }
     ensures feeds { Feeds sim.now.circuit result.line from.line }
     ensures open { IsLineOpen sim.now.circuit sim.now.f sim.now.g sim.now.cube result.line }
 {
-    let Step { line, bit } = from;
+    let Objective { line, bit } = from;
     let kind = sim.circuit().gate(line).kind;
     let bit = asked_bit(sim.pairs(line), passing_bit(kind, bit), bit) != kind.inverts();
     match kind.operation() {
-        Operation::Folded(_) => Step {
+        Operation::Folded(_) => Objective {
             line: open_pin(sim, rule, kind, line, bit),
             bit,
         },
@@ -36,7 +36,7 @@ pub(crate) fn step_back(sim: &PairSim, rule: Rule, from: Step) -> Step
 }
 
 // From a multiplexer through its first pin where that is open, else through the data pin that it shows.
-fn chosen_pin(sim: &PairSim, rule: Rule, line: u32, bit: bool) -> Step
+fn chosen_pin(sim: &PairSim, rule: Rule, line: u32, bit: bool) -> Objective
     requires gate { sim.now.circuit.sources ≤ line }
     requires open { IsLineOpen sim.now.circuit sim.now.f sim.now.g sim.now.cube line }
     requires three { length (pins_of sim.now.circuit line) ≡ 3 }
@@ -47,7 +47,7 @@ fn chosen_pin(sim: &PairSim, rule: Rule, line: u32, bit: bool) -> Step
     let select = sim.pin_pairs(line, 0, pins[0]);
     if select.has_several() {
         let low = sim.pin_pairs(line, 1, pins[1]);
-        return Step {
+        return Objective {
             line: pins[0],
             bit: !low.has(bit, bit),
         };
@@ -55,12 +55,12 @@ fn chosen_pin(sim: &PairSim, rule: Rule, line: u32, bit: bool) -> Step
     let shown = shown_pin(select);
     let data = sim.pin_pairs(line, shown, pins[shown as usize]);
     if data.has_several() {
-        return Step {
+        return Objective {
             line: pins[shown as usize],
             bit,
         };
     }
-    Step {
+    Objective {
         line: open_pin(sim, rule, Kind::Mux, line, bit),
         bit,
     }

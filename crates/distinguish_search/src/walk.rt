@@ -9,12 +9,12 @@ ghost use Rattle.pair_sets.specs.declared.state.PairState.TheVariants.{Undecided
 ghost use Rattle.pair_sets.specs.declared.tree.Token.TheVariants.{Split};
 
 use crate::rule::Rule;
-use crate::step::{Step, asked_bit, step_back};
+use crate::step::{Objective, asked_bit, step_back};
 use pair_sets::PairSim;
 
 /// A free source to split, the bit at which it is tried first, and the place of the reached position that asks for it.
 #[derive(Clone, Copy)]
-pub(crate) struct Choice {
+pub(crate) struct SourceChoice {
     pub(crate) source: u32,
     pub(crate) bit: bool,
     pub(crate) place: usize,
@@ -22,21 +22,21 @@ pub(crate) struct Choice {
 
 /// A source by which an undecided cube can be split. It is sought from the reached positions at `from` and behind it
 /// first: those before it are most often decided.
-pub(crate) fn choose(sim: &PairSim, rule: Rule, from: usize) -> Choice
+pub(crate) fn choose(sim: &PairSim, rule: Rule, from: usize) -> SourceChoice
     requires { IsState sim.now.circuit sim.now.f sim.now.g sim.now.cube Undecided }
     ensures { IsRightAt sim.now.circuit sim.now.f sim.now.g (Split result.source) sim.now.cube }
 {
     let circuit = sim.circuit();
     let place = open_place(sim, from);
     let at = sim.reached()[place];
-    let mut here = Step {
+    let mut here = Objective {
         line: circuit.positions()[at as usize],
         bit: true,
     };
     for _step in 0..circuit.lines() + 1 {
-        let Step { line, bit } = here;
+        let Objective { line, bit } = here;
         if line < circuit.sources() {
-            return Choice {
+            return SourceChoice {
                 source: line,
                 bit: asked_bit(sim.pairs(line), bit, bit),
                 place,

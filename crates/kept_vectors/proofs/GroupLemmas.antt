@@ -106,9 +106,9 @@ pub group_known : (good : GoodSim) {roots : List ℕ} {IsKnown IsRootKnown : ℕ
 group_known good {roots} {IsKnown} {IsRootKnown} {group} {at} {old} {numbers} so_far whole units =
     let known : (n : ℕ) → Contains group n → IsUnit roots n → IsKnown n × Contains numbers n =
     λ n has unit.
-        let k = has.0 in
-        let is : get_or group k 0 ≡ n = sym (get_or_default_zero group k n has.1) ∙ has.2 in
-        subst (λ (m : ℕ). IsKnown m × Contains numbers m) is (so_far.known k (omega (arith, has.1, whole)) (subst (IsUnit roots) (sym is) unit)) in
+    let k = has.0 in
+    let is : get_or group k 0 ≡ n = sym (get_or_default_zero group k n has.1) ∙ has.2 in
+    subst (λ (m : ℕ). IsKnown m × Contains numbers m) is (so_far.known k (omega (arith, has.1, whole)) (subst (IsUnit roots) (sym is) unit)) in
     inl (
       λ k d h. let n = get_or group k d in let unit = units n (Contains-get_or group k d h) in unit.2 (known (get_or roots n 0) unit.0 unit.1).0,
       λ n has unit. (known n has unit).1,

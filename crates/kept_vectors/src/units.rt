@@ -26,11 +26,7 @@ impl Drop for Units<'_> {
 
 impl<'a> Units<'a> {
     // The units of numbers with these roots, this many.
-    pub(crate) fn new(
-        alloc: Global,
-        roots: &'a [u32],
-        count: u32,
-    ) -> Result<Units<'a>, AllocError>
+    pub(crate) fn new(alloc: Global, roots: &'a [u32], count: u32) -> Result<Units<'a>, AllocError>
         requires count { count ≡ length roots.now }
         requires within { All (λ root. root < length roots.now) roots.now }
         ensures roots { IfOk result (λ units. units.roots.now ≡ roots.now) }

@@ -14,7 +14,7 @@ IsFoundAt trail clauses Quiet = All (IsQuiet (assigned_literals trail.assignment
 IsFoundAt trail clauses (Conflict number) = IsConflictClause trail clauses number
 
 -- At least so many literals more are set, of as many variables, which are enough for them.
-pub record Grows (old new : Assignment) (more : ℕ) : Type 0 where
+pub record GrowsBy (old new : Assignment) (more : ℕ) : Type 0 where
   pub variables : new.variables ≡ old.variables
   pub longer : length old.literals + more ≤ length new.literals
   pub few : length new.literals ≤ new.variables

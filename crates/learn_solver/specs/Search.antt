@@ -10,8 +10,8 @@ use Rattle.solver_trail.specs.Assignment.{assigned_literals}
 use Rattle.learn_solver.specs.declared.aim.Aim.{Aim}
 use Rattle.learn_solver.specs.declared.aim.Aim.TheVariants.{Model}
 use Rattle.learn_solver.specs.declared.search.Search.{Search}
-use Rattle.learn_solver.specs.declared.step.Step.{Step}
-use Rattle.learn_solver.specs.declared.step.Step.TheVariants.{Learned, Open, Refuted}
+use Rattle.learn_solver.specs.declared.step.SolverStep.{SolverStep}
+use Rattle.learn_solver.specs.declared.step.SolverStep.TheVariants.{Learned, Open, Refuted}
 use Rattle.learn_solver.specs.Decisions.{AreAllSet}
 use Rattle.learn_solver.specs.Learning.{IsLearning}
 use Rattle.learn_solver.specs.Logs.{without_literal}
@@ -61,7 +61,7 @@ pub record IsSearch (m : Miter) (conflicts : ℕ) (search : Search) (pool : List
   pub begins : BeginsWith pool (miter_clauses m)
 
 -- One more clause is learned; or nothing is, and no clause is false; or the clauses are refuted.
-abbrev pub EndsStep : Miter → ℕ → Aim → Search → Search → List Clause → Step → Type 0
+abbrev pub EndsStep : Miter → ℕ → Aim → Search → Search → List Clause → SolverStep → Type 0
 EndsStep m conflicts aim old new pool Learned = IsSearch m conflicts new pool × (length new.chains.items ≡ length old.chains.items + 1)
 EndsStep m conflicts aim old new pool Open = IsSearch m conflicts new pool × All (IsQuiet (assigned_literals new.trail.assignment)) pool × (aim ≡ Model → AreAllSet new.trail.assignment)
 EndsStep m conflicts aim old new pool (Refuted last) = Refutes new pool last (miter_clauses m) conflicts × HasLearned (miter_clauses m) conflicts pool

@@ -9,7 +9,7 @@ ghost use Rattle.learn_solver.specs.Ready.{IsSolverReady, IsConflictClause};
 ghost use Rattle.learn_solver.specs.Walk.{AreUnmarked};
 
 use crate::marking::mark_clause;
-use crate::marks::Marks;
+use crate::marks::MetVariables;
 use crate::resolving::{Analysis, visit};
 use clause_pool::{Lit, Pool};
 use pair_miter::Chain;
@@ -30,7 +30,7 @@ pub(crate) fn analyze(
     alloc: Global,
     trail: &Trail,
     pool: &Pool,
-    marks: &mut Marks,
+    marks: &mut MetVariables,
     conflict: u32,
 ) -> Result<Learned, AllocError>
     requires ready { IsSolverReady trail.now pool.now.clauses }

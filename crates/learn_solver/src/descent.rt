@@ -7,7 +7,7 @@ ghost use Rattle.learn_solver.specs.declared.aim.Aim.TheVariants as Aim;
 ghost use Rattle.solver_trail.specs.declared.trail.Propagated.TheVariants as Propagated;
 ghost use Rattle.learn_solver.specs.Ready.{IsSolverReady};
 ghost use Rattle.learn_solver.specs.Decisions.{IsAim, IsDecidable, AreAllSet};
-ghost use Rattle.learn_solver.specs.Descent.{IsFoundAt, Grows};
+ghost use Rattle.learn_solver.specs.Descent.{IsFoundAt, GrowsBy};
 
 use crate::aim::Aim;
 use crate::decider::Decider;
@@ -61,7 +61,7 @@ fn go_down(trail: &mut Trail, pool: &Pool, lit: Lit) -> Propagated
     requires quiet { All (IsQuiet (assigned_literals trail.old.assignment)) pool.now.clauses }
     requires decidable { IsDecidable trail.old.assignment lit }
     ensures ready { IsSolverReady trail.new pool.now.clauses }
-    ensures grows { Grows trail.old.assignment trail.new.assignment 1 }
+    ensures grows { GrowsBy trail.old.assignment trail.new.assignment 1 }
     ensures found { IsFoundAt trail.new pool.now.clauses result }
 {
     trail.decide(lit);
@@ -72,7 +72,7 @@ fn go_down(trail: &mut Trail, pool: &Pool, lit: Lit) -> Propagated
 fn settle(trail: &mut Trail, pool: &Pool) -> Propagated
     requires { IsSolverReady trail.old pool.now.clauses }
     ensures ready { IsSolverReady trail.new pool.now.clauses }
-    ensures grows { Grows trail.old.assignment trail.new.assignment 0 }
+    ensures grows { GrowsBy trail.old.assignment trail.new.assignment 0 }
     ensures found { IsFoundAt trail.new pool.now.clauses result }
 {
     trail.propagate(pool)

@@ -6,7 +6,7 @@ ghost use Rattle.solver_trail.specs.declared.set_literals.SetLiteral.{SetLiteral
 ghost use Rattle.solver_trail.specs.Assignment.{IsTrail};
 ghost use Rattle.learn_solver.specs.Marks.{MarksClause};
 
-use crate::marks::Marks;
+use crate::marks::MetVariables;
 use clause_pool::Lit;
 use solver_trail::Trail;
 use std::alloc::AllocError;
@@ -14,7 +14,7 @@ use std::alloc::AllocError;
 /// Marks the variables of a clause. Answers how many of them weren't marked before and are set at the present level.
 pub(crate) fn mark_clause(
     trail: &Trail,
-    marks: &mut Marks,
+    marks: &mut MetVariables,
     clause: &[Lit],
 ) -> Result<usize, AllocError>
     requires trail { IsTrail trail.now.assignment }

@@ -9,13 +9,13 @@ use std::marker::Model;
 
 /// A mark for each variable, and the list of the variables that were marked since the list was cleared.
 #[derive(Drop)]
-pub(crate) struct Marks {
+pub(crate) struct MetVariables {
     bits: Bits,
     met: Vec<u32>,
     left: usize,
 }
 
-impl Model for Marks {
+impl Model for MetVariables {
     ghost use Rattle.std.specs.Prelude.{Bool, List};
     ghost use Rattle.learn_solver.specs.Marks.{AreMetCounted};
 
@@ -26,12 +26,12 @@ impl Model for Marks {
     ghost invariant = { λ m. AreMetCounted m.bits m.met.items m.left };
 }
 
-impl Marks {
+impl MetVariables {
     /// No variable up to this one is marked.
-    pub(crate) fn new(alloc: Global, variables: u32) -> Result<Marks, AllocError>
+    pub(crate) fn new(alloc: Global, variables: u32) -> Result<MetVariables, AllocError>
         ensures { IfOk result (λ marks. marks ≡ replicate (variables + 1) false) }
     {
-        Ok(Marks {
+        Ok(MetVariables {
             bits: Bits::zeros(alloc, variables as usize + 1)?,
             met: Vec::new(alloc),
             left: 0,

@@ -8,7 +8,7 @@ ghost use Rattle.learn_solver.specs.Ready.{IsSolverReady};
 ghost use Rattle.learn_solver.specs.Walk.{IsTrailWalk, IsReasonChoice};
 
 use crate::marking::mark_clause;
-use crate::marks::Marks;
+use crate::marks::MetVariables;
 use crate::places::{level_at, literal_at};
 use clause_pool::{Lit, Pool};
 use pair_miter::Chain;
@@ -28,7 +28,7 @@ pub(crate) struct Analysis {
 pub(crate) fn visit(
     trail: &Trail,
     pool: &Pool,
-    marks: &mut Marks,
+    marks: &mut MetVariables,
     analysis: &mut Analysis,
     place: usize,
 ) -> Result<(), AllocError>
@@ -74,7 +74,7 @@ fn keep(
     trail: &Trail,
     pool: &Pool,
     place: usize,
-    marks: &mut Marks,
+    marks: &mut MetVariables,
     analysis: &mut Analysis,
 ) -> Result<(), AllocError>
     requires ready { IsSolverReady trail.now pool.now.clauses }
@@ -95,7 +95,7 @@ fn keep(
 fn resolve(
     trail: &Trail,
     pool: &Pool,
-    marks: &mut Marks,
+    marks: &mut MetVariables,
     analysis: &mut Analysis,
     place: usize,
     number: u32,

@@ -11,7 +11,7 @@ ghost use Rattle.learn_solver.specs.Search.{AddsAtMost, IsSearchReady, Learns, L
 use crate::analysis::{Learned, analyze};
 use crate::decider::Decider;
 use crate::learning::learn;
-use crate::marks::Marks;
+use crate::marks::MetVariables;
 use clause_pool::{Lit, Pool};
 use pair_miter::Chain;
 use solver_trail::Trail;
@@ -22,7 +22,7 @@ use std::alloc::{AllocError, Global};
 pub(crate) struct Search {
     pub(crate) trail: Trail,
     pub(crate) decider: Decider,
-    pub(crate) marks: Marks,
+    pub(crate) marks: MetVariables,
     pub(crate) chains: Vec<Chain>,
 }
 
@@ -35,7 +35,7 @@ pub(crate) fn begin(alloc: Global, pool: &Pool, variables: u32) -> Result<Search
     ensures none { IfOk result (λ search. search.chains.items ≡ []) }
 {
     let trail = attach_all(alloc, pool, variables)?;
-    let marks = Marks::new(alloc, variables)?;
+    let marks = MetVariables::new(alloc, variables)?;
     let decider = Decider::new(alloc, variables)?;
     Ok(Search {
         trail,

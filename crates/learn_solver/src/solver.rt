@@ -18,7 +18,7 @@ use crate::model::model;
 use crate::restarts::Restarts;
 use crate::search::{Search, begin, restart};
 use crate::solved::Solved;
-use crate::step::{Step, take_step};
+use crate::step::{SolverStep, take_step};
 use crate::sweep::sweep;
 use clause_pool::Pool;
 use net_model::Vector;
@@ -83,13 +83,13 @@ fn search_on(
     let mut restarts = Restarts::new();
     'conflicts: while search.chains.len() < conflicts as usize {
         match take_step(alloc, miter, search, pool, conflicts, &Aim::Model)? {
-            Step::Learned => {
+            SolverStep::Learned => {
                 if restarts.is_due() {
                     restart(search, pool);
                 }
             }
-            Step::Open => return Ok(Solved::Vector(vector(alloc, miter, &search.trail)?)),
-            Step::Refuted(last) => {
+            SolverStep::Open => return Ok(Solved::Vector(vector(alloc, miter, &search.trail)?)),
+            SolverStep::Refuted(last) => {
                 return Ok(Solved::Refuted(bare_log(alloc, &mut search.chains, last)?));
             }
         }

@@ -17,7 +17,7 @@ use std::alloc::{AllocError, Global};
 
 /// How a step ends: a clause is learned, or no clause is false, or the chain is the last of a refutation.
 #[derive(Drop)]
-pub(crate) enum Step {
+pub(crate) enum SolverStep {
     Learned,
     Open,
     Refuted(Chain),
@@ -31,7 +31,7 @@ pub(crate) fn take_step(
     pool: &mut Pool,
     conflicts: u32,
     aim: &Aim,
-) -> Result<Step, AllocError>
+) -> Result<SolverStep, AllocError>
     requires search { IsSearch miter.now conflicts search.old pool.old.clauses }
     requires left { length search.old.chains.items < conflicts }
     requires few { length (miter_clauses miter.now) + conflicts < 2 ^ 32 }
@@ -41,10 +41,10 @@ pub(crate) fn take_step(
     ensures grows { Grows pool.old pool.new }
 {
     match descend(&mut search.trail, pool, &mut search.decider, aim) {
-        Propagated::Quiet => Ok(Step::Open),
+        Propagated::Quiet => Ok(SolverStep::Open),
         Propagated::Conflict(number) => match learn_from(alloc, search, pool, number)? {
-            None => Ok(Step::Learned),
-            Some(last) => Ok(Step::Refuted(last)),
+            None => Ok(SolverStep::Learned),
+            Some(last) => Ok(SolverStep::Refuted(last)),
         },
     }
 }

@@ -11,7 +11,7 @@ ghost use Rattle.learn_solver.specs.Search.{IsSearch, EndsSweep, miter_clauses};
 
 use crate::aim::{Aim, Both};
 use crate::search::{Search, restart};
-use crate::step::{Step, take_step};
+use crate::step::{SolverStep, take_step};
 use clause_pool::{Lit, Pool};
 use pair_miter::{Chain, Copies, Miter};
 use std::alloc::{AllocError, Global};
@@ -103,9 +103,9 @@ fn reach(
             return Ok(None);
         }
         match take_step(alloc, miter, search, pool, conflicts, &aim)? {
-            Step::Learned => {}
-            Step::Open => break,
-            Step::Refuted(last) => return Ok(Some(last)),
+            SolverStep::Learned => {}
+            SolverStep::Open => break,
+            SolverStep::Refuted(last) => return Ok(Some(last)),
         }
     }
     restart(search, pool);

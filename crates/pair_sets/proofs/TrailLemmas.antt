@@ -6,7 +6,7 @@ use Rattle.std.proofs.lemmas.List.Elements.{All-append}
 use Rattle.std.proofs.lemmas.List.Sums.{sum_by-cons}
 use Rattle.pair_sets.specs.PairSet.{PairSet}
 use Rattle.pair_sets.specs.declared.trail.Change.{Change}
-use Rattle.pair_sets.specs.declared.trail.Trail.{Trail}
+use Rattle.pair_sets.specs.declared.trail.PairTrail.{PairTrail}
 use Rattle.pair_sets.specs.CubeState.{set_at}
 use Rattle.pair_sets.specs.Trail.{change_with, pairs_in_set, undone, IsLonger}
 use Rattle.pair_sets.proofs.GateLemmas.{four_at_most}
@@ -24,7 +24,7 @@ pub few_pairs : (sets : List PairSet) → sum_by pairs_in_set sets ≤ 4 * lengt
 few_pairs [] = omega arith
 few_pairs (s ∷ sets) = omega (arith, sum_by-cons pairs_in_set s sets, four_at_most s, few_pairs sets)
 
-pub longer_none : (trail : Trail) → IsLonger trail trail
+pub longer_none : (trail : PairTrail) → IsLonger trail trail
 longer_none trail = record {
   added = [];
   extends = sym (append-nil trail.changes.items);
@@ -34,7 +34,7 @@ longer_none trail = record {
   capacity = refl;
 }
 
-pub longer_one : (old new : Trail) (line : ℕ) (pairs : PairSet) → line < length old.sets.items → new.sets.items ≡ set old.sets.items line pairs
+pub longer_one : (old new : PairTrail) (line : ℕ) (pairs : PairSet) → line < length old.sets.items → new.sets.items ≡ set old.sets.items line pairs
     → new.changes.items ≡ old.changes.items ++ change_with line (set_at old.sets.items line) ∷ [] → vec_capacity new.changes ≡ vec_capacity old.changes → IsLonger old new
 longer_one old new line pairs inside sets changes capacity =
     let was = set_at old.sets.items line in
@@ -52,7 +52,7 @@ longer_one old new line pairs inside sets changes capacity =
     within_one n change h zero d k = h
     within_one n change h (suc i) d k = absurd (omega arith)
 
-pub longer_more : (first second third : Trail) → IsLonger first second → IsLonger second third → IsLonger first third
+pub longer_more : (first second third : PairTrail) → IsLonger first second → IsLonger second third → IsLonger first third
 longer_more first second third a b = record {
   added = a.added ++ b.added;
   extends = b.extends ∙ ap (λ xs. xs ++ b.added) a.extends ∙ append_assoc first.changes.items a.added b.added;

@@ -2,7 +2,7 @@
 use Rattle.std.specs.Prelude.{◌≡◌, ℕ, ◌+◌, ◌<◌, ◌≤◌, List, [], ◌∷◌, ◌++◌, length, sum_by, slice_set, vec_capacity, All, if◌then◌else◌}
 use Rattle.pair_sets.specs.PairSet.{PairSet}
 use Rattle.pair_sets.specs.declared.trail.Change.{Change}
-use Rattle.pair_sets.specs.declared.trail.Trail.{Trail}
+use Rattle.pair_sets.specs.declared.trail.PairTrail.{PairTrail}
 
 -- how many pairs a set has
 abbrev pub pairs_in_set : PairSet → ℕ
@@ -17,11 +17,11 @@ undone [] sets = sets
 undone (change ∷ changes) sets = slice_set (undone changes sets) change.line change.was
 
 -- There is room for a change for each pair that some line still has, and each change takes a pair away.
-abbrev pub HasChangeRoom : Trail → Type 0
+abbrev pub HasChangeRoom : PairTrail → Type 0
 HasChangeRoom trail = length trail.changes.items + sum_by pairs_in_set trail.sets.items ≤ vec_capacity trail.changes
 
 -- The second trail has further changes, which lead from the pairs of the first to its own.
-pub record IsLonger (old new : Trail) : Type 0 where
+pub record IsLonger (old new : PairTrail) : Type 0 where
   pub added : List Change
   pub extends : new.changes.items ≡ old.changes.items ++ added
   pub before : undone added new.sets.items ≡ old.sets.items

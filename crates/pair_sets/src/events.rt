@@ -12,7 +12,7 @@ ghost use Rattle.pair_sets.specs.Events.{ArePairsSettled, AreLoose, WakesReaders
 
 use crate::fault_pair::FaultPair;
 use crate::pair_set::PairSet;
-use crate::trail::Trail;
+use crate::trail::PairTrail;
 use event_queue::NumberQueue;
 use net_model::Wiring;
 
@@ -22,7 +22,7 @@ pub(crate) fn change_source(
     source: u32,
     pairs: PairSet,
     queue: &mut NumberQueue,
-    trail: &mut Trail,
+    trail: &mut PairTrail,
 )
     requires source { source < pair.now.circuit.now.sources }
     requires width { length trail.old.sets.items ≡ line_count pair.now.circuit.now }
@@ -49,7 +49,7 @@ fn settle(
     line: u32,
     pairs: PairSet,
     queue: &mut NumberQueue,
-    trail: &mut Trail,
+    trail: &mut PairTrail,
 )
     requires wiring { IsWiring pair.now.circuit.now wiring.now }
     requires line { line < line_count pair.now.circuit.now }
@@ -71,7 +71,7 @@ fn settle(
 }
 
 // Settles gate by gate, until none waits.
-fn follow(pair: &FaultPair, wiring: &Wiring, queue: &mut NumberQueue, trail: &mut Trail)
+fn follow(pair: &FaultPair, wiring: &Wiring, queue: &mut NumberQueue, trail: &mut PairTrail)
     requires wiring { IsWiring pair.now.circuit.now wiring.now }
     requires width { length trail.old.sets.items ≡ line_count pair.now.circuit.now }
     requires room { HasChangeRoom trail.old }

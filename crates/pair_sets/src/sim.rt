@@ -18,7 +18,7 @@ use crate::pair_set::PairSet;
 use crate::spread::spread;
 use crate::state::PairState;
 use crate::tally::{Tally, first_apart};
-use crate::trail::Trail;
+use crate::trail::PairTrail;
 use event_queue::NumberQueue;
 use net_model::{Circuit, Fault};
 use std::alloc::{AllocError, Global};
@@ -39,7 +39,7 @@ pub struct PairSim<'a> {
     base: Vec<PairSet>,
     cone: Cone,
     queue: NumberQueue,
-    trail: Trail,
+    trail: PairTrail,
     tally: Tally,
     levels: Vec<Level>,
 }
@@ -105,7 +105,7 @@ impl<'a> PairSim<'a> {
     {
         let lines = circuit.lines() as usize;
         let base = base_pairs(alloc, circuit)?;
-        let trail = Trail::of(alloc, base.as_slice(), 4 * lines)?;
+        let trail = PairTrail::of(alloc, base.as_slice(), 4 * lines)?;
         Ok(PairSim {
             pair: FaultPair {
                 circuit,

@@ -15,7 +15,7 @@ use crate::fault_pair::FaultPair;
 use crate::pair_set::PairSet;
 use crate::reached::{is_reached, wake_reached};
 use crate::shown::Shown;
-use crate::trail::Trail;
+use crate::trail::PairTrail;
 use event_queue::NumberQueue;
 use net_model::Wiring;
 use std::alloc::{AllocError, Global};
@@ -76,7 +76,7 @@ impl Tally {
     }
 
     /// Looks again at the positions that show a line of the changes from one on. It takes no memory.
-    pub(crate) fn recount(&mut self, pair: &FaultPair, cone: &Cone, trail: &Trail, start: usize)
+    pub(crate) fn recount(&mut self, pair: &FaultPair, cone: &Cone, trail: &PairTrail, start: usize)
         requires width { length trail.now.sets.items ≡ line_count pair.now.circuit.now }
         requires cone { AreMarksOfTest (is_split pair.now.circuit.now pair.now.f pair.now.g) (line_count pair.now.circuit.now) cone.now }
         requires tally { IsTally pair.now.circuit.now pair.now.f pair.now.g self.old }

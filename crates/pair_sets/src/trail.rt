@@ -16,19 +16,19 @@ pub(crate) struct Change {
 
 /// The pairs of all lines, and the changes that led to them.
 #[derive(Drop)]
-pub(crate) struct Trail {
+pub(crate) struct PairTrail {
     pub(crate) sets: Vec<PairSet>,
     pub(crate) changes: Vec<Change>,
 }
 
-impl Trail {
+impl PairTrail {
     /// These pairs of the lines, with room for so many changes.
-    pub(crate) fn of(alloc: Global, sets: &[PairSet], room: usize) -> Result<Trail, AllocError>
+    pub(crate) fn of(alloc: Global, sets: &[PairSet], room: usize) -> Result<PairTrail, AllocError>
         ensures sets { IfOk result (λ trail. trail.sets.items ≡ sets.now) }
         ensures changes { IfOk result (λ trail. trail.changes.items ≡ []) }
         ensures room { IfOk result (λ trail. vec_capacity trail.changes ≡ room) }
     {
-        Ok(Trail {
+        Ok(PairTrail {
             sets: Vec::from_slice(alloc, sets)?,
             changes: Vec::with_capacity(alloc, room)?,
         })

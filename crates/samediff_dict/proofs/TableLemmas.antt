@@ -6,7 +6,7 @@ use Rattle.std.proofs.lemmas.List.FromFn.{length-map-range_with_len}
 use Rattle.net_model.specs.ClassTable.{ClassTable, class_count, representative}
 use Rattle.table_dicts.specs.AnswerTable.{answer_in}
 use Rattle.samediff_dict.specs.declared.numbering.Candidates.{Candidates}
-use Rattle.samediff_dict.specs.declared.choosing.Choice.{Choice}
+use Rattle.samediff_dict.specs.declared.choosing.BaselineChoice.{BaselineChoice}
 use Rattle.samediff_dict.specs.Chosen.{candidates, improvement}
 use Rattle.samediff_dict.specs.PlaceGroups.{AreGains, IsFirstAbove, NoneAbove, gain_at}
 use Rattle.samediff_dict.specs.Numbered.{AreCandidates, AlikeFrom, answers_base, baselines_at, class_answers}
@@ -42,7 +42,7 @@ pub candidates_few : (t : ClassTable) (row : List (List Bool)) → length (candi
 unfolding candidates
 candidates_few t row = omega (arith, distinct-few (class_answers t row), length-map-range_with_len (λ class. answer_in row (representative t class)) 0 (class_count t))
 
-module _ (rows : List (List (List Bool))) (c : Choice) (choice : IsChoice rows c) (chosen : List ℕ) (chosen_is : IsChosen rows c chosen) where
+module _ (rows : List (List (List Bool))) (c : BaselineChoice) (choice : IsChoice rows c) (chosen : List ℕ) (chosen_is : IsChosen rows c chosen) where
   known : (pattern : ℕ) → pattern < length rows → AreCandidates c.classes.now (get_or rows pattern []) (candidates_in c.patterns.now pattern)
   known pattern h = choice.numbered.each pattern none h
 

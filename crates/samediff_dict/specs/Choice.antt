@@ -3,13 +3,13 @@ use Rattle.std.specs.Prelude.{◌≡◌, ◌<◌, ◌^◌, ℕ, Bool, List, [], 
 use Rattle.net_model.specs.ClassTable.{class_count}
 use Rattle.class_refine.specs.Fields.{IsWhole}
 use Rattle.samediff_dict.specs.declared.partition.Partition.{Partition}
-use Rattle.samediff_dict.specs.declared.choosing.Choice.{Choice}
+use Rattle.samediff_dict.specs.declared.choosing.BaselineChoice.{BaselineChoice}
 use Rattle.samediff_dict.specs.declared.improving.Replacement.{Replacement}
 use Rattle.samediff_dict.specs.Chosen.{candidates, improvement}
 use Rattle.samediff_dict.specs.Partition.{IsPartition}
 use Rattle.samediff_dict.specs.Numbered.{HaveCandidates, AreChosen, AlikeFrom, baselines_at}
 
-module _ (rows : List (List (List Bool))) (c : Choice) where
+module _ (rows : List (List (List Bool))) (c : BaselineChoice) where
   -- The candidates of each pattern are numbered.
   pub record IsChoice : Type 0 where
     pub whole : IsWhole c.classes.now

@@ -25,7 +25,7 @@ pub(crate) fn choose_numbers(
     requires { HaveCandidates classes.now rows patterns.now }
     ensures { IfOk result (λ chosen. HasBaselines classes.now rows chosen.items (chosen_baselines classes.now rows)) }
 {
-    let choice = Choice {
+    let choice = BaselineChoice {
         classes,
         count: classes.count(),
         patterns,
@@ -35,13 +35,13 @@ pub(crate) fn choose_numbers(
 
 /// What the baselines are chosen from: for each pattern the number of candidates, and which of them each class answers.
 #[derive(Clone, Copy)]
-pub(crate) struct Choice<'a> {
+pub(crate) struct BaselineChoice<'a> {
     pub(crate) classes: &'a Classes,
     pub(crate) count: u32,
     pub(crate) patterns: &'a [Candidates],
 }
 
-impl Choice<'_> {
+impl BaselineChoice<'_> {
     // What the three steps choose.
     fn chosen(&self, alloc: Global) -> Result<Vec<u32>, AllocError>
         ghost rows: { List (List (List Bool)) }

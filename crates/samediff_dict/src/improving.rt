@@ -7,7 +7,7 @@ ghost use Rattle.samediff_dict.specs.Copied.{AreEntries};
 ghost use Rattle.samediff_dict.specs.Choice.{IsChoice, IsChosen, IsFirstBetter};
 ghost use Rattle.samediff_dict.specs.GainTable.{HaveGains, alike_but};
 
-use crate::choosing::Choice;
+use crate::choosing::BaselineChoice;
 use crate::descending::Descent;
 use crate::differing::{class_entries, put_chosen};
 use crate::gain_table::GainTable;
@@ -23,7 +23,7 @@ pub(crate) struct Replacement {
     pub(crate) answer: u32,
 }
 
-impl Choice<'_> {
+impl BaselineChoice<'_> {
     /// Replaces baselines as long as one replacement keeps more pairs apart.
     pub(crate) fn improve(&self, alloc: Global, chosen: &mut [u32]) -> Result<(), AllocError>
         ghost rows: { List (List (List Bool)) }

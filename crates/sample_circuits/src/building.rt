@@ -14,7 +14,7 @@ const LIMIT: usize = 67_108_864;
 
 /// The parts of a circuit: how many sources, each gate's kind with the lines that it reads, and the lines that are shown.
 #[derive(Clone, Copy)]
-pub struct Parts<'a> {
+pub struct CircuitParts<'a> {
     pub sources: u32,
     pub gates: &'a [(Kind, &'a [u32])],
     pub positions: &'a [u32],
@@ -41,7 +41,7 @@ impl From<AllocError> for PartsFault {
 }
 
 /// The circuit of these parts.
-pub fn circuit(alloc: Global, parts: Parts) -> Result<Circuit, PartsFault>
+pub fn circuit(alloc: Global, parts: CircuitParts) -> Result<Circuit, PartsFault>
     ensures parts { IfOk result (λ circuit. circuit ≡ circuit_of parts.entry) }
     ensures circuit { IfOk result (λ circuit. IsCircuit circuit) }
     ensures unfit { IsErrOf result PartsFault.Unfit → ¬ FitsTogether (circuit_of parts.entry) }

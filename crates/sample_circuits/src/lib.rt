@@ -6,7 +6,7 @@ mod circuits;
 mod faults;
 mod texts;
 
-pub use building::{Parts, PartsFault, all_below, circuit, gate, takes};
+pub use building::{CircuitParts, PartsFault, all_below, circuit, gate, takes};
 pub use circuits::{
     AND_OF_TWO, BETWEEN_CONSTANTS, BUFFER, NOT_AND_OR, SAME_DATA, SHOWN_TWICE, WITH_CONSTANT,
     XOR_OF_ONE,

@@ -12,7 +12,7 @@ use Rattle.net_model.specs.Rows.{row_at}
 use Rattle.table_dicts.specs.AnswerTable.{Answers}
 use Rattle.table_dicts.specs.Rows.{IsRowSet}
 use Rattle.table_dicts.proofs.RowLemmas.{shape_later}
-use Rattle.suspect_scores.specs.declared.marks.Marks.{Marks}
+use Rattle.suspect_scores.specs.declared.marks.LogMarks.{LogMarks}
 use Rattle.ranked_diag.specs.PartialLog.{Line}
 use Rattle.suspect_scores.specs.declared.choices.Choice.{Choice}
 use Rattle.suspect_scores.specs.declared.choosing.Best.{Best}
@@ -152,7 +152,7 @@ pub record IsChoosing (rows : List (List Bool)) (numbers : List ℕ) (lines : �
   pub all : AreAllLeft lines first
   pub before : (rest : List Choice) → AreChosenFrom rows numbers left rest → AreChosenFrom rows numbers first (choices ++ rest)
 
-pub noted_more : (old mid new : List (List Bool)) (first place : ℕ) (m : Marks) (answers : Answers) → AreNoted old mid first place m answers → IsRowSet mid new (first + place) (explained_row m answers place) → AreNoted old new first (place + 1) m answers
+pub noted_more : (old mid new : List (List Bool)) (first place : ℕ) (m : LogMarks) (answers : Answers) → AreNoted old mid first place m answers → IsRowSet mid new (first + place) (explained_row m answers place) → AreNoted old new first (place + 1) m answers
 noted_more old mid new first place m answers so_far one = record {
   shape = shape_later so_far.shape one.shape;
   here = λ p h. elim (cases_eq p place) [

@@ -8,7 +8,7 @@ use Rattle.table_dicts.specs.AnswerTable.{Answers, answer_to}
 use Rattle.ranked_diag.specs.declared.partial.Seen.{Seen}
 use Rattle.ranked_diag.specs.Seen.{differs, differing_bits}
 use Rattle.ranked_diag.specs.PartialLog.{Line}
-use Rattle.suspect_scores.specs.declared.marks.Marks.{Marks}
+use Rattle.suspect_scores.specs.declared.marks.LogMarks.{LogMarks}
 use Rattle.suspect_scores.specs.Scores.{is_failing, failing}
 use Rattle.suspect_scores.specs.Scored.{count_to, row_bits}
 use Rattle.suspect_scores.specs.Marks.{logged_line, wrong_row, AreMarks}
@@ -24,7 +24,7 @@ bits_wrong : (free : List Bool) (seen : List Seen) → row_bits (wrong_row free 
 unfolding row_bits
 bits_wrong free seen = count_listed (bit_at (wrong_row free seen)) (λ (b : Bool). b) false (wrong_row free seen) (λ k h. refl) ∙ count_mapped (λ x. differs x.0 x.1) (zip seen free)
 
-pub failing_rows : (table : Answers) (lines : List Line) (m : Marks) → AreMarks table lines m → count_to (λ row. nat_lt 0 (row_bits (row_at m.wrong row))) (length m.wrong) ≡ length (failing table lines)
+pub failing_rows : (table : Answers) (lines : List Line) (m : LogMarks) → AreMarks table lines m → count_to (λ row. nat_lt 0 (row_bits (row_at m.wrong row))) (length m.wrong) ≡ length (failing table lines)
 failing_rows table lines m marks =
     let test : ℕ → Bool = λ row. nat_lt 0 (row_bits (row_at m.wrong row)) in
     let free : ℕ → List Bool = λ k. answer_to table (logged_line lines k).0 0 in

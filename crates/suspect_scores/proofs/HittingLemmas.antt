@@ -22,7 +22,7 @@ use Rattle.suspect_scores.specs.Listed.{suspect_of}
 use Rattle.suspect_scores.specs.Scores.{is_failing, explains}
 use Rattle.suspect_scores.specs.Scored.{has_hit, scored, line_score, does_explain}
 use Rattle.suspect_scores.specs.Marks.{logged_line, AreLogged, IsLogged}
-use Rattle.suspect_scores.specs.declared.marks.Marks.{Marks}
+use Rattle.suspect_scores.specs.declared.marks.LogMarks.{LogMarks}
 use Rattle.suspect_scores.specs.Chosen.{explained_row, explained_by, AreNoted}
 use Rattle.suspect_scores.proofs.ScoredLemmas.{scored_is, explains_is}
 
@@ -107,7 +107,7 @@ pub record AreExplained (s : Setting) (logged : Logged) (numbers : List ℕ) (fi
 pub slice_long : (xs : List ℕ) (a n : ℕ) → a + n ≤ length xs → length (slice_range xs a (a + n)) ≡ n
 slice_long xs a n h = let width : a + n - a ≡ n = omega arith in (λ i. length (take (width i) (drop a xs))) ∙ length-take-le n (drop a xs) (omega (arith, h, length-drop a xs))
 
-pub rows_explained : (numbers some : List ℕ) (first count : ℕ) (old new : List (List Bool)) (m : Marks) (answers : Answers) (wanted : ℕ → List Bool) → first + count ≤ length numbers → some ≡ slice_range numbers first (first + count) → AreNoted old new first count m answers
+pub rows_explained : (numbers some : List ℕ) (first count : ℕ) (old new : List (List Bool)) (m : LogMarks) (answers : Answers) (wanted : ℕ → List Bool) → first + count ≤ length numbers → some ≡ slice_range numbers first (first + count) → AreNoted old new first count m answers
     → ((p : ℕ) → p < first → row_at old p ≡ wanted (get_or numbers p 0)) → ((q : ℕ) → q < count → explained_row m answers q ≡ wanted (get_or some q 0)) → (p : ℕ) → p < first + count → row_at new p ≡ wanted (get_or numbers p 0)
 rows_explained numbers some first count old new m answers wanted inside are noted before each p h = elim (cases_lt p first) [
   | inl low ↦ noted.before p low ∙ before p low

@@ -7,7 +7,7 @@ use Rattle.table_dicts.specs.Rows.{IsRowBegun, IsRowSet, AreRowsBegun}
 use Rattle.table_dicts.proofs.RowLemmas.{rows_more}
 use Rattle.ranked_diag.specs.declared.partial.Seen.{Seen}
 use Rattle.ranked_diag.specs.PartialLog.{Line}
-use Rattle.suspect_scores.specs.declared.marks.Marks.{Marks}
+use Rattle.suspect_scores.specs.declared.marks.LogMarks.{LogMarks}
 use Rattle.suspect_scores.specs.Marks.{logged_line, wrong_row, right_row, AreMarksBegun, AreMarksOf}
 use Rattle.suspect_scores.specs.Scored.{AreMarkRows}
 
@@ -29,7 +29,7 @@ module _ (test : Seen → Bool → Bool) where
   tested_at (f ∷ free) (s ∷ seen) (suc k) d same h = tested_at free seen k d (omega (arith, same)) (omega (arith, h))
 
 -- The marks of a line are set at the positions before one.
-pub record IsMarkedTo (old new : Marks) (line at : ℕ) (seen : List Seen) : Type 0 where
+pub record IsMarkedTo (old new : LogMarks) (line at : ℕ) (seen : List Seen) : Type 0 where
   pub free : new.free ≡ old.free
   pub wrong : IsRowBegun old.wrong new.wrong line at (wrong_row (row_at old.free line) seen)
   pub right : IsRowBegun old.right new.right line at (right_row (row_at old.free line) seen)
@@ -41,7 +41,7 @@ got_line [] k line e = let clash = e in cc
 got_line (x ∷ lines) zero line e = let same = e in cc
 got_line (x ∷ lines) (suc k) line e = got_line lines k line e
 
-pub marks_more : (free : ℕ → List Bool) (positions : ℕ) (lines : List Line) (k : ℕ) (seen : List Seen) (old new : Marks) (freed : List (List Bool)) → AreMarksBegun free positions lines k old → IsRowSet old.free freed k (free k) → new.free ≡ freed
+pub marks_more : (free : ℕ → List Bool) (positions : ℕ) (lines : List Line) (k : ℕ) (seen : List Seen) (old new : LogMarks) (freed : List (List Bool)) → AreMarksBegun free positions lines k old → IsRowSet old.free freed k (free k) → new.free ≡ freed
     → (logged_line lines k).1 ≡ seen → IsRowSet old.wrong new.wrong k (wrong_row (row_at freed k) seen) → IsRowSet old.right new.right k (right_row (row_at freed k) seen) → AreMarksBegun free positions lines (k + 1) new
 marks_more free positions lines k seen old new freed so_far one same is wrong right = record {
   frees = subst (λ rows. AreRowsBegun (length lines) positions (k + 1) free rows) (sym same) (rows_more so_far.frees one);
@@ -49,11 +49,11 @@ marks_more free positions lines k seen old new freed so_far one same is wrong ri
   rights = rows_more so_far.rights (subst (λ row. IsRowSet old.right new.right k row) ((λ i. right_row (one.here i) seen) ∙ (λ i. right_row (free k) (sym is i))) right);
 }
 
-pub mark_rows : (free : ℕ → List Bool) (positions : ℕ) (lines : List Line) (done : ℕ) (m : Marks) → AreMarksBegun free positions lines done m → AreMarkRows (length lines) positions m
+pub mark_rows : (free : ℕ → List Bool) (positions : ℕ) (lines : List Line) (done : ℕ) (m : LogMarks) → AreMarksBegun free positions lines done m → AreMarkRows (length lines) positions m
 mark_rows free positions lines done m are = record { frees = are.frees.are; wrongs = are.wrongs.are; rights = are.rights.are }
 
 -- by other rows that are the same
-pub marks_as : (free other : ℕ → List Bool) (positions places : ℕ) (lines : List Line) (m : Marks) → positions ≡ places → ((k : ℕ) → k < length lines → free k ≡ other k) → AreMarksOf free positions lines m → AreMarksOf other places lines m
+pub marks_as : (free other : ℕ → List Bool) (positions places : ℕ) (lines : List Line) (m : LogMarks) → positions ≡ places → ((k : ℕ) → k < length lines → free k ≡ other k) → AreMarksOf free positions lines m → AreMarksOf other places lines m
 marks_as free other positions places lines m wide same are = subst (λ n. AreMarksOf other n lines m) wide (record {
   frees = record { are = are.frees.are; begun = λ k h. are.frees.begun k h ∙ same k h };
   wrongs = record { are = are.wrongs.are; begun = λ k h. are.wrongs.begun k h ∙ (λ i. wrong_row (same k h i) (logged_line lines k).1) };
@@ -69,5 +69,5 @@ bit_marked test free now line at seen d bit result same wide h is told =
     told ∙ ((λ i. test (get_or seen at d) (is i)) ∙ ((λ i. test (get_or seen at d) (bit_at (row_at (same i) line) at)) ∙ sym (tested_at test (row_at free line) seen at d wide h)))
 
 -- so many rows of so many bits
-pub sized : (lines positions count width : ℕ) (m : Marks) → lines ≡ count → positions ≡ width → AreMarkRows lines positions m → AreMarkRows count width m
+pub sized : (lines positions count width : ℕ) (m : LogMarks) → lines ≡ count → positions ≡ width → AreMarkRows lines positions m → AreMarkRows count width m
 sized lines positions count width m a b are = subst (λ n. AreMarkRows n width m) a (subst (λ n. AreMarkRows lines n m) b are)

@@ -12,7 +12,7 @@ use Rattle.ranked_diag.specs.declared.partial.Seen.{Seen}
 use Rattle.ranked_diag.specs.declared.partial.Seen.TheVariants.{Zero, One, Unseen}
 use Rattle.ranked_diag.specs.Seen.{is_seen, differs, differing_bits}
 use Rattle.ranked_diag.specs.PartialLog.{Line}
-use Rattle.suspect_scores.specs.declared.marks.Marks.{Marks}
+use Rattle.suspect_scores.specs.declared.marks.LogMarks.{LogMarks}
 use Rattle.suspect_scores.specs.declared.scoring.LineScore.{LineScore}
 use Rattle.suspect_scores.specs.declared.suspect.Suspect.{Suspect}
 use Rattle.suspect_scores.specs.Scores.{SeenBits, is_hit, is_missed, is_false, told_of, is_failing, explains, explained_count, hit_bits, missed_bits, false_bits}
@@ -26,7 +26,7 @@ use Rattle.suspect_scores.proofs.MarkLemmas.{tested_at}
 
 -- ---- a line more
 
-pub added : (m : Marks) (t : Answers) (place number line : ℕ) (old new : Suspect) → old ≡ scored m t place number line → HasLineMore old new (line_score m t place line) → new ≡ scored m t place number (line + 1)
+pub added : (m : LogMarks) (t : Answers) (place number line : ℕ) (old new : Suspect) → old ≡ scored m t place number line → HasLineMore old new (line_score m t place line) → new ≡ scored m t place number (line + 1)
 unfolding scored
 added m t place number line old new is more =
     let score = line_score m t place in
@@ -40,7 +40,7 @@ added m t place number line old new is more =
       false_bits = sum (λ s. s.false_bits) old.false_bits new.false_bits (ap (λ (s : Suspect). s.false_bits) is) more.wrong i;
     }
 
-pub can_add : (m : Marks) (t : Answers) (place number line lines : ℕ) (old : Suspect) → old ≡ scored m t place number line → line < lines → lines < 2 ^ 32 → t.positions < 2 ^ 32 → CanAddLine old (line_score m t place line)
+pub can_add : (m : LogMarks) (t : Answers) (place number line lines : ℕ) (old : Suspect) → old ≡ scored m t place number line → line < lines → lines < 2 ^ 32 → t.positions < 2 ^ 32 → CanAddLine old (line_score m t place line)
 unfolding scored line_score score_to
 can_add m t place number line lines old is low few wide =
     let score = line_score m t place in
@@ -138,7 +138,7 @@ count_filtered {X} p q (x ∷ xs) = by (count_filtered p q xs) (p x) refl
         let none : one_of (λ y. p y && q y) x ≡ 0 = ap (λ (b : Bool). cond {A = ℕ} (b && q x) 1 0) e in
         ap (count_by q) kept ∙ omega (arith, count_more (λ y. p y && q y) x xs, none, rest)
 
-module _ (table : Answers) (lines : List Line) (numbers : List ℕ) (m : Marks) (answers : Answers) (place : ℕ) (marks : AreMarks table lines m) (logged : AreLogged table lines numbers answers) (at : place < length numbers)
+module _ (table : Answers) (lines : List Line) (numbers : List ℕ) (m : LogMarks) (answers : Answers) (place : ℕ) (marks : AreMarks table lines m) (logged : AreLogged table lines numbers answers) (at : place < length numbers)
     (wide : All (λ line. length line.1 ≡ table.positions) lines) (free_wide : (k : ℕ) → k < length lines → length (answer_to table (logged_line lines k).0 0) ≡ table.positions)
     (own_wide : (k : ℕ) → k < length lines → length (answer_to table (logged_line lines k).0 (get_or numbers place 0)) ≡ table.positions) where
   abbrev pub number : ℕ

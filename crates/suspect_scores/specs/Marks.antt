@@ -7,7 +7,7 @@ use Rattle.table_dicts.specs.Setting.{AreAnswersAt}
 use Rattle.ranked_diag.specs.declared.partial.Seen.{Seen}
 use Rattle.ranked_diag.specs.Seen.{is_seen, differs}
 use Rattle.ranked_diag.specs.PartialLog.{Line}
-use Rattle.suspect_scores.specs.declared.marks.Marks.{Marks}
+use Rattle.suspect_scores.specs.declared.marks.LogMarks.{LogMarks}
 use Rattle.suspect_scores.specs.declared.logged.Logged.{Logged}
 use Rattle.suspect_scores.specs.Scored.{AreMarkRows}
 
@@ -28,17 +28,17 @@ abbrev pub right_row : List Bool → List Seen → List Bool
 right_row free seen = map (λ x. is_seen x.0 && not (differs x.0 x.1)) (zip seen free)
 
 -- There is a row for each line, and the first ones, so many, are marked.
-pub record AreMarksBegun (free : ℕ → List Bool) (positions : ℕ) (lines : List Line) (done : ℕ) (m : Marks) : Type 0 where
+pub record AreMarksBegun (free : ℕ → List Bool) (positions : ℕ) (lines : List Line) (done : ℕ) (m : LogMarks) : Type 0 where
   pub frees : AreRowsBegun (length lines) positions done free m.free
   pub wrongs : AreRowsBegun (length lines) positions done (λ k. wrong_row (free k) (logged_line lines k).1) m.wrong
   pub rights : AreRowsBegun (length lines) positions done (λ k. right_row (free k) (logged_line lines k).1) m.right
 
 -- All are, by what number 0 answers to the pattern of each line.
-abbrev pub AreMarksOf : (ℕ → List Bool) → ℕ → List Line → Marks → Type 0
+abbrev pub AreMarksOf : (ℕ → List Bool) → ℕ → List Line → LogMarks → Type 0
 AreMarksOf free positions lines m = AreMarksBegun free positions lines (length lines) m
 
 -- So they are by a table of answers.
-abbrev pub AreMarks : Answers → List Line → Marks → Type 0
+abbrev pub AreMarks : Answers → List Line → LogMarks → Type 0
 AreMarks table lines m = AreMarksOf (λ k. answer_to table (logged_line lines k).0 0) table.positions lines m
 
 -- The answers are those of these numbers to the patterns of the lines.

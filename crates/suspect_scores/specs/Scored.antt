@@ -5,12 +5,12 @@ use Rattle.net_model.specs.Answer.{bit_at}
 use Rattle.net_model.specs.Rows.{bit_of, row_bit}
 use Rattle.table_dicts.specs.AnswerTable.{Answers, answer_bit}
 use Rattle.table_dicts.specs.Rows.{AreRows}
-use Rattle.suspect_scores.specs.declared.marks.Marks.{Marks}
+use Rattle.suspect_scores.specs.declared.marks.LogMarks.{LogMarks}
 use Rattle.suspect_scores.specs.declared.scoring.LineScore.{LineScore}
 use Rattle.suspect_scores.specs.declared.suspect.Suspect.{Suspect}
 
 -- There are so many rows of marks, each with a bit for each position.
-pub record AreMarkRows (lines positions : ℕ) (m : Marks) : Type 0 where
+pub record AreMarkRows (lines positions : ℕ) (m : LogMarks) : Type 0 where
   pub frees : AreRows lines positions m.free
   pub wrongs : AreRows lines positions m.wrong
   pub rights : AreRows lines positions m.right
@@ -58,7 +58,7 @@ pub record DoFit (a b : LineScore) : Type 0 where
 
 -- ---- lines
 
-module _ (m : Marks) (answers : Answers) (place : ℕ) where
+module _ (m : LogMarks) (answers : Answers) (place : ℕ) where
   -- where the number's answer to the pattern of a line isn't that of number 0
   abbrev pub is_changed : ℕ → ℕ → Bool
   is_changed line k = is_other (answer_bit answers line place k) (row_bit m.free line k)

@@ -12,7 +12,7 @@ ghost use Rattle.suspect_scores.specs.Scored.{AreMarkRows};
 ghost use Rattle.suspect_scores.specs.Chosen.{explained_row, explained_by, AreNoted};
 
 use crate::logged::{Logged, TOGETHER, part};
-use crate::marks::{Marks, set_bit};
+use crate::marks::{LogMarks, set_bit};
 use crate::scoring::score_line;
 use net_model::AnswerRows;
 use std::alloc::{AllocError, Global};
@@ -43,7 +43,7 @@ pub(crate) fn explained_rows(
 }
 
 // Notes what the numbers of the answers explain, in the rows from the first one on.
-fn note_part(rows: &mut AnswerRows, first: usize, marks: &Marks, answers: &AnswerTable)
+fn note_part(rows: &mut AnswerRows, first: usize, marks: &LogMarks, answers: &AnswerTable)
     requires marks { AreMarkRows (length answers.now.rows) answers.now.positions marks.now }
     requires rows { AreRows (length rows.old) (length answers.now.rows) rows.old }
     requires within { first + answers.now.numbers ≤ length rows.old }
@@ -57,7 +57,7 @@ fn note_part(rows: &mut AnswerRows, first: usize, marks: &Marks, answers: &Answe
 }
 
 // Notes what the number at a place of the answers explains.
-fn note(rows: &mut AnswerRows, row: usize, marks: &Marks, answers: &AnswerTable, place: u32)
+fn note(rows: &mut AnswerRows, row: usize, marks: &LogMarks, answers: &AnswerTable, place: u32)
     requires marks { AreMarkRows (length answers.now.rows) answers.now.positions marks.now }
     requires place { place < answers.now.numbers }
     requires row { row < length rows.old }

@@ -7,7 +7,7 @@ ghost use Rattle.table_dicts.specs.Setting.{IsSetting, AreAnswersAt};
 ghost use Rattle.ranked_diag.specs.PartialLog.{Line, ArePartial};
 ghost use Rattle.suspect_scores.specs.Marks.{IsLogged, AreLogged, IsMarked, logged_vectors};
 
-use crate::marks::Marks;
+use crate::marks::LogMarks;
 use net_model::Vector;
 use ranked_diag::Partial;
 use std::alloc::{AllocError, Global};
@@ -20,7 +20,7 @@ pub(crate) const TOGETHER: usize = 64;
 #[derive(Drop)]
 pub(crate) struct Logged {
     pub(crate) patterns: Vec<Vector>,
-    pub(crate) marks: Marks,
+    pub(crate) marks: LogMarks,
 }
 
 impl Logged {
@@ -36,7 +36,7 @@ impl Logged {
         let patterns = logged_patterns(alloc, setting.patterns.as_slice(), partial)?;
         let logged = patterns.as_slice();
         let free = number_answers_at(alloc, setting.circuit, setting.faults, logged, &[0])?;
-        let marks = Marks::new(alloc, &free, partial)?;
+        let marks = LogMarks::new(alloc, &free, partial)?;
         Ok(Logged { patterns, marks })
     }
 

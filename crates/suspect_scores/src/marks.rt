@@ -14,7 +14,7 @@ use table_dicts::AnswerTable;
 
 /// Rows of bits, one for each line of a log, with a bit for each position.
 #[derive(Drop)]
-pub(crate) struct Marks {
+pub(crate) struct LogMarks {
     /// What number 0 answers.
     pub(crate) free: AnswerRows,
     /// Where an observed bit differs from that.
@@ -23,20 +23,20 @@ pub(crate) struct Marks {
     pub(crate) right: AnswerRows,
 }
 
-impl Marks {
+impl LogMarks {
     /// The marks of a log. The table has what number 0 answers to the pattern of each line.
     pub(crate) fn new(
         alloc: Global,
         free: &AnswerTable,
         partial: &Partial,
-    ) -> Result<Marks, AllocError>
+    ) -> Result<LogMarks, AllocError>
         requires lines { length free.now.rows ≡ length partial.now }
         requires some { 0 < free.now.numbers }
         requires wide { All (λ line. length line.1 ≡ free.now.positions) partial.now }
         ensures { IfOk result (AreMarksOf (λ k. answer_to free.now k 0) free.now.positions partial.now) }
     {
         let (rows, width) = (free.patterns() as usize, free.positions() as usize);
-        let mut marks = Marks {
+        let mut marks = LogMarks {
             free: AnswerRows::zeros(alloc, rows, width)?,
             wrong: AnswerRows::zeros(alloc, rows, width)?,
             right: AnswerRows::zeros(alloc, rows, width)?,

@@ -5,7 +5,7 @@ ghost use Rattle.table_dicts.specs.AnswerTable.{IsTable};
 ghost use Rattle.table_dicts.specs.Rows.{AreRows};
 ghost use Rattle.suspect_scores.specs.Scored.{AreMarkRows, DoFit, score_sum, word_score, line_score, does_explain, scored, HasLineMore, CanAddLine};
 
-use crate::marks::Marks;
+use crate::marks::LogMarks;
 use crate::suspect::Suspect;
 use table_dicts::AnswerTable;
 
@@ -50,7 +50,12 @@ fn score_word(changed: u64, wrong: u64, right: u64) -> LineScore
 }
 
 /// The score of a line for the number at a place of the answers.
-pub(crate) fn score_line(marks: &Marks, answers: &AnswerTable, place: u32, line: u32) -> LineScore
+pub(crate) fn score_line(
+    marks: &LogMarks,
+    answers: &AnswerTable,
+    place: u32,
+    line: u32,
+) -> LineScore
     requires marks { AreMarkRows (length answers.now.rows) answers.now.positions marks.now }
     requires line { line < length answers.now.rows }
     requires place { place < answers.now.numbers }
@@ -73,7 +78,7 @@ pub(crate) fn score_line(marks: &Marks, answers: &AnswerTable, place: u32, line:
 }
 
 /// The score of the number at a place of the answers.
-pub(crate) fn score(marks: &Marks, answers: &AnswerTable, place: u32, number: u32) -> Suspect
+pub(crate) fn score(marks: &LogMarks, answers: &AnswerTable, place: u32, number: u32) -> Suspect
     requires marks { AreMarkRows (length answers.now.rows) answers.now.positions marks.now }
     requires place { place < answers.now.numbers }
     ensures { result ≡ scored marks.now answers.now place number (length answers.now.rows) }

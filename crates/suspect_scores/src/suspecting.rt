@@ -11,7 +11,7 @@ ghost use Rattle.suspect_scores.specs.Marks.{IsLogged, IsMarked};
 ghost use Rattle.suspect_scores.specs.Scored.{AreMarkRows, has_hit, scored};
 
 use crate::logged::{Logged, TOGETHER, part};
-use crate::marks::Marks;
+use crate::marks::LogMarks;
 use crate::scoring::score;
 use crate::suspect::{Suspect, Suspects};
 use ranked_diag::Partial;
@@ -64,7 +64,7 @@ fn hitting(
 // Adds those of some numbers that have a hit. The table has their answers.
 fn add_hitting(
     listed: &mut Vec<Suspect>,
-    marks: &Marks,
+    marks: &LogMarks,
     answers: &AnswerTable,
     numbers: &[u32],
 ) -> Result<(), AllocError>

@@ -2,10 +2,10 @@
 use Rattle.std.specs.Prelude.{◌≡◌, ◌≢◌, ℕ, ◌+◌, ◌*◌, ◌/◌, ◌%◌, ◌<◌, Bool, List, [], length, slice_index_or}
 use Rattle.net_model.specs.Answer.{bit_at}
 use Rattle.net_model.specs.Rows.{row_at, row_bit, HaveSameShape}
-use Rattle.table_dicts.specs.declared.block_words.Place.{Place}
+use Rattle.table_dicts.specs.declared.block_words.WordPlace.{WordPlace}
 
 -- the number of a place in a block of so many positions
-abbrev pub number_of : ℕ → Place → ℕ
+abbrev pub number_of : ℕ → WordPlace → ℕ
 number_of positions place = place.lane * positions + place.position
 
 -- the bit of the place with a number, from the lanes of the positions

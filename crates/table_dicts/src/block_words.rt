@@ -9,7 +9,7 @@ use word_sim::{LANES, Lanes};
 
 // A place in a block: a lane, and a position in it.
 #[derive(Drop)]
-struct Place {
+struct WordPlace {
     lane: u32,
     position: usize,
 }
@@ -28,7 +28,7 @@ pub(crate) fn write_words(
     requires room { count * 64 ≤ LANES * length lanes.now }
     ensures { AreBitsSet rows.old rows.new row (begin * 64) (count * 64) (block_bit lanes.now) }
 {
-    let mut place = Place {
+    let mut place = WordPlace {
         lane: 0,
         position: 0,
     };
@@ -39,7 +39,7 @@ pub(crate) fn write_words(
 }
 
 // The next 64 bits of a block, the lowest first.
-fn next_word(lanes: &[Lanes], place: &mut Place) -> u64
+fn next_word(lanes: &[Lanes], place: &mut WordPlace) -> u64
     requires position { place.old.position < length lanes.now }
     requires room { number_of (length lanes.now) place.old + 64 ≤ LANES * length lanes.now }
     ensures position { place.new.position < length lanes.now }
@@ -56,7 +56,7 @@ fn next_word(lanes: &[Lanes], place: &mut Place) -> u64
 }
 
 // Goes on to the next place of a block of so many positions.
-fn step(place: &mut Place, positions: usize)
+fn step(place: &mut WordPlace, positions: usize)
     requires position { place.old.position < positions }
     requires lane { place.old.lane < LANES }
     ensures position { place.new.position < positions }

@@ -7,19 +7,19 @@ ghost use Rattle.fault_collapse.specs.Forest.{number_count};
 use fault_collapse::{Forest, collapse};
 use fault_list::{FaultList, list};
 use net_model::{Circuit, Kind};
-use sample_circuits::{AND_OF_TWO, NOT_AND_OR, Parts, WITH_CONSTANT, circuit};
+use sample_circuits::{AND_OF_TWO, CircuitParts, NOT_AND_OR, WITH_CONSTANT, circuit};
 use std::alloc::Global;
 use std::test::Fail;
 
 // An AND, a NAND and an XOR of one pin each, one after another.
-const SINGLE_PINS: Parts<'static> = Parts {
+const SINGLE_PINS: CircuitParts<'static> = CircuitParts {
     sources: 1,
     gates: &[(Kind::And, &[0]), (Kind::Nand, &[1]), (Kind::Xor, &[2])],
     positions: &[3],
 };
 
 // A multiplexer of sources 1 and 2, chosen by the NOT of source 0.
-const MULTIPLEXER: Parts<'static> = Parts {
+const MULTIPLEXER: CircuitParts<'static> = CircuitParts {
     sources: 3,
     gates: &[(Kind::Not, &[0]), (Kind::Mux, &[3, 1, 2])],
     positions: &[4],
@@ -29,7 +29,7 @@ const MULTIPLEXER: Parts<'static> = Parts {
 // some pairs have one root.
 #[derive(Clone, Copy)]
 struct Case {
-    parts: Parts<'static>,
+    parts: CircuitParts<'static>,
     successors: &'static [Option<u32>],
     roots: &'static [u32],
     count: u32,

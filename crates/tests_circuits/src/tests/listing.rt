@@ -8,7 +8,7 @@ use fault_list::{FaultList, Scope, list, name_text};
 use net_model::Fault::{self, Free, Stuck};
 use net_model::Site::{self, Pin, Position, Stem};
 use net_model::{Circuit, Design, Names};
-use sample_circuits::{AND_OF_TWO, NOT_AND_OR, Parts, SHOWN_TWICE, circuit};
+use sample_circuits::{AND_OF_TWO, CircuitParts, NOT_AND_OR, SHOWN_TWICE, circuit};
 use std::alloc::{AllocError, Global};
 use std::test::Fail;
 
@@ -26,7 +26,7 @@ fn lettered(alloc: Global, circuit: Circuit, letters: &[u8]) -> Result<Design, A
 }
 
 // The circuit of these parts with these letters as the names of its lines.
-fn design_of(alloc: Global, parts: Parts, letters: &[u8]) -> Result<Design, Fail>
+fn design_of(alloc: Global, parts: CircuitParts, letters: &[u8]) -> Result<Design, Fail>
     ensures { IfOk result (λ design. length design.names ≡ line_count design.circuit) }
 {
     let circuit = circuit(alloc, parts)?;
@@ -92,14 +92,19 @@ fn are_names(alloc: Global, design: &Design, names: &[u8]) -> Result<bool, Fail>
 }
 
 // Whether those of the design of some parts are these.
-fn has_names(alloc: Global, parts: Parts, letters: &[u8], names: &[u8]) -> Result<bool, Fail> {
+fn has_names(
+    alloc: Global,
+    parts: CircuitParts,
+    letters: &[u8],
+    names: &[u8],
+) -> Result<bool, Fail> {
     let design = design_of(alloc, parts, letters)?;
     are_names(alloc, &design, names)
 }
 
 // Parts, a letter for each line, and the names of all faults by number, each with a semicolon after it: stems alone, pins too,
 // and positions too.
-const NAMED: &[(Parts, &[u8], &[u8])] = &[
+const NAMED: &[(CircuitParts, &[u8], &[u8])] = &[
     (
         AND_OF_TWO,
         b"abz",

@@ -8,7 +8,7 @@ use net_model::Site::{Pin, Position, Stem};
 use net_model::{
     AnswerRows, Bits, BuildFault, Circuit, Kind, Vector, Wiring, gate_value, plain_answer,
 };
-use sample_circuits::{Parts, PartsFault, bits, circuit, stands, takes, text_of};
+use sample_circuits::{CircuitParts, PartsFault, bits, circuit, stands, takes, text_of};
 use std::alloc::{AllocError, Global};
 use std::test::Fail;
 
@@ -104,7 +104,7 @@ fn answers(
 // The same for the circuit of some parts.
 fn parts_answer(
     alloc: Global,
-    parts: Parts,
+    parts: CircuitParts,
     fault: &Fault,
     vector: &str,
     answer: &str,
@@ -113,14 +113,14 @@ fn parts_answer(
     answers(alloc, &circuit, fault, vector, answer)
 }
 
-const NAND: Parts<'static> = Parts {
+const NAND: CircuitParts<'static> = CircuitParts {
     sources: 2,
     gates: &[(Kind::Nand, &[0, 1])],
     positions: &[2],
 };
 
 // The first source chooses between the second and line 4, a constant 1.
-const CHOOSER: Parts<'static> = Parts {
+const CHOOSER: CircuitParts<'static> = CircuitParts {
     sources: 2,
     gates: &[
         (Kind::Const0, &[]),
@@ -131,7 +131,7 @@ const CHOOSER: Parts<'static> = Parts {
 };
 
 // Parts of a circuit, a fault, a vector, and what is shown at it.
-const SHOWN: &[(Parts, Fault, &str, &str)] = &[
+const SHOWN: &[(CircuitParts, Fault, &str, &str)] = &[
     (NAND, Free, "11", "0"),
     (NAND, Stuck(Stem(0), false), "11", "1"),
     (NAND, Stuck(Stem(2), true), "11", "1"),
@@ -209,7 +209,7 @@ fn has_walk(built: &Result<Circuit, PartsFault>, expected: Option<&[u32]>) -> bo
 }
 
 fn walks(alloc: Global, gates: &[(Kind, &[u32])], walk: Option<&[u32]>) -> bool {
-    let parts = Parts {
+    let parts = CircuitParts {
         sources: 1,
         gates,
         positions: &[],

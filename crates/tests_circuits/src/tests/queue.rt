@@ -8,48 +8,48 @@ use std::test::Fail;
 
 // What is done with a queue: a number or several begin to wait, or the lowest is taken and is this one.
 #[derive(Clone, Copy)]
-enum Step<'a> {
+enum QueueStep<'a> {
     Insert(u32),
     Wake(&'a [u32]),
     Take(Option<u32>),
 }
 
 // Whether the step can be done, and takes what it should. The queue has room for the numbers below a count.
-fn goes(queue: &mut NumberQueue, count: usize, step: Step) -> bool
+fn goes(queue: &mut NumberQueue, count: usize, step: QueueStep) -> bool
     requires { length queue.old ≡ count }
     ensures { length queue.new ≡ count }
 {
     match step {
-        Step::Insert(number) => {
+        QueueStep::Insert(number) => {
             if number as usize >= count {
                 return false;
             }
             queue.insert(number);
             true
         }
-        Step::Wake(numbers) => {
+        QueueStep::Wake(numbers) => {
             if !all_below(numbers, count) {
                 return false;
             }
             queue.wake(numbers);
             true
         }
-        Step::Take(expected) => queue.take_lowest(0) == expected,
+        QueueStep::Take(expected) => queue.take_lowest(0) == expected,
     }
 }
 
-const STEPS: &[Step] = &[
-    Step::Take(None),
-    Step::Insert(129),
-    Step::Insert(64),
-    Step::Wake(&[63, 64, 70]),
-    Step::Take(Some(63)),
-    Step::Insert(3),
-    Step::Take(Some(3)),
-    Step::Take(Some(64)),
-    Step::Take(Some(70)),
-    Step::Take(Some(129)),
-    Step::Take(None),
+const STEPS: &[QueueStep] = &[
+    QueueStep::Take(None),
+    QueueStep::Insert(129),
+    QueueStep::Insert(64),
+    QueueStep::Wake(&[63, 64, 70]),
+    QueueStep::Take(Some(63)),
+    QueueStep::Insert(3),
+    QueueStep::Take(Some(3)),
+    QueueStep::Take(Some(64)),
+    QueueStep::Take(Some(70)),
+    QueueStep::Take(Some(129)),
+    QueueStep::Take(None),
 ];
 
 #[test]

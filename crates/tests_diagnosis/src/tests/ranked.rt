@@ -11,7 +11,7 @@ use std::test::Fail;
 use table_dicts::{AnswerTable, Dict, DictKind, full, pass_fail};
 
 // How many patterns, numbers and positions there are, and the pattern, number and position of each 1 among the answers.
-struct Circuit {
+struct DrawnCircuit {
     patterns: u32,
     numbers: u32,
     positions: u32,
@@ -21,7 +21,7 @@ struct Circuit {
 // A log, how far above the least its ranking goes, and the counts and numbers that are ranked.
 type Case = (&'static str, u32, &'static [(u64, u32)]);
 
-fn table_of(alloc: Global, circuit: &Circuit) -> Result<AnswerTable, Fail>
+fn table_of(alloc: Global, circuit: &DrawnCircuit) -> Result<AnswerTable, Fail>
     ensures { IfOk result (λ table. 0 < table.numbers) }
 {
     let mut table = AnswerTable::zeros(
@@ -106,7 +106,7 @@ fn is_ranked(alloc: Global, dict: &Dict, case: &Case) -> Result<bool, Fail>
 }
 
 // Whether a log is ranked so by the dictionary of each kind.
-fn is_ranked_by_all(alloc: Global, circuit: &Circuit, case: &Case) -> Result<bool, Fail> {
+fn is_ranked_by_all(alloc: Global, circuit: &DrawnCircuit, case: &Case) -> Result<bool, Fail> {
     let table = table_of(alloc, circuit)?;
     let full = dict_at(alloc, DictKind::Full, &table)?;
     let pass_fail = dict_at(alloc, DictKind::PassFail, &table)?;
@@ -120,7 +120,7 @@ fn is_ranked_by_all(alloc: Global, circuit: &Circuit, case: &Case) -> Result<boo
 
 // An AND of two sources with the patterns 00, 10, 01 and 11, and as numbers the fault-free circuit, each source at 0 and
 // at 1, and the gate at 0 and at 1.
-const AND: Circuit = Circuit {
+const AND: DrawnCircuit = DrawnCircuit {
     patterns: 4,
     numbers: 7,
     positions: 1,
@@ -164,7 +164,7 @@ const AND_LOGS: &[Case] = &[
 ];
 
 // Two positions, of which a fault is seen at the second one.
-const TWO: Circuit = Circuit {
+const TWO: DrawnCircuit = DrawnCircuit {
     patterns: 1,
     numbers: 2,
     positions: 2,
@@ -178,7 +178,7 @@ const TWO_LOGS: &[Case] = &[
 ];
 
 // More patterns than a word has bits.
-const LONG: Circuit = Circuit {
+const LONG: DrawnCircuit = DrawnCircuit {
     patterns: 130,
     numbers: 2,
     positions: 1,
@@ -191,7 +191,7 @@ const LONG_LOGS: &[Case] = &[
 ];
 
 // No positions.
-const BLIND: Circuit = Circuit {
+const BLIND: DrawnCircuit = DrawnCircuit {
     patterns: 2,
     numbers: 2,
     positions: 0,
@@ -219,9 +219,9 @@ fn ranked_numbers(rt: HostRuntime) -> Result<(), Fail> {
 }
 
 // A log, and the rule that it breaks and the line; none where it is read.
-type Refusal = (&'static str, Option<(LogKind, u64)>);
+type RefusedLog = (&'static str, Option<(LogKind, u64)>);
 
-const REFUSALS: &[Refusal] = &[
+const REFUSALS: &[RefusedLog] = &[
     ("1 0\n1 0\n", Some((LogKind::Order, 2))),
     ("2 0\n1 0\n", Some((LogKind::Order, 2))),
     ("9 0\n", Some((LogKind::Order, 1))),
@@ -240,7 +240,7 @@ const REFUSALS: &[Refusal] = &[
 ];
 
 // Whether a log is read, or breaks the rule in the line.
-fn is_answered(alloc: Global, dict: &Dict, case: &Refusal) -> bool {
+fn is_answered(alloc: Global, dict: &Dict, case: &RefusedLog) -> bool {
     match read_partial(alloc, dict, case.0.as_bytes()) {
         Ok(_partial) => case.1 == None,
         Err(LogFault::At(kind, line)) => case.1 == Some((kind, line)),

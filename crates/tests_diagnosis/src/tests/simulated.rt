@@ -5,21 +5,21 @@ ghost use Rattle.sim_listing.specs.VectorTexts.{HaveSameVectors};
 
 use fault_list::list;
 use net_model::{Circuit, Kind, Vector, Vectors};
-use sample_circuits::{AND_OF_TWO, BUFFER, Parts, SHOWN_TWICE, bits, circuit};
+use sample_circuits::{AND_OF_TWO, BUFFER, CircuitParts, SHOWN_TWICE, bits, circuit};
 use sim_listing::{VectorTexts, root_places};
 use std::alloc::{AllocError, Global};
 use std::test::Fail;
 use word_sim::LANES;
 
 // Line 0 is the constant 1, and is shown.
-const CONSTANT: Parts<'static> = Parts {
+const CONSTANT: CircuitParts<'static> = CircuitParts {
     sources: 0,
     gates: &[(Kind::Const1, &[])],
     positions: &[0],
 };
 
 // The source is not shown.
-const NOTHING_SHOWN: Parts<'static> = Parts {
+const NOTHING_SHOWN: CircuitParts<'static> = CircuitParts {
     sources: 1,
     gates: &[],
     positions: &[],
@@ -104,13 +104,18 @@ fn is_text_at(
 }
 
 // The same of the circuit of these parts.
-fn is_text_of(alloc: Global, parts: Parts, digits: &[&str], wanted: &[u8]) -> Result<bool, Fail> {
+fn is_text_of(
+    alloc: Global,
+    parts: CircuitParts,
+    digits: &[&str],
+    wanted: &[u8],
+) -> Result<bool, Fail> {
     let circuit = circuit(alloc, parts)?;
     is_text_at(alloc, &circuit, digits, wanted)
 }
 
 // An AND; a source that is shown twice; no position; no source; no vector.
-const SMALL: &[(Parts, &[&str], &str)] = &[
+const SMALL: &[(CircuitParts, &[&str], &str)] = &[
     (
         AND_OF_TWO,
         &["11"],

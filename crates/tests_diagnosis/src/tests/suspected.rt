@@ -8,14 +8,14 @@ use crate::tests::kept::kept_of;
 use fault_list::{FaultList, list};
 use net_model::{Circuit, Kind};
 use ranked_diag::read_partial_of;
-use sample_circuits::{AND_OF_TWO, Parts, circuit};
+use sample_circuits::{AND_OF_TWO, CircuitParts, circuit};
 use std::alloc::Global;
 use std::test::Fail;
 use suspect_scores::{Choice, Cover, Suspect, Suspects, cover, expected_log, suspects};
 use table_dicts::Setting;
 
 // The ISCAS-85 circuit c17: the sources 1, 2, 3, 6, 7, the gates 10, 11, 16, 19, 22, 23, and the outputs 22, 23.
-const C17: Parts<'static> = Parts {
+const C17: CircuitParts<'static> = CircuitParts {
     sources: 5,
     gates: &[
         (Kind::Nand, &[0, 2]),
@@ -28,7 +28,7 @@ const C17: Parts<'static> = Parts {
     positions: &[9, 10],
 };
 
-const NOTHING: Parts<'static> = Parts {
+const NOTHING: CircuitParts<'static> = CircuitParts {
     sources: 0,
     gates: &[],
     positions: &[],
@@ -42,7 +42,7 @@ type Covered = (&'static str, &'static [(u32, u32)]);
 
 // A circuit, patterns that each split a class, the log without a fault, and others.
 type Case = (
-    Parts<'static>,
+    CircuitParts<'static>,
     &'static [&'static str],
     &'static str,
     &'static [Logged],

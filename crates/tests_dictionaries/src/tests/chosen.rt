@@ -4,7 +4,7 @@ ghost use Rattle.std.specs.Prelude.{◌≡◌, ◌<◌, length, IfOk};
 ghost use Rattle.table_dicts.specs.Rows.{AreRows};
 
 use crate::tests::agreeing::alike;
-use crate::tests::made::{Given, classes_of, table_of};
+use crate::tests::made::{GivenTable, classes_of, table_of};
 use crate::tests::spelled::are_spelled;
 use class_refine::Classes;
 use net_model::AnswerRows;
@@ -15,7 +15,7 @@ use table_dicts::{AnswerTable, apart, pass_fail, project};
 
 // Answers, the class of each number, the chosen baselines, and how many pairs of classes they and the fault-free answers keep
 // apart.
-type Case = (Given, &'static [u32], &'static str, [u64; 2]);
+type Case = (GivenTable, &'static [u32], &'static str, [u64; 2]);
 
 // The chosen baselines, where members of one class have the same answers.
 fn chosen(alloc: Global, table: &AnswerTable, classes: &Classes) -> Result<AnswerRows, Fail>

@@ -13,7 +13,7 @@ use fault_collapse::collapse;
 use fault_list::{FaultList, list};
 use kept_vectors::Keeper;
 use net_model::{Circuit, Vector, Vectors};
-use sample_circuits::{AND_OF_TWO, Parts, SHOWN_TWICE, bits, circuit};
+use sample_circuits::{AND_OF_TWO, CircuitParts, SHOWN_TWICE, bits, circuit};
 use std::alloc::{AllocError, Global};
 use std::test::Fail;
 use table_dicts::{
@@ -158,9 +158,14 @@ fn is_pass_fail(
 }
 
 // A circuit with patterns that each split a class, its full dictionary, and its pass/fail dictionary.
-type Case = (Parts<'static>, &'static [&'static str], Wanted, Wanted);
+type Case = (
+    CircuitParts<'static>,
+    &'static [&'static str],
+    Wanted,
+    Wanted,
+);
 
-const NOTHING: Parts<'static> = Parts {
+const NOTHING: CircuitParts<'static> = CircuitParts {
     sources: 0,
     gates: &[],
     positions: &[],

@@ -10,7 +10,7 @@ use std::test::Fail;
 use table_dicts::AnswerTable;
 
 /// How many numbers and positions there are, and for each pattern the answer of each number, with blanks between.
-pub(crate) type Given = (u32, u32, &'static [&'static str]);
+pub(crate) type GivenTable = (u32, u32, &'static [&'static str]);
 
 /// The table of these answers.
 pub(crate) fn table_of(

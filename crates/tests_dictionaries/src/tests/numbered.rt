@@ -8,7 +8,7 @@ ghost use Rattle.word_sim.specs.declared.lanes.TheConstants.{LANES};
 use answer_numbers::AnswerNumbers;
 use fault_list::{FaultList, list};
 use net_model::{Circuit, Vector};
-use sample_circuits::{AND_OF_TWO, Parts, SHOWN_TWICE, all_below, bits, circuit, text_of};
+use sample_circuits::{AND_OF_TWO, CircuitParts, SHOWN_TWICE, all_below, bits, circuit, text_of};
 use std::alloc::{AllocError, Global};
 use std::fmt::Write;
 use std::test::Fail;
@@ -19,7 +19,7 @@ use word_sim::{Block, LANES};
 type Wanted = (&'static [&'static str], &'static str);
 
 // A circuit, the leads, and blocks one after another.
-type Case = (Parts<'static>, &'static [u32], &'static [Wanted]);
+type Case = (CircuitParts<'static>, &'static [u32], &'static [Wanted]);
 
 const CASES: &[Case] = &[
     // Numbers 4 and 6 show the two positions apart, and differ from the others at the last one alone.

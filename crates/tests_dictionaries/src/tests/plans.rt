@@ -8,25 +8,25 @@ use crate::tests::circuits::kept_of;
 use adaptive_tree::{plan, plan_at, write_plan};
 use fault_list::{FaultList, list};
 use net_model::Circuit;
-use sample_circuits::{AND_OF_TWO, Parts, circuit};
+use sample_circuits::{AND_OF_TWO, CircuitParts, circuit};
 use std::alloc::Global;
 use std::test::Fail;
 use table_dicts::{Setting, answers_at};
 
-const SHOWN_THREE_TIMES: Parts<'static> = Parts {
+const SHOWN_THREE_TIMES: CircuitParts<'static> = CircuitParts {
     sources: 1,
     gates: &[],
     positions: &[0, 0, 0],
 };
 
-const NOTHING: Parts<'static> = Parts {
+const NOTHING: CircuitParts<'static> = CircuitParts {
     sources: 0,
     gates: &[],
     positions: &[],
 };
 
 // A circuit, patterns that each split a class, and the plan.
-type Case = (Parts<'static>, &'static [&'static str], &'static str);
+type Case = (CircuitParts<'static>, &'static [&'static str], &'static str);
 
 const CASES: &[Case] = &[
     (

@@ -13,7 +13,7 @@ use refute_check::RefusalKind::{
     self, EmptyEarly, NoPivot, NoSuchClause, NotEmpty, NotFresh, WrongCount,
 };
 use refute_check::{CheckFault, Clause, EvidenceKind, Refusal, check_log, run_chain};
-use sample_circuits::{NOT_AND_OR, Parts, circuit, stands};
+use sample_circuits::{CircuitParts, NOT_AND_OR, circuit, stands};
 use std::alloc::{AllocError, Global};
 use std::test::Fail;
 
@@ -55,7 +55,7 @@ const OF_OPPOSITES: &[Judged] = &[
 ];
 
 // Line 2 is the NOT of b, lines 3 and 4 the ORs of a with b and with that, and line 5 their AND.
-const AND_OF_ORS: Parts<'static> = Parts {
+const AND_OF_ORS: CircuitParts<'static> = CircuitParts {
     sources: 2,
     gates: &[
         (Kind::Not, &[1]),
@@ -156,7 +156,12 @@ fn is_judged_in(
 }
 
 // The same over the circuit of these parts.
-fn is_judged(alloc: Global, parts: Parts, stuck: Fault, case: &Judged) -> Result<bool, Fail> {
+fn is_judged(
+    alloc: Global,
+    parts: CircuitParts,
+    stuck: Fault,
+    case: &Judged,
+) -> Result<bool, Fail> {
     let circuit = circuit(alloc, parts)?;
     is_judged_in(alloc, &circuit, stuck, case)
 }

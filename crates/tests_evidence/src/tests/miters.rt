@@ -9,7 +9,7 @@ use net_model::Fault::{self, Free, Stuck};
 use net_model::Site::{self, Stem};
 use net_model::{Bits, Circuit, Kind, Vector};
 use pair_miter::{Chain, Log, Miter, build};
-use sample_circuits::{NOT_AND_OR, Parts, circuit, stands};
+use sample_circuits::{CircuitParts, NOT_AND_OR, circuit, stands};
 use std::alloc::{AllocError, Global};
 use std::test::Fail;
 
@@ -17,7 +17,7 @@ use std::test::Fail;
 // copies differ.
 #[derive(Clone, Copy)]
 struct Case {
-    parts: Parts<'static>,
+    parts: CircuitParts<'static>,
     f: Fault,
     g: Fault,
     counts: &'static str,
@@ -26,7 +26,7 @@ struct Case {
 }
 
 // Line 1 is the AND of the source with itself.
-const AND_OF_ONE: Parts<'static> = Parts {
+const AND_OF_ONE: CircuitParts<'static> = CircuitParts {
     sources: 1,
     gates: &[(Kind::And, &[0, 0])],
     positions: &[1],
@@ -46,7 +46,7 @@ const OPPOSITES: Case = Case {
 // at 1.
 const OTHERS: &[Case] = &[
     Case {
-        parts: Parts {
+        parts: CircuitParts {
             sources: 1,
             gates: &[],
             positions: &[],
@@ -66,7 +66,7 @@ const OTHERS: &[Case] = &[
         difference: "-4 2 3 0 -4 -2 -3 0 4 -2 3 0 4 2 -3 0 4 0 ",
     },
     Case {
-        parts: Parts {
+        parts: CircuitParts {
             sources: 3,
             gates: &[(Kind::Mux, &[0, 1, 2])],
             positions: &[3],
@@ -78,7 +78,7 @@ const OTHERS: &[Case] = &[
         difference: "-7 5 6 0 -7 -5 -6 0 7 -5 6 0 7 5 -6 0 7 0 ",
     },
     Case {
-        parts: Parts {
+        parts: CircuitParts {
             sources: 0,
             gates: &[(Kind::Const1, &[]), (Kind::Const0, &[])],
             positions: &[0, 1],

@@ -12,12 +12,12 @@ use net_model::Site::{Pin, Stem};
 use net_model::{Circuit, Kind};
 use pair_miter::{Log, build};
 use refute_check::EvidenceKind;
-use sample_circuits::{NOT_AND_OR, Parts, circuit, stands};
+use sample_circuits::{CircuitParts, NOT_AND_OR, circuit, stands};
 use std::alloc::{AllocError, Global};
 use std::test::Fail;
 
 #[derive(Clone, Copy, PartialEq, Eq)]
-enum Answer {
+enum Ending {
     Vector,
     Refuted,
     Spent,
@@ -61,16 +61,16 @@ fn judged(
     log: &Log,
     kind: EvidenceKind,
     most: u32,
-) -> Result<Answer, AllocError>
+) -> Result<Ending, AllocError>
     requires kind { kind ≢ EvidenceKind.Covered }
     requires few { most < 2 ^ 16 }
     requires fault { IsFaultOf circuit.now stuck }
 {
     let found = checked(alloc, circuit, stuck, log, kind, most)?;
     Ok(match (found.is_ok(), kind) {
-        (false, _) => Answer::Rejected,
-        (true, EvidenceKind::Spent) => Answer::Spent,
-        (true, _) => Answer::Refuted,
+        (false, _) => Ending::Rejected,
+        (true, EvidenceKind::Spent) => Ending::Spent,
+        (true, _) => Ending::Refuted,
     })
 }
 
@@ -80,20 +80,20 @@ fn answer_of(
     circuit: &Circuit,
     stuck: Fault,
     most: u32,
-) -> Result<Answer, AllocError>
+) -> Result<Ending, AllocError>
     requires few { most < 2 ^ 16 }
     requires some { 1 ≤ most }
     requires fault { IsFaultOf circuit.now stuck }
 {
     match solved(alloc, circuit, stuck, most)? {
-        Solved::Vector(_v) => Ok(Answer::Vector),
+        Solved::Vector(_v) => Ok(Ending::Vector),
         Solved::Refuted(log) => judged(alloc, circuit, stuck, &log, EvidenceKind::Refuted, most),
         Solved::Spent(log) => judged(alloc, circuit, stuck, &log, EvidenceKind::Spent, most),
     }
 }
 
 // The parity of four sources, and the opposite parity by twos; line 8 is the XOR of both, which is always 1.
-const PARITIES: Parts<'static> = Parts {
+const PARITIES: CircuitParts<'static> = CircuitParts {
     sources: 4,
     gates: &[
         (Kind::Xor, &[0, 1, 2, 3]),
@@ -106,31 +106,31 @@ const PARITIES: Parts<'static> = Parts {
 };
 
 // The source, which nothing shows.
-const LONE_SOURCE: Parts<'static> = Parts {
+const LONE_SOURCE: CircuitParts<'static> = CircuitParts {
     sources: 1,
     gates: &[],
     positions: &[],
 };
 
 // Line 1 is the AND of the source with itself.
-const AND_OF_ONE: Parts<'static> = Parts {
+const AND_OF_ONE: CircuitParts<'static> = CircuitParts {
     sources: 1,
     gates: &[(Kind::And, &[0, 0])],
     positions: &[1],
 };
 
 // An output that is always 1, a source that nothing shows, a pin beside its own source, and two parities that differ.
-const ANSWERS: &[(Parts<'static>, Fault, u16, Answer)] = &[
-    (NOT_AND_OR, Stuck(Stem(2), true), 64, Answer::Refuted),
-    (NOT_AND_OR, Stuck(Stem(2), true), 1, Answer::Refuted),
-    (NOT_AND_OR, Stuck(Stem(2), false), 64, Answer::Vector),
-    (LONE_SOURCE, Stuck(Stem(0), true), 1, Answer::Refuted),
-    (AND_OF_ONE, Stuck(Pin(1, 0), true), 64, Answer::Refuted),
-    (AND_OF_ONE, Stuck(Pin(1, 0), false), 64, Answer::Vector),
-    (PARITIES, Stuck(Stem(8), true), 1, Answer::Spent),
-    (PARITIES, Stuck(Stem(8), true), 3, Answer::Spent),
-    (PARITIES, Stuck(Stem(8), true), 1000, Answer::Refuted),
-    (PARITIES, Stuck(Stem(8), false), 1000, Answer::Vector),
+const ANSWERS: &[(CircuitParts<'static>, Fault, u16, Ending)] = &[
+    (NOT_AND_OR, Stuck(Stem(2), true), 64, Ending::Refuted),
+    (NOT_AND_OR, Stuck(Stem(2), true), 1, Ending::Refuted),
+    (NOT_AND_OR, Stuck(Stem(2), false), 64, Ending::Vector),
+    (LONE_SOURCE, Stuck(Stem(0), true), 1, Ending::Refuted),
+    (AND_OF_ONE, Stuck(Pin(1, 0), true), 64, Ending::Refuted),
+    (AND_OF_ONE, Stuck(Pin(1, 0), false), 64, Ending::Vector),
+    (PARITIES, Stuck(Stem(8), true), 1, Ending::Spent),
+    (PARITIES, Stuck(Stem(8), true), 3, Ending::Spent),
+    (PARITIES, Stuck(Stem(8), true), 1000, Ending::Refuted),
+    (PARITIES, Stuck(Stem(8), false), 1000, Ending::Vector),
 ];
 
 // The answer for a circuit, where the fault stands in it.
@@ -139,7 +139,7 @@ fn answer_in(
     circuit: &Circuit,
     stuck: Fault,
     conflicts: u16,
-) -> Result<Answer, Fail> {
+) -> Result<Ending, Fail> {
     if conflicts == 0 || !stands(circuit, stuck) {
         return Err(Fail::new("there is no conflict, or the fault doesn't stand"));
     }
@@ -147,7 +147,12 @@ fn answer_in(
 }
 
 // The same for the circuit of these parts.
-fn answer_for(alloc: Global, parts: Parts, stuck: Fault, conflicts: u16) -> Result<Answer, Fail> {
+fn answer_for(
+    alloc: Global,
+    parts: CircuitParts,
+    stuck: Fault,
+    conflicts: u16,
+) -> Result<Ending, Fail> {
     let circuit = circuit(alloc, parts)?;
     answer_in(alloc, &circuit, stuck, conflicts)
 }

@@ -15,7 +15,7 @@ use compact_tests::{Thin, compact};
 use dia_check::check;
 use diag_shelf::{Shelf, SureShelf};
 use net_model::Circuit;
-use sample_circuits::{AND_OF_TWO, NOT_AND_OR, Parts, circuit};
+use sample_circuits::{AND_OF_TWO, CircuitParts, NOT_AND_OR, circuit};
 use std::alloc::{AllocError, Global};
 use std::test::Fail;
 
@@ -63,7 +63,7 @@ fn joined(alloc: Global, parts: &[&str]) -> Result<String, AllocError> {
 
 // A circuit, a valid text in parts, what is left of it, and how many patterns it has fewer.
 type Case = (
-    Parts<'static>,
+    CircuitParts<'static>,
     &'static [&'static str],
     &'static [&'static str],
     u32,
@@ -121,7 +121,7 @@ fn shown_sources(alloc: Global) -> Result<Circuit, Fail> {
     for source in 0..SHOWN {
         positions.push(source)?;
     }
-    let parts = Parts {
+    let parts = CircuitParts {
         sources: SHOWN,
         gates: &[],
         positions: positions.as_slice(),

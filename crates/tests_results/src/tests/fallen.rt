@@ -1,10 +1,10 @@
 //! Results with patterns behind evidence, numbers that evidence names twice, and marks that fell, and what is left of each.
 
 use net_model::Kind;
-use sample_circuits::Parts;
+use sample_circuits::CircuitParts;
 
 /// Line 3 is source 0, and isn't shown. Sources 0 and 2 are.
-pub(crate) const UNSEEN_COPY: Parts<'static> = Parts {
+pub(crate) const UNSEEN_COPY: CircuitParts<'static> = CircuitParts {
     sources: 3,
     gates: &[(Kind::Buff, &[0])],
     positions: &[0, 2],
@@ -33,7 +33,7 @@ pub(crate) const COPY_LEFT: &[&str] = &[
 ];
 
 /// Line 3 is source 2. It is shown, and so is source 1.
-pub(crate) const OR_OF_ONE: Parts<'static> = Parts {
+pub(crate) const OR_OF_ONE: CircuitParts<'static> = CircuitParts {
     sources: 3,
     gates: &[(Kind::Or, &[2])],
     positions: &[3, 1],
@@ -57,7 +57,7 @@ pub(crate) const ONE_LEFT: &[&str] = &[
 ];
 
 /// Line 3 is the OR of two sources, and is shown twice.
-pub(crate) const OR_SHOWN_TWICE: Parts<'static> = Parts {
+pub(crate) const OR_SHOWN_TWICE: CircuitParts<'static> = CircuitParts {
     sources: 3,
     gates: &[(Kind::Or, &[0, 1])],
     positions: &[3, 3],

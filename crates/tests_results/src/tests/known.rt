@@ -3,12 +3,12 @@
 use crate::tests::outcome::is_answered;
 use net_model::Kind;
 use result_file::Summary;
-use sample_circuits::{Parts, circuit};
+use sample_circuits::{CircuitParts, circuit};
 use std::alloc::Global;
 use std::test::Fail;
 
 // The ISCAS-85 circuit c17: the sources 1, 2, 3, 6, 7, the gates 10, 11, 16, 19, 22, 23, and the outputs 22, 23.
-const C17: Parts<'static> = Parts {
+const C17: CircuitParts<'static> = CircuitParts {
     sources: 5,
     gates: &[
         (Kind::Nand, &[0, 2]),

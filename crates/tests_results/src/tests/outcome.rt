@@ -10,7 +10,7 @@ use std::alloc::{AllocError, Global};
 use std::test::Fail;
 
 /// The counts of a valid text, or why it isn't accepted.
-pub(crate) type Outcome = Result<Summary, FileFault>;
+pub(crate) type CheckOutcome = Result<Summary, FileFault>;
 
 // What the check says of a text that is put in a shelf.
 fn checked(
@@ -18,7 +18,7 @@ fn checked(
     circuit: &Circuit,
     shelf: &mut MemoryShelf,
     text: &str,
-) -> Result<Outcome, Fail> {
+) -> Result<CheckOutcome, Fail> {
     shelf.put_file("r", text.as_bytes())?;
     shelf.open_file("r")?;
     match check(alloc, circuit, shelf) {
@@ -28,7 +28,7 @@ fn checked(
 }
 
 // What it says of a text that is read in pieces of so many bytes.
-fn outcome(alloc: Global, circuit: &Circuit, text: &str, chunk: usize) -> Result<Outcome, Fail>
+fn outcome(alloc: Global, circuit: &Circuit, text: &str, chunk: usize) -> Result<CheckOutcome, Fail>
     requires { 0 < chunk }
 {
     let mut shelf = MemoryShelf::new(alloc, chunk, Vec::new(alloc));
@@ -36,7 +36,12 @@ fn outcome(alloc: Global, circuit: &Circuit, text: &str, chunk: usize) -> Result
 }
 
 // Whether it says this, however many bytes are read at once.
-fn is_outcome(alloc: Global, circuit: &Circuit, text: &str, wanted: Outcome) -> Result<bool, Fail> {
+fn is_outcome(
+    alloc: Global,
+    circuit: &Circuit,
+    text: &str,
+    wanted: CheckOutcome,
+) -> Result<bool, Fail> {
     Ok(
         outcome(alloc, circuit, text, 1)? == wanted
             && outcome(alloc, circuit, text, 4096)? == wanted,
@@ -56,7 +61,7 @@ pub(crate) fn is_answered(
     alloc: Global,
     circuit: &Circuit,
     parts: &[&str],
-    wanted: Outcome,
+    wanted: CheckOutcome,
 ) -> Result<bool, Fail> {
     let mut text = String::new(alloc);
     push_parts(&mut text, parts)?;

@@ -10,7 +10,7 @@ use diag_shelf::{MemoryShelf, Shelf};
 use net_model::Circuit;
 use refute_check::{Refusal, RefusalKind};
 use result_file::{ResultFault, ResultKind};
-use sample_circuits::{AND_OF_TWO, NOT_AND_OR, Parts, circuit};
+use sample_circuits::{AND_OF_TWO, CircuitParts, NOT_AND_OR, circuit};
 use std::alloc::Global;
 use std::test::Fail;
 
@@ -39,7 +39,7 @@ fn first_wrong(alloc: Global, circuit: &Circuit, cases: &[Case]) -> Result<Optio
     Ok(None)
 }
 
-fn wrong_in(alloc: Global, parts: Parts, cases: &[Case]) -> Result<Option<usize>, Fail> {
+fn wrong_in(alloc: Global, parts: CircuitParts, cases: &[Case]) -> Result<Option<usize>, Fail> {
     let circuit = circuit(alloc, parts)?;
     first_wrong(alloc, &circuit, cases)
 }

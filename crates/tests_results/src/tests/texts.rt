@@ -1,6 +1,6 @@
 //! Results in parts: the head and the patterns, the evidence, the classes, and the numbers with the end.
 
-use sample_circuits::Parts;
+use sample_circuits::CircuitParts;
 
 /// Of z = AND(a, b).
 pub(crate) const AND_HEAD: &str =
@@ -35,7 +35,7 @@ pub(crate) const OPEN_MEMBERS: &str =
     "member 0 0 rep\nmember 1 0 open\nmember 2 0 open\nmember 3 0 open\nmember 4 1 rep\nmember 5 2 rep\nmember 6 0 open\nmember 7 1 equal\nmember 8 0 open\nmember 9 3 rep\nmember 10 0 open\nend\n";
 
 /// A source that nothing reads.
-pub(crate) const LONE: Parts<'static> = Parts {
+pub(crate) const LONE: CircuitParts<'static> = CircuitParts {
     sources: 1,
     gates: &[],
     positions: &[],

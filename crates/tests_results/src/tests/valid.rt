@@ -7,7 +7,7 @@ use crate::tests::texts::{
 };
 use net_model::Circuit;
 use result_file::Summary;
-use sample_circuits::{AND_OF_TWO, NOT_AND_OR, Parts, circuit};
+use sample_circuits::{AND_OF_TWO, CircuitParts, NOT_AND_OR, circuit};
 use std::alloc::Global;
 use std::test::Fail;
 
@@ -43,7 +43,7 @@ fn first_wrong(
 
 fn wrong_in(
     alloc: Global,
-    parts: Parts,
+    parts: CircuitParts,
     numbers: u32,
     cases: &[Case],
 ) -> Result<Option<usize>, Fail> {

@@ -1,6 +1,6 @@
 //! Runs of `adapt`.
 
-use crate::tests::runs::Text::{self, Absent, Any, Is};
+use crate::tests::runs::FileText::{self, Absent, Any, Is};
 use crate::tests::runs::{Case, File, all_leave};
 use crate::tests::texts::{AND, AND_PLAN, AND_RESULT, THRICE, THRICE_PLAN, THRICE_RESULT, TRUTH};
 use std::test::Fail;
@@ -13,9 +13,9 @@ const OVER_THE_RESULT: &[&str] = &["adapt", "n", "r", "r"];
 
 const OVER_THE_NETLIST: &[&str] = &["adapt", "n", "r", "n"];
 
-const AND_COUNTS: Text = Is(b"classes 5 asks 4 depth 3\n");
+const AND_COUNTS: FileText = Is(b"classes 5 asks 4 depth 3\n");
 
-const THRICE_COUNTS: Text = Is(b"classes 9 asks 2 depth 2\n");
+const THRICE_COUNTS: FileText = Is(b"classes 9 asks 2 depth 2\n");
 
 const EMPTY_RESULT: &[u8] =
     b"diatest 1 0 0 1\nbudget 4 64 2000\nclass 0 - -\nmember 0 0 rep\nend\n";
@@ -48,7 +48,7 @@ fn results_that_are_adapted(rt: HostRuntime) -> Result<(), Fail> {
     all_leave(&rt, rt.alloc(), 7, &ADAPTED)
 }
 
-const UNDRIVEN: Text = Is(b"netlist: Undriven at byte 6, line 1\n");
+const UNDRIVEN: FileText = Is(b"netlist: Undriven at byte 6, line 1\n");
 
 static NOT_ADAPTED: [Case; 6] = [
     (

@@ -1,6 +1,6 @@
 //! Runs over a shelf of which each call fails in turn.
 
-use crate::tests::runs::Text::{Absent, Any, Is};
+use crate::tests::runs::FileText::{Absent, Any, Is};
 use crate::tests::runs::{File, Left, left_by};
 use crate::tests::texts::{
     AND, AND_PLAN, AND_RESULT, LOG, ONE, PARTIAL_LOG, TRUTH, TRUTH_FULL, TRUTH_RESULT,

@@ -1,6 +1,6 @@
 //! Runs of `check`.
 
-use crate::tests::runs::Text::{Absent, Is};
+use crate::tests::runs::FileText::{Absent, Is};
 use crate::tests::runs::{Case, all_leave, joined, left_by};
 use crate::tests::texts::TRUTH;
 use std::alloc::{AllocError, Global};

@@ -1,6 +1,6 @@
 //! Runs of `compact`.
 
-use crate::tests::runs::Text::{self, Absent, Any, Begins, Ends, Is};
+use crate::tests::runs::FileText::{self, Absent, Any, Begins, Ends, Is};
 use crate::tests::runs::{Case, File, Left, all_leave, left_by};
 use crate::tests::texts::{AND, AND_COMPACTED, AND_RESULT, C17, S27, TRUTH, TRUTH_RESULT};
 use std::alloc::{AllocError, Global};
@@ -18,11 +18,11 @@ const TO_ITSELF: &[&str] = &["compact", "n", "r", "r"];
 
 const OVER_THE_NETLIST: &[&str] = &["compact", "n", "r", "n"];
 
-const ONE_DROPPED: Text = Is(b"numbers 7 patterns 3 classes 5 equal 2 open 0 dropped 1\n");
+const ONE_DROPPED: FileText = Is(b"numbers 7 patterns 3 classes 5 equal 2 open 0 dropped 1\n");
 
-const NONE_DROPPED: Text = Is(b"numbers 7 patterns 3 classes 5 equal 2 open 0 dropped 0\n");
+const NONE_DROPPED: FileText = Is(b"numbers 7 patterns 3 classes 5 equal 2 open 0 dropped 0\n");
 
-const TRUTH_KEPT: Text = Is(b"numbers 11 patterns 2 classes 4 equal 7 open 0 dropped 0\n");
+const TRUTH_KEPT: FileText = Is(b"numbers 11 patterns 2 classes 4 equal 7 open 0 dropped 0\n");
 
 // The new file may have a name of its own, or that of the result or of the netlist. All that is left of a result is needed.
 static COMPACTED: [Case; 6] = [
@@ -51,7 +51,7 @@ fn results_that_are_compacted(rt: HostRuntime) -> Result<(), Fail> {
     all_leave(&rt, rt.alloc(), 7, &COMPACTED)
 }
 
-const UNDRIVEN: Text = Is(b"netlist: Undriven at byte 6, line 1\n");
+const UNDRIVEN: FileText = Is(b"netlist: Undriven at byte 6, line 1\n");
 
 static NOT_COMPACTED: [Case; 6] = [
     (
@@ -104,7 +104,7 @@ fn left_of(
 }
 
 // Whether a generated result is compacted with this said of it, to one that `check` accepts and of which all is needed.
-fn stays_compacted(alloc: Global, netlist: &[u8], said: Text) -> Result<bool, Fail> {
+fn stays_compacted(alloc: Global, netlist: &[u8], said: FileText) -> Result<bool, Fail> {
     let made = left_by(alloc, 4096, &[], &[("n", netlist)], &["gen", "n", "r"])?;
     let whole = made.copy_of(alloc, "r")?;
     let once = left_of(alloc, TO_ITSELF, netlist, &whole)?;
@@ -119,11 +119,11 @@ fn stays_compacted(alloc: Global, netlist: &[u8], said: Text) -> Result<bool, Fa
     )
 }
 
-const OF_C17: Text = Is(b"numbers 35 patterns 7 classes 23 equal 12 open 0 dropped 4\n");
+const OF_C17: FileText = Is(b"numbers 35 patterns 7 classes 23 equal 12 open 0 dropped 4\n");
 
-const OF_S27: Text = Is(b"numbers 53 patterns 8 classes 31 equal 22 open 0 dropped 6\n");
+const OF_S27: FileText = Is(b"numbers 53 patterns 8 classes 31 equal 22 open 0 dropped 6\n");
 
-static GENERATED: [(&[u8], Text); 2] = [(C17, OF_C17), (S27, OF_S27)];
+static GENERATED: [(&[u8], FileText); 2] = [(C17, OF_C17), (S27, OF_S27)];
 
 #[test]
 fn compacted_results_are_valid_and_stay(rt: HostRuntime) -> Result<(), Fail> {

@@ -1,7 +1,7 @@
 //! Runs over files that are cut to each shorter length.
 
 use crate::tests::dictionaries::{is_diagnosed, is_refused};
-use crate::tests::runs::Text::{Absent, Is};
+use crate::tests::runs::FileText::{Absent, Is};
 use crate::tests::runs::plain;
 use crate::tests::texts::{
     AND_PLAN, AND_TWICE_CHOSEN, FULL_ONE, FULL_TWO, LOG, ONE, SAME_DIFF, TRUTH, TRUTH_FULL,

@@ -1,6 +1,6 @@
 //! Runs of `dict`, `convert` and `diagnose`.
 
-use crate::tests::runs::Text::{self, Absent, Any, Is};
+use crate::tests::runs::FileText::{self, Absent, Any, Is};
 use crate::tests::runs::{Case, File, all_leave, plain};
 use crate::tests::texts::{
     AND, AND_RESULT, AND_TWICE, AND_TWICE_CHOSEN, AND_TWICE_RESULT, FULL_ONE, FULL_TWO, LOG, ONE,
@@ -15,15 +15,15 @@ const OF_TWICE: &[File] = &[("n", TWICE), ("r", TWICE_RESULT)];
 
 const OF_AND_TWICE: &[File] = &[("n", AND_TWICE), ("r", AND_TWICE_RESULT)];
 
-const TEN_PAIRS: Text = Is(b"numbers 7 patterns 4 classes 5 apart 10\n");
+const TEN_PAIRS: FileText = Is(b"numbers 7 patterns 4 classes 5 apart 10\n");
 
-const FIFTEEN: Text = Is(b"numbers 7 patterns 2 classes 7 apart 15\n");
+const FIFTEEN: FileText = Is(b"numbers 7 patterns 2 classes 7 apart 15\n");
 
-const TWENTY_ONE: Text = Is(b"numbers 7 patterns 2 classes 7 apart 21\n");
+const TWENTY_ONE: FileText = Is(b"numbers 7 patterns 2 classes 7 apart 21\n");
 
-const THIRTY: Text = Is(b"numbers 11 patterns 4 classes 9 apart 30\n");
+const THIRTY: FileText = Is(b"numbers 11 patterns 4 classes 9 apart 30\n");
 
-const THIRTY_TWO: Text = Is(b"numbers 11 patterns 4 classes 9 apart 32\n");
+const THIRTY_TWO: FileText = Is(b"numbers 11 patterns 4 classes 9 apart 32\n");
 
 const PASS_FAIL: &[&str] = &["dict", "passfail", "n", "r", "d"];
 
@@ -53,9 +53,9 @@ fn dictionaries_that_are_made(rt: HostRuntime) -> Result<(), Fail> {
     all_leave(&rt, rt.alloc(), 7, &MADE)
 }
 
-const UNDRIVEN: Text = Is(b"netlist: Undriven at byte 6, line 1\n");
+const UNDRIVEN: FileText = Is(b"netlist: Undriven at byte 6, line 1\n");
 
-const SYNTAX: Text = Is(b"result: Syntax at line 1\n");
+const SYNTAX: FileText = Is(b"result: Syntax at line 1\n");
 
 static NOT_MADE: [Case; 4] = [
     (
@@ -76,7 +76,7 @@ fn dictionaries_that_are_not_made(rt: HostRuntime) -> Result<(), Fail> {
     all_leave(&rt, rt.alloc(), 7, &NOT_MADE)
 }
 
-const COUNTS: Text = Is(b"numbers 7 patterns 4 groups 5\n");
+const COUNTS: FileText = Is(b"numbers 7 patterns 4 groups 5\n");
 
 const TO_ANOTHER: &[&str] = &["convert", "o", "d"];
 

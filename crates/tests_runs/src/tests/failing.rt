@@ -1,6 +1,6 @@
 //! Runs over a shelf of which one call fails.
 
-use crate::tests::runs::Text::{self, Absent, Any, Is, Part};
+use crate::tests::runs::FileText::{self, Absent, Any, Is, Part};
 use crate::tests::runs::{Case, all_leave, left_by};
 use crate::tests::texts::{AND, AND_COMPACTED, AND_RESULT, LOG, ONE, TWO};
 use std::alloc::Global;
@@ -8,7 +8,7 @@ use std::process::Abort;
 use std::test::Fail;
 
 // A call fails: its number, the status, and the output.
-type Failing = (u64, u8, Text<'static>);
+type Failing = (u64, u8, FileText<'static>);
 
 // Each of these calls fails in a run that moves so many bytes at a time, and prints last.
 fn each_fails(

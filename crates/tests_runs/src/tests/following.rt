@@ -1,6 +1,6 @@
 //! Runs of `follow`.
 
-use crate::tests::runs::Text::{Absent, Is};
+use crate::tests::runs::FileText::{Absent, Is};
 use crate::tests::runs::{Case, all_leave, plain};
 use crate::tests::texts::{AND_PLAN, AND_RESULT, THRICE_PLAN};
 use std::alloc::{AllocError, Global};

@@ -1,6 +1,6 @@
 //! Runs of `gen`.
 
-use crate::tests::runs::Text::{Any, Begins, Ends, Is};
+use crate::tests::runs::FileText::{Any, Begins, Ends, Is};
 use crate::tests::runs::{Case, Left, all_leave, has, is_accepted, left_by, plain};
 use crate::tests::texts::{AND, AND_RESULT, C17, PARITY, S27, TRUTH, TRUTH_RESULT};
 use std::alloc::{AllocError, Global};

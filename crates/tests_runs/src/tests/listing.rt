@@ -1,12 +1,12 @@
 //! Runs of `faults`.
 
-use crate::tests::runs::Text::{self, Has, Is};
+use crate::tests::runs::FileText::{self, Has, Is};
 use crate::tests::runs::left_by;
 use crate::tests::texts::{AND, C17, S27};
 use std::test::Fail;
 
 // A netlist, and what is printed.
-static LISTED: [(&[u8], Text<'static>); 6] = [
+static LISTED: [(&[u8], FileText<'static>); 6] = [
     (
         AND,
         Is(

@@ -1,6 +1,6 @@
 //! Netlists that are refused, and the longest.
 
-use crate::tests::runs::Text::{self, Absent, Any, Is};
+use crate::tests::runs::FileText::{self, Absent, Any, Is};
 use crate::tests::runs::{joined, left_by, plain};
 use std::alloc::{AllocError, Global};
 use std::test::Fail;
@@ -11,7 +11,7 @@ fn generates(
     netlist: &[u8],
     status: u8,
     console: &str,
-    output: Text,
+    output: FileText,
 ) -> Result<bool, AllocError> {
     let left = left_by(alloc, 65_536, &[], &[("n", netlist)], &["gen", "n", "r"])?;
     Ok(left.ended(status, Is(console.as_bytes())) && left.holds("r", output))

@@ -1,13 +1,13 @@
 //! Runs of `rank`.
 
-use crate::tests::runs::Text::{Absent, Is};
+use crate::tests::runs::FileText::{Absent, Is};
 use crate::tests::runs::{Case, all_leave, plain};
 use crate::tests::texts::{FULL_ONE, FULL_TWO, LOG, ONE, PARTIAL_LOG, SAME_DIFF, TWO};
 use std::alloc::{AllocError, Global};
 use std::test::Fail;
 
 // A log, the words, the status, and what is printed.
-type Ranking = (&'static [u8], &'static [&'static str], u8, &'static [u8]);
+type RankingCase = (&'static [u8], &'static [&'static str], u8, &'static [u8]);
 
 const RANK: &[&str] = &["rank", "d", "l"];
 
@@ -23,7 +23,7 @@ const SECOND: &[u8] = b"1 1\n3 1\n4 1\n5 1\n0 2\nlisted 5 least 1\n";
 const EACH: &[u8] = b"1 1\n3 1\n4 1\n5 1\n0 2\n2 3\n6 3\nlisted 7 least 1\n";
 
 // Logs that are ranked, among them a whole one and two of which nothing was observed, and logs that are refused.
-static RANKED: [Ranking; 12] = [
+static RANKED: [RankingCase; 12] = [
     (PARTIAL_LOG, RANK, 0, b"4 0\n6 0\nlisted 2 least 0\n"),
     (NEAR, RANK, 0, NEAREST),
     (NEAR, &["rank", "d", "l", "--within=0"], 0, NEAREST),
@@ -39,7 +39,7 @@ static RANKED: [Ranking; 12] = [
 ];
 
 // Whether a log is so ranked by each dictionary of the AND.
-fn is_ranked(alloc: Global, case: &Ranking) -> Result<bool, AllocError> {
+fn is_ranked(alloc: Global, case: &RankingCase) -> Result<bool, AllocError> {
     let (log, words, status, console) = *case;
     for dict in [ONE, TWO, FULL_ONE, FULL_TWO, SAME_DIFF] {
         let left = plain(alloc, &[("d", dict), ("l", log)], words)?;

@@ -9,7 +9,7 @@ use std::test::Fail;
 /// What a file holds, or what is printed: no file; whatever there is; just this; so many bytes from the front of this; or this
 /// at the front, at the end or anywhere.
 #[derive(Clone, Copy)]
-pub(crate) enum Text<'a> {
+pub(crate) enum FileText<'a> {
     Absent,
     Any,
     Is(&'a [u8]),
@@ -24,15 +24,15 @@ pub(crate) fn has(text: &[u8], part: &[u8]) -> bool {
     text.windows(part.len().max(1)).any(|window| window == part)
 }
 
-fn is_like(text: &[u8], wanted: Text) -> bool {
+fn is_like(text: &[u8], wanted: FileText) -> bool {
     match wanted {
-        Text::Absent => false,
-        Text::Any => true,
-        Text::Is(all) => text == all,
-        Text::Part(all, length) => text.len() == length && all.starts_with(text),
-        Text::Begins(start) => text.starts_with(start),
-        Text::Ends(end) => text.ends_with(end),
-        Text::Has(part) => has(text, part),
+        FileText::Absent => false,
+        FileText::Any => true,
+        FileText::Is(all) => text == all,
+        FileText::Part(all, length) => text.len() == length && all.starts_with(text),
+        FileText::Begins(start) => text.starts_with(start),
+        FileText::Ends(end) => text.ends_with(end),
+        FileText::Has(part) => has(text, part),
     }
 }
 
@@ -54,23 +54,23 @@ impl Drop for Left {
 
 impl Left {
     /// Whether the run ended with this status and printed this.
-    pub(crate) fn ended(&self, status: u8, console: Text) -> bool {
+    pub(crate) fn ended(&self, status: u8, console: FileText) -> bool {
         self.status == status && is_like(self.shelf.console(), console)
     }
 
     /// Whether the file under a name is like this.
-    pub(crate) fn holds(&self, name: &str, wanted: Text) -> bool {
+    pub(crate) fn holds(&self, name: &str, wanted: FileText) -> bool {
         match self.shelf.file(name) {
             Some(bytes) => is_like(bytes, wanted),
-            None => matches!(wanted, Text::Absent),
+            None => matches!(wanted, FileText::Absent),
         }
     }
 
     /// Whether the file under a name is as the other run left it.
     pub(crate) fn holds_same(&self, other: &Left, name: &str) -> bool {
         match other.shelf.file(name) {
-            Some(bytes) => self.holds(name, Text::Is(bytes)),
-            None => self.holds(name, Text::Absent),
+            Some(bytes) => self.holds(name, FileText::Is(bytes)),
+            None => self.holds(name, FileText::Absent),
         }
     }
 
@@ -144,8 +144,8 @@ pub(crate) type Case = (
     &'static [File],
     &'static [&'static str],
     u8,
-    Text<'static>,
-    (&'static str, Text<'static>),
+    FileText<'static>,
+    (&'static str, FileText<'static>),
 );
 
 // Whether a run over a shelf that moves so many bytes at a time leaves what is wanted.
@@ -174,7 +174,10 @@ pub(crate) fn is_accepted(alloc: Global, left: &Left) -> Result<bool, Fail> {
     let file = left.copy_of(alloc, "r")?;
     let files = [("n", netlist.as_slice()), ("r", file.as_slice())];
     let again = left_by(alloc, 4096, &[], &files, &["check", "n", "r"])?;
-    Ok(again.ended(0, Text::Begins(b"valid ")) && again.ended(0, Text::Ends(left.console())))
+    Ok(
+        again.ended(0, FileText::Begins(b"valid "))
+            && again.ended(0, FileText::Ends(left.console())),
+    )
 }
 
 pub(crate) fn joined(alloc: Global, pieces: &[&[u8]]) -> Result<Vec<u8>, AllocError> {

@@ -1,6 +1,6 @@
 //! Runs of `sim`.
 
-use crate::tests::runs::Text::Is;
+use crate::tests::runs::FileText::Is;
 use crate::tests::runs::{left_by, plain};
 use crate::tests::texts::{AND, TWICE};
 use std::alloc::{AllocError, Global};

@@ -1,6 +1,6 @@
 //! Runs of `synth`.
 
-use crate::tests::runs::Text::{Absent, Any, Begins, Is};
+use crate::tests::runs::FileText::{Absent, Any, Begins, Is};
 use crate::tests::runs::{Left, is_accepted, plain};
 use std::alloc::{AllocError, Global};
 use std::test::Fail;

@@ -1,6 +1,6 @@
 //! Words that are taken, and words that aren't.
 
-use crate::tests::runs::Text::{Absent, Any, Has, Is};
+use crate::tests::runs::FileText::{Absent, Any, Has, Is};
 use crate::tests::runs::plain;
 use std::alloc::{AllocError, Global};
 use std::test::Fail;

@@ -8,7 +8,7 @@ use net_model::{Circuit, Kind};
 use pair_sets::PairState::{AllSame, Apart, Undecided};
 use pair_sets::{PairSim, PairState, Token, Tree};
 use sample_circuits::{
-    BETWEEN_CONSTANTS, BUFFER, NOT_AND_OR, Parts, SAME_DATA, SHOWN_TWICE, WITH_CONSTANT,
+    BETWEEN_CONSTANTS, BUFFER, CircuitParts, NOT_AND_OR, SAME_DATA, SHOWN_TWICE, WITH_CONSTANT,
     XOR_OF_ONE, circuit, stands,
 };
 use std::alloc::Global;
@@ -19,7 +19,7 @@ const OPEN: PairState = Undecided;
 const SAME: PairState = AllSame;
 
 // A circuit, two faults of it, and the states of the cube of all vectors, of source 0 at 0, and of source 0 at 1.
-type Cubes = (Parts<'static>, Fault, Fault, [PairState; 3]);
+type Cubes = (CircuitParts<'static>, Fault, Fault, [PairState; 3]);
 
 // Two pins that read one line choose by themselves, those of an XOR and the data pins of a multiplexer.
 const CUBES: &[Cubes] = &[
@@ -103,7 +103,7 @@ fn states_of_cubes(rt: HostRuntime) -> Result<(), Fail> {
 
 // Line 3 is the AND of sources 0 and 1, line 4 the OR of it and source 2, line 5 the NOT of that, line 6 the constant 1,
 // and line 7 the AND of lines 5 and 6. Lines 3, 4 and 7 and source 0 are shown.
-const CHAIN: Parts<'static> = Parts {
+const CHAIN: CircuitParts<'static> = CircuitParts {
     sources: 3,
     gates: &[
         (Kind::And, &[0, 1]),

@@ -7,14 +7,14 @@ use crate::tests::injected::{ALL, CHOICE, NONE, PARITY, counted_vectors, four_ve
 use fault_heads::Head::{self, Line, Position};
 use fault_sim::FaultSim;
 use net_model::{Circuit, Kind};
-use sample_circuits::{Parts, circuit};
+use sample_circuits::{CircuitParts, circuit};
 use std::alloc::{AllocError, Global};
 use std::test::Fail;
 use word_sim::{Block, GoodSim, Lanes};
 
 // The sources 0 and 1; 2 is the XOR of source 0 and itself, 3 the AND of source 0 twice and source 1, and 4 the OR of both.
 // The XOR is shown first, then the AND and then the OR.
-const TWICE: Parts<'static> = Parts {
+const TWICE: CircuitParts<'static> = CircuitParts {
     sources: 2,
     gates: &[
         (Kind::Xor, &[0, 0]),
@@ -103,7 +103,7 @@ fn first_wrong_at(
 // The same for the circuit of these parts.
 fn first_wrong_in(
     alloc: Global,
-    parts: Parts,
+    parts: CircuitParts,
     block: &Block,
     cases: &[Case],
 ) -> Result<Option<usize>, Fail>

@@ -6,14 +6,14 @@ use fault_sim::FaultSim;
 use net_model::Fault::{self, Free, Stuck};
 use net_model::Site::{Pin, Position, Stem};
 use net_model::{Bits, Circuit, Kind};
-use sample_circuits::{Parts, circuit, stands, stem};
+use sample_circuits::{CircuitParts, circuit, stands, stem};
 use std::alloc::{AllocError, Global};
 use std::test::Fail;
 use word_sim::{Block, GoodSim, LANES, Stream};
 
 // The sources 0 and 1; 2 is the XOR of 3 and 4, which are the AND and the OR of the sources.
 // The AND is shown first, then the OR and then the XOR.
-pub(super) const PARITY: Parts<'static> = Parts {
+pub(super) const PARITY: CircuitParts<'static> = CircuitParts {
     sources: 2,
     gates: &[
         (Kind::Xor, &[3, 4]),
@@ -25,7 +25,7 @@ pub(super) const PARITY: Parts<'static> = Parts {
 
 // The sources s, a and b; 3 is the constant 1, 4 is b where s is 1 and else a, and 5 is the XOR of the constant and of that.
 // Shown are s, the chosen bit and the XOR.
-pub(super) const CHOICE: Parts<'static> = Parts {
+pub(super) const CHOICE: CircuitParts<'static> = CircuitParts {
     sources: 3,
     gates: &[
         (Kind::Const1, &[]),
@@ -93,7 +93,7 @@ fn first_wrong_at(
 // The same for the circuit of these parts.
 fn first_wrong_in(
     alloc: Global,
-    parts: Parts,
+    parts: CircuitParts,
     block: &Block,
     cases: &[Case],
 ) -> Result<Option<Fault>, Fail>

@@ -8,7 +8,7 @@ use net_model::{Bits, Circuit, Kind};
 use rand_core::SeedableRng;
 use rand_core::utils::NextWord;
 use rand_xoshiro::SplitMix64;
-use sample_circuits::{Parts, circuit};
+use sample_circuits::{CircuitParts, circuit};
 use std::alloc::{AllocError, Global};
 use std::test::Fail;
 use word_sim::{Block, GoodSim, LANES, Stream};
@@ -280,7 +280,7 @@ fn gate_shows(
     requires sources { block.now.sources ≡ 3 }
     requires lanes { 8 ≤ length block.now.vectors }
 {
-    let parts = Parts {
+    let parts = CircuitParts {
         sources: 3,
         gates: &[gate],
         positions: &[],
@@ -329,7 +329,7 @@ fn gates_of_each_kind(rt: HostRuntime) -> Result<(), Fail> {
 }
 
 // A NOT of the NAND that stands behind it, over two sources.
-const NOT_FIRST: Parts<'static> = Parts {
+const NOT_FIRST: CircuitParts<'static> = CircuitParts {
     sources: 2,
     gates: &[(Kind::Not, &[3]), (Kind::Nand, &[0, 1])],
     positions: &[],

@@ -6,7 +6,9 @@ ghost use Rattle.net_model.specs.Fault.{IsFaultOf};
 use distinguish_search::{Found, Levels, search};
 use net_model::{Circuit, Fault, Kind};
 use pair_sets::{PairSim, Token, Tree};
-use sample_circuits::{BETWEEN_CONSTANTS, NOT_AND_OR, Parts, SAME_DATA, circuit, stands, stem};
+use sample_circuits::{
+    BETWEEN_CONSTANTS, CircuitParts, NOT_AND_OR, SAME_DATA, circuit, stands, stem,
+};
 use std::alloc::Global;
 use std::test::Fail;
 
@@ -73,7 +75,7 @@ fn found_alone(alloc: Global, circuit: &Circuit, asked: Asked) -> Result<Shape, 
 }
 
 // The parity of nine sources, and the opposite parity by threes; line 14 is the XOR of both, which is always 1, and is shown.
-const PARITIES: Parts<'static> = Parts {
+const PARITIES: CircuitParts<'static> = CircuitParts {
     sources: 9,
     gates: &[
         (Kind::Xor, &[0, 1, 2, 3, 4, 5, 6, 7, 8]),
@@ -87,13 +89,13 @@ const PARITIES: Parts<'static> = Parts {
 };
 
 // The constant 1 alone, which is shown.
-const CONSTANT: Parts<'static> = Parts {
+const CONSTANT: CircuitParts<'static> = CircuitParts {
     sources: 0,
     gates: &[(Kind::Const1, &[])],
     positions: &[0],
 };
 
-const SHAPES: &[(Parts<'static>, Asked, Shape)] = &[
+const SHAPES: &[(CircuitParts<'static>, Asked, Shape)] = &[
     (NOT_AND_OR, (0, false, 64), Shape::Covered(2, 0)),
     (NOT_AND_OR, (0, false, 2), Shape::Covered(2, 0)),
     (NOT_AND_OR, (0, false, 1), Shape::Spent(1, 1)),
@@ -109,7 +111,7 @@ const SHAPES: &[(Parts<'static>, Asked, Shape)] = &[
 ];
 
 // The shape of what is found in the circuit of these parts.
-fn found_in(alloc: Global, parts: Parts, asked: Asked) -> Result<Shape, Fail> {
+fn found_in(alloc: Global, parts: CircuitParts, asked: Asked) -> Result<Shape, Fail> {
     let circuit = circuit(alloc, parts)?;
     found_alone(alloc, &circuit, asked)
 }

@@ -7,13 +7,13 @@ use fault_heads::{Head, Heads, Turn, first_turn};
 use net_model::Fault::{self, Free, Stuck};
 use net_model::Kind;
 use net_model::Site::{Pin, Position, Stem};
-use sample_circuits::{Parts, circuit, stands};
+use sample_circuits::{CircuitParts, circuit, stands};
 use std::alloc::{AllocError, Global};
 use std::test::Fail;
 use word_sim::{Block, GoodSim, Stream};
 
 // The sources a, b and c; 3 is the NAND of a and b, 4 the OR of that and of c, and 5 the inverse of c. The OR is shown, and then the inverse.
-const BRANCHED: Parts<'static> = Parts {
+const BRANCHED: CircuitParts<'static> = CircuitParts {
     sources: 3,
     gates: &[
         (Kind::Nand, &[0, 1]),
@@ -25,7 +25,7 @@ const BRANCHED: Parts<'static> = Parts {
 
 // The sources s, a and b; 3 is the constant 1, 4 is b where s is 1 and else a, and 5 is the XOR of the constant and of that.
 // Shown are s, the chosen bit and the XOR.
-const CHOICE: Parts<'static> = Parts {
+const CHOICE: CircuitParts<'static> = CircuitParts {
     sources: 3,
     gates: &[
         (Kind::Const1, &[]),
@@ -36,7 +36,7 @@ const CHOICE: Parts<'static> = Parts {
 };
 
 // The sources a, b and c, of which no gate reads c; 3 is the AND of a, a and b, and 4 its inverse, which is shown.
-const TWICE: Parts<'static> = Parts {
+const TWICE: CircuitParts<'static> = CircuitParts {
     sources: 3,
     gates: &[(Kind::And, &[0, 0, 1]), (Kind::Not, &[3])],
     positions: &[4],
@@ -59,7 +59,7 @@ fn counted_vectors(alloc: Global) -> Result<Block, AllocError>
 }
 
 // The first fault of these cases that turns another head, or in other lanes.
-fn first_wrong(alloc: Global, parts: Parts, cases: &[Case]) -> Result<Option<Fault>, Fail>
+fn first_wrong(alloc: Global, parts: CircuitParts, cases: &[Case]) -> Result<Option<Fault>, Fail>
     requires { parts.sources ≡ 3 }
 {
     let circuit = circuit(alloc, parts)?;

@@ -18,11 +18,11 @@ ask_class-requires-clause-units c =
     let class = c.loop-class.class in
     let roots = c.loop-class.self.units.roots.now in
     rw c.members.ensures (λ n has.
-        let is = All-contains (λ m. (m < length t.class_of) × (class_at t m ≡ class)) (members t class) n (members-All t class) has in
-        let root = get_or roots n 0 in
-        let below : root < length t.class_of = omega (arith, c.loop-class.invariant.of.roots.within n 0 (omega (arith, is.0, c.requires.numbers, c.loop-class.invariant.of.roots.whole)), c.requires.numbers) in
-        let together : class_at t root ≡ class_at t n = subst (λ (rs : List ℕ). class_at t (get_or rs n 0) ≡ class_at t n) (sym c.loop-class.invariant.units) (c.requires.together n is.0) in
-        subst (λ (k : ℕ). Contains (members t k) root) (together ∙ is.1) (members-contains t root below))
+    let is = All-contains (λ m. (m < length t.class_of) × (class_at t m ≡ class)) (members t class) n (members-All t class) has in
+    let root = get_or roots n 0 in
+    let below : root < length t.class_of = omega (arith, c.loop-class.invariant.of.roots.within n 0 (omega (arith, is.0, c.requires.numbers, c.loop-class.invariant.of.roots.whole)), c.requires.numbers) in
+    let together : class_at t root ≡ class_at t n = subst (λ (rs : List ℕ). class_at t (get_or rs n 0) ≡ class_at t n) (sym c.loop-class.invariant.units) (c.requires.together n is.0) in
+    subst (λ (k : ℕ). Contains (members t k) root) (together ∙ is.1) (members-contains t root below))
 
 pub loop-class-preserved : goal.loop-class-preserved
 loop-class-preserved c =

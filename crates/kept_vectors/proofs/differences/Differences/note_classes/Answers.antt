@@ -18,9 +18,9 @@ returns-clause-asked c =
     (λ places.
     let noted : (n : ℕ) → IsUnitAsked good asked n → IsNumberNoted good (noted_by new) n =
     λ n one.
-        number_noted good run.circuit run.few run.widths needs (noted_by new) c.show_heads.ensures.of.lines (λ place h. places place (omega (arith, h, c.ask_classes.ensures.of.needs))) c.show_heads.ensures.of.roots n
-        (subst (λ (rs : List ℕ). n < length rs) (sym roots) one.0)
-        (subst (λ (rs : List ℕ). IsNumberAsked good needs new.turns.items (get_or rs n 0)) (sym roots) (subst (λ (ts : List (Option Turn)). IsNumberAsked good needs ts (get_or asked.units.roots.now n 0)) (sym c.show_heads.ensures.turns) one.1)) in
+    number_noted good run.circuit run.few run.widths needs (noted_by new) c.show_heads.ensures.of.lines (λ place h. places place (omega (arith, h, c.ask_classes.ensures.of.needs))) c.show_heads.ensures.of.roots n
+    (subst (λ (rs : List ℕ). n < length rs) (sym roots) one.0)
+    (subst (λ (rs : List ℕ). IsNumberAsked good needs new.turns.items (get_or rs n 0)) (sym roots) (subst (λ (ts : List (Option Turn)). IsNumberAsked good needs ts (get_or asked.units.roots.now n 0)) (sym c.show_heads.ensures.turns) one.1)) in
     subst (λ (rs : List ℕ). AreKnown good rs (IsNumberNoted good (noted_by new)) c.args.classes.now new.numbers.items) (sym roots)
     (subst (AreKnown good asked.units.roots.now (IsNumberNoted good (noted_by new)) c.args.classes.now) (sym c.show_heads.ensures.numbers) (known_as noted c.in_ok-ask_classes.ensures.asked)))
     c.show_heads.ensures.places

@@ -11,8 +11,7 @@ pub loop-unit-preserved : goal.loop-unit-preserved
 loop-unit-preserved c =
     let roots = c.args.self.now.roots.now in
     let so_far = c.loop-unit.invariant in
-    let one = c.in_ok-list_chain.ensures in
-    (
+    let one = c.in_ok-list_chain.ensures in (
       so_far.0 ++ one.0,
       one.1 ∙ (ap (λ (ns : List ℕ). ns ++ one.0) so_far.1 ∙ append_assoc c.args.numbers.now.items so_far.0 one.0),
       subst (λ (us : List ℕ). AreOfUnits roots us (so_far.0 ++ one.0)) (sym (take_more c.args.units.now c.loop-unit.unit-index 0 c.loop-unit-test.true)) (of_more roots _ _ so_far.0 one.0 so_far.2 one.2),

@@ -20,8 +20,7 @@ loop-number-preserved c =
     let so_far = c.loop-number.invariant in
     let at = c.loop-number.number in
     let inside : at < length roots = omega (arith, c.loop-number-test.true, units.nexts.ok.0, chains.nexts) in
-    let next : c.index-number-in-loop-number.result.now ≡ get_or units.nexts.items at 0 = c.index-number-in-loop-number.ensures ∙ get_or_default units.nexts.items at c.index-number-in-loop-number.result.now 0 (omega (arith, inside, chains.nexts)) in
-    (
+    let next : c.index-number-in-loop-number.result.now ≡ get_or units.nexts.items at 0 = c.index-number-in-loop-number.ensures ∙ get_or_default units.nexts.items at c.index-number-in-loop-number.result.now 0 (omega (arith, inside, chains.nexts)) in (
       so_far.0 ++ at ∷ [],
       c.in_ok-push.ensures.items ∙ (ap (λ (ns : List ℕ). ns ++ at ∷ []) so_far.1 ∙ append_assoc c.args.numbers.now.items so_far.0 (at ∷ [])),
       listed_more roots c.args.unit at c.index-number-in-loop-number.result.now so_far.0 inside so_far.2 (subst (IsNextWith roots (get_or roots at 0) (at + 1)) (sym next) (chains.chains.next at (omega arith) inside)),

@@ -7,7 +7,7 @@ use Rattle.net_model.specs.Fault.{stuck_stem}
 use Rattle.pair_sets.specs.declared.sim.Level.{Level}
 use Rattle.pair_sets.specs.declared.sim.PairSim.TheInside.{Inside}
 use Rattle.pair_sets.specs.declared.trail.Change.{Change}
-use Rattle.pair_sets.specs.declared.trail.Trail.{Trail}
+use Rattle.pair_sets.specs.declared.trail.PairTrail.{PairTrail}
 use Rattle.pair_sets.specs.Cube.{fixed_bit}
 use Rattle.pair_sets.specs.PairSet.{forced_pairs, fixed_pairs, IsWithin}
 use Rattle.pair_sets.specs.CubeState.{set_at}
@@ -56,7 +56,7 @@ pub recount-requires-clause-width : goal.recount-requires-clause-width
 recount-requires-clause-width c = c.change_source.ensures.longer.whole ∙ (right_of c.self.inside c.self.invariant).right.whole
 
 -- the changes that are looked at are those that were added
-added_from : (old new : Trail) (longer : IsLonger old new) (start : ℕ) → start ≡ length old.changes.items → drop start new.changes.items ≡ longer.added
+added_from : (old new : PairTrail) (longer : IsLonger old new) (start : ℕ) → start ≡ length old.changes.items → drop start new.changes.items ≡ longer.added
 added_from old new longer start e = ap (drop start) longer.extends ∙ drop_at old.changes.items longer.added start (sym e)
 
 pub recount-requires-clause-start : goal.recount-requires-clause-start

@@ -1,7 +1,0 @@
-use Rattle.samediff_dict.proofs.choosing.Choice.chosen.Given as goal
-
-abbrev pub ghost-better : goal.ghost-better
-ghost-better g a = g.rows
-
-abbrev pub ghost-improve : goal.ghost-improve
-ghost-improve g a = g.rows

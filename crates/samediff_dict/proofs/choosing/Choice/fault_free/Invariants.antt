@@ -1,5 +1,0 @@
-use Rattle.samediff_dict.proofs.ChoiceLemmas.{AreFreeTo}
-use Rattle.samediff_dict.proofs.choosing.Choice.fault_free.Given as goal
-
-abbrev pub invariant-loop-pattern : goal.invariant-loop-pattern
-invariant-loop-pattern g l = AreFreeTo l.self.classes.now g.rows l.chosen.items l.pattern

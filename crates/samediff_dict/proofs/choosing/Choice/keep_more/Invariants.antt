@@ -1,4 +1,0 @@
-use Rattle.samediff_dict.proofs.choosing.Choice.keep_more.Given as goal
-
-abbrev pub ghost-apart : goal.ghost-apart
-ghost-apart g a = g.rows
