@@ -5,5 +5,6 @@ mod cuts;
 mod listing;
 mod model;
 mod queue;
+mod scopes;
 mod shelves;
 mod texts;

@@ -1,0 +1,5 @@
+pub mod TakeLemmas
+pub mod PlaceLemmas
+pub mod SplitLemmas
+pub mod RelevantLemmas
+pub mod ListedLemmas

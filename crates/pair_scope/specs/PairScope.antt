@@ -1,0 +1,22 @@
+-- The scope of a pair of faults.
+use Rattle.std.specs.Prelude.{◌≡◌, ℕ, ◌++◌, List, filter}
+use Rattle.std.specs.List.{range_with_len}
+use Rattle.net_model.specs.declared.fault.Fault.{Fault}
+use Rattle.net_model.specs.Circuit.{Circuit}
+use Rattle.net_model.specs.Order.{IsOrder}
+use Rattle.net_model.specs.Scope.{is_split}
+
+-- two faults of a circuit, whose scope is shown
+pub record PairScope : Type 0 where
+  pub circuit : Circuit
+  pub f : Fault
+  pub g : Fault
+
+abbrev pub pair_scope : Circuit → Fault → Fault → PairScope
+pair_scope circuit f g = record { circuit = circuit; f = f; g = g }
+
+-- These are the split lines, each once: the sources ascending, and after them the gates in an order.
+pub record AreSplitInOrder (c : Circuit) (f g : Fault) (lines : List ℕ) : Type 0 where
+  pub order : List ℕ
+  pub is : IsOrder c order
+  pub are : lines ≡ filter (is_split c f g) (range_with_len 0 c.sources ++ order)
