@@ -11,6 +11,8 @@ pub mod Assignment
 pub mod Complete
 pub mod Bounds
 pub mod Numbers
+pub mod NumberedLines
+pub mod SourceBits
 pub mod Operands
 pub mod LineClauses
 pub mod ClauseParts

@@ -1,26 +1,26 @@
--- The numbers of variables: sums over the lines, one line more at a time, and what they stay below.
-use Rattle.std.proofs.Common.{◌≡◌, ◌∙◌, inl, inr, ℕ, zero, suc, ◌+◌, ◌-◌, ◌<◌, ◌≤◌, ◌^◌, refl, sym, ap, arith}
-use Rattle.std.specs.Prelude.{Bool, true, false, List, [], ◌∷◌, length, ◌++◌, ◌&&◌, sum_by, count_by, None, Some, is_none, if◌then◌else◌}
+-- The numbers of variables: sums over the lines and over those that are listed, and what they stay below.
+use Rattle.std.proofs.Common.{◌≡◌, ◌∙◌, ℕ, zero, suc, ◌+◌, ◌-◌, ◌<◌, ◌≤◌, ◌^◌, get_or, take, refl, sym, ap, subst, arith}
+use Rattle.std.specs.Prelude.{Bool, true, false, List, length, Contains, ◌&&◌, sum_by, count_by, None, Some, is_none, if◌then◌else◌}
 use Rattle.std.specs.Option.{option_map_or}
 use Rattle.std.specs.List.{range_with_len}
-use Rattle.std.proofs.lemmas.Bool.{cases_lt}
-use Rattle.std.proofs.lemmas.List.{get_or_append_left, get_or_at, length-append}
-use Rattle.std.proofs.lemmas.List.Sums.{sum_by_push, length-filter, count_by-le-length}
+use Rattle.std.proofs.lemmas.List.{get_or_default, length-take-le}
+use Rattle.std.proofs.lemmas.List.Elements.{Contains-get_or}
+use Rattle.std.proofs.lemmas.List.Sums.{sum_by_push, sum_by-take-le, length-filter, count_by-le-length}
 use Rattle.std.proofs.lemmas.List.FromFn.{length-range_with_len}
-use Rattle.net_model.specs.Answer.{bit_at}
 use Rattle.net_model.specs.declared.gate.Gate.{Gate}
 use Rattle.net_model.specs.declared.fault.Fault.{Fault}
 use Rattle.net_model.specs.Circuit.{Circuit, IsCircuit, line_count, gate_at}
 use Rattle.net_model.specs.Fault.{stuck_stem}
-use Rattle.net_model.specs.Scope.{is_split, is_relevant, is_reached, reached_positions}
+use Rattle.net_model.specs.Scope.{is_split, is_relevant, is_reached, relevant_lines, reached_positions}
 use Rattle.net_model.proofs.Orders.{range_with_len_more}
-use Rattle.fault_list.specs.Scope.{Scope, IsScopeOf}
+use Rattle.net_model.proofs.Relevance.{relevant_listed, listed_relevant, listed_reached}
 use Rattle.pair_miter.specs.Variables.{fault_of, is_second, line_variables, variables_below, line_variable, gate_helpers, copy_helpers, line_helpers, helpers_below, first_helper, difference_variable, variable_count}
 use Rattle.pair_miter.specs.declared.side.Side.TheVariants.{First, Second}
 use Rattle.pair_miter.specs.declared.side.Side.{Side}
 use Rattle.clause_pool.specs.Proper.{IsVariable}
-use Rattle.pair_miter.specs.Numbering.{AreFirstVariables, HasCopy}
+use Rattle.pair_miter.specs.Numbering.{HasCopy}
 use Rattle.pair_miter.proofs.Bounds.{few_variables_of}
+use Rattle.pair_miter.proofs.ClauseParts.{passing_below, listed_before, sum_of_passing}
 
 -- ---- sums over the numbers below one
 
@@ -84,27 +84,6 @@ module _ (c : Circuit) (f g : Fault) where
   unfolding variable_count
   few_line_variables w line h = omega (arith, variables_below-rises line (line_count c) h, few_variables_of c f g w)
 
-  -- how many variables a line has, by the marks of the scope
-  pub line_variables-marked : (s : Scope) → IsScopeOf c f g s → (line : ℕ) → line < line_count c
-      → (if bit_at s.relevant line then (if bit_at s.split line then 2 else 1) else 0) ≡ line_variables c f g line
-  unfolding line_variables
-  line_variables-marked s is line h =
-      ap (λ r. if r then (if bit_at s.split line then 2 else 1) else 0) (is.relevant.each line h)
-      ∙ ap (λ b. if is_relevant c f g line then (if b then 2 else 1) else 0) (is.split.each line h)
-
-  pub first_variables-more : (line first : ℕ) (firsts : List ℕ) → first ≡ 1 + variables_below c f g line → AreFirstVariables c f g line firsts
-      → AreFirstVariables c f g (line + 1) (firsts ++ first ∷ [])
-  first_variables-more line first firsts is so_far = record {
-    whole = omega (arith, length-append firsts (first ∷ []), so_far.whole);
-    each = λ n h.
-        elim (cases_lt n line) [
-          | inl below ↦ get_or_append_left firsts (first ∷ []) 0 n (omega (arith, so_far.whole)) ∙ so_far.each n below
-          | inr above ↦
-              let here : n ≡ line = omega arith in
-              get_or_at firsts first [] 0 n (omega (arith, so_far.whole)) ∙ (is ∙ (sym (first_variable line) ∙ ap (line_variable c f g First) (sym here)))
-        ];
-  }
-
   pub line_variable-from : (copy : Side) (line : ℕ) → 1 ≤ line_variable c f g copy line
   unfolding line_variable
   line_variable-from copy line = omega arith
@@ -128,7 +107,16 @@ module _ (c : Circuit) (f g : Fault) where
   unfolding helpers_below
   helpers_below-none = refl
 
-  pub helpers_of_irrelevant : (line : ℕ) → is_relevant c f g line ≡ false → line_helpers c f g line ≡ 0
+  variables_of_irrelevant : (line : ℕ) → is_relevant c f g line ≡ false → line_variables c f g line ≡ 0
+  unfolding line_variables
+  variables_of_irrelevant line e = rw e refl
+
+  -- a relevant line has two variables where it is split, and else one
+  pub variables_of_relevant : (line : ℕ) (s : Bool) → is_relevant c f g line ≡ true → is_split c f g line ≡ s → line_variables c f g line ≡ (if s then 2 else 1)
+  unfolding line_variables
+  variables_of_relevant line s e is = rw e (ap (λ b. if b then 2 else 1) is)
+
+  helpers_of_irrelevant : (line : ℕ) → is_relevant c f g line ≡ false → line_helpers c f g line ≡ 0
   unfolding line_helpers
   helpers_of_irrelevant line e = rw e refl
 
@@ -223,14 +211,6 @@ module _ (c : Circuit) (f g : Fault) where
   unfolding difference_variable
   difference-from at = omega arith
 
-  pub difference_more : (at : ℕ) → is_reached c f g at ≡ true → difference_variable c f g (at + 1) ≡ difference_variable c f g at + 1
-  unfolding difference_variable
-  difference_more at e = omega (arith, reached_more at true e)
-
-  pub difference_same : (at : ℕ) → is_reached c f g at ≡ false → difference_variable c f g (at + 1) ≡ difference_variable c f g at
-  unfolding difference_variable
-  difference_same at e = omega (arith, reached_more at false e)
-
   -- the difference of a reached position is a variable
   pub difference_below : (at : ℕ) → at < length c.positions → is_reached c f g at ≡ true → difference_variable c f g at ≤ variable_count c f g
   unfolding difference_variable variable_count
@@ -239,13 +219,6 @@ module _ (c : Circuit) (f g : Fault) where
   pub difference_within : (at x n : ℕ) → x ≡ difference_variable c f g at → n ≡ variable_count c f g → at < length c.positions → is_reached c f g at ≡ true → IsVariable n x
   difference_within at x n is all h e = (omega (arith, is, difference-from at), omega (arith, is, all, difference_below at h e))
 
-  pub reached_few : (at : ℕ) → reached_below at ≤ at
-  reached_few at = omega (arith, count_by-le-length (is_reached c f g) (range_with_len 0 at), length-range_with_len 0 at)
-
-  pub helper_more : (line : ℕ) → first_helper c f g First (line + 1) ≡ first_helper c f g First line + line_helpers c f g line
-  unfolding first_helper
-  helper_more line = omega (arith, helpers_below-more line)
-
   pub helpers_begin : first_helper c f g First 0 ≡ 1 + variables_below c f g (line_count c)
   unfolding first_helper
   helpers_begin = omega (arith, helpers_below-none)
@@ -253,3 +226,74 @@ module _ (c : Circuit) (f g : Fault) where
   pub variables_in_all : variable_count c f g ≡ variables_below c f g (line_count c) + helpers_below c f g (line_count c) + length (reached_positions c f g)
   unfolding variable_count
   variables_in_all = refl
+
+  -- ---- the relevant lines, listed
+
+  module _ (lines : List ℕ) (are : lines ≡ relevant_lines c f g) where
+    pub line_listed : (i : ℕ) → i < length lines → (get_or lines i 0 < line_count c) × (is_relevant c f g (get_or lines i 0) ≡ true)
+    line_listed i inside = listed_relevant c f g (get_or lines i 0) (subst (λ xs. Contains xs (get_or lines i 0)) are (Contains-get_or lines i 0 inside))
+
+    -- each relevant line has a place
+    pub place_of_line : (line : ℕ) → line < line_count c → is_relevant c f g line ≡ true → (i : ℕ) × (i < length lines) × (get_or lines i 0 ≡ line)
+    place_of_line line h e =
+        let there = subst (λ xs. Contains xs line) (sym are) (relevant_listed c f g line h e) in
+        (there.0, there.1, get_or_default lines there.0 0 line there.1 ∙ there.2)
+
+    -- those before a line are the relevant ones below it
+    pub lines_before : (i : ℕ) → i < length lines → take i lines ≡ passing_below (is_relevant c f g) (get_or lines i 0)
+    unfolding relevant_lines
+    lines_before i inside =
+        ap (take i) are
+        ∙ (listed_before (is_relevant c f g) (line_count c) i 0 (omega (arith, ap length are, inside))
+        ∙ ap (λ xs. passing_below (is_relevant c f g) (get_or xs i 0)) (sym are))
+
+    variables_before : (i : ℕ) → i < length lines → variables_below c f g (get_or lines i 0) ≡ sum_by (line_variables c f g) (take i lines)
+    unfolding variables_below
+    variables_before i inside =
+        sym (ap (sum_by (line_variables c f g)) (lines_before i inside) ∙ sum_of_passing (is_relevant c f g) (line_variables c f g) variables_of_irrelevant (range_with_len 0 (get_or lines i 0)))
+
+    pub variables_of_lines : variables_below c f g (line_count c) ≡ sum_by (line_variables c f g) lines
+    unfolding variables_below relevant_lines
+    variables_of_lines =
+        sym (ap (sum_by (line_variables c f g)) are ∙ sum_of_passing (is_relevant c f g) (line_variables c f g) variables_of_irrelevant (range_with_len 0 (line_count c)))
+
+    pub variable_at : (i : ℕ) → i < length lines → line_variable c f g First (get_or lines i 0) ≡ 1 + sum_by (line_variables c f g) (take i lines)
+    variable_at i inside = first_variable (get_or lines i 0) ∙ ap (λ n. 1 + n) (variables_before i inside)
+
+    pub few_before : IsCircuit c → (i : ℕ) → sum_by (line_variables c f g) (take i lines) < 2 ^ 31
+    few_before w i = omega (arith, sum_by-take-le (line_variables c f g) lines i, variables_of_lines, few_line_variables w (line_count c) (omega arith))
+
+    helpers_before : (i : ℕ) → i < length lines → helpers_below c f g (get_or lines i 0) ≡ sum_by (line_helpers c f g) (take i lines)
+    unfolding helpers_below
+    helpers_before i inside =
+        sym (ap (sum_by (line_helpers c f g)) (lines_before i inside) ∙ sum_of_passing (is_relevant c f g) (line_helpers c f g) helpers_of_irrelevant (range_with_len 0 (get_or lines i 0)))
+
+    pub helpers_of_lines : helpers_below c f g (line_count c) ≡ sum_by (line_helpers c f g) lines
+    unfolding helpers_below relevant_lines
+    helpers_of_lines =
+        sym (ap (sum_by (line_helpers c f g)) are ∙ sum_of_passing (is_relevant c f g) (line_helpers c f g) helpers_of_irrelevant (range_with_len 0 (line_count c)))
+
+    pub helper_at : (i : ℕ) → i < length lines → first_helper c f g First (get_or lines i 0) ≡ first_helper c f g First 0 + sum_by (line_helpers c f g) (take i lines)
+    unfolding first_helper
+    helper_at i inside = omega (arith, helpers_before i inside, helpers_below-none)
+
+    pub few_helpers_before : IsCircuit c → (i : ℕ) → sum_by (line_helpers c f g) (take i lines) < 2 ^ 31
+    few_helpers_before w i = omega (arith, sum_by-take-le (line_helpers c f g) lines i, helpers_of_lines, few_helpers_below w (line_count c) (omega arith))
+
+  -- ---- the reached positions, listed
+
+  module _ (positions : List ℕ) (are : positions ≡ reached_positions c f g) where
+    pub position_listed : (i : ℕ) → i < length positions → (get_or positions i 0 < length c.positions) × (is_reached c f g (get_or positions i 0) ≡ true)
+    position_listed i inside = listed_reached c f g (get_or positions i 0) (subst (λ xs. Contains xs (get_or positions i 0)) are (Contains-get_or positions i 0 inside))
+
+    pub difference_at : (i : ℕ) → i < length positions → difference_variable c f g (get_or positions i 0) ≡ difference_variable c f g 0 + i
+    unfolding difference_variable reached_positions
+    difference_at i inside =
+        let at = get_or positions i 0 in
+        let before : take i positions ≡ passing_below (is_reached c f g) at =
+        ap (take i) are ∙ (listed_before (is_reached c f g) (length c.positions) i 0 (omega (arith, ap length are, inside)) ∙ ap (λ xs. passing_below (is_reached c f g) (get_or xs i 0)) (sym are)) in
+        let many : reached_below at ≡ i = sym (length-filter (is_reached c f g) (range_with_len 0 at)) ∙ (ap length (sym before) ∙ length-take-le i positions (omega arith)) in
+        omega (arith, many)
+
+  pub few_reached : length (reached_positions c f g) ≤ length c.positions
+  few_reached = omega (arith, length-reached, count_by-le-length (is_reached c f g) (range_with_len 0 (length c.positions)), length-range_with_len 0 (length c.positions))

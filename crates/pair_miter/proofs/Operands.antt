@@ -73,6 +73,13 @@ count_variables number stuck n (line ∷ lines) =
     one_variable (stuck n) (number line) (map (λ x. operand_where (stuck x.0) (number x.1)) (enumerate_from (n + 1) lines)) (map (λ x. is_none (stuck x.0)) (enumerate_from (n + 1) lines))
     (count_variables number stuck (n + 1) lines)
 
+-- a relevant line's gate reads relevant lines
+pub pins_relevant : (c : Circuit) (f g : Fault) (line : ℕ) → IsAcyclic c → (gate : Gate) → pins_of c line ≡ gate.pins → is_relevant c f g line ≡ true → All (λ read. is_relevant c f g read ≡ true) gate.pins
+pins_relevant c f g line acyclic gate pins e k d below =
+    let line_read = get_or gate.pins k d in
+    let feeds : Feeds c line_read line = subst (λ ps. Contains ps line_read) (sym pins) (k, below, get_or_default gate.pins k line_read d below) in
+    relevant_back c f g acyclic line_read line feeds e
+
 module _ (c : Circuit) (f g : Fault) (copy : Side) (line : ℕ) where
   pub length-variables : (gate : Gate) → length (variables (gate_operands c f g copy line gate)) ≡ free_pins c f g copy line gate
   unfolding readings free_pins
@@ -89,9 +96,8 @@ module _ (c : Circuit) (f g : Fault) (copy : Side) (line : ℕ) where
       let read : ℕ → ℕ → Operand = λ pin line_read. operand_of c f g copy (stuck_pin (fault_of c f g copy) line pin) line_read in
       let below : k < length gate.pins = omega (arith, length-readings read gate.pins, h) in
       let line_read = get_or gate.pins k 0 in
-      let feeds : Feeds c line_read line = subst (λ ps. Contains ps line_read) (sym pins) (k, below, get_or_default gate.pins k line_read 0 below) in
       subst (IsOperand (variable_count c f g)) (sym (get_or-readings read gate.pins k d below))
-      (operand_within (stuck_pin (fault_of c f g copy) line k) line_read (inside k 0 below) (relevant_back c f g acyclic line_read line feeds e))
+      (operand_within (stuck_pin (fault_of c f g copy) line k) line_read (inside k 0 below) (pins_relevant c f g line acyclic gate pins e k 0 below))
 
   pub helpers_within : HasCopy c f g copy line → line < line_count c → is_relevant c f g line ≡ true → (gate : Gate) → gate_at c line ≡ Some gate → is_none (stuck_stem (fault_of c f g copy) line) ≡ true → is_parity gate.kind ≡ true
       → AreHelpers (variable_count c f g) (first_helper c f g copy line) (length (variables (gate_operands c f g copy line gate)))

@@ -1,9 +1,9 @@
 -- How the places of a pool grow with its clauses.
-use Rattle.std.proofs.Common.{◌≡◌, ◌∙◌, ◌+◌, ◌≤◌, sym, ap, subst, arith}
+use Rattle.std.proofs.Common.{◌≡◌, ◌+◌, ◌≤◌, sym, ap, subst, arith}
 use Rattle.std.specs.Prelude.{List, [], ◌∷◌, ◌++◌, length, max}
-use Rattle.std.proofs.lemmas.List.{append-nil, length-append}
+use Rattle.std.proofs.lemmas.List.{length-append}
 use Rattle.std.proofs.lemmas.List.Sums.{sum_by-append}
-use Rattle.clause_pool.specs.Clauses.{BeginsWith, Clause, Clauses, literal_count, clause_places, literal_places}
+use Rattle.clause_pool.specs.Clauses.{BeginsWith, Clause, Clauses, literal_count}
 use Rattle.clause_pool.proofs.Numbered.{begins_itself, begins_through}
 use Rattle.pair_miter.specs.Adds.{KeepsPlaces, GrowsFor, Grows}
 

@@ -1,22 +1,37 @@
 -- The copies of split lines, line by line.
 use Rattle.std.proofs.Common.{◌≡◌, ◌∙◌, ℕ, ◌<◌, refl, sym, ap, subst, arith, length, get_or}
-use Rattle.std.specs.Prelude.{Bool, true, false, List, [], ◌∷◌, ◌++◌, ◌&&◌, map, filter, All, if◌then◌else◌}
+use Rattle.std.specs.Prelude.{Bool, true, false, List, [], ◌∷◌, ◌++◌, ◌&&◌, map, filter, All, Contains, if◌then◌else◌}
 use Rattle.std.specs.List.{range_with_len}
 use Rattle.std.proofs.lemmas.Bool.{and_parts}
 use Rattle.std.proofs.lemmas.List.{map-append, get_or_default}
-use Rattle.std.proofs.lemmas.List.Elements.{filter-append, All-nil, All-cons, All-head, All-tail, All-append}
+use Rattle.std.proofs.lemmas.List.Elements.{Contains-get_or, filter-append, All-nil, All-cons, All-head, All-tail, All-append}
 use Rattle.net_model.specs.declared.fault.Fault.{Fault}
 use Rattle.net_model.specs.Circuit.{Circuit, IsCircuit, line_count}
 use Rattle.net_model.specs.Order.{IsOrder}
 use Rattle.net_model.specs.Scope.{is_relevant, is_split}
+use Rattle.net_model.proofs.Elements.{Contains-from_filter}
 use Rattle.net_model.proofs.Listed.{All-range_with_len}
 use Rattle.net_model.proofs.Orders.{order_only}
 use Rattle.net_model.proofs.SetSoFar.{fits_from}
 use Rattle.pair_miter.specs.declared.side.Side.TheVariants.{First, Second}
 use Rattle.pair_miter.specs.declared.split.Copies.{Copies}
 use Rattle.pair_miter.specs.Variables.{variable_count, line_variable}
+use Rattle.pair_scope.specs.PairScope.{AreSplitInOrder}
 use Rattle.pair_miter.specs.SplitLines.{AreVariables, AreSplitLines, is_double, copies_of, all_copies}
 use Rattle.pair_miter.proofs.Numbers.{variable_within}
+
+-- a test of what passes another that it needs
+filter_again : (p q : ℕ → Bool) → ((x : ℕ) → q x ≡ false → p x ≡ false) → (xs : List ℕ) → filter p (filter q xs) ≡ filter p xs
+filter_again p q none [] = refl
+filter_again p q none (x ∷ xs) = by (q x) refl (filter_again p q none xs)
+  where
+    by : (b : Bool) → q x ≡ b → filter p (filter q xs) ≡ filter p xs → filter p (if b then x ∷ filter q xs else filter q xs) ≡ filter p (x ∷ xs)
+    by true e rest = ap (λ ys. if p x then x ∷ ys else ys) rest
+    by false e rest = rest ∙ sym (ap (λ b. if b then x ∷ filter p xs else filter p xs) (none x e))
+
+neither : (r s : Bool) → s ≡ false → (r && s) ≡ false
+neither true s e = e
+neither false s e = refl
 
 module _ (c : Circuit) (f g : Fault) where
   copies_append : (xs ys : List ℕ) → all_copies c f g (xs ++ ys) ≡ all_copies c f g xs ++ all_copies c f g ys
@@ -77,3 +92,17 @@ module _ (c : Circuit) (f g : Fault) where
   pub split_within : IsCircuit c → (lines : List Copies) → AreSplitLines c f g lines → All (AreVariables (variable_count c f g)) lines
   split_within w lines is =
       subst (All (AreVariables (variable_count c f g))) (sym is.are) (copies_within w (range_with_len 0 c.sources ++ is.order) (lines_within w is.order is.ordered))
+
+  -- all of the split lines' copies are those of all lines
+  pub copies_of_split : (lines : List ℕ) (split : AreSplitInOrder c f g lines) → all_copies c f g lines ≡ all_copies c f g (range_with_len 0 c.sources ++ split.order)
+  unfolding all_copies
+  copies_of_split lines split =
+      ap (λ xs. map (copies_of c f g) (filter (is_double c f g) xs)) split.are
+      ∙ ap (map (copies_of c f g)) (filter_again (is_double c f g) (is_split c f g) (λ line e. neither (is_relevant c f g line) (is_split c f g line) e) (range_with_len 0 c.sources ++ split.order))
+
+  -- what is listed is a split line
+  pub split_listed : IsCircuit c → (lines : List ℕ) → AreSplitInOrder c f g lines → (i : ℕ) → i < length lines → (get_or lines i 0 < line_count c) × (is_split c f g (get_or lines i 0) ≡ true)
+  split_listed w lines split i inside =
+      let line = get_or lines i 0 in
+      let kept = Contains-from_filter (is_split c f g) (range_with_len 0 c.sources ++ split.order) line (subst (λ xs. Contains xs line) split.are (Contains-get_or lines i 0 inside)) in
+      (subst (λ l. l < line_count c) kept.0.2 (lines_within w split.order split.is kept.0.0 line kept.0.1), kept.1)

@@ -16,10 +16,8 @@ pub(crate) fn count_helpers(numbering: &Numbering) -> u32
     ensures { result ≡ helpers_below numbering.now.circuit numbering.now.f numbering.now.g (line_count numbering.now.circuit) }
 {
     let mut count = 0;
-    for line in 0..numbering.circuit().lines() {
-        if numbering.relevant(line) {
-            count += line_helpers(numbering, line);
-        }
+    for line in numbering.relevant_lines() {
+        count += line_helpers(numbering, *line);
     }
     count
 }

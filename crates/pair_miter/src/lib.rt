@@ -11,6 +11,7 @@ mod operand;
 mod reading;
 mod rows;
 mod side;
+mod space;
 mod split;
 mod tidier;
 mod writer;
@@ -23,4 +24,5 @@ pub use laws::{
 pub use log::{Chain, Log};
 pub use miter::Miter;
 pub use side::Side;
+pub use space::MiterSpace;
 pub use split::Copies;

@@ -3,7 +3,7 @@
 ghost use Rattle.std.specs.Prelude.{◌≡◌, ◌<◌, ◌^◌, true, length, All, IfOk};
 ghost use Rattle.net_model.specs.Answer.{Separates};
 ghost use Rattle.net_model.specs.Circuit.{line_count};
-ghost use Rattle.net_model.specs.Scope.{is_relevant};
+ghost use Rattle.net_model.specs.Scope.{is_relevant, relevant_lines};
 ghost use Rattle.clause_pool.specs.Proper.{IsProper};
 ghost use Rattle.pair_miter.specs.Miter.{miter, is_model, copy_bit, source_bit, vector_of};
 ghost use Rattle.pair_miter.specs.SplitLines.{AreSplitLines, AreVariables};
@@ -11,6 +11,7 @@ ghost use Rattle.pair_miter.specs.Variables.{variable_count};
 
 use crate::numbering::Numbering;
 use crate::side::Side;
+use crate::space::MiterSpace;
 use crate::split::{Copies, split_lines};
 use net_model::{Bits, Vector, stuck_stem};
 use std::alloc::{AllocError, Global};
@@ -48,6 +49,26 @@ impl Drop for Miter<'_> {
 }
 
 impl<'a> Miter<'a> {
+    /// The space of the miter, for a next one.
+    pub fn into_space(self) -> MiterSpace<'a>
+        ensures { result ≡ self.entry.circuit }
+    {
+        let Miter {
+            alloc,
+            numbering,
+            variables: _,
+            clauses: _,
+        } = self;
+        MiterSpace { alloc, numbering }
+    }
+
+    /// The relevant lines of the two faults, ascending: what their answers can depend on.
+    pub fn relevant_lines(&self) -> &[u32]
+        ensures { result.now ≡ relevant_lines self.now.circuit self.now.f self.now.g }
+    {
+        self.numbering.relevant_lines()
+    }
+
     /// How many variables there are. They are numbered from 1. The clauses have no others, and none of them twice.
     pub fn variables(&self) -> u32
         ensures value { result ≡ variable_count self.now.circuit self.now.f self.now.g }
@@ -84,22 +105,23 @@ impl<'a> Miter<'a> {
     {
         let sources = self.numbering.circuit().sources();
         let mut v = Bits::zeros(self.alloc, sources as usize)?;
-        for source in 0..sources {
-            v.set(source as usize, source_bit(&self.numbering, model, source));
+        for line in self.numbering.relevant_lines() {
+            if *line >= sources {
+                break;
+            }
+            v.set(*line as usize, source_bit(&self.numbering, model, *line));
         }
         Ok(v)
     }
 }
 
-// The bit of a source in the vector of a model.
+// The bit of a relevant source in the vector of a model.
 fn source_bit(numbering: &Numbering, model: &Bits, source: u32) -> bool
     requires whole { length model.now ≡ variable_count numbering.now.circuit numbering.now.f numbering.now.g }
     requires source { source < numbering.now.circuit.sources }
+    requires relevant { is_relevant numbering.now.circuit numbering.now.f numbering.now.g source ≡ true }
     ensures { result ≡ source_bit numbering.now.circuit numbering.now.f numbering.now.g model.now source }
 {
-    if !numbering.relevant(source) {
-        return false;
-    }
     if !numbering.split(source) {
         return copy_bit(numbering, model, Side::First, source);
     }

@@ -1,26 +1,26 @@
 //! The variables of the lines of a miter.
 
-ghost use Rattle.std.specs.Prelude.{◌≡◌, ◌+◌, ◌<◌, IfOk, length, if◌then◌else◌};
-ghost use Rattle.net_model.specs.Answer.{bit_at};
+ghost use Rattle.std.specs.Prelude.{◌≡◌, ◌+◌, ◌<◌, true, length, IfOk};
+ghost use Rattle.net_model.specs.declared.fault.Fault.TheVariants.{Free};
 ghost use Rattle.net_model.specs.Circuit.{IsCircuit, line_count};
-ghost use Rattle.net_model.specs.Scope.{is_relevant, is_split, is_reached};
+ghost use Rattle.net_model.specs.Fault.{IsFaultOf};
+ghost use Rattle.net_model.specs.Scope.{is_relevant, is_split, relevant_lines, reached_positions};
+ghost use Rattle.pair_scope.specs.PairScope.{AreSplitInOrder};
 ghost use Rattle.pair_miter.specs.MiterView.{miter_with};
-ghost use Rattle.pair_miter.specs.Variables.{fault_of, line_variable, variables_below};
+ghost use Rattle.pair_miter.specs.Numbering.{AreFirstVariables};
+ghost use Rattle.pair_miter.specs.Variables.{fault_of, line_variable, line_variables, variables_below};
 
 use crate::side::Side;
-use fault_list::Scope;
 use net_model::{Circuit, Fault};
+use pair_scope::PairScope;
 use std::alloc::{AllocError, Global};
 use std::marker::Model;
 
 /// The variables of the lines of the miter of two faults.
 #[derive(Drop)]
 pub(crate) struct Numbering<'a> {
-    circuit: &'a Circuit,
-    f: Fault,
-    g: Fault,
-    scope: Scope,
-    // of each line, in the first copy
+    scope: PairScope<'a>,
+    // of each relevant line, in the first copy; at other lines those of pairs before stay
     firsts: Vec<u32>,
     // the first variable that is no line's
     end: u32,
@@ -38,36 +38,31 @@ impl<'a> Model for Numbering<'a> {
 }
 
 impl<'a> Numbering<'a> {
-    pub(crate) fn new(
-        alloc: Global,
-        circuit: &'a Circuit,
-        f: Fault,
-        g: Fault,
-    ) -> Result<Numbering<'a>, AllocError>
-        ensures { IfOk result (λ numbering. numbering ≡ miter_with circuit.now f g) }
+    /// The variables of the miter of two faults that aren't there.
+    pub(crate) fn new(alloc: Global, circuit: &'a Circuit) -> Result<Numbering<'a>, AllocError>
+        ensures { IfOk result (λ numbering. numbering ≡ miter_with circuit.now Free Free) }
     {
-        let mut firsts = Vec::with_capacity(alloc, circuit.lines() as usize)?;
-        let scope = Scope::of(alloc, circuit, &f, &g)?;
-        let mut end = 1;
-        for line in 0..circuit.lines() {
-            firsts.push(end)?;
-            end += line_variables(&scope, line);
-        }
-        Ok(Numbering {
-            circuit,
-            f,
-            g,
-            scope,
-            firsts,
-            end,
-        })
+        let mut firsts = vec![in alloc; 0; circuit.lines() as usize]?;
+        let scope = PairScope::new(alloc, circuit)?;
+        let end = number_lines(&mut firsts, &scope);
+        Ok(Numbering { scope, firsts, end })
+    }
+
+    /// Numbers the lines of the miter of two faults instead.
+    pub(crate) fn show(&mut self, f: Fault, g: Fault)
+        requires first { IsFaultOf self.old.circuit f }
+        requires second { IsFaultOf self.old.circuit g }
+        ensures { self.new ≡ miter_with self.old.circuit f g }
+    {
+        self.scope.show(f, g);
+        self.end = number_lines(&mut self.firsts, &self.scope);
     }
 
     pub(crate) fn circuit(&self) -> &'a Circuit
         ensures value { result.now ≡ self.now.circuit }
         ensures circuit { IsCircuit self.now.circuit }
     {
-        self.circuit
+        self.scope.circuit()
     }
 
     /// The fault of a copy.
@@ -75,8 +70,8 @@ impl<'a> Numbering<'a> {
         ensures { result ≡ fault_of self.now.circuit self.now.f self.now.g side }
     {
         match side {
-            Side::First => self.f,
-            Side::Second => self.g,
+            Side::First => self.scope.first(),
+            Side::Second => self.scope.second(),
         }
     }
 
@@ -97,17 +92,34 @@ impl<'a> Numbering<'a> {
         self.scope.split(line)
     }
 
-    /// Whether a position is reached.
-    pub(crate) fn reached(&self, position: u32) -> bool
-        requires { position < length self.now.circuit.positions }
-        ensures { result ≡ is_reached self.now.circuit self.now.f self.now.g position }
+    /// The relevant lines, ascending.
+    pub(crate) fn relevant_lines(&self) -> &[u32]
+        ensures value { result.now ≡ relevant_lines self.now.circuit self.now.f self.now.g }
+        ensures circuit { IsCircuit self.now.circuit }
     {
-        self.scope.reached(position)
+        self.scope.relevant_lines()
     }
 
-    /// The variable of a line in a copy.
+    /// The reached positions, ascending.
+    pub(crate) fn reached_positions(&self) -> &[u32]
+        ensures value { result.now ≡ reached_positions self.now.circuit self.now.f self.now.g }
+        ensures circuit { IsCircuit self.now.circuit }
+    {
+        self.scope.reached_positions()
+    }
+
+    /// The split lines: the sources, and then the gates, each after those that it reads.
+    pub(crate) fn split_lines(&self) -> &[u32]
+        ensures value { AreSplitInOrder self.now.circuit self.now.f self.now.g result.now }
+        ensures circuit { IsCircuit self.now.circuit }
+    {
+        self.scope.split_lines()
+    }
+
+    /// The variable of a relevant line in a copy.
     pub(crate) fn variable(&self, side: Side, line: u32) -> u32
-        requires { line < line_count self.now.circuit }
+        requires line { line < line_count self.now.circuit }
+        requires relevant { is_relevant self.now.circuit self.now.f self.now.g line ≡ true }
         ensures { result ≡ line_variable self.now.circuit self.now.f self.now.g side line }
     {
         let first = self.firsts[line as usize];
@@ -126,15 +138,26 @@ impl<'a> Numbering<'a> {
     }
 }
 
-// How many variables a line has.
-fn line_variables(scope: &Scope, line: u32) -> u32
-    requires relevant { line < length scope.now.relevant }
-    requires split { line < length scope.now.split }
-    ensures { result ≡ (if bit_at scope.now.relevant line then (if bit_at scope.now.split line then 2 else 1) else 0) }
+// Numbers the relevant lines: each gets its variable in the first copy. Answers the first variable that is no line's.
+fn number_lines(firsts: &mut Vec<u32>, scope: &PairScope) -> u32
+    requires whole { length firsts.old.items ≡ line_count scope.now.circuit }
+    requires circuit { IsCircuit scope.now.circuit }
+    ensures firsts { AreFirstVariables scope.now.circuit scope.now.f scope.now.g firsts.new.items }
+    ensures end { result ≡ 1 + variables_below scope.now.circuit scope.now.f scope.now.g (line_count scope.now.circuit) }
 {
-    match (scope.relevant(line), scope.split(line)) {
-        (false, _) => 0,
-        (true, false) => 1,
-        (true, true) => 2,
+    let mut end = 1;
+    for line in scope.relevant_lines() {
+        firsts[*line as usize] = end;
+        end += line_variables(scope, *line);
     }
+    end
+}
+
+// How many variables a relevant line has.
+fn line_variables(scope: &PairScope, line: u32) -> u32
+    requires line { line < line_count scope.now.circuit }
+    requires relevant { is_relevant scope.now.circuit scope.now.f scope.now.g line ≡ true }
+    ensures { result ≡ line_variables scope.now.circuit scope.now.f scope.now.g line }
+{
+    if scope.split(line) { 2 } else { 1 }
 }

@@ -8,7 +8,7 @@ use clause_pool::{Lit, Pool};
 use net_model::Fault::{self, Free, Stuck};
 use net_model::Site::{self, Stem};
 use net_model::{Bits, Circuit, Kind, Vector};
-use pair_miter::{Chain, Log, Miter, build};
+use pair_miter::{Chain, Log, Miter, MiterSpace, build};
 use sample_circuits::{CircuitParts, NOT_AND_OR, circuit, stands};
 use std::alloc::{AllocError, Global};
 use std::test::Fail;
@@ -175,6 +175,60 @@ fn clauses_of_miters(rt: HostRuntime) -> Result<(), Fail> {
     Ok(())
 }
 
+// The space of the miter of a case's faults.
+fn used_space<'a>(alloc: Global, circuit: &'a Circuit, case: &Case) -> Result<MiterSpace<'a>, Fail>
+    ensures { IfOk result (λ space. space ≡ circuit.now) }
+{
+    if !stands(circuit, case.f) || !stands(circuit, case.g) {
+        return Err(Fail::new("a fault doesn't stand"));
+    }
+    let mut pool = Pool::with_room(alloc, 0, 0)?;
+    let miter = MiterSpace::new(alloc, circuit)?.build(&case.f, &case.g, &mut pool)?;
+    Ok(miter.into_space())
+}
+
+// The same as `miter_text`, in the space of another case's miter.
+fn next_text(
+    alloc: Global,
+    circuit: &Circuit,
+    before: &Case,
+    case: &Case,
+    pool: &mut Pool,
+) -> Result<String, Fail>
+    requires { pool.old.clauses ≡ [] }
+{
+    let space = used_space(alloc, circuit, before)?;
+    if !stands(circuit, case.f) || !stands(circuit, case.g) {
+        return Err(Fail::new("a fault doesn't stand"));
+    }
+    let miter = space.build(&case.f, &case.g, pool)?;
+    counted_text(alloc, miter.variables(), miter.clause_count(), pool)
+}
+
+// Whether the miter of a case in the space of another's, of the same circuit, is the one that is built by itself.
+fn is_same_in_used_space(alloc: Global, before: &Case, case: &Case) -> Result<bool, Fail> {
+    let circuit = circuit(alloc, case.parts)?;
+    let mut own = Pool::with_room(alloc, 0, 0)?;
+    let mut pool = Pool::with_room(alloc, 0, 0)?;
+    let wanted = miter_text(alloc, &circuit, case, &mut own)?;
+    let text = next_text(alloc, &circuit, before, case, &mut pool)?;
+    Ok(text.as_str() == wanted.as_str())
+}
+
+// The other faults of the same circuit: all lines are split, one after the other.
+const ALL_SPLIT: Case = Case {
+    f: Stuck(Stem(0), false),
+    g: Stuck(Stem(0), true),
+    ..OPPOSITES
+};
+
+#[test]
+fn a_second_miter_in_one_space(rt: HostRuntime) -> Result<(), Fail> {
+    assert!(rt; is_same_in_used_space(rt.alloc(), &ALL_SPLIT, &OPPOSITES)?);
+    assert!(rt; is_same_in_used_space(rt.alloc(), &OPPOSITES, &ALL_SPLIT)?);
+    Ok(())
+}
+
 // The source and the line are 1 without the fault, and the line is 0 with it.
 fn model(alloc: Global) -> Result<Bits, AllocError>
     ensures { IfOk result (λ model. model ≡ true ∷ true ∷ false ∷ true ∷ []) }
@@ -194,18 +248,44 @@ fn miter_of_one<'a>(alloc: Global, circuit: &'a Circuit) -> Result<Miter<'a>, Al
     build(alloc, circuit, &Free, &Stuck(Stem(1), false), &mut pool)
 }
 
-// The vector of the model of a miter.
-fn vector_of_model(alloc: Global, circuit: &Circuit) -> Result<Vector, AllocError>
+// The same miter, in the space of one of other faults.
+fn next_miter_of_one<'a>(alloc: Global, circuit: &'a Circuit) -> Result<Miter<'a>, AllocError>
     requires { circuit.now ≡ circuit_with 1 (record { kind = Kind.And; pins = 0 ∷ 0 ∷ [] } ∷ []) (1 ∷ []) }
+    ensures { IfOk result (λ built. built ≡ miter_with circuit.now Fault.Free (Fault.Stuck (Site.Stem 1) false)) }
+{
+    let mut before = Pool::with_room(alloc, 0, 0)?;
+    let mut pool = Pool::with_room(alloc, 0, 0)?;
+    let space = MiterSpace::new(alloc, circuit)?;
+    let miter = space.build(&Free, &Stuck(Stem(0), true), &mut before)?;
+    let space = miter.into_space();
+    space.build(&Free, &Stuck(Stem(1), false), &mut pool)
+}
+
+// The vector of the model of a miter.
+fn vector_of_model(alloc: Global, miter: &Miter) -> Result<Vector, AllocError>
+    requires { miter.now ≡ miter_with (circuit_with 1 (record { kind = Kind.And; pins = 0 ∷ 0 ∷ [] } ∷ []) (1 ∷ [])) Fault.Free (Fault.Stuck (Site.Stem 1) false) }
 {
     let model = model(alloc)?;
-    let miter = miter_of_one(alloc, circuit)?;
     miter.vector_of(&model)
 }
 
 fn vector_of_one(alloc: Global) -> Result<Vector, Fail> {
     let circuit = circuit(alloc, AND_OF_ONE)?;
-    Ok(vector_of_model(alloc, &circuit)?)
+    let miter = miter_of_one(alloc, &circuit)?;
+    Ok(vector_of_model(alloc, &miter)?)
+}
+
+fn next_vector_of_one(alloc: Global) -> Result<Vector, Fail> {
+    let circuit = circuit(alloc, AND_OF_ONE)?;
+    let miter = next_miter_of_one(alloc, &circuit)?;
+    Ok(vector_of_model(alloc, &miter)?)
+}
+
+#[test]
+fn vector_of_a_model_in_a_used_space(rt: HostRuntime) -> Result<(), Fail> {
+    let v = next_vector_of_one(rt.alloc())?;
+    assert!(rt; v.len() == 1 && v.get(0));
+    Ok(())
 }
 
 #[test]

@@ -4,7 +4,7 @@ use Rattle.pair_miter.specs.Adds.{Adds, KeepsClauses}
 use Rattle.pair_miter.proofs.AddSteps.{first_few, first_fails, left_fails, left_few, both_parts, writes_err}
 use Rattle.pair_miter.proofs.Bounds.{few_variables_of}
 use Rattle.pair_miter.proofs.MiterParts.{miter_parts, parts_few, parts_of_miter}
-use Rattle.pair_miter.proofs.Numbers.{variables_in_all, helpers_begin, first_difference}
+use Rattle.pair_miter.proofs.Numbers.{few_reached, variables_in_all, helpers_begin, first_difference}
 use Rattle.pair_miter.proofs.building.write_parts.Goals as goal
 
 pub overflow_add-first_difference : goal.overflow_add-first_difference
@@ -15,17 +15,22 @@ overflow_add-first_difference c =
 pub overflow_add-variables : goal.overflow_add-variables
 overflow_add-variables c =
     let q = c.args.numbering.now in
-    omega (arith, c.end.ensures.value, c.count_helpers.ensures, c.count_reached.ensures, variables_in_all q.circuit q.f q.g, few_variables_of q.circuit q.f q.g c.end.ensures.circuit)
+    omega (arith, c.end.ensures.value, c.count_helpers.ensures, ap length c.reached_positions.ensures.value, variables_in_all q.circuit q.f q.g, few_variables_of q.circuit q.f q.g c.end.ensures.circuit)
+
+pub overflow_cast-variables : goal.overflow_cast-variables
+overflow_cast-variables c =
+    let q = c.args.numbering.now in
+    omega (arith, ap length c.reached_positions.ensures.value, few_reached q.circuit q.f q.g, c.reached_positions.ensures.circuit.small)
 
 pub new-requires : goal.new-requires
 new-requires c =
     let q = c.args.numbering.now in
-    omega (arith, c.end.ensures.value, c.count_helpers.ensures, c.count_reached.ensures, variables_in_all q.circuit q.f q.g, few_variables_of q.circuit q.f q.g c.end.ensures.circuit)
+    omega (arith, c.end.ensures.value, c.count_helpers.ensures, ap length c.reached_positions.ensures.value, variables_in_all q.circuit q.f q.g, few_variables_of q.circuit q.f q.g c.end.ensures.circuit)
 
 pub write_lines-requires-clause-variables : goal.write_lines-requires-clause-variables
 write_lines-requires-clause-variables c =
     let q = c.args.numbering.now in
-    omega (arith, c.in_ok-writer.ensures.variables, c.end.ensures.value, c.count_helpers.ensures, c.count_reached.ensures, variables_in_all q.circuit q.f q.g)
+    omega (arith, c.in_ok-writer.ensures.variables, c.end.ensures.value, c.count_helpers.ensures, ap length c.reached_positions.ensures.value, variables_in_all q.circuit q.f q.g)
 
 pub write_lines-requires-clause-helper : goal.write_lines-requires-clause-helper
 write_lines-requires-clause-helper c =
@@ -40,7 +45,7 @@ write_lines-requires-clause-few c =
 pub write_differences-requires-clause-variables : goal.write_differences-requires-clause-variables
 write_differences-requires-clause-variables c =
     let q = c.args.numbering.now in
-    omega (arith, c.in_ok-write_lines.ensures.variables, c.in_ok-writer.ensures.variables, c.end.ensures.value, c.count_helpers.ensures, c.count_reached.ensures, variables_in_all q.circuit q.f q.g)
+    omega (arith, c.in_ok-write_lines.ensures.variables, c.in_ok-writer.ensures.variables, c.end.ensures.value, c.count_helpers.ensures, ap length c.reached_positions.ensures.value, variables_in_all q.circuit q.f q.g)
 
 pub write_differences-requires-clause-difference : goal.write_differences-requires-clause-difference
 write_differences-requires-clause-difference c =
@@ -55,7 +60,7 @@ write_differences-requires-clause-few c =
 pub returns-clause-variables : goal.returns-clause-variables
 returns-clause-variables c =
     let q = c.args.numbering.now in
-    omega (arith, c.end.ensures.value, c.count_helpers.ensures, c.count_reached.ensures, variables_in_all q.circuit q.f q.g)
+    omega (arith, c.end.ensures.value, c.count_helpers.ensures, ap length c.reached_positions.ensures.value, variables_in_all q.circuit q.f q.g)
 
 pub returns-clause-written : goal.returns-clause-written
 returns-clause-written c =

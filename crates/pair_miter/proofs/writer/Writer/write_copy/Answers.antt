@@ -21,7 +21,7 @@ use Rattle.pair_miter.proofs.AddSteps.{adds_none, keeps_all, on_ok, writes_err}
 use Rattle.pair_miter.proofs.Bounds.{few_variables_of}
 use Rattle.pair_miter.proofs.LineClauses.{clauses_of_stuck, clauses_of_source, rows_of_driven}
 use Rattle.pair_miter.proofs.Numbers.{variable_within, helpers_of_stuck, helpers_of_source, first_helper-below, few_of_parts}
-use Rattle.pair_miter.proofs.Operands.{length-gate_operands, operands_within, helpers_within}
+use Rattle.pair_miter.proofs.Operands.{length-gate_operands, pins_relevant, operands_within, helpers_within}
 use Rattle.pair_miter.proofs.TidyParts.{tidy_none}
 use Rattle.pair_miter.proofs.writer.Writer.write_copy.Goals as goal
 
@@ -83,6 +83,13 @@ returns-then-line-sources-clause-helper c =
 
 pub read_pins-requires-clause-few : goal.read_pins-requires-clause-few
 read_pins-requires-clause-few c = omega (arith, few_pins c.circuit-circuit.result.now c.gate-gate.ensures.circuit c.args.line c.gate-gate.result.now c.gate-gate.ensures.value)
+
+pub read_pins-requires-clause-relevant : goal.read_pins-requires-clause-relevant
+read_pins-requires-clause-relevant c =
+    let p = c.args.numbering.now in
+    let gate = c.gate-gate.result.now in
+    let pins : pins_of p.circuit c.args.line ≡ gate.pins = ap (λ (circuit : Circuit). pins_of circuit c.args.line) (sym c.circuit-circuit.ensures.value) ∙ c.gate-gate.ensures.pins in
+    pins_relevant p.circuit p.f p.g c.args.line c.circuit-circuit.ensures.circuit.acyclic gate pins c.requires.relevant
 
 pub returns-in_err-read_pins-clause-written : goal.returns-in_err-read_pins-clause-written
 returns-in_err-read_pins-clause-written c =
