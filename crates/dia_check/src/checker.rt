@@ -19,7 +19,7 @@ use evidence_check::check_evidence;
 use kept_vectors::Keeper;
 use member_marks::{Marks, Subject, mark_of};
 use net_model::{Vector, Vectors};
-use refute_check::CheckFault;
+use evidence_rules::CheckFault;
 use result_file::{
     Budgets, Evidence, Mark, Record, RecordFault, ResultFault, ResultKind, Summary, read_record,
 };

@@ -3,9 +3,9 @@ use Rattle.std.specs.Prelude.{ℕ, List, ◌∷◌, ◌++◌, codes, decimal, fl
 use Rattle.bench_reader.specs.declared.fault.Place.{Place}
 use Rattle.bench_reader.specs.declared.fault.NetKind.{NetKind}
 use Rattle.bench_reader.specs.declared.fault.NetKind.TheVariants.{BadByte, Expected, UnknownGate, WrongPins, DrivenTwice, Undriven, TooLong}
-use Rattle.refute_check.specs.declared.refusal.RefusalKind.{RefusalKind}
-use Rattle.refute_check.specs.declared.refusal.RefusalKind.TheVariants as why
-use Rattle.refute_check.specs.declared.refusal.Refusal.{Refusal}
+use Rattle.evidence_rules.specs.declared.refusal.RefusalKind.{RefusalKind}
+use Rattle.evidence_rules.specs.declared.refusal.RefusalKind.TheVariants as why
+use Rattle.evidence_rules.specs.declared.refusal.Refusal.{Refusal}
 use Rattle.result_file.specs.declared.record.Summary.{Summary}
 use Rattle.result_file.specs.declared.fault.ResultKind.{ResultKind}
 use Rattle.result_file.specs.declared.fault.ResultKind.TheVariants as result

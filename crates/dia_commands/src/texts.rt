@@ -6,7 +6,7 @@ ghost use Rattle.dia_commands.specs.Texts.{kind_name, refusal_text, loop_start, 
 use adaptive_tree::{Outcome, PlanKind};
 use bench_reader::{NetKind, Place};
 use diagnose::LogKind;
-use refute_check::{Refusal, RefusalKind};
+use evidence_rules::{Refusal, RefusalKind};
 use result_file::{ResultFault, ResultKind, Summary};
 use std::alloc::{AllocError, Global};
 use suspect_scores::{Choice, Suspect};

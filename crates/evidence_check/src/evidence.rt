@@ -6,9 +6,9 @@ ghost use Rattle.net_model.specs.Fault.{IsFaultOf};
 ghost use Rattle.net_model.specs.FaultList.{fault_count, fault_numbered};
 ghost use Rattle.pair_miter.specs.Adds.{KeepsPlaces};
 ghost use Rattle.pair_miter.specs.Miter.{miter};
-ghost use Rattle.refute_check.specs.declared.refusal.Refusal.{Refusal};
-ghost use Rattle.refute_check.specs.LogRefusal.{IsRightLog};
-ghost use Rattle.refute_check.specs.TreeRefusal.{IsRightTree};
+ghost use Rattle.evidence_rules.specs.declared.refusal.Refusal.{Refusal};
+ghost use Rattle.evidence_rules.specs.LogRefusal.{IsRightLog};
+ghost use Rattle.evidence_rules.specs.TreeRefusal.{IsRightTree};
 ghost use Rattle.result_file.specs.Lines.{IsRightProof};
 ghost use Rattle.result_file.specs.Refusal.{PairRefused, ProofRefused};
 

@@ -7,10 +7,10 @@ use Rattle.pair_miter.specs.ChainView.{ChainView}
 use Rattle.pair_miter.specs.Resolution.{SameLiterals, AreAlike, chain_end}
 use Rattle.pair_miter.proofs.SameLiterals.{same_sym, can_alike, empty_alike}
 use Rattle.pair_miter.proofs.Alike.{alike_some, alike_none, numbered_alike, chain_alike, fresh_alike}
-use Rattle.refute_check.specs.declared.refusal.EvidenceKind.{EvidenceKind}
-use Rattle.refute_check.specs.declared.refusal.EvidenceKind.TheVariants.{Covered, Refuted, Spent}
-use Rattle.refute_check.specs.declared.refusal.RefusalKind.{RefusalKind}
-use Rattle.refute_check.specs.LogRefusal.{ChainStops, no_start, no_clause, no_pivot, chain_before, IsRightEnd, end_refusal}
+use Rattle.evidence_rules.specs.declared.refusal.EvidenceKind.{EvidenceKind}
+use Rattle.evidence_rules.specs.declared.refusal.EvidenceKind.TheVariants.{Covered, Refuted, Spent}
+use Rattle.evidence_rules.specs.declared.refusal.RefusalKind.{RefusalKind}
+use Rattle.evidence_rules.specs.LogRefusal.{ChainStops, no_start, no_clause, no_pivot, chain_before, IsRightEnd, end_refusal}
 
 module _ (cs ds : List Clause) (are : AreAlike cs ds) where
   pub stops_alike : (chain : ChainView) (kind : RefusalKind) → ChainStops ds chain kind → ChainStops cs chain kind

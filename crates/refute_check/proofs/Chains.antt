@@ -10,9 +10,9 @@ use Rattle.pair_miter.specs.ChainView.{ChainView}
 use Rattle.pair_miter.specs.Log.{IsRefutation, IsSpentLog}
 use Rattle.pair_miter.specs.Resolution.{chain_end, log_ends}
 use Rattle.pair_miter.proofs.LogEnds.{log_more, log_long}
-use Rattle.refute_check.specs.declared.refusal.EvidenceKind.{EvidenceKind}
-use Rattle.refute_check.specs.declared.refusal.EvidenceKind.TheVariants.{Covered, Refuted, Spent}
-use Rattle.refute_check.specs.LogRefusal.{IsRightEnd, IsRightLog, HasRightLength, AreRightBefore, is_last}
+use Rattle.evidence_rules.specs.declared.refusal.EvidenceKind.{EvidenceKind}
+use Rattle.evidence_rules.specs.declared.refusal.EvidenceKind.TheVariants.{Covered, Refuted, Spent}
+use Rattle.evidence_rules.specs.LogRefusal.{IsRightEnd, IsRightLog, HasRightLength, AreRightBefore, is_last}
 
 -- ---- right chains
 

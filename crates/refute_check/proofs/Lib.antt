@@ -1,14 +1,9 @@
 pub mod Alike
 pub mod Chains
 pub mod LogSteps
-pub mod Steps
 pub mod HeldLemmas
 pub mod ClosureLemmas
 pub mod WalkLemmas
-pub mod Sound
-pub mod ChainLaws
-pub mod LogLaws
-pub mod TreeLaws
 pub mod AssignmentLemmas
 pub mod IndexLemmas
 pub mod SettledLemmas

@@ -7,12 +7,12 @@ use Rattle.clause_pool.specs.Clauses.{Clause}
 use Rattle.clause_pool.specs.Proper.{HasVariablesUpTo}
 use Rattle.pair_miter.specs.ChainView.{ChainView}
 use Rattle.pair_miter.specs.Resolution.{chain_end, SameLiterals, AreAlike}
-use Rattle.refute_check.specs.declared.refusal.EvidenceKind.{EvidenceKind}
-use Rattle.refute_check.specs.declared.refusal.EvidenceKind.TheVariants.{Covered, Refuted, Spent}
-use Rattle.refute_check.specs.declared.refusal.RefusalKind.{RefusalKind}
-use Rattle.refute_check.specs.declared.refusal.RefusalKind.TheVariants.{NoSuchClause, NoPivot, WrongCount}
-use Rattle.refute_check.specs.declared.refusal.Refusal.{Refusal}
-use Rattle.refute_check.specs.LogRefusal.{AreRightBefore, ChainStops, EndsAs, HasRightLength, IsRightEnd, IsRuleFor, LogRefused, at_step, at_end, end_refusal, is_last, no_clause, no_pivot, no_start}
+use Rattle.evidence_rules.specs.declared.refusal.EvidenceKind.{EvidenceKind}
+use Rattle.evidence_rules.specs.declared.refusal.EvidenceKind.TheVariants.{Covered, Refuted, Spent}
+use Rattle.evidence_rules.specs.declared.refusal.RefusalKind.{RefusalKind}
+use Rattle.evidence_rules.specs.declared.refusal.RefusalKind.TheVariants.{NoSuchClause, NoPivot, WrongCount}
+use Rattle.evidence_rules.specs.declared.refusal.Refusal.{Refusal}
+use Rattle.evidence_rules.specs.LogRefusal.{AreRightBefore, ChainStops, EndsAs, HasRightLength, IsRightEnd, IsRuleFor, LogRefused, at_step, at_end, end_refusal, is_last, no_clause, no_pivot, no_start}
 use Rattle.refute_check.specs.PoolEnds.{HasEndsOf, chains_before, right_chains}
 use Rattle.refute_check.proofs.Alike.{refusal_alike, right_alike, stops_alike}
 use Rattle.pair_miter.proofs.EndVariables.{within_alike, chain_within}

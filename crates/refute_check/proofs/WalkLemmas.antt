@@ -21,12 +21,12 @@ use Rattle.pair_sets.specs.PairSim.{PairSim, pair_sim, with_cube}
 use Rattle.pair_sets.specs.Tree.{IsRightAt, IsTree, after_token, waiting_after, cube_at, token_at}
 use Rattle.pair_sets.proofs.DecidedLemmas.{one_state}
 use Rattle.pair_sets.proofs.TreeLemmas.{free_token}
-use Rattle.refute_check.specs.declared.refusal.EvidenceKind.{EvidenceKind}
-use Rattle.refute_check.specs.declared.refusal.EvidenceKind.TheVariants.{Covered, Refuted, Spent}
-use Rattle.refute_check.specs.declared.refusal.RefusalKind.{RefusalKind}
-use Rattle.refute_check.specs.declared.refusal.RefusalKind.TheVariants.{BadTree, LeafOpen, WrongCount}
+use Rattle.evidence_rules.specs.declared.refusal.EvidenceKind.{EvidenceKind}
+use Rattle.evidence_rules.specs.declared.refusal.EvidenceKind.TheVariants.{Covered, Refuted, Spent}
+use Rattle.evidence_rules.specs.declared.refusal.RefusalKind.{RefusalKind}
+use Rattle.evidence_rules.specs.declared.refusal.RefusalKind.TheVariants.{BadTree, LeafOpen, WrongCount}
 use Rattle.refute_check.specs.declared.tree.Walk.{Walk}
-use Rattle.refute_check.specs.TreeRefusal.{token_refusal, IsRightToken, IsRightTree, TreeRefused, at_token, too_short, wrong_count}
+use Rattle.evidence_rules.specs.TreeRefusal.{token_refusal, IsRightToken, IsRightTree, TreeRefused, at_token, too_short, wrong_count}
 use Rattle.refute_check.specs.Walk.{second_halves, waiting_in, IsTreeWalk, IsRightIn, IsVerdict, HasGoneOn, AreRightCounts}
 
 -- ---- a source on the path

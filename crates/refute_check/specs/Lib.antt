@@ -5,8 +5,5 @@ pub mod Index
 pub mod Looked
 pub mod Reached
 pub mod Propagation
-pub mod TreeRefusal
-pub mod LogRefusal
 pub mod PoolEnds
 pub mod Walk
-pub mod Laws

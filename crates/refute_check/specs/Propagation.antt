@@ -4,8 +4,8 @@ use Rattle.clause_pool.specs.Literal.{Literal, opposite}
 use Rattle.clause_pool.specs.Clauses.{Clause}
 use Rattle.refute_check.specs.declared.assignment.Assignment.{Assignment}
 use Rattle.refute_check.specs.declared.freshness.Propagator.{Propagator}
-use Rattle.refute_check.specs.declared.refusal.EvidenceKind.{EvidenceKind}
-use Rattle.refute_check.specs.declared.refusal.EvidenceKind.TheVariants.{Spent}
+use Rattle.evidence_rules.specs.declared.refusal.EvidenceKind.{EvidenceKind}
+use Rattle.evidence_rules.specs.declared.refusal.EvidenceKind.TheVariants.{Spent}
 use Rattle.refute_check.specs.declared.looked.Looked.{Looked}
 use Rattle.refute_check.specs.Assignment.{IsAssignment}
 use Rattle.refute_check.specs.Held.{IsLiteralOpen, IsQuietAt}

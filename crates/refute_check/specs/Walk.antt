@@ -7,11 +7,11 @@ use Rattle.pair_sets.specs.declared.tree.Token.TheVariants.{Rest}
 use Rattle.pair_sets.specs.Cube.{Cube, FixesOnce}
 use Rattle.pair_sets.specs.PairSim.{with_cube}
 use Rattle.pair_sets.specs.Tree.{IsRightAt, closed_count}
-use Rattle.refute_check.specs.declared.refusal.EvidenceKind.{EvidenceKind}
-use Rattle.refute_check.specs.declared.refusal.EvidenceKind.TheVariants.{Covered, Refuted, Spent}
-use Rattle.refute_check.specs.declared.refusal.RefusalKind.{RefusalKind}
+use Rattle.evidence_rules.specs.declared.refusal.EvidenceKind.{EvidenceKind}
+use Rattle.evidence_rules.specs.declared.refusal.EvidenceKind.TheVariants.{Covered, Refuted, Spent}
+use Rattle.evidence_rules.specs.declared.refusal.RefusalKind.{RefusalKind}
 use Rattle.refute_check.specs.declared.tree.Walk.{Walk}
-use Rattle.refute_check.specs.TreeRefusal.{token_refusal}
+use Rattle.evidence_rules.specs.TreeRefusal.{token_refusal}
 
 -- the second halves of the splits of which a cube is in the first half
 abbrev pub second_halves : Cube → List Cube

@@ -2,8 +2,8 @@
 
 ghost use Rattle.std.specs.Prelude.{◌≡◌, [], None, Some, IfOk, OnOk, IsErrOf, MatchOption};
 ghost use Rattle.clause_pool.specs.Clauses.{numbered_clause};
-ghost use Rattle.refute_check.specs.declared.refusal.RefusalKind.{RefusalKind};
-ghost use Rattle.refute_check.specs.LogRefusal.{ChainStops, EndsAs};
+ghost use Rattle.evidence_rules.specs.declared.refusal.RefusalKind.{RefusalKind};
+ghost use Rattle.evidence_rules.specs.LogRefusal.{ChainStops, EndsAs};
 ghost use Rattle.refute_check.specs.Reached.{IsReached};
 
 use crate::reached::Reached;

@@ -5,7 +5,6 @@ mod assignment;
 mod chain;
 mod freshness;
 mod index;
-mod laws;
 mod log;
 mod looked;
 mod reached;
@@ -13,11 +12,12 @@ mod refusal;
 mod tree;
 
 pub use chain::run_chain;
-pub use freshness::fresh;
-pub use laws::{
-    chain_ends_or_stops, log_is_refused_once, refutation_is_equal, tree_is_refused_once,
+pub use evidence_rules::{
+    CheckFault, EvidenceKind, Refusal, RefusalKind, chain_ends_or_stops, log_is_refused_once,
+    refutation_is_equal, tree_is_refused_once,
 };
+pub use freshness::fresh;
 pub use literal_sets::{Clause, NoPivot, resolve};
 pub use log::check_log;
-pub use refusal::{ChainFault, CheckFault, EvidenceKind, Refusal, RefusalKind};
+pub use refusal::ChainFault;
 pub use tree::check_tree;

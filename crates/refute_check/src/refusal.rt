@@ -1,68 +1,11 @@
-//! Why evidence is refused.
+//! Why a chain has no end.
 
 ghost use Rattle.std.specs.Prelude.{◌≡◌};
 ghost use Rattle.refute_check.specs.declared.refusal.ChainFault.TheVariants as chain;
-ghost use Rattle.refute_check.specs.declared.refusal.CheckFault.TheVariants as check;
 
 use literal_sets::NoPivot;
 use std::alloc::AllocError;
 use thiserror::Error;
-
-/// Which rule a token or a chain breaks.
-#[derive(Clone, Copy, Debug, PartialEq, Eq)]
-pub enum RefusalKind {
-    /// No clause has the number that the chain names.
-    NoSuchClause,
-    /// The pivot isn't in the clause so far, or its opposite isn't in the named one.
-    NoPivot,
-    /// A refutation's last chain doesn't end in the empty clause.
-    NotEmpty,
-    /// A chain ends in the empty clause where it may not.
-    EmptyEarly,
-    /// The chain's clause isn't fresh at its literal.
-    NotFresh,
-    /// A closed leaf stands at a cube that isn't all same.
-    LeafOpen,
-    /// A token is out of place, or the tree isn't whole.
-    BadTree,
-    /// There are too many or too few closed leaves, open leaves or chains.
-    WrongCount,
-}
-
-/// A broken rule, and the number of the token or chain that breaks it, counted from 0. For a wrong count it is how many
-/// tokens or chains there are.
-#[derive(Clone, Copy, Debug, PartialEq, Eq)]
-pub struct Refusal {
-    pub kind: RefusalKind,
-    pub step: u64,
-}
-
-/// Why a check didn't accept evidence.
-#[derive(Debug, Drop, Error)]
-pub enum CheckFault {
-    #[error("the evidence breaks a rule")]
-    Refused(Refusal),
-    #[error("out of memory")]
-    NoMemory,
-}
-
-/// The answer where the token or chain of this number breaks a rule.
-pub(crate) fn refused(kind: RefusalKind, step: usize) -> CheckFault
-    ensures { result ≡ CheckFault.Refused (record { kind = kind; step = step }) }
-{
-    CheckFault::Refused(Refusal {
-        kind,
-        step: step as u64,
-    })
-}
-
-impl From<AllocError> for CheckFault {
-    ghost from_gives = { λ _ e. e ≡ check.NoMemory };
-
-    fn from(_: AllocError) -> Self {
-        CheckFault::NoMemory
-    }
-}
 
 /// Why a chain has no end.
 #[derive(Debug, Drop, Error)]
@@ -89,12 +32,4 @@ impl From<AllocError> for ChainFault {
     fn from(_: AllocError) -> Self {
         ChainFault::NoMemory
     }
-}
-
-/// What evidence is to show: a covering tree, a refutation, or a spent budget.
-#[derive(Clone, Copy, PartialEq, Eq)]
-pub enum EvidenceKind {
-    Covered,
-    Refuted,
-    Spent,
 }

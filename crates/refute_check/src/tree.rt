@@ -8,11 +8,11 @@ ghost use Rattle.pair_sets.specs.declared.tree.Token.TheVariants.{Split, Rest};
 ghost use Rattle.pair_sets.specs.CubeState.{IsState};
 ghost use Rattle.pair_sets.specs.PairSim.{pair_sim};
 ghost use Rattle.pair_sets.specs.Tree.{IsRightAt, after_token, closed_count};
-ghost use Rattle.refute_check.specs.declared.refusal.Refusal.{Refusal};
-ghost use Rattle.refute_check.specs.TreeRefusal.{IsRightTree, TreeRefused};
+ghost use Rattle.evidence_rules.specs.declared.refusal.Refusal.{Refusal};
+ghost use Rattle.evidence_rules.specs.TreeRefusal.{IsRightTree, TreeRefused};
 ghost use Rattle.refute_check.specs.Walk.{IsTreeWalk, IsRightIn, IsVerdict, HasGoneOn, AreRightCounts, waiting_in, second_halves};
 
-use crate::refusal::{CheckFault, EvidenceKind, RefusalKind, refused};
+use evidence_rules::{CheckFault, EvidenceKind, RefusalKind, refused};
 use fault_list::Scope;
 use net_model::{Circuit, Fault};
 use pair_sets::{PairSim, PairState, Token, Tree};

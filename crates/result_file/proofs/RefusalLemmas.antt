@@ -6,13 +6,13 @@ use Rattle.net_model.specs.ClassTable.{ClassTable}
 use Rattle.pair_miter.specs.ChainView.{ChainView}
 use Rattle.pair_miter.specs.Miter.{miter}
 use Rattle.pair_sets.specs.declared.tree.Token.{Token}
-use Rattle.refute_check.specs.declared.refusal.EvidenceKind.{EvidenceKind}
-use Rattle.refute_check.specs.declared.refusal.EvidenceKind.TheVariants.{Covered, Refuted, Spent}
-use Rattle.refute_check.specs.declared.refusal.Refusal.{Refusal}
-use Rattle.refute_check.specs.TreeRefusal.{IsRightTree}
-use Rattle.refute_check.specs.LogRefusal.{IsRightLog}
-use Rattle.refute_check.proofs.TreeLaws as trees
-use Rattle.refute_check.proofs.LogLaws as logs
+use Rattle.evidence_rules.specs.declared.refusal.EvidenceKind.{EvidenceKind}
+use Rattle.evidence_rules.specs.declared.refusal.EvidenceKind.TheVariants.{Covered, Refuted, Spent}
+use Rattle.evidence_rules.specs.declared.refusal.Refusal.{Refusal}
+use Rattle.evidence_rules.specs.TreeRefusal.{IsRightTree}
+use Rattle.evidence_rules.specs.LogRefusal.{IsRightLog}
+use Rattle.evidence_rules.proofs.TreeLaws as trees
+use Rattle.evidence_rules.proofs.LogLaws as logs
 use Rattle.result_file.specs.declared.record.Budgets.{Budgets}
 use Rattle.result_file.specs.declared.record.Proof.{Proof}
 use Rattle.result_file.specs.declared.record.Proof.TheVariants as proof

@@ -21,7 +21,7 @@ use Rattle.pair_sets.specs.Tree.{cube_at, token_at, IsTree, IsCovering, IsSpendi
 use Rattle.pair_miter.specs.ChainView.{ChainView}
 use Rattle.pair_miter.specs.Miter.{miter}
 use Rattle.pair_miter.specs.Log.{IsSpentLog}
-use Rattle.refute_check.proofs.Sound.{refutation_equal}
+use Rattle.evidence_rules.proofs.Sound.{refutation_equal}
 use Rattle.result_file.specs.declared.record.Budgets.{Budgets}
 use Rattle.result_file.specs.declared.record.Evidence.{Evidence}
 use Rattle.result_file.specs.declared.record.Mark.{Mark}

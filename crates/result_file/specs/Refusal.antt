@@ -8,11 +8,11 @@ use Rattle.net_model.specs.PatternRows.{IsTableOf}
 use Rattle.pair_miter.specs.Miter.{miter}
 use Rattle.pair_sets.specs.declared.tree.Token.{Token}
 use Rattle.pair_miter.specs.ChainView.{ChainView}
-use Rattle.refute_check.specs.declared.refusal.EvidenceKind.{EvidenceKind}
-use Rattle.refute_check.specs.declared.refusal.EvidenceKind.TheVariants as kind
-use Rattle.refute_check.specs.TreeRefusal.{TreeRefused, IsRightTree}
-use Rattle.refute_check.specs.LogRefusal.{LogRefused}
-use Rattle.refute_check.specs.declared.refusal.Refusal.{Refusal}
+use Rattle.evidence_rules.specs.declared.refusal.EvidenceKind.{EvidenceKind}
+use Rattle.evidence_rules.specs.declared.refusal.EvidenceKind.TheVariants as kind
+use Rattle.evidence_rules.specs.TreeRefusal.{TreeRefused, IsRightTree}
+use Rattle.evidence_rules.specs.LogRefusal.{LogRefused}
+use Rattle.evidence_rules.specs.declared.refusal.Refusal.{Refusal}
 use Rattle.result_file.specs.declared.record.Proof.{Proof}
 use Rattle.result_file.specs.declared.record.Proof.TheVariants as proof
 use Rattle.result_file.specs.declared.record.Evidence.{Evidence}

@@ -3,7 +3,7 @@
 ghost use Rattle.std.specs.Prelude.{◌≡◌};
 ghost use Rattle.result_file.specs.declared.fault.RecordFault.TheVariants as record_fault;
 
-use refute_check::Refusal;
+use evidence_rules::Refusal;
 use std::alloc::AllocError;
 use thiserror::Error;
 

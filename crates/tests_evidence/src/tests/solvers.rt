@@ -2,7 +2,7 @@
 
 ghost use Rattle.std.specs.Prelude.{◌≡◌, ◌≢◌, ◌<◌, ◌≤◌, ◌^◌, []};
 ghost use Rattle.net_model.specs.Fault.{IsFaultOf};
-ghost use Rattle.refute_check.specs.declared.refusal.EvidenceKind as EvidenceKind;
+ghost use Rattle.evidence_rules.specs.declared.refusal.EvidenceKind as EvidenceKind;
 
 use crate::tests::logs::checked;
 use clause_pool::Pool;

@@ -5,9 +5,9 @@ use Rattle.std.proofs.lemmas.Option.{slice_get_within}
 use Rattle.clause_pool.specs.Clauses.{Clause}
 use Rattle.pair_miter.specs.ChainView.{ChainView}
 use Rattle.pair_miter.specs.Log.{IsSpentLog}
-use Rattle.refute_check.specs.LogRefusal.{IsRightLog}
-use Rattle.refute_check.specs.declared.refusal.EvidenceKind.{EvidenceKind}
-use Rattle.refute_check.specs.declared.refusal.EvidenceKind.TheVariants.{Spent}
+use Rattle.evidence_rules.specs.LogRefusal.{IsRightLog}
+use Rattle.evidence_rules.specs.declared.refusal.EvidenceKind.{EvidenceKind}
+use Rattle.evidence_rules.specs.declared.refusal.EvidenceKind.TheVariants.{Spent}
 use Rattle.evidence_check.proofs.evidence.needs_no_clauses.Goals as goal
 
 -- no chains are right over any clauses where none are asked for

@@ -2,7 +2,7 @@ use Rattle.std.proofs.Common.{◌≡◌, ◌∙◌, ◌<◌, ℕ, List, Bool, tr
 use Rattle.clause_pool.specs.Literal.{Literal}
 use Rattle.pair_miter.specs.Resolution.{resolvent}
 use Rattle.pair_miter.proofs.SameLiterals.{same_refl, same_trans}
-use Rattle.refute_check.proofs.Steps.{ends_first, ends_more, ends_last, stops_unnamed, stops_unresolved}
+use Rattle.evidence_rules.proofs.Steps.{ends_first, ends_more, ends_last, stops_unnamed, stops_unresolved}
 use Rattle.refute_check.proofs.chain.follow.Goals as goal
 
 -- the step that comes next

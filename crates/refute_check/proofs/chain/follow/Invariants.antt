@@ -1,5 +1,5 @@
 use Rattle.clause_pool.specs.Clauses.{Clause}
-use Rattle.refute_check.specs.LogRefusal.{EndsAs, chain_before}
+use Rattle.evidence_rules.specs.LogRefusal.{EndsAs, chain_before}
 use Rattle.refute_check.specs.Reached.{IsReached}
 use Rattle.refute_check.proofs.chain.follow.Given as goal
 

@@ -7,9 +7,9 @@ use Rattle.clause_pool.specs.Clauses.{Clause, Clauses}
 use Rattle.pair_miter.specs.Adds.{Grows}
 use Rattle.pair_miter.proofs.PlaceSteps.{grows_added, grows_none, grows_through}
 use Rattle.clause_pool.specs.Proper.{HasVariablesUpTo}
-use Rattle.refute_check.specs.declared.refusal.CheckFault.{CheckFault}
-use Rattle.refute_check.specs.declared.refusal.CheckFault.TheVariants.{Refused}
-use Rattle.refute_check.specs.LogRefusal.{AreRightBefore, is_last}
+use Rattle.evidence_rules.specs.declared.refusal.CheckFault.{CheckFault}
+use Rattle.evidence_rules.specs.declared.refusal.CheckFault.TheVariants.{Refused}
+use Rattle.evidence_rules.specs.LogRefusal.{AreRightBefore, is_last}
 use Rattle.pair_miter.proofs.Alike.{alike_first}
 use Rattle.pair_miter.specs.Resolution.{AreAlike}
 use Rattle.refute_check.specs.Propagation.{IsReadyFor}

@@ -1,6 +1,6 @@
 use Rattle.std.proofs.Common.{◌<◌, ◌≤◌, ◌+◌, ◌-◌, ◌++◌, [], length, min}
 use Rattle.std.specs.Prelude.{All}
-use Rattle.refute_check.specs.LogRefusal.{AreRightBefore}
+use Rattle.evidence_rules.specs.LogRefusal.{AreRightBefore}
 use Rattle.pair_miter.specs.Adds.{Grows}
 use Rattle.clause_pool.specs.Proper.{HasVariablesUpTo}
 use Rattle.pair_miter.specs.Resolution.{AreAlike}

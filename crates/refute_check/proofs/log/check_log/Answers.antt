@@ -2,10 +2,10 @@ use Rattle.std.proofs.Common.{◌≡◌, ◌∙◌, ap, length, subst, sym, arit
 use Rattle.std.specs.Prelude.{All, Result, Err}
 use Rattle.std.proofs.lemmas.Result.{on_ok_weaker}
 use Rattle.clause_pool.specs.Proper.{HasVariablesUpTo}
-use Rattle.refute_check.specs.declared.refusal.CheckFault.{CheckFault}
-use Rattle.refute_check.specs.declared.refusal.CheckFault.TheVariants.{Refused}
-use Rattle.refute_check.specs.declared.refusal.RefusalKind.TheVariants.{WrongCount}
-use Rattle.refute_check.specs.LogRefusal.{IsRightLog, LogRefused}
+use Rattle.evidence_rules.specs.declared.refusal.CheckFault.{CheckFault}
+use Rattle.evidence_rules.specs.declared.refusal.CheckFault.TheVariants.{Refused}
+use Rattle.evidence_rules.specs.declared.refusal.RefusalKind.TheVariants.{WrongCount}
+use Rattle.evidence_rules.specs.LogRefusal.{IsRightLog, LogRefused}
 use Rattle.refute_check.proofs.LogSteps.{ends_none, ends_uncounted, few_chains, on_error}
 use Rattle.refute_check.proofs.log.check_log.Goals as goal
 

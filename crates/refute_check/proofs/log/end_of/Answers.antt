@@ -1,11 +1,11 @@
 use Rattle.std.proofs.Common.{◌≡◌, ◌∙◌, refl, sym, ap, subst}
 use Rattle.std.specs.Prelude.{Result, Err}
 use Rattle.literal_sets.specs.declared.clause.Clause.{Clause}
-use Rattle.refute_check.specs.declared.refusal.Refusal.{Refusal}
-use Rattle.refute_check.specs.declared.refusal.CheckFault.{CheckFault}
-use Rattle.refute_check.specs.declared.refusal.CheckFault.TheVariants.{Refused}
-use Rattle.refute_check.specs.declared.refusal.RefusalKind.TheVariants.{NoSuchClause, NoPivot}
-use Rattle.refute_check.specs.LogRefusal.{ChainStops}
+use Rattle.evidence_rules.specs.declared.refusal.Refusal.{Refusal}
+use Rattle.evidence_rules.specs.declared.refusal.CheckFault.{CheckFault}
+use Rattle.evidence_rules.specs.declared.refusal.CheckFault.TheVariants.{Refused}
+use Rattle.evidence_rules.specs.declared.refusal.RefusalKind.TheVariants.{NoSuchClause, NoPivot}
+use Rattle.evidence_rules.specs.LogRefusal.{ChainStops}
 use Rattle.refute_check.proofs.log.end_of.Goals as goal
 
 pub returns-in-Err-NoSuchClause-clause-refused : goal.returns-in-Err-NoSuchClause-clause-refused

@@ -1,8 +1,8 @@
 use Rattle.std.proofs.Common.{◌≡◌, ◌∙◌, length, ap, sym}
 use Rattle.std.specs.Prelude.{Result, Err}
-use Rattle.refute_check.specs.declared.refusal.CheckFault.{CheckFault}
-use Rattle.refute_check.specs.declared.refusal.CheckFault.TheVariants.{Refused}
-use Rattle.refute_check.specs.declared.refusal.RefusalKind.TheVariants.{WrongCount}
+use Rattle.evidence_rules.specs.declared.refusal.CheckFault.{CheckFault}
+use Rattle.evidence_rules.specs.declared.refusal.CheckFault.TheVariants.{Refused}
+use Rattle.evidence_rules.specs.declared.refusal.RefusalKind.TheVariants.{WrongCount}
 use Rattle.refute_check.proofs.tree.check_open_leaf.Goals as goal
 
 pub returns-else-has_right_counts-clause-refused : goal.returns-else-has_right_counts-clause-refused

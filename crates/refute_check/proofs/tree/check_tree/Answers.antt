@@ -3,9 +3,9 @@ use Rattle.std.specs.Prelude.{List}
 use Rattle.std.proofs.lemmas.Result.{on_ok_weaker}
 use Rattle.pair_sets.specs.PairSim.{PairSim}
 use Rattle.pair_sets.specs.declared.tree.Token.{Token}
-use Rattle.refute_check.specs.declared.refusal.Refusal.{Refusal}
-use Rattle.refute_check.specs.declared.refusal.RefusalKind.TheVariants.{WrongCount}
-use Rattle.refute_check.specs.TreeRefusal.{TreeRefused}
+use Rattle.evidence_rules.specs.declared.refusal.Refusal.{Refusal}
+use Rattle.evidence_rules.specs.declared.refusal.RefusalKind.TheVariants.{WrongCount}
+use Rattle.evidence_rules.specs.TreeRefusal.{TreeRefused}
 use Rattle.refute_check.specs.Walk.{AreRightCounts}
 use Rattle.refute_check.proofs.WalkLemmas.{leaf_is_tree, tree_counted, tree_miscounted}
 use Rattle.refute_check.proofs.tree.check_tree.Goals as goal

@@ -1,5 +1,5 @@
 use Rattle.std.proofs.Common.{◌∙◌, Err, refl, ap, arith}
-use Rattle.refute_check.specs.declared.refusal.CheckFault.{CheckFault}
+use Rattle.evidence_rules.specs.declared.refusal.CheckFault.{CheckFault}
 use Rattle.result_file.specs.declared.fault.ResultKind.TheVariants as why
 use Rattle.result_file.specs.declared.record.Record.TheVariants.{Same}
 use Rattle.result_file.specs.Refusal.EvidenceRefused.{by_name, by_roots, by_proof}

@@ -5,11 +5,11 @@ use Rattle.net_model.specs.declared.fault.Fault.{Fault}
 use Rattle.net_model.specs.Circuit.{Circuit}
 use Rattle.pair_sets.specs.declared.tree.Token.{Token}
 use Rattle.pair_sets.specs.declared.tree.Token.TheVariants.{Split, Rest}
-use Rattle.refute_check.specs.declared.refusal.EvidenceKind.{EvidenceKind}
-use Rattle.refute_check.specs.declared.refusal.CheckFault.{CheckFault}
-use Rattle.refute_check.specs.declared.refusal.CheckFault.TheVariants.{Refused}
-use Rattle.refute_check.specs.declared.refusal.Refusal.{Refusal}
-use Rattle.refute_check.specs.TreeRefusal.{TreeRefused}
+use Rattle.evidence_rules.specs.declared.refusal.EvidenceKind.{EvidenceKind}
+use Rattle.evidence_rules.specs.declared.refusal.CheckFault.{CheckFault}
+use Rattle.evidence_rules.specs.declared.refusal.CheckFault.TheVariants.{Refused}
+use Rattle.evidence_rules.specs.declared.refusal.Refusal.{Refusal}
+use Rattle.evidence_rules.specs.TreeRefusal.{TreeRefused}
 use Rattle.refute_check.proofs.WalkLemmas.{come_more, token_refused, end_refused, counts_refused, tree_right}
 use Rattle.refute_check.proofs.tree.Walk.check.Goals as goal
 

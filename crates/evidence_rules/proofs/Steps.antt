@@ -9,9 +9,9 @@ use Rattle.clause_pool.specs.Literal.{Literal}
 use Rattle.clause_pool.specs.Clauses.{Clause, numbered_clause}
 use Rattle.pair_miter.specs.ChainView.{ChainView}
 use Rattle.pair_miter.specs.Resolution.{can_resolve, resolvent, clause_after_step, chain_end, SameLiterals}
-use Rattle.refute_check.specs.declared.refusal.RefusalKind.TheVariants.{NoSuchClause, NoPivot}
-use Rattle.refute_check.specs.LogRefusal.{ChainStops, EndsAs, chain_before}
-use Rattle.refute_check.specs.LogRefusal.ChainStops.{no_clause, no_pivot}
+use Rattle.evidence_rules.specs.declared.refusal.RefusalKind.TheVariants.{NoSuchClause, NoPivot}
+use Rattle.evidence_rules.specs.LogRefusal.{ChainStops, EndsAs, chain_before}
+use Rattle.evidence_rules.specs.LogRefusal.ChainStops.{no_clause, no_pivot}
 use Rattle.pair_miter.proofs.SameLiterals.{same_trans, same_refl, can_alike, resolvent_alike}
 
 -- ---- steps

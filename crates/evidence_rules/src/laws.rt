@@ -1,6 +1,6 @@
 //! Laws over the definitions: each function has an empty body, and its contract is the law.
 
-ghost use Rattle.refute_check.specs.Laws.{RefutationEqual, ChainEndsOrStops, StoppedChainHasNoEnd, ChainStopsOnce, RefusedLogIsWrong, OneLogRefusal, RefusedTreeIsWrong, OneTreeRefusal};
+ghost use Rattle.evidence_rules.specs.Laws.{RefutationEqual, ChainEndsOrStops, StoppedChainHasNoEnd, ChainStopsOnce, RefusedLogIsWrong, OneLogRefusal, RefusedTreeIsWrong, OneTreeRefusal};
 
 /// Two faults with a refutation of their miter answer alike to every vector.
 pub fn refutation_is_equal()

@@ -10,12 +10,12 @@ use Rattle.pair_miter.specs.ChainView.{ChainView}
 use Rattle.pair_miter.specs.Resolution.{chain_end, log_ends}
 use Rattle.pair_miter.specs.Log.{IsRefutation, IsSpentLog}
 use Rattle.pair_miter.proofs.LogEnds.{log_long, log_part}
-use Rattle.refute_check.specs.declared.refusal.EvidenceKind.{EvidenceKind}
-use Rattle.refute_check.specs.declared.refusal.EvidenceKind.TheVariants.{Covered, Refuted, Spent}
-use Rattle.refute_check.specs.declared.refusal.Refusal.{Refusal}
-use Rattle.refute_check.specs.declared.refusal.RefusalKind.{RefusalKind}
-use Rattle.refute_check.specs.LogRefusal.{ChainStops, IsRightEnd, IsRightLog, HasRightLength, AreRightBefore, ChainStopsAt, EndsWrong, LogRefused, wrong_count, at_step, at_end, end_refusal, is_last}
-use Rattle.refute_check.proofs.ChainLaws.{stopped_has_no_end, stops_once}
+use Rattle.evidence_rules.specs.declared.refusal.EvidenceKind.{EvidenceKind}
+use Rattle.evidence_rules.specs.declared.refusal.EvidenceKind.TheVariants.{Covered, Refuted, Spent}
+use Rattle.evidence_rules.specs.declared.refusal.Refusal.{Refusal}
+use Rattle.evidence_rules.specs.declared.refusal.RefusalKind.{RefusalKind}
+use Rattle.evidence_rules.specs.LogRefusal.{ChainStops, IsRightEnd, IsRightLog, HasRightLength, AreRightBefore, ChainStopsAt, EndsWrong, LogRefused, wrong_count, at_step, at_end, end_refusal, is_last}
+use Rattle.evidence_rules.proofs.ChainLaws.{stopped_has_no_end, stops_once}
 
 module _ (kind : EvidenceKind) (clauses : List Clause) (log : List ChainView) where
   -- what is right before a place has the ends of the chains before each earlier place, and the end there

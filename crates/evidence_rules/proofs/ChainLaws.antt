@@ -9,10 +9,10 @@ use Rattle.clause_pool.specs.Literal.{Literal, pos_literal}
 use Rattle.clause_pool.specs.Clauses.{Clause, numbered_clause}
 use Rattle.pair_miter.specs.ChainView.{ChainView}
 use Rattle.pair_miter.specs.Resolution.{can_resolve, resolvent, clause_after_step, chain_end}
-use Rattle.refute_check.specs.declared.refusal.RefusalKind.{RefusalKind}
-use Rattle.refute_check.specs.declared.refusal.RefusalKind.TheVariants.{NoSuchClause, NoPivot}
-use Rattle.refute_check.specs.LogRefusal.{ChainStops, no_start, no_clause, no_pivot, chain_before}
-use Rattle.refute_check.proofs.Steps.{step_more, end_more, resolved_end}
+use Rattle.evidence_rules.specs.declared.refusal.RefusalKind.{RefusalKind}
+use Rattle.evidence_rules.specs.declared.refusal.RefusalKind.TheVariants.{NoSuchClause, NoPivot}
+use Rattle.evidence_rules.specs.LogRefusal.{ChainStops, no_start, no_clause, no_pivot, chain_before}
+use Rattle.evidence_rules.proofs.Steps.{step_more, end_more, resolved_end}
 
 module _ (clauses : List Clause) (chain : ChainView) where
   -- the end of the first steps

@@ -1,5 +1,5 @@
-use Rattle.refute_check.proofs.LogLaws.{one_refusal, refused_is_wrong}
-use Rattle.refute_check.proofs.laws.log_is_refused_once.Goals as goal
+use Rattle.evidence_rules.proofs.LogLaws.{one_refusal, refused_is_wrong}
+use Rattle.evidence_rules.proofs.laws.log_is_refused_once.Goals as goal
 
 pub returns-clause-wrong : goal.returns-clause-wrong
 returns-clause-wrong c = refused_is_wrong

@@ -9,12 +9,12 @@ use Rattle.pair_miter.specs.Log.{IsRefutation}
 use Rattle.pair_miter.specs.Miter.{miter}
 use Rattle.pair_miter.specs.Resolution.{chain_end}
 use Rattle.pair_sets.specs.declared.tree.Token.{Token}
-use Rattle.refute_check.specs.declared.refusal.EvidenceKind.{EvidenceKind}
-use Rattle.refute_check.specs.declared.refusal.EvidenceKind.TheVariants.{Covered}
-use Rattle.refute_check.specs.declared.refusal.Refusal.{Refusal}
-use Rattle.refute_check.specs.declared.refusal.RefusalKind.{RefusalKind}
-use Rattle.refute_check.specs.TreeRefusal.{IsRightTree, TreeRefused}
-use Rattle.refute_check.specs.LogRefusal.{ChainStops, IsRightLog, LogRefused}
+use Rattle.evidence_rules.specs.declared.refusal.EvidenceKind.{EvidenceKind}
+use Rattle.evidence_rules.specs.declared.refusal.EvidenceKind.TheVariants.{Covered}
+use Rattle.evidence_rules.specs.declared.refusal.Refusal.{Refusal}
+use Rattle.evidence_rules.specs.declared.refusal.RefusalKind.{RefusalKind}
+use Rattle.evidence_rules.specs.TreeRefusal.{IsRightTree, TreeRefused}
+use Rattle.evidence_rules.specs.LogRefusal.{ChainStops, IsRightLog, LogRefused}
 
 -- faults with a refutation of their miter answer alike to every vector
 abbrev pub RefutationEqual : Type 0

@@ -6,11 +6,11 @@ use Rattle.clause_pool.specs.Clauses.{Clause, numbered_clause}
 use Rattle.pair_miter.specs.ChainView.{ChainView}
 use Rattle.pair_miter.specs.Resolution.{can_resolve, chain_end, log_ends, SameLiterals}
 use Rattle.pair_miter.specs.Log.{IsRefutation, IsSpentLog, EndsFresh}
-use Rattle.refute_check.specs.declared.refusal.EvidenceKind.{EvidenceKind}
-use Rattle.refute_check.specs.declared.refusal.EvidenceKind.TheVariants.{Covered, Refuted, Spent}
-use Rattle.refute_check.specs.declared.refusal.Refusal.{Refusal}
-use Rattle.refute_check.specs.declared.refusal.RefusalKind.{RefusalKind}
-use Rattle.refute_check.specs.declared.refusal.RefusalKind.TheVariants.{NoSuchClause, NoPivot, NotEmpty, EmptyEarly, NotFresh, WrongCount}
+use Rattle.evidence_rules.specs.declared.refusal.EvidenceKind.{EvidenceKind}
+use Rattle.evidence_rules.specs.declared.refusal.EvidenceKind.TheVariants.{Covered, Refuted, Spent}
+use Rattle.evidence_rules.specs.declared.refusal.Refusal.{Refusal}
+use Rattle.evidence_rules.specs.declared.refusal.RefusalKind.{RefusalKind}
+use Rattle.evidence_rules.specs.declared.refusal.RefusalKind.TheVariants.{NoSuchClause, NoPivot, NotEmpty, EmptyEarly, NotFresh, WrongCount}
 
 -- The log is what this kind of evidence needs; a covering tree needs none.
 abbrev pub IsRightLog : EvidenceKind → List Clause → ℕ → List ChainView → Type 0

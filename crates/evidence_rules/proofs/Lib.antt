@@ -1,0 +1,5 @@
+pub mod Steps
+pub mod Sound
+pub mod ChainLaws
+pub mod LogLaws
+pub mod TreeLaws

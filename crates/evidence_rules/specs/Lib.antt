@@ -1,0 +1,3 @@
+pub mod TreeRefusal
+pub mod LogRefusal
+pub mod Laws
