@@ -24,8 +24,8 @@ use Rattle.result_file.specs.Meaning.{stated_records, class_records, member_reco
 use Rattle.result_file.specs.Valid.{AreRightLines}
 use Rattle.result_file.specs.Laws.{ValidIsTrue}
 use Rattle.result_file.proofs.RightLines.{IsNextLine}
-use Rattle.dia_check.specs.declared.answer.Checked.{Checked}
-use Rattle.dia_check.specs.Accepted.{IsAccepted}
+use Rattle.result_file.specs.declared.checked.Checked.{Checked}
+use Rattle.result_file.specs.Accepted.{IsAccepted}
 use Rattle.compact_tests.specs.Remaining.{Answered, answered_vectors, answered_rows, remaining, remaining_behind, with_needed, classes_by}
 use Rattle.compact_tests.specs.declared.thin.Thin.{Thin}
 use Rattle.compact_tests.specs.ThinResult.{marks_in, needed_evidence, thin_result, IsThin}

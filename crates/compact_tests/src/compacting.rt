@@ -2,7 +2,7 @@
 
 ghost use Rattle.std.specs.Prelude.{◌≡◌, IfOk};
 ghost use Rattle.net_model.specs.FaultList.{faults as faults_of};
-ghost use Rattle.dia_check.specs.Reader.{IsAcceptedText};
+ghost use Rattle.result_file.specs.Accepted.{IsAcceptedText};
 ghost use Rattle.compact_tests.specs.Compacted.{IsCompacted};
 ghost use Rattle.compact_tests.specs.Thinning.{AreRemainingPlaces};
 
@@ -11,10 +11,9 @@ use crate::laws::thin_is_sound;
 use crate::text::{first_lines, push_numbers};
 use crate::thin::{Text, Thin};
 use crate::thinning::needed_patterns;
-use dia_check::Checked;
 use fault_list::{FaultList, list};
 use net_model::Circuit;
-use result_file::{Summary, valid_is_true};
+use result_file::{Checked, Summary, valid_is_true};
 use std::alloc::{AllocError, Global};
 
 /// What is left of a valid result where the patterns are left out that its classes don't need. `checked` is what the check

@@ -10,13 +10,15 @@ use Rattle.net_model.specs.Circuit.{Circuit}
 use Rattle.result_file.specs.declared.record.Record.{Record}
 use Rattle.result_file.specs.declared.fault.ResultFault.{ResultFault}
 use Rattle.result_file.specs.Spelling.{Text, text_of}
-use Rattle.dia_check.specs.declared.answer.Checked.{Checked}
+use Rattle.result_file.specs.declared.checked.Checked.{Checked}
 use Rattle.dia_check.specs.declared.answer.FileFault.{FileFault}
 use Rattle.dia_check.specs.declared.answer.FileFault.TheVariants as file
 use Rattle.dia_check.specs.declared.reader.Reader.{Reader}
 use Rattle.dia_check.specs.Faults.{as_shelf, file_fault}
-use Rattle.dia_check.specs.Accepted.{IsAccepted, ReadsRest, rest_of}
-use Rattle.dia_check.specs.Reader.{IsReading, IsAcceptedText}
+use Rattle.result_file.specs.Accepted.{IsAccepted}
+use Rattle.dia_check.specs.Left.{ReadsRest, rest_of}
+use Rattle.result_file.specs.Accepted.{IsAcceptedText}
+use Rattle.dia_check.specs.Reader.{IsReading}
 use Rattle.dia_check.specs.Rest.{HasRead}
 use Rattle.dia_check.proofs.RestLemmas.{rest_read, rest_whole}
 

@@ -9,12 +9,12 @@ use Rattle.result_file.specs.Refusal.{line_length, FileRefused}
 use Rattle.result_file.specs.Refusal.RestRefused.{no_line, no_record}
 use Rattle.result_file.specs.Refusal.FileRefused.{at_line}
 use Rattle.result_file.proofs.FirstLine.{unended, unended_length}
-use Rattle.dia_check.specs.declared.answer.Checked.{Checked}
+use Rattle.result_file.specs.declared.checked.Checked.{Checked}
 use Rattle.dia_check.specs.declared.checker.Checker.{Checker}
 use Rattle.dia_check.specs.declared.stop.Stop.{Stop}
 use Rattle.dia_check.specs.declared.stop.Stop.TheVariants as stop
 use Rattle.dia_check.specs.Checker.{IsCheckOf, IsJudgedWhole, IsJudged, IsWholly, JudgesWaiting, JudgesEnd}
-use Rattle.dia_check.specs.Reader.{IsAcceptedText}
+use Rattle.result_file.specs.Accepted.{IsAcceptedText}
 use Rattle.dia_check.proofs.CheckLemmas.{fault_behind, text_seen, table_seen}
 
 ends_by : (c : Circuit) (mid new : Checker) (text rest : Text) (s : Stop) → IsJudged c text mid (Err s) → IsWholly c text rest new (Err s)

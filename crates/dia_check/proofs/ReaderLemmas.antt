@@ -16,9 +16,10 @@ use Rattle.dia_check.specs.declared.checker.Checker.{Checker}
 use Rattle.dia_check.specs.declared.reader.Reader.{Reader}
 use Rattle.dia_check.specs.declared.stop.Stop.{Stop}
 use Rattle.dia_check.specs.declared.stop.Stop.TheVariants as stop
-use Rattle.dia_check.specs.declared.answer.Checked.{Checked}
+use Rattle.result_file.specs.declared.checked.Checked.{Checked}
 use Rattle.dia_check.specs.Checker.{IsCheckOf, HasCheck, IsJudgedWhole, IsRefusedText, IsJudged, JudgesText, JudgesWaiting, JudgesEnd}
-use Rattle.dia_check.specs.Reader.{IsHeld, HasJudgedLines, IsReading, HasHeld, HasOpen, AreTaken, IsTaken, TakesLines, TakesPiece, IsAcceptedText, IsRefusedEnd}
+use Rattle.result_file.specs.Accepted.{IsAcceptedText}
+use Rattle.dia_check.specs.Reader.{IsHeld, HasJudgedLines, IsReading, HasHeld, HasOpen, AreTaken, IsTaken, TakesLines, TakesPiece, IsRefusedEnd}
 use Rattle.dia_check.proofs.CheckLemmas.{fault_behind, refused_longer, text_seen}
 
 -- ---- a line that is taken out

@@ -11,7 +11,7 @@ use Rattle.net_model.specs.Circuit.{Circuit}
 use Rattle.result_file.specs.declared.fault.ResultFault.{ResultFault}
 use Rattle.result_file.specs.Spelling.{Text}
 use Rattle.result_file.specs.Refusal.{FileRefused}
-use Rattle.dia_check.specs.Accepted.{rest_of, ReadsRest}
+use Rattle.dia_check.specs.Left.{rest_of, ReadsRest}
 use Rattle.dia_check.specs.Reader.{IsRefusedEnd}
 use Rattle.dia_check.specs.Rest.{TakesText, TakesAll}
 

@@ -1,5 +1,5 @@
 pub mod Faults
-pub mod Accepted
+pub mod Left
 -- What is known on the way
 pub mod Progress
 pub mod Checker

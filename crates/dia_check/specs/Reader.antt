@@ -5,11 +5,9 @@ use Rattle.result_file.specs.declared.record.Record.{Record}
 use Rattle.result_file.specs.declared.fault.ResultFault.{ResultFault}
 use Rattle.result_file.specs.Spelling.{Text, text_of}
 use Rattle.result_file.specs.Refusal.{FileRefused}
-use Rattle.dia_check.specs.declared.answer.Checked.{Checked}
 use Rattle.dia_check.specs.declared.stop.Stop.{Stop}
 use Rattle.dia_check.specs.declared.stop.Stop.TheVariants as stop
 use Rattle.dia_check.specs.declared.reader.Reader.{Reader}
-use Rattle.dia_check.specs.Accepted.{IsAccepted}
 use Rattle.dia_check.specs.Checker.{IsCheckOf, IsRefusedText}
 
 -- Lines of these bytes were judged, and the others are held.
@@ -67,9 +65,3 @@ pub record TakesPiece (c : Circuit) (old new : Reader) (piece : Text) (result : 
 pub record IsRefusedEnd (c : Circuit) (fed : Text) (fault : ResultFault) : Type 0 where
   pub whole : FileRefused c fed fault
   pub beyond : 2 ^ 40 < length fed → IsRefusedText c fed fault
-
--- A file is accepted that has these bytes.
-pub record IsAcceptedText (c : Circuit) (fed : Text) (checked : Checked) : Type 0 where
-  pub records : List Record
-  pub accepted : IsAccepted c records checked
-  pub text_is : fed ≡ text_of records

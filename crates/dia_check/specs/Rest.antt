@@ -5,7 +5,7 @@ use Rattle.diag_shelf.specs.Calls.{Told}
 use Rattle.net_model.specs.Circuit.{Circuit}
 use Rattle.result_file.specs.Spelling.{Text}
 use Rattle.dia_check.specs.declared.reader.Reader.{Reader}
-use Rattle.dia_check.specs.Accepted.{rest_of}
+use Rattle.dia_check.specs.Left.{rest_of}
 use Rattle.dia_check.specs.Reader.{IsReading}
 
 -- These bytes were taken from the rest of the opened file.

@@ -1,24 +1,13 @@
-//! What the check of a result file answers.
+//! Why the check of a result file refuses.
 
 ghost use Rattle.std.specs.Prelude.{◌≡◌};
 ghost use Rattle.dia_check.specs.Faults.{file_fault};
 ghost use Rattle.dia_check.specs.declared.answer.FileFault.TheVariants as file;
 
-use class_refine::Classes;
 use diag_shelf::ShelfFault;
-use net_model::Vectors;
-use result_file::{Budgets, ResultFault, Summary};
+use result_file::ResultFault;
 use std::alloc::AllocError;
 use thiserror::Error;
-
-/// What a valid result states: its counts, its budgets and patterns, and the classes that the patterns tell apart.
-#[derive(Drop)]
-pub struct Checked {
-    pub summary: Summary,
-    pub budgets: Budgets,
-    pub patterns: Vectors,
-    pub classes: Classes,
-}
 
 /// Why a file wasn't accepted.
 #[derive(Clone, Copy, Debug, PartialEq, Eq, Error)]

@@ -9,9 +9,8 @@ ghost use Rattle.result_file.specs.Marks.{pattern_of, evidence_in, mark_of as ma
 ghost use Rattle.result_file.specs.Lines.{AreWithinLimits, NamesNext, IsRightClass, IsRightMember};
 ghost use Rattle.result_file.specs.Spelling.{Text, HasSpelling, IsNoSpelling, spelling};
 ghost use Rattle.dia_check.specs.Checker.{HasCheck, JudgesText, JudgesWaiting, JudgesEnd, IsChecker, IsCheckOf, IsJudgedWhole, NamesOpen, record_line};
-ghost use Rattle.dia_check.specs.Reader.{IsAcceptedText};
+ghost use Rattle.result_file.specs.Accepted.{IsAcceptedText};
 
-use crate::answer::Checked;
 use crate::progress::Progress;
 use crate::stop::{Judged, Stop};
 use clause_pool::Pool;
@@ -20,9 +19,7 @@ use kept_vectors::Keeper;
 use member_marks::{Marks, Subject, mark_of};
 use net_model::{Vector, Vectors};
 use evidence_rules::CheckFault;
-use result_file::{
-    Budgets, Evidence, Mark, Record, RecordFault, ResultFault, ResultKind, Summary, read_record,
-};
+use result_file::{Budgets, Checked, Evidence, Mark, Record, RecordFault, ResultFault, ResultKind, Summary, read_record};
 use std::alloc::{AllocError, Global};
 use word_sim::LANES;
 

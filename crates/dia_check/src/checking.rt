@@ -7,17 +7,19 @@ ghost use Rattle.result_file.specs.declared.fault.ResultFault.{ResultFault};
 ghost use Rattle.result_file.specs.Spelling.{text_of};
 ghost use Rattle.result_file.specs.Refusal.{FileRefused};
 ghost use Rattle.dia_check.specs.Faults.{as_shelf};
-ghost use Rattle.dia_check.specs.Accepted.{IsAccepted, ReadsRest, rest_of};
+ghost use Rattle.result_file.specs.Accepted.{IsAccepted};
+ghost use Rattle.dia_check.specs.Left.{ReadsRest, rest_of};
 ghost use Rattle.dia_check.specs.Reader.{IsReading};
 ghost use Rattle.dia_check.specs.Rest.{HasRead};
 
-use crate::answer::{Checked, FileFault};
+use crate::answer::FileFault;
 use crate::reader::{LIMIT, Reader};
 use diag_shelf::Shelf;
 use fault_collapse::collapse;
 use fault_list::list;
 use member_marks::Subject;
 use net_model::Circuit;
+use result_file::Checked;
 use std::alloc::Global;
 
 /// Checks the opened file against a circuit: it is accepted exactly where its rest is a valid result. Else the first line

@@ -2,15 +2,17 @@
 
 ghost use Rattle.std.specs.Prelude.{◌≡◌, [], IfOk, OnOk, IsErrOf};
 ghost use Rattle.result_file.specs.declared.fault.ResultFault.{ResultFault};
-ghost use Rattle.dia_check.specs.Reader.{IsReading, IsAcceptedText, IsRefusedEnd};
+ghost use Rattle.result_file.specs.Accepted.{IsAcceptedText};
+ghost use Rattle.dia_check.specs.Reader.{IsReading, IsRefusedEnd};
 
-use crate::answer::{Checked, FileFault};
+use crate::answer::FileFault;
 use crate::checking::PIECE;
 use crate::reader::Reader;
 use fault_collapse::collapse;
 use fault_list::list;
 use member_marks::Subject;
 use net_model::Circuit;
+use result_file::Checked;
 use std::alloc::{AllocError, Global};
 
 /// Checks a text against a circuit, as `check` does the opened file: it is accepted exactly where it is a valid result, of at most

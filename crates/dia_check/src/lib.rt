@@ -9,6 +9,7 @@ mod progress;
 mod reader;
 mod stop;
 
-pub use answer::{Checked, FileFault};
+pub use answer::FileFault;
 pub use checking::check;
 pub use in_memory::check_text;
+pub use result_file::Checked;

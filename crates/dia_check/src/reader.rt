@@ -3,13 +3,14 @@
 ghost use Rattle.std.specs.Prelude.{◌≡◌, ◌≤◌, ◌++◌, ◌^◌, [], min, length, IfOk, OnOk, IsErrOf};
 ghost use Rattle.result_file.specs.declared.fault.ResultFault.{ResultFault};
 ghost use Rattle.result_file.specs.Spelling.{Text};
-ghost use Rattle.dia_check.specs.Reader.{IsReading, IsAcceptedText, IsRefusedEnd, HasHeld, HasOpen, HasReading, TakesLines, TakesPiece};
+ghost use Rattle.result_file.specs.Accepted.{IsAcceptedText};
+ghost use Rattle.dia_check.specs.Reader.{IsReading, IsRefusedEnd, HasHeld, HasOpen, HasReading, TakesLines, TakesPiece};
 
-use crate::answer::{Checked, FileFault};
+use crate::answer::FileFault;
 use crate::checker::Checker;
 use crate::stop::{Judged, Stop};
 use member_marks::Subject;
-use result_file::{Lines, ResultFault, ResultKind};
+use result_file::{Checked, Lines, ResultFault, ResultKind};
 use std::alloc::{AllocError, Global};
 
 /// The most bytes of a file.

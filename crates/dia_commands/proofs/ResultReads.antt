@@ -7,8 +7,9 @@ use Rattle.diag_shelf.specs.Calls.{read_of}
 use Rattle.net_model.specs.Circuit.{Circuit}
 use Rattle.result_file.specs.declared.fault.ResultFault.{ResultFault}
 use Rattle.result_file.specs.Refusal.{FileRefused}
-use Rattle.dia_check.specs.declared.answer.Checked.{Checked}
-use Rattle.dia_check.specs.Reader.{IsAcceptedText, IsRefusedEnd}
+use Rattle.result_file.specs.declared.checked.Checked.{Checked}
+use Rattle.result_file.specs.Accepted.{IsAcceptedText}
+use Rattle.dia_check.specs.Reader.{IsRefusedEnd}
 use Rattle.request_words.specs.Request.{Text}
 use Rattle.dia_commands.specs.Texts.{result_text}
 use Rattle.dia_commands.specs.Results.{IsResult, IsRefusedResult}

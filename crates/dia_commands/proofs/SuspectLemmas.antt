@@ -5,8 +5,8 @@ use Rattle.net_model.specs.Circuit.{Circuit}
 use Rattle.result_file.specs.declared.record.Record.{Record}
 use Rattle.result_file.specs.Spelling.{text_of}
 use Rattle.result_file.specs.Marks.{patterns_in}
-use Rattle.dia_check.specs.declared.answer.Checked.{Checked}
-use Rattle.dia_check.specs.Accepted.{IsAccepted}
+use Rattle.result_file.specs.declared.checked.Checked.{Checked}
+use Rattle.result_file.specs.Accepted.{IsAccepted}
 use Rattle.ranked_diag.specs.PartialLog.{Line, IsPartialLog}
 use Rattle.request_words.specs.Request.{Text}
 use Rattle.dia_commands.specs.declared.ending.FileKind.{FileKind}

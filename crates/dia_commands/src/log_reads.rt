@@ -4,7 +4,7 @@ ghost use Rattle.std.specs.Prelude.{List, IfErr, IfOk, length};
 ghost use Rattle.net_model.specs.PatternRows.{IsTableOf};
 ghost use Rattle.result_file.specs.declared.record.Record.{Record};
 ghost use Rattle.result_file.specs.Spelling.{text_of};
-ghost use Rattle.dia_check.specs.Accepted.{IsAccepted};
+ghost use Rattle.result_file.specs.Accepted.{IsAccepted};
 ghost use Rattle.ranked_diag.specs.PartialLog.{ArePartial};
 ghost use Rattle.dia_commands.specs.declared.ending.FileKind.TheVariants as file;
 ghost use Rattle.dia_commands.specs.Steps.{WasAccepted, IsOver};
@@ -12,10 +12,10 @@ ghost use Rattle.dia_commands.specs.Suspects.{IsLogAt, IsRefusedAt};
 
 use crate::ending::RunFault;
 use crate::logs::read_partial_log;
-use dia_check::Checked;
 use diag_shelf::Shelf;
 use net_model::Circuit;
 use ranked_diag::Partial;
+use result_file::Checked;
 use std::alloc::Global;
 
 /// Reads and judges the log under a name, for a result that was checked. Where it isn't accepted, the console says why, and the run is

@@ -18,10 +18,10 @@ use crate::results::read_result;
 use crate::texts::plan_counts_text;
 use adaptive_tree::{Plan, plan_at, plan_of_a_table_is_good, write_plan};
 use class_refine::Classes;
-use dia_check::Checked;
 use diag_shelf::Shelf;
 use fault_list::list;
 use net_model::{Circuit, Vectors};
+use result_file::Checked;
 use std::alloc::{AllocError, Global};
 use table_dicts::Setting;
 

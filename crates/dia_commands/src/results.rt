@@ -3,8 +3,8 @@
 ghost use Rattle.std.specs.Prelude.{List, Err, IfErr, IfOk};
 ghost use Rattle.result_file.specs.declared.record.Record.{Record};
 ghost use Rattle.result_file.specs.Spelling.{text_of};
-ghost use Rattle.dia_check.specs.Accepted.{IsAccepted};
-ghost use Rattle.dia_check.specs.Reader.{IsAcceptedText};
+ghost use Rattle.result_file.specs.Accepted.{IsAccepted};
+ghost use Rattle.result_file.specs.Accepted.{IsAcceptedText};
 ghost use Rattle.dia_commands.specs.declared.ending.FileKind.TheVariants as kind;
 ghost use Rattle.dia_commands.specs.Ending.{refused};
 ghost use Rattle.dia_commands.specs.Outcome.{said, IsPartOf};
@@ -16,10 +16,10 @@ ghost use Rattle.dia_commands.specs.Texts.{result_text};
 use crate::ending::{FileKind, RunFault};
 use crate::ends::{read_fault, read_file, refuse_by};
 use crate::texts::result_text;
-use dia_check::{Checked, FileFault, check, check_text};
+use dia_check::{FileFault, check, check_text};
 use diag_shelf::Shelf;
 use net_model::Circuit;
-use result_file::ResultFault;
+use result_file::{Checked, ResultFault};
 use std::alloc::Global;
 
 /// Reads and judges the result under a name. Where it isn't valid, the console says why, and the run is over.

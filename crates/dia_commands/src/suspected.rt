@@ -4,7 +4,7 @@ ghost use Rattle.std.specs.Prelude.{◌≡◌, ◌++◌, ℕ, List, All, IfOk, O
 ghost use Rattle.net_model.specs.PatternRows.{IsTableOf};
 ghost use Rattle.result_file.specs.declared.record.Record.{Record};
 ghost use Rattle.result_file.specs.Spelling.{text_of};
-ghost use Rattle.dia_check.specs.Accepted.{IsAccepted};
+ghost use Rattle.result_file.specs.Accepted.{IsAccepted};
 ghost use Rattle.ranked_diag.specs.PartialLog.{Line, ArePartial};
 ghost use Rattle.request_words.specs.Request.{suspects};
 ghost use Rattle.dia_commands.specs.Plans.{says, with_log_at, with_result};
@@ -18,11 +18,11 @@ use crate::log_reads::read_log_at;
 use crate::netlists::read_design;
 use crate::results::read_result;
 use crate::texts::{push_suspect, push_suspects_end};
-use dia_check::Checked;
 use diag_shelf::Shelf;
 use fault_list::list;
 use net_model::Circuit;
 use ranked_diag::Partial;
+use result_file::Checked;
 use std::alloc::{AllocError, Global};
 use suspect_scores::{
     Suspects, circuits_are_classed, count_failing, members_score_alike, one_list_of_suspects,

@@ -4,6 +4,7 @@ pub mod Lines
 pub mod Summary
 pub mod Valid
 pub mod Refusal
+pub mod Accepted
 pub mod Meaning
 -- Reading
 pub mod Reading

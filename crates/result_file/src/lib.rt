@@ -1,6 +1,7 @@
 //! The records of a result file, how they are written and read, and which files are valid and true.
 #![tactic(auto)]
 
+mod checked;
 mod evidence;
 mod fault;
 mod laws;
@@ -12,6 +13,7 @@ mod words;
 mod write;
 mod write_log;
 
+pub use checked::Checked;
 pub use fault::{RecordFault, ResultFault, ResultKind};
 pub use laws::{
     file_is_refused_once, lines_are_what_was_fed, record_is_spelled_once, valid_is_true,

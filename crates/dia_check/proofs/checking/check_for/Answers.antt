@@ -2,7 +2,7 @@ use Rattle.std.proofs.Common.{rules, ◌≡◌, Result, Err, refl, ap}
 use Rattle.result_file.specs.declared.fault.ResultFault.{ResultFault}
 use Rattle.diag_shelf.specs.Calls.{Told}
 use Rattle.diag_shelf.proofs.Steps.{facts_same, read_unkept, on_error}
-use Rattle.dia_check.specs.Accepted.{ReadsRest}
+use Rattle.dia_check.specs.Left.{ReadsRest}
 use Rattle.dia_check.specs.Faults.{as_shelf}
 use Rattle.dia_check.specs.declared.answer.FileFault.{FileFault}
 use Rattle.dia_check.specs.declared.answer.FileFault.TheVariants as file

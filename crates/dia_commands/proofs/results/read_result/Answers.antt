@@ -6,7 +6,7 @@ use Rattle.diag_shelf.specs.declared.shelf.ShelfFault.TheVariants.{Failed, NoMem
 use Rattle.diag_shelf.specs.Calls.{Told, Opens, OnlyReads}
 use Rattle.diag_shelf.proofs.Steps.{facts_same, facts_after_read, reads_more}
 use Rattle.result_file.specs.Refusal.{FileRefused}
-use Rattle.dia_check.specs.Accepted.{rest_of}
+use Rattle.dia_check.specs.Left.{rest_of}
 use Rattle.dia_commands.specs.declared.ending.RunFault.{RunFault}
 use Rattle.dia_commands.specs.Ending.{read_fault}
 use Rattle.dia_commands.specs.Steps.{CouldNotRead, by_reading}

@@ -1,5 +1,6 @@
 use Rattle.std.proofs.Common.{Err, ap}
-use Rattle.dia_check.specs.Reader.{IsAcceptedText, IsRefusedEnd}
+use Rattle.result_file.specs.Accepted.{IsAcceptedText}
+use Rattle.dia_check.specs.Reader.{IsRefusedEnd}
 use Rattle.dia_commands.specs.Steps.{by_reading}
 use Rattle.dia_commands.proofs.HandedOn.{handed_err}
 use Rattle.dia_commands.proofs.ResultReads.{result_read, refused_result_read}
