@@ -9,7 +9,7 @@ use Rattle.net_model.specs.Answer.{IsAnswer}
 use Rattle.answer_numbers.specs.AnswerNumbers.{AreLeadAnswers, IsDistinctPlace, lead_fault}
 use Rattle.answer_numbers.specs.Distinct.{distinct_answers}
 use Rattle.answer_numbers.proofs.DistinctLemmas.{is_among, among_is, distinct_push, in_distinct, distinct_apart}
-use Rattle.kept_vectors.proofs.AnswerLemmas.{answer_exists}
+use Rattle.class_refine.proofs.PatternTables.{answer_exists}
 use Rattle.adaptive_tree.specs.Numbering.{AreRowNumbers}
 use Rattle.adaptive_tree.specs.CircuitNumbers.{AnswerSo, answer_list, AreFirstPlaces}
 

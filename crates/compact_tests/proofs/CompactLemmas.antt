@@ -10,7 +10,7 @@ use Rattle.net_model.specs.ClassTable.{ClassTable, class_table, number_range}
 use Rattle.net_model.specs.PatternRows.{AreAnswerRows, IsTableOf}
 use Rattle.class_refine.proofs.Ranges.{range_below}
 use Rattle.kept_vectors.specs.Kept.{SplitInTurn}
-use Rattle.kept_vectors.proofs.KeepLemmas.{table_numbers}
+use Rattle.class_refine.proofs.PatternTables.{table_numbers}
 use Rattle.result_file.specs.declared.record.Budgets.{Budgets}
 use Rattle.result_file.specs.declared.record.Mark.{Mark}
 use Rattle.result_file.specs.declared.record.Summary.{Summary}

@@ -8,7 +8,7 @@ use Rattle.net_model.specs.FaultList.{fault_count, fault_numbered}
 use Rattle.net_model.specs.Answer.{IsAnswer}
 use Rattle.net_model.specs.ClassTable.{ClassTable, representative}
 use Rattle.net_model.specs.PatternRows.{IsAnswerRow, AreAnswerRows}
-use Rattle.kept_vectors.proofs.AnswerLemmas.{answer_in_row}
+use Rattle.class_refine.proofs.PatternTables.{answer_in_row}
 use Rattle.class_refine.proofs.Ranges.{zip_at}
 use Rattle.table_dicts.proofs.BlockLemmas.{lane_pattern}
 use Rattle.answer_numbers.specs.AnswerNumbers.{answer_numbers_with}

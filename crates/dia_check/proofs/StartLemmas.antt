@@ -5,7 +5,8 @@ use Rattle.net_model.specs.Circuit.{Circuit, IsCircuit}
 use Rattle.net_model.specs.FaultList.{fault_count}
 use Rattle.kept_vectors.specs.Kept.{nothing_kept}
 use Rattle.kept_vectors.specs.Keeper.{Keeper, keeper_with}
-use Rattle.kept_vectors.proofs.KeepLemmas.{keeper_first, table_numbers}
+use Rattle.class_refine.proofs.PatternTables.{table_numbers}
+use Rattle.kept_vectors.proofs.KeepLemmas.{keeper_first}
 use Rattle.member_marks.proofs.MarkLemmas.{given_none}
 use Rattle.result_file.specs.Valid.{AreRightLines}
 use Rattle.dia_check.specs.declared.checker.Checker.{Checker}

@@ -9,7 +9,7 @@ use Rattle.net_model.specs.Circuit.{Circuit}
 use Rattle.net_model.specs.FaultList.{fault_count, fault_numbered}
 use Rattle.net_model.specs.ClassTable.{ClassTable, class_at, class_count, representative}
 use Rattle.class_refine.proofs.Refined.{few_classes}
-use Rattle.kept_vectors.proofs.KeepLemmas.{table_numbers}
+use Rattle.class_refine.proofs.PatternTables.{table_numbers}
 use Rattle.member_marks.specs.declared.marks.Given.{Given}
 use Rattle.member_marks.specs.Given.{given_mark, AreGiven}
 use Rattle.member_marks.proofs.MarkLemmas.{given_more, lowest_is_next, lead_inside}

@@ -12,7 +12,7 @@ use Rattle.net_model.specs.PatternRows.{IsTableOf}
 use Rattle.net_model.proofs.Listed.{All-range_with_len}
 use Rattle.class_refine.specs.Fields.{IsWhole}
 use Rattle.class_refine.proofs.Refined.{representative-member}
-use Rattle.kept_vectors.proofs.KeepLemmas.{table_numbers}
+use Rattle.class_refine.proofs.PatternTables.{table_numbers}
 use Rattle.table_dicts.specs.declared.dict.Dict.{Dict}
 use Rattle.table_dicts.specs.Apart.{has_apart, apart_count}
 use Rattle.table_dicts.specs.Dictionary.{entry_of}

@@ -14,7 +14,7 @@ use Rattle.result_file.specs.declared.record.Record.TheVariants.{Pattern, End}
 use Rattle.result_file.specs.Marks.{patterns_in}
 use Rattle.result_file.specs.Valid.{IsValid, AreRightLines, record_at}
 use Rattle.result_file.specs.Lines.{IsRightLine}
-use Rattle.kept_vectors.proofs.KeepLemmas.{table_numbers}
+use Rattle.class_refine.proofs.PatternTables.{table_numbers}
 use Rattle.table_dicts.specs.declared.dict.Dict.{Dict}
 use Rattle.table_dicts.specs.AnswerTable.{Answers, AreAnswers}
 use Rattle.table_dicts.specs.Dictionary.{IsGroupedDict, IsShaped}

@@ -5,7 +5,7 @@ use Rattle.net_model.specs.ClassTable.{ClassTable, class_count, representative, 
 use Rattle.net_model.specs.PatternRows.{IsTableOf}
 use Rattle.class_refine.specs.Fields.{IsWhole}
 use Rattle.class_refine.proofs.Refined.{representative-member}
-use Rattle.kept_vectors.proofs.KeepLemmas.{table_numbers}
+use Rattle.class_refine.proofs.PatternTables.{table_numbers}
 use Rattle.table_dicts.specs.declared.dict.Dict.{Dict}
 use Rattle.table_dicts.specs.declared.dict.DictKind.{DictKind}
 use Rattle.table_dicts.specs.AnswerTable.{Answers, AreAnswers}

@@ -15,7 +15,7 @@ use Rattle.net_model.specs.Circuit.{Circuit}
 use Rattle.net_model.specs.FaultList.{fault_count}
 use Rattle.kept_vectors.specs.Kept.{nothing_kept}
 use Rattle.kept_vectors.specs.Keeper.{keeper_with, IsKeeper}
-use Rattle.kept_vectors.proofs.KeepLemmas.{table_numbers}
+use Rattle.class_refine.proofs.PatternTables.{table_numbers}
 use Rattle.kept_vectors.proofs.StreamLemmas.{stream_kept}
 use Rattle.dia_gen.specs.declared.draft.Draft.{Draft}
 use Rattle.dia_gen.specs.GenerationSetting.{GenerationSetting}

@@ -34,7 +34,8 @@ use Rattle.member_marks.specs.Given.{given_mark, AreGiven, AreAllMarked}
 use Rattle.dia_gen.specs.Marked.{member_for}
 use Rattle.dia_gen.specs.Draft.{AreDraftLines}
 use Rattle.dia_gen.specs.Made.{head_lines, lines_with}
-use Rattle.kept_vectors.proofs.KeepLemmas.{table_numbers, table_patterns}
+use Rattle.class_refine.proofs.PatternTables.{table_numbers}
+use Rattle.kept_vectors.proofs.KeepLemmas.{table_patterns}
 use Rattle.member_marks.proofs.MarkLemmas.{all_marked_none, lead_inside}
 use Rattle.dia_gen.proofs.DraftLemmas.{lines_patterns, lines_evidence, lines_two, lines_count}
 

@@ -21,7 +21,8 @@ use Rattle.result_file.specs.Valid.{AreRightLines}
 use Rattle.result_file.proofs.RecordLists.{text-append}
 use Rattle.kept_vectors.specs.Kept.{Keeps}
 use Rattle.kept_vectors.specs.Keeper.{Keeper}
-use Rattle.kept_vectors.proofs.KeepLemmas.{table_numbers, leads_rise}
+use Rattle.class_refine.proofs.PatternTables.{table_numbers}
+use Rattle.kept_vectors.proofs.KeepLemmas.{leads_rise}
 use Rattle.kept_vectors.proofs.Separating.{IsAdded, separating_added}
 use Rattle.dia_gen.specs.declared.draft.Draft.{Draft}
 use Rattle.member_marks.specs.declared.marks.Given.{Given}

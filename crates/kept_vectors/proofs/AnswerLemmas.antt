@@ -1,44 +1,13 @@
--- Answers to a vector: each fault has one, and where it differs from the fault-free one says which it is.
-use Rattle.std.proofs.Common.{◌≡◌, ◌≢◌, ◌↔◌, ℕ, ◌<◌, Bool, true, false, List, [], ◌∷◌, length, get_or, refl, sym, ap, ◌∙◌, arith, IsTrue}
-use Rattle.std.specs.List.{AllZip}
-use Rattle.std.proofs.lemmas.List.{length-map}
+-- Where the answer to a vector differs from the fault-free one says which it is.
+use Rattle.std.proofs.Common.{◌≡◌, ◌≢◌, ◌↔◌, ℕ, ◌<◌, Bool, true, false, List, length, refl, sym, ◌∙◌, arith, IsTrue}
 use Rattle.std.proofs.lemmas.Bool.{false≢true}
-use Rattle.std.proofs.lemmas.List.FromFn.{length-enumerate_from}
 use Rattle.net_model.specs.declared.fault.Fault.{Fault}
 use Rattle.net_model.specs.declared.fault.Fault.TheVariants.{Free}
 use Rattle.net_model.specs.Circuit.{Circuit, IsCircuit}
-use Rattle.net_model.specs.Fault.{readings}
-use Rattle.net_model.specs.Answer.{bit_at, shown_bits, IsAnswer}
-use Rattle.net_model.specs.FaultList.{faults, fault_count, fault_numbered}
-use Rattle.net_model.specs.PatternRows.{IsAnswerRow}
+use Rattle.net_model.specs.Answer.{bit_at, IsAnswer}
 use Rattle.net_model.proofs.Copies.{same_bits_same_list}
-use Rattle.net_model.proofs.Evaluation.{Agrees-exists}
-use Rattle.class_refine.proofs.Ranges.{zip_at}
+use Rattle.class_refine.proofs.PatternTables.{answer_width, answer_exists}
 use Rattle.fault_sim.specs.FaultSim.{IsDifference}
-
--- an answer has a bit for each observed position
-pub answer_width : {c : Circuit} {f : Fault} {v answer : List Bool} → IsAnswer c f v answer → length answer ≡ length c.positions
-unfolding readings
-answer_width {c} {f} {v} {answer} is = ap length is.shows ∙ length-map _ _ ∙ length-enumerate_from 0 c.positions
-
-pub answer_exists : (c : Circuit) → IsCircuit c → (f : Fault) (v : List Bool) → (answer : List Bool) × IsAnswer c f v answer
-answer_exists c is f v =
-    let one = Agrees-exists c f v is in
-    (shown_bits c f one.0, record { bits = one.0; agrees = one.1; shows = refl })
-
-answers_exist : (c : Circuit) → IsCircuit c → (v : List Bool) (fs : List Fault) → (row : List (List Bool)) × AllZip (λ f answer. IsAnswer c f v answer) fs row
-answers_exist c is v [] = ([], tt)
-answers_exist c is v (f ∷ fs) =
-    let one = answer_exists c is f v in
-    let more = answers_exist c is v fs in
-    (one.0 ∷ more.0, (one.1, more.1))
-
-pub row_exists : (c : Circuit) → IsCircuit c → (v : List Bool) → (row : List (List Bool)) × IsAnswerRow c v row
-row_exists c is v = answers_exist c is v (faults c)
-
--- the answer of a number in a row
-pub answer_in_row : (c : Circuit) (v : List Bool) (row : List (List Bool)) → IsAnswerRow c v row → (number : ℕ) → number < fault_count c → IsAnswer c (fault_numbered c number) v (get_or row number [])
-answer_in_row c v row all number h = zip_at (λ f answer. IsAnswer c f v answer) (faults c) row number Free [] all h
 
 both_other : (a b free : Bool) → a ≢ free → b ≢ free → a ≡ b
 both_other true true free ha hb = refl

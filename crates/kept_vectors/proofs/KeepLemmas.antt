@@ -16,13 +16,12 @@ use Rattle.net_model.proofs.Listed.{some_number}
 use Rattle.class_refine.specs.Fields.{IsWhole}
 use Rattle.class_refine.proofs.Pieces.{representative_lowest}
 use Rattle.class_refine.proofs.Refined.{sound_from, from_cuts, adds_split, whole-first, representative-member}
-use Rattle.class_refine.proofs.Names.{numbers_after}
 use Rattle.word_sim.specs.GoodSim.{GoodSim, vectors_of}
 use Rattle.fault_heads.specs.Turned.{vector_at}
 use Rattle.kept_vectors.specs.Kept.{KeptSoFar, nothing_kept, with_vector, Keeps, KeepsFirst, SplitInTurn, IsFiner}
 use Rattle.kept_vectors.specs.Keeper.{keeper_with, IsKeeper}
 use Rattle.kept_vectors.specs.Notes.{AreAlikeAt}
-use Rattle.kept_vectors.proofs.AnswerLemmas.{row_exists, answer_in_row}
+use Rattle.class_refine.proofs.PatternTables.{answer_in_row, rows_exist}
 use Rattle.kept_vectors.proofs.SameCuts.{none_kept, whole_kept}
 
 -- ---- vectors with their rows
@@ -53,14 +52,6 @@ all_zip_more R [] [] x y all one = (one, tt)
 all_zip_more R [] (b ∷ ys) x y all one = absurd all
 all_zip_more R (a ∷ xs) [] x y all one = absurd all
 all_zip_more R (a ∷ xs) (b ∷ ys) x y all one = (all.0, all_zip_more R xs ys x y all.1 one)
-
--- each vector has a row of answers
-pub rows_exist : (c : Circuit) → IsCircuit c → (vectors : List (List Bool)) → (rows : List (List (List Bool))) × AreAnswerRows c vectors rows
-rows_exist c is [] = ([], tt)
-rows_exist c is (v ∷ vectors) =
-    let one = row_exists c is v in
-    let more = rows_exist c is vectors in
-    (one.0 ∷ more.0, (one.1, more.1))
 
 -- ---- one after another
 
@@ -112,10 +103,6 @@ either_way (Ok x) ok err by_ok by_err = by_ok ok
 either_way (Err e) ok err by_ok by_err = by_err err
 
 -- ---- tables
-
--- the table of a circuit has all its fault numbers
-pub table_numbers : {c : Circuit} {patterns : List (List Bool)} {t : ClassTable} → IsTableOf c patterns t → length t.class_of ≡ fault_count c
-table_numbers {c} {patterns} {t} is = ap (λ (u : ClassTable). length u.class_of) is.table ∙ numbers_after is.rows (first_table (fault_count c)) ∙ length-replicate (fault_count c) 0
 
 patterns-fold : (rows : List (List (List Bool))) (t : ClassTable) → (fold refined_table t rows).patterns ≡ t.patterns + length rows
 unfolding refined_table

@@ -17,7 +17,7 @@ use Rattle.kept_vectors.specs.Leaves.{AreToldAt}
 use Rattle.kept_vectors.specs.Notes.{Noted, AreTold, AreMatesNoted}
 use Rattle.kept_vectors.specs.Units.{AreTogether, AreOfUnits}
 use Rattle.kept_vectors.specs.Waits.{AreWaiting}
-use Rattle.kept_vectors.proofs.AnswerLemmas.{row_exists}
+use Rattle.class_refine.proofs.PatternTables.{row_exists}
 use Rattle.kept_vectors.proofs.KeepLemmas.{ran_vectors, keeps_one, skipped_lane, whole_after}
 use Rattle.kept_vectors.proofs.LeaveLemmas.{alike_in_row, first_here, some_leaves, all_leave, mates_of, are_leavers, waits_behind, waits_on, alike_there, cut_table}
 

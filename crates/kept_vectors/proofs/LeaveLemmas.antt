@@ -29,7 +29,7 @@ use Rattle.kept_vectors.specs.declared.notes.Note.{Note}
 use Rattle.kept_vectors.specs.Notes.{has_lane, is_noted, lane_positions, AreAscending, AreNotedAlike, AreAlikeAt, HasUnit, AreMatesNoted, AreMatesAlike, Noted, number_notes}
 use Rattle.kept_vectors.specs.Units.{AreOfUnits}
 use Rattle.kept_vectors.specs.Waits.{IsLed, LeavesFirst, AreWaiting}
-use Rattle.kept_vectors.proofs.AnswerLemmas.{answer_in_row}
+use Rattle.class_refine.proofs.PatternTables.{answer_in_row}
 use Rattle.kept_vectors.proofs.NoteLemmas.{alike_by_notes}
 
 no_member : (n : ℕ) → Contains [] n → ⊥

@@ -27,7 +27,8 @@ use Rattle.fault_sim.specs.FaultSim.{FaultSim, lanes_at, AreTurnedDifferences, I
 use Rattle.kept_vectors.specs.declared.notes.Note.{Note}
 use Rattle.kept_vectors.specs.declared.notes.Shown.{Shown}
 use Rattle.kept_vectors.specs.Notes.{has_lane, is_noted, AreAscending, AreNotesAt, IsDifferenceOf, IsReportOf, IsHeadReport, IsShownAs, IsSpanIn, noted_in, nothing_shown, AreNotedAlike, AreAlikeAt, AreRootsOf, Noted, place_of, head_at, head_notes, turn_of, turn_notes, lane_notes, number_notes, IsPlaceShown, IsTurnShown, HasNotes, IsTurnNeeded, IsNumberAsked, IsPlaceNoted, IsNumberNoted}
-use Rattle.kept_vectors.proofs.AnswerLemmas.{answer_exists, alike_by_differences, same_difference}
+use Rattle.class_refine.proofs.PatternTables.{answer_exists}
+use Rattle.kept_vectors.proofs.AnswerLemmas.{alike_by_differences, same_difference}
 
 -- ---- the notes of one number
 

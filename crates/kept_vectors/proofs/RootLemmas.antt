@@ -19,7 +19,7 @@ use Rattle.word_sim.specs.GoodSim.{GoodSim, vectors_of}
 use Rattle.kept_vectors.specs.Units.{AreTogether}
 use Rattle.kept_vectors.specs.Notes.{AreRootsOf, HasUnit}
 use Rattle.kept_vectors.specs.Keeper.{Keeper, IsKeeper}
-use Rattle.kept_vectors.proofs.AnswerLemmas.{answer_in_row}
+use Rattle.class_refine.proofs.PatternTables.{answer_in_row}
 use Rattle.kept_vectors.proofs.NoteLemmas.{alike_by_roots}
 
 root_inside : {c : Circuit} {forest : Forest} → IsForestOf c forest → (n : ℕ) → n < fault_count c → root_of forest n < fault_count c

@@ -12,8 +12,9 @@ use Rattle.class_refine.specs.Fields.{IsWhole}
 use Rattle.kept_vectors.specs.Kept.{KeptSoFar, with_vector, Keeps, IsFiner}
 use Rattle.kept_vectors.specs.Keeper.{keeper_with, IsKeeper}
 use Rattle.net_model.proofs.OneAnswer.{one_answer}
-use Rattle.kept_vectors.proofs.AnswerLemmas.{row_exists, answer_in_row}
-use Rattle.kept_vectors.proofs.KeepLemmas.{table_numbers, leads_rise, keeper_after}
+use Rattle.class_refine.proofs.PatternTables.{row_exists, answer_in_row}
+use Rattle.class_refine.proofs.PatternTables.{table_numbers}
+use Rattle.kept_vectors.proofs.KeepLemmas.{leads_rise, keeper_after}
 use Rattle.kept_vectors.proofs.SameCuts.{whole_kept}
 
 -- The vector is kept: it stands behind the others and splits a class of them, so that there are more classes.

@@ -12,7 +12,8 @@ use Rattle.word_sim.specs.Stream.{stream, stream_vector}
 use Rattle.word_sim.specs.Laws.{StreamContinues}
 use Rattle.kept_vectors.specs.Kept.{KeptSoFar, nothing_kept, IsKept, Keeps, KeepsFirst}
 use Rattle.kept_vectors.specs.Keeper.{Keeper, keeper_with}
-use Rattle.kept_vectors.proofs.KeepLemmas.{rows_exist, keeps_more, first_more, first_longer}
+use Rattle.class_refine.proofs.PatternTables.{rows_exist}
+use Rattle.kept_vectors.proofs.KeepLemmas.{keeps_more, first_more, first_longer}
 
 -- the vectors of some blocks behind others
 abbrev pub blocks_from : ℕ → ℕ → ℕ → List (List Bool)

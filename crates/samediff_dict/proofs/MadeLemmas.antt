@@ -14,7 +14,7 @@ use Rattle.net_model.proofs.Copies.{same_bits_same_list}
 use Rattle.class_refine.specs.Fields.{IsWhole}
 use Rattle.class_refine.proofs.Refined.{representative-member}
 use Rattle.net_model.proofs.OneAnswer.{one_table}
-use Rattle.kept_vectors.proofs.KeepLemmas.{table_numbers}
+use Rattle.class_refine.proofs.PatternTables.{table_numbers}
 use Rattle.table_dicts.specs.AnswerTable.{Answers, AreAnswerable, AreAnswers, answer_in, answer_to}
 use Rattle.table_dicts.specs.ByClass.{AreEntriesOfClasses}
 use Rattle.table_dicts.specs.Entries.{answers_of, differences, same_diff_entry}

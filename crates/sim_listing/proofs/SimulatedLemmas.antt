@@ -5,7 +5,7 @@ use Rattle.std.proofs.lemmas.List.{append-nil, take_more, get_or-drop, length-dr
 use Rattle.std.proofs.lemmas.List.Elements.{All-take, All-drop}
 use Rattle.net_model.specs.Circuit.{IsCircuit}
 use Rattle.net_model.specs.PatternRows.{IsAnswerRow, AreAnswerRows}
-use Rattle.kept_vectors.proofs.AnswerLemmas.{row_exists}
+use Rattle.class_refine.proofs.PatternTables.{row_exists}
 use Rattle.table_dicts.proofs.BlockLemmas.{lane_pattern}
 use Rattle.answer_numbers.specs.AnswerNumbers.{AnswerNumbers, numbered_vectors, vector_in}
 use Rattle.sim_listing.specs.LaneAnswers.{AreEqualRoots, HaveEqualLeads}

@@ -17,8 +17,8 @@ use Rattle.net_model.proofs.Copies.{same_bits_same_list}
 use Rattle.net_model.proofs.Listed.{listed}
 use Rattle.class_refine.proofs.Ranges.{zip_at}
 use Rattle.fault_heads.proofs.SeenPins.{seen_at}
-use Rattle.kept_vectors.proofs.AnswerLemmas.{answer_exists, answer_width, answer_in_row}
-use Rattle.kept_vectors.proofs.KeepLemmas.{rows_exist}
+use Rattle.class_refine.proofs.PatternTables.{answer_exists, answer_width, answer_in_row}
+use Rattle.class_refine.proofs.PatternTables.{rows_exist}
 use Rattle.table_dicts.proofs.EntryLemmas.{same_bits-Decides}
 use Rattle.table_dicts.specs.AnswerTable.{Answers, answer_to, answer_bit, HasSizes, IsTable, AreAnswers}
 use Rattle.table_dicts.specs.declared.simulating.Kept.{Kept}

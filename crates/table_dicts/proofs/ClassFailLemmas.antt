@@ -10,7 +10,7 @@ use Rattle.net_model.specs.FaultList.{fault_count}
 use Rattle.net_model.specs.PatternRows.{IsTableOf}
 use Rattle.class_refine.specs.Fields.{IsWhole}
 use Rattle.class_refine.proofs.Refined.{representative-member}
-use Rattle.kept_vectors.proofs.KeepLemmas.{table_numbers}
+use Rattle.class_refine.proofs.PatternTables.{table_numbers}
 use Rattle.table_dicts.specs.AnswerTable.{Answers, IsTable, AreAnswers}
 use Rattle.table_dicts.specs.Blocks.{IsListedBit, AreRightBits}
 use Rattle.table_dicts.specs.ByClass.{AreEntriesOfClasses}

@@ -15,7 +15,7 @@ use Rattle.net_model.specs.ClassTable.{ClassTable, class_at, first_table, refine
 use Rattle.class_refine.proofs.Pieces.{IsSound}
 use Rattle.class_refine.proofs.Refined.{numbers-refined, class-refined, after_same, same_after, sound-refined, sound-first}
 use Rattle.net_model.proofs.OneAnswer.{one_table}
-use Rattle.kept_vectors.proofs.KeepLemmas.{table_numbers}
+use Rattle.class_refine.proofs.PatternTables.{table_numbers}
 use Rattle.net_model.specs.Rows.{row_at}
 use Rattle.table_dicts.specs.Rows.{AreRows}
 use Rattle.table_dicts.specs.AnswerTable.{Answers, answer_in, IsTable, AreAnswers}

@@ -14,7 +14,7 @@ use Rattle.net_model.specs.PatternRows.{IsAnswerRow}
 use Rattle.net_model.proofs.Copies.{same_bits_same_list}
 use Rattle.net_model.proofs.Listed.{some_number}
 use Rattle.class_refine.proofs.Ranges.{zip_at}
-use Rattle.kept_vectors.proofs.AnswerLemmas.{answer_width, answer_in_row}
+use Rattle.class_refine.proofs.PatternTables.{answer_width, answer_in_row}
 use Rattle.table_dicts.specs.AnswerTable.{Answers, answer_in, answer_to, answer_bit, IsTable, AreAnswers}
 use Rattle.table_dicts.specs.Entries.{answers_of, full_entry, free_baselines, pass_fail_entry}
 use Rattle.table_dicts.specs.Blocks.{IsListedBit, AreRightBits}

@@ -3,7 +3,7 @@ use Rattle.std.proofs.Common.{◌≡◌, ◌∙◌, ℕ, Bool, List, length, ref
 use Rattle.net_model.specs.Circuit.{Circuit, IsCircuit}
 use Rattle.net_model.specs.FaultList.{fault_count}
 use Rattle.net_model.proofs.OneAnswer.{one_rows}
-use Rattle.kept_vectors.proofs.KeepLemmas.{rows_exist}
+use Rattle.class_refine.proofs.PatternTables.{rows_exist}
 use Rattle.table_dicts.specs.AnswerTable.{Answers, AreAnswers}
 
 abbrev answers_with : ℕ → ℕ → List (List (List Bool)) → Answers

@@ -9,7 +9,7 @@ use Rattle.net_model.specs.FaultList.{fault_count, fault_numbered}
 use Rattle.fault_collapse.specs.Forest.{Forest, IsForestOf, forest_with}
 use Rattle.fault_collapse.specs.ForestFields.{AreForestFields}
 use Rattle.fault_collapse.proofs.Settled.{is_settled, same_equal}
-use Rattle.kept_vectors.proofs.AnswerLemmas.{answer_exists}
+use Rattle.class_refine.proofs.PatternTables.{answer_exists}
 use Rattle.table_dicts.specs.AnswerTable.{Answers, ArePicked}
 use Rattle.table_dicts.specs.Blocks.{IsAnswerBit, IsListedBit, AreRightBits}
 use Rattle.table_dicts.specs.declared.simulating.Kept.TheVariants.{Bits}

@@ -3,7 +3,7 @@ use Rattle.std.specs.Prelude.{All, zip, ◌-◌}
 use Rattle.net_model.specs.FaultList.{fault_count}
 use Rattle.net_model.specs.PatternRows.{IsTableOf}
 use Rattle.kept_vectors.specs.Kept.{SplitInTurn}
-use Rattle.kept_vectors.proofs.KeepLemmas.{table_numbers}
+use Rattle.class_refine.proofs.PatternTables.{table_numbers}
 use Rattle.result_file.specs.Meaning.{class_records, member_records}
 use Rattle.result_file.specs.declared.record.Record.TheVariants.{Head, Budget, Pattern, Same, End}
 use Rattle.result_file.specs.Marks.{evidence_in}

@@ -4,7 +4,7 @@ use Rattle.result_file.specs.Spelling.{Text, text_of}
 use Rattle.result_file.specs.declared.record.Record.TheVariants.{End}
 use Rattle.result_file.proofs.SoundLemmas.{sound_circuit}
 use Rattle.result_file.proofs.Truth.{AreSound}
-use Rattle.kept_vectors.proofs.KeepLemmas.{table_numbers}
+use Rattle.class_refine.proofs.PatternTables.{table_numbers}
 use Rattle.dia_gen.specs.Marked.{AreMarkedBelow}
 use Rattle.dia_gen.specs.Made.{IsMade}
 use Rattle.dia_gen.proofs.EndLemmas.{lines_then, all_written, lines, classes, members, classes_broken, members_broken, end_broken, last_broken, summary_with, whole_made}

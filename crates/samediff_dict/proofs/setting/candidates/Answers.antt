@@ -1,6 +1,6 @@
 use Rattle.std.proofs.Common.{◌∙◌, ◌<◌, subst, ap, length, arith}
 use Rattle.std.specs.Prelude.{All}
-use Rattle.kept_vectors.proofs.KeepLemmas.{table_numbers}
+use Rattle.class_refine.proofs.PatternTables.{table_numbers}
 use Rattle.samediff_dict.proofs.setting.candidates.Goals as goal
 
 pub candidates_of-requires-clause-leads : goal.candidates_of-requires-clause-leads

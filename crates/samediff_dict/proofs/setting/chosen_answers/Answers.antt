@@ -1,7 +1,7 @@
 use Rattle.std.proofs.Common.{◌≡◌, ◌∙◌, ◌+◌, ◌-◌, ◌<◌, ℕ, List, length, get_or, sym, subst, arith}
 use Rattle.std.specs.Prelude.{slice_range}
 use Rattle.net_model.specs.FaultList.{fault_count}
-use Rattle.kept_vectors.proofs.KeepLemmas.{table_numbers}
+use Rattle.class_refine.proofs.PatternTables.{table_numbers}
 use Rattle.table_dicts.proofs.FailLemmas.{patterns_are}
 use Rattle.samediff_dict.specs.Copied.{AreLeads}
 use Rattle.samediff_dict.proofs.LeadLemmas.{have_in_range, leads_inside, leads_in_range, lead_answers}

@@ -4,7 +4,7 @@ use Rattle.std.proofs.lemmas.List.FromFn.{length-map-range_with_len}
 use Rattle.std.proofs.lemmas.Result.{IfOk-weaker}
 use Rattle.net_model.specs.ClassTable.{class_count, representative}
 use Rattle.net_model.specs.FaultList.{fault_count}
-use Rattle.kept_vectors.proofs.KeepLemmas.{table_numbers}
+use Rattle.class_refine.proofs.PatternTables.{table_numbers}
 use Rattle.table_dicts.specs.declared.dict.DictKind.TheVariants.{PassFail}
 use Rattle.table_dicts.specs.declared.simulating.Kept.TheVariants.{Fails}
 use Rattle.table_dicts.specs.AnswerTable.{Answers, AreAnswerable, AreAnswers, HasSizes}

@@ -1,6 +1,6 @@
 use Rattle.std.proofs.Common.{refl, arith}
 use Rattle.class_refine.proofs.Refined.{few_classes}
-use Rattle.kept_vectors.proofs.KeepLemmas.{table_numbers}
+use Rattle.class_refine.proofs.PatternTables.{table_numbers}
 use Rattle.dia_gen.proofs.draft.Draft.mark_all.Goals as goal
 
 pub loop-next-smaller : goal.loop-next-smaller

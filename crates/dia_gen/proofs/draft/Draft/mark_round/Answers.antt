@@ -3,7 +3,7 @@ use Rattle.std.specs.Prelude.{IsTrue}
 use Rattle.std.proofs.lemmas.Bool.{both_ways, cases_lt}
 use Rattle.std.proofs.lemmas.Result.{err_from_is_err_and}
 use Rattle.net_model.specs.ClassTable.{class_at, class_count}
-use Rattle.kept_vectors.proofs.KeepLemmas.{table_numbers}
+use Rattle.class_refine.proofs.PatternTables.{table_numbers}
 use Rattle.member_marks.specs.Given.{IsLowestOpen}
 use Rattle.member_marks.proofs.MarkLemmas.{open_from}
 use Rattle.dia_gen.proofs.FallenLemmas.{lead_marked}

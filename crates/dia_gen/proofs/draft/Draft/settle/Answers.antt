@@ -1,5 +1,5 @@
 use Rattle.std.proofs.Common.{arith}
-use Rattle.kept_vectors.proofs.KeepLemmas.{table_numbers}
+use Rattle.class_refine.proofs.PatternTables.{table_numbers}
 use Rattle.dia_gen.proofs.DraftSteps.{draft_broken}
 use Rattle.dia_gen.proofs.draft.Draft.settle.Goals as goal
 

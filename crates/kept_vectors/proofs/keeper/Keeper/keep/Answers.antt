@@ -4,7 +4,8 @@ use Rattle.word_sim.specs.Block.{Block}
 use Rattle.kept_vectors.specs.Keeper.{Keeper, keeper_with, IsKeeper}
 use Rattle.kept_vectors.specs.Scan.{kept_now}
 use Rattle.kept_vectors.proofs.RootLemmas.{keeper_together}
-use Rattle.kept_vectors.proofs.KeepLemmas.{table_numbers, either_way, keeper_after, keeper_first_after}
+use Rattle.class_refine.proofs.PatternTables.{table_numbers}
+use Rattle.kept_vectors.proofs.KeepLemmas.{either_way, keeper_after, keeper_first_after}
 use Rattle.kept_vectors.proofs.keeper.Keeper.keep.Goals as goal
 
 pub keep_block-requires-clause-together : goal.keep_block-requires-clause-together

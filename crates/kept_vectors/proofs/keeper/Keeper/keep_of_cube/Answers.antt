@@ -11,7 +11,8 @@ use Rattle.kept_vectors.specs.Kept.{Keeps}
 use Rattle.kept_vectors.specs.Keeper.{Keeper, keeper_with, IsKeeper}
 use Rattle.kept_vectors.specs.Scan.{kept_now}
 use Rattle.kept_vectors.proofs.RootLemmas.{keeper_together}
-use Rattle.kept_vectors.proofs.KeepLemmas.{table_numbers, either_way, keeper_after}
+use Rattle.class_refine.proofs.PatternTables.{table_numbers}
+use Rattle.kept_vectors.proofs.KeepLemmas.{either_way, keeper_after}
 use Rattle.kept_vectors.proofs.keeper.Keeper.keep_of_cube.Goals as goal
 
 pub fill-requires-clause-sources : goal.fill-requires-clause-sources

@@ -7,7 +7,7 @@ use Rattle.kept_vectors.specs.Kept.{KeepsRun}
 use Rattle.kept_vectors.specs.Keeper.{Keeper, keeper_with, IsKeeper}
 use Rattle.kept_vectors.specs.Scan.{kept_now, HasJudged, IsScanEnd}
 use Rattle.kept_vectors.proofs.RootLemmas.{keeper_together}
-use Rattle.kept_vectors.proofs.KeepLemmas.{table_numbers}
+use Rattle.class_refine.proofs.PatternTables.{table_numbers}
 use Rattle.kept_vectors.proofs.JudgeLemmas.{keeper_judged, run_judged, splits_none}
 use Rattle.kept_vectors.proofs.keeper.Keeper.keep_run.Goals as goal
 use Rattle.kept_vectors.proofs.keeper.Keeper.keep_run.Goals.{After-judge}

@@ -10,7 +10,8 @@ use Rattle.kept_vectors.specs.Keeper.{Keeper}
 use Rattle.kept_vectors.specs.Scan.{kept_now}
 use Rattle.kept_vectors.specs.Notes.{AreRootsOf}
 use Rattle.kept_vectors.proofs.RootLemmas.{keeper_together}
-use Rattle.kept_vectors.proofs.KeepLemmas.{table_numbers, keeps_none, keeper_after, keeper_first_after}
+use Rattle.class_refine.proofs.PatternTables.{table_numbers}
+use Rattle.kept_vectors.proofs.KeepLemmas.{keeps_none, keeper_after, keeper_first_after}
 use Rattle.kept_vectors.proofs.StreamLemmas.{blocks_from, stream_widths, next_blocks, some_of, stream_more, stream_some}
 use Rattle.kept_vectors.proofs.keeper.Keeper.keep_stream.Goals as goal
 

@@ -1,5 +1,5 @@
-use Rattle.std.proofs.Common.{◌∙◌, List, Bool, sym, subst}
-use Rattle.kept_vectors.proofs.KeepLemmas.{ran_vectors}
+use Rattle.std.proofs.Common.{◌≡◌, ◌∙◌, List, Bool, [], ap, sym, subst}
+use Rattle.std.specs.Prelude.{Option, unwrap_or}
 use Rattle.net_model.specs.Circuit.{Circuit}
 use Rattle.net_model.specs.Fault.{IsFaultOf}
 use Rattle.net_model.specs.declared.fault.Fault.{Fault}
@@ -21,7 +21,8 @@ returns-clause-differ c =
     let rows = c.inject.new.self.differences in
     let of = subst (λ (k : Circuit). AreDifferences k c.get.result (vectors_of good) rows) (c.inject.ensures.circuit ∙ run.bench.sim) c.inject.ensures.differences in
     let fault = subst (λ (f : Fault). AreDifferences good.circuit f (vectors_of good) rows) (listed_fault good.circuit c.args.self.now.faults.now c.args.number c.get.result run.bench.faults_are c.get.ensures.value) of in
-    subst (λ (vs : List (List Bool)). AreDifferences good.circuit (fault_numbered good.circuit c.args.number) vs rows) (ran_vectors good c.args.self.now.block.vectors run.ran) fault
+    let ran : vectors_of good ≡ c.args.self.now.block.vectors = ap (λ (ran : Option (List (List Bool))). unwrap_or ran []) run.ran in
+    subst (λ (vs : List (List Bool)). AreDifferences good.circuit (fault_numbered good.circuit c.args.number) vs rows) ran fault
 
 pub returns-clause-run : goal.returns-clause-run
 returns-clause-run c =

@@ -1,5 +1,5 @@
 use Rattle.std.proofs.Common.{◌≡◌, ◌∙◌, ◌<◌, List, Bool, [], length, get_or, sym, ap, subst, arith, not, cond}
-use Rattle.kept_vectors.proofs.KeepLemmas.{ran_vectors}
+use Rattle.std.specs.Prelude.{Option, unwrap_or}
 use Rattle.net_model.specs.declared.fault.Fault.TheVariants.{Free}
 use Rattle.net_model.specs.Circuit.{Circuit}
 use Rattle.net_model.specs.Answer.{bit_at, Agrees}
@@ -14,7 +14,7 @@ returns c = λ lane live answer of.
     let good = bench.good in
     let vectors = bench.block.vectors in
     let position = c.args.position in
-    let ran = ran_vectors good vectors c.requires.run.ran in
+    let ran : vectors_of good ≡ vectors = ap (λ (ran : Option (List (List Bool))). unwrap_or ran []) c.requires.run.ran in
     let bit = bit_at c.lanes.result lane in
     let line = get_or c.positions.result.now position 0 in
     let at : line ≡ get_or good.circuit.positions position 0 = ap (λ ps. get_or ps position 0) (c.positions.ensures.value ∙ ap (λ (k : Circuit). k.positions) c.circuit.ensures) in

@@ -1,6 +1,6 @@
 use Rattle.std.proofs.Common.{◌≡◌, ◌∙◌, List, Bool, All, length, ap, sym, subst}
 use Rattle.net_model.specs.ClassTable.{ClassTable}
-use Rattle.kept_vectors.proofs.KeepLemmas.{table_numbers}
+use Rattle.class_refine.proofs.PatternTables.{table_numbers}
 use Rattle.tests_dictionaries.proofs.tests.circuits.kept_by.Goals as goal
 
 pub returns-clause-widths : goal.returns-clause-widths
