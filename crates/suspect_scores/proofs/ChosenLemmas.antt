@@ -10,9 +10,6 @@ use Rattle.net_model.specs.Answer.{bit_at}
 use Rattle.net_model.specs.ClassTable.{ClassTable}
 use Rattle.net_model.specs.Rows.{row_at}
 use Rattle.table_dicts.specs.AnswerTable.{Answers}
-use Rattle.table_dicts.specs.Rows.{IsRowSet}
-use Rattle.table_dicts.proofs.RowLemmas.{shape_later}
-use Rattle.suspect_scores.specs.declared.marks.LogMarks.{LogMarks}
 use Rattle.ranked_diag.specs.PartialLog.{Line}
 use Rattle.suspect_scores.specs.declared.choices.Choice.{Choice}
 use Rattle.suspect_scores.specs.declared.choosing.Best.{Best}
@@ -21,7 +18,7 @@ use Rattle.suspect_scores.specs.Scored.{count_to}
 use Rattle.suspect_scores.specs.Marks.{logged_line}
 use Rattle.suspect_scores.specs.Listed.{representatives}
 use Rattle.suspect_scores.specs.Covering.{Covers, IsCover, left_by}
-use Rattle.suspect_scores.specs.Chosen.{explained_by, explained_row, AreNoted, left_count, AreAllLeft, IsWithout, count_at, IsBestOf, AreChosenFrom}
+use Rattle.suspect_scores.specs.Chosen.{explained_by, left_count, AreAllLeft, IsWithout, count_at, IsBestOf, AreChosenFrom}
 use Rattle.suspect_scores.proofs.ScoreLemmas.{count_more}
 use Rattle.suspect_scores.proofs.RangeSums.{one_of, sum_more, count_shifted}
 
@@ -151,16 +148,6 @@ pub record IsChoosing (rows : List (List Bool)) (numbers : List ℕ) (lines : �
   pub first : List Bool
   pub all : AreAllLeft lines first
   pub before : (rest : List Choice) → AreChosenFrom rows numbers left rest → AreChosenFrom rows numbers first (choices ++ rest)
-
-pub noted_more : (old mid new : List (List Bool)) (first place : ℕ) (m : LogMarks) (answers : Answers) → AreNoted old mid first place m answers → IsRowSet mid new (first + place) (explained_row m answers place) → AreNoted old new first (place + 1) m answers
-noted_more old mid new first place m answers so_far one = record {
-  shape = shape_later so_far.shape one.shape;
-  here = λ p h. elim (cases_eq p place) [
-    | inl same ↦ (λ i. row_at new (first + same i)) ∙ (one.here ∙ (λ i. explained_row m answers (sym same i)))
-    | inr ne ↦ one.others (first + p) (λ e. ne (omega (arith, e))) ∙ so_far.here p (omega (arith, h, ne))
-  ];
-  before = λ row h. one.others row (λ e. omega (arith, e, h)) ∙ so_far.before row h;
-}
 
 pub chosen_more : (rows : List (List Bool)) (numbers : List ℕ) (lines : ℕ) (left next : List Bool) (best new : Best) (choices : List Choice) → IsChoosing rows numbers lines left best choices → 0 < best.count → IsWithout (row_at rows best.place) left next → IsBestOf rows numbers next (length numbers) new
     → IsChoosing rows numbers lines next new (choices ++ record { number = get_or numbers best.place 0; explained = best.count } ∷ [])

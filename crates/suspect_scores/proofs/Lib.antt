@@ -8,11 +8,14 @@ pub mod SuspectLemmas
 pub mod OwnLines
 pub mod SingleFault
 pub mod RangeSums
-pub mod WordScores
 pub mod MarkLemmas
 pub mod LoggedLemmas
 pub mod ScoredLemmas
+pub mod ColumnLemmas
+pub mod BlockScores
 pub mod ExpectedLemmas
 pub mod FailedLemmas
-pub mod HittingLemmas
+pub mod BenchLemmas
 pub mod ChosenLemmas
+pub mod DoubleSums
+pub mod BitCountLemmas

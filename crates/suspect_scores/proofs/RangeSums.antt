@@ -1,5 +1,5 @@
 -- Sums and counts over ranges.
-use Rattle.std.proofs.Common.{◌≡◌, ◌∙◌, ℕ, zero, suc, ◌+◌, ◌*◌, ◌<◌, ◌≤◌, Bool, false, cond, List, [], ◌∷◌, length, get_or, refl, sym, ap, subst, arith}
+use Rattle.std.proofs.Common.{◌≡◌, ◌∙◌, ℕ, zero, suc, ◌+◌, ◌*◌, ◌<◌, ◌≤◌, Bool, cond, List, [], ◌∷◌, length, get_or, refl, sym, ap, subst, arith}
 use Rattle.std.specs.Prelude.{sum_by, count_by}
 use Rattle.std.specs.List.{range_with_len}
 use Rattle.std.proofs.lemmas.List.FromFn.{length-range_with_len}
@@ -50,16 +50,6 @@ sum_listed {X} f g d a (x ∷ xs) agree =
 pub count_listed : {X : Type 0} (p : ℕ → Bool) (q : X → Bool) (d : X) (xs : List X) → ((k : ℕ) → k < length xs → p k ≡ q (get_or xs k d)) → count_to p (length xs) ≡ count_by q xs
 count_listed {X} p q d xs agree =
     sum_listed (one_of p) (one_of q) d 0 xs (λ k h. let start : 0 + k ≡ k = omega arith in ap (λ (x : Bool). cond {A = ℕ} x 1 0) (ap p start ∙ agree k h))
-
--- places that add nothing
-pub count_past : (p : ℕ → Bool) (n more : ℕ) → ((k : ℕ) → n ≤ k → p k ≡ false) → count_to p (n + more) ≡ count_to p n
-count_past p n more none = omega (arith, sum_joined (one_of p) 0 n more, zeros more (0 + n) (λ k h. none k (omega (arith, h))))
-  where
-    zeros : (m a : ℕ) → ((k : ℕ) → a ≤ k → p k ≡ false) → sum_by (one_of p) (range_with_len a m) ≡ 0
-    zeros zero a off = refl
-    zeros (suc m) a off =
-        let no : one_of p a ≡ 0 = ap (λ (x : Bool). cond {A = ℕ} x 1 0) (off a (omega arith)) in
-        omega (arith, sum_by-cons (one_of p) a (range_with_len (a + 1) m), no, zeros m (a + 1) (λ k h. off k (omega (arith, h))))
 
 pub count_small : (p : ℕ → Bool) (n : ℕ) → count_to p n ≤ n
 count_small p n = omega (arith, count_by-le-length p (range_with_len 0 n), length-range_with_len 0 n)

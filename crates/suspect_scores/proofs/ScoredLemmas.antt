@@ -1,68 +1,30 @@
--- The score by marks is that of the definitions.
-use Rattle.std.proofs.Common.{◌≡◌, ◌∙◌, ℕ, zero, suc, ◌+◌, ◌*◌, ◌<◌, ◌≤◌, ◌^◌, Bool, true, false, not, cond, List, [], ◌∷◌, length, get_or, refl, sym, ap, ap₂, arith}
-use Rattle.std.specs.Prelude.{sum_by, count_by, zip, All, nat_lt, ◌&&◌, ◌==◌, filter}
+-- The score of lines by where bits are changed, wrong and right is that of the definitions.
+use Rattle.std.proofs.Common.{◌≡◌, ◌∙◌, ℕ, zero, suc, ◌+◌, ◌<◌, ◌≤◌, Bool, true, false, not, cond, List, [], ◌∷◌, length, take, get_or, refl, sym, ap, ap₂, arith}
+use Rattle.std.specs.Prelude.{sum_by, count_by, zip, nat_lt, ◌&&◌, ◌==◌, filter}
 use Rattle.std.specs.Bool.{beq, Decides}
+use Rattle.std.specs.List.{range_with_len}
 use Rattle.std.proofs.lemmas.Bool.{ltb-true, eqb-true, lt-ltb, eq-eqb}
 use Rattle.std.proofs.lemmas.Bool.Decides.{same_from_decides}
-use Rattle.std.specs.List.{range_with_len}
+use Rattle.std.proofs.lemmas.List.{take_more}
+use Rattle.std.proofs.lemmas.List.Sums.{sum_by-append, sum_by-cons}
 use Rattle.net_model.specs.Answer.{bit_at}
-use Rattle.net_model.specs.Rows.{row_bit}
 use Rattle.table_dicts.specs.AnswerTable.{Answers, answer_to}
 use Rattle.ranked_diag.specs.declared.partial.Seen.{Seen}
 use Rattle.ranked_diag.specs.declared.partial.Seen.TheVariants.{Zero, One, Unseen}
 use Rattle.ranked_diag.specs.Seen.{is_seen, differs, differing_bits}
 use Rattle.ranked_diag.specs.PartialLog.{Line}
-use Rattle.suspect_scores.specs.declared.marks.LogMarks.{LogMarks}
 use Rattle.suspect_scores.specs.declared.scoring.LineScore.{LineScore}
 use Rattle.suspect_scores.specs.declared.suspect.Suspect.{Suspect}
-use Rattle.suspect_scores.specs.Scores.{SeenBits, is_hit, is_missed, is_false, told_of, is_failing, explains, explained_count, hit_bits, missed_bits, false_bits}
+use Rattle.suspect_scores.specs.Scores.{SeenBits, is_hit, is_missed, is_false, told_of, is_failing, failing, explains, explained_count, hit_bits, missed_bits, false_bits}
 use Rattle.suspect_scores.specs.Listed.{suspect_of}
-use Rattle.suspect_scores.specs.Scored.{count_to, is_other, is_changed, score_to, line_score, scored, does_explain, HasLineMore, CanAddLine}
-use Rattle.suspect_scores.specs.Marks.{logged_line, AreMarks, AreLogged}
+use Rattle.suspect_scores.specs.Scored.{count_to, score_to, does_explain}
+use Rattle.suspect_scores.specs.Columns.{HasBlockMore}
+use Rattle.suspect_scores.specs.Marks.{logged_line}
 use Rattle.suspect_scores.proofs.Tests.{both_true}
 use Rattle.suspect_scores.proofs.ScoreLemmas.{count_more, hit_or_missed}
-use Rattle.suspect_scores.proofs.RangeSums.{one_of, sum_more, sum_listed, count_listed, count_small, sum_small}
-use Rattle.suspect_scores.proofs.MarkLemmas.{tested_at}
-
--- ---- a line more
-
-pub added : (m : LogMarks) (t : Answers) (place number line : ℕ) (old new : Suspect) → old ≡ scored m t place number line → HasLineMore old new (line_score m t place line) → new ≡ scored m t place number (line + 1)
-unfolding scored
-added m t place number line old new is more =
-    let score = line_score m t place in
-    let sum : (f : LineScore → ℕ) (before after : ℕ) → before ≡ sum_by (λ l. f (score l)) (range_with_len 0 line) → after ≡ before + f (score line) → after ≡ sum_by (λ l. f (score l)) (range_with_len 0 (line + 1)) =
-    λ f before after e step. omega (arith, e, step, sum_more (λ l. f (score l)) line) in
-    λ i. record {
-      number = (more.number ∙ ap (λ (s : Suspect). s.number) is) i;
-      explained = sum (λ s. cond (does_explain s) 1 0) old.explained new.explained (ap (λ (s : Suspect). s.explained) is) more.explained i;
-      hit_bits = sum (λ s. s.hit_bits) old.hit_bits new.hit_bits (ap (λ (s : Suspect). s.hit_bits) is) more.hit i;
-      missed_bits = sum (λ s. s.missed_bits) old.missed_bits new.missed_bits (ap (λ (s : Suspect). s.missed_bits) is) more.missed i;
-      false_bits = sum (λ s. s.false_bits) old.false_bits new.false_bits (ap (λ (s : Suspect). s.false_bits) is) more.wrong i;
-    }
-
-pub can_add : (m : LogMarks) (t : Answers) (place number line lines : ℕ) (old : Suspect) → old ≡ scored m t place number line → line < lines → lines < 2 ^ 32 → t.positions < 2 ^ 32 → CanAddLine old (line_score m t place line)
-unfolding scored line_score score_to
-can_add m t place number line lines old is low few wide =
-    let score = line_score m t place in
-    let changed : ℕ → ℕ → Bool = is_changed m t place in
-    let hit : (l : ℕ) → (score l).hit_bits ≤ t.positions = λ l. count_small (λ k. row_bit m.wrong l k && changed l k) t.positions in
-    let missed : (l : ℕ) → (score l).missed_bits ≤ t.positions = λ l. count_small (λ k. row_bit m.wrong l k && not (changed l k)) t.positions in
-    let wrong : (l : ℕ) → (score l).false_bits ≤ t.positions = λ l. count_small (λ k. row_bit m.right l k && changed l k) t.positions in
-    let below : (f : LineScore → ℕ) → ((l : ℕ) → f (score l) ≤ t.positions) → sum_by (λ l. f (score l)) (range_with_len 0 line) ≤ line * 4294967296 = λ f each. sum_small (λ l. f (score l)) 4294967296 line (λ l. omega (arith, each l, wide)) in
-    record {
-      explained = omega (arith, ap (λ (s : Suspect). s.explained) is, count_small (λ l. does_explain (score l)) line, low, few);
-      hit = omega (arith, ap (λ (s : Suspect). s.hit_bits) is, below (λ s. s.hit_bits) hit, hit line, low, few, wide);
-      missed = omega (arith, ap (λ (s : Suspect). s.missed_bits) is, below (λ s. s.missed_bits) missed, missed line, low, few, wide);
-      wrong = omega (arith, ap (λ (s : Suspect). s.false_bits) is, below (λ s. s.false_bits) wrong, wrong line, low, few, wide);
-    }
+use Rattle.suspect_scores.proofs.RangeSums.{one_of, sum_more, count_listed}
 
 -- ---- by the definitions
-
-other_is : (own free : Bool) → is_other own free ≡ not (beq own free)
-other_is true true = refl
-other_is true false = refl
-other_is false true = refl
-other_is false false = refl
 
 -- what a position tells
 told_at : (seen : List Seen) (free own : List Bool) (k : ℕ) → length free ≡ length seen → length own ≡ length seen → k < length seen → get_or (zip seen (zip free own)) k (Unseen, (false, false)) ≡ (get_or seen k Unseen, (bit_at free k, bit_at own k))
@@ -138,84 +100,102 @@ count_filtered {X} p q (x ∷ xs) = by (count_filtered p q xs) (p x) refl
         let none : one_of (λ y. p y && q y) x ≡ 0 = ap (λ (b : Bool). cond {A = ℕ} (b && q x) 1 0) e in
         ap (count_by q) kept ∙ omega (arith, count_more (λ y. p y && q y) x xs, none, rest)
 
-module _ (table : Answers) (lines : List Line) (numbers : List ℕ) (m : LogMarks) (answers : Answers) (place : ℕ) (marks : AreMarks table lines m) (logged : AreLogged table lines numbers answers) (at : place < length numbers)
-    (wide : All (λ line. length line.1 ≡ table.positions) lines) (free_wide : (k : ℕ) → k < length lines → length (answer_to table (logged_line lines k).0 0) ≡ table.positions)
-    (own_wide : (k : ℕ) → k < length lines → length (answer_to table (logged_line lines k).0 (get_or numbers place 0)) ≡ table.positions) where
-  abbrev pub number : ℕ
-  number = get_or numbers place 0
+-- ---- a line
 
-  abbrev pub seen : ℕ → List Seen
-  seen k = (logged_line lines k).1
+-- It is the score of a line for a number.
+pub record IsScoreOf (table : Answers) (number : ℕ) (line : Line) (s : LineScore) : Type 0 where
+  pub hit : s.hit_bits ≡ count_by is_hit (told_of table number line)
+  pub missed : s.missed_bits ≡ count_by is_missed (told_of table number line)
+  pub wrong : s.false_bits ≡ count_by is_false (told_of table number line)
+  pub explains_it : does_explain s ≡ (is_failing table line && explains table number line)
 
-  abbrev pub free : ℕ → List Bool
-  free k = answer_to table (logged_line lines k).0 0
+module _ (table : Answers) (number : ℕ) (line : Line) (frees : length (answer_to table line.0 0) ≡ length line.1) (owns : length (answer_to table line.0 number) ≡ length line.1) where
+  abbrev free : List Bool
+  free = answer_to table line.0 0
 
-  abbrev pub own : ℕ → List Bool
-  own k = answer_to table (logged_line lines k).0 number
+  abbrev own : List Bool
+  own = answer_to table line.0 number
 
-  abbrev pub told : ℕ → List SeenBits
-  told k = zip (seen k) (zip (free k) (own k))
+  abbrev seen : ℕ → Seen
+  seen k = get_or line.1 k Unseen
 
-  module _ (line : ℕ) (h : line < length lines) where
-    seen_long : length (seen line) ≡ table.positions
-    seen_long = wide line (0, []) h
-
-    frees : length (free line) ≡ length (seen line)
-    frees = free_wide line h ∙ sym seen_long
-
-    owns : length (own line) ≡ length (seen line)
-    owns = own_wide line h ∙ sym seen_long
-
-    changed_is : (k : ℕ) → is_changed m answers place line k ≡ not (beq (bit_at (own line) k) (bit_at (free line) k))
-    changed_is k = (λ i. is_other (bit_at (logged.each line place h at i) k) (bit_at (marks.frees.begun line h i) k)) ∙ other_is (bit_at (own line) k) (bit_at (free line) k)
-
-    wrong_is : (k : ℕ) → k < length (seen line) → row_bit m.wrong line k ≡ differs (get_or (seen line) k Unseen) (bit_at (free line) k)
-    wrong_is k low = (λ i. bit_at (marks.wrongs.begun line h i) k) ∙ tested_at differs (free line) (seen line) k Unseen frees low
-
-    right_is : (k : ℕ) → k < length (seen line) → row_bit m.right line k ≡ (is_seen (get_or (seen line) k Unseen) && not (differs (get_or (seen line) k Unseen) (bit_at (free line) k)))
-    right_is k low = (λ i. bit_at (marks.rights.begun line h i) k) ∙ tested_at (λ s b. is_seen s && not (differs s b)) (free line) (seen line) k Unseen frees low
-
-    counted : (p : ℕ → Bool) (test : SeenBits → Bool) → ((k : ℕ) → k < length (seen line) → p k ≡ test (get_or (seen line) k Unseen, (bit_at (free line) k, bit_at (own line) k))) → count_to p answers.positions ≡ count_by test (told line)
+  module _ (changed wrong right : ℕ → Bool) (changes : (k : ℕ) → k < length line.1 → changed k ≡ not (beq (bit_at own k) (bit_at free k))) (wrongs : (k : ℕ) → k < length line.1 → wrong k ≡ differs (seen k) (bit_at free k))
+      (rights : (k : ℕ) → k < length line.1 → right k ≡ (is_seen (seen k) && not (differs (seen k) (bit_at free k)))) where
+    counted : (p : ℕ → Bool) (test : SeenBits → Bool) → ((k : ℕ) → k < length line.1 → p k ≡ test (seen k, (bit_at free k, bit_at own k))) → count_to p (length line.1) ≡ count_by test (told_of table number line)
     counted p test same =
-        let long = told_long (seen line) (free line) (own line) frees owns in
-        let many : answers.positions ≡ length (told line) = logged.sizes.positions_are ∙ (sym seen_long ∙ sym long) in
-        ap (count_to p) many
-        ∙ count_listed p test (Unseen, (false, false)) (told line)
-        (λ k low. let inside : k < length (seen line) = omega (arith, low, long) in same k inside ∙ ap test (sym (told_at (seen line) (free line) (own line) k frees owns inside)))
+        let long = told_long line.1 free own frees owns in
+        ap (count_to p) (sym long)
+        ∙ count_listed p test (Unseen, (false, false)) (told_of table number line)
+        (λ k low. let inside : k < length line.1 = omega (arith, low, long) in same k inside ∙ ap test (sym (told_at line.1 free own k frees owns inside)))
 
     both_and : (a b : Bool) (s : Bool) → (a && (b && s)) ≡ ((a && b) && s)
     both_and true b s = refl
     both_and false b s = refl
 
-    pub hit_is : (line_score m answers place line).hit_bits ≡ count_by is_hit (told line)
-    unfolding line_score score_to
-    hit_is = counted (λ k. row_bit m.wrong line k && is_changed m answers place line k) is_hit (λ k low. ap₂ (λ (a b : Bool). a && b) (wrong_is k low) (changed_is k))
+    hit_is : count_to (λ k. wrong k && changed k) (length line.1) ≡ count_by is_hit (told_of table number line)
+    hit_is = counted (λ k. wrong k && changed k) is_hit (λ k low. ap₂ (λ (a b : Bool). a && b) (wrongs k low) (changes k low))
 
-    pub missed_is : (line_score m answers place line).missed_bits ≡ count_by is_missed (told line)
-    unfolding line_score score_to
-    missed_is = counted (λ k. row_bit m.wrong line k && not (is_changed m answers place line k)) is_missed (λ k low. ap₂ (λ (a b : Bool). a && not b) (wrong_is k low) (changed_is k))
+    missed_is : count_to (λ k. wrong k && not (changed k)) (length line.1) ≡ count_by is_missed (told_of table number line)
+    missed_is = counted (λ k. wrong k && not (changed k)) is_missed (λ k low. ap₂ (λ (a b : Bool). a && not b) (wrongs k low) (changes k low))
 
-    pub false_is : (line_score m answers place line).false_bits ≡ count_by is_false (told line)
-    unfolding line_score score_to
-    false_is = counted (λ k. row_bit m.right line k && is_changed m answers place line k) is_false
-        (λ k low. ap₂ (λ (a b : Bool). a && b) (right_is k low) (changed_is k)
-        ∙ sym (both_and (is_seen (get_or (seen line) k Unseen)) (not (differs (get_or (seen line) k Unseen) (bit_at (free line) k))) (not (beq (bit_at (own line) k) (bit_at (free line) k)))))
+    false_is : count_to (λ k. right k && changed k) (length line.1) ≡ count_by is_false (told_of table number line)
+    false_is = counted (λ k. right k && changed k) is_false
+        (λ k low. ap₂ (λ (a b : Bool). a && b) (rights k low) (changes k low) ∙ sym (both_and (is_seen (seen k)) (not (differs (seen k) (bit_at free k))) (not (beq (bit_at own k) (bit_at free k)))))
 
-    pub explains_is : does_explain (line_score m answers place line) ≡ (is_failing table (logged_line lines line) && explains table number (logged_line lines line))
-    explains_is =
+    pub line_right : IsScoreOf table number line (score_to changed wrong right (length line.1))
+    unfolding score_to
+    line_right =
         let same = owns ∙ sym frees in
-        (λ i. nat_lt 0 (hit_is i) && (missed_is i == 0 && false_is i == 0))
-        ∙ explained_is _ _ _ _ _ (hit_or_missed (seen line) (free line) (own line) same) (missed_or_false (seen line) (free line) (own line) same)
+        record {
+          hit = hit_is;
+          missed = missed_is;
+          wrong = false_is;
+          explains_it = (λ i. nat_lt 0 (hit_is i) && (missed_is i == 0 && false_is i == 0)) ∙ explained_is _ _ _ _ _ (hit_or_missed line.1 free own same) (missed_or_false line.1 free own same);
+        }
 
-  pub scored_is : scored m answers place number (length lines) ≡ suspect_of table lines number
-  unfolding scored suspect_of explained_count hit_bits missed_bits false_bits
-  scored_is = λ i. record {
-    number = number;
-    explained = (count_listed (λ line. does_explain (line_score m answers place line)) (λ line. is_failing table line && explains table number line) (0, []) lines (λ k h. explains_is k h) ∙ sym (count_filtered (is_failing table) (explains table number) lines)) i;
-    hit_bits = sum_listed (λ line. (line_score m answers place line).hit_bits) (λ line. count_by is_hit (told_of table number line)) (0, []) 0 lines (λ k h. start (λ l. (line_score m answers place l).hit_bits) k ∙ hit_is k h) i;
-    missed_bits = sum_listed (λ line. (line_score m answers place line).missed_bits) (λ line. count_by is_missed (told_of table number line)) (0, []) 0 lines (λ k h. start (λ l. (line_score m answers place l).missed_bits) k ∙ missed_is k h) i;
-    false_bits = sum_listed (λ line. (line_score m answers place line).false_bits) (λ line. count_by is_false (told_of table number line)) (0, []) 0 lines (λ k h. start (λ l. (line_score m answers place l).false_bits) k ∙ false_is k h) i;
-  }
-    where
-      start : (f : ℕ → ℕ) (k : ℕ) → f (0 + k) ≡ f k
-      start f k = let e : 0 + k ≡ k = omega arith in ap f e
+-- ---- lines more
+
+-- the sum of lines of which so many are more
+sum_block : (g : Line → ℕ) (h : ℕ → ℕ) (lines : List Line) (first count : ℕ) → first + count ≤ length lines → ((k : ℕ) → k < count → h k ≡ g (logged_line lines (first + k)))
+    → sum_by g (take (first + count) lines) ≡ sum_by g (take first lines) + sum_by h (range_with_len 0 count)
+sum_block g h lines first zero inside same = let none : first + 0 ≡ first = omega arith in omega (arith, ap (λ (n : ℕ). sum_by g (take n lines)) none)
+sum_block g h lines first (suc n) inside same =
+    let before = sum_block g h lines first n (omega (arith, inside)) (λ k low. same k (omega (arith, low))) in
+    let at = first + n in
+    let next : first + suc n ≡ at + 1 = omega arith in
+    let more : suc n ≡ n + 1 = omega arith in
+    let line = logged_line lines at in
+    let taken : sum_by g (take (first + suc n) lines) ≡ sum_by g (take at lines) + sum_by g (line ∷ []) =
+    (λ i. sum_by g (take (next i) lines)) ∙ (ap (sum_by g) (take_more lines at (0, []) (omega (arith, inside))) ∙ sum_by-append g (take at lines) (line ∷ [])) in
+    let last : sum_by h (range_with_len 0 (suc n)) ≡ sum_by h (range_with_len 0 n) + h n = (λ i. sum_by h (range_with_len 0 (more i))) ∙ sum_more h n in
+    omega (arith, taken, before, last, same n (omega arith), sum_by-cons g line [])
+
+explained_lines : (table : Answers) (number : ℕ) (lines : List Line) → explained_count table number (failing table lines) ≡ count_by (λ line. is_failing table line && explains table number line) lines
+unfolding explained_count
+explained_lines table number lines = count_filtered (is_failing table) (explains table number) lines
+
+module _ (table : Answers) (lines : List Line) (number first count : ℕ) (inside : first + count ≤ length lines) (score : ℕ → LineScore)
+    (scores : (lane : ℕ) → lane < count → IsScoreOf table number (logged_line lines (first + lane)) (score lane)) where
+  abbrev is_explained : Line → Bool
+  is_explained line = is_failing table line && explains table number line
+
+  -- so many lines more
+  pub suspect_more : (old new : Suspect) → old ≡ suspect_of table (take first lines) number → HasBlockMore score count old new → new ≡ suspect_of table (take (first + count) lines) number
+  unfolding suspect_of hit_bits missed_bits false_bits
+  suspect_more old new is more =
+      let explained : new.explained ≡ explained_count table number (failing table (take (first + count) lines)) =
+      omega (
+        arith,
+        more.explained,
+        ap (λ (s : Suspect). s.explained) is,
+        explained_lines table number (take first lines),
+        explained_lines table number (take (first + count) lines),
+        sum_block (one_of is_explained) (one_of (λ lane. does_explain (score lane))) lines first count inside (λ k low. ap (λ (b : Bool). cond {A = ℕ} b 1 0) (scores k low).explains_it),
+      ) in
+      let hit : new.hit_bits ≡ hit_bits table (take (first + count) lines) number =
+      omega (arith, more.hit, ap (λ (s : Suspect). s.hit_bits) is, sum_block (λ line. count_by is_hit (told_of table number line)) (λ lane. (score lane).hit_bits) lines first count inside (λ k low. (scores k low).hit)) in
+      let missed : new.missed_bits ≡ missed_bits table (take (first + count) lines) number =
+      omega (arith, more.missed, ap (λ (s : Suspect). s.missed_bits) is, sum_block (λ line. count_by is_missed (told_of table number line)) (λ lane. (score lane).missed_bits) lines first count inside (λ k low. (scores k low).missed)) in
+      let wrong : new.false_bits ≡ false_bits table (take (first + count) lines) number =
+      omega (arith, more.wrong, ap (λ (s : Suspect). s.false_bits) is, sum_block (λ line. count_by is_false (told_of table number line)) (λ lane. (score lane).false_bits) lines first count inside (λ k low. (scores k low).wrong)) in
+      λ i. record { number = (more.number ∙ ap (λ (s : Suspect). s.number) is) i; explained = explained i; hit_bits = hit i; missed_bits = missed i; false_bits = wrong i }

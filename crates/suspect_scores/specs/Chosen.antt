@@ -1,31 +1,19 @@
 -- Numbers that are chosen one after another, each for what it explains of the lines that are left.
-use Rattle.std.specs.Prelude.{◌≡◌, ℕ, ◌+◌, ◌<◌, ◌≤◌, ◌&&◌, Bool, true, not, List, [], ◌∷◌, length, map, slice_index}
-use Rattle.std.specs.List.{range_with_len}
+use Rattle.std.specs.Prelude.{◌≡◌, ℕ, ◌<◌, ◌≤◌, ◌&&◌, Bool, true, not, List, [], ◌∷◌, length, map, slice_index}
 use Rattle.net_model.specs.Answer.{bit_at}
-use Rattle.net_model.specs.Rows.{row_at, HaveSameShape}
+use Rattle.net_model.specs.Rows.{row_at}
 use Rattle.table_dicts.specs.AnswerTable.{Answers}
 use Rattle.ranked_diag.specs.PartialLog.{Line}
 use Rattle.suspect_scores.specs.declared.choices.Choice.{Choice}
 use Rattle.suspect_scores.specs.declared.choosing.Best.{Best}
-use Rattle.suspect_scores.specs.declared.marks.LogMarks.{LogMarks}
 use Rattle.suspect_scores.specs.Scores.{is_failing, explains}
-use Rattle.suspect_scores.specs.Scored.{count_to, line_score, does_explain}
+use Rattle.suspect_scores.specs.Scored.{count_to}
 
 -- ---- rows of lines
 
--- which lines are failing and explained, by the score of each
-abbrev pub explained_row : LogMarks → Answers → ℕ → List Bool
-explained_row m answers place = map (λ line. does_explain (line_score m answers place line)) (range_with_len 0 (length answers.rows))
-
--- which are, by the definitions
+-- which lines are failing and explained
 abbrev pub explained_by : Answers → List Line → ℕ → List Bool
 explained_by table lines number = map (λ line. is_failing table line && explains table number line) lines
-
--- The new rows have what the numbers of the answers explain from the first one on, so many, and the others as before.
-pub record AreNoted (old new : List (List Bool)) (first count : ℕ) (m : LogMarks) (answers : Answers) : Type 0 where
-  pub shape : HaveSameShape old new
-  pub here : (place : ℕ) → place < count → row_at new (first + place) ≡ explained_row m answers place
-  pub before : (row : ℕ) → row < first → row_at new row ≡ row_at old row
 
 -- ---- lines that are left
 

@@ -4,5 +4,7 @@ pub mod Covering
 pub mod Expected
 pub mod Laws
 pub mod Scored
+pub mod Columns
 pub mod Marks
+pub mod Benches
 pub mod Chosen

@@ -10,6 +10,7 @@ use Rattle.ranked_diag.specs.PartialLog.{Line}
 use Rattle.suspect_scores.specs.declared.marks.LogMarks.{LogMarks}
 use Rattle.suspect_scores.specs.declared.logged.Logged.{Logged}
 use Rattle.suspect_scores.specs.Scored.{AreMarkRows}
+use Rattle.suspect_scores.specs.Columns.{AreColumns}
 
 -- the line at a place
 abbrev pub logged_line : List Line → ℕ → Line
@@ -46,10 +47,11 @@ pub record AreLogged (table : Answers) (lines : List Line) (numbers : List ℕ) 
   pub sizes : HasSizes answers (length lines) (length numbers) table.positions
   pub each : (k place : ℕ) → k < length lines → place < length numbers → answer_to answers k place ≡ answer_to table (logged_line lines k).0 (slice_index numbers place)
 
--- The patterns can be answered, and there are marks for each.
+-- The patterns can be answered, and there are marks for each, by line and by position.
 pub record IsMarked (s : Setting) (logged : Logged) : Type 0 where
   pub answerable : AreAnswerable s.circuit.now s.faults.now logged.patterns.items
   pub marks : AreMarkRows (length logged.patterns.items) (length s.circuit.now.positions) logged.marks
+  pub columns : AreColumns (length logged.patterns.items) (length s.circuit.now.positions) logged.marks logged.columns
 
 -- The patterns and marks are those of the lines.
 pub record IsLogged (s : Setting) (lines : List Line) (logged : Logged) : Type 0 where

@@ -1,22 +1,26 @@
 //! Which failing lines of a log each number explains.
 
-ghost use Rattle.std.specs.Prelude.{◌≡◌, ℕ, ◌+◌, ◌<◌, ◌≤◌, ◌^◌, List, length, slice_index, All, IfOk};
+ghost use Rattle.std.specs.Prelude.{◌≡◌, ℕ, ◌+◌, ◌%◌, ◌<◌, ◌≤◌, List, length, slice_index, All, IfOk};
 ghost use Rattle.net_model.specs.FaultList.{fault_count};
 ghost use Rattle.net_model.specs.Rows.{row_at};
+ghost use Rattle.word_sim.specs.declared.lanes.TheConstants.{LANES};
 ghost use Rattle.table_dicts.specs.AnswerTable.{Answers};
-ghost use Rattle.table_dicts.specs.Rows.{AreRows, IsRowSet};
+ghost use Rattle.table_dicts.specs.Rows.{AreRows};
 ghost use Rattle.table_dicts.specs.Setting.{AreAnswersAt};
 ghost use Rattle.ranked_diag.specs.PartialLog.{Line};
 ghost use Rattle.suspect_scores.specs.Marks.{IsLogged, IsMarked};
-ghost use Rattle.suspect_scores.specs.Scored.{AreMarkRows};
-ghost use Rattle.suspect_scores.specs.Chosen.{explained_row, explained_by, AreNoted};
+ghost use Rattle.suspect_scores.specs.Columns.{AreColumnRows, AreSame, lane_score};
+ghost use Rattle.table_dicts.specs.Blocks.{HasRunPatterns};
+ghost use Rattle.suspect_scores.specs.Benches.{AreLinesNoted, IsNoted, AreNoted};
+ghost use Rattle.suspect_scores.specs.Chosen.{explained_by};
 
-use crate::logged::{Logged, TOGETHER, part};
-use crate::marks::{LogMarks, set_bit};
-use crate::scoring::score_line;
+use crate::block_scores::explained_word;
+use crate::columns::LogColumns;
+use crate::logged::Logged;
+use fault_sim::FaultSim;
 use net_model::AnswerRows;
 use std::alloc::{AllocError, Global};
-use table_dicts::{AnswerTable, Setting};
+use table_dicts::{Bench, Setting};
 
 /// For each number a row with a bit for each line: whether it is failing and the number explains it.
 pub(crate) fn explained_rows(
@@ -30,42 +34,89 @@ pub(crate) fn explained_rows(
     ensures shape { IfOk result (AreRows (length numbers.now) (length logged.now.patterns.items)) }
     ensures rows { IfOk result (λ rows. (lines : List Line) (table : Answers) → IsLogged setting.now lines logged.now → AreAnswersAt setting.now table → (place : ℕ) → place < length numbers.now → row_at rows place ≡ explained_by table lines (slice_index numbers.now place)) }
 {
-    let mut rows = AnswerRows::zeros(alloc, numbers.len(), logged.patterns.len())?;
+    let patterns = logged.patterns.as_slice();
+    let mut bench = Bench::new(alloc, setting.circuit, setting.faults)?;
+    let mut rows = AnswerRows::zeros(alloc, numbers.len(), patterns.len())?;
     let mut first = 0;
-    while first < numbers.len() {
-        let end = first + (numbers.len() - first).min(TOGETHER);
-        let some = part(numbers, first, end);
-        let answers = logged.answers(alloc, setting, some)?;
-        note_part(&mut rows, first, &logged.marks, &answers);
+    while first < patterns.len() {
+        let end = bench.run(patterns, first);
+        note_lines(
+            &mut rows,
+            &mut bench,
+            &logged.columns,
+            first as u32,
+            numbers,
+        );
         first = end;
     }
     Ok(rows)
 }
 
-// Notes what the numbers of the answers explain, in the rows from the first one on.
-fn note_part(rows: &mut AnswerRows, first: usize, marks: &LogMarks, answers: &AnswerTable)
-    requires marks { AreMarkRows (length answers.now.rows) answers.now.positions marks.now }
-    requires rows { AreRows (length rows.old) (length answers.now.rows) rows.old }
-    requires within { first + answers.now.numbers ≤ length rows.old }
-    ensures { AreNoted rows.old rows.new first answers.now.numbers marks.now answers.now }
+// Notes which lines of the block that was run, from the first one on, each number explains.
+fn note_lines(
+    rows: &mut AnswerRows,
+    bench: &mut Bench,
+    columns: &LogColumns,
+    first: u32,
+    numbers: &[u32],
+)
+    requires run { HasRunPatterns bench.old }
+    requires columns { AreColumnRows (length bench.old.good.circuit.positions) columns.now }
+    requires aligned { first % 64 ≡ 0 }
+    requires numbers { All (λ number. number < fault_count bench.old.good.circuit) numbers.now }
+    requires rows { length rows.old ≡ length numbers.now }
+    requires wide { All (λ row. first + length bench.old.block.vectors ≤ length row) rows.old }
+    ensures bench { bench.new ≡ record bench.old { sim = bench.new.sim } }
+    ensures run { HasRunPatterns bench.new }
+    ensures noted { AreNoted bench.old.good.circuit bench.old.block.vectors columns.now first rows.old rows.new numbers.now (length numbers.now) }
 {
-    // (rows are a usize, and so is each place)
-    let _rows = rows.rows();
-    for place in 0..answers.numbers() {
-        note(rows, first + place as usize, marks, answers, place);
+    for (place, number) in numbers.iter().enumerate() {
+        note_number(rows, place, bench, *number, columns, first);
     }
 }
 
-// Notes what the number at a place of the answers explains.
-fn note(rows: &mut AnswerRows, row: usize, marks: &LogMarks, answers: &AnswerTable, place: u32)
-    requires marks { AreMarkRows (length answers.now.rows) answers.now.positions marks.now }
-    requires place { place < answers.now.numbers }
+// Notes in a row which lines of the block that was run a number explains.
+fn note_number(
+    rows: &mut AnswerRows,
+    row: usize,
+    bench: &mut Bench,
+    number: u32,
+    columns: &LogColumns,
+    first: u32,
+)
+    requires run { HasRunPatterns bench.old }
+    requires columns { AreColumnRows (length bench.old.good.circuit.positions) columns.now }
+    requires aligned { first % 64 ≡ 0 }
+    requires number { number < fault_count bench.old.good.circuit }
     requires row { row < length rows.old }
-    requires wide { length (row_at rows.old row) ≡ length answers.now.rows }
-    ensures { IsRowSet rows.old rows.new row (explained_row marks.now answers.now place) }
+    requires wide { first + length bench.old.block.vectors ≤ length (row_at rows.old row) }
+    ensures bench { bench.new ≡ record bench.old { sim = bench.new.sim } }
+    ensures run { HasRunPatterns bench.new }
+    ensures noted { IsNoted bench.old.good.circuit bench.old.block.vectors columns.now first rows.old rows.new row number }
 {
-    for line in 0..answers.patterns() {
-        let explained = score_line(marks, answers, place, line).explains();
-        set_bit(rows, row, line as usize, explained);
+    bench.inject(number);
+    note_words(rows, row, columns, &bench.sim, first, bench.block.live());
+}
+
+// Notes in a row which of so many lines from the first one on are explained by the number that was injected.
+fn note_words(
+    rows: &mut AnswerRows,
+    row: usize,
+    columns: &LogColumns,
+    sim: &FaultSim,
+    first: u32,
+    count: u32,
+)
+    requires columns { AreColumnRows (length sim.now.circuit.positions) columns.now }
+    requires aligned { first % 64 ≡ 0 }
+    requires count { count ≤ LANES }
+    requires past { AreSame sim.now count LANES }
+    requires row { row < length rows.old }
+    requires wide { first + count ≤ length (row_at rows.old row) }
+    ensures { AreLinesNoted (lane_score columns.now sim.now first) first count rows.old rows.new row }
+{
+    for word in 0..count.div_ceil(64) {
+        let explained = explained_word(columns, sim, first, count, word);
+        rows.set_word(row, (first / 64 + word) as usize, explained);
     }
 }

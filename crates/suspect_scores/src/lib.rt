@@ -1,8 +1,11 @@
 //! Which faults explain what a chip answered, though none may explain all of it.
 #![tactic(auto)]
 
+mod bit_count;
+mod block_scores;
 mod choices;
 mod choosing;
+mod columns;
 mod covering;
 mod expecting;
 mod explaining;

@@ -1,23 +1,25 @@
 //! The classes whose faults hit a failing bit of a log.
 
-ghost use Rattle.std.specs.Prelude.{◌≡◌, ◌+◌, ◌<◌, ◌^◌, ◌++◌, ◌∷◌, [], List, length, map, filter, slice_index, if◌then◌else◌, IsPermutation, IsSorted, All, IfOk, OnOk};
-ghost use Rattle.std.specs.List.{range_with_len};
+ghost use Rattle.std.specs.Prelude.{◌≡◌, ◌<◌, List, length, map, filter, IsPermutation, IsSorted, All, IfOk};
 ghost use Rattle.net_model.specs.FaultList.{fault_count};
 ghost use Rattle.table_dicts.specs.AnswerTable.{Answers};
 ghost use Rattle.table_dicts.specs.Setting.{IsSetting, AreAnswersAt};
 ghost use Rattle.ranked_diag.specs.PartialLog.{Line, ArePartial};
 ghost use Rattle.suspect_scores.specs.Listed.{AreSuspects, suspect_of, suspect_cmp, unlike_bits};
 ghost use Rattle.suspect_scores.specs.Marks.{IsLogged, IsMarked};
-ghost use Rattle.suspect_scores.specs.Scored.{AreMarkRows, has_hit, scored};
+ghost use Rattle.suspect_scores.specs.Scored.{has_hit, suspect_begun};
+ghost use Rattle.suspect_scores.specs.Columns.{AreColumnRows, CanAddBlock};
+ghost use Rattle.table_dicts.specs.Blocks.{HasRunPatterns};
+ghost use Rattle.suspect_scores.specs.Benches.{IsAdded, AreAdded};
 
-use crate::logged::{Logged, TOGETHER, part};
-use crate::marks::LogMarks;
-use crate::scoring::score;
+use crate::block_scores::add_block;
+use crate::columns::LogColumns;
+use crate::logged::Logged;
 use crate::suspect::{Suspect, Suspects};
 use ranked_diag::Partial;
 use std::alloc::{AllocError, Global};
 use std::cmp::Ordering;
-use table_dicts::{AnswerTable, Setting, representatives};
+use table_dicts::{Bench, Setting, representatives};
 
 /// The classes whose faults hit a failing bit of a partial log, best first, so many at the most.
 pub fn suspects(
@@ -32,14 +34,15 @@ pub fn suspects(
 {
     let lowest = representatives(alloc, setting.classes)?;
     let logged = Logged::new(alloc, setting, partial)?;
-    let mut listed = hitting(alloc, setting, &logged, lowest.as_slice())?;
+    let mut listed = scores(alloc, setting, &logged, lowest.as_slice())?;
+    leave_hitting(&mut listed);
     put_in_order(&mut listed);
     listed.truncate(most as usize);
     Ok(Suspects::of(listed))
 }
 
-// The numbers that have a hit, with their scores.
-fn hitting(
+// The numbers with their scores, by a block of lines after another.
+fn scores(
     alloc: Global,
     setting: &Setting,
     logged: &Logged,
@@ -47,47 +50,73 @@ fn hitting(
 ) -> Result<Vec<Suspect>, AllocError>
     requires answered { IsMarked setting.now logged.now }
     requires numbers { All (λ number. number < fault_count setting.now.circuit.now) numbers.now }
-    ensures { IfOk result (λ listed. (lines : List Line) (table : Answers) → IsLogged setting.now lines logged.now → AreAnswersAt setting.now table → listed.items ≡ filter has_hit (map (suspect_of table lines) numbers.now)) }
+    ensures { IfOk result (λ scores. (lines : List Line) (table : Answers) → IsLogged setting.now lines logged.now → AreAnswersAt setting.now table → scores.items ≡ map (suspect_of table lines) numbers.now) }
 {
-    let mut listed = Vec::new(alloc);
+    let patterns = logged.patterns.as_slice();
+    let mut bench = Bench::new(alloc, setting.circuit, setting.faults)?;
+    let mut scores = begun(alloc, numbers)?;
     let mut first = 0;
-    while first < numbers.len() {
-        let end = first + (numbers.len() - first).min(TOGETHER);
-        let some = part(numbers, first, end);
-        let answers = logged.answers(alloc, setting, some)?;
-        add_hitting(&mut listed, &logged.marks, &answers, some)?;
+    while first < patterns.len() {
+        let end = bench.run(patterns, first);
+        add_lines(&mut scores, &mut bench, &logged.columns, first as u32);
         first = end;
     }
-    Ok(listed)
+    Ok(scores)
 }
 
-// Adds those of some numbers that have a hit. The table has their answers.
-fn add_hitting(
-    listed: &mut Vec<Suspect>,
-    marks: &LogMarks,
-    answers: &AnswerTable,
-    numbers: &[u32],
-) -> Result<(), AllocError>
-    requires marks { AreMarkRows (length answers.now.rows) answers.now.positions marks.now }
-    requires numbers { answers.now.numbers ≡ length numbers.now }
-    ensures { OnOk result (listed.new.items ≡ listed.old.items ++ filter has_hit (map (λ place. scored marks.now answers.now place (slice_index numbers.now place) (length answers.now.rows)) (range_with_len 0 (length numbers.now)))) }
+// The numbers with the scores of no line.
+fn begun(alloc: Global, numbers: &[u32]) -> Result<Vec<Suspect>, AllocError>
+    ensures { IfOk result (λ scores. scores.items ≡ map suspect_begun numbers.now) }
 {
-    let _ = answers.numbers();
-    for (place, number) in numbers.iter().enumerate() {
-        let suspect = score(marks, answers, place as u32, *number);
-        add_if_hit(listed, suspect)?;
+    let mut scores = Vec::with_capacity(alloc, numbers.len())?;
+    for number in numbers {
+        scores.push(Suspect {
+            number: *number,
+            explained: 0,
+            hit_bits: 0,
+            missed_bits: 0,
+            false_bits: 0,
+        })?;
     }
-    Ok(())
+    Ok(scores)
 }
 
-// Adds a number if it has a hit.
-fn add_if_hit(listed: &mut Vec<Suspect>, suspect: Suspect) -> Result<(), AllocError>
-    ensures { OnOk result (listed.new.items ≡ (if has_hit suspect then listed.old.items ++ suspect ∷ [] else listed.old.items)) }
+// Adds the lines of the block that was run, from the first one on, to the scores of all numbers.
+fn add_lines(scores: &mut Vec<Suspect>, bench: &mut Bench, columns: &LogColumns, first: u32)
+    requires run { HasRunPatterns bench.old }
+    requires columns { AreColumnRows (length bench.old.good.circuit.positions) columns.now }
+    requires numbers { All (λ suspect. suspect.number < fault_count bench.old.good.circuit) scores.old.items }
+    requires room { All (CanAddBlock (length bench.old.block.vectors) (length bench.old.good.circuit.positions)) scores.old.items }
+    ensures bench { bench.new ≡ record bench.old { sim = bench.new.sim } }
+    ensures run { HasRunPatterns bench.new }
+    ensures added { AreAdded bench.old.good.circuit bench.old.block.vectors columns.now first scores.old.items scores.new.items }
 {
-    if suspect.hit_bits > 0 {
-        listed.push(suspect)?;
+    for place in 0..scores.len() {
+        let mut suspect = scores[place];
+        add_number(&mut suspect, bench, columns, first);
+        scores[place] = suspect;
     }
-    Ok(())
+}
+
+// Adds the lines of the block that was run to the score of a number.
+fn add_number(suspect: &mut Suspect, bench: &mut Bench, columns: &LogColumns, first: u32)
+    requires run { HasRunPatterns bench.old }
+    requires columns { AreColumnRows (length bench.old.good.circuit.positions) columns.now }
+    requires number { suspect.old.number < fault_count bench.old.good.circuit }
+    requires room { CanAddBlock (length bench.old.block.vectors) (length bench.old.good.circuit.positions) suspect.old }
+    ensures bench { bench.new ≡ record bench.old { sim = bench.new.sim } }
+    ensures run { HasRunPatterns bench.new }
+    ensures added { IsAdded bench.old.good.circuit bench.old.block.vectors columns.now first suspect.old suspect.new }
+{
+    bench.inject(suspect.number);
+    add_block(suspect, columns, &bench.sim, first, bench.block.live());
+}
+
+// Leaves those that have a hit.
+fn leave_hitting(scores: &mut Vec<Suspect>)
+    ensures { scores.new.items ≡ filter has_hit scores.old.items }
+{
+    scores.retain(|suspect| suspect.hit_bits > 0);
 }
 
 // Sorts suspects, the best first.

@@ -15,11 +15,11 @@ use std::alloc::{AllocError, Global};
 use word_sim::{Block, GoodSim, LANES, Lanes};
 
 /// The faults of a circuit, a block of patterns, and the simulators of the circuit without a fault and with one.
-pub(crate) struct Bench<'a> {
-    pub(crate) faults: &'a FaultList,
-    pub(crate) block: Block,
-    pub(crate) good: GoodSim<'a>,
-    pub(crate) sim: FaultSim<'a>,
+pub struct Bench<'a> {
+    pub faults: &'a FaultList,
+    pub block: Block,
+    pub good: GoodSim<'a>,
+    pub sim: FaultSim<'a>,
 }
 
 // Written out, it is one step in the proof of a function that lets a bench go, where a derived one is a step for each
@@ -36,7 +36,8 @@ impl Drop for Bench<'_> {
 }
 
 impl<'a> Bench<'a> {
-    pub(crate) fn new(
+    /// A bench of a circuit. `faults` is the list of its faults. No pattern has been run.
+    pub fn new(
         alloc: Global,
         circuit: &'a Circuit,
         faults: &'a FaultList,
@@ -54,7 +55,7 @@ impl<'a> Bench<'a> {
     }
 
     /// Runs the patterns from the first one on, as many as there are lanes, and says where they end.
-    pub(crate) fn run(&mut self, patterns: &[Vector], first: usize) -> usize
+    pub fn run(&mut self, patterns: &[Vector], first: usize) -> usize
         requires bench { IsBench self.old.good.circuit self.old }
         requires widths { All (λ v. length v ≡ self.old.good.circuit.sources) patterns.now }
         requires first { first ≤ length patterns.now }
@@ -70,7 +71,7 @@ impl<'a> Bench<'a> {
     }
 
     /// Injects the fault of a number into the patterns that were run.
-    pub(crate) fn inject(&mut self, number: u32)
+    pub fn inject(&mut self, number: u32)
         requires run { HasRunPatterns self.old }
         requires number { number < fault_count self.old.good.circuit }
         ensures kept { self.new ≡ record self.old { sim = self.new.sim } }

@@ -20,7 +20,7 @@ mod simulating;
 
 pub use answer_table::AnswerTable;
 pub use answers::{answers_at, number_answers_at};
-pub use bench::fill_block;
+pub use bench::{Bench, fill_block};
 pub use by_class::{dict_of_classes, representatives};
 pub use dict::{Dict, DictKind, Groups};
 pub use direct::{full_at, pass_fail_at};

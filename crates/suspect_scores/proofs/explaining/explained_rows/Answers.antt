@@ -1,30 +1,53 @@
-use Rattle.std.proofs.Common.{◌≡◌, ◌∙◌, ◌+◌, ◌<◌, ◌≤◌, ℕ, List, length, sym, ap, subst, arith}
-use Rattle.std.specs.Prelude.{All}
-use Rattle.std.proofs.lemmas.List.Elements.{All-take, All-drop}
-use Rattle.net_model.specs.FaultList.{fault_count}
-use Rattle.table_dicts.proofs.RowLemmas.{rows_later}
-use Rattle.suspect_scores.specs.Chosen.{explained_by, AreNoted}
-use Rattle.suspect_scores.proofs.HittingLemmas.{rows_explained, explained_right, slice_long}
+use Rattle.std.proofs.Common.{◌≡◌, ◌∙◌, ◌≤◌, List, Bool, length, ap, subst, arith}
+use Rattle.std.specs.Prelude.{slice_range}
+use Rattle.net_model.specs.Circuit.{Circuit}
+use Rattle.table_dicts.proofs.BlockLemmas.{block_end}
+use Rattle.table_dicts.specs.declared.bench.Bench.{Bench}
+use Rattle.suspect_scores.specs.Benches.{AreNoted}
+use Rattle.suspect_scores.proofs.BenchLemmas.{explained_more, explained_all}
 use Rattle.suspect_scores.proofs.explaining.explained_rows.Goals as goal
+
+pub note_lines-requires-clause-wide : goal.note_lines-requires-clause-wide
+note_lines-requires-clause-wide c = λ k d h.
+    let patterns = c.as_slice-patterns.result.now in
+    let first = c.loop-first.first in
+    let end = c.run-end.result in
+    let vectors = c.run-end.new.self.block.vectors in
+    let order : first ≤ end = omega (arith, c.run-end.ensures.end) in
+    let within : end ≤ length patterns = omega (arith, c.run-end.ensures.end) in
+    let last = block_end c.run-end.new.self.good.circuit patterns vectors first end c.run-end.ensures.vectors order within in
+    omega (arith, c.loop-first.invariant.explained.shape.width_is k d h, last, within, ap length c.as_slice-patterns.ensures.value)
 
 pub loop-first-preserved : goal.loop-first-preserved
 loop-first-preserved c =
+    let so_far = c.loop-first.invariant in
     let s = c.args.setting.now in
-    let numbers = c.args.numbers.now in
-    let first = c.loop-first.first in
-    let count = c.min.result in
-    let some = c.part-some.result.now in
-    let answers = c.in_ok-answers.answers in
     let logged = c.args.logged.now in
-    let inside : first + count ≤ length numbers = omega (arith, c.min.ensures, c.loop-first.invariant.low) in
-    let below = λ (n : ℕ). n < fault_count s.circuit.now in
-    let known : All below some = subst (λ (xs : List ℕ). All below xs) (sym c.part-some.ensures) (All-take below _ _ (All-drop below first numbers c.requires.numbers)) in
-    let long : length some ≡ count = ap length c.part-some.ensures ∙ slice_long numbers first count inside in
-    let noted = subst (λ (n : ℕ). AreNoted c.loop-first.rows c.note_part.new.rows first n logged.marks answers) (c.in_ok-answers.ensures.sizes.numbers_are ∙ long) c.note_part.ensures in
+    let numbers = c.args.numbers.now in
+    let patterns = c.as_slice-patterns.result.now in
+    let first = c.loop-first.first in
+    let end = c.run-end.result in
+    let vectors = c.run-end.new.self.block.vectors in
+    let same : patterns ≡ logged.patterns.items = c.as_slice-patterns.ensures.value in
+    let order : first ≤ end = omega (arith, c.run-end.ensures.end) in
+    let within : end ≤ length patterns = omega (arith, c.run-end.ensures.end) in
+    let inside : end ≤ length logged.patterns.items = omega (arith, within, ap length same) in
+    let block : vectors ≡ slice_range logged.patterns.items first end = c.run-end.ensures.vectors ∙ ap (λ (ps : List (List Bool)). slice_range ps first end) same in
+    let circuit : c.run-end.new.self.good.circuit ≡ s.circuit.now = c.run-end.ensures.circuit ∙ so_far.circuit in
+    let noted = subst (λ (k : Circuit). AreNoted k vectors logged.columns first c.loop-first.rows c.note_lines.new.rows numbers (length numbers)) circuit c.note_lines.ensures.noted in
     record {
-      low = inside;
-      shape = rows_later c.note_part.ensures.shape c.loop-first.invariant.shape;
-      are = λ lines table is are.
-          rows_explained numbers some first count c.loop-first.rows c.note_part.new.rows logged.marks answers (explained_by table lines) inside c.part-some.ensures noted (c.loop-first.invariant.are lines table is are)
-          (λ q h. explained_right s lines table logged some answers is are (c.in_ok-answers.ensures.answers lines table is are) known q (omega (arith, h, long)));
+      bench = c.note_lines.ensures.run.bench;
+      circuit = ap (λ (b : Bench). b.good.circuit) c.note_lines.ensures.bench ∙ circuit;
+      within = within;
+      aligned = λ h. omega (arith, h, c.run-end.ensures.end, so_far.aligned c.loop-first-test.true);
+      explained = explained_more s logged numbers vectors first end block order inside c.requires.numbers c.loop-first.rows c.note_lines.new.rows so_far.explained noted;
     }
+
+pub loop-first-smaller : goal.loop-first-smaller
+loop-first-smaller c = omega (arith, c.run-end.ensures.end)
+
+pub returns-clause-rows : goal.returns-clause-rows
+returns-clause-rows c = λ lines table is are.
+    let so_far = c.loop-first.invariant in
+    let all : c.loop-first.first ≡ length c.args.logged.now.patterns.items = omega (arith, c.loop-first-test.false, so_far.within, ap length c.as_slice-patterns.ensures.value) in
+    explained_all c.args.setting.now c.args.logged.now c.args.numbers.now c.loop-first.rows c.loop-first.first all so_far.explained lines table is are

@@ -1,9 +1,16 @@
-use Rattle.std.specs.Prelude.{◌-◌, length}
-use Rattle.suspect_scores.proofs.HittingLemmas.{AreExplained}
+use Rattle.std.specs.Prelude.{◌≡◌, ◌≤◌, ◌<◌, ◌%◌, ◌-◌, length}
+use Rattle.table_dicts.specs.Blocks.{IsBench}
+use Rattle.suspect_scores.proofs.BenchLemmas.{AreExplained}
 use Rattle.suspect_scores.proofs.explaining.explained_rows.Given as goal
 
 abbrev pub invariant-loop-first : goal.invariant-loop-first
-invariant-loop-first l = AreExplained l.setting l.logged l.numbers l.first l.rows
+invariant-loop-first l = record {
+  bench : IsBench l.bench.good.circuit l.bench;
+  circuit : l.bench.good.circuit ≡ l.setting.circuit.now;
+  within : l.first ≤ length l.patterns;
+  aligned : l.first < length l.patterns → l.first % 64 ≡ 0;
+  explained : AreExplained l.setting l.logged l.numbers l.first l.rows;
+}
 
 abbrev pub decreases-loop-first : goal.decreases-loop-first
-decreases-loop-first l = length l.numbers - l.first
+decreases-loop-first l = length l.patterns - l.first

@@ -7,11 +7,11 @@ use Rattle.suspect_scores.specs.Scored.{has_hit}
 use Rattle.suspect_scores.proofs.ScoreLemmas.{table_numbers}
 use Rattle.suspect_scores.proofs.suspecting.suspects.Goals as goal
 
-pub hitting-requires-clause-answered : goal.hitting-requires-clause-answered
-hitting-requires-clause-answered c = c.in_ok-logged.ensures.answered
+pub scores-requires-clause-answered : goal.scores-requires-clause-answered
+scores-requires-clause-answered c = c.in_ok-logged.ensures.answered
 
-pub hitting-requires-clause-numbers : goal.hitting-requires-clause-numbers
-hitting-requires-clause-numbers c =
+pub scores-requires-clause-numbers : goal.scores-requires-clause-numbers
+scores-requires-clause-numbers c =
     subst (λ (xs : List ℕ). All (λ number. number < fault_count c.args.setting.now.circuit.now) xs) (sym c.as_slice.ensures.value)
     (subst (λ n. All (λ number. number < n) c.in_ok-lowest.lowest.items) (table_numbers c.args.setting.now.circuit.now c.args.setting.now.patterns.now c.args.setting.now.classes.now c.requires.setting.classes) c.in_ok-lowest.ensures.within)
 
@@ -20,7 +20,7 @@ unfolding hitting representatives
 returns c = λ table are.
     let lines = c.args.partial.now in
     let lowest = c.as_slice.ensures.value ∙ c.in_ok-lowest.ensures.lowest in
-    let listed = c.in_ok-listed.ensures lines table c.in_ok-logged.ensures are ∙ ap (λ (xs : List ℕ). filter has_hit (map (suspect_of table lines) xs)) lowest in
+    let listed = c.leave_hitting.ensures ∙ ap (filter has_hit) (c.in_ok-listed.ensures lines table c.in_ok-logged.ensures are ∙ ap (map (suspect_of table lines)) lowest) in
     record {
       ranked = c.put_in_order.new.listed.items;
       are = record {

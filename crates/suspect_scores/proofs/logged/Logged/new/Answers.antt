@@ -1,9 +1,10 @@
-use Rattle.std.proofs.Common.{◌≡◌, ◌∙◌, ◌<◌, Bool, List, [], ◌∷◌, length, get_or, sym, ap, subst, arith}
+use Rattle.std.proofs.Common.{◌≡◌, ◌∙◌, ◌<◌, ℕ, Bool, List, [], ◌∷◌, length, get_or, sym, ap, subst, arith}
 use Rattle.std.specs.Prelude.{All}
 use Rattle.std.proofs.lemmas.List.{length-map}
 use Rattle.net_model.proofs.Listed.{some_number}
 use Rattle.table_dicts.specs.AnswerTable.{answer_to}
 use Rattle.ranked_diag.specs.PartialLog.{Line}
+use Rattle.suspect_scores.specs.Columns.{AreColumns}
 use Rattle.suspect_scores.specs.Marks.{logged_line, logged_vectors}
 use Rattle.suspect_scores.proofs.MarkLemmas.{marks_as, mark_rows, sized}
 use Rattle.suspect_scores.proofs.LoggedLemmas.{lines_inside, few_lines, vectors_answerable, are_logged}
@@ -37,11 +38,13 @@ returns c =
     let are : vectors ≡ logged_vectors s.patterns.now lines = c.in_ok-patterns.ensures ∙ ap (λ (ps : List (List Bool)). logged_vectors ps lines) c.as_slice.ensures in
     let slice_are : c.as_slice-logged.result.now ≡ logged_vectors s.patterns.now lines = c.as_slice-logged.ensures.value ∙ are in
     let many : length lines ≡ length vectors = sym (ap length are ∙ length-map lines (λ (l : Line). get_or s.patterns.now l.0 [])) in
+    let count : c.len.result ≡ length vectors = omega (arith, c.len.ensures, c.in_ok-patterns.patterns.ok.0) in
     record {
       answered = record {
         answerable = vectors_answerable s.circuit.now s lines vectors c.requires.setting.answerable inside (few_lines patterns positions lines c.requires.partial) are;
         marks = sized (length lines) c.in_ok-free.free.positions (length vectors) positions c.in_ok-marks.marks many c.in_ok-free.ensures.sizes.positions_are
             (mark_rows (λ k. answer_to c.in_ok-free.free k 0) c.in_ok-free.free.positions lines (length lines) c.in_ok-marks.marks c.in_ok-marks.ensures);
+        columns = subst (λ (n : ℕ). AreColumns n positions c.in_ok-marks.marks c.in_ok-columns.columns) count (subst (λ (n : ℕ). AreColumns c.len.result n c.in_ok-marks.marks c.in_ok-columns.columns) (ap length c.positions.ensures.value) c.in_ok-columns.ensures);
       };
       inside = inside;
       wide = c.requires.partial.wide;
