@@ -110,7 +110,7 @@ checker_line {c} {seen} {k} is r q next no_pattern no_evidence complete progress
   begun = is.begun;
   complete = λ some. rw (read_same seen r evidence_of no_evidence) (complete some);
   progress = progress;
-  pool = is.pool;
+  evidence = is.evidence;
   few = is.few;
 }
 

@@ -114,9 +114,9 @@ module _ {c : Circuit} {text : Text} {k : Checker} (is : IsCheckOf c text k) (so
   two_then = omega (arith, length-append is.seen (map Pattern kept), (is.waiting.place some).0)
 
   -- all of them are kept
-  pub run_taken : count ≡ length waiting → (new : Checker) → keeper.circuit ≡ k.keeper.circuit → new.keeper ≡ keeper → new.marks ≡ k.marks → new.from ≡ 0 → new.progress ≡ record k.progress { lines = k.progress.lines + count } → new.pool ≡ k.pool
+  pub run_taken : count ≡ length waiting → (new : Checker) → keeper.circuit ≡ k.keeper.circuit → new.keeper ≡ keeper → new.marks ≡ k.marks → new.from ≡ 0 → new.progress ≡ record k.progress { lines = k.progress.lines + count } → new.evidence ≡ k.evidence
       → new.waiting.items ≡ [] → IsCheckOf c text new
-  run_taken whole new same keeper_is marks_is from_is progress_is pool_is empty =
+  run_taken whole new same keeper_is marks_is from_is progress_is evidence_is empty =
       let all : kept ≡ waiting = take_all count waiting (omega (arith, whole)) in
       let finer = whole_after c is.is.keeper.circuit kept k.keeper.kept keeper.kept is.is.keeper.whole runs.keeps in
       let marks = given_risen (record { numbers = finer.1.numbers; rise = leads_rise finer.0 finer.1 }) is.is.marks in
@@ -131,7 +131,7 @@ module _ {c : Circuit} {text : Text} {k : Checker} (is : IsCheckOf c text k) (so
           begun = λ n below. absurd (omega (arith, below, from_is));
           complete = λ more. absurd (omega (arith, more, no_class_then));
           progress = let P : ℕ → Type 0 = λ n. IsProgress seen (record k.progress { lines = k.progress.lines + n }) in rw progress_is (subst P kept_count (progress_run is.is.lines (is.waiting.place some).0 (is.waiting.place some).1 is.is.progress kept));
-          pool = rw pool_is is.is.pool;
+          evidence = rw evidence_is is.is.evidence;
           few = is.is.few;
         };
         waiting = nothing_waits c seen new.waiting.items empty;

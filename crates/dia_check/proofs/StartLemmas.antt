@@ -11,14 +11,14 @@ use Rattle.member_marks.proofs.MarkLemmas.{given_none}
 use Rattle.result_file.specs.Valid.{AreRightLines}
 use Rattle.dia_check.specs.declared.checker.Checker.{Checker}
 use Rattle.dia_check.specs.Progress.{no_progress}
-use Rattle.dia_check.specs.Checker.{IsCheckOf}
+use Rattle.dia_check.specs.Checker.{IsCheckOf, IsReadyFor}
 use Rattle.dia_check.proofs.ProgressLemmas.{progress_none}
 use Rattle.dia_check.proofs.CheckLemmas.{nothing_waits}
 
 -- no line is judged
-pub check_none : (c : Circuit) → IsCircuit c → fault_count c < 2 ^ 27 → (k : Checker) → k.keeper ≡ keeper_with c (nothing_kept (fault_count c)) → k.marks ≡ replicate (fault_count c) None → k.from ≡ 0 → k.progress ≡ no_progress → k.pool.clauses ≡ []
+pub check_none : (c : Circuit) → IsCircuit c → fault_count c < 2 ^ 27 → (k : Checker) → k.keeper ≡ keeper_with c (nothing_kept (fault_count c)) → k.marks ≡ replicate (fault_count c) None → k.from ≡ 0 → k.progress ≡ no_progress → IsReadyFor c k.evidence
     → k.waiting.items ≡ [] → IsCheckOf c [] k
-check_none c circuit few k keeper_is marks_is from_is progress_is pool_is empty =
+check_none c circuit few k keeper_is marks_is from_is progress_is ready empty =
     let keeper = keeper_first c circuit in
     let none : AreRightLines c [] = record { spelled = λ at h. absurd (omega arith); right = λ at h. absurd (omega arith) } in
     record {
@@ -32,7 +32,7 @@ check_none c circuit few k keeper_is marks_is from_is progress_is pool_is empty 
         begun = λ n below. absurd (omega (arith, below, from_is));
         complete = λ some. absurd (omega arith);
         progress = rw progress_is progress_none;
-        pool = pool_is;
+        evidence = ready;
         few = few;
       };
       waiting = nothing_waits c [] k.waiting.items empty;

@@ -27,7 +27,7 @@ use Rattle.result_file.proofs.RightLines.{IsNextLine, right_next}
 use Rattle.dia_check.specs.declared.progress.Progress.{Progress}
 use Rattle.dia_check.specs.declared.checker.Checker.{Checker}
 use Rattle.dia_check.specs.Progress.{IsProgress, with_member}
-use Rattle.dia_check.specs.Checker.{IsChecker, IsCheckOf, NamesOpen, record_line}
+use Rattle.dia_check.specs.Checker.{IsChecker, IsCheckOf, IsReadyFor, NamesOpen, record_line}
 use Rattle.dia_check.proofs.Counting.{read_same, count_same, text_more}
 use Rattle.dia_check.proofs.ProgressLemmas.{open_in_place, progress_line, progress_budget, progress_class, progress_member, progress_end}
 use Rattle.dia_check.proofs.CheckLemmas.{taken_line, next_line, checker_line}
@@ -36,8 +36,8 @@ none_by : {X : Type 0} (xs : List X) → (0 < length xs → ⊥) → xs ≡ []
 none_by [] never = refl
 none_by (x ∷ xs) never = absurd (never (omega arith))
 
-same_checker : {c : Circuit} {seen : List Record} {k : Checker} → IsChecker c seen k → (new : Checker) → new.keeper ≡ k.keeper → new.marks ≡ k.marks → new.from ≡ k.from → new.progress ≡ k.progress → new.pool ≡ k.pool → IsChecker c seen new
-same_checker is new keeper_is marks_is from_is progress_is pool_is = record {
+same_checker : {c : Circuit} {seen : List Record} {k : Checker} → IsChecker c seen k → (new : Checker) → new.keeper ≡ k.keeper → new.marks ≡ k.marks → new.from ≡ k.from → new.progress ≡ k.progress → new.evidence ≡ k.evidence → IsChecker c seen new
+same_checker is new keeper_is marks_is from_is progress_is evidence_is = record {
   lines = is.lines;
   circuit = rw keeper_is is.circuit;
   keeper = rw keeper_is is.keeper;
@@ -46,7 +46,7 @@ same_checker is new keeper_is marks_is from_is progress_is pool_is = record {
   begun = rw (keeper_is, marks_is, from_is) is.begun;
   complete = rw keeper_is is.complete;
   progress = rw progress_is is.progress;
-  pool = rw pool_is is.pool;
+  evidence = rw evidence_is is.evidence;
   few = is.few;
 }
 
@@ -59,13 +59,13 @@ module _ {c : Circuit} {text : Text} {k : Checker} (is : IsCheckOf c text k) whe
 
   -- a pattern more waits
   pub pattern_waits : (v : List Bool) → ¬ Contains (spelling (Pattern v)) 10 → length v ≡ c.sources → (2 ≤ k.progress.lines) × (k.progress.classes ≡ 0) → length k.waiting.items < LANES → length (text ++ record_line (Pattern v)) ≤ 2 ^ 40
-      → (new : Checker) → new.keeper ≡ k.keeper → new.marks ≡ k.marks → new.from ≡ k.from → new.progress ≡ k.progress → new.pool ≡ k.pool → new.waiting.items ≡ k.waiting.items ++ v ∷ [] → IsCheckOf c (text ++ record_line (Pattern v)) new
-  pattern_waits v one width body room short new keeper_is marks_is from_is progress_is pool_is waiting_is =
+      → (new : Checker) → new.keeper ≡ k.keeper → new.marks ≡ k.marks → new.from ≡ k.from → new.progress ≡ k.progress → new.evidence ≡ k.evidence → new.waiting.items ≡ k.waiting.items ++ v ∷ [] → IsCheckOf c (text ++ record_line (Pattern v)) new
+  pattern_waits v one width body room short new keeper_is marks_is from_is progress_is evidence_is waiting_is =
       let waiting = k.waiting.items in
       let behind = map Pattern waiting in
       record {
         seen = is.seen;
-        is = same_checker is.is new keeper_is marks_is from_is progress_is pool_is;
+        is = same_checker is.is new keeper_is marks_is from_is progress_is evidence_is;
         waiting = rw waiting_is (record {
           widths = All-append (λ v. length v ≡ c.sources) waiting (v ∷ []) is.waiting.widths (λ j d below. let e : j ≡ 0 = omega arith in rw e width);
           few = omega (arith, length-append waiting (v ∷ []), room);
@@ -213,9 +213,9 @@ module _ {c : Circuit} {text : Text} {k : Checker} (is : IsCheckOf c text k) (no
 
     pub evidence_taken : HasSpelling (Same e) → length (text ++ record_line (Same e)) ≤ 2 ^ 40 → (2 ≤ p.lines) × (p.classes ≡ 0) → HasRightRoots c (fault_numbered c e.partner) (fault_numbered c e.member) e.proof
         → IsRightProof c (fault_numbered c e.partner) (fault_numbered c e.member) p.budgets e.proof
-        → (new : Checker) → new.keeper ≡ k.keeper → new.marks ≡ set k.marks e.member (Some g) → new.from ≡ e.member + 1 → new.progress ≡ record p { lines = p.lines + 1 } → new.pool.clauses ≡ [] → new.waiting.items ≡ []
+        → (new : Checker) → new.keeper ≡ k.keeper → new.marks ≡ set k.marks e.member (Some g) → new.from ≡ e.member + 1 → new.progress ≡ record p { lines = p.lines + 1 } → IsReadyFor c new.evidence → new.waiting.items ≡ []
         → IsCheckOf c (text ++ record_line (Same e)) new
-    evidence_taken spelled short both roots right new keeper_is marks_is from_is progress_is pool_is empty =
+    evidence_taken spelled short both roots right new keeper_is marks_is from_is progress_is ready empty =
         let r = Same e in
         let place = body_place both in
         let budgets : p.budgets ≡ budgets_in is.seen = is.is.progress.budgets in
@@ -233,6 +233,6 @@ module _ {c : Circuit} {text : Text} {k : Checker} (is : IsCheckOf c text k) (no
           begun = rw (keeper_is, marks_is, from_is) marked_below;
           complete = λ some. absurd (omega (arith, some, no_class));
           progress = rw progress_is (progress_line is.is.progress (open_in_place is.is.progress t r place) r refl refl refl refl refl refl);
-          pool = pool_is;
+          evidence = ready;
           few = is.is.few;
         })

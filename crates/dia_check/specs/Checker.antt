@@ -15,13 +15,19 @@ use Rattle.result_file.specs.Spelling.{Text, spelling, text_of}
 use Rattle.result_file.specs.Marks.{patterns_in, evidence_in, class_lines, next_member}
 use Rattle.result_file.specs.Valid.{AreRightLines}
 use Rattle.result_file.specs.Refusal.{FileRefused}
+use Rattle.evidence_check.specs.EvidenceChecker.{EvidenceChecker}
 use Rattle.dia_check.specs.declared.stop.Stop.{Stop}
 use Rattle.dia_check.specs.declared.stop.Stop.TheVariants as stop
 use Rattle.dia_check.specs.declared.checker.Checker.{Checker}
 use Rattle.dia_check.specs.Progress.{IsProgress}
 
+-- A checker of evidence is one for the circuit, with an empty pool.
+pub record IsReadyFor (c : Circuit) (checker : EvidenceChecker) : Type 0 where
+  pub circuit : checker.circuit ≡ c
+  pub empty : checker.pool.clauses ≡ []
+
 -- The records are right lines, and the checker has what they state: their patterns with the table of these, their marks,
--- of which those below a number are all given, and their counts. The pool is empty.
+-- of which those below a number are all given, and their counts. The checker of evidence is ready.
 pub record IsChecker (c : Circuit) (seen : List Record) (k : Checker) : Type 0 where
   pub lines : AreRightLines c seen
   pub circuit : k.keeper.circuit ≡ c
@@ -31,7 +37,7 @@ pub record IsChecker (c : Circuit) (seen : List Record) (k : Checker) : Type 0 w
   pub begun : (n : ℕ) → n < k.from → IsSome (given_mark k.keeper.kept.table k.marks n)
   pub complete : 0 < class_lines seen → next_member k.keeper.kept.table (evidence_in seen) ≡ None
   pub progress : IsProgress seen k.progress
-  pub pool : k.pool.clauses ≡ []
+  pub evidence : IsReadyFor c k.evidence
   pub few : fault_count c < 2 ^ 27
 
 -- Patterns may stand behind the records, and have a bit for each source. Of their lines it is left open whether they split a class.

@@ -13,13 +13,15 @@ ghost use Rattle.result_file.specs.Accepted.{IsAcceptedText};
 
 use crate::progress::Progress;
 use crate::stop::{Judged, Stop};
-use clause_pool::Pool;
-use evidence_check::check_evidence;
+use evidence_check::EvidenceChecker;
+use evidence_rules::CheckFault;
 use kept_vectors::Keeper;
 use member_marks::{Marks, Subject, mark_of};
 use net_model::{Vector, Vectors};
-use evidence_rules::CheckFault;
-use result_file::{Budgets, Checked, Evidence, Mark, Record, RecordFault, ResultFault, ResultKind, Summary, read_record};
+use result_file::{
+    Budgets, Checked, Evidence, Mark, Record, RecordFault, ResultFault, ResultKind, Summary,
+    read_record,
+};
 use std::alloc::{AllocError, Global};
 use word_sim::LANES;
 
@@ -31,13 +33,13 @@ const CUBES_LIMIT: u32 = 1_048_576;
 const CONFLICTS_LIMIT: u32 = 100_000;
 
 // What the lines so far have stated: the patterns with their classes, the marks, of which each below a number is given, and
-// the counts; the pool in which logs are checked; and patterns that wait, so that a block of them is judged at once.
+// the counts; the checker of evidence; and patterns that wait, so that a block of them is judged at once.
 pub(crate) struct Checker<'a> {
     pub keeper: Keeper<'a>,
     pub marks: Marks,
     pub from: u32,
     pub progress: Progress,
-    pub pool: Pool,
+    pub evidence: EvidenceChecker<'a>,
     pub waiting: Vec<Vector>,
 }
 
@@ -48,7 +50,7 @@ impl Drop for Checker<'_> {
             marks: _,
             from: _,
             progress: _,
-            pool: _,
+            evidence: _,
             waiting: _,
         } = self;
     }
@@ -64,7 +66,7 @@ impl<'a> Checker<'a> {
             marks: Marks::none(alloc, subject.numbers())?,
             from: 0,
             progress: Progress::none(),
-            pool: Pool::with_room(alloc, 0, 0)?,
+            evidence: EvidenceChecker::new(alloc, subject.circuit())?,
             waiting: Vec::new(alloc),
         })
     }
@@ -119,7 +121,7 @@ impl<'a> Checker<'a> {
             }
             Record::Budget(budgets) => self.judge_budget(subject, budgets),
             Record::Pattern(v) => self.judge_pattern(subject, v),
-            Record::Same(evidence) => self.judge_evidence(alloc, subject, &evidence),
+            Record::Same(evidence) => self.judge_evidence(subject, &evidence),
             Record::Class(number, birth) => self.judge_class(subject, number, birth),
             Record::Member(number, class, mark) => self.judge_member(subject, number, class, mark),
             Record::End => self.judge_end(subject),
@@ -243,7 +245,7 @@ impl<'a> Checker<'a> {
         Ok(())
     }
 
-    fn judge_evidence(&mut self, alloc: Global, subject: &Subject, evidence: &Evidence) -> Judged
+    fn judge_evidence(&mut self, subject: &Subject, evidence: &Evidence) -> Judged
         requires check { HasCheck subject.now self.old }
         requires none { self.old.waiting.items ≡ [] }
         requires spelled { HasSpelling (Same evidence.now) }
@@ -260,7 +262,7 @@ impl<'a> Checker<'a> {
             return Err(self.refused(ResultKind::Roots));
         }
         let budgets = self.progress.budgets;
-        match check_evidence(alloc, subject, &mut self.pool, budgets, evidence) {
+        match self.evidence.check(subject, budgets, evidence) {
             Ok(()) => {
                 self.give(evidence);
                 Ok(())
@@ -294,7 +296,7 @@ impl<'a> Checker<'a> {
         ensures marks { self.new.marks ≡ slice_set self.old.marks evidence.now.member (Some (record { partner = evidence.now.partner; mark = mark_by evidence.now.proof })) }
         ensures from { self.new.from ≡ evidence.now.member + 1 }
         ensures progress { self.new.progress ≡ record self.old.progress { lines = self.old.progress.lines + 1 } }
-        ensures pool { self.new.pool ≡ self.old.pool }
+        ensures evidence { self.new.evidence ≡ self.old.evidence }
         ensures waiting { self.new.waiting ≡ self.old.waiting }
     {
         let mark = mark_of(&evidence.proof);
@@ -415,7 +417,7 @@ impl<'a> Checker<'a> {
             marks: _,
             from: _,
             progress,
-            pool: _,
+            evidence: _,
             waiting: _,
         } = self;
         let (vectors, classes) = keeper.into_kept();

@@ -35,8 +35,7 @@ begun {s} {d} b kept =
       keeper = keeper;
       patterns = sym (append-nil d.keeper.kept.vectors);
       marks = rw b.marks (given_none (fault_count s.circuit) (sym (table_numbers keeper.table)));
-      sim = b.sim;
-      pool = b.pool;
+      space = b.space;
     }
 
 module _ {s : GenerationSetting} {d : Draft} (b : IsBegun s d) where

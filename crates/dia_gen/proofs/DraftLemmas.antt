@@ -38,8 +38,7 @@ drafted_on wait is = record {
   keeper = is.keeper;
   patterns = is.patterns;
   marks = is.marks;
-  sim = is.sim;
-  pool = is.pool;
+  space = is.space;
 }
 
 -- ---- one element more

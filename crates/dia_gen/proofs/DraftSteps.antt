@@ -125,8 +125,7 @@ module _ {s : GenerationSetting} {d : Draft} {kept : List (List Bool)} {later : 
           keeper = added.keeper;
           patterns = added.vectors ∙ ap (λ (vs : List (List Bool)). vs ++ v ∷ []) is.patterns ∙ append_assoc kept (patterns_in later) (v ∷ []) ∙ ap (λ (vs : List (List Bool)). kept ++ vs) (sym patterns);
           marks = rw evidence (given_risen (record { numbers = added.finer.numbers; rise = leads_rise added.keeper.whole added.finer }) is.marks);
-          sim = is.sim;
-          pool = is.pool;
+          space = is.space;
         }
 
     -- its line is made, or the draft is broken off
@@ -159,6 +158,5 @@ module _ {s : GenerationSetting} {d : Draft} {kept : List (List Bool)} {later : 
           keeper = is.keeper;
           patterns = is.patterns ∙ ap (λ (vs : List (List Bool)). kept ++ vs) (sym patterns);
           marks = rw (gives, evidence) (given_more number member proof is.marks lowest.inside lowest.unmarked lead_is);
-          sim = is.sim;
-          pool = is.pool;
+          space = is.space;
         }

@@ -9,5 +9,6 @@ pub mod BeginLemmas
 pub mod DraftSteps
 pub mod EndLemmas
 pub mod FallenLemmas
+pub mod CubeLemmas
 pub mod FreeSources
 mod OneFile

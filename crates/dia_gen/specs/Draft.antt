@@ -17,6 +17,7 @@ use Rattle.kept_vectors.specs.Kept.{IsKept, Keeps, nothing_kept}
 use Rattle.kept_vectors.specs.Keeper.{keeper_with, IsKeeper}
 use Rattle.dia_gen.specs.declared.draft.Draft.{Draft}
 use Rattle.dia_gen.specs.GenerationSetting.{GenerationSetting}
+use Rattle.dia_gen.specs.Settled.{IsSpaceFor}
 use Rattle.member_marks.specs.Given.{AreGiven}
 use Rattle.dia_gen.specs.Made.{lines_with, SeparatesNext, HasNoSearch, HasNoRefutation}
 use Rattle.dia_gen.specs.Writing.{HasGathered}
@@ -31,7 +32,7 @@ pub record AreDraftLines (c : Circuit) (budgets : Budgets) (kept : List (List Bo
   pub no_choice : (at : ℕ) (v : List Bool) → budgets.cubes ≡ 0 → budgets.conflicts ≡ 0 → slice_get later at ≡ Some (Pattern v) → ⊥
 
 -- What the lines are made from: these vectors of the stream are kept, and then the patterns of the later lines. The marks are those of
--- their evidence, the simulation is one of the circuit, and the pool is empty.
+-- their evidence, and the space is one for pairs of the circuit.
 pub record IsDrafted (s : GenerationSetting) (d : Draft) (kept : List (List Bool)) (later : List Record) : Type 0 where
   pub first : IsKept s.circuit s.budgets.blocks kept
   pub lines : AreDraftLines s.circuit s.budgets kept later
@@ -40,8 +41,7 @@ pub record IsDrafted (s : GenerationSetting) (d : Draft) (kept : List (List Bool
   pub keeper : IsKeeper (keeper_with s.circuit d.keeper.kept)
   pub patterns : d.keeper.kept.vectors ≡ kept ++ patterns_in later
   pub marks : AreGiven d.keeper.kept.table (evidence_in later) d.marks
-  pub sim : d.sim.circuit ≡ s.circuit
-  pub pool : d.pool.clauses ≡ []
+  pub space : IsSpaceFor s.circuit d.space
 
 -- The vectors of the stream are kept, no number is marked, and no line is made.
 pub record IsBegun (s : GenerationSetting) (d : Draft) : Type 0 where
@@ -51,8 +51,7 @@ pub record IsBegun (s : GenerationSetting) (d : Draft) : Type 0 where
   pub few : fault_count s.circuit < 2 ^ 27
   pub limits : AreWithinLimits s.budgets
   pub marks : d.marks ≡ replicate (fault_count s.circuit) None
-  pub sim : d.sim.circuit ≡ s.circuit
-  pub pool : d.pool.clauses ≡ []
+  pub space : IsSpaceFor s.circuit d.space
   pub gathered : d.gathered ≡ []
 
 -- The lines so far are written, but for those that wait.

@@ -1,5 +1,5 @@
 -- What becomes of a number and its representative: a cube whose vectors separate them, or evidence.
-use Rattle.std.specs.Prelude.{◌≡◌, ◌⊎◌, ◌≢◌, ◌<◌, ℕ, Bool, true, Option, Some, None, slice_index_or, List, [], ◌∷◌, length}
+use Rattle.std.specs.Prelude.{◌≡◌, ◌⊎◌, ◌≢◌, ◌<◌, ℕ, Bool, true, Option, Some, None, IfSome, slice_index_or, List, [], ◌∷◌, length}
 use Rattle.net_model.specs.declared.fault.Fault.{Fault}
 use Rattle.net_model.specs.Circuit.{Circuit}
 use Rattle.net_model.specs.Answer.{bit_at, Separates}
@@ -20,9 +20,16 @@ use Rattle.result_file.specs.declared.record.Budgets.{Budgets}
 use Rattle.result_file.specs.declared.record.Proof.{Proof}
 use Rattle.result_file.specs.Spelling.{HasProofSpelling}
 use Rattle.result_file.specs.Lines.{HasRightRoots, IsRightProof}
+use Rattle.dia_gen.specs.declared.pair.PairSpace.{PairSpace}
 use Rattle.dia_gen.specs.declared.pair.Settled.{Settled}
 use Rattle.dia_gen.specs.declared.pair.Settled.TheVariants.{Apart, By}
 use Rattle.dia_gen.specs.Made.{HasNoSearch, HasNoRefutation}
+
+-- The space is one for pairs of the circuit, and no clause is left in it.
+pub record IsSpaceFor (c : Circuit) (space : PairSpace) : Type 0 where
+  pub simulated : space.sim.circuit ≡ c
+  pub miters : IfSome space.miters (λ miters. miters ≡ c)
+  pub emptied : space.pool.clauses ≡ []
 
 -- The cube has the vector's bit at each source that is relevant for the two.
 abbrev pub HasRelevant : Circuit → Fault → Fault → List Bool → List (Option Bool) → Type 0

@@ -12,25 +12,20 @@ ghost use Rattle.dia_gen.specs.Writing.{BrokeOff};
 
 use crate::fallen::lowest_fallen;
 use crate::gathered::Gathered;
-use crate::pair::{Settled, settle_pair};
+use crate::pair::{PairSpace, Settled, settle_pair};
 use crate::setting::GenerationSetting;
 use crate::writing::{write_head, write_last, write_patterns};
-use clause_pool::Pool;
 use diag_shelf::{Shelf, ShelfFault};
 use kept_vectors::Keeper;
 use member_marks::{Marks, mark_of};
-use net_model::Fault;
-use pair_sets::PairSim;
 use result_file::{Evidence, Proof, Record};
 use std::alloc::{AllocError, Global};
 
-// What is kept, the marks that are given, the simulation that each search restarts, the pool in which each pair is solved,
-// and the lines that are not yet written.
+// What is kept, the marks that are given, the space in which each pair is settled, and the lines that are not yet written.
 pub(crate) struct Draft<'a> {
     pub(crate) keeper: Keeper<'a>,
     pub(crate) marks: Marks,
-    pub(crate) sim: PairSim<'a>,
-    pub(crate) pool: Pool,
+    pub(crate) space: PairSpace<'a>,
     pub(crate) gathered: Gathered,
 }
 
@@ -40,8 +35,7 @@ impl Drop for Draft<'_> {
         let Draft {
             keeper: _,
             marks: _,
-            sim: _,
-            pool: _,
+            space: _,
             gathered: _,
         } = self;
     }
@@ -56,14 +50,12 @@ impl<'a> Draft<'a> {
         ensures { IfOk result (IsBegun setting.now) }
     {
         let marks = Marks::none(alloc, setting.numbers())?;
-        let pool = Pool::with_room(alloc, 0, 0)?;
-        let sim = PairSim::new(alloc, setting.circuit(), &Fault::Free, &Fault::Free)?;
+        let space = PairSpace::new(alloc, setting)?;
         let keeper = setting.keeper(alloc)?;
         Ok(Draft {
             keeper,
             marks,
-            sim,
-            pool,
+            space,
             gathered: Gathered::new(alloc),
         })
     }
@@ -154,7 +146,7 @@ impl<'a> Draft<'a> {
         let classes = self.keeper.classes();
         let lead = classes.representative(classes.class_of(member));
         self.write_before_search(setting, shelf, lead, member)?;
-        match settle_pair(alloc, setting, &mut self.sim, &mut self.pool, lead, member) {
+        match settle_pair(alloc, setting, &mut self.space, lead, member) {
             Ok(Settled::Apart(cube)) => {
                 self.add_pattern(setting, shelf, member, &cube)?;
                 Ok(true)

@@ -1,18 +1,20 @@
 //! What becomes of a number and its representative.
 
-ghost use Rattle.std.specs.Prelude.{◌≡◌, ◌≢◌, ◌<◌, ◌≤◌, [], IfOk, OnOk, length};
+ghost use Rattle.std.specs.Prelude.{◌≡◌, ◌≢◌, ◌<◌, ◌≤◌, [], Some, IfOk, OnOk, length, slice_set};
+ghost use Rattle.clause_pool.specs.Clauses.{BeginsWith};
+ghost use Rattle.net_model.specs.Answer.{bit_at};
 ghost use Rattle.net_model.specs.Circuit.{IsCircuit};
 ghost use Rattle.net_model.specs.Fault.{IsFaultOf};
 ghost use Rattle.net_model.specs.FaultList.{fault_count};
-ghost use Rattle.dia_gen.specs.Settled.{HasRelevant, IsSettledFor, IsSearched, IsOpenFor, IsSolvedFor, IsSettledBy};
+ghost use Rattle.pair_miter.specs.Miter as spec;
+ghost use Rattle.dia_gen.specs.Settled.{IsSpaceFor, HasRelevant, IsSettledFor, IsSearched, IsOpenFor, IsSolvedFor, IsSettledBy};
 
 use crate::setting::GenerationSetting;
 use clause_pool::Pool;
 use distinguish_search::{Found, search};
-use fault_list::Scope;
 use learn_solver::{Solved, solve};
-use net_model::{Circuit, Fault, Vector};
-use pair_miter::{Log, build};
+use net_model::{Fault, Vector};
+use pair_miter::{Log, Miter, MiterSpace};
 use pair_sets::{PairSim, Token, Tree};
 use result_file::Proof;
 use std::alloc::{AllocError, Global};
@@ -25,34 +27,56 @@ pub(crate) enum Settled {
     By(Proof),
 }
 
+// What pairs are settled in, one after another, so that each costs what its faults reach: the simulation that a search
+// restarts, the space of miters, which is made for the first pair that the solver takes, and the pool of their clauses, which is
+// empty between two pairs.
+#[derive(Drop)]
+pub(crate) struct PairSpace<'a> {
+    pub(crate) sim: PairSim<'a>,
+    pub(crate) miters: Option<MiterSpace<'a>>,
+    pub(crate) pool: Pool,
+}
+
+impl<'a> PairSpace<'a> {
+    pub(crate) fn new(
+        alloc: Global,
+        setting: &GenerationSetting<'a>,
+    ) -> Result<PairSpace<'a>, AllocError>
+        ensures { IfOk result (IsSpaceFor setting.now.circuit) }
+    {
+        Ok(PairSpace {
+            sim: PairSim::new(alloc, setting.circuit(), &Fault::Free, &Fault::Free)?,
+            miters: None,
+            pool: Pool::with_room(alloc, 0, 0)?,
+        })
+    }
+}
+
 // Settles a pair of numbers: by their roots, else by a search where there is a budget for it, else by what the solver
-// learns. The simulation is one of the circuit, and a search restarts it. The pool is empty, and stays so.
+// learns.
 pub(crate) fn settle_pair(
     alloc: Global,
     setting: &GenerationSetting,
-    sim: &mut PairSim,
-    pool: &mut Pool,
+    space: &mut PairSpace,
     lead: u32,
     member: u32,
 ) -> Result<Settled, AllocError>
     requires lead { lead < fault_count setting.now.circuit }
     requires member { member < fault_count setting.now.circuit }
     requires circuit { IsCircuit setting.now.circuit }
-    requires simulated { sim.old.circuit ≡ setting.now.circuit }
-    requires empty { pool.old.clauses ≡ [] }
+    requires space { IsSpaceFor setting.now.circuit space.old }
     ensures settled { IfOk result (IsSettledFor setting.now.circuit setting.now.budgets lead member) }
-    ensures circuit { sim.new.circuit ≡ sim.old.circuit }
-    ensures emptied { OnOk result (pool.new.clauses ≡ []) }
+    ensures space { OnOk result (IsSpaceFor setting.now.circuit space.new) }
 {
     if setting.same_root(lead, member) {
         return Ok(Settled::By(Proof::Collapse));
     }
     let f = setting.fault(lead);
     let g = setting.fault(member);
-    match search_cubes(alloc, setting, sim, &f, &g)? {
+    match search_cubes(alloc, setting, &mut space.sim, &f, &g)? {
         Found::Apart(cube) => Ok(Settled::Apart(cube)),
         Found::Covered(tree) => Ok(Settled::By(Proof::Covered(tree))),
-        Found::Spent(tree) => learn(alloc, setting, &f, &g, tree, pool),
+        Found::Spent(tree) => learn(alloc, setting, space, &f, &g, tree),
     }
 }
 
@@ -83,55 +107,74 @@ fn search_cubes(
 fn learn(
     alloc: Global,
     setting: &GenerationSetting,
+    space: &mut PairSpace,
     f: &Fault,
     g: &Fault,
     tree: Tree,
-    pool: &mut Pool,
 ) -> Result<Settled, AllocError>
     requires first { IsFaultOf setting.now.circuit f.now }
     requires second { IsFaultOf setting.now.circuit g.now }
+    requires circuit { IsCircuit setting.now.circuit }
     requires open { IsOpenFor setting.now.circuit f.now g.now setting.now.budgets tree }
-    requires empty { pool.old.clauses ≡ [] }
+    requires space { IsSpaceFor setting.now.circuit space.old }
     ensures settled { IfOk result (IsSettledBy setting.now.circuit f.now g.now setting.now.budgets) }
-    ensures emptied { OnOk result (pool.new.clauses ≡ []) }
+    ensures space { OnOk result (IsSpaceFor setting.now.circuit space.new) }
 {
-    let circuit = setting.circuit();
-    let conflicts = setting.budgets().conflicts;
-    if conflicts == 0 {
+    if setting.budgets().conflicts == 0 {
         return Ok(Settled::By(Proof::Spent(tree, Log::new(alloc))));
     }
-    let solved = solve_pair(alloc, circuit, f, g, conflicts, pool)?;
+    let empty = space.pool.mark();
+    let miters = match space.miters.take() {
+        Some(miters) => miters,
+        None => MiterSpace::new(alloc, space.sim.circuit())?,
+    };
+    let miter = miters.build(f, g, &mut space.pool)?;
+    let settled = settle_miter(alloc, setting, &miter, &mut space.pool, tree)?;
+    space.pool.release(empty);
+    space.miters = Some(miter.into_space());
+    Ok(settled)
+}
+
+// What the solver makes of a miter's pair, which a tree leaves open. The pool has the miter's clauses.
+fn settle_miter(
+    alloc: Global,
+    setting: &GenerationSetting,
+    miter: &Miter,
+    pool: &mut Pool,
+    tree: Tree,
+) -> Result<Settled, AllocError>
+    requires is_circuit { IsCircuit setting.now.circuit }
+    requires circuit { miter.now.circuit ≡ setting.now.circuit }
+    requires some { setting.now.budgets.conflicts ≢ 0 }
+    requires open { IsOpenFor setting.now.circuit miter.now.f miter.now.g setting.now.budgets tree }
+    requires clauses { pool.old.clauses ≡ spec.miter miter.now.circuit miter.now.f miter.now.g }
+    ensures settled { IfOk result (IsSettledBy setting.now.circuit miter.now.f miter.now.g setting.now.budgets) }
+    ensures begins { BeginsWith pool.new.clauses pool.old.clauses }
+{
+    let solved = solve_pair(alloc, miter, pool, setting.budgets().conflicts)?;
     match solved {
-        Solved::Vector(v) => Ok(Settled::Apart(cube_of(alloc, circuit, f, g, &v)?)),
+        Solved::Vector(v) => Ok(Settled::Apart(cube_of(alloc, miter, &v)?)),
         Solved::Refuted(log) => Ok(Settled::By(Proof::Refuted(tree, log))),
         Solved::Spent(log) => Ok(Settled::By(Proof::Spent(tree, log))),
     }
 }
 
-// What the solver answers for a pair within so many conflicts.
+// What the solver answers for the pair of a miter within so many conflicts, where the pool has the miter's clauses.
 // A refutation comes without the chains that its end doesn't need.
 fn solve_pair(
     alloc: Global,
-    circuit: &Circuit,
-    f: &Fault,
-    g: &Fault,
-    conflicts: u32,
+    miter: &Miter,
     pool: &mut Pool,
+    conflicts: u32,
 ) -> Result<Solved, AllocError>
-    requires circuit { IsCircuit circuit.now }
-    requires first { IsFaultOf circuit.now f.now }
-    requires second { IsFaultOf circuit.now g.now }
     requires some { conflicts ≢ 0 }
     requires limit { conflicts ≤ 100000 }
-    requires empty { pool.old.clauses ≡ [] }
-    ensures solved { IfOk result (IsSolvedFor circuit.now f.now g.now conflicts) }
-    ensures emptied { OnOk result (pool.new.clauses ≡ []) }
+    requires clauses { pool.old.clauses ≡ spec.miter miter.now.circuit miter.now.f miter.now.g }
+    ensures solved { IfOk result (IsSolvedFor miter.now.circuit miter.now.f miter.now.g conflicts) }
+    ensures begins { BeginsWith pool.new.clauses pool.old.clauses }
 {
-    let empty = pool.mark();
-    let miter = build(alloc, circuit, f, g, pool)?;
-    let count = pool.len();
-    let solved = solve(alloc, &miter, pool, conflicts)?;
-    pool.release(empty);
+    let count = miter.clause_count();
+    let solved = solve(alloc, miter, pool, conflicts)?;
     match solved {
         Solved::Vector(v) => Ok(Solved::Vector(v)),
         Solved::Refuted(log) => Ok(Solved::Refuted(trim(alloc, &log, count)?)),
@@ -139,24 +182,28 @@ fn solve_pair(
     }
 }
 
-// The cube of the bits that a vector has at the relevant sources of two faults. The others are free.
-fn cube_of(
-    alloc: Global,
-    circuit: &Circuit,
-    f: &Fault,
-    g: &Fault,
-    v: &Vector,
-) -> Result<Vec<Option<bool>>, AllocError>
-    requires { length v.now ≡ circuit.now.sources }
+// The cube of the bits that a vector has at the relevant sources of a miter's faults. The others are free.
+fn cube_of(alloc: Global, miter: &Miter, v: &Vector) -> Result<Vec<Option<bool>>, AllocError>
+    requires { length v.now ≡ miter.now.circuit.sources }
     ensures width { IfOk result (λ cube. length cube.items ≡ length v.now) }
-    ensures fixed { IfOk result (λ cube. HasRelevant circuit.now f.now g.now v.now cube.items) }
+    ensures fixed { IfOk result (λ cube. HasRelevant miter.now.circuit miter.now.f miter.now.g v.now cube.items) }
 {
-    let scope = Scope::of(alloc, circuit, f, g)?;
     let mut cube = vec![in alloc; None; v.len()]?;
-    for source in 0..circuit.sources() {
-        if scope.relevant(source) {
-            cube[source as usize] = Some(v.get(source as usize));
-        }
+    let relevant = miter.relevant_lines();
+    for line in relevant {
+        fix_source(&mut cube, v, *line);
     }
     Ok(cube)
+}
+
+// Gives a cube the bit that a vector has at a source. Other lines have none.
+fn fix_source(cube: &mut Vec<Option<bool>>, v: &Vector, line: u32)
+    requires { length cube.old.items ≡ length v.now }
+    ensures source { line < length v.now → cube.new.items ≡ slice_set cube.old.items line (Some (bit_at v.now line)) }
+    ensures others { length v.now ≤ line → cube.new.items ≡ cube.old.items }
+{
+    let source = line as usize;
+    if source < v.len() {
+        cube[source] = Some(v.get(source));
+    }
 }

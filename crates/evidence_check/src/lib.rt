@@ -3,4 +3,4 @@
 
 mod evidence;
 
-pub use evidence::check_evidence;
+pub use evidence::EvidenceChecker;

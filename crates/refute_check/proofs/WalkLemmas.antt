@@ -8,7 +8,6 @@ use Rattle.std.proofs.lemmas.List.Sorted.{IsPermutation-reverse, list_any-IsPerm
 use Rattle.std.specs.declared.alloc.Global.{Global}
 use Rattle.net_model.specs.declared.fault.Fault.{Fault}
 use Rattle.net_model.specs.Circuit.{Circuit}
-use Rattle.net_model.specs.Answer.{bit_at}
 use Rattle.net_model.specs.Scope.{is_relevant}
 use Rattle.net_model.proofs.Elements.{none_is}
 use Rattle.pair_sets.specs.declared.state.PairState.{PairState}
@@ -18,6 +17,7 @@ use Rattle.pair_sets.specs.declared.tree.Token.TheVariants.{Split, Closed, Rest}
 use Rattle.pair_sets.specs.Cube.{Cube, FixesOnce, fixed_bit}
 use Rattle.pair_sets.specs.CubeState.{IsState}
 use Rattle.pair_sets.specs.PairSim.{PairSim, pair_sim, with_cube}
+use Rattle.pair_scope.specs.PairScope.{PairScope}
 use Rattle.pair_sets.specs.Tree.{IsRightAt, IsTree, after_token, waiting_after, cube_at, token_at}
 use Rattle.pair_sets.proofs.DecidedLemmas.{one_state}
 use Rattle.pair_sets.proofs.TreeLemmas.{free_token}
@@ -54,8 +54,8 @@ module _ (walk : Walk) (w : IsTreeWalk walk) where
   same_state : (s t : PairState) → IsState walk.sim.circuit walk.sim.f walk.sim.g walk.sim.cube s → IsState walk.sim.circuit walk.sim.f walk.sim.g walk.sim.cube t → s ≡ t
   same_state s t p q = one_state walk.sim.circuit walk.sim.f walk.sim.g walk.sim.cube s t w.circuit p q
 
-  relevant_is : (source : ℕ) → source < walk.sources → bit_at walk.scope.relevant source ≡ is_relevant walk.sim.circuit walk.sim.f walk.sim.g source
-  relevant_is source h = w.scope.relevant.each source (omega (arith, h, w.sources))
+  relevant_is : (source : ℕ) → is_relevant walk.scope.circuit walk.scope.f walk.scope.g source ≡ is_relevant walk.sim.circuit walk.sim.f walk.sim.g source
+  relevant_is source = ap (λ (s : PairScope). is_relevant s.circuit s.f s.g source) w.scope
 
   pub undecided_only : (s : PairState) → IsState walk.sim.circuit walk.sim.f walk.sim.g walk.sim.cube s → (s ≡ Undecided → ⊥) → IsState walk.sim.circuit walk.sim.f walk.sim.g walk.sim.cube Undecided → ⊥
   undecided_only s state other undecided = other (same_state s Undecided state undecided)
@@ -69,13 +69,13 @@ module _ (walk : Walk) (w : IsTreeWalk walk) where
   -- What a split needs besides an undecided cube.
   pub record IsFree (source : ℕ) : Type 0 where
     pub inside : source < walk.sources
-    pub relevant : bit_at walk.scope.relevant source ≡ true
+    pub relevant : is_relevant walk.scope.circuit walk.scope.f walk.scope.g source ≡ true
     pub free : list_any (λ half. half.0 == source) walk.path.items ≡ false
 
   pub split_right : (source : ℕ) → IsFree source → IsState walk.sim.circuit walk.sim.f walk.sim.g walk.sim.cube Undecided → IsRightAt walk.sim.circuit walk.sim.f walk.sim.g (Split source) walk.sim.cube
   split_right source free undecided = (
     omega (arith, free.inside, w.sources),
-    sym (relevant_is source free.inside) ∙ free.relevant,
+    sym (relevant_is source) ∙ free.relevant,
     none_is (fixed_bit walk.sim.cube source) (sym (path_free source) ∙ free.free),
     undecided,
   )
@@ -83,7 +83,7 @@ module _ (walk : Walk) (w : IsTreeWalk walk) where
   pub split_free : (source : ℕ) → IsRightAt walk.sim.circuit walk.sim.f walk.sim.g (Split source) walk.sim.cube → IsFree source
   split_free source right =
       let inside : source < walk.sources = omega (arith, right.0, w.sources) in
-      record { inside = inside; relevant = relevant_is source inside ∙ right.1; free = path_free source ∙ ap is_some right.2 }
+      record { inside = inside; relevant = relevant_is source ∙ right.1; free = path_free source ∙ ap is_some right.2 }
 
 -- ---- the way up
 

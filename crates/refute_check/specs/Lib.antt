@@ -7,3 +7,4 @@ pub mod Reached
 pub mod Propagation
 pub mod PoolEnds
 pub mod Walk
+pub mod TreeCheckerFields

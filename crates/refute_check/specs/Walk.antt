@@ -1,7 +1,7 @@
 -- A walk through a tree: where it stands, and which cubes still wait.
 use Rattle.std.specs.Prelude.{◌≡◌, ℕ, ◌≤◌, true, false, List, [], ◌∷◌, reverse, Option, None, Some, slice_get, Contains, if◌then◌else◌}
-use Rattle.net_model.specs.Circuit.{IsCircuit}
-use Rattle.fault_list.specs.Scope.{IsScopeOf}
+use Rattle.net_model.specs.Circuit.{Circuit, IsCircuit}
+use Rattle.pair_scope.specs.PairScope.{pair_scope}
 use Rattle.pair_sets.specs.declared.tree.Token.{Token}
 use Rattle.pair_sets.specs.declared.tree.Token.TheVariants.{Rest}
 use Rattle.pair_sets.specs.Cube.{Cube, FixesOnce}
@@ -27,8 +27,13 @@ pub record IsTreeWalk (walk : Walk) : Type 0 where
   pub circuit : IsCircuit walk.sim.circuit
   pub stands : walk.sim.cube ≡ reverse walk.path.items
   pub once : FixesOnce walk.sim.circuit.sources walk.sim.cube
-  pub scope : IsScopeOf walk.sim.circuit walk.sim.f walk.sim.g walk.scope
+  pub scope : walk.scope ≡ pair_scope walk.sim.circuit walk.sim.f walk.sim.g
   pub sources : walk.sources ≡ walk.sim.circuit.sources
+
+-- A walk can go to the root of a tree about faults of this circuit.
+pub record IsWalkFor (c : Circuit) (walk : Walk) : Type 0 where
+  pub simulated : walk.sim.circuit ≡ c
+  pub scoped : walk.scope.circuit ≡ c
 
 -- A token is right for a walk that isn't at its end.
 abbrev pub IsRightIn : Walk → Token → Type 0

@@ -20,4 +20,4 @@ pub use freshness::fresh;
 pub use literal_sets::{Clause, NoPivot, resolve};
 pub use log::check_log;
 pub use refusal::ChainFault;
-pub use tree::check_tree;
+pub use tree::{TreeChecker, check_tree};

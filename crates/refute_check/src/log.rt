@@ -19,8 +19,8 @@ use crate::freshness::Propagator;
 use crate::reached::Reached;
 use crate::refusal::ChainFault;
 use clause_pool::{Lit, Pool};
-use literal_sets::Clause;
 use evidence_rules::{CheckFault, EvidenceKind, RefusalKind, refused};
+use literal_sets::Clause;
 use pair_miter::{Chain, Log, Miter};
 use std::alloc::{AllocError, Global};
 

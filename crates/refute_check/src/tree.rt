@@ -10,13 +10,14 @@ ghost use Rattle.pair_sets.specs.PairSim.{pair_sim};
 ghost use Rattle.pair_sets.specs.Tree.{IsRightAt, after_token, closed_count};
 ghost use Rattle.evidence_rules.specs.declared.refusal.Refusal.{Refusal};
 ghost use Rattle.evidence_rules.specs.TreeRefusal.{IsRightTree, TreeRefused};
-ghost use Rattle.refute_check.specs.Walk.{IsTreeWalk, IsRightIn, IsVerdict, HasGoneOn, AreRightCounts, waiting_in, second_halves};
+ghost use Rattle.refute_check.specs.Walk.{IsTreeWalk, IsWalkFor, IsRightIn, IsVerdict, HasGoneOn, AreRightCounts, waiting_in, second_halves};
 
 use evidence_rules::{CheckFault, EvidenceKind, RefusalKind, refused};
-use fault_list::Scope;
 use net_model::{Circuit, Fault};
+use pair_scope::PairScope;
 use pair_sets::{PairSim, PairState, Token, Tree};
 use std::alloc::{AllocError, Global};
+use std::marker::Model;
 
 /// Checks the tree of evidence about two faults, with a budget of so many closed leaves. It is accepted exactly where it is
 /// what this kind of evidence needs; else the first token that breaks a rule is answered, or that the tree isn't whole, or
@@ -35,11 +36,82 @@ pub fn check_tree(
     ensures right { OnOk result (IsRightTree circuit.now f.now g.now kind cubes tree.now) }
     ensures refused { (refusal : Refusal) → IsErrOf result (CheckFault.Refused refusal) → TreeRefused circuit.now f.now g.now kind cubes tree.now refusal }
 {
-    if is_open_leaf(tree) {
-        return check_open_leaf(tree.as_slice(), kind, cubes);
+    let mut trees = TreeChecker::new(alloc, circuit);
+    trees.check(f, g, tree, kind, cubes)
+}
+
+/// Checks trees of evidence about pairs of a circuit's faults, one after another. What a tree is simulated with is made for the
+/// first that needs it and kept for those that follow, so that each costs what its two faults reach.
+#[derive(Drop)]
+pub struct TreeChecker<'a> {
+    alloc: Global,
+    circuit: &'a Circuit,
+    walk: Option<Walk<'a>>,
+}
+
+impl<'a> Model for TreeChecker<'a> {
+    ghost use Rattle.net_model.specs.Circuit as spec;
+    ghost use Rattle.refute_check.specs.TreeCheckerFields.{tree_checker_of, AreTreeCheckerFields};
+
+    ghost Value = { spec.Circuit };
+
+    ghost view = { tree_checker_of };
+
+    ghost invariant = { AreTreeCheckerFields };
+}
+
+impl<'a> TreeChecker<'a> {
+    /// The checker of trees about faults of a circuit.
+    pub fn new(alloc: Global, circuit: &'a Circuit) -> TreeChecker<'a>
+        ensures { result ≡ circuit.now }
+    {
+        TreeChecker {
+            alloc,
+            circuit,
+            walk: None,
+        }
     }
-    let mut walk = Walk::at_root(alloc, circuit, f, g)?;
-    walk.check(tree.as_slice(), kind, cubes)
+
+    /// Checks a tree as `check_tree` does.
+    pub fn check(
+        &mut self,
+        f: &Fault,
+        g: &Fault,
+        tree: &Tree,
+        kind: EvidenceKind,
+        cubes: u32,
+    ) -> Result<(), CheckFault>
+        requires first { IsFaultOf self.old f.now }
+        requires second { IsFaultOf self.old g.now }
+        ensures right { OnOk result (IsRightTree self.old f.now g.now kind cubes tree.now) }
+        ensures refused { (refusal : Refusal) → IsErrOf result (CheckFault.Refused refusal) → TreeRefused self.old f.now g.now kind cubes tree.now refusal }
+        ensures circuit { self.new ≡ self.old }
+    {
+        if is_open_leaf(tree) {
+            return check_open_leaf(tree.as_slice(), kind, cubes);
+        }
+        let mut walk = self.begin(f, g)?;
+        walk.check(tree.as_slice(), kind, cubes)?;
+        self.walk = Some(walk);
+        Ok(())
+    }
+
+    // The walk at the root of a tree about two faults: the kept one where there is one.
+    fn begin(&mut self, f: &Fault, g: &Fault) -> Result<Walk<'a>, AllocError>
+        requires first { IsFaultOf self.old f.now }
+        requires second { IsFaultOf self.old g.now }
+        ensures walk { IfOk result IsTreeWalk }
+        ensures sim { IfOk result (λ walk. walk.sim ≡ pair_sim self.old f.now g.now []) }
+        ensures root { IfOk result (λ walk. waiting_in walk ≡ [] ∷ []) }
+        ensures circuit { self.new ≡ self.old }
+    {
+        let mut walk = match self.walk.take() {
+            Some(walk) => walk,
+            None => Walk::new(self.alloc, self.circuit)?,
+        };
+        walk.restart(f, g);
+        Ok(walk)
+    }
 }
 
 // Whether a tree is one open leaf. It is right at any cube, so nothing is simulated for it.
@@ -67,41 +139,49 @@ fn check_open_leaf(tokens: &[Token], kind: EvidenceKind, cubes: u32) -> Result<(
 #[derive(Drop)]
 struct Walk<'a> {
     sim: PairSim<'a>,
-    scope: Scope,
+    scope: PairScope<'a>,
     path: Vec<(u32, bool)>,
     sources: u32,
     whole: bool,
 }
 
 impl<'a> Walk<'a> {
-    // The walk at the root of a tree about two faults.
-    fn at_root(
-        alloc: Global,
-        circuit: &'a Circuit,
-        f: &Fault,
-        g: &Fault,
-    ) -> Result<Walk<'a>, AllocError>
-        requires first { IsFaultOf circuit.now f.now }
-        requires second { IsFaultOf circuit.now g.now }
-        ensures walk { IfOk result IsTreeWalk }
-        ensures sim { IfOk result (λ walk. walk.sim ≡ pair_sim circuit.now f.now g.now []) }
-        ensures root { IfOk result (λ walk. waiting_in walk ≡ [] ∷ []) }
+    // A walk for trees about faults of a circuit.
+    fn new(alloc: Global, circuit: &'a Circuit) -> Result<Walk<'a>, AllocError>
+        ensures { IfOk result (IsWalkFor circuit.now) }
     {
         Ok(Walk {
-            sim: PairSim::new(alloc, circuit, f, g)?,
-            scope: Scope::of(alloc, circuit, f, g)?,
+            sim: PairSim::new(alloc, circuit, &Fault::Free, &Fault::Free)?,
+            scope: PairScope::new(alloc, circuit)?,
             path: Vec::new(alloc),
             sources: circuit.sources(),
             whole: false,
         })
     }
 
-    // Goes through the whole tree from its root, and checks it as `check_tree` does.
+    // Goes to the root of a tree about two faults.
+    fn restart(&mut self, f: &Fault, g: &Fault)
+        requires walk { IsWalkFor self.old.sim.circuit self.old }
+        requires first { IsFaultOf self.old.sim.circuit f.now }
+        requires second { IsFaultOf self.old.sim.circuit g.now }
+        ensures walk { IsTreeWalk self.new }
+        ensures sim { self.new.sim ≡ pair_sim self.old.sim.circuit f.now g.now [] }
+        ensures root { waiting_in self.new ≡ [] ∷ [] }
+    {
+        self.sim.restart(f, g);
+        self.scope.show(*f, *g);
+        self.path.clear();
+        self.sources = self.sim.circuit().sources();
+        self.whole = false;
+    }
+
+    // Goes through the whole tree from its root, and checks it as `check_tree` does. A right one leaves a walk for further trees.
     fn check(&mut self, tokens: &[Token], kind: EvidenceKind, cubes: u32) -> Result<(), CheckFault>
         requires walk { IsTreeWalk self.old }
         requires root { waiting_in self.old ≡ [] ∷ [] }
         ensures right { OnOk result (IsRightTree self.old.sim.circuit self.old.sim.f self.old.sim.g kind cubes tokens.now) }
         ensures refused { (refusal : Refusal) → IsErrOf result (CheckFault.Refused refusal) → TreeRefused self.old.sim.circuit self.old.sim.f self.old.sim.g kind cubes tokens.now refusal }
+        ensures kept { OnOk result (IsWalkFor self.old.sim.circuit self.new) }
     {
         for (step, token) in tokens.iter().enumerate() {
             if let Some(rule) = self.wrong(*token) {

@@ -6,7 +6,7 @@ use pair_sets::Token::{Closed, Rest, Split};
 use pair_sets::{Token, Tree};
 use refute_check::EvidenceKind::{self, Covered, Spent};
 use refute_check::RefusalKind::{self, BadTree, LeafOpen, WrongCount};
-use refute_check::check_tree;
+use refute_check::{TreeChecker, check_tree};
 use sample_circuits::{NOT_AND_OR, circuit, stands};
 use std::alloc::Global;
 use std::test::Fail;
@@ -52,7 +52,7 @@ const TREES: &[Judged] = &[
     (Spent, 1, &[Rest], Some((WrongCount, 1))),
 ];
 
-// Whether the checker says of a tree what is wanted.
+// Whether the checker says of a tree what is wanted, alone and behind the tree of another pair.
 fn is_judged(alloc: Global, case: &Judged) -> Result<bool, Fail> {
     let circuit = circuit(alloc, NOT_AND_OR)?;
     is_judged_in(alloc, &circuit, case)
@@ -67,8 +67,13 @@ fn is_judged_in(alloc: Global, circuit: &Circuit, case: &Judged) -> Result<bool,
     }
     let mut tree = Tree::new(alloc);
     tree.extend(tokens)?;
-    let found = check_tree(alloc, circuit, &Fault::Free, &stuck, &tree, kind, cubes);
-    Ok(is_refusal(found, wanted))
+    let mut closed = Tree::new(alloc);
+    closed.push(Closed)?;
+    let alone = check_tree(alloc, circuit, &Fault::Free, &stuck, &tree, kind, cubes);
+    let mut trees = TreeChecker::new(alloc, circuit);
+    let before = trees.check(&Fault::Free, &Fault::Free, &closed, Covered, 64);
+    let behind = trees.check(&Fault::Free, &stuck, &tree, kind, cubes);
+    Ok(before.is_ok() && is_refusal(alone, wanted) && is_refusal(behind, wanted))
 }
 
 #[test]

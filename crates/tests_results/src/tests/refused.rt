@@ -7,8 +7,8 @@ use crate::tests::texts::{
 };
 use dia_check::{FileFault, check};
 use diag_shelf::{MemoryShelf, Shelf};
-use net_model::Circuit;
 use evidence_rules::{Refusal, RefusalKind};
+use net_model::Circuit;
 use result_file::{ResultFault, ResultKind};
 use sample_circuits::{AND_OF_TWO, CircuitParts, NOT_AND_OR, circuit};
 use std::alloc::Global;

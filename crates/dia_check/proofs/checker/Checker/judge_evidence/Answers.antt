@@ -35,11 +35,14 @@ returns-then-not-has_right_roots c = rw c.refused-then-not-has_right_roots.ensur
   by_roots (names_next is.is.marks (c.if-not-names_next.ensures.right refl)) (λ right. let h = c.if-not-has_right_roots.ensures.1 right in cc) refl,
 )))
 
-pub check_evidence-requires-clause-member : goal.check_evidence-requires-clause-member
-check_evidence-requires-clause-member c = member_inside c.requires.check.is c.requires.none c.args.evidence.now (c.if-not-names_next.ensures.right refl)
+pub check-requires-clause-circuit : goal.check-requires-clause-circuit
+check-requires-clause-circuit c = c.requires.check.is.is.evidence.circuit
 
-pub check_evidence-requires-clause-partner : goal.check_evidence-requires-clause-partner
-check_evidence-requires-clause-partner c = partner_inside c.requires.check.is c.requires.none c.args.evidence.now (c.if-not-names_next.ensures.right refl)
+pub check-requires-clause-member : goal.check-requires-clause-member
+check-requires-clause-member c = member_inside c.requires.check.is c.requires.none c.args.evidence.now (c.if-not-names_next.ensures.right refl)
+
+pub check-requires-clause-partner : goal.check-requires-clause-partner
+check-requires-clause-partner c = partner_inside c.requires.check.is c.requires.none c.args.evidence.now (c.if-not-names_next.ensures.right refl)
 
 pub give-requires-clause-small : goal.give-requires-clause-small
 give-requires-clause-small c =
@@ -53,7 +56,7 @@ pub returns-in-Ok : goal.returns-in-Ok
 returns-in-Ok c = record {
   judged = λ text is short.
       evidence_taken is c.requires.none c.args.evidence.now (c.if-not-names_next.ensures.right refl) c.requires.spelled short (c.if-not-is_body.ensures.0 refl) (c.if-not-has_right_roots.ensures.0 refl) c.in-Ok.ensures.right
-      c.give.new.self c.give.ensures.keeper c.give.ensures.marks c.give.ensures.from c.give.ensures.progress (rw c.give.ensures.pool c.in-Ok.ensures.emptied) (rw c.give.ensures.waiting c.requires.none);
+      c.give.new.self c.give.ensures.keeper c.give.ensures.marks c.give.ensures.from c.give.ensures.progress (rw c.give.ensures.evidence (record { circuit = c.in-Ok.ensures.circuit ∙ is.is.evidence.circuit; empty = c.in-Ok.ensures.emptied })) (rw c.give.ensures.waiting c.requires.none);
 }
 
 pub refused-requires-in-Err-Refused : goal.refused-requires-in-Err-Refused
@@ -62,5 +65,5 @@ refused-requires-in-Err-Refused c = few_lines c.requires.check
 pub returns-in-Err-Refused : goal.returns-in-Err-Refused
 returns-in-Err-Refused c = rw c.refused-in-Err-Refused.ensures (judged_wrong {c = c.args.subject.now} {k = c.args.self.now} c.requires.none (Same c.args.evidence.now) c.requires.spelled c.requires.one (why.Evidence c.in-Err-Refused.refusal) (λ text is.
     let place = body_place is c.requires.none (c.if-not-is_body.ensures.0 refl) in
-    let refused = rw is.is.progress.budgets at (c.check_evidence.ensures.refused c.in-Err-Refused.refusal (c.in-Err-Refused.is ∙ ap (λ (e : CheckFault). Err e) c.in-Err-Refused.field-0-is)) in
+    let refused = rw is.is.progress.budgets at (c.check.ensures.refused c.in-Err-Refused.refusal (c.in-Err-Refused.is ∙ ap (λ (e : CheckFault). Err e) c.in-Err-Refused.field-0-is)) in
     (place, by_proof c.in-Err-Refused.refusal (names_next is.is.marks (c.if-not-names_next.ensures.right refl)) (c.if-not-has_right_roots.ensures.0 refl) refused refl)))

@@ -1,0 +1,2 @@
+pub mod EvidenceChecker
+pub mod EvidenceCheckerFields

@@ -1,0 +1,12 @@
+-- What the fields of a checker of trees show, and what is true of them.
+use Rattle.std.specs.Prelude.{IfSome}
+use Rattle.net_model.specs.Circuit.{Circuit}
+use Rattle.refute_check.specs.declared.tree.TreeChecker.TheInside.{Inside}
+use Rattle.refute_check.specs.Walk.{IsWalkFor}
+
+abbrev pub tree_checker_of : Inside → Circuit
+tree_checker_of a = a.circuit.now
+
+-- A walk that is kept is one for the circuit.
+abbrev pub AreTreeCheckerFields : Inside → Type 0
+AreTreeCheckerFields a = IfSome a.walk (IsWalkFor a.circuit.now)
