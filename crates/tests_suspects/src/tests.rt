@@ -3,6 +3,7 @@
 mod covers;
 mod expecting;
 mod failing;
+mod long_logs;
 mod runs;
 mod suspecting;
 mod texts;
