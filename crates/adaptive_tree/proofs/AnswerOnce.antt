@@ -5,9 +5,9 @@ use Rattle.std.specs.List.{AllByRecursion}
 use Rattle.std.proofs.lemmas.List.Elements.{All-from_get_or, recursion_from_All}
 use Rattle.net_model.specs.ClassTable.{same_bits}
 use Rattle.diagnose.specs.declared.fault.LogKind.{LogKind}
-use Rattle.diagnose.specs.Lines.{Text}
+use Rattle.text_fields.specs.Fields.{Text}
 use Rattle.diagnose.specs.LogText.{log_line, BeginsWithLine}
-use Rattle.diagnose.proofs.Cuts.{not_empty}
+use Rattle.text_fields.proofs.Cuts.{not_empty}
 use Rattle.diagnose.proofs.LogLemmas.{line_once}
 use Rattle.adaptive_tree.specs.declared.steps.Step.{Step}
 use Rattle.adaptive_tree.specs.declared.steps.Plan.{Plan}

@@ -2,7 +2,7 @@
 use Rattle.std.proofs.Common.{◌≡◌, ℕ, refl, lit<, lit≤, arith}
 use Rattle.std.specs.Prelude.{Bool, true, false, List, [], ◌∷◌, ◌++◌, None, Some, codes, flat_map}
 use Rattle.std.specs.Fmt.{digits}
-use Rattle.diagnose.specs.Lines.{Text}
+use Rattle.text_fields.specs.Fields.{Text}
 use Rattle.net_model.specs.ClassTable.{ClassTable, class_table, representative}
 use Rattle.net_model.proofs.Examples.{and_rows}
 use Rattle.net_model.proofs.Opened.{opened}

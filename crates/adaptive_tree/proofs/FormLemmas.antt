@@ -1,26 +1,20 @@
 -- The fields of a line as a reader cuts them.
-use Rattle.std.proofs.Common.{◌≡◌, ◌≢◌, ◌∙◌, ℕ, ◌<◌, ◌^◌, refl, ap, sym, subst, lit<, arith, get_or}
-use Rattle.std.specs.Prelude.{Bool, true, false, not, List, [], ◌∷◌, ◌++◌, drop, length, Contains, codes, decimal}
+use Rattle.std.proofs.Common.{◌≡◌, ◌≢◌, ◌∙◌, ℕ, ◌<◌, ◌^◌, refl, ap, sym, subst, lit<, arith}
+use Rattle.std.specs.Prelude.{Bool, true, false, not, List, [], ◌∷◌, ◌++◌, drop, Contains, codes, decimal}
 use Rattle.std.specs.List.{AllByRecursion}
 use Rattle.std.specs.Borrow.{Bor}
 use Rattle.std.proofs.lemmas.List.Elements.{Contains-append_right, All-from_recursion}
 use Rattle.net_model.specs.BitText.{bits_text}
-use Rattle.result_file.specs.Spelling.{IsNumber}
-use Rattle.diagnose.specs.Lines.{Text, IsCutAt, IsDigit}
-use Rattle.diagnose.proofs.Cuts.{cut_once, missing_below}
-use Rattle.diagnose.proofs.BitLemmas.{digits_spell}
-use Rattle.diagnose.proofs.LogLemmas.{number_without_blank}
+use Rattle.text_fields.specs.Fields.{Text, IsNumber, IsCutAt, AreDigitsIn}
+use Rattle.text_fields.proofs.Cuts.{cut_once, missing_below}
+use Rattle.text_fields.proofs.NumberLemmas.{number_without_blank}
 use Rattle.adaptive_tree.specs.declared.line.Form.{Form}
 use Rattle.adaptive_tree.specs.declared.line.Form.TheVariants as form
 use Rattle.adaptive_tree.specs.declared.steps.Step.TheVariants.{Ask, On, Class}
 use Rattle.adaptive_tree.specs.PlanText.{PlanLine, head, step, end, plan_line}
 use Rattle.adaptive_tree.specs.Refusal.{HasNoPlanLine}
-use Rattle.adaptive_tree.specs.Forms.{AreDigitsIn, IsFormOf, IsFirstForm, IsNoPlanLine, IsPairIn, pair_text, sizes_text}
+use Rattle.adaptive_tree.specs.Forms.{IsFormOf, IsFirstForm, IsNoPlanLine, IsPairIn, pair_text, sizes_text}
 use Rattle.adaptive_tree.proofs.LineLemmas.{line_without_feed, kind_shown, kind_number, first_two}
-
-pub digits_in : (field : Text) → (length field ≡ 0 → ⊥) → ((k : ℕ) → k < length field → IsDigit (get_or field k 0)) → AreDigitsIn field field
-digits_in [] some digits = absurd (some refl)
-digits_in (byte ∷ field) some digits = let e = digits_spell (byte ∷ field) some digits in record { digits_are = sym e; field_is = e }
 
 pub not_true : (b : Bool) → true ≡ not b → false ≡ b
 not_true true e = absurd (cc)

@@ -4,15 +4,12 @@ use Rattle.std.specs.Prelude.{Bool, List, [], ◌∷◌, ◌++◌, drop, All, Co
 use Rattle.std.specs.List.{AllByRecursion}
 use Rattle.std.proofs.lemmas.List.Elements.{All-append, All-cons, All-weaker, All-from_recursion}
 use Rattle.net_model.specs.BitText.{bits_text}
-use Rattle.result_file.proofs.NumberLemmas.{number_bytes, number_once}
-use Rattle.result_file.proofs.BitLemmas.{bits_once}
-use Rattle.diagnose.specs.Lines.{Text}
-use Rattle.diagnose.proofs.Cuts.{cut_once, missing_below}
-use Rattle.diagnose.proofs.BitLemmas.{bits_bytes}
-use Rattle.diagnose.proofs.LogLemmas.{number_without_blank}
+use Rattle.text_fields.proofs.NumberLemmas.{number_bytes, number_once, number_without_blank}
+use Rattle.text_fields.proofs.BitLemmas.{bits_once, bits_bytes}
+use Rattle.text_fields.specs.Fields.{Text, IsNumber}
+use Rattle.text_fields.proofs.Cuts.{cut_once, missing_below}
 use Rattle.adaptive_tree.specs.declared.steps.Step.{Step}
 use Rattle.adaptive_tree.specs.declared.steps.Step.TheVariants.{Ask, On, Class}
-use Rattle.result_file.specs.Spelling.{IsNumber}
 use Rattle.adaptive_tree.specs.PlanText.{PlanLine, head, step, end, plan_line, HasPlanSpelling}
 
 -- ---- bytes

@@ -6,7 +6,7 @@ use Rattle.std.proofs.lemmas.Bool.{false≢true, false_from_ne_true}
 use Rattle.std.proofs.lemmas.List.{get_or-map}
 use Rattle.net_model.specs.ClassTable.{same_bits}
 use Rattle.table_dicts.proofs.EntryLemmas.{same_bits-Decides}
-use Rattle.diagnose.specs.Lines.{Text, digit_bits}
+use Rattle.text_fields.specs.Fields.{Text, digit_bits}
 use Rattle.adaptive_tree.specs.declared.steps.Step.{Step}
 use Rattle.adaptive_tree.specs.declared.steps.Step.TheVariants.{Ask, On, Class}
 use Rattle.adaptive_tree.specs.PlanNode.{PlanNode, Branches, leaf, ask, no_branch, branch, branch_answers, node_steps, branch_steps, BeginsWithNode}

@@ -17,7 +17,7 @@ use Rattle.std.proofs.lemmas.Slice.Eq.{bytes_eq-Decides}
 use Rattle.net_model.specs.BitText.{bit_digit}
 use Rattle.net_model.specs.ClassTable.{same_bits}
 use Rattle.table_dicts.proofs.EntryLemmas.{same_bits-Decides}
-use Rattle.result_file.proofs.BitLemmas.{digits_once}
+use Rattle.text_fields.proofs.BitLemmas.{digits_once}
 use Rattle.adaptive_tree.specs.declared.steps.Step.{Step}
 use Rattle.adaptive_tree.specs.declared.steps.Step.TheVariants.{Ask, On, Class}
 use Rattle.adaptive_tree.specs.declared.steps.Plan.{Plan}
@@ -31,7 +31,7 @@ use Rattle.adaptive_tree.specs.PlanText.{step}
 use Rattle.adaptive_tree.specs.WellFormed.{BeginPlan, IsRightStep, IsRightAsk, IsRightBranch, IsRightPlanLine, plan_begun, with_line}
 use Rattle.adaptive_tree.specs.Growth.{AskAbove, steps_above, Growth, before_node, before_branch, grown, steps_so_far, HaveRoom, IsRoomy, MayComeFirst, MayStepCome, has_answer}
 use Rattle.adaptive_tree.specs.Reading.{digits_order, IsOpenAsk, AreOpenAsks, HasOpenAsks, asks_pattern, IsAskedSet, HasBegun, is_node, is_branch, goes_on, IsNextOf, IsOpenAt, HaveCome, IsReadingPlan, HasNodeEnded, lines_so_far, IsRightNext, IsWrongLine, may_not_come, has_wrong_values, IsInnermostWhole, IsInnermostOpen, innermost_has, HasBranchLeft, IsInnermostBegun}
-use Rattle.adaptive_tree.specs.Forms.{AreDigitsOf}
+use Rattle.text_fields.specs.Fields.{AreDigitsOf}
 use Rattle.adaptive_tree.proofs.StepTests.{or_left, or_right, among_at}
 use Rattle.adaptive_tree.proofs.RightTrees.{push_branch, push_answers, pushed_place, either, in_first, in_later, in_first_or_later, among_in}
 use Rattle.adaptive_tree.proofs.GrowthLemmas.{patterns_above, right_ask, asked_again, right_branch, branched_again, lines_with, step_misplaced, step_begins}

@@ -6,7 +6,8 @@ use Rattle.std.proofs.lemmas.List.{map-append, nil_from_length}
 use Rattle.std.proofs.lemmas.List.Elements.{All-cons, All-nil}
 use Rattle.std.proofs.lemmas.List.Concat.{flat_map-append}
 use Rattle.std.proofs.lemmas.List.Folds.{flat_map-map}
-use Rattle.diagnose.specs.Lines.{Text, text_limit, digit_bits}
+use Rattle.text_fields.specs.Fields.{Text, digit_bits}
+use Rattle.diagnose.specs.Lines.{text_limit}
 use Rattle.adaptive_tree.specs.declared.fault.PlanKind.{PlanKind}
 use Rattle.adaptive_tree.specs.declared.fault.PlanKind.TheVariants.{Order}
 use Rattle.adaptive_tree.specs.declared.line.Form.{Form}

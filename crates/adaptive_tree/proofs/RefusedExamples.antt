@@ -4,7 +4,7 @@ use Rattle.std.specs.Prelude.{true, List, [], ◌∷◌, ◌++◌, codes, length
 use Rattle.std.specs.Fmt.{digits}
 use Rattle.std.specs.List.{list_all}
 use Rattle.std.proofs.lemmas.List.{take-append-drop}
-use Rattle.diagnose.specs.Lines.{Text}
+use Rattle.text_fields.specs.Fields.{Text}
 use Rattle.adaptive_tree.specs.declared.fault.PlanKind.TheVariants.{Syntax, Order, Value}
 use Rattle.adaptive_tree.specs.declared.steps.Step.{Step}
 use Rattle.adaptive_tree.specs.declared.steps.Step.TheVariants.{Ask, On, Class}

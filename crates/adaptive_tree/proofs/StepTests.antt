@@ -12,7 +12,7 @@ use Rattle.adaptive_tree.specs.declared.steps.Step.{Step}
 use Rattle.adaptive_tree.specs.declared.steps.Step.TheVariants.{Ask, On, Class}
 use Rattle.adaptive_tree.specs.declared.steps.Plan.{Plan}
 use Rattle.adaptive_tree.specs.PlanNode.{PlanNode, Branches, no_branch, branch, branch_answers, node_steps, branch_steps, BeginsWithNode}
-use Rattle.result_file.specs.Spelling.{IsNumber}
+use Rattle.text_fields.specs.Fields.{IsNumber}
 use Rattle.adaptive_tree.specs.PlanText.{PlanLine, head, step, end, HasPlanStepSpelling, HasPlanSpelling}
 use Rattle.adaptive_tree.specs.Growth.{has_answer}
 use Rattle.adaptive_tree.specs.WellFormed.{OpenAsk, IsAskedAbove, HasBranch, IsRightStep, IsRightPlanLine, plan_begun, line_at, BeginPlan, AreRightPlanLines}

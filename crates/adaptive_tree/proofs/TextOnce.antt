@@ -3,7 +3,7 @@ use Rattle.std.proofs.Common.{◌≡◌, ◌∙◌, ℕ, ◌+◌, ◌<◌, refl,
 use Rattle.std.specs.Prelude.{List, [], ◌∷◌, ◌++◌, length, take, All}
 use Rattle.std.specs.List.{AllByRecursion}
 use Rattle.std.proofs.lemmas.List.Elements.{recursion_from_All}
-use Rattle.diagnose.specs.Lines.{Text}
+use Rattle.text_fields.specs.Fields.{Text}
 use Rattle.adaptive_tree.specs.declared.steps.Plan.{Plan}
 use Rattle.adaptive_tree.specs.declared.fault.PlanKind.{PlanKind}
 use Rattle.adaptive_tree.specs.PlanNode.{HasNode}
@@ -14,7 +14,7 @@ use Rattle.adaptive_tree.specs.Laws.{OnePlanReading, RefusedPlanIsWrong, OnePlan
 use Rattle.adaptive_tree.proofs.StepTests.{steps_in, steps_of_plan}
 use Rattle.adaptive_tree.proofs.LineLemmas.{line_once}
 use Rattle.adaptive_tree.proofs.TextLists.{Compare, compare, same, shorter, longer, text_once}
-use Rattle.diagnose.proofs.Cuts.{not_empty}
+use Rattle.text_fields.proofs.Cuts.{not_empty}
 
 by_recursion : (lines : List PlanLine) → All HasPlanSpelling lines → AllByRecursion HasPlanSpelling lines
 by_recursion lines all = recursion_from_All HasPlanSpelling lines all

@@ -3,7 +3,7 @@ use Rattle.std.proofs.Common.{◌≡◌, ◌∙◌, ℕ, zero, suc, ◌+◌, ref
 use Rattle.std.specs.Prelude.{Bool, true, false, List, [], ◌∷◌, ◌++◌, codes, length, ◌==◌, if◌then◌else◌}
 use Rattle.std.specs.Fmt.{digits}
 use Rattle.diagnose.specs.declared.fault.LogKind.TheVariants.{Syntax, Order, Width}
-use Rattle.diagnose.specs.Lines.{Text}
+use Rattle.text_fields.specs.Fields.{Text}
 use Rattle.diagnose.specs.LogText.{log_line, HasNoLine}
 use Rattle.adaptive_tree.specs.declared.outcome.Outcome.{Outcome}
 use Rattle.adaptive_tree.specs.declared.outcome.Outcome.TheVariants as outcome

@@ -4,7 +4,8 @@ use Rattle.std.specs.Prelude.{◌⊎◌, Bool, List, [], ◌∷◌, ◌++◌, le
 use Rattle.std.proofs.lemmas.List.{map-append, length-map, nil_from_length}
 use Rattle.std.proofs.lemmas.List.Sums.{fold-append}
 use Rattle.diagnose.specs.declared.fault.LogKind.{LogKind}
-use Rattle.diagnose.specs.Lines.{Text, text_limit, digit_bits}
+use Rattle.text_fields.specs.Fields.{Text, digit_bits}
+use Rattle.diagnose.specs.Lines.{text_limit}
 use Rattle.diagnose.specs.LogText.{log_line}
 use Rattle.adaptive_tree.specs.declared.steps.Plan.{Plan}
 use Rattle.adaptive_tree.specs.declared.outcome.Outcome.{Outcome}

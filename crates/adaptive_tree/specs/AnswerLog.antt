@@ -2,7 +2,8 @@
 use Rattle.std.specs.Prelude.{◌≡◌, ◌≢◌, ℕ, ◌+◌, ◌<◌, ◌≤◌, Bool, List, [], ◌∷◌, ◌++◌, map, flat_map, length, take, slice_index_or}
 use Rattle.diagnose.specs.declared.fault.LogKind.{LogKind}
 use Rattle.diagnose.specs.declared.fault.LogKind.TheVariants.{Syntax, Order, Width, TooLong}
-use Rattle.diagnose.specs.Lines.{Text, text_limit, line_number}
+use Rattle.text_fields.specs.Fields.{Text}
+use Rattle.diagnose.specs.Lines.{text_limit, line_number}
 use Rattle.diagnose.specs.LogText.{log_line, BeginsWithLine, HasNoLine}
 use Rattle.adaptive_tree.specs.declared.outcome.Outcome.{Outcome}
 use Rattle.adaptive_tree.specs.declared.outcome.Outcome.TheVariants as outcome

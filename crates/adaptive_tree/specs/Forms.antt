@@ -1,22 +1,11 @@
 -- The lines of a plan as a reader holds them: an answer is the digits of its line.
-use Rattle.std.specs.Prelude.{◌≡◌, ℕ, List, Bool, ◌∷◌, ◌++◌, map, codes, decimal, ⊤}
-use Rattle.net_model.specs.BitText.{bit_digit, bits_text}
-use Rattle.result_file.specs.Spelling.{IsNumber}
-use Rattle.diagnose.specs.Lines.{Text, digit_bits}
+use Rattle.std.specs.Prelude.{◌≡◌, ℕ, ◌∷◌, ◌++◌, codes, decimal, ⊤}
+use Rattle.text_fields.specs.Fields.{Text, IsNumber, digit_bits, AreDigitsOf}
 use Rattle.adaptive_tree.specs.declared.line.Form.{Form}
 use Rattle.adaptive_tree.specs.declared.line.Form.TheVariants as form
 use Rattle.adaptive_tree.specs.declared.steps.Step.TheVariants.{Ask, On, Class}
 use Rattle.adaptive_tree.specs.PlanText.{PlanLine, head, step, end, plan_line, HasPlanSpelling}
 use Rattle.adaptive_tree.specs.Refusal.{BeginsWithPlanLine}
-
--- The digits are those of these bits.
-abbrev pub AreDigitsOf : List Bool → Text → Type 0
-AreDigitsOf bits digits = digits ≡ map bit_digit bits
-
--- The digits spell the field, as bits.
-pub record AreDigitsIn (field digits : Text) : Type 0 where
-  pub digits_are : AreDigitsOf (digit_bits digits) digits
-  pub field_is : bits_text (digit_bits digits) ≡ field
 
 abbrev pub form_line : Form → PlanLine
 form_line (form.Head positions patterns classes) = head positions patterns classes

@@ -6,7 +6,8 @@ use Rattle.net_model.specs.ClassTable.{ClassTable, class_count, class_at}
 use Rattle.class_refine.specs.Fields.{IsWhole}
 use Rattle.table_dicts.specs.AnswerTable.{Answers, IsTable, AreAnswers}
 use Rattle.diagnose.specs.declared.fault.LogKind.{LogKind}
-use Rattle.diagnose.specs.Lines.{Text, text_limit}
+use Rattle.text_fields.specs.Fields.{Text}
+use Rattle.diagnose.specs.Lines.{text_limit}
 use Rattle.adaptive_tree.specs.declared.steps.Step.{Step}
 use Rattle.adaptive_tree.specs.declared.steps.Plan.{Plan}
 use Rattle.adaptive_tree.specs.declared.fault.PlanKind.{PlanKind}

@@ -1,6 +1,6 @@
 -- Where nodes and branches stand in the steps of a plan.
 use Rattle.std.specs.Prelude.{◌≡◌, ℕ, ◌+◌, ◌-◌, List, ◌++◌, length, drop, Option, None, Some, ⊤}
-use Rattle.diagnose.specs.Lines.{Text, digit_bits}
+use Rattle.text_fields.specs.Fields.{Text, digit_bits}
 use Rattle.diagnose.specs.LogText.{BeginsWithLine}
 use Rattle.adaptive_tree.specs.declared.steps.Step.{Step}
 use Rattle.adaptive_tree.specs.declared.steps.Step.TheVariants.{Ask, On, Class}

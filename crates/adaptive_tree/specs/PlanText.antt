@@ -2,8 +2,7 @@
 use Rattle.std.specs.Prelude.{ℕ, List, [], ◌∷◌, ◌++◌, map, flat_map, codes, decimal, ⊤}
 use Rattle.std.specs.List.{join_with_byte}
 use Rattle.net_model.specs.BitText.{bits_text}
-use Rattle.result_file.specs.Spelling.{IsNumber}
-use Rattle.diagnose.specs.Lines.{Text}
+use Rattle.text_fields.specs.Fields.{IsNumber, Text}
 use Rattle.adaptive_tree.specs.declared.steps.Step.{Step}
 use Rattle.adaptive_tree.specs.declared.steps.Step.TheVariants.{Ask, On, Class}
 use Rattle.adaptive_tree.specs.declared.steps.Plan.{Plan}

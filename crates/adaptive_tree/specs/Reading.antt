@@ -6,7 +6,7 @@ use Rattle.std.specs.BTreeSet.{BTreeSet, contains}
 use Rattle.std.specs.Ordering.{nat_cmp, is_eq}
 use Rattle.std.specs.declared.cmp.Ordering.{Ordering}
 use Rattle.std.specs.Cmp.Lexicographic.{slice_cmp}
-use Rattle.diagnose.specs.Lines.{digit_bits}
+use Rattle.text_fields.specs.Fields.{digit_bits, AreDigitsOf}
 use Rattle.adaptive_tree.specs.declared.fault.PlanKind.{PlanKind}
 use Rattle.adaptive_tree.specs.declared.fault.PlanKind.TheVariants.{Order, Value}
 use Rattle.adaptive_tree.specs.declared.line.Form.{Form}
@@ -21,7 +21,6 @@ use Rattle.adaptive_tree.specs.declared.reader.Reader.{Reader}
 use Rattle.adaptive_tree.specs.PlanNode.{PlanNode, branch_answers, node_steps}
 use Rattle.adaptive_tree.specs.PlanText.{PlanLine, head, step}
 use Rattle.adaptive_tree.specs.WellFormed.{BeginPlan, IsRightStep, IsRightPlanLine, with_line}
-use Rattle.adaptive_tree.specs.Forms.{AreDigitsOf}
 use Rattle.adaptive_tree.specs.Growth.{AskAbove, Growth, before_node, before_branch, grown, steps_above, steps_so_far, HaveRoom, IsRoomy, MayStepCome, has_answer}
 
 -- ---- open asks

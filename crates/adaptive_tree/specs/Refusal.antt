@@ -1,6 +1,7 @@
 -- Which line of a text that isn't a plan's is refused, and by which rule.
 use Rattle.std.specs.Prelude.{◌≡◌, ◌≢◌, ℕ, ◌+◌, ◌<◌, ◌≤◌, List, [], ◌∷◌, ◌++◌, length, ⊤}
-use Rattle.diagnose.specs.Lines.{Text, text_limit, line_number}
+use Rattle.text_fields.specs.Fields.{Text}
+use Rattle.diagnose.specs.Lines.{text_limit, line_number}
 use Rattle.adaptive_tree.specs.declared.fault.PlanKind.{PlanKind}
 use Rattle.adaptive_tree.specs.declared.fault.PlanKind.TheVariants.{Syntax, Order, Value, TooLong}
 use Rattle.adaptive_tree.specs.declared.fault.PlanFault.{PlanFault}

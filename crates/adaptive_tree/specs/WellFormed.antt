@@ -1,6 +1,7 @@
 -- The rule of each line of a plan, given the lines before it.
 use Rattle.std.specs.Prelude.{◌≡◌, ℕ, ◌<◌, ◌≤◌, Bool, List, [], ◌∷◌, ◌++◌, length, take, fold, slice_index_or, All, Contains, ⊤}
-use Rattle.diagnose.specs.Lines.{Text, text_limit}
+use Rattle.text_fields.specs.Fields.{Text}
+use Rattle.diagnose.specs.Lines.{text_limit}
 use Rattle.adaptive_tree.specs.declared.steps.Step.{Step}
 use Rattle.adaptive_tree.specs.declared.steps.Step.TheVariants.{Ask, On, Class}
 use Rattle.adaptive_tree.specs.declared.steps.Plan.{Plan}

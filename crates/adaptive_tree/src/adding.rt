@@ -1,11 +1,11 @@
 //! Steps that are added to a plan as it is read.
 
 ghost use Rattle.std.specs.Prelude.{◌∷◌, ◌++◌, List, [], reverse, OnOk, MatchOption};
-ghost use Rattle.diagnose.specs.Lines.{digit_bits};
+ghost use Rattle.text_fields.specs.Fields.{digit_bits, AreDigitsOf};
 ghost use Rattle.adaptive_tree.specs.declared.steps.Step as spec;
 ghost use Rattle.adaptive_tree.specs.declared.steps.Step.TheVariants.{Ask, On, Class};
 ghost use Rattle.adaptive_tree.specs.PlanText.{step};
-ghost use Rattle.adaptive_tree.specs.Forms.{AreDigitsOf, HasDigits, form_line};
+ghost use Rattle.adaptive_tree.specs.Forms.{HasDigits, form_line};
 ghost use Rattle.adaptive_tree.specs.Reading.{IsReadingPlan, HaveCome, HasNodeEnded, IsRightNext, IsRightForm, IsLineAdded, IsInnermostWhole, IsInnermostOpen, HasBranchLeft, IsInnermostBegun};
 
 use crate::digits::bits_of;

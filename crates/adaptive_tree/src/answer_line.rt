@@ -1,11 +1,10 @@
 //! Lines of answers.
 
 ghost use Rattle.std.specs.Prelude.{◌≡◌, ◌≢◌, ◌<◌, ◌^◌, ℕ, Bool, List, MatchOption};
-ghost use Rattle.diagnose.specs.Lines.{digit_bits};
+ghost use Rattle.text_fields.specs.Fields.{digit_bits};
 ghost use Rattle.diagnose.specs.LogText.{log_line, BeginsWithLine, HasNoLine};
 
-use crate::digits::digits_of;
-use diagnose::{cut, number_of};
+use text_fields::{cut, digits_of, number_of_bytes};
 
 /// The line of an answer and what stands behind it.
 #[derive(Clone, Copy)]
@@ -33,7 +32,7 @@ fn fields_of(line: &[u8]) -> Option<(u32, &[u8])>
     ensures { MatchOption result ((pattern : ℕ) (bits : List Bool) → pattern < 2 ^ 32 → log_line pattern bits ≢ line.now) (λ fields. (fields.0 < 2 ^ 32) × (log_line fields.0 (digit_bits fields.1.now) ≡ line.now)) }
 {
     let (number, field) = cut(line, b' ')?;
-    let pattern = number_of(number)?;
+    let pattern = number_of_bytes(number)?;
     let digits = digits_of(field)?;
     Some((pattern, digits))
 }

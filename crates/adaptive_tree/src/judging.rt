@@ -1,11 +1,11 @@
 //! The rules of a plan's lines, each behind those before it.
 
 ghost use Rattle.std.specs.Prelude.{◌≡◌, true, reverse, MatchResult};
-ghost use Rattle.diagnose.specs.Lines.{digit_bits};
+ghost use Rattle.text_fields.specs.Fields.{digit_bits, AreDigitsOf};
 ghost use Rattle.adaptive_tree.specs.declared.steps.Step.TheVariants.{Ask, On, Class};
 ghost use Rattle.adaptive_tree.specs.PlanText.{step};
 ghost use Rattle.adaptive_tree.specs.Refusal.{PlanRestRefused};
-ghost use Rattle.adaptive_tree.specs.Forms.{AreDigitsOf, HasDigits, IsFirstForm, form_line};
+ghost use Rattle.adaptive_tree.specs.Forms.{HasDigits, IsFirstForm, form_line};
 ghost use Rattle.adaptive_tree.specs.Reading.{IsReadingPlan, IsRightNext, IsRightForm, IsWrongLine, goes_on, innermost_has, lines_so_far};
 
 use crate::fault::PlanKind;

@@ -1,12 +1,11 @@
 //! Lines of plans.
 
 ghost use Rattle.std.specs.Prelude.{◌≡◌, ◌∷◌, ◌++◌, ℕ, Contains, MatchOption, codes};
-ghost use Rattle.result_file.specs.Spelling.{IsNumber};
+ghost use Rattle.text_fields.specs.Fields.{IsNumber};
 ghost use Rattle.adaptive_tree.specs.Refusal.{HasNoPlanLine};
 ghost use Rattle.adaptive_tree.specs.Forms.{IsFormOf, IsFirstForm, IsNoPlanLine, IsPairIn, pair_text};
 
-use crate::digits::digits_of;
-use diagnose::{cut, number_of};
+use text_fields::{cut, digits_of, number_of_bytes};
 
 /// What a line says. An answer is the digits of its bits.
 #[derive(Clone, Copy)]
@@ -74,7 +73,7 @@ fn head_of(fields: &[u8]) -> Option<Form<'_>>
         return None;
     }
     let (positions, counts) = cut(sizes, b' ')?;
-    let positions = number_of(positions)?;
+    let positions = number_of_bytes(positions)?;
     let (patterns, classes) = pair_of(counts)?;
     Some(Form::Head(positions, patterns, classes))
 }
@@ -99,7 +98,7 @@ fn branch_of(field: &[u8]) -> Option<Form<'_>>
 fn class_of(field: &[u8]) -> Option<Form<'_>>
     ensures { MatchOption result (IsNoPlanLine (codes "class" ++ 32 ∷ field.now)) (IsFormOf (codes "class" ++ 32 ∷ field.now)) }
 {
-    let class = number_of(field)?;
+    let class = number_of_bytes(field)?;
     Some(Form::Class(class))
 }
 
@@ -108,7 +107,7 @@ fn pair_of(fields: &[u8]) -> Option<(u32, u32)>
     ensures { MatchOption result ((m n : ℕ) → IsNumber m → IsNumber n → pair_text m n ≡ fields.now → ⊥) (λ pair. IsPairIn fields.now pair.0 pair.1) }
 {
     let (first, second) = cut(fields, b' ')?;
-    let first = number_of(first)?;
-    let second = number_of(second)?;
+    let first = number_of_bytes(first)?;
+    let second = number_of_bytes(second)?;
     Some((first, second))
 }

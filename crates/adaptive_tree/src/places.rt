@@ -2,7 +2,7 @@
 
 ghost use Rattle.std.specs.Prelude.{◌≡◌, ◌+◌, ◌<◌, ◌≤◌, ◌^◌, Bool, List, length, drop, Option, option_and_then};
 ghost use Rattle.net_model.specs.ClassTable.{same_bits};
-ghost use Rattle.diagnose.specs.Lines.{digit_bits};
+ghost use Rattle.text_fields.specs.Fields.{digit_bits};
 ghost use Rattle.adaptive_tree.specs.declared.steps.Step.TheVariants.{On};
 ghost use Rattle.adaptive_tree.specs.PlanNode.{PlanNode, BeginsWithNode};
 ghost use Rattle.adaptive_tree.specs.Walk.{next_node, branch_for, outcome_at as outcome_of_node};

@@ -70,9 +70,6 @@ begins_through clauses middle first outer inner = record {
   are = outer.are ∙ (ap (λ cs. cs ++ outer.more) inner.are ∙ append_assoc first inner.more outer.more);
 }
 
-pub begins_further : (clauses first more : List Clause) → BeginsWith clauses first → BeginsWith (clauses ++ more) first
-begins_further clauses first more h = begins_through (clauses ++ more) clauses first (begins_appended clauses more) h
-
 -- a clause of the first list has the same number in the longer one
 pub numbered_longer : (clauses first : List Clause) (number : ℕ) → BeginsWith clauses first → 0 < number → number ≤ length first → numbered_clause clauses number ≡ numbered_clause first number
 numbered_longer clauses first number h from below =

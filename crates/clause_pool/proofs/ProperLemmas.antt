@@ -1,5 +1,5 @@
 -- Clauses over variables, with none twice.
-use Rattle.std.proofs.Common.{◌≡◌, ◌≢◌, ◌∙◌, inl, inr, ℕ, ◌<◌, ◌≤◌, length, get_or, sym, ap, arith}
+use Rattle.std.proofs.Common.{◌≡◌, ◌≢◌, ◌∙◌, inl, inr, ℕ, ◌<◌, length, get_or, sym, ap, arith}
 use Rattle.std.specs.Prelude.{Contains}
 use Rattle.std.proofs.lemmas.Bool.{cases_eq, cases_lt}
 use Rattle.std.proofs.lemmas.List.{get_or_default}
@@ -7,9 +7,6 @@ use Rattle.std.proofs.lemmas.List.Elements.{All-contains, Contains-get_or}
 use Rattle.clause_pool.specs.Literal.{Literal}
 use Rattle.clause_pool.specs.Clauses.{Clause}
 use Rattle.clause_pool.specs.Proper.{IsVariable, HasVariablesUpTo, HasNoVariableTwice}
-
-pub variables_more : (n m : ℕ) (clause : Clause) → n ≤ m → HasVariablesUpTo n clause → HasVariablesUpTo m clause
-variables_more n m clause le all = λ k d h. let inside = all k d h in (inside.0, omega (arith, inside.1))
 
 -- a clause whose literals another one has
 pub variables_of_part : (n : ℕ) (part clause : Clause) → ((l : Literal) → Contains part l → Contains clause l) → HasVariablesUpTo n clause → HasVariablesUpTo n part

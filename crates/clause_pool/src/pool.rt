@@ -127,12 +127,14 @@ impl Pool {
         part(&self.literals, start_of(&self.ends, at), self.ends[at])
     }
 
+    /// For how many more clauses there is room. For tests and for callers from outside.
     pub fn spare_clauses(&self) -> usize
         ensures { result ≡ self.now.spare_clauses }
     {
         self.spare_clauses
     }
 
+    /// For how many more literals there is room. For tests and for callers from outside.
     pub fn spare_literals(&self) -> usize
         ensures { result ≡ self.now.spare_literals }
     {

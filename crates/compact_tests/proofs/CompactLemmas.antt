@@ -11,14 +11,15 @@ use Rattle.net_model.specs.PatternRows.{AreAnswerRows, IsTableOf}
 use Rattle.class_refine.proofs.Ranges.{range_below}
 use Rattle.kept_vectors.specs.Kept.{SplitInTurn}
 use Rattle.class_refine.proofs.PatternTables.{table_numbers}
-use Rattle.result_file.specs.declared.record.Budgets.{Budgets}
-use Rattle.result_file.specs.declared.record.Mark.{Mark}
-use Rattle.result_file.specs.declared.record.Summary.{Summary}
-use Rattle.result_file.specs.declared.record.Evidence.{Evidence}
-use Rattle.result_file.specs.declared.record.Record.{Record}
-use Rattle.result_file.specs.declared.record.Record.TheVariants.{Head, Budget, Pattern, Same, Class, Member, End}
-use Rattle.result_file.specs.Spelling.{Text, text_of}
-use Rattle.result_file.specs.Marks.{patterns_in, evidence_in, number_mark, next_member}
+use Rattle.result_records.specs.declared.record.Budgets.{Budgets}
+use Rattle.result_records.specs.declared.record.Mark.{Mark}
+use Rattle.result_file.specs.declared.checked.Summary.{Summary}
+use Rattle.result_records.specs.declared.record.Evidence.{Evidence}
+use Rattle.result_records.specs.declared.record.Record.{Record}
+use Rattle.result_records.specs.declared.record.Record.TheVariants.{Head, Budget, Pattern, Same, Class, Member, End}
+use Rattle.text_fields.specs.Fields.{Text}
+use Rattle.result_records.specs.Spelling.{text_of}
+use Rattle.result_records.specs.Marks.{patterns_in, evidence_in, number_mark, next_member}
 use Rattle.result_file.specs.Lines.{budgets_in}
 use Rattle.result_file.specs.Meaning.{stated_records, class_records, member_records}
 use Rattle.result_file.specs.Valid.{AreRightLines}

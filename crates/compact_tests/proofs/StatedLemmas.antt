@@ -5,15 +5,16 @@ use Rattle.std.proofs.lemmas.Bool.{cases_lt, cases_eq, eq-eqb, ne_eqb}
 use Rattle.std.proofs.lemmas.List.{append-nil, length-append, reverse-append, take_at, drop_at, take_more, get_or_at, get_or-drop, get_or-append-add, get_or_append_left, get_or_default, get_or-set_same, get_or-set_other, length-set, length-drop}
 use Rattle.std.proofs.lemmas.List.Elements.{filter_map-append, All-head}
 use Rattle.net_model.proofs.Elements.{All-right, get_or-replicate_anywhere}
-use Rattle.result_file.specs.declared.record.Mark.{Mark}
-use Rattle.result_file.specs.declared.record.Evidence.{Evidence}
-use Rattle.result_file.specs.declared.record.Record.{Record}
-use Rattle.result_file.specs.declared.record.Record.TheVariants.{Same, Member}
-use Rattle.result_file.specs.Spelling.{Text, spelling, text_of, HasSpelling}
-use Rattle.result_file.specs.Marks.{evidence_of, evidence_in}
-use Rattle.result_file.specs.Held.{IsFirstFrom, IsWithoutLineFeed}
-use Rattle.result_file.specs.Laws.{SpellingIsLine}
-use Rattle.result_file.proofs.RecordLists.{text-append}
+use Rattle.result_records.specs.declared.record.Mark.{Mark}
+use Rattle.result_records.specs.declared.record.Evidence.{Evidence}
+use Rattle.result_records.specs.declared.record.Record.{Record}
+use Rattle.result_records.specs.declared.record.Record.TheVariants.{Same, Member}
+use Rattle.text_fields.specs.Fields.{Text}
+use Rattle.result_records.specs.Spelling.{spelling, text_of, HasSpelling}
+use Rattle.result_records.specs.Marks.{evidence_of, evidence_in}
+use Rattle.result_records.specs.Held.{IsFirstFrom, IsWithoutLineFeed}
+use Rattle.result_records.specs.Laws.{SpellingIsLine}
+use Rattle.result_records.proofs.RecordLists.{text-append}
 use Rattle.compact_tests.specs.declared.lines.Stated.{Stated}
 use Rattle.compact_tests.specs.declared.lines.Span.{Span}
 use Rattle.compact_tests.specs.ThinResult.{last_evidence, stated_mark_of, marks_in}

@@ -7,11 +7,12 @@ use Rattle.std.proofs.lemmas.List.{map-append, take_more}
 use Rattle.std.proofs.lemmas.List.Elements.{filter_map-append}
 use Rattle.net_model.specs.ClassTable.{ClassTable}
 use Rattle.net_model.proofs.Ranges.{range_more}
-use Rattle.result_file.specs.declared.record.Evidence.{Evidence}
-use Rattle.result_file.specs.declared.record.Record.{Record}
-use Rattle.result_file.specs.declared.record.Record.TheVariants.{Pattern, Same, End}
-use Rattle.result_file.specs.Spelling.{Text, spelling, text_of}
-use Rattle.result_file.proofs.RecordLists.{text-append}
+use Rattle.result_records.specs.declared.record.Evidence.{Evidence}
+use Rattle.result_records.specs.declared.record.Record.{Record}
+use Rattle.result_records.specs.declared.record.Record.TheVariants.{Pattern, Same, End}
+use Rattle.text_fields.specs.Fields.{Text}
+use Rattle.result_records.specs.Spelling.{spelling, text_of}
+use Rattle.result_records.proofs.RecordLists.{text-append}
 use Rattle.compact_tests.specs.declared.lines.Span.{Span}
 use Rattle.compact_tests.specs.ThinResult.{evidence_for}
 use Rattle.compact_tests.specs.Stated.{IsEvidenceLine}

@@ -10,10 +10,10 @@ use Rattle.net_model.specs.ClassTable.{class_table, class_count}
 use Rattle.net_model.specs.PatternRows.{AreAnswerRows, IsTableOf}
 use Rattle.net_model.proofs.Listed.{some_number}
 use Rattle.net_model.proofs.OneAnswer.{one_table}
-use Rattle.result_file.specs.declared.record.Mark.{Mark}
-use Rattle.result_file.specs.declared.record.Record.{Record}
-use Rattle.result_file.specs.declared.record.Record.TheVariants.{End}
-use Rattle.result_file.specs.Marks.{pattern_of, patterns_in, evidence_in, is_class, class_lines, member_lines}
+use Rattle.result_records.specs.declared.record.Mark.{Mark}
+use Rattle.result_records.specs.declared.record.Record.{Record}
+use Rattle.result_records.specs.declared.record.Record.TheVariants.{End}
+use Rattle.result_records.specs.Marks.{pattern_of, patterns_in, evidence_in, is_class, class_lines, member_lines}
 use Rattle.result_file.specs.Summary.{is_equal, is_open, summary_of}
 use Rattle.result_file.specs.Valid.{IsValid}
 use Rattle.result_file.specs.Laws.{ValidIsTrue}

@@ -10,13 +10,13 @@ use Rattle.net_model.specs.ClassTable.{ClassTable, class_table}
 use Rattle.net_model.specs.PatternRows.{IsAnswerRow, AreAnswerRows, IsTableOf}
 use Rattle.net_model.proofs.Listed.{some_number}
 use Rattle.net_model.proofs.OneAnswer.{one_table}
-use Rattle.result_file.specs.declared.record.Mark.{Mark}
-use Rattle.result_file.specs.declared.record.Evidence.{Evidence}
-use Rattle.result_file.specs.declared.record.Record.{Record}
-use Rattle.result_file.specs.declared.record.Record.TheVariants.{Head, Budget, Pattern, Same, Class, Member, End}
-use Rattle.result_file.specs.Marks.{pattern_of, patterns_in, evidence_in}
+use Rattle.result_records.specs.declared.record.Mark.{Mark}
+use Rattle.result_records.specs.declared.record.Evidence.{Evidence}
+use Rattle.result_records.specs.declared.record.Record.{Record}
+use Rattle.result_records.specs.declared.record.Record.TheVariants.{Head, Budget, Pattern, Same, Class, Member, End}
+use Rattle.result_records.specs.Marks.{pattern_of, patterns_in, evidence_in}
 use Rattle.result_file.specs.Meaning.{StatedResult, stated_records, class_records, member_records}
-use Rattle.result_file.proofs.RecordLists.{read_all, read_kept}
+use Rattle.result_records.proofs.RecordLists.{read_all, read_kept}
 use Rattle.compact_tests.specs.Remaining.{Answered, answered_vectors, answered_rows, classes_by, with_needed, remaining_behind, remaining}
 use Rattle.compact_tests.specs.ThinResult.{needed_evidence, result_with, thin_result, IsThin}
 use Rattle.compact_tests.specs.Compacted.{HaveSameClasses, AreAllNeeded}

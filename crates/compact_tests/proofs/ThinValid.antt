@@ -15,21 +15,21 @@ use Rattle.net_model.specs.ClassTable.{ClassTable, class_table, class_count, cla
 use Rattle.net_model.specs.PatternRows.{IsAnswerRow, IsTableOf, SplitsClass}
 use Rattle.net_model.proofs.Listed.{some_number}
 use Rattle.kept_vectors.specs.Kept.{SplitInTurn}
-use Rattle.result_file.specs.declared.record.Budgets.{Budgets}
-use Rattle.result_file.specs.declared.record.Mark.{Mark}
-use Rattle.result_file.specs.declared.record.Mark.TheVariants as mark
-use Rattle.result_file.specs.declared.record.Evidence.{Evidence}
-use Rattle.result_file.specs.declared.record.Record.{Record}
-use Rattle.result_file.specs.declared.record.Record.TheVariants.{Head, Budget, Pattern, Same, Class, Member, End}
-use Rattle.result_file.specs.Spelling.{HasBirthSpelling}
-use Rattle.result_file.specs.Marks.{pattern_of, evidence_of, patterns_in, evidence_in, is_class, is_member, is_end, is_about, mark_of, number_mark, next_member}
+use Rattle.result_records.specs.declared.record.Budgets.{Budgets}
+use Rattle.result_records.specs.declared.record.Mark.{Mark}
+use Rattle.result_records.specs.declared.record.Mark.TheVariants as mark
+use Rattle.result_records.specs.declared.record.Evidence.{Evidence}
+use Rattle.result_records.specs.declared.record.Record.{Record}
+use Rattle.result_records.specs.declared.record.Record.TheVariants.{Head, Budget, Pattern, Same, Class, Member, End}
+use Rattle.result_records.specs.Spelling.{HasBirthSpelling}
+use Rattle.result_records.specs.Marks.{pattern_of, evidence_of, patterns_in, evidence_in, is_class, is_member, is_end, is_about, mark_of, number_mark, next_member}
 use Rattle.result_file.specs.Lines.{budgets_in, IsRightProof}
 use Rattle.result_file.specs.Valid.{AreRightLines, IsValid}
 use Rattle.result_file.specs.Meaning.{StatedResult, stated_records, class_records, member_records, stated_mark}
 use Rattle.result_file.specs.Laws.{ValidIsTrue}
-use Rattle.result_file.proofs.Cuts.{tails}
-use Rattle.result_file.proofs.Marked.{find_same, none_next}
-use Rattle.result_file.proofs.RecordLists.{count_kept, read_kept, read_more}
+use Rattle.text_fields.proofs.Cuts.{tails}
+use Rattle.result_records.proofs.Marked.{find_same, none_next}
+use Rattle.result_records.proofs.RecordLists.{count_kept, read_kept, read_more}
 use Rattle.result_file.proofs.RightLines.{IsNextLine, IsBody, HasSmallClasses, AreMembers, right_head, right_patterns, right_table}
 use Rattle.compact_tests.specs.Remaining.{Answered, answered_vectors, answered_rows, classes_by, with_needed, remaining_behind, remaining}
 use Rattle.compact_tests.specs.ThinResult.{last_evidence, needed_evidence, marks_in, result_with, thin_result, IsThin}

@@ -1,10 +1,11 @@
 -- What lines state of numbers, and where the evidence stands.
 use Rattle.std.specs.Prelude.{◌≡◌, ◌<◌, ◌≤◌, ℕ, List, [], ◌∷◌, ◌++◌, length, All, Option, None, Some, slice_index_or, slice_range, ⊤}
-use Rattle.result_file.specs.declared.record.Evidence.{Evidence}
-use Rattle.result_file.specs.declared.record.Record.{Record}
-use Rattle.result_file.specs.declared.record.Record.TheVariants.{Same}
-use Rattle.result_file.specs.Spelling.{Text, spelling, text_of, HasSpelling}
-use Rattle.result_file.specs.Marks.{evidence_in}
+use Rattle.result_records.specs.declared.record.Evidence.{Evidence}
+use Rattle.result_records.specs.declared.record.Record.{Record}
+use Rattle.result_records.specs.declared.record.Record.TheVariants.{Same}
+use Rattle.text_fields.specs.Fields.{Text}
+use Rattle.result_records.specs.Spelling.{spelling, text_of, HasSpelling}
+use Rattle.result_records.specs.Marks.{evidence_in}
 use Rattle.compact_tests.specs.declared.lines.Stated.{Stated}
 use Rattle.compact_tests.specs.declared.lines.Span.{Span}
 use Rattle.compact_tests.specs.ThinResult.{last_evidence, marks_in}

@@ -11,7 +11,8 @@ use crate::laws::thin_is_sound;
 use crate::text::{first_lines, push_numbers};
 use crate::thin::{Text, Thin};
 use crate::thinning::needed_patterns;
-use fault_list::{FaultList, list};
+use fault_collapse::Subject;
+use fault_list::FaultList;
 use net_model::Circuit;
 use result_file::{Checked, Summary, valid_is_true};
 use std::alloc::{AllocError, Global};
@@ -27,9 +28,24 @@ pub fn compact(
     requires { IsAcceptedText circuit.now bytes.now checked.now }
     ensures { IfOk result (IsCompacted circuit.now bytes.now) }
 {
-    let faults = list(alloc, circuit)?;
-    let needed = needed_patterns(alloc, circuit, &faults, checked)?;
-    thin_with(alloc, circuit, &faults, checked, bytes, needed.as_slice())
+    let subject = Subject::new(alloc, circuit)?;
+    compact_subject(alloc, &subject, checked, bytes)
+}
+
+/// What is left of a valid result of a subject's circuit, as `compact` answers it for a circuit whose faults aren't listed yet.
+pub fn compact_subject(
+    alloc: Global,
+    subject: &Subject,
+    checked: &Checked,
+    bytes: &[u8],
+) -> Result<Thin, AllocError>
+    requires { IsAcceptedText subject.now bytes.now checked.now }
+    ensures { IfOk result (IsCompacted subject.now bytes.now) }
+{
+    let circuit = subject.circuit();
+    let faults = subject.listed();
+    let needed = needed_patterns(alloc, circuit, faults, checked)?;
+    thin_with(alloc, circuit, faults, checked, bytes, needed.as_slice())
 }
 
 // What is left where these patterns remain, of the circuit with this list of its faults.

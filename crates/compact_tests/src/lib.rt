@@ -13,6 +13,6 @@ mod text;
 mod thin;
 mod thinning;
 
-pub use compacting::compact;
+pub use compacting::{compact, compact_subject};
 pub use laws::{each_file_compacts_once, remaining_patterns_are_needed, thin_is_sound};
 pub use thin::{Text, Thin};

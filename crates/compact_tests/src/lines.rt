@@ -1,10 +1,10 @@
 //! What the lines of a result state of its numbers: their marks, and where the last evidence of each stands.
 
 ghost use Rattle.std.specs.Prelude.{◌≡◌, ◌<◌, ◌≤◌, ℕ, List, [], ◌∷◌, length, slice_index, slice_range, All, IfOk, OnOk};
-ghost use Rattle.result_file.specs.Spelling.{spelling};
-ghost use Rattle.result_file.specs.Marks.{evidence_in};
-ghost use Rattle.result_file.specs.Held.{IsFirstFrom};
-ghost use Rattle.result_file.specs.declared.record.Record.{Record};
+ghost use Rattle.result_records.specs.Spelling.{spelling};
+ghost use Rattle.result_records.specs.Marks.{evidence_in};
+ghost use Rattle.result_records.specs.Held.{IsFirstFrom};
+ghost use Rattle.result_records.specs.declared.record.Record.{Record};
 ghost use Rattle.compact_tests.specs.Stated.{IsReadable, IsReadableLine, IsStated, NotesLine, TakesRecord};
 
 use result_file::{Mark, Record, RecordFault, read_record, record_is_spelled_once};

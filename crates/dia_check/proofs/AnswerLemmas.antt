@@ -7,17 +7,17 @@ use Rattle.diag_shelf.specs.declared.shelf.ShelfFault.{ShelfFault}
 use Rattle.diag_shelf.proofs.Steps.{read_unkept}
 use Rattle.diag_shelf.specs.declared.shelf.ShelfFault.TheVariants as shelf
 use Rattle.net_model.specs.Circuit.{Circuit}
-use Rattle.result_file.specs.declared.record.Record.{Record}
+use Rattle.result_records.specs.declared.record.Record.{Record}
 use Rattle.result_file.specs.declared.fault.ResultFault.{ResultFault}
-use Rattle.result_file.specs.Spelling.{Text, text_of}
+use Rattle.text_fields.specs.Fields.{Text}
+use Rattle.result_records.specs.Spelling.{text_of}
 use Rattle.result_file.specs.declared.checked.Checked.{Checked}
 use Rattle.dia_check.specs.declared.answer.FileFault.{FileFault}
 use Rattle.dia_check.specs.declared.answer.FileFault.TheVariants as file
 use Rattle.dia_check.specs.declared.reader.Reader.{Reader}
 use Rattle.dia_check.specs.Faults.{as_shelf, file_fault}
-use Rattle.result_file.specs.Accepted.{IsAccepted}
+use Rattle.result_file.specs.Accepted.{IsAccepted, IsAcceptedText}
 use Rattle.dia_check.specs.Left.{ReadsRest, rest_of}
-use Rattle.result_file.specs.Accepted.{IsAcceptedText}
 use Rattle.dia_check.specs.Reader.{IsReading}
 use Rattle.dia_check.specs.Rest.{HasRead}
 use Rattle.dia_check.proofs.RestLemmas.{rest_read, rest_whole}

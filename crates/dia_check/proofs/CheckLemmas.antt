@@ -4,13 +4,14 @@ use Rattle.std.specs.Prelude.{Contains, ◌==◌}
 use Rattle.std.proofs.lemmas.List.{append-nil, length-map}
 use Rattle.net_model.specs.Circuit.{Circuit}
 use Rattle.net_model.specs.PatternRows.{IsTableOf}
-use Rattle.result_file.specs.declared.record.Record.{Record}
-use Rattle.result_file.specs.declared.record.Record.TheVariants.{Pattern}
+use Rattle.result_records.specs.declared.record.Record.{Record}
+use Rattle.result_records.specs.declared.record.Record.TheVariants.{Pattern}
 use Rattle.result_file.specs.declared.fault.ResultKind.{ResultKind}
 use Rattle.result_file.specs.declared.fault.ResultKind.TheVariants as why
 use Rattle.result_file.specs.declared.fault.ResultFault.{ResultFault}
-use Rattle.result_file.specs.Spelling.{Text, spelling, text_of, HasSpelling}
-use Rattle.result_file.specs.Marks.{pattern_of, evidence_of, patterns_in, evidence_in, class_lines, next_member}
+use Rattle.text_fields.specs.Fields.{Text}
+use Rattle.result_records.specs.Spelling.{spelling, text_of, HasSpelling}
+use Rattle.result_records.specs.Marks.{pattern_of, evidence_of, patterns_in, evidence_in, class_lines, next_member}
 use Rattle.result_file.specs.Lines.{IsInPlace, IsRightContent}
 use Rattle.result_file.specs.Refusal.{line_length, ContentRefused, BeginsWithRecord, RestRefused, FileRefused}
 use Rattle.result_file.specs.Refusal.RestRefused.{misplaced, wrong}

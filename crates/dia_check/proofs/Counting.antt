@@ -4,9 +4,10 @@ use Rattle.std.specs.List.{count_by, filter_map}
 use Rattle.std.proofs.lemmas.List.{append-nil}
 use Rattle.std.proofs.lemmas.List.Elements.{filter_map-append}
 use Rattle.std.proofs.lemmas.List.Sums.{sum_by-append}
-use Rattle.result_file.specs.declared.record.Record.{Record}
-use Rattle.result_file.specs.Spelling.{Text, spelling, text_of}
-use Rattle.result_file.proofs.RecordLists.{text-append}
+use Rattle.result_records.specs.declared.record.Record.{Record}
+use Rattle.text_fields.specs.Fields.{Text}
+use Rattle.result_records.specs.Spelling.{spelling, text_of}
+use Rattle.result_records.proofs.RecordLists.{text-append}
 use Rattle.dia_check.specs.Checker.{record_line}
 
 module _ (rs : List Record) (r : Record) where

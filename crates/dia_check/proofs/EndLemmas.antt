@@ -4,7 +4,8 @@ use Rattle.std.specs.Prelude.{Contains}
 use Rattle.net_model.specs.Circuit.{Circuit}
 use Rattle.kept_vectors.proofs.KeepLemmas.{table_patterns}
 use Rattle.result_file.specs.declared.fault.ResultKind.TheVariants as why
-use Rattle.result_file.specs.Spelling.{Text, text_of}
+use Rattle.text_fields.specs.Fields.{Text}
+use Rattle.result_records.specs.Spelling.{text_of}
 use Rattle.result_file.specs.Refusal.{line_length, FileRefused}
 use Rattle.result_file.specs.Refusal.RestRefused.{no_line, no_record}
 use Rattle.result_file.specs.Refusal.FileRefused.{at_line}
@@ -43,7 +44,7 @@ module _ {c : Circuit} {text : Text} {k : Checker} (is : IsCheckOf c text k) (no
 
 -- what the lines state, once the end stands
 pub states_all : {c : Circuit} {text : Text} {k : Checker} → IsJudgedWhole c text k → (checked : Checked)
-    → checked.summary ≡ record { numbers = k.progress.members; patterns = k.keeper.kept.table.patterns; classes = k.progress.classes; equal = k.progress.equal; spent = k.progress.spent }
+    → checked.summary ≡ record { numbers = k.progress.members; patterns = k.keeper.kept.table.patterns; classes = k.progress.classes; equal = k.progress.marked.equal; spent = k.progress.marked.spent }
     → checked.budgets ≡ k.progress.budgets → checked.patterns ≡ k.keeper.kept.vectors → checked.classes ≡ k.keeper.kept.table → IsAcceptedText c text checked
 states_all {c} {text} {k} whole checked summary_is budgets_is patterns_is classes_is =
     let is = whole.is in

@@ -6,14 +6,15 @@ use Rattle.std.proofs.lemmas.List.Elements.{filter_map-append}
 use Rattle.std.proofs.lemmas.List.Sums.{sum_by-append, count_by-le-length}
 use Rattle.std.proofs.lemmas.Bool.{false_from_ne_true}
 use Rattle.net_model.specs.ClassTable.{ClassTable}
-use Rattle.result_file.specs.declared.record.Budgets.{Budgets}
-use Rattle.result_file.specs.declared.record.Mark.{Mark}
-use Rattle.result_file.specs.declared.record.Mark.TheVariants as mark
-use Rattle.result_file.specs.declared.record.Record.{Record}
-use Rattle.result_file.specs.declared.record.Record.TheVariants.{Head, Budget, Pattern, Same, Class, Member, End}
-use Rattle.result_file.specs.Marks.{is_class, is_member, is_end, class_lines, member_lines, end_lines}
+use Rattle.result_records.specs.declared.record.Budgets.{Budgets}
+use Rattle.result_records.specs.declared.record.Mark.{Mark}
+use Rattle.result_records.specs.declared.record.Mark.TheVariants as mark
+use Rattle.result_records.specs.declared.record.Record.{Record}
+use Rattle.result_records.specs.declared.record.Record.TheVariants.{Head, Budget, Pattern, Same, Class, Member, End}
+use Rattle.result_records.specs.Marks.{is_class, is_member, is_end, class_lines, member_lines, end_lines}
 use Rattle.result_file.specs.Summary.{is_equal, is_open}
-use Rattle.result_file.specs.Lines.{AreWithinLimits, IsInPlace, budgets_of, no_budgets}
+use Rattle.result_records.specs.Limits.{AreWithinLimits}
+use Rattle.result_file.specs.Lines.{IsInPlace, budgets_of, no_budgets}
 use Rattle.dia_check.specs.declared.progress.Progress.{Progress}
 use Rattle.dia_check.specs.Progress.{IsProgress, IsEnded, no_progress, with_member}
 use Rattle.dia_check.proofs.Counting.{count_same, count_up, read_same, length_one}
@@ -59,8 +60,8 @@ module _ {rs : List Record} {p : Progress} (is : IsProgress rs p) where
   stays r test none e = e ∙ sym (count_same rs r test none)
 
   -- one line more that states no budgets, with the counts behind it
-  progress_more : (r : Record) (q : Progress) → budgets_of r ≡ None → q.lines ≡ p.lines + 1 → q.budgets ≡ p.budgets → q.classes ≡ class_lines (rs ++ r ∷ []) → q.members ≡ member_lines (rs ++ r ∷ []) → q.equal ≡ count_by is_equal (rs ++ r ∷ [])
-      → q.spent ≡ count_by is_open (rs ++ r ∷ []) → q.equal ≤ q.members → q.spent ≤ q.members → (q.ended ≡ false → end_lines (rs ++ r ∷ []) ≡ 0) → (q.ended ≡ true → IsEnded (rs ++ r ∷ [])) → IsProgress (rs ++ r ∷ []) q
+  progress_more : (r : Record) (q : Progress) → budgets_of r ≡ None → q.lines ≡ p.lines + 1 → q.budgets ≡ p.budgets → q.classes ≡ class_lines (rs ++ r ∷ []) → q.members ≡ member_lines (rs ++ r ∷ []) → q.marked.equal ≡ count_by is_equal (rs ++ r ∷ [])
+      → q.marked.spent ≡ count_by is_open (rs ++ r ∷ []) → q.marked.equal ≤ q.members → q.marked.spent ≤ q.members → (q.ended ≡ false → end_lines (rs ++ r ∷ []) ≡ 0) → (q.ended ≡ true → IsEnded (rs ++ r ∷ [])) → IsProgress (rs ++ r ∷ []) q
   progress_more r q no_budget lines budgets classes members equal spent few_equal few_spent unended ended = record {
     lines = omega (arith, lines, is.lines, length_one rs r);
     budgets = budgets ∙ is.budgets ∙ sym (ap (λ (bs : List Budgets). unwrap_or (slice_get bs 0) no_budgets) (read_same rs r budgets_of no_budget));

@@ -7,8 +7,9 @@ use Rattle.std.proofs.lemmas.List.{append-nil, take_all, take-append-drop, lengt
 use Rattle.net_model.specs.Circuit.{Circuit}
 use Rattle.result_file.specs.declared.fault.ResultKind.TheVariants as why
 use Rattle.result_file.specs.declared.fault.ResultFault.{ResultFault}
-use Rattle.result_file.specs.Spelling.{Text, text_of}
-use Rattle.result_file.specs.Held.{IsFirstLine}
+use Rattle.text_fields.specs.Fields.{Text}
+use Rattle.result_records.specs.Spelling.{text_of}
+use Rattle.result_records.specs.Held.{IsFirstLine}
 use Rattle.result_file.specs.Refusal.{line_length, FileRefused}
 use Rattle.result_file.specs.Refusal.FileRefused.{too_long}
 use Rattle.result_file.proofs.FirstLine.{is_inside}

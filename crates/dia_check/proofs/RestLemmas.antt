@@ -9,7 +9,7 @@ use Rattle.diag_shelf.specs.Calls.{Takes, Same, OnlyReads, ReadsUpTo}
 use Rattle.diag_shelf.proofs.Steps.{left_by, reads_on_few}
 use Rattle.net_model.specs.Circuit.{Circuit}
 use Rattle.result_file.specs.declared.fault.ResultFault.{ResultFault}
-use Rattle.result_file.specs.Spelling.{Text}
+use Rattle.text_fields.specs.Fields.{Text}
 use Rattle.result_file.specs.Refusal.{FileRefused}
 use Rattle.dia_check.specs.Left.{rest_of, ReadsRest}
 use Rattle.dia_check.specs.Reader.{IsRefusedEnd}

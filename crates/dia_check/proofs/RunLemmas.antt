@@ -10,12 +10,13 @@ use Rattle.kept_vectors.specs.Kept.{KeepsRun}
 use Rattle.kept_vectors.specs.Keeper.{Keeper, keeper_with, IsKeeper}
 use Rattle.kept_vectors.proofs.KeepLemmas.{keeper_after, whole_after, leads_rise}
 use Rattle.member_marks.proofs.MarkLemmas.{given_risen}
-use Rattle.result_file.specs.declared.record.Budgets.{Budgets}
-use Rattle.result_file.specs.declared.record.Record.{Record}
-use Rattle.result_file.specs.declared.record.Record.TheVariants.{Pattern, End}
+use Rattle.result_records.specs.declared.record.Budgets.{Budgets}
+use Rattle.result_records.specs.declared.record.Record.{Record}
+use Rattle.result_records.specs.declared.record.Record.TheVariants.{Pattern, End}
 use Rattle.result_file.specs.declared.fault.ResultKind.TheVariants as why
-use Rattle.result_file.specs.Spelling.{Text, spelling, text_of}
-use Rattle.result_file.specs.Marks.{pattern_of, evidence_of, patterns_in, is_class, is_member, is_end, class_lines}
+use Rattle.text_fields.specs.Fields.{Text}
+use Rattle.result_records.specs.Spelling.{spelling, text_of}
+use Rattle.result_records.specs.Marks.{pattern_of, evidence_of, patterns_in, is_class, is_member, is_end, class_lines}
 use Rattle.result_file.specs.Summary.{is_equal, is_open}
 use Rattle.result_file.specs.Lines.{budgets_of, no_budgets}
 use Rattle.result_file.specs.Valid.{AreRightLines}
@@ -23,7 +24,7 @@ use Rattle.result_file.specs.Refusal.{line_length}
 use Rattle.result_file.specs.Refusal.RestRefused.{wrong}
 use Rattle.result_file.specs.Refusal.FileRefused.{at_line}
 use Rattle.result_file.proofs.FirstLine.{ended_length}
-use Rattle.result_file.proofs.RecordLists.{count_kept, read_kept, read_more, text-append}
+use Rattle.result_records.proofs.RecordLists.{count_kept, read_kept, read_more, text-append}
 use Rattle.result_file.proofs.RightLines.{right_more}
 use Rattle.dia_check.specs.declared.progress.Progress.{Progress}
 use Rattle.dia_check.specs.declared.checker.Checker.{Checker}

@@ -13,16 +13,18 @@ use Rattle.class_refine.proofs.PatternTables.{table_numbers}
 use Rattle.member_marks.specs.declared.marks.Given.{Given}
 use Rattle.member_marks.specs.Given.{given_mark, AreGiven}
 use Rattle.member_marks.proofs.MarkLemmas.{given_more, lowest_is_next, lead_inside}
-use Rattle.result_file.specs.declared.record.Budgets.{Budgets}
-use Rattle.result_file.specs.declared.record.Mark.{Mark}
-use Rattle.result_file.specs.declared.record.Mark.TheVariants.{Rep}
-use Rattle.result_file.specs.declared.record.Evidence.{Evidence}
-use Rattle.result_file.specs.declared.record.Record.{Record}
-use Rattle.result_file.specs.declared.record.Record.TheVariants.{Head, Budget, Pattern, Same, Class, Member, End}
+use Rattle.result_records.specs.declared.record.Budgets.{Budgets}
+use Rattle.result_records.specs.declared.record.Mark.{Mark}
+use Rattle.result_records.specs.declared.record.Mark.TheVariants.{Rep}
+use Rattle.result_records.specs.declared.record.Evidence.{Evidence}
+use Rattle.result_records.specs.declared.record.Record.{Record}
+use Rattle.result_records.specs.declared.record.Record.TheVariants.{Head, Budget, Pattern, Same, Class, Member, End}
 use Rattle.word_sim.specs.declared.lanes.TheConstants.{LANES}
-use Rattle.result_file.specs.Spelling.{Text, HasSpelling, spelling, text_of}
-use Rattle.result_file.specs.Marks.{pattern_of, evidence_of, patterns_in, evidence_in, is_class, class_lines, member_lines, next_member, mark_of}
-use Rattle.result_file.specs.Lines.{AreWithinLimits, IsInPlace, IsRightContent, IsRightClass, IsRightMember, NamesNext, HasRightRoots, IsRightProof, budgets_in}
+use Rattle.text_fields.specs.Fields.{Text}
+use Rattle.result_records.specs.Spelling.{HasSpelling, spelling, text_of}
+use Rattle.result_records.specs.Marks.{pattern_of, evidence_of, patterns_in, evidence_in, is_class, class_lines, member_lines, next_member, mark_of}
+use Rattle.result_records.specs.Limits.{AreWithinLimits}
+use Rattle.result_file.specs.Lines.{IsInPlace, IsRightContent, IsRightClass, IsRightMember, NamesNext, HasRightRoots, IsRightProof, budgets_in}
 use Rattle.result_file.proofs.RightLines.{IsNextLine, right_next}
 use Rattle.dia_check.specs.declared.progress.Progress.{Progress}
 use Rattle.dia_check.specs.declared.checker.Checker.{Checker}

@@ -7,15 +7,16 @@ use Rattle.word_sim.specs.declared.lanes.TheConstants.{LANES}
 use Rattle.kept_vectors.specs.Keeper.{keeper_with, IsKeeper}
 use Rattle.member_marks.specs.declared.marks.Given.{Given}
 use Rattle.member_marks.specs.Given.{given_mark, AreGiven, IsLowestOpen}
-use Rattle.result_file.specs.declared.record.Evidence.{Evidence}
-use Rattle.result_file.specs.declared.record.Record.{Record}
-use Rattle.result_file.specs.declared.record.Record.TheVariants.{Pattern}
+use Rattle.result_records.specs.declared.record.Evidence.{Evidence}
+use Rattle.result_records.specs.declared.record.Record.{Record}
+use Rattle.result_records.specs.declared.record.Record.TheVariants.{Pattern}
 use Rattle.result_file.specs.declared.fault.ResultFault.{ResultFault}
-use Rattle.result_file.specs.Spelling.{Text, spelling, text_of}
-use Rattle.result_file.specs.Marks.{patterns_in, evidence_in, class_lines, next_member}
+use Rattle.text_fields.specs.Fields.{Text}
+use Rattle.result_records.specs.Spelling.{spelling, text_of}
+use Rattle.result_records.specs.Marks.{patterns_in, evidence_in, class_lines, next_member}
 use Rattle.result_file.specs.Valid.{AreRightLines}
 use Rattle.result_file.specs.Refusal.{FileRefused}
-use Rattle.evidence_check.specs.EvidenceChecker.{EvidenceChecker}
+use Rattle.dia_check.specs.EvidenceChecker.{EvidenceChecker}
 use Rattle.dia_check.specs.declared.stop.Stop.{Stop}
 use Rattle.dia_check.specs.declared.stop.Stop.TheVariants as stop
 use Rattle.dia_check.specs.declared.checker.Checker.{Checker}

@@ -1,22 +1,21 @@
 -- What lines have stated.
 use Rattle.std.specs.Prelude.{◌≡◌, ◌≤◌, ◌<◌, ◌+◌, true, false, List, [], ◌∷◌, ◌++◌, length, count_by, filter_map}
-use Rattle.result_file.specs.declared.record.Mark.{Mark}
-use Rattle.result_file.specs.declared.record.Mark.TheVariants as mark
-use Rattle.result_file.specs.declared.record.Record.{Record}
-use Rattle.result_file.specs.declared.record.Record.TheVariants.{End}
-use Rattle.result_file.specs.Marks.{class_lines, member_lines, end_lines}
-use Rattle.result_file.specs.Lines.{no_budgets, budgets_of, budgets_in, AreWithinLimits}
+use Rattle.result_records.specs.declared.record.Mark.{Mark}
+use Rattle.result_records.specs.declared.record.Record.{Record}
+use Rattle.result_records.specs.declared.record.Record.TheVariants.{End}
+use Rattle.result_records.specs.Marks.{class_lines, member_lines, end_lines}
+use Rattle.result_records.specs.Limits.{AreWithinLimits}
+use Rattle.result_file.specs.Lines.{no_budgets, budgets_of, budgets_in}
 use Rattle.result_file.specs.Summary.{is_equal, is_open}
+use Rattle.member_marks.specs.Counts.{none_counted, counted_with}
 use Rattle.dia_check.specs.declared.progress.Progress.{Progress}
 
 abbrev pub no_progress : Progress
-no_progress = record { lines = 0; budgets = no_budgets; classes = 0; members = 0; equal = 0; spent = 0; ended = false }
+no_progress = record { lines = 0; budgets = no_budgets; classes = 0; members = 0; marked = none_counted; ended = false }
 
 -- with a member line more, that has this mark
 abbrev pub with_member : Progress → Mark → Progress
-with_member p mark.Rep = record p { lines = p.lines + 1; members = p.members + 1 }
-with_member p mark.Equal = record p { lines = p.lines + 1; members = p.members + 1; equal = p.equal + 1 }
-with_member p mark.Spent = record p { lines = p.lines + 1; members = p.members + 1; spent = p.spent + 1 }
+with_member p mark = record p { lines = p.lines + 1; members = p.members + 1; marked = counted_with p.marked mark }
 
 -- The last record is the end, and there are class lines and member lines before it.
 pub record IsEnded (records : List Record) : Type 0 where
@@ -31,10 +30,10 @@ pub record IsProgress (records : List Record) (p : Progress) : Type 0 where
   pub budgets : p.budgets ≡ budgets_in records
   pub classes : p.classes ≡ class_lines records
   pub members : p.members ≡ member_lines records
-  pub equal : p.equal ≡ count_by is_equal records
-  pub spent : p.spent ≡ count_by is_open records
-  pub few_equal : p.equal ≤ p.members
-  pub few_spent : p.spent ≤ p.members
+  pub equal : p.marked.equal ≡ count_by is_equal records
+  pub spent : p.marked.spent ≡ count_by is_open records
+  pub few_equal : p.marked.equal ≤ p.members
+  pub few_spent : p.marked.spent ≤ p.members
   pub early : length records ≤ 1 → filter_map budgets_of records ≡ []
   pub limits : AreWithinLimits p.budgets
   pub unended : p.ended ≡ false → end_lines records ≡ 0

@@ -3,7 +3,7 @@ use Rattle.std.specs.Prelude.{◌≡◌, ◌⊎◌, ◌≤◌, ◌+◌, ◌^◌,
 use Rattle.diag_shelf.specs.World.{World, State}
 use Rattle.diag_shelf.specs.Calls.{Told}
 use Rattle.net_model.specs.Circuit.{Circuit}
-use Rattle.result_file.specs.Spelling.{Text}
+use Rattle.text_fields.specs.Fields.{Text}
 use Rattle.dia_check.specs.declared.reader.Reader.{Reader}
 use Rattle.dia_check.specs.Left.{rest_of}
 use Rattle.dia_check.specs.Reader.{IsReading}

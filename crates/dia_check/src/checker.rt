@@ -3,20 +3,23 @@
 ghost use Rattle.std.specs.Prelude.{◌≡◌, ◌≢◌, ◌<◌, ◌+◌, ◌^◌, ◌↔◌, ◌++◌, ◌∷◌, [], ℕ, List, None, Some, Contains, IfOk, OnOk, IsTrue, IsSome, length, slice_set};
 ghost use Rattle.net_model.specs.Circuit.{Circuit};
 ghost use Rattle.member_marks.specs.Given.{given_mark, AreGiven};
-ghost use Rattle.result_file.specs.declared.record.Record.{Record};
-ghost use Rattle.result_file.specs.declared.record.Record.TheVariants.{Head, Budget, Pattern, Same, Class, Member, End};
-ghost use Rattle.result_file.specs.Marks.{pattern_of, evidence_in, mark_of as mark_by};
-ghost use Rattle.result_file.specs.Lines.{AreWithinLimits, NamesNext, IsRightClass, IsRightMember};
-ghost use Rattle.result_file.specs.Spelling.{Text, HasSpelling, IsNoSpelling, spelling};
+ghost use Rattle.result_records.specs.declared.record.Record.{Record};
+ghost use Rattle.result_records.specs.declared.record.Record.TheVariants.{Head, Budget, Pattern, Same, Class, Member, End};
+ghost use Rattle.result_records.specs.Marks.{pattern_of, evidence_in, mark_of as mark_by};
+ghost use Rattle.result_records.specs.Limits.{AreWithinLimits};
+ghost use Rattle.result_file.specs.Lines.{NamesNext, IsRightClass, IsRightMember};
+ghost use Rattle.text_fields.specs.Fields.{Text};
+ghost use Rattle.result_records.specs.Spelling.{HasSpelling, IsNoSpelling, spelling};
 ghost use Rattle.dia_check.specs.Checker.{HasCheck, JudgesText, JudgesWaiting, JudgesEnd, IsChecker, IsCheckOf, IsJudgedWhole, NamesOpen, record_line};
 ghost use Rattle.result_file.specs.Accepted.{IsAcceptedText};
 
+use crate::evidence::{EvidenceChecker, has_right_roots};
 use crate::progress::Progress;
 use crate::stop::{Judged, Stop};
-use evidence_check::EvidenceChecker;
 use evidence_rules::CheckFault;
+use fault_collapse::Subject;
 use kept_vectors::Keeper;
-use member_marks::{Marks, Subject, mark_of};
+use member_marks::{Marks, mark_of};
 use net_model::{Vector, Vectors};
 use result_file::{
     Budgets, Checked, Evidence, Mark, Record, RecordFault, ResultFault, ResultKind, Summary,
@@ -58,11 +61,11 @@ impl Drop for Checker<'_> {
 
 impl<'a> Checker<'a> {
     // No line.
-    pub(crate) fn start(alloc: Global, subject: &Subject<'a>) -> Result<Checker<'a>, AllocError>
+    pub(crate) fn start(alloc: Global, subject: &'a Subject<'a>) -> Result<Checker<'a>, AllocError>
         ensures { IfOk result (IsCheckOf subject.now []) }
     {
         Ok(Checker {
-            keeper: subject.keeper(alloc)?,
+            keeper: Keeper::new(alloc, subject)?,
             marks: Marks::none(alloc, subject.numbers())?,
             from: 0,
             progress: Progress::none(),
@@ -258,7 +261,7 @@ impl<'a> Checker<'a> {
         if !self.names_next(evidence) {
             return Err(self.refused(ResultKind::Member));
         }
-        if !subject.has_right_roots(evidence) {
+        if !has_right_roots(subject, evidence) {
             return Err(self.refused(ResultKind::Roots));
         }
         let budgets = self.progress.budgets;
@@ -425,8 +428,8 @@ impl<'a> Checker<'a> {
             numbers: progress.members,
             patterns: classes.patterns(),
             classes: progress.classes,
-            equal: progress.equal,
-            spent: progress.spent,
+            equal: progress.marked.equal,
+            spent: progress.marked.spent,
         };
         Ok(Checked {
             summary,

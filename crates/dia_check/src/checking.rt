@@ -2,9 +2,9 @@
 
 ghost use Rattle.std.specs.Prelude.{◌≡◌, ℕ, ◌≤◌, ◌<◌, ◌+◌, ◌^◌, [], List, IfOk, OnOk, OnErr, IsErrOf, IsTrue, IsSome};
 ghost use Rattle.diag_shelf.specs.Calls.{IsReadCall, Told, OnlyReads, ReadsUpTo};
-ghost use Rattle.result_file.specs.declared.record.Record.{Record};
+ghost use Rattle.result_records.specs.declared.record.Record.{Record};
 ghost use Rattle.result_file.specs.declared.fault.ResultFault.{ResultFault};
-ghost use Rattle.result_file.specs.Spelling.{text_of};
+ghost use Rattle.result_records.specs.Spelling.{text_of};
 ghost use Rattle.result_file.specs.Refusal.{FileRefused};
 ghost use Rattle.dia_check.specs.Faults.{as_shelf};
 ghost use Rattle.result_file.specs.Accepted.{IsAccepted};
@@ -15,9 +15,7 @@ ghost use Rattle.dia_check.specs.Rest.{HasRead};
 use crate::answer::FileFault;
 use crate::reader::{LIMIT, Reader};
 use diag_shelf::Shelf;
-use fault_collapse::collapse;
-use fault_list::list;
-use member_marks::Subject;
+use fault_collapse::Subject;
 use net_model::Circuit;
 use result_file::Checked;
 use std::alloc::Global;
@@ -51,23 +49,36 @@ pub fn check<S: Shelf>(
     // A sure shelf never fails.
     ensures never { IsTrue (S.state shelf.old).sure → ¬ IsErrOf result FileFault.Failed }
 {
-    let listed = list(alloc, circuit)?;
-    let forest = collapse(alloc, circuit, &listed)?;
-    check_for(alloc, &Subject::new(circuit, &listed, &forest), shelf)
+    let subject = Subject::new(alloc, circuit)?;
+    check_subject(alloc, &subject, shelf)
 }
 
-// Checks the opened file for a subject.
-fn check_for<S: Shelf>(
+/// Checks the opened file against a subject's circuit, as `check` does against a circuit whose faults aren't listed yet.
+pub fn check_subject<S: Shelf>(
     alloc: Global,
     subject: &Subject,
     shelf: &mut S,
 ) -> Result<Checked, FileFault>
+    // A shelf that tells its files has one that is opened.
     requires opened { IsTrue (S.state shelf.old).tells → IsSome (S.state shelf.old).world.rest }
-    ensures call { IsReadCall (as_shelf result) (S.state shelf.old) (S.state shelf.new) × (IsTrue (S.state shelf.old).sure → ¬ IsErrOf result FileFault.Failed) }
-    ensures read { Told (S.state shelf.old) (S.state shelf.new) OnlyReads × OnOk (as_shelf result) (Told (S.state shelf.old) (S.state shelf.new) ReadsRest) }
+
+    // It is a call that reads: where it answers `Failed` the count of read faults rose, and no other count changed.
+    ensures call { IsReadCall (as_shelf result) (S.state shelf.old) (S.state shelf.new) }
+
+    // Nothing is changed but the rest of the opened file, which is read to its end or to one byte beyond the limit. After a
+    // failed read or want of memory a beginning of that was read.
+    ensures others { Told (S.state shelf.old) (S.state shelf.new) OnlyReads }
+    ensures read { OnOk (as_shelf result) (Told (S.state shelf.old) (S.state shelf.new) ReadsRest) }
     ensures err { OnErr (as_shelf result) (Told (S.state shelf.old) (S.state shelf.new) (ReadsUpTo (2 ^ 40 + 1))) }
+
+    // Some records are accepted with the answer. Where the shelf tells, their text is the rest of the file.
     ensures valid { IfOk result (λ checked. (records : List Record) × IsAccepted subject.now records checked × Told (S.state shelf.old) (S.state shelf.new) (λ old new. rest_of old ≡ text_of records)) }
+
+    // Some text is refused for the fault that is answered. Where the shelf tells, it is the rest of the file.
     ensures refused { (fault : ResultFault) → IsErrOf result (FileFault.Result fault) → (text : List ℕ) × FileRefused subject.now text fault × Told (S.state shelf.old) (S.state shelf.new) (λ old new. rest_of old ≡ text) }
+
+    // A sure shelf never fails.
+    ensures never { IsTrue (S.state shelf.old).sure → ¬ IsErrOf result FileFault.Failed }
 {
     let mut reader = Reader::start(alloc, subject)?;
     read_rest(alloc, subject, &mut reader, shelf)?;

@@ -8,9 +8,7 @@ ghost use Rattle.dia_check.specs.Reader.{IsReading, IsRefusedEnd};
 use crate::answer::FileFault;
 use crate::checking::PIECE;
 use crate::reader::Reader;
-use fault_collapse::collapse;
-use fault_list::list;
-use member_marks::Subject;
+use fault_collapse::Subject;
 use net_model::Circuit;
 use result_file::Checked;
 use std::alloc::{AllocError, Global};
@@ -26,15 +24,22 @@ pub fn check_text(alloc: Global, circuit: &Circuit, text: &[u8]) -> Result<Check
     // No file is read.
     ensures never { ¬ IsErrOf result FileFault.Failed }
 {
-    let listed = list(alloc, circuit)?;
-    let forest = collapse(alloc, circuit, &listed)?;
-    check_text_for(alloc, &Subject::new(circuit, &listed, &forest), text)
+    let subject = Subject::new(alloc, circuit)?;
+    check_subject_text(alloc, &subject, text)
 }
 
-// Checks a text for a subject.
-fn check_text_for(alloc: Global, subject: &Subject, text: &[u8]) -> Result<Checked, FileFault>
+/// Checks a text against a subject's circuit, as `check_text` does against a circuit whose faults aren't listed yet.
+pub fn check_subject_text(
+    alloc: Global,
+    subject: &Subject,
+    text: &[u8],
+) -> Result<Checked, FileFault>
     ensures valid { IfOk result (IsAcceptedText subject.now text.now) }
+
+    // Where the text goes beyond the limit, so is each file that begins with it.
     ensures refused { (fault : ResultFault) → IsErrOf result (FileFault.Result fault) → IsRefusedEnd subject.now text.now fault }
+
+    // No file is read.
     ensures never { ¬ IsErrOf result FileFault.Failed }
 {
     let mut reader = Reader::start(alloc, subject)?;

@@ -4,12 +4,13 @@
 mod answer;
 mod checker;
 mod checking;
+mod evidence;
 mod in_memory;
 mod progress;
 mod reader;
 mod stop;
 
 pub use answer::FileFault;
-pub use checking::check;
-pub use in_memory::check_text;
+pub use checking::{check, check_subject};
+pub use in_memory::{check_subject_text, check_text};
 pub use result_file::Checked;

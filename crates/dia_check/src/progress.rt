@@ -3,6 +3,7 @@
 ghost use Rattle.std.specs.Prelude.{◌≡◌, ◌<◌, ◌≤◌, ◌+◌, ◌^◌, ◌↔◌, IsTrue};
 ghost use Rattle.dia_check.specs.Progress.{no_progress, with_member};
 
+use member_marks::MarkCounts;
 use result_file::{Budgets, Mark};
 
 // How many lines there are, the budgets, how many class lines and member lines, how many members are marked equal and
@@ -13,8 +14,7 @@ pub(crate) struct Progress {
     pub budgets: Budgets,
     pub classes: u32,
     pub members: u32,
-    pub equal: u32,
-    pub spent: u32,
+    pub marked: MarkCounts,
     pub ended: bool,
 }
 
@@ -34,8 +34,7 @@ impl Progress {
             budgets: NO_BUDGETS,
             classes: 0,
             members: 0,
-            equal: 0,
-            spent: 0,
+            marked: MarkCounts::none(),
             ended: false,
         }
     }
@@ -61,16 +60,12 @@ impl Progress {
     pub(crate) fn add_member(&mut self, mark: Mark)
         requires lines { self.old.lines + 1 < 2 ^ 64 }
         requires members { self.old.members + 1 < 2 ^ 32 }
-        requires equal { self.old.equal ≤ self.old.members }
-        requires spent { self.old.spent ≤ self.old.members }
+        requires equal { self.old.marked.equal ≤ self.old.members }
+        requires spent { self.old.marked.spent ≤ self.old.members }
         ensures { self.new ≡ with_member self.old mark }
     {
         self.lines += 1;
         self.members += 1;
-        match mark {
-            Mark::Rep => {}
-            Mark::Equal => self.equal += 1,
-            Mark::Spent => self.spent += 1,
-        }
+        self.marked.count(mark);
     }
 }

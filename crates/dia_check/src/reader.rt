@@ -2,14 +2,14 @@
 
 ghost use Rattle.std.specs.Prelude.{◌≡◌, ◌≤◌, ◌++◌, ◌^◌, [], min, length, IfOk, OnOk, IsErrOf};
 ghost use Rattle.result_file.specs.declared.fault.ResultFault.{ResultFault};
-ghost use Rattle.result_file.specs.Spelling.{Text};
+ghost use Rattle.text_fields.specs.Fields.{Text};
 ghost use Rattle.result_file.specs.Accepted.{IsAcceptedText};
 ghost use Rattle.dia_check.specs.Reader.{IsReading, IsRefusedEnd, HasHeld, HasOpen, HasReading, TakesLines, TakesPiece};
 
 use crate::answer::FileFault;
 use crate::checker::Checker;
 use crate::stop::{Judged, Stop};
-use member_marks::Subject;
+use fault_collapse::Subject;
 use result_file::{Checked, Lines, ResultFault, ResultKind};
 use std::alloc::{AllocError, Global};
 
@@ -39,7 +39,7 @@ impl Drop for Reader<'_> {
 
 impl<'a> Reader<'a> {
     // No byte.
-    pub(crate) fn start(alloc: Global, subject: &Subject<'a>) -> Result<Reader<'a>, AllocError>
+    pub(crate) fn start(alloc: Global, subject: &'a Subject<'a>) -> Result<Reader<'a>, AllocError>
         ensures { IfOk result (IsReading subject.now []) }
     {
         Ok(Reader {

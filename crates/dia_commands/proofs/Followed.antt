@@ -13,7 +13,7 @@ use Rattle.dia_commands.specs.Ending.{Ending, refused, read_failed, write_failed
 use Rattle.diag_shelf.specs.World.{Files, World, State}
 use Rattle.diag_shelf.specs.Calls.{IsReadCall, SameFacts, OnlyReads, Told, Rose, read_of}
 use Rattle.diag_shelf.proofs.Steps.{facts_same, facts_after_read, read_failed as failed_after}
-use Rattle.request_words.specs.Request.{Text}
+use Rattle.text_fields.specs.Fields.{Text}
 use Rattle.dia_commands.specs.Outcome.{said, IsPartOf, IsUntouched}
 use Rattle.dia_commands.specs.Plan.{Plan, judged, refused_file, accepted_file, CallsFor, MayLeave, AreHeld}
 use Rattle.net_model.specs.declared.circuit.Design.{Design}

@@ -6,11 +6,11 @@ use Rattle.diag_shelf.specs.World.{State}
 use Rattle.diag_shelf.specs.Calls.{IsWriteCall, Same, Creates, Writes, Told}
 use Rattle.net_model.specs.declared.circuit.Design.{Design}
 use Rattle.net_model.specs.Circuit.{Circuit}
-use Rattle.result_file.specs.declared.record.Budgets.{Budgets}
-use Rattle.result_file.specs.declared.record.Summary.{Summary}
+use Rattle.result_records.specs.declared.record.Budgets.{Budgets}
+use Rattle.result_file.specs.declared.checked.Summary.{Summary}
 use Rattle.dia_gen.specs.Made.{IsMade, IsCutFile}
 use Rattle.dia_gen.proofs.Written.{nothing_cut}
-use Rattle.request_words.specs.Request.{Text}
+use Rattle.text_fields.specs.Fields.{Text}
 use Rattle.dia_commands.specs.Texts.{summary_text, not_understood_text}
 use Rattle.dia_commands.specs.Netlists.{IsDesign}
 use Rattle.dia_commands.specs.Outcome.{Outcome, said, saved, IsCut, IsPartOf}

@@ -9,9 +9,9 @@ use Rattle.net_model.specs.Circuit.{Circuit}
 use Rattle.net_model.specs.FaultList.{fault_count}
 use Rattle.net_model.specs.ClassTable.{ClassTable}
 use Rattle.net_model.specs.PatternRows.{IsTableOf}
-use Rattle.result_file.specs.declared.record.Record.{Record}
-use Rattle.result_file.specs.declared.record.Record.TheVariants.{Pattern, End}
-use Rattle.result_file.specs.Marks.{patterns_in}
+use Rattle.result_records.specs.declared.record.Record.{Record}
+use Rattle.result_records.specs.declared.record.Record.TheVariants.{Pattern, End}
+use Rattle.result_records.specs.Marks.{patterns_in}
 use Rattle.result_file.specs.Valid.{IsValid, AreRightLines, record_at}
 use Rattle.result_file.specs.Lines.{IsRightLine}
 use Rattle.class_refine.proofs.PatternTables.{table_numbers}

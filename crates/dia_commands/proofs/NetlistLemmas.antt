@@ -11,7 +11,7 @@ use Rattle.bench_reader.specs.declared.fault.NetKind.{NetKind}
 use Rattle.bench_reader.specs.Reading.{place_of}
 use Rattle.bench_reader.specs.Refusal.{TextRefused, too_long, by_grammar, by_second, by_missing}
 use Rattle.synth_netlist.specs.Laws.{NeverRefused}
-use Rattle.request_words.specs.Request.{Text}
+use Rattle.text_fields.specs.Fields.{Text}
 use Rattle.dia_commands.proofs.ReadLemmas.{read_whole, long_read}
 use Rattle.dia_commands.specs.Texts.{refusal_text}
 use Rattle.dia_commands.specs.Netlists.{IsDesign, IsRefused, by_text, by_loop}

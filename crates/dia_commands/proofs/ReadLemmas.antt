@@ -19,7 +19,7 @@ use Rattle.adaptive_tree.specs.declared.steps.Plan.{Plan as AdaptivePlan}
 use Rattle.adaptive_tree.specs.WellFormed.{IsTextOf}
 use Rattle.adaptive_tree.specs.Refusal as plan
 use Rattle.adaptive_tree.specs.AnswerLog as walk
-use Rattle.request_words.specs.Request.{Text}
+use Rattle.text_fields.specs.Fields.{Text}
 use Rattle.dia_commands.specs.Dictionaries.{IsDictionaryFile, IsRefusedDictionary}
 use Rattle.dia_commands.specs.Logs.{IsRefusedBySome, IsLogFor, IsRefusedPartialOf, IsLogTo, IsRefusedWalk, IsListFor}
 use Rattle.dia_commands.specs.AdaptivePlans.{IsAdaptivePlanFile, IsRefusedPlan}

@@ -10,7 +10,7 @@ use Rattle.bench_reader.specs.Netlist.{Netlist}
 use Rattle.bench_reader.specs.Reading.{IsNetlist}
 use Rattle.bench_reader.specs.Stops.{IsTextFault}
 use Rattle.scan_cut.specs.Cut.{cut_circuit, cut_design, IsNetlistLoop}
-use Rattle.request_words.specs.Request.{Text}
+use Rattle.text_fields.specs.Fields.{Text}
 use Rattle.dia_commands.specs.Texts.{refusal_text}
 use Rattle.dia_commands.specs.Netlists.{IsDesign, IsRefused, by_text, by_loop}
 use Rattle.dia_commands.specs.Steps.{fault_text}

@@ -10,7 +10,7 @@ use Rattle.result_file.specs.Refusal.{FileRefused}
 use Rattle.result_file.specs.declared.checked.Checked.{Checked}
 use Rattle.result_file.specs.Accepted.{IsAcceptedText}
 use Rattle.dia_check.specs.Reader.{IsRefusedEnd}
-use Rattle.request_words.specs.Request.{Text}
+use Rattle.text_fields.specs.Fields.{Text}
 use Rattle.dia_commands.specs.Texts.{result_text}
 use Rattle.dia_commands.specs.Results.{IsResult, IsRefusedResult}
 use Rattle.dia_commands.proofs.ReadLemmas.{read_whole, long_read}

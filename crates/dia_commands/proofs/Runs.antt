@@ -11,7 +11,7 @@ use Rattle.std.proofs.Math.Nat.{le_refl}
 use Rattle.std.proofs.lemmas.List.{append-nil, take_all}
 use Rattle.diag_shelf.specs.Calls.{Told, OfSome, Same, SameFacts, OnlyReads, Creates, Writes, Prints, IsReadCall, IsWriteCall}
 use Rattle.diag_shelf.proofs.FileMaps.{get_off_insert, insert_again, held_at_insert}
-use Rattle.request_words.specs.Request.{Text}
+use Rattle.text_fields.specs.Fields.{Text}
 use Rattle.dia_commands.specs.Outcome.{Outcome, IsCut, IsPartOf, Leaves, after_made, written_after, said, saved}
 use Rattle.dia_commands.specs.Plan.{Plan, CallsFor, MayLeave}
 use Rattle.dia_commands.specs.Ran.{IsAmong, IsBroken, Stays, Ends, Follows}

@@ -9,7 +9,7 @@ use Rattle.diag_shelf.specs.Calls.{Rose}
 use Rattle.net_model.specs.Circuit.{Circuit, IsCircuit}
 use Rattle.sim_listing.specs.SimText.{IsSimTextFrom, IsSimText}
 use Rattle.sim_listing.proofs.TextLemmas.{text_joined, no_text, one_text}
-use Rattle.request_words.specs.Request.{Text}
+use Rattle.text_fields.specs.Fields.{Text}
 use Rattle.dia_commands.specs.Outcome.{IsCut, IsPartOf, Leaves, after_made, written_after, said}
 use Rattle.dia_commands.specs.Ending.{Ending, done, IsDecided}
 use Rattle.dia_commands.specs.Ran.{IsBroken, Ends}

@@ -2,13 +2,13 @@
 use Rattle.std.proofs.Common.{◌≡◌, ◌∙◌, ℕ, List, length, refl, ap, subst}
 use Rattle.diag_shelf.specs.World.{State}
 use Rattle.net_model.specs.Circuit.{Circuit}
-use Rattle.result_file.specs.declared.record.Record.{Record}
-use Rattle.result_file.specs.Spelling.{text_of}
-use Rattle.result_file.specs.Marks.{patterns_in}
+use Rattle.result_records.specs.declared.record.Record.{Record}
+use Rattle.result_records.specs.Spelling.{text_of}
+use Rattle.result_records.specs.Marks.{patterns_in}
 use Rattle.result_file.specs.declared.checked.Checked.{Checked}
 use Rattle.result_file.specs.Accepted.{IsAccepted}
 use Rattle.ranked_diag.specs.PartialLog.{Line, IsPartialLog}
-use Rattle.request_words.specs.Request.{Text}
+use Rattle.text_fields.specs.Fields.{Text}
 use Rattle.dia_commands.specs.declared.ending.FileKind.{FileKind}
 use Rattle.dia_commands.specs.declared.ending.RunFault.{RunFault}
 use Rattle.dia_commands.specs.Logs.{IsRefusedPartialOf}

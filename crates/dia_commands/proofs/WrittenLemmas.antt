@@ -1,9 +1,10 @@
 -- The plans of `gen` and of `check` are what is written out of them.
 use Rattle.std.proofs.Common.{◌≡◌, List, [], ◌∷◌, Some, refl, sym, ap, subst, ◌∙◌, inl, inr}
 use Rattle.diag_shelf.specs.World.{Files}
-use Rattle.result_file.specs.declared.record.Budgets.{Budgets}
+use Rattle.result_records.specs.declared.record.Budgets.{Budgets}
 use Rattle.result_file.specs.Valid.{IsValidFile}
-use Rattle.request_words.specs.Request.{Text, gen, check}
+use Rattle.text_fields.specs.Fields.{Text}
+use Rattle.request_words.specs.Request.{gen, check}
 use Rattle.dia_commands.specs.declared.ending.FileKind.TheVariants as kind
 use Rattle.dia_commands.specs.Ending.{Ending, done, refused}
 use Rattle.dia_commands.specs.Outcome.{Outcome, said, IsCut, IsCutText, IsPartOf}

@@ -4,9 +4,9 @@ use Rattle.net_model.specs.Circuit.{Circuit}
 use Rattle.net_model.specs.FaultList.{fault_count, fault_numbered}
 use Rattle.net_model.specs.ClassTable.{ClassTable, class_at}
 use Rattle.net_model.specs.PatternRows.{IsTableOf}
-use Rattle.result_file.specs.declared.record.Record.{Record}
-use Rattle.result_file.specs.Spelling.{text_of}
-use Rattle.result_file.specs.Marks.{patterns_in}
+use Rattle.result_records.specs.declared.record.Record.{Record}
+use Rattle.result_records.specs.Spelling.{text_of}
+use Rattle.result_records.specs.Marks.{patterns_in}
 use Rattle.result_file.specs.Valid.{IsValid}
 use Rattle.table_dicts.specs.AnswerTable.{Answers, AreAnswers}
 use Rattle.adaptive_tree.specs.declared.fault.PlanKind.{PlanKind}
@@ -17,7 +17,7 @@ use Rattle.adaptive_tree.specs.PlanText.{plan_text}
 use Rattle.adaptive_tree.specs.WellFormed.{IsWellFormed, IsTextOf}
 use Rattle.adaptive_tree.specs.Refusal.{PlanRefused}
 use Rattle.adaptive_tree.specs.Promises.{IsShort, LeadsHome, IsOfFault}
-use Rattle.request_words.specs.Request.{Text}
+use Rattle.text_fields.specs.Fields.{Text}
 use Rattle.dia_commands.specs.Texts.{plan_fault_text, plan_counts_text}
 
 -- ---- a file

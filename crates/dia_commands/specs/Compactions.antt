@@ -3,7 +3,7 @@ use Rattle.std.specs.Prelude.{◌≡◌}
 use Rattle.net_model.specs.Circuit.{Circuit}
 use Rattle.compact_tests.specs.declared.thin.Thin.{Thin}
 use Rattle.compact_tests.specs.Compacted.{IsCompacted}
-use Rattle.request_words.specs.Request.{Text}
+use Rattle.text_fields.specs.Fields.{Text}
 use Rattle.dia_commands.specs.Texts.{dropped_text}
 
 -- The file is what is left of a valid result for the circuit, and the text is printed of it.

@@ -6,7 +6,7 @@ use Rattle.net_model.specs.declared.fault.Fault.{Fault}
 use Rattle.net_model.specs.FaultList.{fault_numbered}
 use Rattle.fault_list.specs.Names.{fault_name}
 use Rattle.fault_collapse.specs.Forest.{Forest, IsForestOf, number_count, root_of, root_numbers}
-use Rattle.request_words.specs.Request.{Text}
+use Rattle.text_fields.specs.Fields.{Text}
 use Rattle.dia_commands.specs.Texts.{line_start, count_text}
 
 -- a number, that of its root and the fault's name

@@ -9,7 +9,7 @@ use Rattle.ranked_diag.specs.PartialLog.{Line, IsPartialLog, PartialRefused}
 use Rattle.adaptive_tree.specs.declared.outcome.Outcome.{Outcome as WalkOutcome}
 use Rattle.adaptive_tree.specs.declared.steps.Plan.{Plan as AdaptivePlan}
 use Rattle.adaptive_tree.specs.AnswerLog.{LeadsTo, WalkRefused}
-use Rattle.request_words.specs.Request.{Text}
+use Rattle.text_fields.specs.Fields.{Text}
 use Rattle.dia_commands.specs.Texts.{log_text, outcome_text}
 
 -- The bytes are refused, by a rule that a line breaks, with this text.

@@ -8,7 +8,7 @@ use Rattle.bench_reader.specs.Netlist.{Netlist}
 use Rattle.bench_reader.specs.Reading.{IsNetlist, place_of}
 use Rattle.bench_reader.specs.Refusal.{TextRefused}
 use Rattle.scan_cut.specs.Cut.{cut_circuit, cut_design, IsNetlistLoop}
-use Rattle.request_words.specs.Request.{Text}
+use Rattle.text_fields.specs.Fields.{Text}
 use Rattle.dia_commands.specs.Texts.{refusal_text, loop_text}
 
 -- The bytes are accepted: this is the cut of their statements, which has no loop.

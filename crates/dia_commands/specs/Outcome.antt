@@ -2,7 +2,7 @@
 use Rattle.std.specs.Prelude.{◌≡◌, ℕ, ◌≤◌, List, [], ◌∷◌, ◌++◌, length, take, Option, Some}
 use Rattle.std.specs.FinMap.{insert}
 use Rattle.diag_shelf.specs.World.{Files, World}
-use Rattle.request_words.specs.Request.{Text}
+use Rattle.text_fields.specs.Fields.{Text}
 use Rattle.dia_commands.specs.Ending.{Ending, done}
 
 pub record Outcome : Type 0 where

@@ -1,7 +1,8 @@
 -- What a request writes.
 use Rattle.std.specs.Prelude.{List, [], ◌∷◌, Option, Some, None}
-use Rattle.result_file.specs.declared.record.Budgets.{Budgets}
-use Rattle.request_words.specs.Request.{Text, Request, gen, check, make_dict, convert, diagnose, list_faults, simulate, synth, compact, rank, adapt, follow, expect, suspects, cover}
+use Rattle.result_records.specs.declared.record.Budgets.{Budgets}
+use Rattle.text_fields.specs.Fields.{Text}
+use Rattle.request_words.specs.Request.{Request, gen, check, make_dict, convert, diagnose, list_faults, simulate, synth, compact, rank, adapt, follow, expect, suspects, cover}
 
 -- the budgets of `synth`
 abbrev pub synth_budgets : Budgets

@@ -2,7 +2,7 @@
 use Rattle.std.specs.Prelude.{◌≡◌, ◌⊎◌, List, Some, IsSome, ⊤}
 use Rattle.std.specs.FinMap.{get}
 use Rattle.diag_shelf.specs.World.{Files}
-use Rattle.request_words.specs.Request.{Text}
+use Rattle.text_fields.specs.Fields.{Text}
 use Rattle.dia_commands.specs.declared.ending.FileKind.{FileKind}
 use Rattle.dia_commands.specs.Ending.{done, refused}
 use Rattle.dia_commands.specs.Outcome.{Outcome, said, IsPartOf}

@@ -3,10 +3,11 @@ use Rattle.std.specs.Prelude.{◌≡◌, Bool, List, [], ◌∷◌, ◌++◌, Op
 use Rattle.net_model.specs.declared.circuit.Design.{Design}
 use Rattle.net_model.specs.Circuit.{Circuit}
 use Rattle.sim_listing.specs.SimText.{IsSimText}
-use Rattle.result_file.specs.declared.record.Budgets.{Budgets}
-use Rattle.result_file.specs.declared.record.Summary.{Summary}
+use Rattle.result_records.specs.declared.record.Budgets.{Budgets}
+use Rattle.result_file.specs.declared.checked.Summary.{Summary}
 use Rattle.dia_gen.specs.Made.{IsMade, IsCutFile}
-use Rattle.request_words.specs.Request.{Text, Request, gen, check, make_dict, convert, diagnose, list_faults, simulate, synth, compact, rank, adapt, follow, expect, suspects, cover}
+use Rattle.text_fields.specs.Fields.{Text}
+use Rattle.request_words.specs.Request.{Request, gen, check, make_dict, convert, diagnose, list_faults, simulate, synth, compact, rank, adapt, follow, expect, suspects, cover}
 use Rattle.dia_commands.specs.Outputs.{synth_budgets}
 use Rattle.synth_netlist.specs.Synth.{synth_text}
 use Rattle.dia_commands.specs.Texts.{summary_text, not_understood_text}

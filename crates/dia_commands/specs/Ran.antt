@@ -4,10 +4,11 @@ use Rattle.std.specs.FinMap.{get}
 use Rattle.diag_shelf.specs.World.{World, State}
 use Rattle.diag_shelf.specs.Calls.{Rose, Told}
 use Rattle.net_model.specs.Circuit.{Circuit}
-use Rattle.result_file.specs.declared.record.Budgets.{Budgets}
-use Rattle.result_file.specs.declared.record.Summary.{Summary}
+use Rattle.result_records.specs.declared.record.Budgets.{Budgets}
+use Rattle.result_file.specs.declared.checked.Summary.{Summary}
 use Rattle.dia_gen.specs.Made.{IsMade}
-use Rattle.request_words.specs.Request.{Text, Request, gen, check, make_dict, convert, diagnose, list_faults, simulate, synth, compact, rank, adapt, follow, expect, suspects, cover}
+use Rattle.text_fields.specs.Fields.{Text}
+use Rattle.request_words.specs.Request.{Request, gen, check, make_dict, convert, diagnose, list_faults, simulate, synth, compact, rank, adapt, follow, expect, suspects, cover}
 use Rattle.dia_commands.specs.declared.ending.FileKind.TheVariants as kind
 use Rattle.dia_commands.specs.Ending.{Ending, done, not_understood, refused, read_failed, write_failed, no_memory, IsDecided}
 use Rattle.dia_commands.specs.Outputs.{outputs_of}

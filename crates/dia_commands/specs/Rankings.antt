@@ -4,7 +4,7 @@ use Rattle.table_dicts.specs.declared.dict.Dict.{Dict}
 use Rattle.ranked_diag.specs.PartialLog.{Line}
 use Rattle.ranked_diag.specs.Mismatches.{mismatch_counts}
 use Rattle.ranked_diag.specs.Ranked.{least, IsRanking}
-use Rattle.request_words.specs.Request.{Text}
+use Rattle.text_fields.specs.Fields.{Text}
 use Rattle.dia_commands.specs.Texts.{ranks_text}
 
 -- The text lists the numbers whose mismatches are within so much of the least, ranked.

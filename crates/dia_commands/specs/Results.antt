@@ -1,13 +1,13 @@
 -- What becomes of a result's bytes: they are valid for a circuit, or refused.
 use Rattle.std.specs.Prelude.{◌≡◌, List}
 use Rattle.net_model.specs.Circuit.{Circuit}
-use Rattle.result_file.specs.declared.record.Record.{Record}
+use Rattle.result_records.specs.declared.record.Record.{Record}
 use Rattle.result_file.specs.declared.fault.ResultFault.{ResultFault}
-use Rattle.result_file.specs.Spelling.{text_of}
+use Rattle.result_records.specs.Spelling.{text_of}
 use Rattle.result_file.specs.Summary.{summary_of}
 use Rattle.result_file.specs.Valid.{IsValid, IsValidFile}
 use Rattle.result_file.specs.Refusal.{FileRefused}
-use Rattle.request_words.specs.Request.{Text}
+use Rattle.text_fields.specs.Fields.{Text}
 use Rattle.dia_commands.specs.Texts.{result_text, valid_text}
 
 -- The bytes are accepted as this file, which is valid.

@@ -5,7 +5,7 @@ use Rattle.diag_shelf.specs.World.{State}
 use Rattle.diag_shelf.specs.Calls.{Rose, SameFacts, OnlyReads, Told, read_of}
 use Rattle.bench_reader.specs.declared.fault.NetFault.{NetFault}
 use Rattle.bench_reader.specs.declared.fault.NetFault.TheVariants as fault
-use Rattle.request_words.specs.Request.{Text}
+use Rattle.text_fields.specs.Fields.{Text}
 use Rattle.dia_commands.specs.Texts.{refusal_text, loop_text}
 use Rattle.dia_commands.specs.declared.ending.FileKind.{FileKind}
 use Rattle.dia_commands.specs.declared.ending.RunFault.{RunFault}

@@ -3,9 +3,9 @@ use Rattle.std.specs.Prelude.{◌≡◌, ℕ, ◌<◌, ◌≤◌, Bool, List, le
 use Rattle.net_model.specs.Circuit.{Circuit}
 use Rattle.net_model.specs.ClassTable.{ClassTable, class_at, representative}
 use Rattle.net_model.specs.PatternRows.{IsTableOf}
-use Rattle.result_file.specs.declared.record.Record.{Record}
-use Rattle.result_file.specs.Spelling.{text_of}
-use Rattle.result_file.specs.Marks.{patterns_in}
+use Rattle.result_records.specs.declared.record.Record.{Record}
+use Rattle.result_records.specs.Spelling.{text_of}
+use Rattle.result_records.specs.Marks.{patterns_in}
 use Rattle.result_file.specs.Valid.{IsValid}
 use Rattle.table_dicts.specs.AnswerTable.{Answers, AreAnswers}
 use Rattle.diagnose.specs.Lines.{text_limit}
@@ -17,7 +17,7 @@ use Rattle.suspect_scores.specs.Listed.{AreSuspects}
 use Rattle.suspect_scores.specs.Covering.{IsCover}
 use Rattle.suspect_scores.specs.Expected.{expected_text}
 use Rattle.suspect_scores.specs.Laws.{own_lines, AnswersOtherwise, StandsFirst, ScoreAlike, is_explained, IsReadBack, ListsNothing}
-use Rattle.request_words.specs.Request.{Text}
+use Rattle.text_fields.specs.Fields.{Text}
 use Rattle.dia_commands.specs.Logs.{IsRefusedPartialOf}
 use Rattle.dia_commands.specs.Texts.{expected_counts_text, suspects_text, cover_text}
 

@@ -6,7 +6,7 @@ use Rattle.bench_reader.specs.declared.fault.NetKind.TheVariants.{BadByte, Expec
 use Rattle.evidence_rules.specs.declared.refusal.RefusalKind.{RefusalKind}
 use Rattle.evidence_rules.specs.declared.refusal.RefusalKind.TheVariants as why
 use Rattle.evidence_rules.specs.declared.refusal.Refusal.{Refusal}
-use Rattle.result_file.specs.declared.record.Summary.{Summary}
+use Rattle.result_file.specs.declared.checked.Summary.{Summary}
 use Rattle.result_file.specs.declared.fault.ResultKind.{ResultKind}
 use Rattle.result_file.specs.declared.fault.ResultKind.TheVariants as result
 use Rattle.result_file.specs.declared.fault.ResultFault.{ResultFault}
@@ -20,7 +20,7 @@ use Rattle.adaptive_tree.specs.declared.fault.PlanKind.{PlanKind}
 use Rattle.adaptive_tree.specs.declared.fault.PlanKind.TheVariants as plan
 use Rattle.adaptive_tree.specs.declared.outcome.Outcome.{Outcome as WalkOutcome}
 use Rattle.adaptive_tree.specs.declared.outcome.Outcome.TheVariants as walk
-use Rattle.request_words.specs.Request.{Text}
+use Rattle.text_fields.specs.Fields.{Text}
 
 abbrev pub kind_name : NetKind → Text
 kind_name BadByte = codes "BadByte"

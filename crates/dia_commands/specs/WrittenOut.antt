@@ -4,14 +4,15 @@ use Rattle.std.specs.Prelude.{◌≡◌, ◌↔◌, List, [], ◌∷◌, Some}
 use Rattle.std.specs.FinMap.{get}
 use Rattle.diag_shelf.specs.World.{Files}
 use Rattle.net_model.specs.declared.circuit.Design.{Design}
-use Rattle.result_file.specs.declared.record.Budgets.{Budgets}
-use Rattle.result_file.specs.declared.record.Record.{Record}
-use Rattle.result_file.specs.declared.record.Summary.{Summary}
-use Rattle.result_file.specs.Spelling.{text_of}
+use Rattle.result_records.specs.declared.record.Budgets.{Budgets}
+use Rattle.result_records.specs.declared.record.Record.{Record}
+use Rattle.result_file.specs.declared.checked.Summary.{Summary}
+use Rattle.result_records.specs.Spelling.{text_of}
 use Rattle.result_file.specs.Summary.{summary_of}
 use Rattle.result_file.specs.Valid.{IsValid, IsValidFile}
 use Rattle.dia_gen.specs.Made.{IsMade, IsCutFile}
-use Rattle.request_words.specs.Request.{Text, gen, check}
+use Rattle.text_fields.specs.Fields.{Text}
+use Rattle.request_words.specs.Request.{gen, check}
 use Rattle.dia_commands.specs.declared.ending.FileKind.TheVariants as kind
 use Rattle.dia_commands.specs.Ending.{done, refused}
 use Rattle.dia_commands.specs.Texts.{summary_text, valid_text}

@@ -12,7 +12,7 @@ use crate::netlists::read_design;
 use crate::results::read_result;
 use crate::texts::valid_text;
 use diag_shelf::Shelf;
-use net_model::Circuit;
+use fault_collapse::Subject;
 use std::alloc::Global;
 
 /// Reads and judges the netlist and then the result, and prints what the result amounts to.
@@ -25,19 +25,20 @@ pub fn check_result<S: Shelf>(
     ensures { Ran (Some (check bench.now output.now)) result (S.state shelf.old) (S.state shelf.new) }
 {
     let design = read_design(alloc, shelf, bench)?;
-    check_for(alloc, shelf, &design.circuit, output)
+    let subject = Subject::new(alloc, &design.circuit)?;
+    check_for(alloc, shelf, &subject, output)
 }
 
 // Reads and judges the result for a circuit, and says what a valid one amounts to.
 fn check_for<S: Shelf>(
     alloc: Global,
     shelf: &mut S,
-    circuit: &Circuit,
+    subject: &Subject,
     output: &str,
 ) -> Result<(), RunFault>
-    ensures { (bench : List ℕ) → RanOn (check bench output.now) (with_result output.now circuit.now (λ (file : List ℕ). says (IsValidText circuit.now file))) result (S.state shelf.old) (S.state shelf.new) }
+    ensures { (bench : List ℕ) → RanOn (check bench output.now) (with_result output.now subject.now (λ (file : List ℕ). says (IsValidText subject.now file))) result (S.state shelf.old) (S.state shelf.new) }
 {
-    let checked = read_result(alloc, shelf, circuit, output)?;
+    let checked = read_result(alloc, shelf, subject, output)?;
     let text = valid_text(alloc, checked.summary)?;
     say(shelf, text.as_bytes())
 }

@@ -2,10 +2,11 @@
 
 ghost use Rattle.std.specs.Prelude.{◌≡◌, ◌++◌, ℕ, List, All, IfOk, OnOk, Some, flat_map, length, string_bytes, sum_by};
 ghost use Rattle.net_model.specs.PatternRows.{IsTableOf};
-ghost use Rattle.result_file.specs.declared.record.Record.{Record};
-ghost use Rattle.result_file.specs.Spelling.{text_of};
+ghost use Rattle.result_records.specs.declared.record.Record.{Record};
+ghost use Rattle.result_records.specs.Spelling.{text_of};
 ghost use Rattle.result_file.specs.Accepted.{IsAccepted};
 ghost use Rattle.ranked_diag.specs.PartialLog.{Line, ArePartial};
+ghost use Rattle.table_dicts.specs.Setting.{IsSetting};
 ghost use Rattle.request_words.specs.Request.{cover};
 ghost use Rattle.dia_commands.specs.Plans.{says, with_log_at, with_result};
 ghost use Rattle.dia_commands.specs.Ran.{Ran, RanOn};
@@ -16,11 +17,10 @@ use crate::ending::RunFault;
 use crate::ends::say;
 use crate::log_reads::read_log_at;
 use crate::netlists::read_design;
-use crate::results::read_result;
+use crate::results::{read_result, setting_of};
 use crate::texts::{push_choice, push_cover_end};
 use diag_shelf::Shelf;
-use fault_list::list;
-use net_model::Circuit;
+use fault_collapse::Subject;
 use ranked_diag::Partial;
 use result_file::Checked;
 use std::alloc::{AllocError, Global};
@@ -39,66 +39,54 @@ pub fn list_cover<S: Shelf>(
     ensures { Ran (Some (cover bench.now results.now log.now)) result (S.state shelf.old) (S.state shelf.new) }
 {
     let design = read_design(alloc, shelf, bench)?;
-    cover_for(alloc, shelf, &design.circuit, results, log)
+    let subject = Subject::new(alloc, &design.circuit)?;
+    cover_for(alloc, shelf, &subject, results, log)
 }
 
 // Reads and judges the result for a circuit and then the log, and prints the cover.
 fn cover_for<S: Shelf>(
     alloc: Global,
     shelf: &mut S,
-    circuit: &Circuit,
+    subject: &Subject,
     results: &str,
     log: &str,
 ) -> Result<(), RunFault>
-    ensures { (bench : List ℕ) → RanOn (cover bench results.now log.now) (with_result results.now circuit.now (λ (file : List ℕ). with_log_at log.now circuit.now file (λ (lines : List Line). says (IsCoverText circuit.now file lines)))) result (S.state shelf.old) (S.state shelf.new) }
+    ensures { (bench : List ℕ) → RanOn (cover bench results.now log.now) (with_result results.now subject.now (λ (file : List ℕ). with_log_at log.now subject.now file (λ (lines : List Line). says (IsCoverText subject.now file lines)))) result (S.state shelf.old) (S.state shelf.new) }
 {
-    let checked = read_result(alloc, shelf, circuit, results)?;
-    cover_at(alloc, shelf, circuit, &checked, log)
+    let checked = read_result(alloc, shelf, subject, results)?;
+    cover_at(alloc, shelf, subject, &checked, log)
 }
 
 // Reads and judges the log for a result that was checked, and prints the cover.
 fn cover_at<S: Shelf>(
     alloc: Global,
     shelf: &mut S,
-    circuit: &Circuit,
+    subject: &Subject,
     checked: &Checked,
     log: &str,
 ) -> Result<(), RunFault>
-    requires widths { All (λ v. length v ≡ circuit.now.sources) checked.now.patterns }
-    requires table { IsTableOf circuit.now checked.now.patterns checked.now.classes }
-    ensures { (bench results : List ℕ) (records : List Record) → IsAccepted circuit.now records checked.now → RanOn (cover bench results log.now) (with_log_at log.now circuit.now (text_of records) (λ (lines : List Line). says (IsCoverText circuit.now (text_of records) lines))) result (S.state shelf.old) (S.state shelf.new) }
+    requires widths { All (λ v. length v ≡ subject.now.sources) checked.now.patterns }
+    requires table { IsTableOf subject.now checked.now.patterns checked.now.classes }
+    ensures { (bench results : List ℕ) (records : List Record) → IsAccepted subject.now records checked.now → RanOn (cover bench results log.now) (with_log_at log.now subject.now (text_of records) (λ (lines : List Line). says (IsCoverText subject.now (text_of records) lines))) result (S.state shelf.old) (S.state shelf.new) }
 {
-    let partial = read_log_at(alloc, shelf, circuit, checked, log)?;
-    let text = text_at(alloc, circuit, checked, &partial)?;
+    let partial = read_log_at(alloc, shelf, subject, checked, log)?;
+    let setting = setting_of(subject, checked);
+    let text = text_at(alloc, &setting, &partial)?;
     say(shelf, text.as_bytes())
 }
 
 // The text of the cover of a log, for a result that was checked.
-fn text_at(
-    alloc: Global,
-    circuit: &Circuit,
-    checked: &Checked,
-    partial: &Partial,
-) -> Result<String, AllocError>
-    requires widths { All (λ v. length v ≡ circuit.now.sources) checked.now.patterns }
-    requires table { IsTableOf circuit.now checked.now.patterns checked.now.classes }
-    requires partial { ArePartial (length checked.now.patterns) (length circuit.now.positions) partial.now }
-    ensures { IfOk result (λ text. IsCoverOf circuit.now checked.now.patterns checked.now.classes partial.now (string_bytes text)) }
+fn text_at(alloc: Global, setting: &Setting, partial: &Partial) -> Result<String, AllocError>
+    requires setting { IsSetting setting.now }
+    requires partial { ArePartial (length setting.now.patterns.now) (length setting.now.circuit.now.positions) partial.now }
+    ensures { IfOk result (λ text. IsCoverOf setting.now.circuit.now setting.now.patterns.now setting.now.classes.now partial.now (string_bytes text)) }
 {
     // What a cover explains is known by these.
     circuits_are_classed();
     one_cover_explains();
-    let _patterns = checked.classes.patterns();
-    let _sources = circuit.sources();
-    let faults = list(alloc, circuit)?;
-    let setting = Setting {
-        circuit,
-        faults: &faults,
-        patterns: &checked.patterns,
-        classes: &checked.classes,
-    };
-    let choices = cover(alloc, &setting, partial)?;
-    let failing = count_failing(alloc, &setting, partial)?;
+    let _sources = setting.circuit.sources();
+    let choices = cover(alloc, setting, partial)?;
+    let failing = count_failing(alloc, setting, partial)?;
     let text = cover_text(alloc, &choices, failing)?;
     Ok(text)
 }

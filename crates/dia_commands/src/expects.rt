@@ -1,7 +1,7 @@
 //! The command `expect`: from the bytes of a netlist and a result to the log that a chip without a fault gives.
 
-ghost use Rattle.std.specs.Prelude.{◌≡◌, ℕ, List, All, IfOk, Some, length, string_bytes};
-ghost use Rattle.net_model.specs.PatternRows.{IsTableOf};
+ghost use Rattle.std.specs.Prelude.{ℕ, List, IfOk, Some, string_bytes};
+ghost use Rattle.table_dicts.specs.Setting.{IsSetting};
 ghost use Rattle.request_words.specs.Request.{expect};
 ghost use Rattle.dia_commands.specs.Plans.{makes_file, with_result};
 ghost use Rattle.dia_commands.specs.Ran.{Ran, RanOn};
@@ -10,12 +10,10 @@ ghost use Rattle.dia_commands.specs.Suspects.{IsExpectedLog, IsExpectedOf};
 use crate::ending::RunFault;
 use crate::ends::save;
 use crate::netlists::read_design;
-use crate::results::read_result;
+use crate::results::{read_result, setting_of};
 use crate::texts::expected_counts_text;
 use diag_shelf::Shelf;
-use fault_list::list;
-use net_model::Circuit;
-use result_file::Checked;
+use fault_collapse::Subject;
 use std::alloc::{AllocError, Global};
 use suspect_scores::{circuits_are_classed, expected_log, expected_log_lists_nothing};
 use table_dicts::Setting;
@@ -32,21 +30,23 @@ pub fn expect_log<S: Shelf>(
     ensures { Ran (Some (expect bench.now results.now output.now)) result (S.state shelf.old) (S.state shelf.new) }
 {
     let design = read_design(alloc, shelf, bench)?;
-    expect_for(alloc, shelf, &design.circuit, results, output)
+    let subject = Subject::new(alloc, &design.circuit)?;
+    expect_for(alloc, shelf, &subject, results, output)
 }
 
 // Reads and judges the result for a circuit, and writes the log.
 fn expect_for<S: Shelf>(
     alloc: Global,
     shelf: &mut S,
-    circuit: &Circuit,
+    subject: &Subject,
     results: &str,
     output: &str,
 ) -> Result<(), RunFault>
-    ensures { (bench : List ℕ) → RanOn (expect bench results.now output.now) (with_result results.now circuit.now (λ (file : List ℕ). makes_file output.now (IsExpectedLog circuit.now file))) result (S.state shelf.old) (S.state shelf.new) }
+    ensures { (bench : List ℕ) → RanOn (expect bench results.now output.now) (with_result results.now subject.now (λ (file : List ℕ). makes_file output.now (IsExpectedLog subject.now file))) result (S.state shelf.old) (S.state shelf.new) }
 {
-    let checked = read_result(alloc, shelf, circuit, results)?;
-    let made = expected_of(alloc, circuit, &checked)?;
+    let checked = read_result(alloc, shelf, subject, results)?;
+    let setting = setting_of(subject, &checked);
+    let made = expected_of(alloc, &setting)?;
     save(shelf, output, &made.file, made.text.as_bytes())
 }
 
@@ -57,25 +57,17 @@ struct Expected {
     text: String,
 }
 
-// The log for the patterns of a result that was checked.
-fn expected_of(alloc: Global, circuit: &Circuit, checked: &Checked) -> Result<Expected, AllocError>
-    requires widths { All (λ v. length v ≡ circuit.now.sources) checked.now.patterns }
-    requires table { IsTableOf circuit.now checked.now.patterns checked.now.classes }
-    ensures { IfOk result (λ made. IsExpectedOf circuit.now checked.now.patterns checked.now.classes made.file.items (string_bytes made.text)) }
+// The log for the patterns.
+fn expected_of(alloc: Global, setting: &Setting) -> Result<Expected, AllocError>
+    requires { IsSetting setting.now }
+    ensures { IfOk result (λ made. IsExpectedOf setting.now.circuit.now setting.now.patterns.now setting.now.classes.now made.file.items (string_bytes made.text)) }
 {
     // That the log is read back and lists nothing is known by these.
     circuits_are_classed();
     expected_log_lists_nothing();
-    let patterns = checked.classes.patterns();
-    let positions = circuit.positions().len() as u32;
-    let faults = list(alloc, circuit)?;
-    let setting = Setting {
-        circuit,
-        faults: &faults,
-        patterns: &checked.patterns,
-        classes: &checked.classes,
-    };
-    let file = expected_log(alloc, &setting)?;
+    let patterns = setting.classes.patterns();
+    let positions = setting.circuit.positions().len() as u32;
+    let file = expected_log(alloc, setting)?;
     let text = expected_counts_text(alloc, patterns, positions)?;
     Ok(Expected { file, text })
 }

@@ -1,7 +1,7 @@
 //! The command `gen`: from a netlist's bytes to a result file.
 
 ghost use Rattle.std.specs.Prelude.{[], Some};
-ghost use Rattle.result_file.specs.Lines.{AreWithinLimits};
+ghost use Rattle.result_records.specs.Limits.{AreWithinLimits};
 ghost use Rattle.request_words.specs.Request.{gen};
 ghost use Rattle.dia_commands.specs.Ran.{Ran, SavesResult};
 

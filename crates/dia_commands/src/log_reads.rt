@@ -2,8 +2,8 @@
 
 ghost use Rattle.std.specs.Prelude.{List, IfErr, IfOk, length};
 ghost use Rattle.net_model.specs.PatternRows.{IsTableOf};
-ghost use Rattle.result_file.specs.declared.record.Record.{Record};
-ghost use Rattle.result_file.specs.Spelling.{text_of};
+ghost use Rattle.result_records.specs.declared.record.Record.{Record};
+ghost use Rattle.result_records.specs.Spelling.{text_of};
 ghost use Rattle.result_file.specs.Accepted.{IsAccepted};
 ghost use Rattle.ranked_diag.specs.PartialLog.{ArePartial};
 ghost use Rattle.dia_commands.specs.declared.ending.FileKind.TheVariants as file;
@@ -13,7 +13,7 @@ ghost use Rattle.dia_commands.specs.Suspects.{IsLogAt, IsRefusedAt};
 use crate::ending::RunFault;
 use crate::logs::read_partial_log;
 use diag_shelf::Shelf;
-use net_model::Circuit;
+use fault_collapse::Subject;
 use ranked_diag::Partial;
 use result_file::Checked;
 use std::alloc::Global;
@@ -23,16 +23,16 @@ use std::alloc::Global;
 pub(crate) fn read_log_at<S: Shelf>(
     alloc: Global,
     shelf: &mut S,
-    circuit: &Circuit,
+    subject: &Subject,
     checked: &Checked,
     name: &str,
 ) -> Result<Partial, RunFault>
-    requires { IsTableOf circuit.now checked.now.patterns checked.now.classes }
-    ensures lines { IfOk result (ArePartial (length checked.now.patterns) (length circuit.now.positions)) }
-    ensures ok { IfOk result (λ partial. (records : List Record) → IsAccepted circuit.now records checked.now → WasAccepted name.now (IsLogAt circuit.now (text_of records)) partial (S.state shelf.old) (S.state shelf.new)) }
-    ensures err { IfErr result (λ why. (records : List Record) → IsAccepted circuit.now records checked.now → IsOver name.now file.Log (IsRefusedAt circuit.now (text_of records)) why (S.state shelf.old) (S.state shelf.new)) }
+    requires { IsTableOf subject.now checked.now.patterns checked.now.classes }
+    ensures lines { IfOk result (ArePartial (length checked.now.patterns) (length subject.now.positions)) }
+    ensures ok { IfOk result (λ partial. (records : List Record) → IsAccepted subject.now records checked.now → WasAccepted name.now (IsLogAt subject.now (text_of records)) partial (S.state shelf.old) (S.state shelf.new)) }
+    ensures err { IfErr result (λ why. (records : List Record) → IsAccepted subject.now records checked.now → IsOver name.now file.Log (IsRefusedAt subject.now (text_of records)) why (S.state shelf.old) (S.state shelf.new)) }
 {
     let patterns = checked.classes.patterns();
-    let positions = circuit.positions().len() as u32;
+    let positions = subject.circuit().positions().len() as u32;
     read_partial_log(alloc, shelf, patterns, positions, name)
 }

@@ -1,10 +1,10 @@
 //! The command `adapt`: from the bytes of a netlist and a result to an adaptive plan.
 
-ghost use Rattle.std.specs.Prelude.{◌≡◌, ◌<◌, ℕ, List, All, IfOk, Some, length, string_bytes};
-ghost use Rattle.net_model.specs.PatternRows.{IsTableOf};
+ghost use Rattle.std.specs.Prelude.{◌≡◌, ◌<◌, ℕ, List, IfOk, Some, string_bytes};
 ghost use Rattle.adaptive_tree.specs.PlanNode.{HasNode, ask_count, depth_of};
 ghost use Rattle.adaptive_tree.specs.PlanText.{plan_text};
 ghost use Rattle.adaptive_tree.specs.WellFormed.{IsWellFormed};
+ghost use Rattle.table_dicts.specs.Setting.{IsSetting};
 ghost use Rattle.request_words.specs.Request.{adapt};
 ghost use Rattle.dia_commands.specs.AdaptivePlans.{IsPlanOf, IsPlanFileOf, IsMadePlan};
 ghost use Rattle.dia_commands.specs.Plans.{makes_file, with_result};
@@ -14,14 +14,11 @@ ghost use Rattle.dia_commands.specs.Texts.{plan_counts_text};
 use crate::ending::RunFault;
 use crate::ends::save;
 use crate::netlists::read_design;
-use crate::results::read_result;
+use crate::results::{read_result, setting_of};
 use crate::texts::plan_counts_text;
 use adaptive_tree::{Plan, plan_at, plan_of_a_table_is_good, write_plan};
-use class_refine::Classes;
 use diag_shelf::Shelf;
-use fault_list::list;
-use net_model::{Circuit, Vectors};
-use result_file::Checked;
+use fault_collapse::Subject;
 use std::alloc::{AllocError, Global};
 use table_dicts::Setting;
 
@@ -37,21 +34,23 @@ pub fn make_plan<S: Shelf>(
     ensures { Ran (Some (adapt bench.now results.now output.now)) result (S.state shelf.old) (S.state shelf.new) }
 {
     let design = read_design(alloc, shelf, bench)?;
-    make_for(alloc, shelf, &design.circuit, results, output)
+    let subject = Subject::new(alloc, &design.circuit)?;
+    make_for(alloc, shelf, &subject, results, output)
 }
 
 // Reads and judges the result for a circuit, and writes the plan for its classes.
 fn make_for<S: Shelf>(
     alloc: Global,
     shelf: &mut S,
-    circuit: &Circuit,
+    subject: &Subject,
     results: &str,
     output: &str,
 ) -> Result<(), RunFault>
-    ensures { (bench : List ℕ) → RanOn (adapt bench results.now output.now) (with_result results.now circuit.now (λ (file : List ℕ). makes_file output.now (IsMadePlan circuit.now file))) result (S.state shelf.old) (S.state shelf.new) }
+    ensures { (bench : List ℕ) → RanOn (adapt bench results.now output.now) (with_result results.now subject.now (λ (file : List ℕ). makes_file output.now (IsMadePlan subject.now file))) result (S.state shelf.old) (S.state shelf.new) }
 {
-    let checked = read_result(alloc, shelf, circuit, results)?;
-    let made = made_of(alloc, circuit, &checked)?;
+    let checked = read_result(alloc, shelf, subject, results)?;
+    let setting = setting_of(subject, &checked);
+    let made = made_of(alloc, &setting)?;
     save(shelf, output, &made.file, made.text.as_bytes())
 }
 
@@ -62,39 +61,24 @@ struct Made {
     text: String,
 }
 
-// The plan for the classes of a result that was checked.
-fn made_of(alloc: Global, circuit: &Circuit, checked: &Checked) -> Result<Made, AllocError>
-    requires widths { All (λ v. length v ≡ circuit.now.sources) checked.now.patterns }
-    requires table { IsTableOf circuit.now checked.now.patterns checked.now.classes }
-    ensures { IfOk result (λ made. IsPlanFileOf circuit.now checked.now.patterns checked.now.classes made.file.items (string_bytes made.text)) }
+// The plan's file, and what is printed of it.
+fn made_of(alloc: Global, setting: &Setting) -> Result<Made, AllocError>
+    requires { IsSetting setting.now }
+    ensures { IfOk result (λ made. IsPlanFileOf setting.now.circuit.now setting.now.patterns.now setting.now.classes.now made.file.items (string_bytes made.text)) }
 {
-    let plan = plan_for(alloc, circuit, &checked.patterns, &checked.classes)?;
+    let plan = plan_for(alloc, setting)?;
     let made = spelled(alloc, &plan)?;
     Ok(made)
 }
 
 // The plan for the classes of the patterns.
-fn plan_for(
-    alloc: Global,
-    circuit: &Circuit,
-    patterns: &Vectors,
-    classes: &Classes,
-) -> Result<Plan, AllocError>
-    requires widths { All (λ v. length v ≡ circuit.now.sources) patterns.now }
-    requires table { IsTableOf circuit.now patterns.now classes.now }
-    ensures { IfOk result (IsPlanOf circuit.now patterns.now classes.now) }
+fn plan_for(alloc: Global, setting: &Setting) -> Result<Plan, AllocError>
+    requires { IsSetting setting.now }
+    ensures { IfOk result (IsPlanOf setting.now.circuit.now setting.now.patterns.now setting.now.classes.now) }
 {
-    // That the plan leads faults home and that there are few patterns is known by these.
+    // That the plan leads faults home is known by this.
     plan_of_a_table_is_good();
-    let _patterns = classes.patterns();
-    let faults = list(alloc, circuit)?;
-    let setting = Setting {
-        circuit,
-        faults: &faults,
-        patterns,
-        classes,
-    };
-    let plan = plan_at(alloc, &setting)?;
+    let plan = plan_at(alloc, setting)?;
     Ok(plan)
 }
 

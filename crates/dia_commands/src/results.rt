@@ -1,10 +1,11 @@
-//! From a result's name to what it states, and to its bytes, or to the end of the run.
+//! From a result's name to what it states, and to its bytes, or to the end of the run; and the setting that it states.
 
-ghost use Rattle.std.specs.Prelude.{List, Err, IfErr, IfOk};
-ghost use Rattle.result_file.specs.declared.record.Record.{Record};
-ghost use Rattle.result_file.specs.Spelling.{text_of};
-ghost use Rattle.result_file.specs.Accepted.{IsAccepted};
-ghost use Rattle.result_file.specs.Accepted.{IsAcceptedText};
+ghost use Rattle.std.specs.Prelude.{◌≡◌, List, All, Err, IfErr, IfOk, length};
+ghost use Rattle.net_model.specs.PatternRows.{IsTableOf};
+ghost use Rattle.result_records.specs.declared.record.Record.{Record};
+ghost use Rattle.result_records.specs.Spelling.{text_of};
+ghost use Rattle.result_file.specs.Accepted.{IsAccepted, IsAcceptedText};
+ghost use Rattle.table_dicts.specs.Setting.{IsSetting};
 ghost use Rattle.dia_commands.specs.declared.ending.FileKind.TheVariants as kind;
 ghost use Rattle.dia_commands.specs.Ending.{refused};
 ghost use Rattle.dia_commands.specs.Outcome.{said, IsPartOf};
@@ -16,24 +17,25 @@ ghost use Rattle.dia_commands.specs.Texts.{result_text};
 use crate::ending::{FileKind, RunFault};
 use crate::ends::{read_fault, read_file, refuse_by};
 use crate::texts::result_text;
-use dia_check::{FileFault, check, check_text};
+use dia_check::{FileFault, check_subject, check_subject_text};
 use diag_shelf::Shelf;
-use net_model::Circuit;
+use fault_collapse::Subject;
 use result_file::{Checked, ResultFault};
 use std::alloc::Global;
+use table_dicts::Setting;
 
 /// Reads and judges the result under a name. Where it isn't valid, the console says why, and the run is over.
 pub(crate) fn read_result<S: Shelf>(
     alloc: Global,
     shelf: &mut S,
-    circuit: &Circuit,
+    subject: &Subject,
     name: &str,
 ) -> Result<Checked, RunFault>
-    ensures ok { IfOk result (λ checked. (records : List Record) × IsAccepted circuit.now records checked × WasAccepted name.now (IsResult circuit.now) (text_of records) (S.state shelf.old) (S.state shelf.new)) }
-    ensures err { IfErr result (λ why. IsOver name.now kind.Result (IsRefusedResult circuit.now) why (S.state shelf.old) (S.state shelf.new)) }
+    ensures ok { IfOk result (λ checked. (records : List Record) × IsAccepted subject.now records checked × WasAccepted name.now (IsResult subject.now) (text_of records) (S.state shelf.old) (S.state shelf.new)) }
+    ensures err { IfErr result (λ why. IsOver name.now kind.Result (IsRefusedResult subject.now) why (S.state shelf.old) (S.state shelf.new)) }
 {
     shelf.open_file(name).map_err(read_fault)?;
-    match check(alloc, circuit, shelf) {
+    match check_subject(alloc, subject, shelf) {
         Ok(checked) => Ok(checked),
         Err(FileFault::Result(fault)) => Err(say_refusal(alloc, shelf, fault)),
         Err(FileFault::Failed) => Err(RunFault::ReadFailed),
@@ -55,19 +57,38 @@ pub(crate) struct WholeResult {
 pub(crate) fn read_whole_result<S: Shelf>(
     alloc: Global,
     shelf: &mut S,
-    circuit: &Circuit,
+    subject: &Subject,
     name: &str,
 ) -> Result<WholeResult, RunFault>
-    ensures accepted { IfOk result (λ whole. IsAcceptedText circuit.now whole.bytes.items whole.checked) }
-    ensures ok { IfOk result (λ whole. WasAccepted name.now (IsResult circuit.now) whole.bytes.items (S.state shelf.old) (S.state shelf.new)) }
-    ensures err { IfErr result (λ why. IsOver name.now kind.Result (IsRefusedResult circuit.now) why (S.state shelf.old) (S.state shelf.new)) }
+    ensures accepted { IfOk result (λ whole. IsAcceptedText subject.now whole.bytes.items whole.checked) }
+    ensures ok { IfOk result (λ whole. WasAccepted name.now (IsResult subject.now) whole.bytes.items (S.state shelf.old) (S.state shelf.new)) }
+    ensures err { IfErr result (λ why. IsOver name.now kind.Result (IsRefusedResult subject.now) why (S.state shelf.old) (S.state shelf.new)) }
 {
     let bytes = read_file(alloc, shelf, name, RESULT_LIMIT)?;
-    match check_text(alloc, circuit, &bytes) {
+    match check_subject_text(alloc, subject, &bytes) {
         Ok(checked) => Ok(WholeResult { bytes, checked }),
         Err(FileFault::Result(fault)) => Err(say_refusal(alloc, shelf, fault)),
         Err(FileFault::Failed) => unreachable!(),
         Err(FileFault::NoMemory) => Err(RunFault::NoMemory),
+    }
+}
+
+/// The setting of a result that was checked: the subject's circuit, and the result's patterns with their classes.
+pub(crate) fn setting_of<'a>(subject: &'a Subject<'a>, checked: &'a Checked) -> Setting<'a>
+    requires widths { All (λ v. length v ≡ subject.now.sources) checked.now.patterns }
+    requires table { IsTableOf subject.now checked.now.patterns checked.now.classes }
+    ensures setting { IsSetting result }
+    ensures circuit { result.circuit.now ≡ subject.now }
+    ensures patterns { result.patterns.now ≡ checked.now.patterns }
+    ensures classes { result.classes.now ≡ checked.now.classes }
+{
+    // That there are few patterns is known by this.
+    let _patterns = checked.classes.patterns();
+    Setting {
+        circuit: subject.circuit(),
+        faults: subject.listed(),
+        patterns: &checked.patterns,
+        classes: &checked.classes,
     }
 }
 

@@ -15,7 +15,7 @@ use crate::ends::say;
 use crate::logs::read_list;
 use crate::netlists::read_design;
 use diag_shelf::Shelf;
-use fault_list::list;
+use fault_collapse::Subject;
 use net_model::{Circuit, Vector};
 use sim_listing::{VectorTexts, root_places};
 use std::alloc::Global;
@@ -57,9 +57,9 @@ fn print_simulation<S: Shelf>(
     ensures { (text : List ℕ) × IsSimText circuit.now vectors.now text × Ends (said done text) (IsPartOf (said done text)) result (S.state shelf.old) (S.state shelf.new) }
 {
     let _ = circuit.sources();
-    let faults = list(alloc, circuit)?;
-    let roots = root_places(alloc, circuit, &faults)?;
-    let mut texts = VectorTexts::new(alloc, circuit, &faults, &roots, vectors)?;
+    let subject = Subject::new(alloc, circuit)?;
+    let roots = root_places(alloc, &subject)?;
+    let mut texts = VectorTexts::new(alloc, &subject, &roots, vectors)?;
     for number in 0..vectors.len() {
         print_vector(alloc, shelf, &mut texts, number)?;
     }

@@ -2,10 +2,11 @@
 
 ghost use Rattle.std.specs.Prelude.{◌≡◌, ◌++◌, ℕ, List, All, IfOk, OnOk, Some, flat_map, length, string_bytes};
 ghost use Rattle.net_model.specs.PatternRows.{IsTableOf};
-ghost use Rattle.result_file.specs.declared.record.Record.{Record};
-ghost use Rattle.result_file.specs.Spelling.{text_of};
+ghost use Rattle.result_records.specs.declared.record.Record.{Record};
+ghost use Rattle.result_records.specs.Spelling.{text_of};
 ghost use Rattle.result_file.specs.Accepted.{IsAccepted};
 ghost use Rattle.ranked_diag.specs.PartialLog.{Line, ArePartial};
+ghost use Rattle.table_dicts.specs.Setting.{IsSetting};
 ghost use Rattle.request_words.specs.Request.{suspects};
 ghost use Rattle.dia_commands.specs.Plans.{says, with_log_at, with_result};
 ghost use Rattle.dia_commands.specs.Ran.{Ran, RanOn};
@@ -16,11 +17,10 @@ use crate::ending::RunFault;
 use crate::ends::say;
 use crate::log_reads::read_log_at;
 use crate::netlists::read_design;
-use crate::results::read_result;
+use crate::results::{read_result, setting_of};
 use crate::texts::{push_suspect, push_suspects_end};
 use diag_shelf::Shelf;
-use fault_list::list;
-use net_model::Circuit;
+use fault_collapse::Subject;
 use ranked_diag::Partial;
 use result_file::Checked;
 use std::alloc::{AllocError, Global};
@@ -43,70 +43,62 @@ pub fn list_suspects<S: Shelf>(
     ensures { Ran (Some (suspects bench.now results.now log.now most)) result (S.state shelf.old) (S.state shelf.new) }
 {
     let design = read_design(alloc, shelf, bench)?;
-    suspects_for(alloc, shelf, &design.circuit, results, log, most)
+    let subject = Subject::new(alloc, &design.circuit)?;
+    suspects_for(alloc, shelf, &subject, results, log, most)
 }
 
 // Reads and judges the result for a circuit and then the log, and prints the suspects.
 fn suspects_for<S: Shelf>(
     alloc: Global,
     shelf: &mut S,
-    circuit: &Circuit,
+    subject: &Subject,
     results: &str,
     log: &str,
     most: u32,
 ) -> Result<(), RunFault>
-    ensures { (bench : List ℕ) → RanOn (suspects bench results.now log.now most) (with_result results.now circuit.now (λ (file : List ℕ). with_log_at log.now circuit.now file (λ (lines : List Line). says (IsSuspectsText circuit.now file lines most)))) result (S.state shelf.old) (S.state shelf.new) }
+    ensures { (bench : List ℕ) → RanOn (suspects bench results.now log.now most) (with_result results.now subject.now (λ (file : List ℕ). with_log_at log.now subject.now file (λ (lines : List Line). says (IsSuspectsText subject.now file lines most)))) result (S.state shelf.old) (S.state shelf.new) }
 {
-    let checked = read_result(alloc, shelf, circuit, results)?;
-    suspects_at(alloc, shelf, circuit, &checked, log, most)
+    let checked = read_result(alloc, shelf, subject, results)?;
+    suspects_at(alloc, shelf, subject, &checked, log, most)
 }
 
 // Reads and judges the log for a result that was checked, and prints the suspects.
 fn suspects_at<S: Shelf>(
     alloc: Global,
     shelf: &mut S,
-    circuit: &Circuit,
+    subject: &Subject,
     checked: &Checked,
     log: &str,
     most: u32,
 ) -> Result<(), RunFault>
-    requires widths { All (λ v. length v ≡ circuit.now.sources) checked.now.patterns }
-    requires table { IsTableOf circuit.now checked.now.patterns checked.now.classes }
-    ensures { (bench results : List ℕ) (records : List Record) → IsAccepted circuit.now records checked.now → RanOn (suspects bench results log.now most) (with_log_at log.now circuit.now (text_of records) (λ (lines : List Line). says (IsSuspectsText circuit.now (text_of records) lines most))) result (S.state shelf.old) (S.state shelf.new) }
+    requires widths { All (λ v. length v ≡ subject.now.sources) checked.now.patterns }
+    requires table { IsTableOf subject.now checked.now.patterns checked.now.classes }
+    ensures { (bench results : List ℕ) (records : List Record) → IsAccepted subject.now records checked.now → RanOn (suspects bench results log.now most) (with_log_at log.now subject.now (text_of records) (λ (lines : List Line). says (IsSuspectsText subject.now (text_of records) lines most))) result (S.state shelf.old) (S.state shelf.new) }
 {
-    let partial = read_log_at(alloc, shelf, circuit, checked, log)?;
-    let text = text_at(alloc, circuit, checked, &partial, most)?;
+    let partial = read_log_at(alloc, shelf, subject, checked, log)?;
+    let setting = setting_of(subject, checked);
+    let text = text_at(alloc, &setting, &partial, most)?;
     say(shelf, text.as_bytes())
 }
 
 // The text of the suspects of a log, for a result that was checked.
 fn text_at(
     alloc: Global,
-    circuit: &Circuit,
-    checked: &Checked,
+    setting: &Setting,
     partial: &Partial,
     most: u32,
 ) -> Result<String, AllocError>
-    requires widths { All (λ v. length v ≡ circuit.now.sources) checked.now.patterns }
-    requires table { IsTableOf circuit.now checked.now.patterns checked.now.classes }
-    requires partial { ArePartial (length checked.now.patterns) (length circuit.now.positions) partial.now }
-    ensures { IfOk result (λ text. AreSuspectsOf circuit.now checked.now.patterns checked.now.classes partial.now most (string_bytes text)) }
+    requires setting { IsSetting setting.now }
+    requires partial { ArePartial (length setting.now.patterns.now) (length setting.now.circuit.now.positions) partial.now }
+    ensures { IfOk result (λ text. AreSuspectsOf setting.now.circuit.now setting.now.patterns.now setting.now.classes.now partial.now most (string_bytes text)) }
 {
     // What holds of all members of a class and of the log of one fault is known by these.
     circuits_are_classed();
     members_score_alike();
     one_list_of_suspects();
-    let _patterns = checked.classes.patterns();
-    let _sources = circuit.sources();
-    let faults = list(alloc, circuit)?;
-    let setting = Setting {
-        circuit,
-        faults: &faults,
-        patterns: &checked.patterns,
-        classes: &checked.classes,
-    };
-    let listed = suspects(alloc, &setting, partial, most)?;
-    let failing = count_failing(alloc, &setting, partial)?;
+    let _sources = setting.circuit.sources();
+    let listed = suspects(alloc, setting, partial, most)?;
+    let failing = count_failing(alloc, setting, partial)?;
     let text = suspects_text(alloc, &listed, failing, partial.len())?;
     Ok(text)
 }

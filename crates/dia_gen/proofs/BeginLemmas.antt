@@ -2,11 +2,12 @@
 use Rattle.std.proofs.Common.{◌∙◌, ◌++◌, [], Ok, Err, map, refl, sym, ap, subst, arith}
 use Rattle.diag_shelf.specs.World.{State}
 use Rattle.diag_shelf.specs.declared.shelf.ShelfFault.{ShelfFault}
-use Rattle.result_file.specs.declared.record.Record.TheVariants.{Pattern}
-use Rattle.result_file.specs.Spelling.{Text, text_of}
+use Rattle.result_records.specs.declared.record.Record.TheVariants.{Pattern}
+use Rattle.text_fields.specs.Fields.{Text}
+use Rattle.result_records.specs.Spelling.{text_of}
 use Rattle.result_file.specs.Valid.{AreRightLines}
 use Rattle.result_file.proofs.RightLines.{right_head}
-use Rattle.result_file.proofs.RecordLists.{text-append}
+use Rattle.result_records.proofs.RecordLists.{text-append}
 use Rattle.dia_gen.specs.Made.{head_lines}
 use Rattle.dia_gen.specs.Writing.{HasGathered, Gathers, BrokeOff}
 use Rattle.dia_gen.proofs.WritingLemmas.{none_gathered, gathered_then, broken}

@@ -11,21 +11,21 @@ use Rattle.net_model.specs.Circuit.{Circuit}
 use Rattle.net_model.specs.FaultList.{fault_count, fault_numbered}
 use Rattle.net_model.specs.ClassTable.{ClassTable, class_at, representative}
 use Rattle.net_model.specs.PatternRows.{IsTableOf, SplitsClass}
-use Rattle.result_file.specs.declared.record.Budgets.{Budgets}
-use Rattle.result_file.specs.declared.record.Evidence.{Evidence}
-use Rattle.result_file.specs.declared.record.Record.{Record}
-use Rattle.result_file.specs.declared.record.Record.TheVariants.{Head, Budget, Pattern, Same, Class, Member, End}
-use Rattle.result_file.specs.Marks.{pattern_of, evidence_of, patterns_in, evidence_in, is_class, class_lines, next_member}
-use Rattle.result_file.specs.Lines.{AreWithinLimits}
+use Rattle.result_records.specs.declared.record.Budgets.{Budgets}
+use Rattle.result_records.specs.declared.record.Evidence.{Evidence}
+use Rattle.result_records.specs.declared.record.Record.{Record}
+use Rattle.result_records.specs.declared.record.Record.TheVariants.{Head, Budget, Pattern, Same, Class, Member, End}
+use Rattle.result_records.specs.Marks.{pattern_of, evidence_of, patterns_in, evidence_in, is_class, class_lines, next_member}
+use Rattle.result_records.specs.Limits.{AreWithinLimits}
 use Rattle.result_file.specs.Meaning.{is_body_record}
-use Rattle.result_file.proofs.RecordLists.{read_all, read_none, count_kept}
+use Rattle.result_records.proofs.RecordLists.{read_all, read_none, count_kept}
 use Rattle.result_file.proofs.RightLines.{IsNextLine, right_next, right_head, right_patterns}
 use Rattle.kept_vectors.specs.Kept.{SplitInTurn}
 use Rattle.dia_gen.specs.Settled.{IsApartBy, IsProofFor}
 use Rattle.dia_gen.specs.declared.draft.Draft.{Draft}
 use Rattle.dia_gen.specs.GenerationSetting.{GenerationSetting}
 use Rattle.dia_gen.specs.Draft.{AreDraftLines, IsDrafted}
-use Rattle.result_file.specs.Spelling.{Text}
+use Rattle.text_fields.specs.Fields.{Text}
 use Rattle.dia_gen.specs.Made.{head_lines, lines_with, SeparatesNext, HasNoSearch, HasNoRefutation}
 
 -- what waits is no part of what the lines are made from

@@ -14,18 +14,18 @@ use Rattle.net_model.specs.PatternRows.{IsTableOf}
 use Rattle.class_refine.specs.Fields.{IsWhole}
 use Rattle.class_refine.specs.Laws.{NamedSeparatesFaults}
 use Rattle.class_refine.proofs.Refined.{few_classes}
-use Rattle.result_file.specs.declared.record.Budgets.{Budgets}
-use Rattle.result_file.specs.declared.record.Evidence.{Evidence}
-use Rattle.result_file.specs.declared.record.Mark.{Mark}
-use Rattle.result_file.specs.declared.record.Mark.TheVariants.{Rep}
-use Rattle.result_file.specs.declared.record.Record.{Record}
-use Rattle.result_file.specs.declared.record.Record.TheVariants.{Pattern, Same, Class, Member, End}
-use Rattle.result_file.specs.Spelling.{HasBirthSpelling}
-use Rattle.result_file.specs.Marks.{pattern_of, evidence_of, patterns_in, evidence_in, is_class, is_member, is_end, class_lines, member_lines}
+use Rattle.result_records.specs.declared.record.Budgets.{Budgets}
+use Rattle.result_records.specs.declared.record.Evidence.{Evidence}
+use Rattle.result_records.specs.declared.record.Mark.{Mark}
+use Rattle.result_records.specs.declared.record.Mark.TheVariants.{Rep}
+use Rattle.result_records.specs.declared.record.Record.{Record}
+use Rattle.result_records.specs.declared.record.Record.TheVariants.{Pattern, Same, Class, Member, End}
+use Rattle.result_records.specs.Spelling.{HasBirthSpelling}
+use Rattle.result_records.specs.Marks.{pattern_of, evidence_of, patterns_in, evidence_in, is_class, is_member, is_end, class_lines, member_lines}
 use Rattle.result_file.specs.Valid.{AreRightLines, IsValid}
 use Rattle.result_file.specs.Summary.{is_equal, is_open, summary_of}
 use Rattle.result_file.specs.Meaning.{StatedResult, stated_records, class_records, member_records, is_body_record, IsTrueResult}
-use Rattle.result_file.proofs.RecordLists.{read_none, read_all, read_kept, count_kept, count_more}
+use Rattle.result_records.proofs.RecordLists.{read_none, read_all, read_kept, count_kept, count_more}
 use Rattle.result_file.proofs.RightLines.{IsBody, HasSmallClasses, AreMembers, right_table}
 use Rattle.result_file.proofs.SoundLemmas.{first_by, later_by}
 use Rattle.result_file.proofs.Truth.{AreSound, IsSoundTable, lines_true}

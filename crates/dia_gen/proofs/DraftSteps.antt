@@ -11,14 +11,15 @@ use Rattle.net_model.specs.Circuit.{Circuit}
 use Rattle.net_model.specs.FaultList.{fault_count, fault_numbered}
 use Rattle.net_model.specs.ClassTable.{class_at, class_count, representative}
 use Rattle.class_refine.proofs.Refined.{representative-member}
-use Rattle.result_file.specs.declared.record.Evidence.{Evidence}
-use Rattle.result_file.specs.declared.record.Proof.{Proof}
-use Rattle.result_file.specs.declared.record.Record.{Record}
-use Rattle.result_file.specs.declared.record.Record.TheVariants.{Pattern, Same}
-use Rattle.result_file.specs.Marks.{pattern_of, evidence_of, patterns_in, evidence_in, mark_of}
-use Rattle.result_file.specs.Spelling.{Text, text_of}
+use Rattle.result_records.specs.declared.record.Evidence.{Evidence}
+use Rattle.result_records.specs.declared.record.Proof.{Proof}
+use Rattle.result_records.specs.declared.record.Record.{Record}
+use Rattle.result_records.specs.declared.record.Record.TheVariants.{Pattern, Same}
+use Rattle.result_records.specs.Marks.{pattern_of, evidence_of, patterns_in, evidence_in, mark_of}
+use Rattle.text_fields.specs.Fields.{Text}
+use Rattle.result_records.specs.Spelling.{text_of}
 use Rattle.result_file.specs.Valid.{AreRightLines}
-use Rattle.result_file.proofs.RecordLists.{text-append}
+use Rattle.result_records.proofs.RecordLists.{text-append}
 use Rattle.kept_vectors.specs.Kept.{Keeps}
 use Rattle.kept_vectors.specs.Keeper.{Keeper}
 use Rattle.class_refine.proofs.PatternTables.{table_numbers}

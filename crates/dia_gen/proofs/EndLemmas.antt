@@ -5,16 +5,17 @@ use Rattle.diag_shelf.specs.World.{State}
 use Rattle.diag_shelf.specs.declared.shelf.ShelfFault.{ShelfFault}
 use Rattle.net_model.specs.ClassTable.{ClassTable, class_count, number_range}
 use Rattle.class_refine.specs.Laws.{NamedSeparatesFaults}
-use Rattle.result_file.specs.declared.record.Record.{Record}
-use Rattle.result_file.specs.declared.record.Record.TheVariants.{End}
-use Rattle.result_file.specs.declared.record.Summary.{Summary}
-use Rattle.result_file.specs.Spelling.{Text, text_of}
+use Rattle.result_records.specs.declared.record.Record.{Record}
+use Rattle.result_records.specs.declared.record.Record.TheVariants.{End}
+use Rattle.result_file.specs.declared.checked.Summary.{Summary}
+use Rattle.text_fields.specs.Fields.{Text}
+use Rattle.result_records.specs.Spelling.{text_of}
 use Rattle.result_file.specs.Valid.{AreRightLines}
 use Rattle.result_file.specs.Meaning.{class_records, member_records}
 use Rattle.result_file.proofs.Truth.{AreSound}
-use Rattle.result_file.proofs.RecordLists.{text-append}
+use Rattle.result_records.proofs.RecordLists.{text-append}
 use Rattle.dia_gen.specs.declared.draft.Draft.{Draft}
-use Rattle.dia_gen.specs.declared.counts.Marked.{Marked}
+use Rattle.member_marks.specs.declared.counts.MarkCounts.{MarkCounts}
 use Rattle.dia_gen.specs.GenerationSetting.{GenerationSetting}
 use Rattle.member_marks.specs.Given.{AreAllMarked}
 use Rattle.dia_gen.specs.Marked.{member_for, AreMarkedBelow}
@@ -25,7 +26,7 @@ use Rattle.dia_gen.proofs.WritingLemmas.{gathered_then, broken, stopped}
 use Rattle.dia_gen.proofs.DraftResult.{stated, result_right, result_valid, result_true, result_summary}
 
 -- what the table and the counts of marks amount to
-abbrev pub summary_with : ClassTable → Marked → Summary
+abbrev pub summary_with : ClassTable → MarkCounts → Summary
 summary_with t marked = record { numbers = length t.class_of; patterns = t.patterns; classes = class_count t; equal = marked.equal; spent = marked.spent }
 
 -- more lines came
@@ -68,7 +69,7 @@ module _ {s : GenerationSetting} {d : Draft} {start now : State} (draft : IsDraf
   pub last_broken : {fault : ShelfFault} {wait after : Text} {mid later : State} → HasGathered (text_of (lines ++ classes ++ members ++ End ∷ [])) [] wait start mid → Gathers [] (Err fault) wait after mid later → BrokeOff s.circuit fault start later
   last_broken h w = stopped (lines ++ classes ++ members ++ End ∷ []) whole_right h w
 
-  module _ (sound : AreSound s.circuit) (marked : Marked) (counted : AreMarkedBelow t d.marks (length t.class_of) marked) where
+  module _ (sound : AreSound s.circuit) (marked : MarkCounts) (counted : AreMarkedBelow t d.marks (length t.class_of) marked) where
     pub whole_made : NamedSeparatesFaults
         → IsMade s.circuit s.budgets (summary_with t marked) (text_of (lines ++ classes ++ members ++ End ∷ []))
     whole_made named = record {

@@ -7,8 +7,8 @@ use Rattle.net_model.specs.ClassTable.{ClassTable, class_at, members, representa
 use Rattle.class_refine.specs.Fields.{IsWhole}
 use Rattle.class_refine.proofs.Pieces.{members-contains, members_ascend, representative_lowest}
 use Rattle.class_refine.proofs.Refined.{representative-member}
-use Rattle.result_file.specs.declared.record.Mark.{Mark}
-use Rattle.result_file.specs.declared.record.Mark.TheVariants.{Rep}
+use Rattle.result_records.specs.declared.record.Mark.{Mark}
+use Rattle.result_records.specs.declared.record.Mark.TheVariants.{Rep}
 use Rattle.member_marks.specs.declared.marks.Given.{Given}
 use Rattle.member_marks.specs.Given.{given_mark, given_to}
 

@@ -15,7 +15,8 @@ use Rattle.pair_miter.specs.Resolution.{resolvent, can_resolve, clause_after_ste
 use Rattle.pair_miter.proofs.SameLiterals.{from_has}
 use Rattle.pair_miter.proofs.EndVariables.{chain_within}
 use Rattle.pair_miter.proofs.LogEnds.{parts_of}
-use Rattle.result_file.specs.Spelling.{IsNumber, IsLiteral, HasStepSpelling, HasLiteralSpelling, HasChainSpelling}
+use Rattle.text_fields.specs.Fields.{IsNumber}
+use Rattle.result_records.specs.Spelling.{IsLiteral, HasStepSpelling, HasLiteralSpelling, HasChainSpelling}
 
 module _ (n : ℕ) (small : n < 2 ^ 31) where
   pub literal_spelled : (clause : Clause) (l : Literal) → HasVariablesUpTo n clause → Contains clause l → IsLiteral l

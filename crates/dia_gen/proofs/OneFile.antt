@@ -17,16 +17,17 @@ use Rattle.pair_sets.specs.declared.tree.Token.{Token}
 use Rattle.pair_sets.specs.declared.tree.Token.TheVariants.{Rest}
 use Rattle.pair_sets.specs.Tree.{IsCovering}
 use Rattle.pair_miter.specs.ChainView.{ChainView}
-use Rattle.result_file.specs.declared.record.Budgets.{Budgets}
-use Rattle.result_file.specs.declared.record.Evidence.{Evidence}
-use Rattle.result_file.specs.declared.record.Mark.{Mark}
-use Rattle.result_file.specs.declared.record.Proof.{Proof}
-use Rattle.result_file.specs.declared.record.Proof.TheVariants as proof
-use Rattle.result_file.specs.declared.record.Record.{Record}
-use Rattle.result_file.specs.declared.record.Record.TheVariants.{Head, Budget, Pattern, Same, Class, Member, End}
-use Rattle.result_file.specs.declared.record.Summary.{Summary}
-use Rattle.result_file.specs.Spelling.{Text, text_of}
-use Rattle.result_file.specs.Marks.{pattern_of, patterns_in, is_class, is_end, class_lines, end_lines}
+use Rattle.result_records.specs.declared.record.Budgets.{Budgets}
+use Rattle.result_records.specs.declared.record.Evidence.{Evidence}
+use Rattle.result_records.specs.declared.record.Mark.{Mark}
+use Rattle.result_records.specs.declared.record.Proof.{Proof}
+use Rattle.result_records.specs.declared.record.Proof.TheVariants as proof
+use Rattle.result_records.specs.declared.record.Record.{Record}
+use Rattle.result_records.specs.declared.record.Record.TheVariants.{Head, Budget, Pattern, Same, Class, Member, End}
+use Rattle.result_file.specs.declared.checked.Summary.{Summary}
+use Rattle.text_fields.specs.Fields.{Text}
+use Rattle.result_records.specs.Spelling.{text_of}
+use Rattle.result_records.specs.Marks.{pattern_of, patterns_in, is_class, is_end, class_lines, end_lines}
 use Rattle.result_file.specs.Lines.{budgets_in, IsInPlace, HasRightRoots, IsRightProof, IsRightEvidence, IsRightContent}
 use Rattle.result_file.specs.Valid.{AreRightLines}
 use Rattle.result_file.specs.Summary.{summary_of}

@@ -22,14 +22,14 @@ use Rattle.pair_miter.proofs.Bounds.{few_clauses, few_variables_of}
 use Rattle.distinguish_search.specs.declared.found.Found.TheVariants as found
 use Rattle.distinguish_search.specs.Found.{SeparatesAll}
 use Rattle.learn_solver.specs.Solved.{HasRefutation, HasSpentLog}
-use Rattle.result_file.specs.declared.record.Budgets.{Budgets}
-use Rattle.result_file.specs.declared.record.Proof.TheVariants as proof
-use Rattle.result_file.specs.Lines.{AreWithinLimits}
-use Rattle.result_file.specs.Spelling.{HasTokenSpelling, HasTreeSpelling, IsPlainChain, IsFreshChain}
+use Rattle.result_records.specs.declared.record.Budgets.{Budgets}
+use Rattle.result_records.specs.declared.record.Proof.TheVariants as proof
+use Rattle.result_records.specs.Limits.{AreWithinLimits}
+use Rattle.result_records.specs.Spelling.{HasTokenSpelling, HasTreeSpelling, IsPlainChain, IsFreshChain}
 use Rattle.net_model.specs.Collapse.{root}
 use Rattle.net_model.specs.FaultList.{fault_numbered}
 use Rattle.net_model.proofs.Copies.{All-at}
-use Rattle.result_file.specs.declared.record.Proof.{Proof}
+use Rattle.result_records.specs.declared.record.Proof.{Proof}
 use Rattle.dia_gen.specs.declared.pair.Settled.{Settled}
 use Rattle.dia_gen.specs.declared.pair.Settled.TheVariants.{Apart, By}
 use Rattle.dia_gen.specs.Settled.{AreApartBy, HasRelevant, IsSearched, IsOpenFor, IsProofBy, IsProofFor, IsSettledBy, IsSettledFor}

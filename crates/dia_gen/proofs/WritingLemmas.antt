@@ -9,10 +9,11 @@ use Rattle.diag_shelf.specs.declared.shelf.ShelfFault.{ShelfFault}
 use Rattle.diag_shelf.specs.declared.shelf.ShelfFault.TheVariants.{NoMemory}
 use Rattle.diag_shelf.proofs.Steps.{facts_same, writes_more}
 use Rattle.net_model.specs.Circuit.{Circuit}
-use Rattle.result_file.specs.declared.record.Record.{Record}
-use Rattle.result_file.specs.Spelling.{Text, text_of}
+use Rattle.result_records.specs.declared.record.Record.{Record}
+use Rattle.text_fields.specs.Fields.{Text}
+use Rattle.result_records.specs.Spelling.{text_of}
 use Rattle.result_file.specs.Valid.{AreRightLines}
-use Rattle.result_file.proofs.RecordLists.{text-append}
+use Rattle.result_records.proofs.RecordLists.{text-append}
 use Rattle.result_file.proofs.LineLemmas.{next_text}
 use Rattle.dia_gen.specs.Writing.{HasWritten, HasGathered, Gathers, BrokeOff}
 use Rattle.dia_gen.proofs.Written.{nothing_right, writes_none}

@@ -3,10 +3,10 @@ use Rattle.std.proofs.Common.{◌≡◌, ◌∙◌, ℕ, ◌≤◌, ◌^◌, Lis
 use Rattle.diag_shelf.specs.World.{World, Files, appended}
 use Rattle.diag_shelf.specs.Calls.{Writes}
 use Rattle.net_model.specs.Circuit.{Circuit}
-use Rattle.result_file.specs.declared.record.Budgets.{Budgets}
-use Rattle.result_file.specs.declared.record.Summary.{Summary}
+use Rattle.result_records.specs.declared.record.Budgets.{Budgets}
+use Rattle.result_file.specs.declared.checked.Summary.{Summary}
 use Rattle.net_model.specs.FaultList.{fault_count}
-use Rattle.result_file.specs.declared.record.Record.TheVariants.{End}
+use Rattle.result_records.specs.declared.record.Record.TheVariants.{End}
 use Rattle.result_file.specs.Meaning.{class_records, member_records}
 use Rattle.result_file.specs.Valid.{AreRightLines}
 use Rattle.result_file.proofs.Truth.{AreSound, none_open}

@@ -1,6 +1,6 @@
 -- What a result is made for.
 use Rattle.net_model.specs.Circuit.{Circuit}
-use Rattle.result_file.specs.declared.record.Budgets.{Budgets}
+use Rattle.result_records.specs.declared.record.Budgets.{Budgets}
 
 pub record GenerationSetting : Type 0 where
   pub circuit : Circuit

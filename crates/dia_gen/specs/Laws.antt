@@ -1,9 +1,9 @@
 -- The law of made files.
 use Rattle.std.specs.Prelude.{◌≡◌, ℕ}
 use Rattle.net_model.specs.Circuit.{Circuit, IsCircuit}
-use Rattle.result_file.specs.declared.record.Budgets.{Budgets}
-use Rattle.result_file.specs.declared.record.Summary.{Summary}
-use Rattle.result_file.specs.Spelling.{Text}
+use Rattle.result_records.specs.declared.record.Budgets.{Budgets}
+use Rattle.result_file.specs.declared.checked.Summary.{Summary}
+use Rattle.text_fields.specs.Fields.{Text}
 use Rattle.dia_gen.specs.Made.{IsMade}
 
 -- no cube is tried and no clause is learned

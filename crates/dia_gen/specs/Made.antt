@@ -5,16 +5,17 @@ use Rattle.net_model.specs.Circuit.{Circuit}
 use Rattle.net_model.specs.Answer.{Separates}
 use Rattle.net_model.specs.ClassTable.{ClassTable, representative, class_at}
 use Rattle.net_model.specs.PatternRows.{IsTableOf}
-use Rattle.result_file.specs.declared.record.Budgets.{Budgets}
-use Rattle.result_file.specs.declared.record.Summary.{Summary}
-use Rattle.result_file.specs.declared.record.Record.{Record}
-use Rattle.result_file.specs.declared.record.Record.TheVariants.{Head, Budget, Pattern, Same}
-use Rattle.result_file.specs.declared.record.Evidence.{Evidence}
-use Rattle.result_file.specs.declared.record.Proof.{Proof}
-use Rattle.result_file.specs.declared.record.Proof.TheVariants as proof
+use Rattle.result_records.specs.declared.record.Budgets.{Budgets}
+use Rattle.result_file.specs.declared.checked.Summary.{Summary}
+use Rattle.result_records.specs.declared.record.Record.{Record}
+use Rattle.result_records.specs.declared.record.Record.TheVariants.{Head, Budget, Pattern, Same}
+use Rattle.result_records.specs.declared.record.Evidence.{Evidence}
+use Rattle.result_records.specs.declared.record.Proof.{Proof}
+use Rattle.result_records.specs.declared.record.Proof.TheVariants as proof
 use Rattle.pair_sets.specs.declared.tree.Token.TheVariants.{Rest}
-use Rattle.result_file.specs.Spelling.{Text, text_of}
-use Rattle.result_file.specs.Marks.{patterns_in, evidence_in, next_member}
+use Rattle.text_fields.specs.Fields.{Text}
+use Rattle.result_records.specs.Spelling.{text_of}
+use Rattle.result_records.specs.Marks.{patterns_in, evidence_in, next_member}
 use Rattle.result_file.specs.Summary.{summary_of}
 use Rattle.result_file.specs.Valid.{AreRightLines, IsValid}
 use Rattle.result_file.specs.Meaning.{stated_records, IsTrueFile}

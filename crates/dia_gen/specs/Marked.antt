@@ -2,20 +2,14 @@
 use Rattle.std.specs.Prelude.{◌≡◌, ◌+◌, ◌<◌, ℕ, List, map, length, count_by, Option, unwrap_or, IsSome}
 use Rattle.std.specs.List.{range_with_len}
 use Rattle.net_model.specs.ClassTable.{ClassTable, class_at, class_count}
-use Rattle.result_file.specs.declared.record.Mark.{Mark}
-use Rattle.result_file.specs.declared.record.Mark.TheVariants as mark
-use Rattle.result_file.specs.declared.record.Record.{Record}
+use Rattle.result_records.specs.declared.record.Mark.{Mark}
+use Rattle.result_records.specs.declared.record.Mark.TheVariants as mark
+use Rattle.result_records.specs.declared.record.Record.{Record}
 use Rattle.result_file.specs.Summary.{is_equal, is_open}
 use Rattle.result_file.specs.Meaning.{member_records}
 use Rattle.member_marks.specs.Given.{given_mark}
-use Rattle.dia_gen.specs.declared.counts.Marked.{Marked}
+use Rattle.member_marks.specs.declared.counts.MarkCounts.{MarkCounts}
 use Rattle.member_marks.specs.declared.marks.Given.{Given}
-
--- the counts with one number more
-abbrev pub marked_with : Marked → Mark → Marked
-marked_with marked mark.Rep = marked
-marked_with marked mark.Equal = record marked { equal = marked.equal + 1 }
-marked_with marked mark.Spent = record marked { spent = marked.spent + 1 }
 
 -- the class and the mark of a number
 abbrev pub member_for : ClassTable → List (Option Given) → ℕ → ℕ × Mark
@@ -26,9 +20,9 @@ abbrev pub members_below : ClassTable → List (Option Given) → ℕ → List R
 members_below t given n = member_records (map (member_for t given) (range_with_len 0 n))
 
 -- The counts are those of the numbers below a bound.
-pub record AreMarkedBelow (t : ClassTable) (given : List (Option Given)) (n : ℕ) (marked : Marked) : Type 0 where
-  pub equal : marked.equal ≡ count_by is_equal (members_below t given n)
-  pub spent : marked.spent ≡ count_by is_open (members_below t given n)
+pub record AreMarkedBelow (t : ClassTable) (given : List (Option Given)) (n : ℕ) (counts : MarkCounts) : Type 0 where
+  pub equal : counts.equal ≡ count_by is_equal (members_below t given n)
+  pub spent : counts.spent ≡ count_by is_open (members_below t given n)
 
 -- Each number below a bound is a representative or marked.
 abbrev pub AreMarkedUpTo : ClassTable → List (Option Given) → ℕ → Type 0

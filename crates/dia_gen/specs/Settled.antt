@@ -16,9 +16,9 @@ use Rattle.clause_pool.specs.Clauses.{Clause}
 use Rattle.learn_solver.specs.declared.solved.Solved.{Solved}
 use Rattle.learn_solver.specs.Solved.{IsSolved}
 use Rattle.kept_vectors.specs.Cube.{IsOfCube}
-use Rattle.result_file.specs.declared.record.Budgets.{Budgets}
-use Rattle.result_file.specs.declared.record.Proof.{Proof}
-use Rattle.result_file.specs.Spelling.{HasProofSpelling}
+use Rattle.result_records.specs.declared.record.Budgets.{Budgets}
+use Rattle.result_records.specs.declared.record.Proof.{Proof}
+use Rattle.result_records.specs.Spelling.{HasProofSpelling}
 use Rattle.result_file.specs.Lines.{HasRightRoots, IsRightProof}
 use Rattle.dia_gen.specs.declared.pair.PairSpace.{PairSpace}
 use Rattle.dia_gen.specs.declared.pair.Settled.{Settled}

@@ -5,7 +5,7 @@ use Rattle.diag_shelf.specs.Calls.{SameFacts, Told, OfSome, Writes, IsWriteCall}
 use Rattle.diag_shelf.specs.declared.shelf.ShelfFault.{ShelfFault}
 use Rattle.diag_shelf.specs.declared.shelf.ShelfFault.TheVariants.{Failed}
 use Rattle.net_model.specs.Circuit.{Circuit}
-use Rattle.result_file.specs.Spelling.{Text}
+use Rattle.text_fields.specs.Fields.{Text}
 use Rattle.dia_gen.specs.Made.{IsCutFile}
 
 -- This text was written, and nothing failed.

@@ -2,8 +2,8 @@
 
 ghost use Rattle.std.specs.Prelude.{◌≡◌, ◌∷◌, ◌<◌, [], OnOk, IfOk, length, slice_index_or, None};
 ghost use Rattle.net_model.specs.ClassTable.{class_at, class_count};
-ghost use Rattle.result_file.specs.Spelling.{text_of};
-ghost use Rattle.result_file.specs.declared.record.Record.TheVariants.{Pattern, Class, Member};
+ghost use Rattle.result_records.specs.Spelling.{text_of};
+ghost use Rattle.result_records.specs.declared.record.Record.TheVariants.{Pattern, Class, Member};
 ghost use Rattle.dia_gen.specs.Writing.{Gathers};
 
 use class_refine::Classes;

@@ -3,7 +3,7 @@
 ghost use Rattle.std.specs.Prelude.{◌≡◌, ◌≤◌, ◌^◌, ℕ, List, IfOk, IfErr, OnErr, IsTrue, IsSome, IsErrOf};
 ghost use Rattle.diag_shelf.specs.World.{State};
 ghost use Rattle.diag_shelf.specs.Calls.{IsWriteCall, Told, Writes};
-ghost use Rattle.result_file.specs.Lines.{AreWithinLimits};
+ghost use Rattle.result_records.specs.Limits.{AreWithinLimits};
 ghost use Rattle.member_marks.specs.Given.{AreAllMarked};
 ghost use Rattle.dia_gen.specs.Draft.{IsBegun, IsDraft};
 ghost use Rattle.dia_gen.specs.Made.{IsMade, IsCutFile};
@@ -16,9 +16,7 @@ use crate::writing::{write_classes, write_members};
 use class_refine::named_separates_faults;
 use diag_shelf::{Shelf, ShelfFault};
 use distinguish_search::Levels;
-use fault_collapse::{collapse, same_root_equal};
-use fault_list::list;
-use member_marks::Subject;
+use fault_collapse::{Subject, same_root_equal};
 use net_model::Circuit;
 use pair_sets::{covering_is_equal, full_tree_is_covered, leaves_are_closed};
 use result_file::{Budgets, Record, Summary};
@@ -54,11 +52,9 @@ pub fn generate<S: Shelf>(
     // A sure shelf never fails.
     ensures never { IsTrue (S.state shelf.old).sure → ¬ (IsErrOf result ShelfFault.Failed) }
 {
-    let listed = list(alloc, circuit)?;
-    let forest = collapse(alloc, circuit, &listed)?;
+    let subject = Subject::new(alloc, circuit)?;
     let levels = Levels::new(alloc, circuit)?;
-    let subject = Subject::new(circuit, &listed, &forest);
-    let setting = GenerationSetting::new(subject, &levels, budgets);
+    let setting = GenerationSetting::new(&subject, &levels, budgets);
     write_result(alloc, &setting, shelf)
 }
 

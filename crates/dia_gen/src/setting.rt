@@ -8,12 +8,12 @@ ghost use Rattle.dia_gen.specs.GenerationSetting as spec;
 ghost use Rattle.net_model.specs.FaultList.{fault_count, fault_numbered};
 ghost use Rattle.kept_vectors.specs.Kept.{Keeps, nothing_kept};
 ghost use Rattle.word_sim.specs.Stream.{stream};
-ghost use Rattle.result_file.specs.Lines.{AreWithinLimits};
+ghost use Rattle.result_records.specs.Limits.{AreWithinLimits};
 ghost use Rattle.dia_gen.specs.GenerationSetting.{setting_with};
 
 use distinguish_search::Levels;
+use fault_collapse::Subject;
 use kept_vectors::Keeper;
-use member_marks::Subject;
 use net_model::{Circuit, Fault};
 use result_file::Budgets;
 use std::alloc::{AllocError, Global};
@@ -22,7 +22,7 @@ use std::marker::Model;
 // The circuit with its faults, the levels of its lines, and the budgets.
 #[derive(Drop)]
 pub(crate) struct GenerationSetting<'a> {
-    subject: Subject<'a>,
+    subject: &'a Subject<'a>,
     levels: &'a Levels,
     budgets: Budgets,
 }
@@ -30,19 +30,19 @@ pub(crate) struct GenerationSetting<'a> {
 impl<'a> Model for GenerationSetting<'a> {
     ghost Value = { spec.GenerationSetting };
 
-    ghost view = { λ a. setting_with a.subject a.budgets };
+    ghost view = { λ a. setting_with a.subject.now a.budgets };
 
     ghost invariant = { λ a. AreWithinLimits a.budgets };
 }
 
 impl<'a> GenerationSetting<'a> {
     pub(crate) fn new(
-        subject: Subject<'a>,
+        subject: &'a Subject<'a>,
         levels: &'a Levels,
         budgets: Budgets,
     ) -> GenerationSetting<'a>
         requires { AreWithinLimits budgets }
-        ensures { result ≡ setting_with subject.entry budgets }
+        ensures { result ≡ setting_with subject.now budgets }
     {
         GenerationSetting {
             subject,
@@ -103,7 +103,9 @@ impl<'a> GenerationSetting<'a> {
         ensures circuit { IfOk result (λ keeper. keeper.circuit ≡ self.now.circuit) }
         ensures kept { IfOk result (λ keeper. Keeps self.now.circuit (stream self.now.circuit.sources self.now.budgets.blocks) (nothing_kept (fault_count self.now.circuit)) keeper.kept) }
     {
-        let mut keeper = self.subject.keeper(alloc)?;
+        // That the circuit is one is known by this.
+        let _circuit = self.subject.circuit();
+        let mut keeper = Keeper::new(alloc, self.subject)?;
         keeper.keep_stream(self.budgets.blocks)?;
         Ok(keeper)
     }

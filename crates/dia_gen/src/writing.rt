@@ -3,8 +3,8 @@
 ghost use Rattle.std.specs.Prelude.{◌≡◌, ◌∷◌, ◌<◌, ◌-◌, [], map, length, slice_index_or};
 ghost use Rattle.net_model.specs.ClassTable.{number_range};
 ghost use Rattle.result_file.specs.Meaning.{class_records, member_records};
-ghost use Rattle.result_file.specs.Spelling.{text_of};
-ghost use Rattle.result_file.specs.declared.record.Record.TheVariants.{Pattern};
+ghost use Rattle.result_records.specs.Spelling.{text_of};
+ghost use Rattle.result_records.specs.declared.record.Record.TheVariants.{Pattern};
 ghost use Rattle.member_marks.specs.Given.{AreAllMarked};
 ghost use Rattle.dia_gen.specs.Made.{head_lines};
 ghost use Rattle.dia_gen.specs.Marked.{member_for};

@@ -5,7 +5,8 @@ use Rattle.result_file.specs.Laws.{ValidIsTrue}
 use Rattle.diagnose.specs.Lines.{text_limit}
 use Rattle.adaptive_tree.specs.WellFormed.{IsTextOf}
 use Rattle.adaptive_tree.specs.Laws.{WrittenIsRead}
-use Rattle.request_words.specs.Request.{Text, Request, adapt, follow}
+use Rattle.text_fields.specs.Fields.{Text}
+use Rattle.request_words.specs.Request.{Request, adapt, follow}
 use Rattle.dia_commands.specs.Ending.{Ending}
 use Rattle.dia_commands.specs.Outcome.{Outcome}
 use Rattle.dia_commands.specs.Plans.{plan_of}

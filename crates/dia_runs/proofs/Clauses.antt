@@ -5,14 +5,15 @@ use Rattle.diag_shelf.specs.World.{Files, World, State}
 use Rattle.diag_shelf.proofs.FileMaps.{get_at_insert, get_off_insert}
 use Rattle.net_model.specs.declared.circuit.Design.{Design}
 use Rattle.net_model.specs.Circuit.{Circuit}
-use Rattle.result_file.specs.declared.record.Budgets.{Budgets}
-use Rattle.result_file.specs.declared.record.Record.{Record}
-use Rattle.result_file.specs.Spelling.{text_of}
+use Rattle.result_records.specs.declared.record.Budgets.{Budgets}
+use Rattle.result_records.specs.declared.record.Record.{Record}
+use Rattle.result_records.specs.Spelling.{text_of}
 use Rattle.result_file.specs.Summary.{summary_of}
 use Rattle.result_file.specs.Laws.{ValidIsTrue}
 use Rattle.result_file.specs.Valid.{IsValid}
 use Rattle.dia_gen.proofs.Written.{made_closed}
-use Rattle.request_words.specs.Request.{Text, Request, gen, check, make_dict, convert, diagnose, list_faults, simulate, synth, compact, rank, adapt, follow, expect, suspects, cover}
+use Rattle.text_fields.specs.Fields.{Text}
+use Rattle.request_words.specs.Request.{Request, gen, check, make_dict, convert, diagnose, list_faults, simulate, synth, compact, rank, adapt, follow, expect, suspects, cover}
 use Rattle.synth_netlist.specs.Synth.{synth_text}
 use Rattle.dia_commands.specs.Texts.{valid_text}
 use Rattle.dia_commands.specs.Netlists.{IsDesign}

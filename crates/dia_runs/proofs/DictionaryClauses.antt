@@ -10,7 +10,8 @@ use Rattle.dict_file.specs.Laws.{RefusedIsWrong, OneDictionary}
 use Rattle.dict_file.specs.declared.fault.DictVersion.TheVariants.{Two}
 use Rattle.dict_file.specs.Spelling.{dict_spelling, IsFileOf}
 use Rattle.dict_file.specs.Reading.{IsRefusedBy}
-use Rattle.request_words.specs.Request.{Text, Request, make_dict, convert, diagnose}
+use Rattle.text_fields.specs.Fields.{Text}
+use Rattle.request_words.specs.Request.{Request, make_dict, convert, diagnose}
 use Rattle.dia_commands.specs.Dictionaries.{IsDiagnosis}
 use Rattle.dia_commands.specs.Ending.{Ending}
 use Rattle.dia_commands.specs.Outcome.{Outcome, Leaves, after_made, ConsoleGained}

@@ -17,9 +17,9 @@ use Rattle.class_refine.specs.Fields.{IsWhole}
 use Rattle.class_refine.proofs.Refined.{sound_from, split_adds, whole-first, whole-refined, few_classes}
 use Rattle.class_refine.proofs.PatternTables.{rows_exist, table_numbers}
 use Rattle.kept_vectors.proofs.KeepLemmas.{table_patterns}
-use Rattle.result_file.specs.declared.record.Record.{Record}
-use Rattle.result_file.specs.declared.record.Record.TheVariants.{Head, Budget, Pattern, Same, Class, Member, End}
-use Rattle.result_file.specs.Marks.{pattern_of, patterns_in}
+use Rattle.result_records.specs.declared.record.Record.{Record}
+use Rattle.result_records.specs.declared.record.Record.TheVariants.{Head, Budget, Pattern, Same, Class, Member, End}
+use Rattle.result_records.specs.Marks.{pattern_of, patterns_in}
 use Rattle.result_file.specs.Lines.{IsRightLine}
 use Rattle.result_file.specs.Valid.{record_at, AreRightLines, IsValid}
 

@@ -8,7 +8,8 @@ use Rattle.bench_reader.specs.Netlist.{Netlist}
 use Rattle.bench_reader.specs.Laws.{NeverAcceptedAndRefused, OneNetlist}
 use Rattle.scan_cut.specs.Cut.{cut_circuit, cut_design}
 use Rattle.synth_netlist.proofs.LoopWalks.{walk_first}
-use Rattle.request_words.specs.Request.{Text, Request, gen, check, make_dict, convert, diagnose, list_faults, simulate, synth, compact, rank, adapt, follow, expect, suspects, cover}
+use Rattle.text_fields.specs.Fields.{Text}
+use Rattle.request_words.specs.Request.{Request, gen, check, make_dict, convert, diagnose, list_faults, simulate, synth, compact, rank, adapt, follow, expect, suspects, cover}
 use Rattle.dia_commands.specs.Netlists.{IsDesign, IsRefused, by_text, by_loop}
 use Rattle.dia_commands.specs.Results.{IsResult, IsRefusedResult}
 use Rattle.dia_commands.specs.Dictionaries.{IsDictionaryFile, IsRefusedDictionary}
@@ -28,7 +29,8 @@ use Rattle.dia_commands.specs.Outcome.{Outcome}
 use Rattle.dia_commands.specs.Plans.{plan_of}
 use Rattle.dia_commands.specs.Plan.{IsClearFile, IsClear}
 use Rattle.result_file.specs.Refusal.{FileRefused}
-use Rattle.result_file.specs.Laws.{RefusedFileIsWrong, OneSpelling, SpellingIsLine}
+use Rattle.result_records.specs.Laws.{OneSpelling, SpellingIsLine}
+use Rattle.result_file.specs.Laws.{RefusedFileIsWrong}
 use Rattle.fault_collapse.specs.Laws.{SameRootEqual}
 use Rattle.pair_sets.specs.Laws.{CoveringEqual, LeavesClosed, SpendingBounded}
 use Rattle.dia_runs.proofs.ResultLogs.{log_is_clear}

@@ -2,7 +2,7 @@
 use Rattle.std.proofs.Common.{◌≡◌, ◌≢◌, List, refl, sym, ap, subst, ◌∙◌}
 use Rattle.std.proofs.lemmas.Option.{same_Some}
 use Rattle.diag_shelf.specs.World.{Files}
-use Rattle.request_words.specs.Request.{Text}
+use Rattle.text_fields.specs.Fields.{Text}
 use Rattle.dia_commands.specs.declared.ending.FileKind.{FileKind}
 use Rattle.dia_commands.specs.Ending.{done, refused}
 use Rattle.dia_commands.specs.Outcome.{Outcome}

@@ -7,7 +7,8 @@ use Rattle.ranked_diag.specs.PartialLog.{Line}
 use Rattle.ranked_diag.specs.Mismatches.{mismatch_counts}
 use Rattle.ranked_diag.specs.Ranked.{ranked_with, IsRanking}
 use Rattle.ranked_diag.specs.Laws.{LogIsPartial, OnePartialReading, WholeLogRanks, whole_lines}
-use Rattle.request_words.specs.Request.{Text, Request, rank}
+use Rattle.text_fields.specs.Fields.{Text}
+use Rattle.request_words.specs.Request.{Request, rank}
 use Rattle.dia_commands.specs.Dictionaries.{IsDictionaryFile}
 use Rattle.dia_commands.specs.Ending.{Ending}
 use Rattle.dia_commands.specs.Logs.{IsLogFor, IsPartialFor}

@@ -2,12 +2,13 @@
 use Rattle.std.proofs.Common.{◌≡◌, ◌∙◌, ℕ, suc, ◌<◌, List, [], ◌∷◌, ◌++◌, length, refl, sym, ap, ap₂, subst, append_assoc, arith}
 use Rattle.std.specs.List.{AllByRecursion}
 use Rattle.net_model.specs.Circuit.{Circuit, IsCircuit}
-use Rattle.result_file.specs.declared.record.Record.{Record}
-use Rattle.result_file.specs.Spelling.{Text, spelling, text_of, HasSpelling}
-use Rattle.result_file.specs.Marks.{patterns_in}
+use Rattle.result_records.specs.declared.record.Record.{Record}
+use Rattle.text_fields.specs.Fields.{Text}
+use Rattle.result_records.specs.Spelling.{spelling, text_of, HasSpelling}
+use Rattle.result_records.specs.Marks.{patterns_in}
 use Rattle.result_file.specs.Valid.{record_at}
-use Rattle.result_file.specs.Laws.{OneSpelling, SpellingIsLine}
-use Rattle.diagnose.proofs.Cuts.{cut_once}
+use Rattle.result_records.specs.Laws.{OneSpelling, SpellingIsLine}
+use Rattle.text_fields.proofs.Cuts.{cut_once}
 use Rattle.ranked_diag.specs.PartialLog.{Line, IsPartialLog, PartialRefused}
 use Rattle.ranked_diag.specs.Laws.{RefusedPartialIsWrong, OnePartialReading}
 use Rattle.dia_commands.specs.Plan.{IsClearFile}

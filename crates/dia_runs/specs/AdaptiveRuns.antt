@@ -3,7 +3,8 @@ use Rattle.std.specs.Prelude.{◌≡◌, ◌≤◌, length, Option, Some}
 use Rattle.std.specs.FinMap.{get}
 use Rattle.diag_shelf.specs.World.{World}
 use Rattle.diagnose.specs.Lines.{text_limit}
-use Rattle.request_words.specs.Request.{Text, Request, adapt, follow}
+use Rattle.text_fields.specs.Fields.{Text}
+use Rattle.request_words.specs.Request.{Request, adapt, follow}
 use Rattle.dia_commands.specs.AdaptivePlans.{IsAdaptivePlanFile, IsMadePlan}
 use Rattle.dia_commands.specs.Ending.{Ending, done}
 use Rattle.dia_commands.specs.Logs.{IsLogTo}

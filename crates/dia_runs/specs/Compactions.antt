@@ -4,7 +4,8 @@ use Rattle.std.specs.FinMap.{get}
 use Rattle.diag_shelf.specs.World.{World}
 use Rattle.compact_tests.specs.declared.thin.Thin.{Thin}
 use Rattle.compact_tests.specs.Compacted.{IsCompacted, IsSound}
-use Rattle.request_words.specs.Request.{Text, Request, compact}
+use Rattle.text_fields.specs.Fields.{Text}
+use Rattle.request_words.specs.Request.{Request, compact}
 use Rattle.dia_commands.specs.Ending.{Ending, done}
 use Rattle.dia_commands.specs.Texts.{dropped_text}
 use Rattle.dia_commands.specs.Outcome.{ConsoleGained}

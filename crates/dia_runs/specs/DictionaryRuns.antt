@@ -7,7 +7,8 @@ use Rattle.table_dicts.specs.Dictionary.{listed_numbers}
 use Rattle.dict_file.specs.declared.fault.DictVersion.TheVariants.{Two}
 use Rattle.dict_file.specs.Spelling.{dict_spelling, most_bytes, IsFileOf}
 use Rattle.request_words.specs.declared.request.EntryKind.{EntryKind}
-use Rattle.request_words.specs.Request.{Text, Request, make_dict, convert, diagnose}
+use Rattle.text_fields.specs.Fields.{Text}
+use Rattle.request_words.specs.Request.{Request, make_dict, convert, diagnose}
 use Rattle.dia_commands.specs.Ending.{Ending, done}
 use Rattle.dia_commands.specs.Texts.{groups_text, numbers_text}
 use Rattle.dia_commands.specs.Dictionaries.{IsDictionaryFile, IsMadeDictionary}

@@ -7,13 +7,14 @@ use Rattle.net_model.specs.declared.circuit.Design.{Design}
 use Rattle.bench_reader.specs.Netlist.{Netlist}
 use Rattle.bench_reader.specs.Spelled.{IsAsWritten}
 use Rattle.scan_cut.specs.Cut.{cut_design}
-use Rattle.result_file.specs.declared.record.Budgets.{Budgets}
-use Rattle.result_file.specs.declared.record.Summary.{Summary}
+use Rattle.result_records.specs.declared.record.Budgets.{Budgets}
+use Rattle.result_file.specs.declared.checked.Summary.{Summary}
 use Rattle.result_file.specs.Summary.{summary_of}
 use Rattle.result_file.specs.Valid.{IsValidFile}
 use Rattle.result_file.specs.Meaning.{stated_records, IsTrueFile}
 use Rattle.dia_gen.specs.Made.{IsMade}
-use Rattle.request_words.specs.Request.{Text, Request, gen, check, list_faults, synth}
+use Rattle.text_fields.specs.Fields.{Text}
+use Rattle.request_words.specs.Request.{Request, gen, check, list_faults, synth}
 use Rattle.dia_commands.specs.declared.ending.FileKind.{FileKind}
 use Rattle.dia_commands.specs.Ending.{Ending, done, refused, not_understood, read_failed, no_memory, IsRefusal, IsDecided}
 use Rattle.dia_commands.specs.Outputs.{synth_budgets}

@@ -3,7 +3,8 @@ use Rattle.std.specs.Prelude.{◌≡◌, ℕ, Bool, List, Option, Some}
 use Rattle.diag_shelf.specs.World.{World}
 use Rattle.table_dicts.specs.Dictionary.{listed_numbers}
 use Rattle.ranked_diag.specs.Ranked.{ranked_with}
-use Rattle.request_words.specs.Request.{Text, Request, rank}
+use Rattle.text_fields.specs.Fields.{Text}
+use Rattle.request_words.specs.Request.{Request, rank}
 use Rattle.dia_commands.specs.Ending.{Ending, done}
 use Rattle.dia_commands.specs.Dictionaries.{IsDictionaryFile}
 use Rattle.dia_commands.specs.Logs.{IsLogFor, IsPartialFor}

@@ -2,7 +2,8 @@
 use Rattle.std.specs.Prelude.{◌≡◌, Option, Some}
 use Rattle.diag_shelf.specs.World.{World}
 use Rattle.sim_listing.specs.SimText.{IsSimText}
-use Rattle.request_words.specs.Request.{Text, Request, simulate}
+use Rattle.text_fields.specs.Fields.{Text}
+use Rattle.request_words.specs.Request.{Request, simulate}
 use Rattle.dia_commands.specs.Ending.{Ending, done}
 use Rattle.dia_commands.specs.Netlists.{IsDesign}
 use Rattle.dia_commands.specs.Logs.{IsListFor}

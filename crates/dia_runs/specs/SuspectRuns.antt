@@ -2,7 +2,8 @@
 use Rattle.std.specs.Prelude.{◌≡◌, ℕ, Option, Some}
 use Rattle.std.specs.FinMap.{get}
 use Rattle.diag_shelf.specs.World.{World}
-use Rattle.request_words.specs.Request.{Text, Request, expect, suspects, cover}
+use Rattle.text_fields.specs.Fields.{Text}
+use Rattle.request_words.specs.Request.{Request, expect, suspects, cover}
 use Rattle.dia_commands.specs.Ending.{Ending, done}
 use Rattle.dia_commands.specs.Outcome.{ConsoleGained}
 use Rattle.dia_commands.specs.Suspects.{IsLogAt, IsExpectedLog, IsSuspectsText, IsCoverText}

@@ -1,7 +1,6 @@
-pub mod Cuts
-pub mod BitLemmas
 pub mod LineLemmas
 pub mod LogLemmas
 pub mod VectorLemmas
 pub mod WordLemmas
+mod RowLemmas
 pub mod ListingLemmas

@@ -5,8 +5,9 @@ use Rattle.std.proofs.lemmas.List.{append-nil}
 use Rattle.std.proofs.lemmas.List.Elements.{All-head, All-tail}
 use Rattle.net_model.specs.Rows.{AreWide}
 use Rattle.diagnose.specs.declared.fault.LogKind.{LogKind}
-use Rattle.diagnose.specs.Lines.{Text, text_limit, LineForm, lines_from, RestRule, LinesRefused, too_long, at_line}
-use Rattle.diagnose.proofs.Cuts.{not_empty}
+use Rattle.text_fields.specs.Fields.{Text}
+use Rattle.diagnose.specs.Lines.{text_limit, LineForm, lines_from, RestRule, LinesRefused, too_long, at_line}
+use Rattle.text_fields.proofs.Cuts.{not_empty}
 
 -- a row more
 pub lines_more : (line : LineForm) (n : ℕ) (rows : List (List Bool)) (row : List Bool) (place : ℕ) (rest : Text) → place ≡ n + length rows

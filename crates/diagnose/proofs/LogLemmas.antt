@@ -8,22 +8,15 @@ use Rattle.table_dicts.specs.Rows.{AreRows}
 use Rattle.net_model.specs.BitText.{bits_text}
 use Rattle.diagnose.specs.declared.fault.LogKind.{LogKind}
 use Rattle.diagnose.specs.declared.fault.LogKind.TheVariants.{Syntax, Order, Width, Missing}
-use Rattle.diagnose.specs.Lines.{Text, text_limit, lines_from, digit_bits, IsCutAt, at_line}
+use Rattle.text_fields.specs.Fields.{Text, digit_bits, IsCutAt}
+use Rattle.diagnose.specs.Lines.{text_limit, lines_from, at_line}
 use Rattle.diagnose.specs.LogText.{log_line, IsLog, BeginsWithLine, HasNoLine, FirstLogLine, LogRestRefused, missing, no_line, too_many, misplaced, wrong_width, TesterLogRefused, IsRightLogLine}
-use Rattle.result_file.proofs.Cuts.{tails}
-use Rattle.result_file.proofs.NumberLemmas.{number_bytes}
-use Rattle.result_file.proofs.BitLemmas.{bits_once}
-use Rattle.diagnose.proofs.Cuts.{cut_once, missing_below, not_empty}
-use Rattle.diagnose.proofs.BitLemmas.{bits_bytes}
+use Rattle.text_fields.proofs.Cuts.{tails, cut_once, missing_below, not_empty}
+use Rattle.text_fields.proofs.NumberLemmas.{number_bytes, number_without_blank}
+use Rattle.text_fields.proofs.BitLemmas.{bits_once, bits_bytes, bits_without_feed}
 use Rattle.diagnose.proofs.LineLemmas.{lines_more, TellsRow, KeepsRight, OneRule, refused_once, refused_wrong, rows_once}
 
--- a text of bits has no LF and no blank, and a number has no blank
-pub bits_without_feed : (bits : List Bool) → ¬ Contains (bits_text bits) 10
-bits_without_feed bits = missing_below 10 (bits_text bits) (All-weaker (λ b. 32 < b) (λ b. 10 < b) (λ b above. omega (arith, above)) (bits_text bits) (bits_bytes bits))
-
-pub number_without_blank : (n : ℕ) → n < 2 ^ 32 → ¬ Contains (decimal n) 32
-number_without_blank n small = missing_below 32 (decimal n) (number_bytes n small)
-
+-- a line has no LF
 pub line_without_feed : (pattern : ℕ) (bits : List Bool) → pattern < 2 ^ 32 → ¬ Contains (log_line pattern bits) 10
 line_without_feed pattern bits small =
     let weaker : (b : ℕ) → 32 < b → 10 < b = λ b above. omega (arith, above) in

@@ -7,11 +7,11 @@ use Rattle.net_model.specs.BitText.{bits_text}
 use Rattle.net_model.specs.Rows.{AreWide}
 use Rattle.diagnose.specs.declared.fault.LogKind.{LogKind}
 use Rattle.diagnose.specs.declared.fault.LogKind.TheVariants.{Syntax, Width}
-use Rattle.diagnose.specs.Lines.{Text, text_limit, lines_from, digit_bits, IsCutAt, at_line}
+use Rattle.text_fields.specs.Fields.{Text, digit_bits, IsCutAt}
+use Rattle.diagnose.specs.Lines.{text_limit, lines_from, at_line}
 use Rattle.diagnose.specs.VectorText.{listed_vector, IsVectorList, HasNoVector, VectorRestRefused, FirstVectorLine, no_vector, wrong_width, VectorsRefused, IsRightVector}
-use Rattle.diagnose.proofs.Cuts.{cut_once, not_empty}
-use Rattle.result_file.proofs.BitLemmas.{bits_once}
-use Rattle.diagnose.proofs.LogLemmas.{bits_without_feed}
+use Rattle.text_fields.proofs.Cuts.{cut_once, not_empty}
+use Rattle.text_fields.proofs.BitLemmas.{bits_once, bits_without_feed}
 use Rattle.diagnose.proofs.LineLemmas.{lines_more, TellsRow, KeepsRight, OneRule, refused_once, refused_wrong, rows_once}
 
 pub tells_bits : (row other : List Bool) (rest more : Text) → bits_text row ++ 10 ∷ rest ≡ bits_text other ++ 10 ∷ more → (row ≡ other) × (rest ≡ more)

@@ -1,7 +1,7 @@
 -- Laws: what is refused isn't in the format, it is refused by one rule at one line, and a text has one reading.
 use Rattle.std.specs.Prelude.{◌≡◌, ℕ, ◌<◌, ◌^◌, Bool, List}
 use Rattle.diagnose.specs.declared.fault.LogKind.{LogKind}
-use Rattle.diagnose.specs.Lines.{Text}
+use Rattle.text_fields.specs.Fields.{Text}
 use Rattle.diagnose.specs.LogText.{IsLog, TesterLogRefused}
 use Rattle.diagnose.specs.VectorText.{IsVectorList, VectorsRefused}
 

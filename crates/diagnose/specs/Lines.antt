@@ -1,14 +1,11 @@
 -- Texts of lines, each with a row of bits.
-use Rattle.std.specs.Prelude.{◌≡◌, ℕ, ◌+◌, ◌<◌, ◌≤◌, ◌^◌, ◌⊎◌, Bool, List, [], ◌∷◌, ◌++◌, length, map, take, count_by, ◌==◌, ⊤, Contains}
-use Rattle.net_model.specs.BitText.{bits_text}
+use Rattle.std.specs.Prelude.{◌≡◌, ℕ, ◌+◌, ◌<◌, ◌≤◌, ◌^◌, Bool, List, [], ◌∷◌, ◌++◌, length, take, count_by, ◌==◌, ⊤}
 use Rattle.net_model.specs.Rows.{AreWide}
+use Rattle.text_fields.specs.Fields.{Text}
 use Rattle.diagnose.specs.declared.fault.LogKind.{LogKind}
 use Rattle.diagnose.specs.declared.fault.LogKind.TheVariants.{TooLong}
 use Rattle.diagnose.specs.declared.fault.LogFault.{LogFault}
 use Rattle.diagnose.specs.declared.fault.LogFault.TheVariants.{At, NoMemory}
-
-abbrev pub Text : Type 0
-Text = List ℕ
 
 -- the most bytes of a log or a list of vectors
 abbrev pub text_limit : ℕ
@@ -17,23 +14,6 @@ text_limit = 2 ^ 30
 -- the line of a byte, counted from 1
 abbrev pub line_number : Text → ℕ → ℕ
 line_number text byte = count_by (λ b. b == 10) (take byte text) + 1
-
--- the bits of digits
-abbrev pub digit_bits : Text → List Bool
-digit_bits digits = map (λ digit. digit == 49) digits
-
--- The byte is a digit of a bit.
-abbrev pub IsDigit : ℕ → Type 0
-IsDigit byte = (byte ≡ 48) ⊎ (byte ≡ 49)
-
--- Digits of bits spell the field: they are all of it, but for a dash, where there are none.
-abbrev pub SpellField : Text → Text → Type 0
-SpellField field digits = bits_text (digit_bits digits) ≡ field
-
--- A list is cut at the first place where a byte stands.
-pub record IsCutAt (byte : ℕ) (text front back : Text) : Type 0 where
-  pub first : ¬ Contains front byte
-  pub text_is : text ≡ front ++ byte ∷ back
 
 -- How a line with a row of bits is spelled, by its number from 0 and its bits.
 abbrev pub LineForm : Type 0

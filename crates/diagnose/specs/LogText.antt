@@ -4,7 +4,8 @@ use Rattle.net_model.specs.BitText.{bits_text}
 use Rattle.table_dicts.specs.Rows.{AreRows}
 use Rattle.diagnose.specs.declared.fault.LogKind.{LogKind}
 use Rattle.diagnose.specs.declared.fault.LogKind.TheVariants.{Syntax, Order, Width, Missing}
-use Rattle.diagnose.specs.Lines.{Text, text_limit, digit_bits, lines_from, LinesRefused}
+use Rattle.text_fields.specs.Fields.{Text, digit_bits}
+use Rattle.diagnose.specs.Lines.{text_limit, lines_from, LinesRefused}
 
 -- a line of a log, without its LF
 abbrev pub log_line : ℕ → List Bool → Text

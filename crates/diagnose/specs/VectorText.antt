@@ -4,7 +4,8 @@ use Rattle.net_model.specs.BitText.{bits_text}
 use Rattle.net_model.specs.Rows.{AreWide}
 use Rattle.diagnose.specs.declared.fault.LogKind.{LogKind}
 use Rattle.diagnose.specs.declared.fault.LogKind.TheVariants.{Syntax, Width}
-use Rattle.diagnose.specs.Lines.{Text, text_limit, digit_bits, lines_from, LinesRefused}
+use Rattle.text_fields.specs.Fields.{Text, digit_bits}
+use Rattle.diagnose.specs.Lines.{text_limit, lines_from, LinesRefused}
 
 -- a line of a list, without its LF; its number isn't written
 abbrev pub listed_vector : ℕ → List Bool → Text

@@ -6,14 +6,12 @@ mod laws;
 mod lines;
 mod listing;
 mod log;
-mod number;
 mod vectors;
 mod words;
 
 pub use fault::{LogFault, LogKind};
 pub use laws::{list_is_read_once, log_is_read_once};
-pub use lines::{check_size, cut};
+pub use lines::check_size;
 pub use listing::matches;
 pub use log::read_log;
-pub use number::number_of;
 pub use vectors::read_vectors;

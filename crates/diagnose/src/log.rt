@@ -3,15 +3,16 @@
 ghost use Rattle.std.specs.Prelude.{◌≡◌, ◌≢◌, ◌<◌, ◌≤◌, ◌*◌, ◌^◌, ℕ, Bool, List, [], length, slice_index_or, slice_set, IfOk, IfErr, MatchOption, MatchResult};
 ghost use Rattle.table_dicts.specs.Rows.{IsWordOf};
 ghost use Rattle.diagnose.specs.declared.fault.LogKind.TheVariants as log_kind;
-ghost use Rattle.diagnose.specs.Lines.{digit_bits, TellsLogFault};
+ghost use Rattle.text_fields.specs.Fields.{digit_bits};
+ghost use Rattle.diagnose.specs.Lines.{TellsLogFault};
 ghost use Rattle.diagnose.specs.LogText.{log_line, BeginsWithLine, HasNoLine, IsLog, TesterLogRefused, LogRestRefused, IsRightLogLine};
 
 use crate::fault::{LogFault, LogKind};
-use crate::lines::{check_size, cut, digits_of};
-use crate::number::number_of;
+use crate::lines::check_size;
 use net_model::{AnswerRows, with_bit};
 use std::alloc::Global;
 use table_dicts::Dict;
+use text_fields::{cut, digits_of, number_of_bytes};
 
 // A line of a log and what stands behind it.
 #[derive(Clone, Copy)]
@@ -114,7 +115,7 @@ fn fields_of(line: &[u8]) -> Option<(u32, &[u8])>
     ensures { MatchOption result ((pattern : ℕ) (bits : List Bool) → pattern < 2 ^ 32 → log_line pattern bits ≢ line.now) (λ fields. (fields.0 < 2 ^ 32) × (log_line fields.0 (digit_bits fields.1.now) ≡ line.now)) }
 {
     let (number, field) = cut(line, b' ')?;
-    let pattern = number_of(number)?;
+    let pattern = number_of_bytes(number)?;
     let digits = digits_of(field)?;
     Some((pattern, digits))
 }

@@ -2,13 +2,15 @@
 
 ghost use Rattle.std.specs.Prelude.{◌≡◌, ◌≢◌, ◌≤◌, ◌^◌, ◌++◌, ◌∷◌, [], ℕ, length, IfOk, IfErr, MatchOption, MatchResult};
 ghost use Rattle.net_model.specs.BitText.{bits_text};
-ghost use Rattle.diagnose.specs.Lines.{digit_bits, TellsLogFault};
+ghost use Rattle.text_fields.specs.Fields.{digit_bits};
+ghost use Rattle.diagnose.specs.Lines.{TellsLogFault};
 ghost use Rattle.diagnose.specs.VectorText.{HasNoVector, IsVectorList, VectorsRefused, VectorRestRefused, IsRightVector};
 
 use crate::fault::{LogFault, LogKind};
-use crate::lines::{bits_of, check_size, cut, digits_of};
+use crate::lines::check_size;
 use net_model::Vectors;
 use std::alloc::Global;
+use text_fields::{bits_of, cut, digits_of};
 
 /// The vectors that a list has, a line of bits for each, with a bit for each source.
 ///

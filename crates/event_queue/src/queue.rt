@@ -42,7 +42,7 @@ impl NumberQueue {
         })
     }
 
-    /// All numbers below a count wait. No later call takes memory.
+    /// All numbers below a count wait. No later call takes memory. For tests and for callers from outside.
     pub fn all(alloc: Global, count: usize) -> Result<NumberQueue, AllocError>
         requires { count < 2 ^ 32 }
         ensures all { IfOk result (λ queue. (n : ℕ) → n < count → is_pending queue n ≡ true) }

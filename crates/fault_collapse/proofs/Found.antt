@@ -1,9 +1,10 @@
 -- The numbers of successors, found one by one.
-use Rattle.std.proofs.Common.{◌≡◌, ◌∙◌, ℕ, ◌+◌, ◌<◌, ◌≤◌, Bool, false, List, [], ◌∷◌, ◌++◌, length, get_or, refl, sym, ap, arith, subst, inl, inr, length-append}
-use Rattle.std.specs.Prelude.{Option, None, Some, slice_get, option_map, option_and_then, IfSome}
+use Rattle.std.proofs.Common.{◌≡◌, ◌∙◌, ℕ, ◌+◌, ◌<◌, ◌≤◌, Bool, List, [], ◌∷◌, ◌++◌, length, get_or, refl, sym, ap, arith, subst, inl, inr, length-append}
+use Rattle.std.specs.Prelude.{Option, None, Some, slice_get, option_map, option_and_then}
 use Rattle.std.proofs.lemmas.Bool.{cases_eq}
-use Rattle.std.proofs.lemmas.Option.{slice_get-get_or, slice_get_within}
+use Rattle.std.proofs.lemmas.Option.{slice_get_within}
 use Rattle.std.proofs.lemmas.List.{get_or_push, get_or_append_left}
+use Rattle.std.proofs.lemmas.List.Elements.{Contains-get_or}
 use Rattle.net_model.specs.declared.gate.Gate.{Gate}
 use Rattle.net_model.specs.declared.fault.Site.{Site}
 use Rattle.net_model.specs.declared.fault.Site.TheVariants.{Stem, Pin, Position}
@@ -12,12 +13,11 @@ use Rattle.net_model.specs.declared.fault.Fault.TheVariants.{Free, Stuck}
 use Rattle.net_model.specs.Circuit.{Circuit, line_count, gate_at, pins_of}
 use Rattle.net_model.specs.Fault.{IsFaultOf}
 use Rattle.net_model.specs.FaultList.{destinations, faults, fault_count}
-use Rattle.net_model.specs.Collapse.{carried_value, carried_fault, entered_gate, only_gate, successor}
+use Rattle.net_model.specs.Collapse.{carried_value, carried_fault, entered_gate, successor}
+use Rattle.net_model.proofs.Orders.{reader_is_gate}
 use Rattle.fault_collapse.specs.Forest.{IsNumberOf, AreSuccessors}
-use Rattle.fault_collapse.specs.Underway.{sole_gates}
-use Rattle.fault_collapse.proofs.Destinations.{driven, gate_with}
-use Rattle.fault_collapse.proofs.Steps.{sole_pin}
-use Rattle.fault_collapse.proofs.Sole.{sole_at, sole_within}
+use Rattle.fault_collapse.proofs.Members.{Contains-slice_get}
+use Rattle.fault_collapse.proofs.Steps.{sole_pin, sole_pin_reads}
 
 module _ (c : Circuit) where
   -- this is the number of a fault in a list of faults, if it has one
@@ -44,32 +44,16 @@ module _ (c : Circuit) where
 
   -- ---- which gate a fault enters
 
-  -- the gate in the table is that of the sole destination
-  pub table_gate : (line : ℕ) (gates : List (Option ℕ)) → line < line_count c → gates ≡ sole_gates c → get_or gates line None ≡ entered_gate c (Stem line)
-  unfolding entered_gate
-  table_gate line gates inside same = ap (λ xs. get_or xs line None) same ∙ sole_at c line inside
-
-  gate_by : (line : ℕ) (found : Option ℕ) → only_gate (destinations c line) ≡ found → IfSome found (λ gate. c.sources ≤ gate) × IfSome found (λ gate. gate < line_count c)
-  gate_by line None e = (tt, tt)
-  gate_by line (Some gate) e =
-      let only = sole_pin (destinations c line) gate e in
-      let within = sole_within c line gate only.0 only.1 in
-      (within.0, within.1)
-
   -- the gate that a fault enters is a gate
-  pub gate_inside : (site : Site) → IsFaultOf c (Stuck site false) → IfSome (entered_gate c site) (λ gate. c.sources ≤ gate) × IfSome (entered_gate c site) (λ gate. gate < line_count c)
+  pub gate_inside : (site : Site) (bit : Bool) (gate : ℕ) → IsFaultOf c (Stuck site bit) → Some gate ≡ entered_gate c site → (c.sources ≤ gate) × (gate < line_count c)
   unfolding entered_gate
-  gate_inside (Stem line) is = gate_by line (only_gate (destinations c line)) refl
-  gate_inside (Pin gate pin) is = let g = gate_with c gate pin _ (slice_get-get_or (pins_of c gate) pin 0 is) in driven c gate g.0 g.1
-  gate_inside (Position at) is = (tt, tt)
-
-  pub pin_gate : (gate pin : ℕ) → Some gate ≡ entered_gate c (Pin gate pin)
-  unfolding entered_gate
-  pin_gate gate pin = refl
-
-  pub position_gate : (at : ℕ) → None ≡ entered_gate c (Position at)
-  unfolding entered_gate
-  position_gate at = refl
+  gate_inside (Stem line) bit gate is e =
+      let only = sole_pin (destinations c line) gate (sym e) in
+      reader_is_gate c line gate (Contains-slice_get (pins_of c gate) only.0 line (sole_pin_reads c line gate only.0 only.1))
+  gate_inside (Pin at pin) bit gate is e =
+      let same : at ≡ gate = cc in
+      subst (λ g. (c.sources ≤ g) × (g < line_count c)) same (reader_is_gate c (get_or (pins_of c at) pin 0) at (Contains-get_or (pins_of c at) pin 0 is))
+  gate_inside (Position at) bit gate is e = cc
 
   pub no_gate : (site : Site) (bit : Bool) → None ≡ entered_gate c site → IsNumberOf c (successor c (Stuck site bit)) None
   unfolding successor

@@ -8,7 +8,7 @@ ghost use Rattle.net_model.specs.Collapse.{successor, root};
 ghost use Rattle.fault_collapse.specs.Forest.{IsForestOf, IsNumberOf, number_count, successor_of, root_of, root_numbers};
 
 use crate::roots::roots;
-use crate::successors::{sole_gates, successors};
+use crate::successors::successors;
 use fault_list::FaultList;
 use net_model::Circuit;
 use std::alloc::{AllocError, Global};
@@ -39,15 +39,15 @@ pub fn collapse(alloc: Global, circuit: &Circuit, faults: &FaultList) -> Result<
     requires { faults.now ≡ faults_of circuit.now }
     ensures { IfOk result (IsForestOf circuit.now) }
 {
-    let _ = circuit.sources();
-    let gates = sole_gates(alloc, circuit, faults)?;
-    let successors = successors(alloc, circuit, faults, gates.as_slice())?;
+    circuit.stands();
+    let successors = successors(alloc, circuit, faults)?;
     let roots = roots(alloc, circuit, faults, successors.as_slice())?;
     Ok(Forest { successors, roots })
 }
 
 impl Forest {
-    /// The number of the successor, if the fault with this number has one.
+    /// The number of the successor, if the fault with this number has one. The program asks for roots alone: this is for
+    /// tests and for callers from outside.
     pub fn successor(&self, number: u32) -> Option<u32>
         requires { number < number_count self.now }
         ensures value { result ≡ successor_of self.now number }

@@ -4,7 +4,9 @@
 mod forest;
 mod laws;
 mod roots;
+mod subject;
 mod successors;
 
 pub use forest::{Forest, collapse};
 pub use laws::{root_is_last, same_root_equal};
+pub use subject::Subject;

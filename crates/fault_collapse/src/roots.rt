@@ -70,7 +70,7 @@ fn find_roots(roots: &mut Vec<u32>, circuit: &Circuit, successors: &[Option<u32>
     requires few { length roots.old.items < 2 ^ 27 }
     ensures { AreRoots circuit.now roots.new.items }
 {
-    let _ = circuit.sources();
+    circuit.stands();
     for number in 0..roots.len() as u32 {
         follow(roots, successors, number);
     }

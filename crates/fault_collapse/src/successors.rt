@@ -1,108 +1,71 @@
 //! The successor of each fault, by the gate that it stands at.
 
-ghost use Rattle.std.specs.Prelude.{◌≡◌, ◌+◌, ◌<◌, ◌≤◌, ◌==◌, IfOk, IfSome, IsTrue, None, Some, false, length, replicate, if◌then◌else◌};
+ghost use Rattle.std.specs.Prelude.{◌≡◌, ◌<◌, ◌≤◌, ◌==◌, IfOk, IsTrue, Some, false, length, if◌then◌else◌};
 ghost use Rattle.net_model.specs.Gate.{takes_pins};
 ghost use Rattle.net_model.specs.Fault.{IsFaultOf};
 ghost use Rattle.net_model.specs.Circuit.{line_count};
-ghost use Rattle.net_model.specs.FaultList.{faults as faults_of};
-ghost use Rattle.net_model.specs.Collapse.{controlled_fold, carried_value, carried_fault, entered_gate, successor};
+ghost use Rattle.net_model.specs.FaultList.{destinations, faults as faults_of};
+ghost use Rattle.net_model.specs.Collapse.{controlled_fold, carried_value, carried_fault, entered_gate, only_gate, successor};
 ghost use Rattle.fault_collapse.specs.Forest.{AreSuccessors, IsNumberOf};
-ghost use Rattle.fault_collapse.specs.Underway.{sole_gates, AreSoleBefore};
 
 use fault_list::FaultList;
 use net_model::{Circuit, Fault, Fold, Gate, Operation, Site};
 use std::alloc::{AllocError, Global};
-
-// For each line the gate at whose pin its sole destination stands, if it has such a one.
-pub(crate) fn sole_gates(
-    alloc: Global,
-    circuit: &Circuit,
-    faults: &FaultList,
-) -> Result<Vec<Option<u32>>, AllocError>
-    requires { faults.now ≡ faults_of circuit.now }
-    ensures { IfOk result (λ gates. gates.items ≡ sole_gates circuit.now) }
-{
-    let mut gates = no_gates(alloc, circuit.lines())?;
-    for gate in circuit.sources()..circuit.lines() {
-        add_gate(&mut gates, circuit, faults, gate);
-    }
-    Ok(gates)
-}
-
-// No gate for any of so many lines.
-fn no_gates(alloc: Global, lines: u32) -> Result<Vec<Option<u32>>, AllocError>
-    ensures { IfOk result (λ gates. gates.items ≡ replicate lines None) }
-{
-    vec![in alloc; None; lines as usize]
-}
-
-// Notes a gate at the lines whose sole destinations are its pins. Such a pin has no number of its own.
-fn add_gate(gates: &mut Vec<Option<u32>>, circuit: &Circuit, faults: &FaultList, gate: u32)
-    requires faults { faults.now ≡ faults_of circuit.now }
-    requires from { circuit.now.sources ≤ gate }
-    requires below { gate < line_count circuit.now }
-    requires before { AreSoleBefore circuit.now gate 0 gates.old.items }
-    ensures { AreSoleBefore circuit.now (gate + 1) 0 gates.new.items }
-{
-    for (pin, line) in circuit.gate(gate).pins.as_slice().iter().enumerate() {
-        let branch = Fault::Stuck(Site::Pin(gate, pin as u32), false);
-        if faults.number_of(&branch).is_none() {
-            gates[*line as usize] = Some(gate);
-        }
-    }
-}
 
 // The numbers of all faults' successors.
 pub(crate) fn successors(
     alloc: Global,
     circuit: &Circuit,
     faults: &FaultList,
-    gates: &[Option<u32>],
 ) -> Result<Vec<Option<u32>>, AllocError>
-    requires faults { faults.now ≡ faults_of circuit.now }
-    requires gates { gates.now ≡ sole_gates circuit.now }
+    requires { faults.now ≡ faults_of circuit.now }
     ensures { IfOk result (λ found. AreSuccessors circuit.now found.items) }
 {
     let mut found = Vec::with_capacity(alloc, faults.len() as usize)?;
     for number in 0..faults.len() {
-        found.push(successor(circuit, faults, gates, faults.get(number)))?;
+        found.push(successor(circuit, faults, faults.get(number)))?;
     }
     Ok(found)
 }
 
 // The number of a fault's successor.
-fn successor(
-    circuit: &Circuit,
-    faults: &FaultList,
-    gates: &[Option<u32>],
-    fault: Fault,
-) -> Option<u32>
+fn successor(circuit: &Circuit, faults: &FaultList, fault: Fault) -> Option<u32>
     requires faults { faults.now ≡ faults_of circuit.now }
-    requires gates { gates.now ≡ sole_gates circuit.now }
     requires fault { IsFaultOf circuit.now fault }
     ensures { IsNumberOf circuit.now (successor circuit.now fault) result }
 {
     match fault {
         Fault::Free => None,
         Fault::Stuck(site, bit) => {
-            carried_fault(circuit, faults, bit, entered_gate(circuit, gates, site)?)
+            carried_fault(circuit, faults, bit, entered_gate(circuit, site)?)
         }
     }
 }
 
 // The gate that a site alone leads into: that of the pin, or of the pin that is the stem's sole destination.
-fn entered_gate(circuit: &Circuit, gates: &[Option<u32>], site: Site) -> Option<u32>
-    requires gates { gates.now ≡ sole_gates circuit.now }
-    requires site { IsFaultOf circuit.now (Fault.Stuck site false) }
-    ensures value { result ≡ entered_gate circuit.now site }
-    ensures from { IfSome result (λ gate. circuit.now.sources ≤ gate) }
-    ensures below { IfSome result (λ gate. gate < line_count circuit.now) }
+fn entered_gate(circuit: &Circuit, site: Site) -> Option<u32>
+    requires { IsFaultOf circuit.now (Fault.Stuck site false) }
+    ensures { result ≡ entered_gate circuit.now site }
 {
     match site {
-        Site::Stem(line) => gates[line as usize],
+        Site::Stem(line) => sole_gate(circuit, line),
         Site::Pin(gate, _) => Some(gate),
         Site::Position(_) => None,
     }
+}
+
+// The gate at whose pin a line's sole destination stands, if it has such a one.
+fn sole_gate(circuit: &Circuit, line: u32) -> Option<u32>
+    requires { line < line_count circuit.now }
+    ensures { result ≡ only_gate (destinations circuit.now line) }
+{
+    let wiring = circuit.wiring();
+    let readers = wiring.readers(line);
+    let shown = wiring.showing(line).len();
+    if readers.len() != 1 || shown > 0 {
+        return None;
+    }
+    Some(wiring.order()[readers[0] as usize])
 }
 
 // The number of the fault at a gate's stem that is equal to a bit stuck at one of its pins.

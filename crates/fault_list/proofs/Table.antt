@@ -16,7 +16,7 @@ use Rattle.net_model.specs.declared.fault.Fault.TheVariants.{Stuck}
 use Rattle.net_model.specs.Circuit.{Circuit, IsCircuit, line_count, pins_of}
 use Rattle.net_model.specs.Fault.{IsFaultOf}
 use Rattle.fault_list.specs.Slots.{site_row, site_row_start, slot_of, ArePlaces}
-use Rattle.fault_list.proofs.Bound.{pins_of_item}
+use Rattle.net_model.proofs.DestinationCounts.{pins_of_item}
 use Rattle.fault_list.proofs.Numbered.{IsPlaceOf}
 
 -- ---- slots in any table
@@ -166,7 +166,7 @@ module _ (c : Circuit) where
         | inl w ↦
             let added : pins_before (suc count) ≡ pins_before count + length w.0.pins =
             subst (λ n. sum_by all (take n c.gates) ≡ sum_by all (take count c.gates) + length w.0.pins) more (sum_by_more all c.gates count w.0 h ∙ ap (λ n. sum_by all (take count c.gates) + n) (ap all w.3)) in
-            rw e (omega (arith, row_start-gate count (omega arith), pins_of_item c count w.0 w.2, added))
+            rw e (omega (arith, row_start-gate count (omega arith), ap length (pins_of_item c count w.0 w.2), added))
         | inr past ↦ absurd (omega (arith, past.0))
       ]
 

@@ -5,9 +5,9 @@ ghost use Rattle.net_model.specs.Circuit.{all_lines};
 ghost use Rattle.net_model.specs.Fault.{IsFaultOf};
 ghost use Rattle.net_model.specs.FaultList.{destinations, sites_of_line, faults};
 
-use crate::destinations::Destinations;
+use crate::destinations::destinations;
 use crate::slots::{place_of, places, starts};
-use net_model::{Circuit, Fault, Site};
+use net_model::{Circuit, Fault, GrowingLists, Site};
 use std::alloc::{AllocError, Global};
 use std::marker::Model;
 
@@ -40,7 +40,7 @@ pub fn list(alloc: Global, circuit: &Circuit) -> Result<FaultList, AllocError>
     ensures stand { IfOk result (λ listed. All (IsFaultOf circuit.now) listed) }
     ensures few { IfOk result (λ listed. length listed < 2 ^ 27) }
 {
-    let sites = sites(alloc, circuit, &Destinations::of_circuit(alloc, circuit)?)?;
+    let sites = sites(alloc, circuit, &destinations(alloc, circuit)?)?;
     let starts = starts(alloc, circuit)?;
     let places = places(alloc, circuit, starts.as_slice(), sites.as_slice())?;
     Ok(FaultList {
@@ -89,7 +89,11 @@ impl FaultList {
 }
 
 // The sites of all lines, in order of the list.
-fn sites(alloc: Global, circuit: &Circuit, readers: &Destinations) -> Result<Vec<Site>, AllocError>
+fn sites(
+    alloc: Global,
+    circuit: &Circuit,
+    readers: &GrowingLists<Site>,
+) -> Result<Vec<Site>, AllocError>
     requires { readers.now ≡ map (destinations circuit.now) (all_lines circuit.now) }
     ensures sites { IfOk result (λ found. found.items ≡ flat_map (sites_of_line circuit.now) (all_lines circuit.now)) }
     ensures few { IfOk result (λ found. length found.items < 2 ^ 26) }
@@ -97,7 +101,7 @@ fn sites(alloc: Global, circuit: &Circuit, readers: &Destinations) -> Result<Vec
     let mut sites = Vec::new(alloc);
     for line in 0..circuit.lines() {
         sites.push(Site::Stem(line))?;
-        let branches = readers.at(line);
+        let branches = readers.at(line as usize);
         if branches.len() >= FAN_OUT {
             sites.extend_from_slice(branches)?;
         }

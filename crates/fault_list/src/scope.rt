@@ -14,7 +14,8 @@ use std::marker::Model;
 
 /// What a pair of faults can change. A line is split where one of the faults reaches it, and a position is reached
 /// where it shows a split line or is the site of one of the faults. The lines of reached positions are relevant,
-/// and so are all lines that lead to them.
+/// and so are all lines that lead to them. The program has scopes from `pair_scope`, which keeps its space from pair to
+/// pair: this one is for tests and for callers from outside.
 #[derive(Drop)]
 pub struct Scope {
     split: Vec<bool>,

@@ -3,7 +3,7 @@ use Rattle.std.proofs.Common.{◌≡◌, ℕ, ◌+◌, ◌<◌, ◌≤◌, Bool,
 use Rattle.std.specs.Prelude.{All, unwrap_or, Result, Ok, Err, OnOk, OnErr}
 use Rattle.std.specs.List.{AllZip, zip, fold}
 use Rattle.std.proofs.lemmas.Bool.{cases_lt}
-use Rattle.std.proofs.lemmas.List.{take_more, length-replicate, take-append-le, get_or_append_left}
+use Rattle.std.proofs.lemmas.List.{take_more, take-append-le, get_or_append_left}
 use Rattle.std.proofs.lemmas.Slice.Zip.{AllZip-long}
 use Rattle.std.proofs.Math.Seq.{take-append_seam, take-append-add, get_or-append_seam}
 use Rattle.std.proofs.lemmas.List.Sums.{fold-append}

@@ -1,9 +1,9 @@
 -- What is noted of numbers: one number more, and whole groups.
-use Rattle.std.proofs.Common.{◌≡◌, ◌↔◌, ℕ, zero, suc, ◌+◌, ◌-◌, Option, None, lt-ltb, le-ltb, ◌<◌, ◌≤◌, Bool, true, false, ◌&&◌, ◌||◌, eqb, List, [], ◌∷◌, ◌++◌, map, take, drop, length, get_or, set, refl, sym, ap, subst, ◌∙◌, arith, IsTrue, inl, inr}
+use Rattle.std.proofs.Common.{◌≡◌, ◌↔◌, ℕ, zero, suc, ◌+◌, ◌-◌, Option, None, lt-ltb, le-ltb, ◌<◌, ◌≤◌, Bool, true, false, ◌&&◌, ◌||◌, eqb, List, [], ◌∷◌, ◌++◌, map, take, drop, length, get_or, set, refl, sym, ap, subst, ◌∙◌, arith, inl, inr}
 use Rattle.std.specs.Prelude.{Some, All, Contains, slice_get, slice_range}
 use Rattle.std.specs.List.{list_any, AllPairs}
-use Rattle.std.proofs.lemmas.Bool.{cases_Bool, and_parts, and_from, cases_eq, cases_lt, ne_eqb, or_cases, or_left, or_right, eqb-true, eq-eqb, false≢true}
-use Rattle.std.proofs.lemmas.List.{drop-append-le, take-append-le, take_all, length-append, length-drop, length-map, length-set, get_or-map, get_or-set_same, get_or-set_other, get_or_default}
+use Rattle.std.proofs.lemmas.Bool.{cases_Bool, and_parts, and_from, cases_lt, ne_eqb, or_cases, or_left, or_right, eqb-true, eq-eqb, false≢true}
+use Rattle.std.proofs.lemmas.List.{drop-append-le, take-append-le, take_all, length-append, length-drop, length-map, length-set, get_or-map, get_or-set_same, get_or-set_other}
 use Rattle.std.proofs.lemmas.List.Elements.{All-map, All-head, All-tail}
 use Rattle.std.proofs.lemmas.Option.{get_or_from_slice_get, slice_get_within}
 use Rattle.std.specs.Cmp.Derive.{one_truth}
@@ -18,7 +18,7 @@ use Rattle.net_model.proofs.Evaluation.{Agrees-exists}
 use Rattle.net_model.proofs.Listed.{listed as all_stand}
 use Rattle.word_sim.specs.declared.lanes.TheConstants.{LANES}
 use Rattle.word_sim.specs.GoodSim.{GoodSim, vectors_of}
-use Rattle.fault_heads.specs.Turned.{vector_at, IsFreeLane, IsHeadOf, turned_if, TurnsHead}
+use Rattle.fault_heads.specs.Turned.{vector_at, IsFreeLane, IsHeadOf, turned_if}
 use Rattle.fault_heads.specs.declared.head.Head.{Head}
 use Rattle.fault_heads.specs.declared.head.Head.TheVariants as heads
 use Rattle.fault_heads.specs.declared.head.Turn.{Turn}
@@ -26,7 +26,7 @@ use Rattle.fault_sim.specs.Rows.{IsFalse, IsTrueSomewhere}
 use Rattle.fault_sim.specs.FaultSim.{FaultSim, lanes_at, AreTurnedDifferences, IsDifference}
 use Rattle.kept_vectors.specs.declared.notes.Note.{Note}
 use Rattle.kept_vectors.specs.declared.notes.Shown.{Shown}
-use Rattle.kept_vectors.specs.Notes.{has_lane, is_noted, AreAscending, AreNotesAt, IsDifferenceOf, IsReportOf, IsHeadReport, IsShownAs, IsSpanIn, noted_in, nothing_shown, AreNotedAlike, AreAlikeAt, AreRootsOf, Noted, place_of, head_at, head_notes, turn_of, turn_notes, lane_notes, number_notes, IsPlaceShown, IsTurnShown, HasNotes, IsTurnNeeded, IsNumberAsked, IsPlaceNoted, IsNumberNoted}
+use Rattle.kept_vectors.specs.Notes.{has_lane, is_noted, AreAscending, AreNotesAt, IsDifferenceOf, IsReportOf, IsHeadReport, IsShownAs, noted_in, nothing_shown, AreNotedAlike, AreAlikeAt, AreRootsOf, Noted, place_of, head_at, head_notes, turn_of, lane_notes, number_notes, IsPlaceShown, IsTurnShown, IsTurnNeeded, IsNumberAsked, IsPlaceNoted, IsNumberNoted}
 use Rattle.class_refine.proofs.PatternTables.{answer_exists}
 use Rattle.kept_vectors.proofs.AnswerLemmas.{alike_by_differences, same_difference}
 

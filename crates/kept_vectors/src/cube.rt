@@ -10,7 +10,7 @@ ghost use Rattle.kept_vectors.specs.Scan.{kept_now, IsScan};
 ghost use Rattle.kept_vectors.specs.Units.{AreTogether};
 
 use crate::differences::Differences;
-use crate::scan::{Kept, Scan, judge_lane};
+use crate::scan::{Kept, Scan};
 use crate::tally::Tally;
 use class_refine::Classes;
 use std::alloc::AllocError;
@@ -52,16 +52,7 @@ impl Scan<'_> {
         let lane = self.tally.fullest(live);
         self.waiting
             .wait_all(good, differences, &kept.classes, lane, lane + 1)?;
-        judge_lane(
-            &self.block,
-            good,
-            lane,
-            lane + 1,
-            differences,
-            &mut self.waiting,
-            &mut self.leaving,
-            kept,
-        )?;
+        self.judge_lane(kept, lane, lane + 1)?;
         Ok(())
     }
 }

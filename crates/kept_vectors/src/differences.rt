@@ -15,6 +15,7 @@ use crate::apart::apart;
 use crate::notes::{Note, Shown, have_one_root, notes_in, show_head};
 use crate::units::Units;
 use class_refine::Classes;
+use fault_collapse::Subject;
 use fault_heads::{Head, Heads, Turn};
 use fault_list::FaultList;
 use fault_sim::FaultSim;
@@ -91,14 +92,13 @@ fn head_of(circuit: &Circuit, place: usize) -> Head
 impl<'a> Differences<'a> {
     pub(crate) fn new(
         alloc: Global,
-        circuit: &'a Circuit,
-        roots: &'a [u32],
-        numbers: u32,
+        subject: &'a Subject<'a>,
     ) -> Result<Differences<'a>, AllocError>
-        requires numbers { numbers ≡ fault_count circuit.now }
-        requires roots { AreRootsOf circuit.now roots.now }
-        ensures { IfOk result (AreOf circuit.now) }
+        ensures { IfOk result (AreOf subject.now) }
     {
+        let circuit = subject.circuit();
+        let roots = subject.forest().roots();
+        let numbers = subject.numbers();
         let lines = circuit.lines();
         let heads = lines as usize + circuit.positions().len();
         let none = Lanes::all(false);

@@ -1,9 +1,8 @@
 //! The keeper of vectors.
 
 ghost use Rattle.std.specs.Prelude.{◌≡◌, ◌≤◌, ◌<◌, ℕ, List, Bool, [], ◌∷◌, All, IfOk, OnOk, OnErr, length, slice_index_or};
-ghost use Rattle.net_model.specs.FaultList.{faults as faults_of, fault_count};
+ghost use Rattle.net_model.specs.FaultList.{fault_count};
 ghost use Rattle.net_model.specs.PatternRows.{SplitsClass};
-ghost use Rattle.fault_collapse.specs.Forest.{IsForestOf};
 ghost use Rattle.kept_vectors.specs.Cube.{IsOfCube};
 ghost use Rattle.kept_vectors.specs.Keeper.{keeper_with, IsKeeper};
 ghost use Rattle.kept_vectors.specs.Kept.{nothing_kept, Keeps, KeepsFirst, KeepsRun};
@@ -13,9 +12,8 @@ ghost use Rattle.word_sim.specs.Stream.{stream};
 use crate::cube::fix_sources;
 use crate::scan::{Kept, Scan};
 use class_refine::Classes;
-use fault_collapse::Forest;
-use fault_list::FaultList;
-use net_model::{Circuit, Vector};
+use fault_collapse::Subject;
+use net_model::Vector;
 use std::alloc::{AllocError, Global};
 use std::marker::Model;
 use word_sim::{Block, LANES, Stream, stream_continues};
@@ -53,21 +51,14 @@ impl<'a> Model for Keeper<'a> {
 }
 
 impl<'a> Keeper<'a> {
-    /// Nothing is kept. `faults` is the list of the circuit's faults, and `forest` the forest in which they collapse.
-    pub fn new(
-        alloc: Global,
-        circuit: &'a Circuit,
-        faults: &'a FaultList,
-        forest: &'a Forest,
-    ) -> Result<Keeper<'a>, AllocError>
-        requires faults { faults.now ≡ faults_of circuit.now }
-        requires forest { IsForestOf circuit.now forest.now }
-        ensures { IfOk result (λ keeper. keeper ≡ keeper_with circuit.now (nothing_kept (fault_count circuit.now))) }
+    /// Nothing is kept.
+    pub fn new(alloc: Global, subject: &'a Subject<'a>) -> Result<Keeper<'a>, AllocError>
+        ensures { IfOk result (λ keeper. keeper ≡ keeper_with subject.now (nothing_kept (fault_count subject.now))) }
     {
-        let classes = Classes::new(alloc, faults.len())?;
-        let scan = Scan::new(alloc, circuit, faults, forest)?;
+        let classes = Classes::new(alloc, subject.numbers())?;
+        let scan = Scan::new(alloc, subject)?;
         let vectors = Vec::new(alloc);
-        let stream = Stream::new(circuit.sources());
+        let stream = Stream::new(subject.circuit().sources());
         Ok(Keeper {
             scan,
             kept: Kept { vectors, classes },

@@ -4,7 +4,6 @@ ghost use Rattle.std.specs.Prelude.{◌≡◌, ◌≤◌, ◌<◌, ◌+◌, ◌+
 ghost use Rattle.net_model.specs.FaultList.{faults as faults_of, fault_count};
 ghost use Rattle.class_refine.specs.Fields.{IsWhole};
 ghost use Rattle.class_refine.specs.Leavers.{AreLeavers};
-ghost use Rattle.fault_collapse.specs.Forest.{IsForestOf};
 ghost use Rattle.fault_heads.specs.Turned.{vector_at};
 ghost use Rattle.kept_vectors.specs.Kept.{with_vector, Keeps, KeepsFirst};
 ghost use Rattle.kept_vectors.specs.Scan.{kept_now, IsScan, IsOffered, HasJudged, IsScanEnd};
@@ -18,9 +17,9 @@ use crate::leaving::Leaving;
 use crate::tally::Tally;
 use crate::waiting::Waiting;
 use class_refine::Classes;
-use fault_collapse::Forest;
+use fault_collapse::Subject;
 use fault_list::FaultList;
-use net_model::{Circuit, Vector};
+use net_model::Vector;
 use std::alloc::{AllocError, Global};
 use word_sim::{Block, GoodSim, LANES};
 
@@ -87,20 +86,13 @@ impl Drop for Scan<'_> {
 }
 
 impl<'a> Scan<'a> {
-    pub(crate) fn new(
-        alloc: Global,
-        circuit: &'a Circuit,
-        listed: &'a FaultList,
-        forest: &'a Forest,
-    ) -> Result<Scan<'a>, AllocError>
-        requires forest { IsForestOf circuit.now forest.now }
-        requires faults { listed.now ≡ faults_of circuit.now }
+    pub(crate) fn new(alloc: Global, subject: &'a Subject<'a>) -> Result<Scan<'a>, AllocError>
         ensures scan { IfOk result IsScan }
-        ensures circuit { IfOk result (λ scan. scan.good.circuit ≡ circuit.now) }
+        ensures circuit { IfOk result (λ scan. scan.good.circuit ≡ subject.now) }
     {
-        let good = GoodSim::new(alloc, circuit)?;
-        let differences = Differences::new(alloc, circuit, forest.roots(), listed.len())?;
-        Scan::with(alloc, listed, good, differences)
+        let good = GoodSim::new(alloc, subject.circuit())?;
+        let differences = Differences::new(alloc, subject)?;
+        Scan::with(alloc, subject.listed(), good, differences)
     }
 
     // The scan of a circuit with its simulators.
@@ -167,15 +159,7 @@ impl<'a> Scan<'a> {
         let (good, differences) = (&self.good, &self.differences);
         self.waiting
             .wait_all(good, differences, &kept.classes, 0, live)?;
-        judge_lanes(
-            &self.block,
-            good,
-            differences,
-            &mut self.waiting,
-            &mut self.leaving,
-            kept,
-            run,
-        )
+        self.judge_lanes(kept, run)
     }
 
     // Notes how the numbers of each class answer to the vectors of the block.
@@ -195,69 +179,63 @@ impl<'a> Scan<'a> {
         self.differences
             .note_classes(self.listed, &self.good, classes)
     }
-}
 
-// Judges the vectors of a block by what is noted of them and by who waits where.
-fn judge_lanes(
-    block: &Block,
-    good: &GoodSim,
-    differences: &Differences,
-    waiting: &mut Waiting,
-    leaving: &mut Leaving,
-    kept: &mut Kept,
-    run: bool,
-) -> Result<u32, AllocError>
-    requires told { AreTold good.now block.now.vectors (noted_by differences.now) kept.old.classes }
-    requires units { HasChains differences.now.units }
-    requires waits { AreWaiting good.now differences.now.units.roots.now kept.old.classes 0 (length block.now.vectors) waiting.old.lanes.items [] }
-    ensures count { length waiting.new.lanes.items ≡ length waiting.old.lanes.items }
-    ensures ok { IfOk result (λ count. HasJudged good.now.circuit block.now.vectors run count (kept_now kept.old) (kept_now kept.new)) }
-    ensures ended { IfOk result (λ count. IsScanEnd good.now.circuit block.now.vectors run count (kept_now kept.new)) }
-    ensures err { OnErr result ((count : ℕ) × (count < length block.now.vectors) × HasJudged good.now.circuit block.now.vectors run count (kept_now kept.old) (kept_now kept.new)) }
-{
-    let live = block.live();
-    for lane in 0..live {
-        let splits = judge_lane(block, good, lane, live, differences, waiting, leaving, kept)?;
-        if run && !splits {
-            return Ok(lane);
+    // Judges the vectors of the block by what is noted of them and by who waits where.
+    fn judge_lanes(&mut self, kept: &mut Kept, run: bool) -> Result<u32, AllocError>
+        requires scan { IsScan self.old }
+        requires told { AreTold self.old.good self.old.block.vectors (noted_by self.old.differences) kept.old.classes }
+        requires waits { AreWaiting self.old.good self.old.differences.units.roots.now kept.old.classes 0 (length self.old.block.vectors) self.old.waiting.lanes.items [] }
+        ensures scan { IsScan self.new }
+        ensures circuit { self.new.good.circuit ≡ self.old.good.circuit }
+        ensures ok { IfOk result (λ count. HasJudged self.old.good.circuit self.old.block.vectors run count (kept_now kept.old) (kept_now kept.new)) }
+        ensures ended { IfOk result (λ count. IsScanEnd self.old.good.circuit self.old.block.vectors run count (kept_now kept.new)) }
+        ensures err { OnErr result ((count : ℕ) × (count < length self.old.block.vectors) × HasJudged self.old.good.circuit self.old.block.vectors run count (kept_now kept.old) (kept_now kept.new)) }
+    {
+        let live = self.block.live();
+        for lane in 0..live {
+            let splits = self.judge_lane(kept, lane, live)?;
+            if run && !splits {
+                return Ok(lane);
+            }
         }
+        Ok(live)
     }
-    Ok(live)
-}
 
-// Keeps the vector of a lane if it splits a class, and lets those that left their classes wait at lanes behind it. Answers
-// whether it does.
-pub(crate) fn judge_lane(
-    block: &Block,
-    good: &GoodSim,
-    lane: u32,
-    live: u32,
-    differences: &Differences,
-    waiting: &mut Waiting,
-    leaving: &mut Leaving,
-    kept: &mut Kept,
-) -> Result<bool, AllocError>
-    requires told { AreTold good.now block.now.vectors (noted_by differences.now) kept.old.classes }
-    requires units { HasChains differences.now.units }
-    requires waits { AreWaiting good.now differences.now.units.roots.now kept.old.classes lane live waiting.old.lanes.items [] }
-    requires lane { lane < live }
-    requires live { live ≤ length block.now.vectors }
-    requires few { length block.now.vectors ≤ LANES }
-    ensures count { length waiting.new.lanes.items ≡ length waiting.old.lanes.items }
-    ensures told { OnOk result (AreTold good.now block.now.vectors (noted_by differences.now) kept.new.classes) }
-    ensures waits { OnOk result (AreWaiting good.now differences.now.units.roots.now kept.new.classes (lane + 1) live waiting.new.lanes.items []) }
-    ensures ok { OnOk result (Keeps good.now.circuit (vector_at good.now lane ∷ []) (kept_now kept.old) (kept_now kept.new)) }
-    ensures offered { IfOk result (λ splits. IsOffered splits (vector_at good.now lane) (kept_now kept.old) (kept_now kept.new)) }
-    ensures err { OnErr result ((kept_now kept.new ≡ kept_now kept.old) ⊎ ((lane + 1 < live) × Keeps good.now.circuit (vector_at good.now lane ∷ []) (kept_now kept.old) (kept_now kept.new) × IsOffered true (vector_at good.now lane) (kept_now kept.old) (kept_now kept.new))) }
-{
-    leaving.put_in_order(&kept.classes, &differences.units, waiting.at(lane))?;
-    if leaving.numbers.is_empty() {
-        return Ok(false);
+    // Keeps the vector of a lane if it splits a class, and lets those that left their classes wait at lanes behind it. Answers
+    // whether it does.
+    pub(crate) fn judge_lane(
+        &mut self,
+        kept: &mut Kept,
+        lane: u32,
+        live: u32,
+    ) -> Result<bool, AllocError>
+        requires scan { IsScan self.old }
+        requires told { AreTold self.old.good self.old.block.vectors (noted_by self.old.differences) kept.old.classes }
+        requires waits { AreWaiting self.old.good self.old.differences.units.roots.now kept.old.classes lane live self.old.waiting.lanes.items [] }
+        requires lane { lane < live }
+        requires live { live ≤ length self.old.block.vectors }
+        requires few { length self.old.block.vectors ≤ LANES }
+        ensures scan { IsScan self.new }
+        ensures same { self.new ≡ record self.old { waiting = self.new.waiting; leaving = self.new.leaving } }
+        ensures told { OnOk result (AreTold self.old.good self.old.block.vectors (noted_by self.old.differences) kept.new.classes) }
+        ensures waits { OnOk result (AreWaiting self.old.good self.old.differences.units.roots.now kept.new.classes (lane + 1) live self.new.waiting.lanes.items []) }
+        ensures ok { OnOk result (Keeps self.old.good.circuit (vector_at self.old.good lane ∷ []) (kept_now kept.old) (kept_now kept.new)) }
+        ensures offered { IfOk result (λ splits. IsOffered splits (vector_at self.old.good lane) (kept_now kept.old) (kept_now kept.new)) }
+        ensures err { OnErr result ((kept_now kept.new ≡ kept_now kept.old) ⊎ ((lane + 1 < live) × Keeps self.old.good.circuit (vector_at self.old.good lane ∷ []) (kept_now kept.old) (kept_now kept.new) × IsOffered true (vector_at self.old.good lane) (kept_now kept.old) (kept_now kept.new))) }
+    {
+        let (good, differences) = (&self.good, &self.differences);
+        let leaving = self.waiting.at(lane);
+        self.leaving
+            .put_in_order(&kept.classes, &differences.units, leaving)?;
+        if self.leaving.numbers.is_empty() {
+            return Ok(false);
+        }
+        let v = self.block.vector(lane)?;
+        self.leaving.tell(differences, lane)?;
+        kept.offer(v, &self.leaving)?;
+        let numbers = self.leaving.numbers.as_slice();
+        self.waiting
+            .wait(good, differences, &kept.classes, numbers, lane + 1, live)?;
+        Ok(true)
     }
-    let v = block.vector(lane)?;
-    leaving.tell(differences, lane)?;
-    kept.offer(v, leaving)?;
-    let numbers = leaving.numbers.as_slice();
-    waiting.wait(good, differences, &kept.classes, numbers, lane + 1, live)?;
-    Ok(true)
 }

@@ -1,6 +1,5 @@
 -- A search over the miter of a pair, from step to step.
 use Rattle.std.proofs.Common.{◌≡◌, ◌∙◌, ℕ, ◌+◌, ◌<◌, ◌≤◌, ◌^◌, List, length, ap, sym, subst, arith, Vec, Global}
-use Rattle.std.specs.Prelude.{Result, Ok, Err, OnErr}
 use Rattle.clause_pool.specs.Clauses.{Clause, BeginsWith}
 use Rattle.clause_pool.proofs.Numbered.{begins_through}
 use Rattle.pair_miter.specs.ChainView.{ChainView}
@@ -14,11 +13,6 @@ use Rattle.learn_solver.specs.Search.{IsSearchReady, IsSearch, LearnsAtMost, Lea
 use Rattle.learn_solver.specs.Solved.{HasLearned}
 use Rattle.learn_solver.specs.Walk.{AreUnmarked}
 use Rattle.learn_solver.proofs.Solving.{learned_within, learning_long}
-
--- what holds in any case holds after an error
-pub on_error : {T E P : Type 0} (result : Result T E) → P → OnErr result P
-on_error (Ok x) p = tt
-on_error (Err fault) p = p
 
 -- another trail that is ready, too
 pub prepared_on : (old : Search) (clauses : List Clause) (trail : TrailState) (decider : ℕ) → IsSearchReady old clauses → IsSolverReady trail clauses → trail.assignment.variables ≡ old.trail.assignment.variables → decider ≡ old.decider

@@ -12,12 +12,12 @@ use Rattle.net_model.specs.ClassTable.{ClassTable, class_at, representative}
 use Rattle.net_model.proofs.Elements.{get_or-replicate_anywhere}
 use Rattle.class_refine.specs.Fields.{IsWhole}
 use Rattle.class_refine.proofs.Refined.{representative-member}
-use Rattle.result_file.specs.declared.record.Evidence.{Evidence}
-use Rattle.result_file.specs.declared.record.Mark.{Mark}
-use Rattle.result_file.specs.declared.record.Mark.TheVariants.{Rep}
-use Rattle.result_file.specs.declared.record.Proof.{Proof}
-use Rattle.result_file.specs.Marks.{number_mark, next_member, mark_of}
-use Rattle.result_file.proofs.Marked.{next_is, none_next}
+use Rattle.result_records.specs.declared.record.Evidence.{Evidence}
+use Rattle.result_records.specs.declared.record.Mark.{Mark}
+use Rattle.result_records.specs.declared.record.Mark.TheVariants.{Rep}
+use Rattle.result_records.specs.declared.record.Proof.{Proof}
+use Rattle.result_records.specs.Marks.{number_mark, next_member, mark_of}
+use Rattle.result_records.proofs.Marked.{next_is, none_next}
 use Rattle.member_marks.specs.declared.marks.Given.{Given}
 use Rattle.member_marks.specs.Given.{given_to, given_mark, AreGiven, AreAllMarked, IsLowestOpen}
 

@@ -1,10 +1,10 @@
 -- The marks that were given so far.
 use Rattle.std.specs.Prelude.{◌≡◌, ◌≤◌, ◌<◌, ℕ, List, length, Option, None, Some, option_and_then, slice_index_or, IsSome, All, ◌==◌, if◌then◌else◌}
 use Rattle.net_model.specs.ClassTable.{ClassTable, class_at, representative}
-use Rattle.result_file.specs.declared.record.Mark.{Mark}
-use Rattle.result_file.specs.declared.record.Mark.TheVariants.{Rep}
-use Rattle.result_file.specs.declared.record.Evidence.{Evidence}
-use Rattle.result_file.specs.Marks.{number_mark}
+use Rattle.result_records.specs.declared.record.Mark.{Mark}
+use Rattle.result_records.specs.declared.record.Mark.TheVariants.{Rep}
+use Rattle.result_records.specs.declared.record.Evidence.{Evidence}
+use Rattle.result_records.specs.Marks.{number_mark}
 use Rattle.member_marks.specs.declared.marks.Given.{Given}
 
 abbrev pub given_to : List (Option Given) → ℕ → Option Given

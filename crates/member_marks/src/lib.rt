@@ -1,8 +1,8 @@
-//! The circuit that a result is about, and which numbers of a class table are marked, by the last evidence that names each.
+//! Which numbers of a class table are marked, by the last evidence that names each, and how many by each mark.
 #![tactic(auto)]
 
+mod counts;
 mod marks;
-mod subject;
 
+pub use counts::MarkCounts;
 pub use marks::{Given, Marks, mark_of};
-pub use subject::Subject;

@@ -1,12 +1,12 @@
 //! Which numbers are marked.
 
 ghost use Rattle.std.specs.Prelude.{◌≡◌, ◌<◌, ◌^◌, ℕ, List, Option, length, replicate, slice_set, None, Some, IfOk, IsSome, MatchOption};
-ghost use Rattle.result_file.specs.Marks.{mark_of as mark_by};
+ghost use Rattle.result_records.specs.Marks.{mark_of as mark_by};
 ghost use Rattle.member_marks.specs.declared.marks.Given as declared;
 ghost use Rattle.member_marks.specs.Given.{given_mark, AreAllMarked, IsLowestOpen};
 
 use class_refine::Classes;
-use result_file::{Mark, Proof};
+use result_records::{Mark, Proof};
 use std::alloc::{AllocError, Global};
 use std::marker::Model;
 

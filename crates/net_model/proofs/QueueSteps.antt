@@ -2,7 +2,7 @@
 use Rattle.std.proofs.Common.{◌≡◌, ◌≢◌, ◌∙◌, ℕ, ◌+◌, ◌-◌, ◌<◌, ◌≤◌, ◌⊎◌, inl, inr, true, false, List, [], ◌∷◌, ◌++◌, length, take, set, get_or, replicate, eqb, refl, sym, subst, ap, arith, length-append, length-take, get_or-take, append_assoc}
 use Rattle.std.specs.Prelude.{Contains, nat_lt}
 use Rattle.std.proofs.lemmas.Bool.{cases_lt, cases_eq, lt-ltb, false_from_ne_true}
-use Rattle.std.proofs.lemmas.List.{length-set, get_or-set_same, get_or-set_other, get_or_append_left, get_or_push, get_or_default, get_or_past, get_or-replicate, length-replicate, append-nil, take-append-le, take_more}
+use Rattle.std.proofs.lemmas.List.{length-set, get_or-set_same, get_or-set_other, get_or_append_left, get_or_push, get_or_default, get_or_past, get_or-replicate, length-replicate, take-append-le, take_more}
 use Rattle.std.proofs.lemmas.List.Elements.{Contains-push_cases, Contains-push, Contains-append_left, Contains-append_cases, Contains-get_or}
 use Rattle.std.proofs.lemmas.List.Sums.{sum_by-take-le}
 use Rattle.net_model.specs.Circuit.{Circuit, line_count, pins_of, Feeds}
@@ -32,17 +32,6 @@ ready_more waits order line closed none fresh distinct = record {
 }
 
 -- ---- one reader is told
-
-pub told_none : (waits order : List ℕ) → AreReady waits order → IsTold [] waits waits order order
-told_none waits order ready = record {
-  whole = refl;
-  fewer = λ line. omega arith;
-  more = [];
-  extends = sym (append-nil order);
-  only = λ line (k, h, e). absurd (omega (arith, h));
-  all = λ line (k, h, e) none. absurd (omega (arith, h));
-  ready = ready;
-}
 
 -- the readers so far with the one at hand are as many as there are at most
 pub enough_so_far : (readers old : List ℕ) (i : ℕ) → i < length readers → ((line : ℕ) → count_of line readers ≤ get_or old line 0) → count_of (get_or readers i 0) (take i readers ++ get_or readers i 0 ∷ []) ≤ get_or old (get_or readers i 0) 0

@@ -1,28 +1,75 @@
 -- Bits of one word, and of two words one behind another.
-use Rattle.std.proofs.Common.{◌≡◌, ◌∙◌, ℕ, zero, suc, ◌+◌, ◌-◌, ◌*◌, ◌/◌, ◌%◌, ◌<◌, ◌≤◌, ◌^◌, true, false, cond, eqb, refl, sym, ap, subst, arith, inl, inr}
-use Rattle.std.specs.Prelude.{min, nat_lt, ◌&&◌}
-use Rattle.std.specs.Int.{bit_at, w64}
-use Rattle.std.specs.Int.RustNames.{bit_or}
-use lib.Bits.{bit_and}
+use Rattle.std.proofs.Common.{◌≡◌, ◌∙◌, ℕ, zero, suc, ◌+◌, ◌-◌, ◌*◌, ◌/◌, ◌%◌, ◌<◌, ◌≤◌, ◌^◌, true, false, cond, eqb, min, max, refl, sym, ap, arith, inl, inr}
+use Rattle.std.specs.Prelude.{not, nat_lt, ◌==◌, ◌&&◌, ◌||◌, bit_and, bit_or, bit_xor, if◌then◌else◌}
+use Rattle.std.specs.Int.{bit_at, bit_not, trailing_zeros, w64}
+use Rattle.std.proofs.Math.Bool.{and-true, and-false}
 use Rattle.std.proofs.lemmas.Bool.{cases_lt, cases_eq, eq-eqb, ne_eqb}
 use Rattle.std.proofs.lemmas.Bool.Decides.{nat_tests}
 use Rattle.std.proofs.lemmas.Nat.{shr-shr, shr_split}
-use Rattle.std.proofs.lemmas.Nat.Bits.{bit_at-lt, bit_at-zero, bit_at_and, bit_at_or, bit_at_above, bit_at_cat_low, bit_at_cat_high, bit_at_mask_above, bit_at_mask_inside, bit_at_set_same, bit_at_set_other, bit_at_clear_same, bit_at_clear_other, same_from_bits_below}
+use Rattle.std.proofs.lemmas.Nat.Bits.{bit_at-lt, bit_at-zero, bit_at_and, bit_at_or, bit_at_xor, bit_at_not, bit_at_ones, bit_at-trailing_zeros, bit_at_above, bit_at_cat_low, bit_at_cat_high, bit_at_mask_above, bit_at_set_same, bit_at_set_other, bit_at_clear_same, bit_at_clear_other, same_from_bits_below}
 use Rattle.net_model.specs.Rows.{bit_of}
+
+-- ---- tests of two digits
+
+-- what holds of each two digits
+both_digits : (P : ℕ → ℕ → Type 0) → P 0 0 → P 0 1 → P 1 0 → P 1 1 → (m n : ℕ) → m < 2 → n < 2 → P m n
+both_digits P a b c d zero zero h k = a
+both_digits P a b c d zero (suc zero) h k = b
+both_digits P a b c d (suc zero) zero h k = c
+both_digits P a b c d (suc zero) (suc zero) h k = d
+both_digits P a b c d (suc (suc m)) n h k = absurd (omega arith)
+both_digits P a b c d m (suc (suc n)) h k = absurd (omega arith)
+
+min_test : (m n : ℕ) → m < 2 → n < 2 → (min m n == 1) ≡ ((m == 1) && (n == 1))
+min_test = both_digits (λ m n. (min m n == 1) ≡ ((m == 1) && (n == 1))) refl refl refl refl
+
+max_test : (m n : ℕ) → m < 2 → n < 2 → (max m n == 1) ≡ ((m == 1) || (n == 1))
+max_test = both_digits (λ m n. (max m n == 1) ≡ ((m == 1) || (n == 1))) refl refl refl refl
+
+odd_test : (m n : ℕ) → m < 2 → n < 2 → ((m + n) % 2 == 1) ≡ (if m == 1 then not (n == 1) else (n == 1))
+odd_test = both_digits (λ m n. ((m + n) % 2 == 1) ≡ (if m == 1 then not (n == 1) else (n == 1))) refl refl refl refl
+
+not_test : (m : ℕ) → m < 2 → (1 - m == 1) ≡ not (m == 1)
+not_test zero h = refl
+not_test (suc zero) h = refl
+not_test (suc (suc m)) h = absurd (omega arith)
 
 -- ---- numbers with the same bits
 
 same_bit : (a b : ℕ) → a < 2 → b < 2 → eqb a 1 ≡ eqb b 1 → a ≡ b
-same_bit zero zero h k e = refl
-same_bit zero (suc zero) h k e = cc
-same_bit (suc zero) zero h k e = cc
-same_bit (suc zero) (suc zero) h k e = refl
-same_bit (suc (suc a)) b h k e = absurd (omega arith)
-same_bit a (suc (suc b)) h k e = absurd (omega arith)
+same_bit = both_digits (λ a b. eqb a 1 ≡ eqb b 1 → a ≡ b) (λ e. refl) (λ e. cc) (λ e. cc) (λ e. refl)
 
 pub same_number : (width a b : ℕ) → a < 2 ^ width → b < 2 ^ width → ((k : ℕ) → k < width → bit_of a k ≡ bit_of b k) → a ≡ b
 same_number width a b ha hb same =
     same_from_bits_below width a b ha hb (λ k h. same_bit (bit_at a k) (bit_at b k) (bit_at-lt a k) (bit_at-lt b k) (same k h))
+
+-- ---- the digits of what words give
+
+pub digit_and : (a b lane : ℕ) → bit_of (bit_and a b) lane ≡ (bit_of a lane && bit_of b lane)
+digit_and a b lane = ap (λ d. d == 1) (bit_at_and a b lane) ∙ min_test (bit_at a lane) (bit_at b lane) (bit_at-lt a lane) (bit_at-lt b lane)
+
+pub digit_or : (a b lane : ℕ) → bit_of (bit_or a b) lane ≡ (bit_of a lane || bit_of b lane)
+digit_or a b lane = ap (λ d. d == 1) (bit_at_or a b lane) ∙ max_test (bit_at a lane) (bit_at b lane) (bit_at-lt a lane) (bit_at-lt b lane)
+
+pub digit_xor : (a b lane : ℕ) → bit_of (bit_xor a b) lane ≡ (if bit_of a lane then not (bit_of b lane) else bit_of b lane)
+digit_xor a b lane = ap (λ d. d == 1) (bit_at_xor a b lane) ∙ odd_test (bit_at a lane) (bit_at b lane) (bit_at-lt a lane) (bit_at-lt b lane)
+
+pub digit_not : (a lane : ℕ) → a < 2 ^ 64 → lane < 64 → bit_of (bit_not w64 a) lane ≡ not (bit_of a lane)
+digit_not a lane h k = ap (λ d. d == 1) (bit_at_not w64 a lane h k) ∙ not_test (bit_at a lane) (bit_at-lt a lane)
+
+-- ---- no word has a bit in 0, and another word has one
+
+pub digit_zero : (lane : ℕ) → bit_of 0 lane ≡ false
+digit_zero lane = ap (λ d. d == 1) (bit_at-zero lane)
+
+pub digit_ones : (k lane : ℕ) → lane < k → bit_of (2 ^ k - 1) lane ≡ true
+digit_ones k lane h = ap (λ d. d == 1) (bit_at_ones k lane h)
+
+-- a word other than 0 has a 1 somewhere
+pub some_digit : (word : ℕ) → 0 < word → word < 2 ^ 64 → (lane : ℕ) × (lane < 64) × (bit_of word lane ≡ true)
+some_digit word h k =
+    let last = bit_at-trailing_zeros w64 word h k in
+    (trailing_zeros w64 word, last.0, ap (λ d. d == 1) last.1)
 
 -- ---- one bit
 
@@ -42,31 +89,17 @@ bit-cleared word at h fits k l =
 
 -- ---- the lowest bits
 
-smaller_of_one : (a b : ℕ) → a < 2 → b ≡ 1 → min a b ≡ a
-smaller_of_one a b h e = omega (arith, h, e)
-
-smaller_of_none : (a b : ℕ) → b ≡ 0 → min a b ≡ 0
-smaller_of_none a b e = omega (arith, e)
-
-one_bit : (a b : ℕ) → a < 2 → b ≡ 1 → eqb (min a b) 1 ≡ eqb a 1
-one_bit a b h e = ap (λ n. eqb n 1) (smaller_of_one a b h e)
-
-no_bit : (a b : ℕ) → b ≡ 0 → eqb (min a b) 1 ≡ false
-no_bit a b e = let P : ℕ → Type 0 = λ n. eqb n 1 ≡ false in subst P (sym (smaller_of_none a b e)) refl
-
 -- a word under the mask of the lowest bits
 pub bit-masked : (word count k : ℕ) → bit_of (bit_and word (2 ^ count - 1)) k ≡ (nat_lt k count && bit_of word k)
 bit-masked word count k =
-    ap (λ b. eqb b 1) (bit_at_and word (2 ^ count - 1) k)
+    digit_and word (2 ^ count - 1) k
     ∙ elim (cases_lt k count) [
       | inl below ↦
           let yes : nat_lt k count ≡ true = grind (arith, below, nat_tests) in
-          one_bit (bit_at word k) (bit_at (2 ^ count - 1) k) (bit_at-lt word k) (bit_at_mask_inside 0 count k (omega arith) below)
-          ∙ ap (λ b. b && bit_of word k) (sym yes)
+          ap (λ b. bit_of word k && b) (digit_ones count k below) ∙ (and-true (bit_of word k) ∙ ap (λ b. b && bit_of word k) (sym yes))
       | inr past ↦
           let no : nat_lt k count ≡ false = grind (arith, past, nat_tests) in
-          no_bit (bit_at word k) (bit_at (2 ^ count - 1) k) (bit_at_mask_above 0 count k past)
-          ∙ ap (λ b. b && bit_of word k) (sym no)
+          ap (λ b. bit_of word k && b) (ap (λ d. d == 1) (bit_at_mask_above 0 count k past)) ∙ (and-false (bit_of word k) ∙ ap (λ b. b && bit_of word k) (sym no))
     ]
 
 -- ---- 64 bits of two words one behind another

@@ -7,7 +7,7 @@ use Rattle.std.proofs.lemmas.List.Elements.{Contains-append_left, Contains-push,
 use Rattle.std.proofs.lemmas.List.Sums.{sum_by-cons}
 use Rattle.net_model.specs.Circuit.{Circuit, FitsTogether, line_count, pins_of}
 use Rattle.net_model.specs.Order.{IsOrder}
-use Rattle.net_model.specs.Topological.{users_at, AreReaders}
+use Rattle.net_model.specs.Topological.{pins_reading, users_at, AreReaders}
 use Rattle.net_model.specs.Wiring.{AreUsers, reads_at}
 use Rattle.net_model.proofs.Copies.{pins_within}
 use Rattle.net_model.proofs.Elements.{Contains-map, none_in, first_or_later, get_or-replicate_anywhere}
@@ -143,6 +143,10 @@ module _ (c : Circuit) (fits : FitsTogether c) (order : List ℕ) (is : IsOrder 
       let lists : get_or readers line d ≡ users_at readers line = get_or_default readers line d [] h in
       let P : List ℕ → Type 0 = λ xs. (j : ℕ) (i : ℕ) → j < length xs → get_or xs j i < line_count c in
       subst P (sym lists) (λ j i l. reader_below line (get_or (users_at readers line) j i) (j, l, get_or_default (users_at readers line) j (get_or (users_at readers line) j i) i l)) at e k
+
+  -- a line has as many readers as before
+  pub renumbered_long : (f : ℕ → ℕ) (line : ℕ) → line < line_count c → length (get_or (map (map f) readers) line []) ≡ pins_reading c line
+  renumbered_long f line h = ap length (get_or-map (map f) readers line [] [] (omega (arith, h, are.whole))) ∙ length-map (users_at readers line) f ∙ are.long line h
 
   pub readers_by_place : (f : ℕ → ℕ) → ((place : ℕ) → place < length order → f (get_or order place 0) ≡ place) → AreUsers (length order) (reads_at c order) (map (map f) readers)
   readers_by_place f back =

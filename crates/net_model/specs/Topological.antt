@@ -21,12 +21,18 @@ users_at users line = slice_index_or users line []
 pub record AddsUser (user : ℕ) (lines : List ℕ) (old new : List (List ℕ)) : Type 0 where
   pub whole : length new ≡ length old
   pub total : sum_by length new ≡ sum_by length old + length lines
+  pub longer : (line : ℕ) → line < length old → length (users_at new line) ≡ length (users_at old line) + count_of line lines
   pub each : (line other : ℕ) → line < length old → count_of other (users_at new line) ≡ count_of other (users_at old line) + (if other == user then count_of line lines else 0)
+
+-- how many pins of gates read a line
+abbrev pub pins_reading : Circuit → ℕ → ℕ
+pins_reading c line = sum_by (λ gate. count_of line gate.pins) c.gates
 
 -- A line has each reader as often as the reader's gate reads it.
 pub record AreReaders (c : Circuit) (readers : List (List ℕ)) : Type 0 where
   pub whole : length readers ≡ line_count c
   pub total : sum_by length readers ≡ sum_by (λ gate. length gate.pins) c.gates
+  pub long : (line : ℕ) → line < line_count c → length (users_at readers line) ≡ pins_reading c line
   pub each : (line reader : ℕ) → line < line_count c → count_of reader (users_at readers line) ≡ count_of line (pins_of c reader)
 
 -- ---- the queue of ready gates

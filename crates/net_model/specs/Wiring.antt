@@ -1,6 +1,7 @@
 -- An order of the gates of a circuit, and who uses each line: the gates that read it, and the observed positions that show it.
-use Rattle.std.specs.Prelude.{◌≡◌, ℕ, ◌<◌, List, [], ◌∷◌, length, slice_index, slice_index_or, Contains}
+use Rattle.std.specs.Prelude.{◌≡◌, ℕ, ◌+◌, ◌<◌, List, [], ◌∷◌, length, slice_index, slice_index_or, Contains}
 use Rattle.net_model.specs.Circuit.{Circuit, IsCircuit, line_count, pins_of}
+use Rattle.net_model.specs.FaultList.{destinations}
 use Rattle.net_model.specs.Order.{IsOrder}
 
 -- The gates in an order; for each line the places in that order of the gates that read it, and the observed positions that show it.
@@ -26,7 +27,7 @@ reads_at c order place = pins_of c (slice_index order place)
 abbrev pub shows_at : Circuit → ℕ → List ℕ
 shows_at c position = slice_index c.positions position ∷ []
 
--- The wiring is that of the circuit.
+-- The wiring is that of the circuit. A line has as many users as destinations: a reader for each pin that reads it.
 pub record IsWiring (c : Circuit) (w : Wiring) : Type 0 where
   pub circuit : IsCircuit c
   pub order : IsOrder c w.order
@@ -34,3 +35,4 @@ pub record IsWiring (c : Circuit) (w : Wiring) : Type 0 where
   pub showing : AreUsers (length c.positions) (shows_at c) w.showing
   pub readers_whole : length w.readers ≡ line_count c
   pub showing_whole : length w.showing ≡ line_count c
+  pub fanout : (line : ℕ) → line < line_count c → length (slice_index_or w.readers line []) + length (slice_index_or w.showing line []) ≡ length (destinations c line)

@@ -32,10 +32,10 @@ impl Lists {
         requires numbers { sum_by length users.now < 2 ^ 32 }
         ensures { IfOk result (λ lists. lists ≡ users.now) }
     {
-        let mut starts = Vec::with_capacity(alloc, users.lines() as usize + 1)?;
+        let mut starts = Vec::with_capacity(alloc, users.count() + 1)?;
         starts.push_reserved(0);
         let mut numbers = Vec::new(alloc);
-        for line in 0..users.lines() {
+        for line in 0..users.count() {
             numbers.extend_from_slice(users.at(line))?;
             starts.push_reserved(numbers.len() as u32);
         }

@@ -54,7 +54,7 @@ pub(crate) fn sorted(alloc: Global, parts: &Parts, readers: &Users) -> Result<Qu
     let mut head = 0;
     while head < queue.order.len() {
         let line = queue.order[head];
-        queue.tell(readers.at(line))?;
+        queue.tell(readers.at(line as usize))?;
         head += 1;
     }
     Ok(queue)
@@ -66,7 +66,7 @@ pub(crate) fn readers_of(alloc: Global, parts: &Parts) -> Result<Users, AllocErr
     ensures { IfOk result (λ readers. AreReaders (parts_circuit parts.now) readers) }
 {
     let lines = parts.sources + parts.gates.len() as u32;
-    let mut readers = Users::none(alloc, lines)?;
+    let mut readers = Users::none(alloc, lines as usize)?;
     for line in parts.sources..lines {
         readers.add_all(line, pins_of(parts, line))?;
     }

@@ -3,7 +3,7 @@
 ghost use Rattle.std.specs.Prelude.{◌≡◌, ◌≢◌, ◌<◌, ◌^◌, ℕ, [], All, IfOk, length, slice_index, slice_index_or};
 ghost use Rattle.net_model.specs.Circuit.{FitsTogether, line_count};
 ghost use Rattle.net_model.specs.Order.{IsOrder};
-ghost use Rattle.net_model.specs.Topological.{parts_circuit, AreReaders};
+ghost use Rattle.net_model.specs.Topological.{parts_circuit, count_of, pins_reading, AreReaders};
 ghost use Rattle.net_model.specs.Wiring.{AreUsers, IsWiring, reads_at, shows_at};
 
 use crate::lists::Lists;
@@ -90,6 +90,7 @@ fn reader_places(
     requires readers { AreReaders (parts_circuit parts.now) readers }
     ensures users { IfOk result (λ places. AreUsers (length order.now) (reads_at (parts_circuit parts.now) order.now) places) }
     ensures whole { IfOk result (λ places. length places ≡ line_count (parts_circuit parts.now)) }
+    ensures long { IfOk result (λ places. (line : ℕ) → line < line_count (parts_circuit parts.now) → length (slice_index_or places line []) ≡ pins_reading (parts_circuit parts.now) line) }
 {
     let lines = parts.sources + parts.gates.len() as u32;
     let places = places_of(alloc, lines, order)?;
@@ -117,11 +118,12 @@ fn showing_of(alloc: Global, parts: &Parts) -> Result<Lists, AllocError>
     requires { FitsTogether (parts_circuit parts.now) }
     ensures users { IfOk result (λ places. AreUsers (length parts.now.positions.items) (shows_at (parts_circuit parts.now)) places) }
     ensures whole { IfOk result (λ places. length places ≡ line_count (parts_circuit parts.now)) }
+    ensures long { IfOk result (λ places. (line : ℕ) → length (slice_index_or places line []) ≡ count_of line parts.now.positions.items) }
 {
     let lines = parts.sources + parts.gates.len() as u32;
-    let mut users = Users::none(alloc, lines)?;
+    let mut users = Users::none(alloc, lines as usize)?;
     for (position, line) in parts.positions.iter().enumerate() {
-        users.add(*line, position as u32)?;
+        users.add(*line as usize, position as u32)?;
     }
     Lists::of_users(alloc, &users)
 }

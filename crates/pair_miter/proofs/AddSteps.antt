@@ -1,7 +1,7 @@
 -- Clauses written one after the other.
-use Rattle.std.proofs.Common.{◌≡◌, ◌+◌, ◌<◌, ◌^◌, refl, sym, ap, ◌∙◌, subst, arith}
-use Rattle.std.specs.Prelude.{Result, Ok, Err, IsErr, OnOk, List, [], ◌∷◌, ◌++◌, length}
-use Rattle.std.proofs.lemmas.List.{append-nil, append_assoc, length-append}
+use Rattle.std.proofs.Common.{◌≡◌, refl, sym, ap, ◌∙◌, subst}
+use Rattle.std.specs.Prelude.{Result, Ok, Err, IsErr, OnOk, List, [], ◌∷◌, ◌++◌}
+use Rattle.std.proofs.lemmas.List.{append-nil, append_assoc}
 use Rattle.clause_pool.specs.Clauses.{Clause, Clauses}
 use Rattle.clause_pool.proofs.Numbered.{begins_through}
 use Rattle.pair_miter.specs.Adds.{Adds, GrowsFor, KeepsClauses, WritesClauses}
@@ -68,16 +68,7 @@ beside first left = record { are = refl }
 tidied : {rows first left : List Clause} → InTwo rows first left → tidy rows ≡ tidy first ++ tidy left
 tidied {first = first} {left = left} two = ap tidy two.are ∙ tidy-append first left
 
-tidied_count : {rows first left : List Clause} → InTwo rows first left → length (tidy rows) ≡ length (tidy first) + length (tidy left)
-tidied_count {first = first} {left = left} two = ap length (tidied two) ∙ length-append (tidy first) (tidy left)
-
 -- ---- rows that are written in two steps
-
-pub first_few : (old : Clauses) {rows first left : List Clause} → InTwo rows first left → length old.clauses + length (tidy rows) < 2 ^ 30 → length old.clauses + length (tidy first) < 2 ^ 30
-first_few old two few = omega (arith, tidied_count two, few)
-
-pub left_few : {old now : Clauses} {rows first left : List Clause} → InTwo rows first left → Adds old now (tidy first) → length old.clauses + length (tidy rows) < 2 ^ 30 → length now.clauses + length (tidy left) < 2 ^ 30
-left_few {old} {now} {rows} {first} {left} two adds few = let there = ap length adds.written ∙ length-append old.clauses (tidy first) in omega (arith, there, tidied_count two, few)
 
 pub both_parts : {old now new : Clauses} {rows first left : List Clause} → InTwo rows first left → Adds old now (tidy first) → Adds now new (tidy left) → Adds old new (tidy rows)
 both_parts {old} {now} {new} {rows} {first} {left} two one other = subst (Adds old new) (sym (tidied two)) (adds_both old now new (tidy first) (tidy left) one other)
@@ -97,9 +88,6 @@ writes_left (Err e) new two adds writes = left_fails two adds writes
 pub record HasNext (rows before next : List Clause) : Type 0 where
   pub rest : List Clause
   pub are : InTwo rows (before ++ next) rest
-
-pub next_few : {old now : Clauses} {rows before next : List Clause} → HasNext rows before next → Adds old now (tidy before) → length old.clauses + length (tidy rows) < 2 ^ 30 → length now.clauses + length (tidy next) < 2 ^ 30
-next_few {old} {before = before} {next = next} has adds few = left_few (beside before next) adds (first_few old has.are few)
 
 pub next_fails : {old now new : Clauses} {rows before next : List Clause} → HasNext rows before next → Adds old now (tidy before) → KeepsClauses now new (tidy next) → KeepsClauses old new (tidy rows)
 next_fails {before = before} {next = next} has adds keeps = first_fails has.are (left_fails (beside before next) adds keeps)
@@ -122,17 +110,9 @@ remains_less {first = first} {left = left} r two adds = record {
   adds = both_parts (beside r.done first) r.adds adds;
 }
 
--- all clauses are few, so those that are left are
-pub remains_few : {old now : Clauses} {all rows first left : List Clause} → Remains old now all rows → InTwo rows first left → length old.clauses + length (tidy all) < 2 ^ 30 → length now.clauses + length (tidy first) < 2 ^ 30
-remains_few {now = now} r two few = first_few now two (left_few r.parted r.adds few)
-
 -- what fails in what is left fails in all
 pub remains_fails : {old now new : Clauses} {all rows first left : List Clause} → Remains old now all rows → InTwo rows first left → KeepsClauses now new (tidy first) → KeepsClauses old new (tidy all)
 remains_fails r two keeps = left_fails r.parted r.adds (first_fails two keeps)
-
--- the last call writes what is left
-pub remains_last_few : {old now : Clauses} {all left : List Clause} → Remains old now all left → length old.clauses + length (tidy all) < 2 ^ 30 → length now.clauses + length (tidy left) < 2 ^ 30
-remains_last_few r few = left_few r.parted r.adds few
 
 pub writes_last : {T E : Type 0} (r : Result T E) (new : Clauses) {old now : Clauses} {all left : List Clause} → Remains old now all left → WritesClauses r now new (tidy left) → WritesClauses r old new (tidy all)
 writes_last r new remains writes = writes_left r new remains.parted remains.adds writes
@@ -147,7 +127,3 @@ step {left = left} r same adds = remains_less r (one_of left same) adds
 
 pub step_fails : {old now new : Clauses} {all left : List Clause} {row written : Clause} → Remains old now all (row ∷ left) → written ≡ row → KeepsClauses now new (tidy (written ∷ [])) → KeepsClauses old new (tidy all)
 step_fails {left = left} r same keeps = remains_fails r (one_of left same) keeps
-
-pub step_few : {old now : Clauses} {all left : List Clause} {row written : Clause} → Remains old now all (row ∷ left) → written ≡ row → length old.clauses + length (tidy all) < 2 ^ 30
-    → length now.clauses + length (tidy (written ∷ [])) < 2 ^ 30
-step_few {left = left} r same few = remains_few r (one_of left same) few

@@ -1,14 +1,13 @@
 -- The parts of a miter: the clauses of the lines, and those of the differences.
-use Rattle.std.proofs.Common.{◌≡◌, ◌∙◌, ◌+◌, ◌<◌, ◌^◌, ℕ, List, [], ◌∷◌, ◌++◌, length, get_or, take, drop, refl, ap, sym, arith, append_assoc}
+use Rattle.std.proofs.Common.{◌≡◌, ◌∙◌, ◌+◌, ◌<◌, ℕ, List, [], ◌∷◌, ◌++◌, length, get_or, take, drop, refl, ap, sym, append_assoc}
 use Rattle.std.specs.Prelude.{flat_map, map}
 use Rattle.net_model.specs.declared.fault.Fault.{Fault}
-use Rattle.net_model.specs.Circuit.{Circuit, IsCircuit}
+use Rattle.net_model.specs.Circuit.{Circuit}
 use Rattle.net_model.specs.Scope.{relevant_lines, reached_positions}
 use Rattle.clause_pool.specs.Clauses.{Clause, Clauses}
 use Rattle.pair_miter.specs.Adds.{Adds}
 use Rattle.pair_miter.specs.Miter.{line_clauses, difference_clauses, lines_part, differences_part, raw_clauses, tidy, miter}
 use Rattle.pair_miter.proofs.AddSteps.{InTwo, HasNext, beside, both_parts}
-use Rattle.pair_miter.proofs.Bounds.{few_clauses}
 use Rattle.pair_miter.proofs.ClauseParts.{clauses_more, clauses_rest}
 use Rattle.pair_miter.proofs.Differences.{difference_literal}
 
@@ -16,9 +15,6 @@ module _ (c : Circuit) (f g : Fault) where
   pub miter_parts : miter c f g ≡ tidy (lines_part c f g ++ differences_part c f g)
   unfolding miter raw_clauses
   miter_parts = refl
-
-  pub parts_few : IsCircuit c → length (tidy (lines_part c f g ++ differences_part c f g)) < 2 ^ 30
-  parts_few w = let same = ap length miter_parts in omega (arith, same, few_clauses c f g w)
 
   pub parts_of_miter : InTwo (lines_part c f g ++ differences_part c f g) (lines_part c f g) (differences_part c f g)
   parts_of_miter = beside (lines_part c f g) (differences_part c f g)

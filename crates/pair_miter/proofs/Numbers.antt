@@ -45,10 +45,6 @@ module _ (c : Circuit) (f g : Fault) where
   unfolding variables_below
   variables_below-more line = sum_more (line_variables c f g) line
 
-  pub variables_below-none : variables_below c f g 0 ≡ 0
-  unfolding variables_below
-  variables_below-none = refl
-
   pub variables_below-rises : (n m : ℕ) → n ≤ m → variables_below c f g n ≤ variables_below c f g m
   unfolding variables_below
   variables_below-rises n m le = sum_rises (line_variables c f g) n m le

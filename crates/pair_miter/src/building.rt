@@ -65,7 +65,6 @@ fn write_lines(
 ) -> Result<(), AllocError>
     requires variables { writer.old.tidier ≡ variable_count numbering.now.circuit numbering.now.f numbering.now.g }
     requires helper { writer.old.helper ≡ first_helper numbering.now.circuit numbering.now.f numbering.now.g First 0 }
-    requires few { length pool.old.clauses + length (tidy (lines_part numbering.now.circuit numbering.now.f numbering.now.g)) < 2 ^ 30 }
     ensures written { WritesClauses result pool.old pool.new (tidy (lines_part numbering.now.circuit numbering.now.f numbering.now.g)) }
     ensures variables { writer.new.tidier ≡ writer.old.tidier }
 {
@@ -85,7 +84,6 @@ fn write_differences(
 ) -> Result<(), AllocError>
     requires variables { writer.old.tidier ≡ variable_count numbering.now.circuit numbering.now.f numbering.now.g }
     requires difference { first_difference ≡ difference_variable numbering.now.circuit numbering.now.f numbering.now.g 0 }
-    requires few { length pool.old.clauses + length (tidy (differences_part numbering.now.circuit numbering.now.f numbering.now.g)) < 2 ^ 30 }
     ensures written { WritesClauses result pool.old pool.new (tidy (differences_part numbering.now.circuit numbering.now.f numbering.now.g)) }
     ensures variables { writer.new.tidier ≡ writer.old.tidier }
 {

@@ -30,7 +30,6 @@ pub(crate) fn write_gate(
     requires operands { All (IsOperand tidier.old) operands.now }
     requires helpers { is_parity kind ≡ true → AreHelpers tidier.old helper (length (variables operands.now)) }
     requires pins { IsTrue (takes_pins kind (length operands.now)) }
-    requires few { length pool.old.clauses + length (tidy (gate_rows kind output helper operands.now)) < 2 ^ 30 }
     ensures written { WritesClauses result pool.old pool.new (tidy (gate_rows kind output helper operands.now)) }
     ensures variables { tidier.new ≡ tidier.old }
 {
@@ -59,7 +58,6 @@ fn write_decided(
 ) -> Result<(), AllocError>
     requires output { l.variable ≤ tidier.old }
     requires operands { All (IsOperand tidier.old) operands.now }
-    requires few { length pool.old.clauses + length (tidy (decided_rows decides l operands.now)) < 2 ^ 30 }
     ensures written { WritesClauses result pool.old pool.new (tidy (decided_rows decides l operands.now)) }
     ensures variables { tidier.new ≡ tidier.old }
 {
@@ -79,7 +77,6 @@ fn write_decided(
 fn write_same(tidier: &mut Tidier, pool: &mut Pool, y: Lit, variable: u32) -> Result<(), AllocError>
     requires output { y.variable ≤ tidier.old }
     requires variable { IsVariable tidier.old variable }
-    requires few { length pool.old.clauses + length (tidy (same_value y variable)) < 2 ^ 30 }
     ensures written { WritesClauses result pool.old pool.new (tidy (same_value y variable)) }
     ensures variables { tidier.new ≡ tidier.old }
 {
@@ -98,7 +95,6 @@ fn write_odd(
     requires output { y.variable ≤ tidier.old }
     requires operands { All (IsOperand tidier.old) operands.now }
     requires helpers { AreHelpers tidier.old helper (length (variables operands.now)) }
-    requires few { length pool.old.clauses + length (tidy (odd_rows y helper operands.now)) < 2 ^ 30 }
     ensures written { WritesClauses result pool.old pool.new (tidy (odd_rows y helper operands.now)) }
     ensures variables { tidier.new ≡ tidier.old }
 {
@@ -132,7 +128,6 @@ fn write_xor_onward(
     requires second { IsVariable tidier.old second }
     requires operands { All (IsOperand tidier.old) operands.now }
     requires helpers { AreHelpers tidier.old helper (2 + length (variables operands.now)) }
-    requires few { length pool.old.clauses + length (tidy (xor_onward y helper first (second ∷ variables operands.now))) < 2 ^ 30 }
     ensures written { WritesClauses result pool.old pool.new (tidy (xor_onward y helper first (second ∷ variables operands.now))) }
     ensures variables { tidier.new ≡ tidier.old }
 {
@@ -162,7 +157,6 @@ fn write_xor_of_two(
     requires output { a.variable ≤ tidier.old }
     requires first { b.variable ≤ tidier.old }
     requires second { IsVariable tidier.old variable }
-    requires few { length pool.old.clauses + length (tidy (xor_of_two a b (pos_literal variable))) < 2 ^ 30 }
     ensures written { WritesClauses result pool.old pool.new (tidy (xor_of_two a b (pos_literal variable))) }
     ensures variables { tidier.new ≡ tidier.old }
 {
@@ -183,8 +177,7 @@ fn write_clauses<const N: usize>(
     pool: &mut Pool,
     clauses: &[[Lit; N]],
 ) -> Result<(), AllocError>
-    requires variables { All (All (λ (l : Literal). l.variable ≤ tidier.old)) clauses.now }
-    requires few { length pool.old.clauses + length (tidy clauses.now) < 2 ^ 30 }
+    requires { All (All (λ (l : Literal). l.variable ≤ tidier.old)) clauses.now }
     ensures written { WritesClauses result pool.old pool.new (tidy clauses.now) }
     ensures variables { tidier.new ≡ tidier.old }
 {
@@ -204,7 +197,6 @@ fn write_chosen(
     requires output { y.variable ≤ tidier.old }
     requires operands { All (IsOperand tidier.old) operands.now }
     requires three { length operands.now ≡ 3 }
-    requires few { length pool.old.clauses + length (tidy (chosen_rows y operands.now)) < 2 ^ 30 }
     ensures written { WritesClauses result pool.old pool.new (tidy (chosen_rows y operands.now)) }
     ensures variables { tidier.new ≡ tidier.old }
 {
@@ -225,7 +217,6 @@ fn write_case(
     requires output { y.variable ≤ tidier.old }
     requires chooser { IsOperand tidier.old chooser.now }
     requires chosen { IsOperand tidier.old chosen.now }
-    requires few { length pool.old.clauses + length (tidy (case_rows y unless chooser.now chosen.now)) < 2 ^ 30 }
     ensures written { WritesClauses result pool.old pool.new (tidy (case_rows y unless chooser.now chosen.now)) }
     ensures variables { tidier.new ≡ tidier.old }
 {

@@ -58,8 +58,7 @@ impl Tidier {
 
     /// Writes a clause.
     pub(crate) fn write(&mut self, pool: &mut Pool, clause: &[Lit]) -> Result<(), AllocError>
-        requires variables { All (λ l. l.variable ≤ self.old) clause.now }
-        requires few { length pool.old.clauses + length (tidy (clause.now ∷ [])) < 2 ^ 30 }
+        requires { All (λ l. l.variable ≤ self.old) clause.now }
         ensures written { WritesClauses result pool.old pool.new (tidy (clause.now ∷ [])) }
         ensures variables { self.new ≡ self.old }
     {
@@ -76,7 +75,6 @@ impl Tidier {
     ) -> Result<(), AllocError>
         requires operands { All (IsOperand self.old) operands.now }
         requires first { first.variable ≤ self.old }
-        requires few { length pool.old.clauses + length (tidy (with_all first positive (variables operands.now) ∷ [])) < 2 ^ 30 }
         ensures written { WritesClauses result pool.old pool.new (tidy (with_all first positive (variables operands.now) ∷ [])) }
         ensures variables { self.new ≡ self.old }
     {
@@ -98,7 +96,6 @@ impl Tidier {
         requires first { l.variable ≤ self.old }
         requires chooser { IsOperand self.old chooser.now }
         requires chosen { IsOperand self.old chosen.now }
-        requires few { length pool.old.clauses + length (tidy (case_clause l unless chooser.now positive chosen.now)) < 2 ^ 30 }
         ensures written { WritesClauses result pool.old pool.new (tidy (case_clause l unless chooser.now positive chosen.now)) }
         ensures variables { self.new ≡ self.old }
     {
@@ -167,7 +164,6 @@ fn write_once(
 ) -> Result<(), AllocError>
     requires places { HavePlaces marks.old.items clause.now }
     requires clear { AreMarksOfClause marks.old.items [] }
-    requires few { length pool.old.clauses + length (tidy (clause.now ∷ [])) < 2 ^ 30 }
     ensures written { WritesClauses result pool.old pool.new (tidy (clause.now ∷ [])) }
     ensures places { length marks.new.items ≡ length marks.old.items }
     ensures clear { AreMarksOfClause marks.new.items [] }
@@ -218,11 +214,14 @@ fn clear_marks(marks: &mut Vec<bool>, clause: &[Lit])
     }
 }
 
-// Adds a clause to a pool, which grows only where it lacks room.
+// Adds a clause to a pool, which grows only where it lacks room. There are numbers for no more clauses than this, and
+// no miter has so many.
 fn push(pool: &mut Pool, clause: &[Lit]) -> Result<(), AllocError>
-    requires { length pool.old.clauses < 2 ^ 30 }
     ensures written { WritesClauses result pool.old pool.new (clause.now ∷ []) }
 {
+    if pool.len() == u32::MAX {
+        return Err(AllocError);
+    }
     pool.add(clause)?;
     Ok(())
 }

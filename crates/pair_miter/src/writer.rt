@@ -52,7 +52,6 @@ impl Writer {
         requires line { line < line_count numbering.now.circuit }
         requires relevant { is_relevant numbering.now.circuit numbering.now.f numbering.now.g line ≡ true }
         requires helper { self.old.helper ≡ first_helper numbering.now.circuit numbering.now.f numbering.now.g Side.First line }
-        requires few { length pool.old.clauses + length (tidy (line_clauses numbering.now.circuit numbering.now.f numbering.now.g line)) < 2 ^ 30 }
         ensures written { WritesClauses result pool.old pool.new (tidy (line_clauses numbering.now.circuit numbering.now.f numbering.now.g line)) }
         ensures helper { OnOk result (self.new.helper ≡ self.old.helper + line_helpers numbering.now.circuit numbering.now.f numbering.now.g line) }
         ensures variables { self.new.tidier ≡ self.old.tidier }
@@ -77,7 +76,6 @@ impl Writer {
         requires relevant { is_relevant numbering.now.circuit numbering.now.f numbering.now.g line ≡ true }
         requires copy { HasCopy numbering.now.circuit numbering.now.f numbering.now.g side line }
         requires helper { self.old.helper ≡ first_helper numbering.now.circuit numbering.now.f numbering.now.g side line }
-        requires few { length pool.old.clauses + length (tidy (copy_clauses numbering.now.circuit numbering.now.f numbering.now.g side line)) < 2 ^ 30 }
         ensures written { WritesClauses result pool.old pool.new (tidy (copy_clauses numbering.now.circuit numbering.now.f numbering.now.g side line)) }
         ensures helper { OnOk result (self.new.helper ≡ self.old.helper + copy_helpers numbering.now.circuit numbering.now.f numbering.now.g side line) }
         ensures variables { self.new.tidier ≡ self.old.tidier }
@@ -117,7 +115,6 @@ impl Writer {
         requires reached { is_reached numbering.now.circuit numbering.now.f numbering.now.g position ≡ true }
         requires difference { difference ≡ difference_variable numbering.now.circuit numbering.now.f numbering.now.g position }
         requires variables { self.old.tidier ≡ variable_count numbering.now.circuit numbering.now.f numbering.now.g }
-        requires few { length pool.old.clauses + length (tidy (difference_clauses numbering.now.circuit numbering.now.f numbering.now.g position)) < 2 ^ 30 }
         ensures written { WritesClauses result pool.old pool.new (tidy (difference_clauses numbering.now.circuit numbering.now.f numbering.now.g position)) }
         ensures variables { self.new.tidier ≡ self.old.tidier }
     {

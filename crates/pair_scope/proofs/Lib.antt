@@ -1,4 +1,3 @@
-pub mod TakeLemmas
 pub mod PlaceLemmas
 pub mod SplitLemmas
 pub mod RelevantLemmas

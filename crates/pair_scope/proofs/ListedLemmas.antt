@@ -1,6 +1,6 @@
 -- Lists of marked numbers: those of a pair of faults, and of a circuit without faults.
 use Rattle.std.proofs.Common.{◌≡◌, ℕ, ◌<◌, List, length, get_or, refl, sym, ◌∙◌, ap, subst, arith, inl, inr}
-use Rattle.std.specs.Prelude.{Bool, false, ◌||◌, Contains, filter}
+use Rattle.std.specs.Prelude.{Bool, false, Contains, filter}
 use Rattle.std.specs.List.{list_any, range_with_len}
 use Rattle.std.proofs.lemmas.Bool.{cases_lt}
 use Rattle.std.proofs.lemmas.List.{get_or_past}
@@ -17,8 +17,9 @@ use Rattle.event_queue.specs.Pending.{is_pending}
 use Rattle.pair_scope.specs.declared.listed.Listed.{Listed}
 use Rattle.pair_scope.specs.Places.{leads_to_shown}
 use Rattle.pair_scope.specs.Listed.{AreListed, IsBlank, IsListed}
-use Rattle.pair_scope.proofs.SplitLemmas.{none_split}
-use Rattle.pair_scope.proofs.TakeLemmas.{filter_none, filter_same}
+use Rattle.net_model.proofs.ReachedPositions.{none_reached}
+use Rattle.net_model.proofs.ScopeLaws.{none_split}
+use Rattle.net_model.proofs.Filtered.{filter_none, filter_same}
 
 -- what passes a test is listed, of a list of all numbers below a count
 module _ (count : ℕ) (test : ℕ → Bool) (xs : List ℕ) (a : Listed) where
@@ -90,20 +91,16 @@ shown_relevant c f g positions e line = ap (λ xs. leads_to_shown c xs line) e
 -- ---- without faults
 
 module _ (c : Circuit) where
-  none_reached : (at : ℕ) → is_reached c Free Free at ≡ false
-  unfolding is_reached
-  none_reached at = ap (λ b. b || false || false) (none_split c Free Free (get_or c.positions at 0) refl refl)
-
   none_relevant : (line : ℕ) → is_relevant c Free Free line ≡ false
   unfolding is_relevant reached_positions
-  none_relevant line = ap (list_any (λ at. leads_to c line (get_or c.positions at 0))) (filter_none (is_reached c Free Free) (range_with_len 0 (length c.positions)) none_reached)
+  none_relevant line = ap (list_any (λ at. leads_to c line (get_or c.positions at 0))) (filter_none (is_reached c Free Free) (range_with_len 0 (length c.positions)) (none_reached c))
 
   pub free_split : (lines : List ℕ) (a : Listed) → IsBlank (line_count c) a → IsListed (line_count c) (is_split c Free Free) (filter (is_split c Free Free) lines) a
   free_split lines a blank = blank_listed (line_count c) (is_split c Free Free) lines a (λ n. none_split c Free Free n refl refl) blank
 
   pub free_reached : (a : Listed) → IsBlank (length c.positions) a → IsListed (length c.positions) (is_reached c Free Free) (reached_positions c Free Free) a
   unfolding reached_positions
-  free_reached a blank = blank_listed (length c.positions) (is_reached c Free Free) (range_with_len 0 (length c.positions)) a none_reached blank
+  free_reached a blank = blank_listed (length c.positions) (is_reached c Free Free) (range_with_len 0 (length c.positions)) a (none_reached c) blank
 
   pub free_relevant : (a : Listed) → IsBlank (line_count c) a → IsListed (line_count c) (is_relevant c Free Free) (relevant_lines c Free Free) a
   unfolding relevant_lines

@@ -1,6 +1,6 @@
 -- The split lines, from the first changed ones on by their places.
 use Rattle.std.proofs.Common.{◌≡◌, ◌≢◌, ℕ, zero, suc, ◌+◌, ◌-◌, ◌<◌, ◌≤◌, ◌⊎◌, List, [], ◌∷◌, ◌++◌, length, take, get_or, set, refl, sym, ◌∙◌, ap, subst, arith, inl, inr}
-use Rattle.std.specs.Prelude.{Bool, true, false, Option, None, Some, ◌==◌, ◌||◌, filter}
+use Rattle.std.specs.Prelude.{Bool, true, false, Option, None, Some, ◌==◌, filter}
 use Rattle.std.specs.Cmp.{both_ways}
 use Rattle.std.specs.Option.{option_map_or}
 use Rattle.std.specs.List.{list_any}
@@ -18,14 +18,9 @@ use Rattle.event_queue.specs.Pending.{is_pending, IsEmpty, IsLowest}
 use Rattle.event_queue.proofs.Marks.{lowest_left}
 use Rattle.pair_scope.specs.Places.{ArePlacesOf, AreWokenFrom, HasBegun}
 use Rattle.pair_scope.proofs.PlaceLemmas.{lines_count, line_inside, place_of, same_place, stands_before}
-use Rattle.pair_scope.proofs.TakeLemmas.{filter_gap, filter_next}
+use Rattle.net_model.proofs.Filtered.{filter_gap, filter_next}
 
 -- ---- split lines
-
--- nothing is split without faults
-pub none_split : (c : Circuit) (f g : Fault) (line : ℕ) → first_changed f ≡ None → first_changed g ≡ None → is_split c f g line ≡ false
-unfolding is_split reaches_line
-none_split c f g line e k = λ i. option_map_or (λ from. leads_to c from line) (e i) false || option_map_or (λ from. leads_to c from line) (k i) false
 
 reached_first : (c : Circuit) (f : Fault) (line : ℕ) → first_changed f ≡ Some line → reaches_line c f line ≡ true
 unfolding reaches_line leads_to

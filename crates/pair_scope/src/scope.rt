@@ -140,7 +140,8 @@ impl<'a> PairScope<'a> {
         self.relevant.marks[line as usize]
     }
 
-    /// Whether a position is reached.
+    /// Whether a position is reached. The program goes through `reached_positions`: this is for tests and for callers
+    /// from outside.
     pub fn reached(&self, position: u32) -> bool
         requires { position < length self.now.circuit.positions }
         ensures { result ≡ is_reached self.now.circuit self.now.f self.now.g position }

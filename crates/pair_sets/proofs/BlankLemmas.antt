@@ -1,15 +1,17 @@
 -- The circuit without faults: none of its positions is reached, and all pairs are those of the base.
-use Rattle.std.proofs.Common.{◌≡◌, ℕ, ◌*◌, ◌<◌, ◌≤◌, List, [], ◌∷◌, length, get_or, refl, sym, ◌∙◌, ap, subst, arith, inl, inr}
-use Rattle.std.specs.Prelude.{Bool, true, false, All, Contains, ◌||◌, is_some, reverse, if◌then◌else◌}
+use Rattle.std.proofs.Common.{◌≡◌, ℕ, ◌*◌, ◌<◌, ◌≤◌, List, [], ◌∷◌, length, refl, sym, ◌∙◌, ap, subst, arith, inl, inr}
+use Rattle.std.specs.Prelude.{Bool, true, false, All, Contains, reverse, if◌then◌else◌}
+use Rattle.std.specs.List.{range_with_len}
 use Rattle.std.proofs.lemmas.Bool.{cases_lt, false_from_ne_true}
 use Rattle.std.proofs.lemmas.List.{ext_get_or, get_or_past, length-reverse}
 use Rattle.net_model.specs.declared.fault.Fault.{Fault}
 use Rattle.net_model.specs.declared.fault.Fault.TheVariants.{Free}
 use Rattle.net_model.specs.Answer.{bit_at}
 use Rattle.net_model.specs.Circuit.{Circuit, IsCircuit, line_count}
-use Rattle.net_model.specs.Fault.{stuck_position}
 use Rattle.net_model.specs.Scope.{is_split, is_reached, reached_positions}
+use Rattle.net_model.proofs.Filtered.{filter_none}
 use Rattle.net_model.proofs.Relevance.{reached_listed}
+use Rattle.net_model.proofs.ReachedPositions.{none_reached as unreached}
 use Rattle.fault_list.specs.Scope.{AreMarksOfTest}
 use Rattle.pair_sets.specs.declared.sim.Level.{Level}
 use Rattle.pair_sets.specs.declared.tally.Tally.{Tally}
@@ -19,34 +21,29 @@ use Rattle.pair_sets.specs.CubeState.{set_at, ArePairSets, position_pairs}
 use Rattle.pair_sets.specs.PairSimFields.{cube_of, AreCubeLevels}
 use Rattle.pair_sets.specs.Tally.{HasTallyPlaces, IsTallyBlank, IsBlankBut, ArePairsShown, IsTally}
 use Rattle.pair_sets.proofs.LevelLemmas.{reached_within}
-use Rattle.pair_sets.proofs.MarkLemmas.{filter_gap}
-use Rattle.pair_sets.proofs.SpreadLemmas.{none_split, unsplit_same}
+use Rattle.pair_sets.proofs.SpreadLemmas.{unsplit_same}
 use Rattle.pair_sets.proofs.TallyLemmas.{shown_unreached}
 use Rattle.pair_sets.proofs.TrailLemmas.{few_pairs}
 
 -- ---- positions
 
 module _ (c : Circuit) where
-  unreached : (at : ℕ) → is_reached c Free Free at ≡ false
-  unfolding is_reached
-  unreached at = ap (λ b. b || is_some (stuck_position Free at) || is_some (stuck_position Free at)) (none_split c (get_or c.positions at 0))
-
   none_reached : reached_positions c Free Free ≡ []
   unfolding reached_positions
-  none_reached = filter_gap (is_reached c Free Free) (length c.positions) 0 (length c.positions) (omega arith) (λ n low high. unreached n)
+  none_reached = filter_none (is_reached c Free Free) (range_with_len 0 (length c.positions)) (unreached c)
 
   -- nothing is kept without faults
   pub blank_tally : (tally : Tally) → IsTallyBlank tally → HasTallyPlaces (length c.positions) tally → IsTally c Free Free tally
   blank_tally tally blank places = record { reached = blank.reached ∙ sym none_reached; places = places }
 
   pub blank_shown : (tally : Tally) (sets : List PairSet) → IsTallyBlank tally → ArePairsShown c Free Free sets tally.shown
-  blank_shown tally sets blank at h = shown_unreached c Free Free sets tally.shown at (unreached at) (blank.free at)
+  blank_shown tally sets blank at h = shown_unreached c Free Free sets tally.shown at (unreached c at) (blank.free at)
 
   pub free_blank : (tally : Tally) (sets : List PairSet) → IsTally c Free Free tally → ArePairsShown c Free Free sets tally.shown → IsTallyBlank tally
   free_blank tally sets are shown = record {
     reached = are.reached ∙ none_reached;
     free = λ at. elim (cases_lt at (length c.positions)) [
-      | inl under ↦ shown at under ∙ ap (λ b. if b then position_pairs c Free Free sets at else free_pairs) (unreached at)
+      | inl under ↦ shown at under ∙ ap (λ b. if b then position_pairs c Free Free sets at else free_pairs) (unreached c at)
       | inr over ↦ get_or_past tally.shown at free_pairs (omega (arith, over, are.places.whole))
     ];
   }

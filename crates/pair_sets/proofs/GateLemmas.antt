@@ -126,9 +126,6 @@ same_sets_are s t e =
       both_one = (booleans_Decides s.both_one t.both_one).0 third.1 i;
     }
 
-pub same_sets_same : (s : PairSet) → same_sets s s ≡ true
-same_sets_same s = rw ((booleans_Decides s.both_zero s.both_zero).1 refl, (booleans_Decides s.zero_one s.zero_one).1 refl, (booleans_Decides s.one_zero s.one_zero).1 refl, (booleans_Decides s.both_one s.both_one).1 refl) refl
-
 abbrev pub and_set : PairSet → PairSet → PairSet
 and_set s t = record {
   both_zero = (((s.both_zero && some_pair t) || (some_pair s && t.both_zero)) || (s.zero_one && t.one_zero)) || (s.one_zero && t.zero_one);

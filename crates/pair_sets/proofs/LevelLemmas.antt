@@ -22,10 +22,10 @@ use Rattle.pair_sets.specs.Cube.{Cube, FixesOnce, fixed_bit}
 use Rattle.pair_sets.specs.PairSet.{forced_pairs, free_pairs, fixed_pairs, only_equal, only_unequal, IsWithin}
 use Rattle.pair_sets.specs.CubeState.{set_at, source_pairs, ArePairSets, position_pairs, state_of}
 use Rattle.pair_sets.specs.Trail.{undone}
-use Rattle.pair_sets.specs.Events.{AreLoose, gate_line_pairs}
+use Rattle.pair_sets.specs.Events.{gate_line_pairs}
 use Rattle.pair_sets.specs.PairSimFields.{cube_of, IsLevelRight, AreCubeLevels, ArePairSimFields}
 use Rattle.pair_sets.proofs.CubeLemmas.{few_fixed}
-use Rattle.pair_sets.proofs.PairLemmas.{within_same, within_forced}
+use Rattle.pair_sets.proofs.PairLemmas.{within_forced}
 use Rattle.pair_sets.proofs.SeenLemmas.{source_line_pairs, any_cube}
 use Rattle.pair_sets.proofs.TrailLemmas.{undone-append}
 
@@ -80,9 +80,6 @@ module _ (c : Circuit) (f g : Fault) (cube : Cube) (sets : List PairSet) (are : 
 module _ (c : Circuit) (f g : Fault) (cube : Cube) (sets : List PairSet) (are : ArePairSets c f g cube sets) where
   pub gates_right : (line : ℕ) → c.sources ≤ line → line < line_count c → set_at sets line ≡ gate_line_pairs c f g sets line
   gates_right line above below = are.each line below ∙ any_cube c f g cube [] sets line above below
-
-  pub gates_loose : AreLoose c f g sets
-  gates_loose line above below = within_same (gate_line_pairs c f g sets line) (set_at sets line) (sym (gates_right line above below))
 
 -- ---- levels
 

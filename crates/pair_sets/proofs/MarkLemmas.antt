@@ -1,15 +1,13 @@
--- Marks of lines with a list of the marked ones, and of positions in ascending order.
-use Rattle.std.proofs.Common.{◌≡◌, ℕ, zero, suc, ◌+◌, ◌-◌, ◌<◌, ◌≤◌, List, [], ◌∷◌, ◌++◌, length, drop, get_or, set, refl, sym, ◌∙◌, ap, subst, arith, inl, inr}
-use Rattle.std.specs.Prelude.{Bool, Some, true, false, not, cond, count_by, filter, find, Contains}
-use Rattle.std.specs.List.{range_with_len}
+-- Marks of lines with a list of the marked ones.
+use Rattle.std.proofs.Common.{◌≡◌, ℕ, suc, ◌+◌, ◌<◌, ◌≤◌, List, [], ◌∷◌, ◌++◌, length, drop, get_or, set, refl, sym, ◌∙◌, ap, subst, arith, inl, inr}
+use Rattle.std.specs.Prelude.{Bool, Some, true, false, not, cond, count_by, find, Contains}
 use Rattle.std.proofs.lemmas.Bool.{cases_eq}
 use Rattle.std.proofs.Math.Seq.{drop-cons}
-use Rattle.std.proofs.lemmas.List.{append-nil, get_or-set_same, get_or-set_other}
-use Rattle.std.proofs.lemmas.List.Elements.{Contains-append_left, Contains-push, Contains-push_cases, filter-append}
+use Rattle.std.proofs.lemmas.List.{get_or-set_same, get_or-set_other}
+use Rattle.std.proofs.lemmas.List.Elements.{Contains-append_left, Contains-push, Contains-push_cases}
 use Rattle.std.proofs.lemmas.List.Sums.{sum_by-set}
 use Rattle.net_model.specs.Answer.{bit_at}
 use Rattle.net_model.proofs.Elements.{true_false}
-use Rattle.net_model.proofs.Orders.{range_with_len_more}
 
 -- ---- one line
 
@@ -54,29 +52,6 @@ module _ (marks : List Bool) (lines : List ℕ) (line : ℕ) (inside : line < le
   unmarked_more =
       let counted = sum_by-set (λ (b : Bool). cond (not b) 1 0) marks line false false inside in
       omega (arith, counted)
-
--- ---- numbers that pass a test, ascending
-
-module _ (test : ℕ → Bool) where
-  -- none pass in a gap
-  pub filter_gap : (gap from to : ℕ) → from + gap ≡ to → ((n : ℕ) → from ≤ n → n < to → test n ≡ false) → filter test (range_with_len 0 to) ≡ filter test (range_with_len 0 from)
-  filter_gap zero from to e none = let same : to ≡ from = omega arith in ap (λ n. filter test (range_with_len 0 n)) same
-  filter_gap (suc gap) from to e none =
-      let last : ℕ = from + gap in
-      ap (filter test) (range_with_len_more 0 to last last (omega arith) (omega arith))
-      ∙ filter-append test (range_with_len 0 last) (last ∷ [])
-      ∙ ap (λ b. filter test (range_with_len 0 last) ++ cond b (last ∷ []) []) (none last (omega arith) (omega arith))
-      ∙ append-nil (filter test (range_with_len 0 last))
-      ∙ filter_gap gap from last refl (λ n low high. none n low (omega arith))
-
-  -- the next that passes
-  pub filter_next : (from at : ℕ) → from ≤ at → ((n : ℕ) → from ≤ n → n < at → test n ≡ false) → test at ≡ true → filter test (range_with_len 0 (at + 1)) ≡ filter test (range_with_len 0 from) ++ at ∷ []
-  filter_next from at h none passes =
-      let gap : ℕ = at - from in
-      ap (filter test) (range_with_len_more 0 (at + 1) at at refl (omega arith))
-      ∙ filter-append test (range_with_len 0 at) (at ∷ [])
-      ∙ ap (λ b. filter test (range_with_len 0 at) ++ cond b (at ∷ []) []) passes
-      ∙ ap (λ xs. xs ++ at ∷ []) (filter_gap gap from at (omega arith) none)
 
 -- ---- the first that passes a test
 

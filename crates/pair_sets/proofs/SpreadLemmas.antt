@@ -15,7 +15,7 @@ use Rattle.net_model.specs.Scope.{first_changed, is_split, leads_within, leads_t
 use Rattle.net_model.specs.Wiring.{Wiring, IsWiring}
 use Rattle.net_model.proofs.Copies.{pins_inside, same_readings}
 use Rattle.net_model.proofs.Elements.{passing, true_false}
-use Rattle.net_model.proofs.ScopeLaws.{leads_here, split_is_closed}
+use Rattle.net_model.proofs.ScopeLaws.{leads_here, none_split, split_is_closed}
 use Rattle.fault_list.specs.Scope.{AreMarksOfTest, is_first_changed, begins_at}
 use Rattle.event_queue.specs.Pending.{is_pending, IsEmpty, IsLowest, IsIdle}
 use Rattle.event_queue.proofs.Marks.{lowest_left}
@@ -70,14 +70,9 @@ module _ (c : Circuit) (w : IsCircuit c) (f g : Fault) (x y : List PairSet) (are
 
 -- ---- split lines
 
--- nothing is split without faults
-pub none_split : (c : Circuit) (line : ℕ) → is_split c Free Free line ≡ false
-unfolding is_split reaches_line
-none_split c line = refl
-
 pub none_marked : (c : Circuit) (marks : List Bool) → AreMarksOfTest (is_split c Free Free) (line_count c) marks → (line : ℕ) → bit_at marks line ≡ false
 none_marked c marks are line = elim (cases_lt line (line_count c)) [
-  | inl below ↦ are.each line below ∙ none_split c line
+  | inl below ↦ are.each line below ∙ none_split c Free Free line refl refl
   | inr past ↦ get_or_past marks line false (omega (arith, past, are.whole))
 ]
 

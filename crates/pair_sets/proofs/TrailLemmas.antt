@@ -1,7 +1,7 @@
 -- Changes of pairs, and how they are taken back.
 use Rattle.std.proofs.Common.{◌≡◌, ℕ, zero, suc, ◌*◌, ◌<◌, ◌≤◌, List, [], ◌∷◌, ◌++◌, length, set, refl, sym, ◌∙◌, ap, arith, subst, append_assoc}
 use Rattle.std.specs.Prelude.{All, sum_by, vec_capacity}
-use Rattle.std.proofs.lemmas.List.{set-set, set-get_or, length-set, append-nil}
+use Rattle.std.proofs.lemmas.List.{set-set, set-get_or, length-set}
 use Rattle.std.proofs.lemmas.List.Elements.{All-append}
 use Rattle.std.proofs.lemmas.List.Sums.{sum_by-cons}
 use Rattle.pair_sets.specs.PairSet.{PairSet}
@@ -23,16 +23,6 @@ length-undone (change ∷ changes) sets = length-set (undone changes sets) chang
 pub few_pairs : (sets : List PairSet) → sum_by pairs_in_set sets ≤ 4 * length sets
 few_pairs [] = omega arith
 few_pairs (s ∷ sets) = omega (arith, sum_by-cons pairs_in_set s sets, four_at_most s, few_pairs sets)
-
-pub longer_none : (trail : PairTrail) → IsLonger trail trail
-longer_none trail = record {
-  added = [];
-  extends = sym (append-nil trail.changes.items);
-  before = refl;
-  whole = refl;
-  within = λ k d h. absurd (omega (arith, h));
-  capacity = refl;
-}
 
 pub longer_one : (old new : PairTrail) (line : ℕ) (pairs : PairSet) → line < length old.sets.items → new.sets.items ≡ set old.sets.items line pairs
     → new.changes.items ≡ old.changes.items ++ change_with line (set_at old.sets.items line) ∷ [] → vec_capacity new.changes ≡ vec_capacity old.changes → IsLonger old new

@@ -13,7 +13,7 @@ use Rattle.std.proofs.lemmas.Simd.{mask_l-lt, bit_mask_l, ones-mask_l}
 use Rattle.net_model.specs.Answer.{bit_at}
 use Rattle.net_model.specs.Rows.{bit_of, IsPacked}
 use Rattle.table_dicts.specs.Rows.{IsWordOf}
-use Rattle.word_sim.proofs.Digits.{digit_and, digit_xor}
+use Rattle.net_model.proofs.SingleWords.{digit_and, digit_xor}
 use Rattle.diagnose.proofs.WordLemmas.{packed_bit}
 use Rattle.ranked_diag.specs.declared.partial.Seen.TheVariants.{Unseen}
 use Rattle.ranked_diag.specs.declared.seen_word.SeenWord.{SeenWord}

@@ -4,12 +4,12 @@ use Rattle.std.specs.Prelude.{Contains, codes, decimal, slice_index}
 use Rattle.std.proofs.lemmas.Bool.{cases_lt, cases_eq}
 use Rattle.std.proofs.lemmas.List.{append-nil, map-append, length-append, get_or_default}
 use Rattle.std.proofs.lemmas.List.Elements.{All-nil, All-cons, All-append, Contains-append_right}
-use Rattle.result_file.proofs.Cuts.{tails}
+use Rattle.text_fields.proofs.Cuts.{tails, cut_once}
 use Rattle.diagnose.specs.declared.fault.LogKind.{LogKind}
 use Rattle.diagnose.specs.declared.fault.LogKind.TheVariants.{TooLong, Syntax, Order, Width}
-use Rattle.diagnose.specs.Lines.{Text, text_limit, line_number, IsCutAt}
-use Rattle.diagnose.proofs.Cuts.{cut_once}
-use Rattle.diagnose.proofs.LogLemmas.{number_without_blank}
+use Rattle.text_fields.specs.Fields.{Text, IsCutAt}
+use Rattle.diagnose.specs.Lines.{text_limit, line_number}
+use Rattle.text_fields.proofs.NumberLemmas.{number_without_blank}
 use Rattle.ranked_diag.specs.declared.partial.Seen.{Seen}
 use Rattle.ranked_diag.specs.declared.partial.Seen.TheVariants.{Zero, One, Unseen}
 use Rattle.ranked_diag.specs.Seen.{seen_digit, seen_text}

@@ -7,12 +7,10 @@ use Rattle.std.proofs.lemmas.List.{append-nil, map-append, length-append, get_or
 use Rattle.std.proofs.lemmas.List.Concat.{flat_map-append}
 use Rattle.std.proofs.lemmas.List.Elements.{All-nil, All-cons, All-head, All-tail, All-map, All-append, All-weaker}
 use Rattle.net_model.proofs.Elements.{All-left}
-use Rattle.result_file.proofs.Cuts.{tails}
-use Rattle.result_file.proofs.NumberLemmas.{first_byte, number_bytes}
+use Rattle.text_fields.proofs.Cuts.{tails, cut_once, missing_below, not_empty}
+use Rattle.text_fields.proofs.NumberLemmas.{first_byte, number_bytes, number_without_blank}
 use Rattle.diagnose.specs.declared.fault.LogKind.{LogKind}
-use Rattle.diagnose.specs.Lines.{Text}
-use Rattle.diagnose.proofs.Cuts.{cut_once, missing_below, not_empty}
-use Rattle.diagnose.proofs.LogLemmas.{number_without_blank}
+use Rattle.text_fields.specs.Fields.{Text}
 use Rattle.ranked_diag.specs.declared.partial.Seen.{Seen}
 use Rattle.ranked_diag.specs.declared.partial.Seen.TheVariants.{Zero, One, Unseen}
 use Rattle.ranked_diag.specs.Seen.{seen_digit, seen_text}

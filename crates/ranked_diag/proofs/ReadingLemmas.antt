@@ -6,9 +6,10 @@ use Rattle.std.proofs.lemmas.List.{append-nil, map-append, length-append, length
 use Rattle.std.proofs.lemmas.List.Elements.{All-nil, All-push, Contains-append_right}
 use Rattle.diagnose.specs.declared.fault.LogKind.{LogKind}
 use Rattle.diagnose.specs.declared.fault.LogKind.TheVariants.{Order, Width}
-use Rattle.diagnose.specs.Lines.{Text, text_limit, IsCutAt}
-use Rattle.diagnose.proofs.Cuts.{cut_once}
-use Rattle.diagnose.proofs.LogLemmas.{number_without_blank}
+use Rattle.text_fields.specs.Fields.{Text, IsCutAt}
+use Rattle.diagnose.specs.Lines.{text_limit}
+use Rattle.text_fields.proofs.Cuts.{cut_once}
+use Rattle.text_fields.proofs.NumberLemmas.{number_without_blank}
 use Rattle.ranked_diag.specs.declared.partial.Seen.{Seen}
 use Rattle.ranked_diag.specs.declared.partial.Seen.TheVariants.{Zero, One, Unseen}
 use Rattle.ranked_diag.specs.Seen.{seen_digit, seen_text}

@@ -3,7 +3,8 @@ use Rattle.std.specs.Prelude.{◌≡◌, ◌≢◌, ℕ, ◌+◌, ◌<◌, ◌�
 use Rattle.std.specs.List.Sorted.{IsStrictlyIncreasing}
 use Rattle.diagnose.specs.declared.fault.LogKind.{LogKind}
 use Rattle.diagnose.specs.declared.fault.LogKind.TheVariants.{TooLong, Syntax, Order, Width}
-use Rattle.diagnose.specs.Lines.{Text, text_limit, line_number}
+use Rattle.text_fields.specs.Fields.{Text}
+use Rattle.diagnose.specs.Lines.{text_limit, line_number}
 use Rattle.ranked_diag.specs.declared.partial.Seen.{Seen}
 use Rattle.ranked_diag.specs.Seen.{seen_text}
 

@@ -7,8 +7,9 @@ ghost use Rattle.ranked_diag.specs.PartialLog.{Line, partial_line, BeginsWithPar
 ghost use Rattle.ranked_diag.specs.PartialLines.{digit_seen, digits_seen, IsSeenDigit, GoOnFrom, IsRightPartialLine};
 
 use crate::partial::Seen;
-use diagnose::{LogKind, cut, number_of};
+use diagnose::LogKind;
 use std::alloc::{AllocError, Global};
+use text_fields::{cut, number_of_bytes};
 
 /// A line of a partial log and what stands behind it.
 #[derive(Clone, Copy)]
@@ -58,7 +59,7 @@ fn fields_of(line: &[u8]) -> Option<(u32, &[u8])>
     ensures { MatchOption result ((spelled : Line) → spelled.0 < 2 ^ 32 → partial_line spelled ≢ line.now) (λ fields. (fields.0 < 2 ^ 32) × (partial_line (fields.0, digits_seen fields.1.now) ≡ line.now)) }
 {
     let (number, field) = cut(line, b' ')?;
-    let pattern = number_of(number)?;
+    let pattern = number_of_bytes(number)?;
     let digits = digits_of(field)?;
     Some((pattern, digits))
 }

@@ -1,6 +1,6 @@
 -- One chain of a log after another, over a pool whose clauses count as those of the miter and the ends so far.
 use Rattle.std.proofs.Common.{◌≡◌, ◌≢◌, ◌∙◌, ℕ, ◌+◌, ◌<◌, ◌≤◌, ◌++◌, List, [], ◌∷◌, length, get_or, refl, sym, ap, subst, arith}
-use Rattle.std.specs.Prelude.{Bool, true, false, Option, Some, slice_get, All, Result, Ok, Err, OnErr}
+use Rattle.std.specs.Prelude.{Bool, true, false, Option, Some, slice_get, All}
 use Rattle.std.proofs.lemmas.List.{append_assoc}
 use Rattle.std.proofs.lemmas.Option.{slice_get_read}
 use Rattle.clause_pool.specs.Clauses.{Clause}
@@ -40,11 +40,6 @@ ends_none kind clauses log = record {
 -- nor where the log is refused for its number of chains
 pub ends_uncounted : (kind : EvidenceKind) (clauses : List Clause) (log : List ChainView) (step : ℕ) {refusal : Refusal} → record { kind = WrongCount; step = step } ≡ refusal → HasEndsOf clauses log (right_chains refusal) clauses
 ends_uncounted kind clauses log step is = subst (λ (r : Refusal). HasEndsOf clauses log (right_chains r) clauses) is (ends_none kind clauses log)
-
--- what holds in any case holds after an error
-pub on_error : {T E P : Type 0} (result : Result T E) → P → OnErr result P
-on_error (Ok x) p = tt
-on_error (Err fault) p = p
 
 -- A chain stands at a place of a log. The chains before it are right, and a pool has the clauses and their ends.
 pub record IsNext (kind : EvidenceKind) (clauses : List Clause) (log : List ChainView) (at : ℕ) (chain : ChainView) (pool : List Clause) : Type 0 where

@@ -10,7 +10,8 @@ use Rattle.clap.specs.declared.builder.arg.Arg.{Arg}
 use Rattle.std.specs.Result.{IfOk, IsErrAnd}
 use Rattle.std.proofs.lemmas.Result.{IfOk-weaker}
 use Rattle.clap.specs.Walk.{is_empty}
-use Rattle.request_words.specs.Request.{Text, Request, asked_by, app_for, request_by, gen_app, check_app, dict_app, convert_app, diagnose_app, faults_app, sim_app, synth_app, compact_app, rank_app, adapt_app, follow_app, expect_app, suspects_app, cover_app}
+use Rattle.text_fields.specs.Fields.{Text}
+use Rattle.request_words.specs.Request.{Request, asked_by, app_for, request_by, gen_app, check_app, dict_app, convert_app, diagnose_app, faults_app, sim_app, synth_app, compact_app, rank_app, adapt_app, follow_app, expect_app, suspects_app, cover_app}
 use Rattle.request_words.specs.declared.request.Verb.{Verb}
 use Rattle.request_words.specs.declared.request.Verb.TheVariants.{Gen, Check, Dict, Convert, Diagnose, Faults, Sim, Synth, Compact, Rank, Adapt, Follow, Expect, Suspects, Cover}
 

@@ -1,6 +1,6 @@
 -- The request that the code's own type stands for.
 use Rattle.std.specs.Prelude.{◌≤◌}
-use Rattle.result_file.specs.Lines.{AreWithinLimits}
+use Rattle.result_records.specs.Limits.{AreWithinLimits}
 use Rattle.request_words.specs.Request as spec
 use Rattle.request_words.specs.declared.request.Request.{Request}
 use Rattle.request_words.specs.declared.request.Request.TheVariants.{Gen, Check, MakeDict, Convert, Diagnose, ListFaults, Simulate, Synth, Compact, Rank, Adapt, Follow, Expect, Suspects, Cover}

@@ -1,15 +1,14 @@
 -- What the words ask for. Each command's words behind its first are read by one simple command of `clap`.
 use Rattle.std.specs.Prelude.{ℕ, List, [], ◌∷◌, Option, Some, None, codes, if◌then◌else◌, option_map}
 use Rattle.std.specs.Str.{bytes_eq}
+use Rattle.text_fields.specs.Fields.{Text}
 use Rattle.clap.specs.Words.{App, Row, matches_of, with_rule}
-use Rattle.result_file.specs.declared.record.Budgets.{Budgets}
+use Rattle.result_records.specs.declared.limits.TheConstants.{BLOCKS_LIMIT, CUBES_LIMIT, CONFLICTS_LIMIT}
+use Rattle.result_records.specs.declared.record.Budgets.{Budgets}
 use Rattle.request_words.specs.Arguments.{bare_app, two_names_app, name_rule, number_rule, option_rule, is_taken, name_in, number_in, kind_named}
 use Rattle.request_words.specs.declared.request.Verb.{Verb}
 use Rattle.request_words.specs.declared.request.Verb.TheVariants.{Gen, Check, Dict, Convert, Diagnose, Faults, Sim, Synth, Compact, Rank, Adapt, Follow, Expect, Suspects, Cover}
 use Rattle.request_words.specs.declared.request.EntryKind.{EntryKind}
-
-abbrev pub Text : Type 0
-Text = List ℕ
 
 pub data Request : Type 0 where
   -- generate a result for a netlist, with these budgets
@@ -47,11 +46,11 @@ pub data Request : Type 0 where
 
 unfoldable pub gen_app : App
 gen_app = with_rule (with_rule (with_rule (two_names_app (codes "gen") (codes "bench") (codes "result"))
-    (option_rule (codes "blocks") (codes "4") 0 65536)) (option_rule (codes "cubes") (codes "64") 0 1048576)) (option_rule (codes "conflicts") (codes "2000") 0 100000)
+    (option_rule (codes "blocks") (codes "4") 0 BLOCKS_LIMIT)) (option_rule (codes "cubes") (codes "64") 0 CUBES_LIMIT)) (option_rule (codes "conflicts") (codes "2000") 0 CONFLICTS_LIMIT)
 
 abbrev pub gen_by : List Row → Request
 gen_by rows = gen (name_in (codes "bench") rows) (name_in (codes "result") rows)
-    (record { blocks = number_in (codes "blocks") 0 65536 rows; cubes = number_in (codes "cubes") 0 1048576 rows; conflicts = number_in (codes "conflicts") 0 100000 rows })
+    (record { blocks = number_in (codes "blocks") 0 BLOCKS_LIMIT rows; cubes = number_in (codes "cubes") 0 CUBES_LIMIT rows; conflicts = number_in (codes "conflicts") 0 CONFLICTS_LIMIT rows })
 
 unfoldable pub check_app : App
 check_app = two_names_app (codes "check") (codes "bench") (codes "result")

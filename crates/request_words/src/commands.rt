@@ -13,17 +13,8 @@ use crate::arguments::{
 };
 use crate::request::Request;
 use clap::{ArgMatches, Command};
-use result_file::Budgets;
+use result_records::{BLOCKS_LIMIT, Budgets, CONFLICTS_LIMIT, CUBES_LIMIT};
 use std::alloc::{AllocError, Global};
-
-// The most blocks of the stream.
-const BLOCKS_LIMIT: u32 = 65_536;
-
-// The most cubes for a pair of faults.
-const CUBES_LIMIT: u32 = 1_048_576;
-
-// The most conflicts for a pair of faults.
-const CONFLICTS_LIMIT: u32 = 100_000;
 
 // The largest number of a netlist.
 const SYNTH_LIMIT: u32 = 2000;
@@ -43,7 +34,7 @@ pub(crate) fn gen_command<'a>(alloc: Global) -> Result<Command<'a>, AllocError>
 
 // A command with the options of `gen`.
 fn with_options<'a>(alloc: Global, command: Command<'a>) -> Result<Command<'a>, AllocError>
-    ensures { IfOk result (λ c. app_of c ≡ with_rule (with_rule (with_rule (app_of command.entry) (option_rule (codes "blocks") (codes "4") 0 65536)) (option_rule (codes "cubes") (codes "64") 0 1048576)) (option_rule (codes "conflicts") (codes "2000") 0 100000)) }
+    ensures { IfOk result (λ c. app_of c ≡ with_rule (with_rule (with_rule (app_of command.entry) (option_rule (codes "blocks") (codes "4") 0 BLOCKS_LIMIT)) (option_rule (codes "cubes") (codes "64") 0 CUBES_LIMIT)) (option_rule (codes "conflicts") (codes "2000") 0 CONFLICTS_LIMIT)) }
 {
     let command = with_option(alloc, command, "blocks", "4", 0, BLOCKS_LIMIT)?;
     let command = with_option(alloc, command, "cubes", "64", 0, CUBES_LIMIT)?;

@@ -12,7 +12,7 @@ use crate::commands::{
     suspects_command, suspects_in, synth_command, synth_in,
 };
 use clap::{ArgMatches, Command};
-use result_file::Budgets;
+use result_records::Budgets;
 use std::alloc::{AllocError, Global};
 
 /// The commands.

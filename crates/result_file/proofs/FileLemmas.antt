@@ -7,18 +7,19 @@ use Rattle.std.proofs.lemmas.List.Elements.{All-head, All-tail, All-from_get_or}
 use Rattle.std.proofs.lemmas.List.Sums.{sum_by-append}
 use Rattle.std.proofs.Math.Seq.{take-append-add}
 use Rattle.net_model.specs.Circuit.{Circuit, IsCircuit}
-use Rattle.result_file.specs.declared.record.Record.{Record}
-use Rattle.result_file.specs.declared.record.Record.TheVariants.{End}
+use Rattle.result_records.specs.declared.record.Record.{Record}
+use Rattle.result_records.specs.declared.record.Record.TheVariants.{End}
 use Rattle.result_file.specs.declared.fault.ResultKind.{ResultKind}
 use Rattle.result_file.specs.declared.fault.ResultKind.TheVariants as why
 use Rattle.result_file.specs.declared.fault.ResultFault.{ResultFault}
-use Rattle.result_file.specs.Spelling.{Text, spelling, text_of, HasSpelling}
-use Rattle.result_file.specs.Marks.{is_end, end_lines}
+use Rattle.text_fields.specs.Fields.{Text}
+use Rattle.result_records.specs.Spelling.{spelling, text_of, HasSpelling}
+use Rattle.result_records.specs.Marks.{is_end, end_lines}
 use Rattle.result_file.specs.Valid.{AreRightLines, record_at, IsValid, IsValidFile}
 use Rattle.result_file.specs.Refusal.{line_length, RestRefused, BeginsWithRightLines, FileRefused}
 use Rattle.result_file.specs.Refusal.RestRefused.{no_line, no_record, misplaced, wrong}
 use Rattle.result_file.specs.Refusal.FileRefused.{at_line, too_long}
-use Rattle.result_file.proofs.FieldLemmas.{no_line_feed}
+use Rattle.result_records.proofs.FieldLemmas.{no_line_feed}
 use Rattle.result_file.proofs.FirstLine.{ended_length}
 use Rattle.result_file.proofs.RefusalLemmas.{record_once, empty_line, record_stands, rest_wrong, rest_once}
 use Rattle.result_file.proofs.RightLines.{IsNextLine}

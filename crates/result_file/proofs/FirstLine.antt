@@ -4,14 +4,16 @@ use Rattle.std.specs.Prelude.{Contains, not, ◌==◌, take_while}
 use Rattle.std.specs.List.{prefix_len}
 use Rattle.std.proofs.lemmas.Bool.{ne_eqb}
 use Rattle.std.proofs.lemmas.List.{take-append-le, take_all}
-use Rattle.result_file.specs.Spelling.{Text, spelling, IsNoSpelling}
+use Rattle.text_fields.specs.Fields.{Text}
+use Rattle.result_records.specs.Spelling.{spelling, IsNoSpelling}
 use Rattle.result_file.specs.Refusal.{line_length, IsNoRecord}
-use Rattle.result_file.proofs.FieldLemmas.{no_line_feed}
-use Rattle.result_file.proofs.HeldLemmas.{line_once, no_line_in}
+use Rattle.text_fields.proofs.Cuts.{cut_once}
+use Rattle.result_records.proofs.FieldLemmas.{no_line_feed}
+use Rattle.result_records.proofs.HeldLemmas.{no_line_in}
 
 -- a line that spells no record is refused, whatever stands behind its LF
 pub syntax_line : (line more : Text) → ¬ Contains line 10 → IsNoSpelling line → IsNoRecord (line ++ 10 ∷ more)
-syntax_line line more one never r rest spelled e = never r spelled (sym (line_once line (spelling r) more rest one (no_line_feed r spelled) e).0)
+syntax_line line more one never r rest spelled e = never r spelled (sym (cut_once 10 line (spelling r) more rest one (no_line_feed r spelled) e).0)
 
 -- and so is a rest without LF
 pub unended : (rest : Text) → ¬ Contains rest 10 → IsNoRecord rest

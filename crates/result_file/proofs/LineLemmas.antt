@@ -6,13 +6,14 @@ use Rattle.std.proofs.lemmas.Slice.Zip.{length-zip, get_or-zip}
 use Rattle.std.specs.Option.{option_map}
 use Rattle.std.proofs.lemmas.Option.{slice_get-map, slice_get-get_or, get_or_from_slice_get, slice_get_within}
 use Rattle.std.proofs.lemmas.List.FromFn.{length-range_with_len, map-range_with_len_more, length-enumerate_from, get_or-enumerate_from, length-map-range_with_len, get_or-map-range_with_len}
-use Rattle.result_file.specs.declared.record.Mark.{Mark}
-use Rattle.result_file.specs.declared.record.Mark.TheVariants.{Rep}
-use Rattle.result_file.specs.declared.record.Record.{Record}
-use Rattle.result_file.specs.declared.record.Record.TheVariants.{Class, Member}
-use Rattle.result_file.specs.Spelling.{Text, text_of}
+use Rattle.result_records.specs.declared.record.Mark.{Mark}
+use Rattle.result_records.specs.declared.record.Mark.TheVariants.{Rep}
+use Rattle.result_records.specs.declared.record.Record.{Record}
+use Rattle.result_records.specs.declared.record.Record.TheVariants.{Class, Member}
+use Rattle.text_fields.specs.Fields.{Text}
+use Rattle.result_records.specs.Spelling.{text_of}
 use Rattle.result_file.specs.Meaning.{class_records, member_records}
-use Rattle.result_file.proofs.RecordLists.{text-append}
+use Rattle.result_records.proofs.RecordLists.{text-append}
 
 enumerate_more : {X : Type 0} (n k : ℕ) (xs : List X) (x : X) → n + length xs ≡ k → enumerate_from n (xs ++ x ∷ []) ≡ enumerate_from n xs ++ (k, x) ∷ []
 enumerate_more {X} n k [] x at = ap (λ (m : ℕ). let one : List (ℕ × X) = (m, x) ∷ [] in one) (let e : n ≡ k = omega arith in e)

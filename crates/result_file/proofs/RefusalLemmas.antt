@@ -13,23 +13,24 @@ use Rattle.evidence_rules.specs.TreeRefusal.{IsRightTree}
 use Rattle.evidence_rules.specs.LogRefusal.{IsRightLog}
 use Rattle.evidence_rules.proofs.TreeLaws as trees
 use Rattle.evidence_rules.proofs.LogLaws as logs
-use Rattle.result_file.specs.declared.record.Budgets.{Budgets}
-use Rattle.result_file.specs.declared.record.Proof.{Proof}
-use Rattle.result_file.specs.declared.record.Proof.TheVariants as proof
-use Rattle.result_file.specs.declared.record.Evidence.{Evidence}
-use Rattle.result_file.specs.declared.record.Record.{Record}
-use Rattle.result_file.specs.declared.record.Record.TheVariants.{Head, Budget, Pattern, Same, Class, Member, End}
+use Rattle.result_records.specs.declared.record.Budgets.{Budgets}
+use Rattle.result_records.specs.declared.record.Proof.{Proof}
+use Rattle.result_records.specs.declared.record.Proof.TheVariants as proof
+use Rattle.result_records.specs.declared.record.Evidence.{Evidence}
+use Rattle.result_records.specs.declared.record.Record.{Record}
+use Rattle.result_records.specs.declared.record.Record.TheVariants.{Head, Budget, Pattern, Same, Class, Member, End}
 use Rattle.result_file.specs.declared.fault.ResultKind.{ResultKind}
 use Rattle.result_file.specs.declared.fault.ResultKind.TheVariants as why
-use Rattle.result_file.specs.Spelling.{Text, spelling, HasSpelling}
+use Rattle.text_fields.specs.Fields.{Text}
+use Rattle.result_records.specs.Spelling.{spelling, HasSpelling}
 use Rattle.result_file.specs.Lines.{budgets_in, IsRightContent, IsRightProof, IsRightLine}
 use Rattle.result_file.specs.Refusal.{PairRefused, ProofRefused, EvidenceRefused, ContentRefused, BeginsWithRecord, IsMisplaced, IsWrongThere, RestRefused, partner_fault, member_fault}
 use Rattle.result_file.specs.Refusal.PairRefused.{by_tree, by_log}
 use Rattle.result_file.specs.Refusal.EvidenceRefused.{by_name, by_roots, by_proof}
 use Rattle.result_file.specs.Refusal.RestRefused.{no_line, no_record, misplaced, wrong}
-use Rattle.result_file.proofs.FieldLemmas.{no_line_feed}
-use Rattle.result_file.proofs.HeldLemmas.{line_once}
-use Rattle.result_file.proofs.OnceLemmas.{spelling_once}
+use Rattle.result_records.proofs.FieldLemmas.{no_line_feed}
+use Rattle.text_fields.proofs.Cuts.{cut_once}
+use Rattle.result_records.proofs.OnceLemmas.{spelling_once}
 use Rattle.net_model.proofs.OneAnswer.{one_table}
 
 module _ (c : Circuit) (f g : Fault) (budgets : Budgets) where
@@ -92,7 +93,7 @@ module _ (c : Circuit) (t : ClassTable) (before : List Record) where
 -- the record on the first line of a text, and what stands behind it
 pub record_once : (r other : Record) (more rest : Text) → HasSpelling r → HasSpelling other → spelling r ++ 10 ∷ more ≡ spelling other ++ 10 ∷ rest → (r ≡ other) × (more ≡ rest)
 record_once r other more rest first second e =
-    let line = line_once (spelling r) (spelling other) more rest (no_line_feed r first) (no_line_feed other second) e in
+    let line = cut_once 10 (spelling r) (spelling other) more rest (no_line_feed r first) (no_line_feed other second) e in
     (spelling_once r other first second line.0, line.1)
 
 pub empty_line : (text more : Text) → [] ≡ text ++ 10 ∷ more → ⊥

@@ -1,25 +1,24 @@
 -- What right lines say of their evidence.
-use Rattle.std.proofs.Common.{◌≡◌, ℕ, zero, suc, Bool, true, false, List, [], ◌∷◌, take, Option, Some, None, refl, ap, subst}
+use Rattle.std.proofs.Common.{◌≡◌, ℕ, zero, suc, Bool, true, false, List, [], ◌∷◌, take, Option, Some, None, refl, ap, subst, inl, inr}
 use Rattle.std.specs.Prelude.{◌==◌, ◌⊎◌, if◌then◌else◌}
 use Rattle.std.specs.Option.{option_map}
 use Rattle.std.specs.List.{find, slice_get}
-use Rattle.std.proofs.Common.{inl, inr}
 use Rattle.std.proofs.lemmas.Bool.{and_parts, eqb-true}
 use Rattle.std.proofs.lemmas.Option.{same_Some, get_or_from_slice_get, slice_get_within}
 use Rattle.net_model.specs.Circuit.{Circuit}
 use Rattle.net_model.specs.FaultList.{fault_numbered}
 use Rattle.net_model.specs.ClassTable.{ClassTable, class_at, representative}
 use Rattle.net_model.proofs.Elements.{found_passes}
-use Rattle.result_file.specs.declared.record.Budgets.{Budgets}
-use Rattle.result_file.specs.declared.record.Mark.{Mark}
-use Rattle.result_file.specs.declared.record.Mark.TheVariants as mark
-use Rattle.result_file.specs.declared.record.Evidence.{Evidence}
-use Rattle.result_file.specs.declared.record.Record.{Record}
-use Rattle.result_file.specs.declared.record.Record.TheVariants.{Head, Budget, Pattern, Same, Class, Member, End}
-use Rattle.result_file.specs.Marks.{evidence_in, is_about, number_mark, mark_of}
+use Rattle.result_records.specs.declared.record.Budgets.{Budgets}
+use Rattle.result_records.specs.declared.record.Mark.{Mark}
+use Rattle.result_records.specs.declared.record.Mark.TheVariants as mark
+use Rattle.result_records.specs.declared.record.Evidence.{Evidence}
+use Rattle.result_records.specs.declared.record.Record.{Record}
+use Rattle.result_records.specs.declared.record.Record.TheVariants.{Head, Budget, Pattern, Same, Class, Member, End}
+use Rattle.result_records.specs.Marks.{evidence_in, is_about, number_mark, mark_of}
 use Rattle.result_file.specs.Lines.{IsRightLine, HasRightRoots, IsRightProof}
 use Rattle.result_file.specs.Valid.{AreRightLines}
-use Rattle.result_file.proofs.Marked.{found_at}
+use Rattle.result_records.proofs.Marked.{found_at}
 
 -- evidence stands on a line of its own
 pub evidence_line : (lines : List Record) (k : ℕ) (e : Evidence) → slice_get (evidence_in lines) k ≡ Some e → (at : ℕ) × (slice_get lines at ≡ Some (Same e))

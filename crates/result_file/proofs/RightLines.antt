@@ -11,18 +11,19 @@ use Rattle.net_model.specs.Circuit.{Circuit}
 use Rattle.net_model.specs.ClassTable.{ClassTable, first_table, class_at, class_count}
 use Rattle.net_model.specs.FaultList.{fault_count}
 use Rattle.net_model.specs.PatternRows.{IsTableOf, SplitsClass}
-use Rattle.result_file.specs.declared.record.Budgets.{Budgets}
-use Rattle.result_file.specs.declared.record.Mark.{Mark}
-use Rattle.result_file.specs.declared.record.Mark.TheVariants as mark
-use Rattle.result_file.specs.declared.record.Evidence.{Evidence}
-use Rattle.result_file.specs.declared.record.Record.{Record}
-use Rattle.result_file.specs.declared.record.Record.TheVariants.{Head, Budget, Pattern, Class, Member, End}
-use Rattle.result_file.specs.Spelling.{HasSpelling, HasBirthSpelling}
-use Rattle.result_file.specs.Marks.{pattern_of, evidence_of, patterns_in, evidence_in, is_class, is_member, is_end, class_lines, member_lines, end_lines, number_mark, next_member}
-use Rattle.result_file.specs.Lines.{AreWithinLimits, IsRightLine}
+use Rattle.result_records.specs.declared.record.Budgets.{Budgets}
+use Rattle.result_records.specs.declared.record.Mark.{Mark}
+use Rattle.result_records.specs.declared.record.Mark.TheVariants as mark
+use Rattle.result_records.specs.declared.record.Evidence.{Evidence}
+use Rattle.result_records.specs.declared.record.Record.{Record}
+use Rattle.result_records.specs.declared.record.Record.TheVariants.{Head, Budget, Pattern, Class, Member, End}
+use Rattle.result_records.specs.Spelling.{HasSpelling, HasBirthSpelling}
+use Rattle.result_records.specs.Marks.{pattern_of, evidence_of, patterns_in, evidence_in, is_class, is_member, is_end, class_lines, member_lines, end_lines, number_mark, next_member}
+use Rattle.result_records.specs.Limits.{AreWithinLimits}
+use Rattle.result_file.specs.Lines.{IsRightLine}
 use Rattle.result_file.specs.Valid.{AreRightLines, record_at}
 use Rattle.result_file.specs.Meaning.{class_records, member_records}
-use Rattle.result_file.proofs.RecordLists.{count_kept, count_more, read_kept, read_more}
+use Rattle.result_records.proofs.RecordLists.{count_kept, count_more, read_kept, read_more}
 
 -- The record can be written and is right behind these lines.
 pub record IsNextLine (c : Circuit) (before : List Record) (r : Record) : Type 0 where

@@ -1,13 +1,11 @@
 -- What right lines state is true of the circuit.
 use Rattle.std.proofs.Common.{◌≡◌, ◌≢◌, ℕ, suc, ◌<◌, ◌≤◌, ◌^◌, Bool, false, cond, List, [], ◌∷◌, ◌++◌, length, get_or, Option, Some, None, refl, sym, ap, ap₂, ◌∙◌, inl, inr, arith, IsTrue}
 use Rattle.std.specs.Prelude.{All, ◌==◌, ◌⊎◌, unwrap_or}
-use Rattle.std.specs.List.{find, slice_get, range_with_len, count_by}
+use Rattle.std.specs.List.{find, slice_get, range_with_len, count_by, enumerate_from}
 use Rattle.std.proofs.lemmas.List.Sums.{sum_by-cons}
 use Rattle.std.proofs.lemmas.Bool.{eq-eqb}
 use Rattle.std.proofs.lemmas.List.{append-nil}
-use Rattle.std.proofs.lemmas.List.Elements.{filter_map-append}
-use Rattle.std.specs.List.{enumerate_from}
-use Rattle.std.proofs.lemmas.List.Elements.{All-from_get_or}
+use Rattle.std.proofs.lemmas.List.Elements.{filter_map-append, All-from_get_or}
 use Rattle.net_model.specs.Circuit.{Circuit, IsCircuit}
 use Rattle.net_model.specs.declared.fault.Fault.{Fault}
 use Rattle.net_model.specs.Answer.{Separates, AreEqual}
@@ -22,23 +20,23 @@ use Rattle.pair_miter.specs.ChainView.{ChainView}
 use Rattle.pair_miter.specs.Miter.{miter}
 use Rattle.pair_miter.specs.Log.{IsSpentLog}
 use Rattle.evidence_rules.proofs.Sound.{refutation_equal}
-use Rattle.result_file.specs.declared.record.Budgets.{Budgets}
-use Rattle.result_file.specs.declared.record.Evidence.{Evidence}
-use Rattle.result_file.specs.declared.record.Mark.{Mark}
-use Rattle.result_file.specs.declared.record.Mark.TheVariants as mark
-use Rattle.result_file.specs.declared.record.Proof.{Proof}
-use Rattle.result_file.specs.declared.record.Proof.TheVariants as proof
-use Rattle.result_file.specs.declared.record.Record.{Record}
-use Rattle.result_file.specs.declared.record.Record.TheVariants.{Head, Budget, Pattern, Same, Class, Member, End}
-use Rattle.result_file.specs.Spelling.{HasSpelling}
-use Rattle.result_file.specs.Marks.{evidence_of, patterns_in, evidence_in, mark_of}
+use Rattle.result_records.specs.declared.record.Budgets.{Budgets}
+use Rattle.result_records.specs.declared.record.Evidence.{Evidence}
+use Rattle.result_records.specs.declared.record.Mark.{Mark}
+use Rattle.result_records.specs.declared.record.Mark.TheVariants as mark
+use Rattle.result_records.specs.declared.record.Proof.{Proof}
+use Rattle.result_records.specs.declared.record.Proof.TheVariants as proof
+use Rattle.result_records.specs.declared.record.Record.{Record}
+use Rattle.result_records.specs.declared.record.Record.TheVariants.{Head, Budget, Pattern, Same, Class, Member, End}
+use Rattle.result_records.specs.Spelling.{HasSpelling}
+use Rattle.result_records.specs.Marks.{evidence_of, patterns_in, evidence_in, mark_of}
 use Rattle.result_file.specs.Lines.{HasRightRoots, IsRightProof}
 use Rattle.result_file.specs.Summary.{is_open}
 use Rattle.result_file.specs.Valid.{AreRightLines}
 use Rattle.result_file.specs.Meaning.{StatedResult, stated_records, class_records, member_records, stated_class, stated_mark, lowest_mate, is_body_record, HasClosedCubes, IsSpentOn, IsTrueResult}
-use Rattle.result_file.proofs.RecordLists.{read_kept}
+use Rattle.result_records.proofs.RecordLists.{read_kept}
 use Rattle.result_file.proofs.RightLines.{AreMembers}
-use Rattle.result_file.proofs.Marked.{find_same, find_some}
+use Rattle.result_records.proofs.Marked.{find_same, find_some}
 use Rattle.result_file.proofs.RightEvidence.{IsMarkedBy, all_right, mark_cases, rep_spent, open_spent}
 
 -- Laws of the circuit: numbers with one root are equal faults, and so are those that a tree covers; closed leaves have closed cubes, and so many as there are vectors are never spent.

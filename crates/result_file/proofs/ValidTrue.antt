@@ -7,10 +7,10 @@ use Rattle.net_model.specs.Circuit.{Circuit}
 use Rattle.net_model.specs.FaultList.{fault_count}
 use Rattle.net_model.specs.ClassTable.{ClassTable}
 use Rattle.net_model.specs.PatternRows.{IsTableOf}
-use Rattle.result_file.specs.declared.record.Budgets.{Budgets}
-use Rattle.result_file.specs.declared.record.Record.{Record}
-use Rattle.result_file.specs.declared.record.Record.TheVariants.{Head, Budget, Pattern, Same, Class, Member, End}
-use Rattle.result_file.specs.Marks.{is_end, end_lines, patterns_in, class_lines}
+use Rattle.result_records.specs.declared.record.Budgets.{Budgets}
+use Rattle.result_records.specs.declared.record.Record.{Record}
+use Rattle.result_records.specs.declared.record.Record.TheVariants.{Head, Budget, Pattern, Same, Class, Member, End}
+use Rattle.result_records.specs.Marks.{is_end, end_lines, patterns_in, class_lines}
 use Rattle.result_file.specs.Lines.{IsInPlace}
 use Rattle.result_file.specs.Valid.{AreRightLines, IsValid}
 use Rattle.result_file.specs.Meaning.{StatedResult, stated_records, class_records, member_records, IsTrueResult}

@@ -3,9 +3,10 @@ use Rattle.std.specs.Prelude.{◌≡◌, ◌≤◌, ◌^◌, List, length}
 use Rattle.net_model.specs.Circuit.{Circuit}
 use Rattle.net_model.specs.PatternRows.{IsTableOf}
 use Rattle.result_file.specs.declared.checked.Checked.{Checked}
-use Rattle.result_file.specs.declared.record.Record.{Record}
-use Rattle.result_file.specs.Spelling.{Text, text_of}
-use Rattle.result_file.specs.Marks.{patterns_in}
+use Rattle.result_records.specs.declared.record.Record.{Record}
+use Rattle.text_fields.specs.Fields.{Text}
+use Rattle.result_records.specs.Spelling.{text_of}
+use Rattle.result_records.specs.Marks.{patterns_in}
 use Rattle.result_file.specs.Lines.{budgets_in}
 use Rattle.result_file.specs.Summary.{summary_of}
 use Rattle.result_file.specs.Valid.{IsValid}

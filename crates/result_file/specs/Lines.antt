@@ -9,20 +9,15 @@ use Rattle.net_model.specs.PatternRows.{IsTableOf, SplitsClass}
 use Rattle.pair_sets.specs.Tree.{IsCovering, IsSpending}
 use Rattle.pair_miter.specs.Miter.{miter}
 use Rattle.pair_miter.specs.Log.{IsRefutation, IsSpentLog}
-use Rattle.result_file.specs.declared.record.Budgets.{Budgets}
-use Rattle.result_file.specs.declared.record.Mark.{Mark}
-use Rattle.result_file.specs.declared.record.Proof.{Proof}
-use Rattle.result_file.specs.declared.record.Proof.TheVariants as proof
-use Rattle.result_file.specs.declared.record.Evidence.{Evidence}
-use Rattle.result_file.specs.declared.record.Record.{Record}
-use Rattle.result_file.specs.declared.record.Record.TheVariants.{Head, Budget, Pattern, Same, Class, Member, End}
-use Rattle.result_file.specs.Marks.{evidence_in, patterns_in, class_lines, member_lines, end_lines, number_mark, next_member}
-
--- The budgets are within their limits.
-pub record AreWithinLimits (budgets : Budgets) : Type 0 where
-  pub blocks : budgets.blocks ≤ 65536
-  pub cubes : budgets.cubes ≤ 1048576
-  pub conflicts : budgets.conflicts ≤ 100000
+use Rattle.result_records.specs.declared.record.Budgets.{Budgets}
+use Rattle.result_records.specs.declared.record.Mark.{Mark}
+use Rattle.result_records.specs.declared.record.Proof.{Proof}
+use Rattle.result_records.specs.declared.record.Proof.TheVariants as proof
+use Rattle.result_records.specs.declared.record.Evidence.{Evidence}
+use Rattle.result_records.specs.declared.record.Record.{Record}
+use Rattle.result_records.specs.declared.record.Record.TheVariants.{Head, Budget, Pattern, Same, Class, Member, End}
+use Rattle.result_records.specs.Limits.{AreWithinLimits}
+use Rattle.result_records.specs.Marks.{evidence_in, patterns_in, class_lines, member_lines, end_lines, number_mark, next_member}
 
 abbrev pub no_budgets : Budgets
 no_budgets = record { blocks = 0; cubes = 0; conflicts = 0 }

@@ -14,14 +14,15 @@ use Rattle.pair_sets.specs.Tree.{cube_at, token_at, closed_count, HasTreeShape}
 use Rattle.pair_miter.specs.ChainView.{ChainView}
 use Rattle.pair_miter.specs.Miter.{miter}
 use Rattle.pair_miter.specs.Log.{IsSpentLog}
-use Rattle.result_file.specs.declared.record.Budgets.{Budgets}
-use Rattle.result_file.specs.declared.record.Mark.{Mark}
-use Rattle.result_file.specs.declared.record.Mark.TheVariants as mark
-use Rattle.result_file.specs.declared.record.Proof.TheVariants as proof
-use Rattle.result_file.specs.declared.record.Record.{Record}
-use Rattle.result_file.specs.declared.record.Record.TheVariants.{Head, Budget, Pattern, Same, Class, Member, End}
-use Rattle.result_file.specs.Spelling.{Text, text_of, HasSpelling}
-use Rattle.result_file.specs.Marks.{patterns_in, evidence_in}
+use Rattle.result_records.specs.declared.record.Budgets.{Budgets}
+use Rattle.result_records.specs.declared.record.Mark.{Mark}
+use Rattle.result_records.specs.declared.record.Mark.TheVariants as mark
+use Rattle.result_records.specs.declared.record.Proof.TheVariants as proof
+use Rattle.result_records.specs.declared.record.Record.{Record}
+use Rattle.result_records.specs.declared.record.Record.TheVariants.{Head, Budget, Pattern, Same, Class, Member, End}
+use Rattle.text_fields.specs.Fields.{Text}
+use Rattle.result_records.specs.Spelling.{text_of, HasSpelling}
+use Rattle.result_records.specs.Marks.{patterns_in, evidence_in}
 
 -- What the lines of a file state: the budgets, patterns and evidence, the birth of each class, and the class and mark of each number.
 pub record StatedResult : Type 0 where

@@ -13,17 +13,18 @@ use Rattle.evidence_rules.specs.declared.refusal.EvidenceKind.TheVariants as kin
 use Rattle.evidence_rules.specs.TreeRefusal.{TreeRefused, IsRightTree}
 use Rattle.evidence_rules.specs.LogRefusal.{LogRefused}
 use Rattle.evidence_rules.specs.declared.refusal.Refusal.{Refusal}
-use Rattle.result_file.specs.declared.record.Proof.{Proof}
-use Rattle.result_file.specs.declared.record.Proof.TheVariants as proof
-use Rattle.result_file.specs.declared.record.Evidence.{Evidence}
-use Rattle.result_file.specs.declared.record.Budgets.{Budgets}
-use Rattle.result_file.specs.declared.record.Record.{Record}
-use Rattle.result_file.specs.declared.record.Record.TheVariants as line
+use Rattle.result_records.specs.declared.record.Proof.{Proof}
+use Rattle.result_records.specs.declared.record.Proof.TheVariants as proof
+use Rattle.result_records.specs.declared.record.Evidence.{Evidence}
+use Rattle.result_records.specs.declared.record.Budgets.{Budgets}
+use Rattle.result_records.specs.declared.record.Record.{Record}
+use Rattle.result_records.specs.declared.record.Record.TheVariants as line
 use Rattle.result_file.specs.declared.fault.ResultKind.{ResultKind}
 use Rattle.result_file.specs.declared.fault.ResultKind.TheVariants as why
 use Rattle.result_file.specs.declared.fault.ResultFault.{ResultFault}
-use Rattle.result_file.specs.Spelling.{Text, spelling, text_of, HasSpelling}
-use Rattle.result_file.specs.Marks.{patterns_in, end_lines}
+use Rattle.text_fields.specs.Fields.{Text}
+use Rattle.result_records.specs.Spelling.{spelling, text_of, HasSpelling}
+use Rattle.result_records.specs.Marks.{patterns_in, end_lines}
 use Rattle.result_file.specs.Lines.{budgets_in, IsInPlace, IsRightContent, NamesNext, HasRightRoots}
 use Rattle.result_file.specs.Valid.{AreRightLines}
 

@@ -1,10 +1,10 @@
 -- What the lines of a file amount to.
 use Rattle.std.specs.Prelude.{Bool, true, false, List, length, count_by}
-use Rattle.result_file.specs.declared.record.Summary.{Summary}
-use Rattle.result_file.specs.declared.record.Mark.TheVariants as mark
-use Rattle.result_file.specs.declared.record.Record.{Record}
-use Rattle.result_file.specs.declared.record.Record.TheVariants.{Member}
-use Rattle.result_file.specs.Marks.{patterns_in, class_lines, member_lines}
+use Rattle.result_file.specs.declared.checked.Summary.{Summary}
+use Rattle.result_records.specs.declared.record.Mark.TheVariants as mark
+use Rattle.result_records.specs.declared.record.Record.{Record}
+use Rattle.result_records.specs.declared.record.Record.TheVariants.{Member}
+use Rattle.result_records.specs.Marks.{patterns_in, class_lines, member_lines}
 
 -- whether a line marks a member equal, and whether it leaves one open
 abbrev pub is_equal : Record → Bool

@@ -1,8 +1,19 @@
 //! What is stated by a file that was accepted.
 
-use crate::record::{Budgets, Summary};
 use class_refine::Classes;
 use net_model::Vectors;
+use result_records::Budgets;
+
+/// What a result amounts to: how many fault numbers, patterns and classes it has, and how many members are marked
+/// equal to their representative or left open (the budgets are spent on them).
+#[derive(Clone, Copy, Debug, PartialEq, Eq)]
+pub struct Summary {
+    pub numbers: u32,
+    pub patterns: u32,
+    pub classes: u32,
+    pub equal: u32,
+    pub spent: u32,
+}
 
 /// What a valid result states: its counts, its budgets and patterns, and the classes that the patterns tell apart.
 #[derive(Drop)]

@@ -1,20 +1,7 @@
-//! Why a result file or one of its lines is refused.
-
-ghost use Rattle.std.specs.Prelude.{◌≡◌};
-ghost use Rattle.result_file.specs.declared.fault.RecordFault.TheVariants as record_fault;
+//! Why a result file is refused.
 
 use evidence_rules::Refusal;
-use std::alloc::AllocError;
 use thiserror::Error;
-
-/// Why a line wasn't read.
-#[derive(Debug, Drop, Error)]
-pub enum RecordFault {
-    #[error("the line is no record")]
-    Syntax,
-    #[error("out of memory")]
-    NoMemory,
-}
 
 /// Which rule a line breaks.
 #[derive(Clone, Copy, Debug, PartialEq, Eq)]
@@ -45,12 +32,4 @@ pub enum ResultKind {
 pub struct ResultFault {
     pub kind: ResultKind,
     pub line: u64,
-}
-
-impl From<AllocError> for RecordFault {
-    ghost from_gives = { λ _ e. e ≡ record_fault.NoMemory };
-
-    fn from(_: AllocError) -> Self {
-        RecordFault::NoMemory
-    }
 }

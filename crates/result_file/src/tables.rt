@@ -3,13 +3,12 @@
 ghost use Rattle.std.specs.Prelude.{◌≡◌, ◌++◌, ◌∷◌, ◌<◌, ◌^◌, ℕ, None, [], OnOk, OnErr, length, take, zip, slice_index_or};
 ghost use Rattle.std.specs.String.{string_bytes};
 ghost use Rattle.net_model.specs.ClassTable.{class_at, class_count};
-ghost use Rattle.result_file.specs.Spelling.{text_of};
+ghost use Rattle.result_records.specs.Spelling.{text_of};
 ghost use Rattle.result_file.specs.Meaning.{class_records, member_records};
-ghost use Rattle.result_file.specs.declared.record.Record.TheVariants.{Class, Member};
+ghost use Rattle.result_records.specs.declared.record.Record.TheVariants.{Class, Member};
 
-use crate::record::{Mark, Record};
-use crate::write::push_record;
 use class_refine::Classes;
+use result_records::{Mark, Record, push_line};
 use std::alloc::AllocError;
 
 /// Appends a line for each class.
@@ -64,14 +63,4 @@ pub fn push_member_line(
         text,
         &Record::Member(number, classes.class_of(number), mark),
     )
-}
-
-// Appends the line of a record. After an error the text is as it was.
-fn push_line(text: &mut String, r: &Record) -> Result<(), AllocError>
-    ensures ok { OnOk result (string_bytes text.new ≡ string_bytes text.old ++ text_of (r.now ∷ [])) }
-    ensures err { OnErr result (string_bytes text.new ≡ string_bytes text.old) }
-{
-    let mut line = String::new(*text.allocator());
-    push_record(&mut line, r)?;
-    text.push_str(&line)
 }

@@ -1,5 +1,5 @@
 -- What the leads of a lane say of all numbers, and the texts of the different answers.
-use Rattle.std.proofs.Common.{◌≡◌, ◌≢◌, ◌∙◌, ℕ, ◌<◌, Bool, true, false, not, List, [], ◌++◌, length, get_or, set, map, Some, None, sym, ap, subst, arith, inl, inr}
+use Rattle.std.proofs.Common.{◌≡◌, ◌∙◌, ℕ, ◌<◌, Bool, not, List, [], ◌++◌, length, get_or, set, map, Some, None, sym, ap, subst, arith, inl, inr}
 use Rattle.std.specs.Prelude.{⊤, All, IfSome, IsSome, Option, String, string_bytes, ◌==◌}
 use Rattle.std.proofs.lemmas.Bool.{cases_eq, cases_lt, eq-eqb, ne_eqb, false≢true, false_from_ne_true}
 use Rattle.std.proofs.lemmas.List.{length-map, length-set, get_or-map, get_or-set_same, get_or-set_other, get_or_past}

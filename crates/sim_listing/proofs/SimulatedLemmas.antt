@@ -1,5 +1,5 @@
 -- A vector among those that were simulated last.
-use Rattle.std.proofs.Common.{◌≡◌, ◌∙◌, ℕ, ◌+◌, ◌-◌, ◌<◌, ◌≤◌, Bool, List, [], ◌∷◌, ◌++◌, length, get_or, take, drop, sym, ap, subst, arith}
+use Rattle.std.proofs.Common.{◌≡◌, ◌∙◌, ℕ, ◌+◌, ◌-◌, ◌<◌, ◌≤◌, Bool, List, [], ◌∷◌, length, get_or, take, drop, sym, ap, subst, arith}
 use Rattle.std.specs.Prelude.{slice_range, All}
 use Rattle.std.proofs.lemmas.List.{append-nil, take_more, get_or-drop, length-drop}
 use Rattle.std.proofs.lemmas.List.Elements.{All-take, All-drop}
@@ -9,7 +9,8 @@ use Rattle.class_refine.proofs.PatternTables.{row_exists}
 use Rattle.table_dicts.proofs.BlockLemmas.{lane_pattern}
 use Rattle.answer_numbers.specs.AnswerNumbers.{AnswerNumbers, numbered_vectors, vector_in}
 use Rattle.sim_listing.specs.LaneAnswers.{AreEqualRoots, HaveEqualLeads}
-use Rattle.sim_listing.specs.SimText.{Text, vector_text, IsSimTextFrom}
+use Rattle.text_fields.specs.Fields.{Text}
+use Rattle.sim_listing.specs.SimText.{vector_text, IsSimTextFrom}
 
 -- the part of one
 one_at : (vectors : List (List Bool)) (number : ℕ) → number < length vectors → slice_range vectors number (number + 1) ≡ get_or vectors number [] ∷ []

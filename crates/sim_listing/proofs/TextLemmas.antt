@@ -7,7 +7,8 @@ use Rattle.net_model.specs.Circuit.{Circuit, IsCircuit}
 use Rattle.net_model.specs.PatternRows.{IsAnswerRow}
 use Rattle.net_model.proofs.OneAnswer.{one_rows}
 use Rattle.table_dicts.proofs.OneTable.{answers_exist}
-use Rattle.sim_listing.specs.SimText.{Text, vector_text, texts_from, IsSimTextFrom}
+use Rattle.text_fields.specs.Fields.{Text}
+use Rattle.sim_listing.specs.SimText.{vector_text, texts_from, IsSimTextFrom}
 use Rattle.sim_listing.specs.Laws.{HasOneText}
 
 -- ---- lists of pairs that are related

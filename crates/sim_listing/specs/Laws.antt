@@ -1,7 +1,8 @@
 -- Laws of the texts of simulations.
 use Rattle.std.specs.Prelude.{◌≡◌, ℕ, ◌+◌, Bool, List, ◌++◌, length}
 use Rattle.net_model.specs.Circuit.{Circuit, IsCircuit}
-use Rattle.sim_listing.specs.SimText.{Text, IsSimTextFrom}
+use Rattle.text_fields.specs.Fields.{Text}
+use Rattle.sim_listing.specs.SimText.{IsSimTextFrom}
 
 -- There is a text, and no other.
 pub record HasOneText (c : Circuit) (first : ℕ) (vectors : List (List Bool)) : Type 0 where

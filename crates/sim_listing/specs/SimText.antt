@@ -3,12 +3,10 @@ use Rattle.std.specs.Prelude.{◌≡◌, ℕ, ◌+◌, ◌-◌, Bool, not, List,
 use Rattle.std.specs.List.{range_with_len}
 use Rattle.net_model.specs.Circuit.{Circuit}
 use Rattle.net_model.specs.BitText.{bits_text}
+use Rattle.text_fields.specs.Fields.{Text}
 use Rattle.net_model.specs.ClassTable.{same_bits}
 use Rattle.net_model.specs.PatternRows.{AreAnswerRows}
 use Rattle.table_dicts.specs.AnswerTable.{answer_in}
-
-abbrev pub Text : Type 0
-Text = List ℕ
 
 -- the line of a vector, by its number: what the circuit without a fault answers
 unfoldable pub vector_line : ℕ → List Bool → Text

@@ -1,14 +1,11 @@
 //! The roots of the faults, which alone are simulated.
 
 ghost use Rattle.std.specs.Prelude.{◌≡◌, ◌<◌, ◌^◌, ◌++◌, ◌∷◌, [], All, IfOk, OnOk, length, map, slice_index, if◌then◌else◌};
-ghost use Rattle.net_model.specs.FaultList.{faults as faults_of};
 ghost use Rattle.fault_collapse.specs.ForestFields.{AreForestFields};
 ghost use Rattle.sim_listing.specs.LaneAnswers.{AreEqualRoots};
 ghost use Rattle.sim_listing.specs.RootPlaces.{AreOwnPlaces, AreRootPlaces};
 
-use fault_collapse::{Forest, collapse};
-use fault_list::FaultList;
-use net_model::Circuit;
+use fault_collapse::{Forest, Subject};
 use std::alloc::{AllocError, Global};
 
 /// The numbers that are their own roots, ascending, and for each number the place of its root among them.
@@ -18,17 +15,11 @@ pub struct RootPlaces {
     pub places: Vec<u32>,
 }
 
-/// The roots of a circuit's faults, of which `faults` is the list: of the faults that collapse into one, the one that is simulated.
-pub fn root_places(
-    alloc: Global,
-    circuit: &Circuit,
-    faults: &FaultList,
-) -> Result<RootPlaces, AllocError>
-    requires { faults.now ≡ faults_of circuit.now }
-    ensures { IfOk result (λ found. AreEqualRoots circuit.now found.roots.items found.places.items) }
+/// The roots of a circuit's faults: of the faults that collapse into one, the one that is simulated.
+pub fn root_places(alloc: Global, subject: &Subject) -> Result<RootPlaces, AllocError>
+    ensures { IfOk result (λ found. AreEqualRoots subject.now found.roots.items found.places.items) }
 {
-    let forest = collapse(alloc, circuit, faults)?;
-    let found = forest_places(alloc, &forest)?;
+    let found = forest_places(alloc, subject.forest())?;
     Ok(found)
 }
 

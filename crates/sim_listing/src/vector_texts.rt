@@ -2,7 +2,6 @@
 
 ghost use Rattle.std.specs.Prelude.{◌≡◌, ◌↔◌, ◌+◌, ◌-◌, ◌<◌, ◌≤◌, ◌&&◌, All, IfOk, OnOk, IsTrue, length, nat_le, nat_lt, slice_range};
 ghost use Rattle.std.specs.String.{string_bytes};
-ghost use Rattle.net_model.specs.FaultList.{faults as faults_of};
 ghost use Rattle.sim_listing.specs.LaneAnswers.{AreEqualRoots};
 ghost use Rattle.sim_listing.specs.SimText.{IsSimTextFrom};
 ghost use Rattle.sim_listing.specs.VectorTexts.{texts_before, HaveSameVectors, HasSimulated};
@@ -10,8 +9,8 @@ ghost use Rattle.sim_listing.specs.VectorTexts.{texts_before, HaveSameVectors, H
 use crate::lines::LaneAnswers;
 use crate::roots::RootPlaces;
 use answer_numbers::AnswerNumbers;
-use fault_list::FaultList;
-use net_model::{Circuit, Vector};
+use fault_collapse::Subject;
+use net_model::Vector;
 use std::alloc::{AllocError, Global};
 use std::marker::Model;
 use table_dicts::fill_block;
@@ -43,22 +42,21 @@ impl<'a> Model for VectorTexts<'a> {
 }
 
 impl<'a> VectorTexts<'a> {
-    /// The texts of these vectors, before any is made. `faults` is the list of the circuit's faults, and `roots` has their roots.
+    /// The texts of these vectors, before any is made. `roots` has the roots of the circuit's faults.
     pub fn new(
         alloc: Global,
-        circuit: &'a Circuit,
-        faults: &'a FaultList,
+        subject: &'a Subject<'a>,
         roots: &'a RootPlaces,
         vectors: &'a [Vector],
     ) -> Result<VectorTexts<'a>, AllocError>
-        requires faults { faults.now ≡ faults_of circuit.now }
-        requires roots { AreEqualRoots circuit.now roots.now.roots.items roots.now.places.items }
-        requires widths { All (λ v. length v ≡ circuit.now.sources) vectors.now }
-        ensures { IfOk result (λ texts. texts ≡ texts_before circuit.now vectors.now) }
+        requires roots { AreEqualRoots subject.now roots.now.roots.items roots.now.places.items }
+        requires widths { All (λ v. length v ≡ subject.now.sources) vectors.now }
+        ensures { IfOk result (λ texts. texts ≡ texts_before subject.now vectors.now) }
     {
+        let circuit = subject.circuit();
         let leads = roots.roots.as_slice();
         let places = roots.places.as_slice();
-        let numbers = AnswerNumbers::new(alloc, circuit, faults, leads)?;
+        let numbers = AnswerNumbers::new(alloc, circuit, subject.listed(), leads)?;
         let block = Block::new(alloc, circuit.sources())?;
         Ok(VectorTexts {
             numbers,

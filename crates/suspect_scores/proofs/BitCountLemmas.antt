@@ -6,13 +6,14 @@ use Rattle.std.proofs.lemmas.Bool.Decides.{nat_tests}
 use Rattle.std.proofs.lemmas.List.{length-take-le}
 use Rattle.std.proofs.lemmas.List.Sums.{sum_by_more, sum_by-le}
 use Rattle.net_model.specs.Rows.{bit_of}
-use Rattle.word_sim.proofs.Digits.{digit_zero}
+use Rattle.net_model.proofs.SingleWords.{digit_zero}
 use Rattle.ranked_diag.proofs.CountLemmas.{ones-counted}
 use Rattle.suspect_scores.specs.declared.bit_count.BitCount.{BitCount}
 use Rattle.suspect_scores.specs.Scored.{count_to}
 use Rattle.suspect_scores.specs.Columns.{count_lanes, IsBitCount}
 use Rattle.suspect_scores.proofs.RangeSums.{one_of, count_small, sum_shifted, count_shifted}
-use Rattle.suspect_scores.proofs.DoubleSums.{sum_none, sum_short, sum_swapped, sum_ascending, place_low}
+use Rattle.net_model.proofs.DoubleSums.{sum_swapped}
+use Rattle.suspect_scores.proofs.DoubleSums.{sum_none, sum_short, sum_ascending, place_low}
 
 -- ---- 64 lanes
 

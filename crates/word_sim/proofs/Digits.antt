@@ -1,16 +1,17 @@
 -- The binary digits of words, as bits by lane.
-use Rattle.std.proofs.Common.{◌≡◌, ◌≢◌, ℕ, zero, suc, ◌+◌, ◌-◌, ◌/◌, ◌%◌, ◌^◌, ◌<◌, ◌≤◌, ◌⊎◌, ◌*◌, List, [], ◌∷◌, ◌++◌, length, get_or, set, map, replicate, min, max, refl, sym, ◌∙◌, ap, subst, arith, w64, inl, inr, ◌↔◌, IsTrue}
-use Rattle.std.specs.Prelude.{Bool, true, false, not, ◌&&◌, ◌||◌, ◌==◌, bit_and, bit_or, bit_xor, if◌then◌else◌}
-use Rattle.std.specs.Int.{bit_at as digit_at, bit_not, trailing_zeros}
+use Rattle.std.proofs.Common.{◌≡◌, ◌≢◌, ℕ, zero, suc, ◌+◌, ◌-◌, ◌/◌, ◌%◌, ◌^◌, ◌<◌, ◌≤◌, ◌⊎◌, ◌*◌, List, [], ◌∷◌, ◌++◌, length, get_or, set, map, replicate, refl, sym, ◌∙◌, ap, subst, arith, w64, inl, inr, ◌↔◌, IsTrue}
+use Rattle.std.specs.Prelude.{Bool, true, false, not, ◌==◌, bit_or}
+use Rattle.std.specs.Int.{bit_not}
 use Rattle.std.proofs.lemmas.Bool.{cases_eq, cases_lt, false≢true}
 use Rattle.std.proofs.lemmas.Bool.Decides.{nat_tests}
 use Rattle.std.specs.Simd.Lanes.{zip2, fold_l}
 use Rattle.std.proofs.lemmas.List.{length-append, get_or_append_left, get_or-append-add, length-map, get_or-map, length-replicate, get_or-replicate, length-set, get_or-set_same, get_or-set_other}
 use Rattle.std.proofs.lemmas.Simd.{length-zip2, get_or-zip2}
 use Rattle.std.proofs.lemmas.Nat.{le_or_l, le_or_r}
-use Rattle.std.proofs.lemmas.Nat.Bits.{bit_at_lowest, bit_at-suc, bit_at-lt, bit_at-zero, bit_at_and, bit_at_or, bit_at_xor, bit_at_not, bit_at_ones, bit_at-trailing_zeros}
+use Rattle.std.proofs.lemmas.Nat.Bits.{bit_at_lowest, bit_at-suc}
 use Rattle.net_model.specs.Answer.{bit_at}
 use Rattle.net_model.specs.Rows.{bit_of}
+use Rattle.net_model.proofs.SingleWords.{digit_not, digit_zero, some_digit}
 use Rattle.word_sim.specs.Lanes.{low_digits, lanes_of}
 use Rattle.word_sim.specs.LanesFields.{AreFourWords, length-low_digits}
 use Rattle.word_sim.specs.declared.lanes.TheConstants.{LANES}
@@ -45,42 +46,6 @@ unfolding lanes_of
 length-lanes_of [] = refl
 length-lanes_of (word ∷ words) = omega (arith, length-append (low_digits 64 word) (lanes_of words), length-low_digits 64 word, length-lanes_of words)
 
--- ---- tests of two digits
-
--- what holds of each two digits
-both_digits : (P : ℕ → ℕ → Type 0) → P 0 0 → P 0 1 → P 1 0 → P 1 1 → (m n : ℕ) → m < 2 → n < 2 → P m n
-both_digits P a b c d zero zero h k = a
-both_digits P a b c d zero (suc zero) h k = b
-both_digits P a b c d (suc zero) zero h k = c
-both_digits P a b c d (suc zero) (suc zero) h k = d
-both_digits P a b c d (suc (suc m)) n h k = absurd (omega arith)
-both_digits P a b c d m (suc (suc n)) h k = absurd (omega arith)
-
-min_test : (m n : ℕ) → m < 2 → n < 2 → (min m n == 1) ≡ ((m == 1) && (n == 1))
-min_test = both_digits (λ m n. (min m n == 1) ≡ ((m == 1) && (n == 1))) refl refl refl refl
-
-max_test : (m n : ℕ) → m < 2 → n < 2 → (max m n == 1) ≡ ((m == 1) || (n == 1))
-max_test = both_digits (λ m n. (max m n == 1) ≡ ((m == 1) || (n == 1))) refl refl refl refl
-
-odd_test : (m n : ℕ) → m < 2 → n < 2 → ((m + n) % 2 == 1) ≡ (if m == 1 then not (n == 1) else (n == 1))
-odd_test = both_digits (λ m n. ((m + n) % 2 == 1) ≡ (if m == 1 then not (n == 1) else (n == 1))) refl refl refl refl
-
-not_test : (m : ℕ) → m < 2 → (1 - m == 1) ≡ not (m == 1)
-not_test zero h = refl
-not_test (suc zero) h = refl
-not_test (suc (suc m)) h = absurd (omega arith)
-
--- ---- the digits of what words give
-
-pub digit_and : (a b lane : ℕ) → bit_of (bit_and a b) lane ≡ (bit_of a lane && bit_of b lane)
-digit_and a b lane = ap (λ d. d == 1) (bit_at_and a b lane) ∙ min_test (digit_at a lane) (digit_at b lane) (bit_at-lt a lane) (bit_at-lt b lane)
-
-pub digit_or : (a b lane : ℕ) → bit_of (bit_or a b) lane ≡ (bit_of a lane || bit_of b lane)
-digit_or a b lane = ap (λ d. d == 1) (bit_at_or a b lane) ∙ max_test (digit_at a lane) (digit_at b lane) (bit_at-lt a lane) (bit_at-lt b lane)
-
-pub digit_xor : (a b lane : ℕ) → bit_of (bit_xor a b) lane ≡ (if bit_of a lane then not (bit_of b lane) else bit_of b lane)
-digit_xor a b lane = ap (λ d. d == 1) (bit_at_xor a b lane) ∙ odd_test (digit_at a lane) (digit_at b lane) (bit_at-lt a lane) (bit_at-lt b lane)
-
 -- words put together digit by digit are so lane by lane
 pub both_lanes : (op : ℕ → ℕ → ℕ) (test : Bool → Bool → Bool) → ((a b lane : ℕ) → bit_of (op a b) lane ≡ test (bit_of a lane) (bit_of b lane))
     → (a b : List ℕ) → AreFourWords a → AreFourWords b → (lane : ℕ) → lane < LANES → bit_at (lanes_of (zip2 op a b)) lane ≡ test (bit_at (lanes_of a) lane) (bit_at (lanes_of b) lane)
@@ -100,9 +65,6 @@ both_words op keeps a b first second = record {
       let in_second : at < length b = omega (arith, below, second.four) in
       subst (λ n. n < 2 ^ 64) (sym (get_or-zip2 op a b at 0 0 0 in_first in_second)) (keeps (get_or a at 0) (get_or b at 0) (first.small at in_first) (second.small at in_second));
 }
-
-pub digit_not : (a lane : ℕ) → a < 2 ^ 64 → lane < 64 → bit_of (bit_not w64 a) lane ≡ not (bit_of a lane)
-digit_not a lane h k = ap (λ d. d == 1) (bit_at_not w64 a lane h k) ∙ not_test (digit_at a lane) (bit_at-lt a lane)
 
 pub not_words : (words : List ℕ) → AreFourWords words → AreFourWords (map (bit_not w64) words)
 not_words words is = record {
@@ -181,18 +143,6 @@ set_beside words at word is lane h ne =
     lane_digit (set words at word) lane (omega (arith, h, is.four, length-set words at word))
     ∙ ap (λ w. bit_of w (lane % 64)) (get_or-set_other words at (lane / 64) word 0 ne)
     ∙ sym (lane_digit words lane (omega (arith, h, is.four)))
-
-pub digit_zero : (lane : ℕ) → bit_of 0 lane ≡ false
-digit_zero lane = ap (λ d. d == 1) (bit_at-zero lane)
-
-pub digit_ones : (k lane : ℕ) → lane < k → bit_of (2 ^ k - 1) lane ≡ true
-digit_ones k lane h = ap (λ d. d == 1) (bit_at_ones k lane h)
-
--- a word other than 0 has a 1 somewhere
-pub some_digit : (word : ℕ) → 0 < word → word < 2 ^ 64 → (lane : ℕ) × (lane < 64) × (bit_of word lane ≡ true)
-some_digit word h k =
-    let last = bit_at-trailing_zeros w64 word h k in
-    (trailing_zeros w64 word, last.0, ap (λ d. d == 1) last.1)
 
 test_of_zero : (word : ℕ) → word ≡ 0 → (not (word == 0)) ≡ false
 test_of_zero word e = grind (arith, nat_tests)

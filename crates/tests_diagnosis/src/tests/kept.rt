@@ -1,12 +1,10 @@
 //! Vectors that split classes of a circuit, and the classes of all of them.
 
 ghost use Rattle.std.specs.Prelude.{◌≡◌, ◌<◌, ◌^◌, length, All, IfOk, OnOk};
-ghost use Rattle.net_model.specs.FaultList.{faults as faults_of};
 ghost use Rattle.net_model.specs.PatternRows.{IsTableOf};
 
 use class_refine::Classes;
-use fault_collapse::collapse;
-use fault_list::FaultList;
+use fault_collapse::Subject;
 use kept_vectors::Keeper;
 use net_model::{Circuit, Vector, Vectors};
 use sample_circuits::bits;
@@ -21,19 +19,13 @@ pub(crate) struct Kept {
 }
 
 // What is kept of these vectors.
-pub(crate) fn kept_of(
-    alloc: Global,
-    circuit: &Circuit,
-    faults: &FaultList,
-    texts: &[&str],
-) -> Result<Kept, Fail>
-    requires { faults.now ≡ faults_of circuit.now }
+pub(crate) fn kept_of(alloc: Global, circuit: &Circuit, texts: &[&str]) -> Result<Kept, Fail>
     ensures widths { IfOk result (λ kept. All (λ v. length v ≡ circuit.now.sources) kept.patterns) }
     ensures few { IfOk result (λ kept. length kept.patterns < 2 ^ 32) }
     ensures table { IfOk result (λ kept. IsTableOf circuit.now kept.patterns kept.classes) }
 {
-    let forest = collapse(alloc, circuit, faults)?;
-    let mut keeper = Keeper::new(alloc, circuit, faults, &forest)?;
+    let subject = Subject::new(alloc, circuit)?;
+    let mut keeper = Keeper::new(alloc, &subject)?;
     keep_all(alloc, circuit, &mut keeper, texts)?;
     kept_by(alloc, keeper)
 }

@@ -3,7 +3,7 @@
 ghost use Rattle.std.specs.Prelude.{◌≡◌, ◌<◌, All, IfOk, length};
 ghost use Rattle.sim_listing.specs.VectorTexts.{HaveSameVectors};
 
-use fault_list::list;
+use fault_collapse::Subject;
 use net_model::{Circuit, Kind, Vector, Vectors};
 use sample_circuits::{AND_OF_TWO, BUFFER, CircuitParts, SHOWN_TWICE, bits, circuit};
 use sim_listing::{VectorTexts, root_places};
@@ -56,9 +56,9 @@ fn push_texts(
 ) -> Result<(), AllocError>
     requires { All (λ v. length v ≡ circuit.now.sources) vectors.now }
 {
-    let faults = list(alloc, circuit)?;
-    let roots = root_places(alloc, circuit, &faults)?;
-    let mut texts = VectorTexts::new(alloc, circuit, &faults, &roots, vectors)?;
+    let subject = Subject::new(alloc, circuit)?;
+    let roots = root_places(alloc, &subject)?;
+    let mut texts = VectorTexts::new(alloc, &subject, &roots, vectors)?;
     for number in 0..vectors.len() {
         push_text(alloc, &mut texts, number, text)?;
     }

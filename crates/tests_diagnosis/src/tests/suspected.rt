@@ -228,7 +228,7 @@ fn is_told(alloc: Global, setting: &Setting, case: &Case) -> Result<bool, Fail>
 fn is_kept(alloc: Global, circuit: &Circuit, faults: &FaultList, case: &Case) -> Result<bool, Fail>
     requires { faults.now ≡ faults_of circuit.now }
 {
-    let kept = kept_of(alloc, circuit, faults, case.1)?;
+    let kept = kept_of(alloc, circuit, case.1)?;
     let setting = Setting {
         circuit,
         faults,

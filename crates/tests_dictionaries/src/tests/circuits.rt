@@ -9,7 +9,7 @@ ghost use Rattle.table_dicts.specs.Setting.{IsSetting};
 
 use crate::tests::spelled::is_dict;
 use class_refine::Classes;
-use fault_collapse::collapse;
+use fault_collapse::Subject;
 use fault_list::{FaultList, list};
 use kept_vectors::Keeper;
 use net_model::{Circuit, Vector, Vectors};
@@ -63,20 +63,14 @@ fn keep_vector(circuit: &Circuit, keeper: &mut Keeper, v: &Vector) -> Result<(),
 }
 
 // What is kept of these vectors.
-pub(crate) fn kept_of(
-    alloc: Global,
-    circuit: &Circuit,
-    faults: &FaultList,
-    texts: &[&str],
-) -> Result<Kept, Fail>
-    requires { faults.now ≡ faults_of circuit.now }
+pub(crate) fn kept_of(alloc: Global, circuit: &Circuit, texts: &[&str]) -> Result<Kept, Fail>
     ensures widths { IfOk result (λ kept. All (λ v. length v ≡ circuit.now.sources) kept.patterns) }
     ensures few { IfOk result (λ kept. length kept.patterns < 2 ^ 32) }
     ensures numbers { IfOk result (λ kept. length kept.classes.class_of ≡ fault_count circuit.now) }
     ensures table { IfOk result (λ kept. IsTableOf circuit.now kept.patterns kept.classes) }
 {
-    let forest = collapse(alloc, circuit, faults)?;
-    let mut keeper = Keeper::new(alloc, circuit, faults, &forest)?;
+    let subject = Subject::new(alloc, circuit)?;
+    let mut keeper = Keeper::new(alloc, &subject)?;
     keep_all(alloc, circuit, &mut keeper, texts)?;
     kept_by(alloc, keeper)
 }
@@ -259,7 +253,7 @@ fn are_made(alloc: Global, kept: &Kept, setting: &Setting, case: &Case) -> Resul
 fn is_kept(alloc: Global, circuit: &Circuit, faults: &FaultList, case: &Case) -> Result<bool, Fail>
     requires { faults.now ≡ faults_of circuit.now }
 {
-    let kept = kept_of(alloc, circuit, faults, case.1)?;
+    let kept = kept_of(alloc, circuit, case.1)?;
     let setting = Setting {
         circuit,
         faults,

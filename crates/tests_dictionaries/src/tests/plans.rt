@@ -65,7 +65,7 @@ fn is_planned_by_table(alloc: Global, setting: &Setting, wanted: &str) -> Result
 fn is_kept(alloc: Global, circuit: &Circuit, faults: &FaultList, case: &Case) -> Result<bool, Fail>
     requires { faults.now ≡ faults_of circuit.now }
 {
-    let kept = kept_of(alloc, circuit, faults, case.1)?;
+    let kept = kept_of(alloc, circuit, case.1)?;
     let setting = Setting {
         circuit,
         faults,

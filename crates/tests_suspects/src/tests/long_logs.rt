@@ -58,7 +58,10 @@ fn ends(patterns: &[&str]) -> Option<(Telling, Telling)> {
 
 // How many patterns have a 1.
 fn count_ones(patterns: &[&str]) -> usize {
-    patterns.iter().filter(|digits| digits.contains('1')).count()
+    patterns
+        .iter()
+        .filter(|digits| digits.contains('1'))
+        .count()
 }
 
 // The log of a chip that answers 0 to these patterns, and to all others as the good one.
@@ -72,7 +75,7 @@ fn log_of(alloc: Global, patterns: &[&str], failing: &[usize]) -> Result<String,
 }
 
 // A netlist, its result, the patterns of the result, and how many of these have a 1.
-struct Setting<'a> {
+struct OneOr<'a> {
     netlist: &'a [u8],
     result: &'a [u8],
     patterns: &'a [&'a str],
@@ -83,15 +86,19 @@ struct Setting<'a> {
 // are failing and logged.
 fn are_printed(
     alloc: Global,
-    setting: &Setting,
+    made: &OneOr,
     failing: &[usize],
     suspects: &str,
     cover: &str,
 ) -> Result<bool, Fail> {
-    let log = log_of(alloc, setting.patterns, failing)?;
-    let files = [("n", setting.netlist), ("r", setting.result), ("l", log.as_bytes())];
+    let log = log_of(alloc, made.patterns, failing)?;
+    let files = [
+        ("n", made.netlist),
+        ("r", made.result),
+        ("l", log.as_bytes()),
+    ];
     let listed = left_by(alloc, 4096, &[], &files, &["suspects", "n", "r", "l"])?;
-    let logged = setting.patterns.len();
+    let logged = made.patterns.len();
     let console = format!(in alloc; "{suspects} failing {} logged {logged}\n", failing.len())?;
     let covered = left_by(alloc, 4096, &[], &files, &["cover", "n", "r", "l"])?;
     Ok(listed.ended(0, console.as_bytes()) && covered.ended(0, cover.as_bytes()))
@@ -99,17 +106,19 @@ fn are_printed(
 
 // Whether that is so of a chip that fails at the first and the last pattern that tell a number, and of one that fails at the
 // last alone. The output stuck at 0 puts a 0 also at each other pattern with a 1.
-fn both_are_printed(alloc: Global, setting: &Setting, ends: (Telling, Telling)) -> Result<bool, Fail> {
+fn both_are_printed(alloc: Global, made: &OneOr, ends: (Telling, Telling)) -> Result<bool, Fail> {
     let ((first, low), (last, high)) = ends;
-    let others = setting.ones.saturating_sub(2);
+    let others = made.ones.saturating_sub(2);
     let (least, most) = (low.min(high), low.max(high));
-    let suspects = format!(in alloc; "561 2 2 0 {others}\n{least} 1 1 1 0\n{most} 1 1 1 0\nlisted 3")?;
+    let suspects = format!(in alloc;
+        "561 2 2 0 {others}\n{least} 1 1 1 0\n{most} 1 1 1 0\nlisted 3"
+    )?;
     let cover = "561 2\nlisted 1 explained 2 failing 2\n";
-    let two = are_printed(alloc, setting, &[first, last], &suspects, cover)?;
-    let others = setting.ones.saturating_sub(1);
+    let two = are_printed(alloc, made, &[first, last], &suspects, cover)?;
+    let others = made.ones.saturating_sub(1);
     let suspects = format!(in alloc; "{high} 1 1 0 0\n561 1 1 0 {others}\nlisted 2")?;
     let cover = format!(in alloc; "{high} 1\nlisted 1 explained 1 failing 1\n")?;
-    Ok(two && are_printed(alloc, setting, &[last], &suspects, &cover)?)
+    Ok(two && are_printed(alloc, made, &[last], &suspects, &cover)?)
 }
 
 #[test]
@@ -117,8 +126,8 @@ fn logs_of_two_blocks(rt: HostRuntime) -> Result<(), Fail> {
     let alloc = rt.alloc();
     let netlist = one_or(alloc)?;
     let words = ["gen", "n", "r", "--blocks", "0"];
-    let made = left_by(alloc, 4096, &[], &[("n", netlist.as_bytes())], &words)?;
-    let result = made.copy_of(alloc, "r")?;
+    let left = left_by(alloc, 4096, &[], &[("n", netlist.as_bytes())], &words)?;
+    let result = left.copy_of(alloc, "r")?;
     let Ok(text) = str::from_utf8(&result) else {
         return Err(Fail::new("a result is no text"));
     };
@@ -127,12 +136,12 @@ fn logs_of_two_blocks(rt: HostRuntime) -> Result<(), Fail> {
         return Err(Fail::new("no pattern tells a number"));
     };
     assert!(rt; ends.0.0 < 256 && 256 <= ends.1.0, "both stand in one block");
-    let setting = Setting {
+    let made = OneOr {
         netlist: netlist.as_bytes(),
         result: &result,
         patterns: &patterns,
         ones: count_ones(&patterns),
     };
-    assert!(rt; both_are_printed(alloc, &setting, ends)?);
+    assert!(rt; both_are_printed(alloc, &made, ends)?);
     Ok(())
 }

@@ -1,5 +1,5 @@
 use Rattle.std.proofs.Common.{◌+◌, refl, sym, subst, arith}
-use Rattle.diagnose.proofs.BitLemmas.{AreBitsSoFar, bits_none, bits_more, whole_bits}
+use Rattle.text_fields.proofs.BitLemmas.{AreBitsSoFar, bits_none, bits_more, whole_bits}
 use Rattle.adaptive_tree.proofs.digits.bits_of.Goals as goal
 
 pub loop-at-init : goal.loop-at-init

@@ -1,4 +1,4 @@
-use Rattle.diagnose.proofs.BitLemmas.{AreBitsSoFar}
+use Rattle.text_fields.proofs.BitLemmas.{AreBitsSoFar}
 use Rattle.adaptive_tree.proofs.digits.bits_of.Given as goal
 
 abbrev pub invariant-loop-at : goal.invariant-loop-at

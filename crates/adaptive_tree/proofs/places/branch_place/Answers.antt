@@ -1,5 +1,5 @@
 use Rattle.std.proofs.Common.{◌≡◌, ◌∙◌, ◌+◌, ◌<◌, ℕ, length, sym, subst, arith, rules}
-use Rattle.diagnose.specs.Lines.{digit_bits}
+use Rattle.text_fields.specs.Fields.{digit_bits}
 use Rattle.adaptive_tree.proofs.PlaceLemmas.{AreLeft, left_low, found_left, fewer_left, none_left}
 use Rattle.adaptive_tree.proofs.places.branch_place.Goals as goal
 

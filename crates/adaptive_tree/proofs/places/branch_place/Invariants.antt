@@ -1,4 +1,4 @@
-use Rattle.diagnose.specs.Lines.{digit_bits}
+use Rattle.text_fields.specs.Fields.{digit_bits}
 use Rattle.adaptive_tree.specs.Places.{HasBranchesAt}
 use Rattle.adaptive_tree.proofs.PlaceLemmas.{AreLeft}
 use Rattle.adaptive_tree.proofs.places.branch_place.Given as goal

@@ -1,5 +1,5 @@
 use Rattle.std.proofs.Common.{◌∙◌, sym}
-use Rattle.diagnose.proofs.BitLemmas.{whole_bits}
+use Rattle.text_fields.proofs.BitLemmas.{whole_bits}
 use Rattle.adaptive_tree.proofs.PlaceLemmas.{bits_differ, bits_agree, not_other}
 use Rattle.adaptive_tree.proofs.places.is_same.Goals as goal
 

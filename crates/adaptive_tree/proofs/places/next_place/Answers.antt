@@ -1,6 +1,6 @@
 use Rattle.std.proofs.Common.{◌<◌, length, Option, sym, subst, rules}
 use Rattle.std.specs.Prelude.{option_and_then}
-use Rattle.diagnose.specs.Lines.{digit_bits}
+use Rattle.text_fields.specs.Fields.{digit_bits}
 use Rattle.adaptive_tree.specs.PlanNode.{PlanNode, Branches}
 use Rattle.adaptive_tree.specs.Walk.{next_node, branch_for}
 use Rattle.adaptive_tree.specs.Places.{IsWalkAt}

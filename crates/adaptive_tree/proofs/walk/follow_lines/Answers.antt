@@ -1,7 +1,7 @@
 use Rattle.std.proofs.Common.{List, Option, length, sym, subst, arith}
 use Rattle.std.proofs.lemmas.Bool.{eqb-true}
 use Rattle.std.specs.Prelude.{option_and_then}
-use Rattle.diagnose.specs.Lines.{digit_bits}
+use Rattle.text_fields.specs.Fields.{digit_bits}
 use Rattle.adaptive_tree.specs.declared.steps.Step.{Step}
 use Rattle.adaptive_tree.specs.PlanNode.{PlanNode}
 use Rattle.adaptive_tree.specs.Walk.{next_node, node_after}

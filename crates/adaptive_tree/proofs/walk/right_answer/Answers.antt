@@ -1,6 +1,6 @@
 use Rattle.std.proofs.Common.{◌∙◌, sym, refl, eqb}
 use Rattle.std.proofs.lemmas.List.{length-map}
-use Rattle.diagnose.specs.Lines.{digit_bits}
+use Rattle.text_fields.specs.Fields.{digit_bits}
 use Rattle.adaptive_tree.specs.AnswerLog.{not_asked, wrong_width}
 use Rattle.adaptive_tree.proofs.walk.right_answer.Goals as goal
 

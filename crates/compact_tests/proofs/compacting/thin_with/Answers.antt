@@ -5,9 +5,9 @@ use Rattle.net_model.specs.PatternRows.{IsTableOf}
 use Rattle.kept_vectors.specs.Kept.{SplitInTurn}
 use Rattle.class_refine.proofs.PatternTables.{table_numbers}
 use Rattle.result_file.specs.Meaning.{class_records, member_records}
-use Rattle.result_file.specs.declared.record.Record.TheVariants.{Head, Budget, Pattern, Same, End}
-use Rattle.result_file.specs.Marks.{evidence_in}
-use Rattle.result_file.specs.Spelling.{text_of}
+use Rattle.result_records.specs.declared.record.Record.TheVariants.{Head, Budget, Pattern, Same, End}
+use Rattle.result_records.specs.Marks.{evidence_in}
+use Rattle.result_records.specs.Spelling.{text_of}
 use Rattle.compact_tests.specs.Thinning.{AreAnswersOf}
 use Rattle.compact_tests.specs.Keeping.{vectors_at}
 use Rattle.compact_tests.specs.Stated.{IsReadable}

@@ -1,5 +1,5 @@
 use Rattle.std.proofs.Common.{◌≤◌, ◌-◌, ℕ, length}
-use Rattle.result_file.specs.Held.{IsFirstFrom, IsWithoutLineFeed}
+use Rattle.result_records.specs.Held.{IsFirstFrom, IsWithoutLineFeed}
 use Rattle.compact_tests.proofs.lines.line_end.Given as goal
 
 abbrev pub invariant-loop-end : goal.invariant-loop-end

@@ -1,6 +1,6 @@
 use Rattle.std.proofs.Common.{◌∙◌, ◌+◌, length, sym, ap, subst}
 use Rattle.std.specs.Prelude.{slice_range}
-use Rattle.result_file.specs.Spelling.{spelling}
+use Rattle.result_records.specs.Spelling.{spelling}
 use Rattle.compact_tests.specs.Stated.{IsReadableLine}
 use Rattle.compact_tests.proofs.StatedLemmas.{has_next, first_once, stated_more, all_stated}
 use Rattle.compact_tests.proofs.lines.read_stated.Goals as goal

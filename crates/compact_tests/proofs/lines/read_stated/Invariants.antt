@@ -1,5 +1,5 @@
 use Rattle.std.proofs.Common.{◌≡◌, ◌-◌, List, length}
-use Rattle.result_file.specs.declared.record.Record.{Record}
+use Rattle.result_records.specs.declared.record.Record.{Record}
 use Rattle.compact_tests.specs.Stated.{IsReadable, IsStatedTo}
 use Rattle.compact_tests.proofs.lines.read_stated.Given as goal
 

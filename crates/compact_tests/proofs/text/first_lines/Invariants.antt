@@ -1,7 +1,7 @@
 use Rattle.std.proofs.Common.{◌≡◌, map, take}
 use Rattle.std.specs.String.{string_bytes}
-use Rattle.result_file.specs.declared.record.Record.TheVariants.{Pattern}
-use Rattle.result_file.specs.Spelling.{text_of}
+use Rattle.result_records.specs.declared.record.Record.TheVariants.{Pattern}
+use Rattle.result_records.specs.Spelling.{text_of}
 use Rattle.compact_tests.specs.Keeping.{vectors_at}
 use Rattle.compact_tests.proofs.text.first_lines.Given as goal
 

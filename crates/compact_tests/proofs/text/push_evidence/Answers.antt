@@ -2,8 +2,8 @@ use Rattle.std.proofs.Common.{◌≡◌, ◌∙◌, ◌++◌, ℕ, length, map, 
 use Rattle.std.specs.Prelude.{filter_map}
 use Rattle.std.proofs.lemmas.List.{append-nil}
 use Rattle.std.specs.List.{range_with_len}
-use Rattle.result_file.specs.Spelling.{text_of}
-use Rattle.result_file.specs.declared.record.Record.TheVariants.{Same}
+use Rattle.result_records.specs.Spelling.{text_of}
+use Rattle.result_records.specs.declared.record.Record.TheVariants.{Same}
 use Rattle.compact_tests.specs.ThinResult.{last_evidence, evidence_for}
 use Rattle.compact_tests.proofs.TextLemmas.{evidence_more}
 use Rattle.compact_tests.proofs.text.push_evidence.Goals as goal

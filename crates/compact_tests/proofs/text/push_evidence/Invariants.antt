@@ -1,9 +1,9 @@
 use Rattle.std.proofs.Common.{◌≡◌, ◌++◌, ◌≤◌, List, length, map}
 use Rattle.std.specs.Prelude.{filter_map}
 use Rattle.std.specs.List.{range_with_len}
-use Rattle.result_file.specs.declared.record.Evidence.{Evidence}
-use Rattle.result_file.specs.declared.record.Record.TheVariants.{Same}
-use Rattle.result_file.specs.Spelling.{text_of}
+use Rattle.result_records.specs.declared.record.Evidence.{Evidence}
+use Rattle.result_records.specs.declared.record.Record.TheVariants.{Same}
+use Rattle.result_records.specs.Spelling.{text_of}
 use Rattle.compact_tests.specs.ThinResult.{evidence_for}
 use Rattle.compact_tests.specs.Stated.{AreEvidenceLines}
 use Rattle.compact_tests.proofs.text.push_evidence.Given as goal

@@ -1,10 +1,11 @@
 use Rattle.std.proofs.Common.{◌∙◌, ◌++◌, ◌∷◌, [], List, Option, length, sym, ap, ap₂, subst, arith}
 use Rattle.std.specs.Prelude.{zip}
-use Rattle.result_file.specs.declared.record.Mark.{Mark}
-use Rattle.result_file.specs.declared.record.Record.TheVariants.{End}
-use Rattle.result_file.specs.Marks.{evidence_in}
+use Rattle.result_records.specs.declared.record.Mark.{Mark}
+use Rattle.result_records.specs.declared.record.Record.TheVariants.{End}
+use Rattle.result_records.specs.Marks.{evidence_in}
 use Rattle.result_file.specs.Meaning.{class_records, member_records}
-use Rattle.result_file.specs.Spelling.{Text, text_of}
+use Rattle.text_fields.specs.Fields.{Text}
+use Rattle.result_records.specs.Spelling.{text_of}
 use Rattle.compact_tests.specs.declared.lines.Span.{Span}
 use Rattle.compact_tests.specs.Stated.{AreEvidenceLines}
 use Rattle.compact_tests.proofs.text.push_numbers.Goals as goal

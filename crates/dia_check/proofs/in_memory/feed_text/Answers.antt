@@ -2,7 +2,7 @@ use Rattle.std.proofs.Common.{◌≡◌, ◌∙◌, ◌+◌, ◌-◌, ◌≤◌,
 use Rattle.std.specs.List.{slice_range}
 use Rattle.std.proofs.Math.Seq.{take-add}
 use Rattle.std.proofs.lemmas.List.{take_all}
-use Rattle.result_file.specs.Spelling.{Text}
+use Rattle.text_fields.specs.Fields.{Text}
 use Rattle.dia_check.specs.Reader.{IsReading}
 use Rattle.dia_check.proofs.in_memory.feed_text.Goals as goal
 

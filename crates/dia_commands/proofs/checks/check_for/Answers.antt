@@ -1,6 +1,6 @@
 use Rattle.std.proofs.Common.{◌∙◌, List, ℕ, refl, ap, inl, inr}
 use Rattle.net_model.specs.Circuit.{Circuit}
-use Rattle.result_file.specs.Spelling.{text_of}
+use Rattle.result_records.specs.Spelling.{text_of}
 use Rattle.dia_commands.specs.Texts.{valid_text}
 use Rattle.dia_commands.specs.Results.{IsValidText}
 use Rattle.dia_commands.specs.Plan.{Plan}
@@ -14,16 +14,16 @@ abbrev says_valid : Circuit → List ℕ → Plan
 says_valid circuit file = says (IsValidText circuit file)
 
 pub returns-in_err-checked : goal.returns-in_err-checked
-returns-in_err-checked g c = λ bench. handed_follows c.from_residual.result c.from_residual.ensures.1 (result_over two_read (inr (inr (inl refl))) (says_valid c.args.circuit.now) c.in_err-checked.ensures.err)
+returns-in_err-checked g c = λ bench. handed_follows c.from_residual.result c.from_residual.ensures.1 (result_over two_read (inr (inr (inl refl))) (says_valid c.args.subject.now) c.in_err-checked.ensures.err)
 
 pub returns-in_err-text : goal.returns-in_err-text
 returns-in_err-text g c = λ bench.
     handed_follows c.from_residual-in_err-text.result c.from_residual-in_err-text.ensures.1
-    (result_then (says_valid c.args.circuit.now) (g.met.S.Shelf.sure_tells _) c.in_ok-checked.ensures.ok.2 (follows_nothing (g.S.Shelf.state c.read_result.new.shelf) two_read.breaks))
+    (result_then (says_valid c.args.subject.now) (g.met.S.Shelf.sure_tells _) c.in_ok-checked.ensures.ok.2 (follows_nothing (g.S.Shelf.state c.read_result.new.shelf) two_read.breaks))
 
 pub returns : goal.returns
 returns g c = λ bench.
-    let circuit = c.args.circuit.now in
+    let circuit = c.args.subject.now in
     let read = c.in_ok-checked.ensures.ok in
     let text = c.as_bytes.ensures.value ∙ c.in_ok-text.ensures in
     let is : IsValidText circuit (text_of read.0) c.as_bytes.result.now = record { records = read.0; spelled = refl; valid = read.1.valid; text_is = text ∙ ap valid_text read.1.summary } in

@@ -1,6 +1,6 @@
 use Rattle.std.proofs.Common.{◌≡◌, List, ℕ, refl, subst, inl, inr}
 use Rattle.net_model.specs.Circuit.{Circuit}
-use Rattle.result_file.specs.Spelling.{text_of}
+use Rattle.result_records.specs.Spelling.{text_of}
 use Rattle.ranked_diag.specs.PartialLog.{Line}
 use Rattle.dia_commands.specs.Suspects.{IsCoverText}
 use Rattle.dia_commands.specs.Plan.{Plan}
@@ -15,23 +15,23 @@ abbrev says_cover : Circuit → List ℕ → List Line → Plan
 says_cover circuit file lines = says (IsCoverText circuit file lines)
 
 pub text_at-requires-clause-partial : goal.text_at-requires-clause-partial
-text_at-requires-clause-partial g c = c.in_ok-partial.ensures.lines
+text_at-requires-clause-partial g c = rw (c.setting_of-setting.ensures.circuit, c.setting_of-setting.ensures.patterns) c.in_ok-partial.ensures.lines
 
 pub returns-in_err-partial : goal.returns-in_err-partial
 returns-in_err-partial g c = λ bench results records accepted.
     handed_follows c.from_residual.result c.from_residual.ensures.1
-    (log_at_over c.args.circuit.now (text_of records) three_read (inr (inr (inr (inl refl)))) (says_cover c.args.circuit.now (text_of records)) (c.in_err-partial.ensures.err records accepted))
+    (log_at_over c.args.subject.now (text_of records) three_read (inr (inr (inr (inl refl)))) (says_cover c.args.subject.now (text_of records)) (c.in_err-partial.ensures.err records accepted))
 
 pub returns-in_err-text : goal.returns-in_err-text
 returns-in_err-text g c = λ bench results records accepted.
     handed_follows c.from_residual-in_err-text.result c.from_residual-in_err-text.ensures.1
-    (log_at_then c.args.circuit.now (text_of records) (says_cover c.args.circuit.now (text_of records)) (g.met.S.Shelf.sure_tells _) (c.in_ok-partial.ensures.ok records accepted) (follows_nothing (g.S.Shelf.state c.read_log_at.new.shelf) three_read.breaks))
+    (log_at_then c.args.subject.now (text_of records) (says_cover c.args.subject.now (text_of records)) (g.met.S.Shelf.sure_tells _) (c.in_ok-partial.ensures.ok records accepted) (follows_nothing (g.S.Shelf.state c.read_log_at.new.shelf) three_read.breaks))
 
 pub returns : goal.returns
 returns g c = λ bench results records accepted.
-    let circuit = c.args.circuit.now in
+    let circuit = c.args.subject.now in
     let file = text_of records in
     let lines = c.in_ok-partial.partial in
-    let covered = rw (accepted.patterns, ← c.as_bytes.ensures.value) at c.in_ok-text.ensures in
+    let covered = rw (c.setting_of-setting.ensures.circuit, c.setting_of-setting.ensures.patterns, c.setting_of-setting.ensures.classes, accepted.patterns, ← c.as_bytes.ensures.value) at c.in_ok-text.ensures in
     let is : IsCoverText circuit file lines c.as_bytes.result.now = record { of = valid_bytes accepted; classes = c.args.checked.now.classes; classes_are = accepted.table; covers = covered } in
     log_at_then circuit file (says_cover circuit file) (g.met.S.Shelf.sure_tells _) (c.in_ok-partial.ensures.ok records accepted) (says_follows (IsCoverText circuit file lines) three_read.breaks (inl refl) is c.say.ensures)

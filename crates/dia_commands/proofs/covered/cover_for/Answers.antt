@@ -16,19 +16,19 @@ abbrev reads_log : List ℕ → Circuit → List ℕ → Plan
 reads_log log circuit file = with_log_at log circuit file (λ (lines : List Line). says (IsCoverText circuit file lines))
 
 pub returns-in_err-checked : goal.returns-in_err-checked
-returns-in_err-checked g c = λ bench. handed_follows c.from_residual.result c.from_residual.ensures.1 (result_over three_read (inr (inr (inl refl))) (reads_log c.args.log.now c.args.circuit.now) c.in_err-checked.ensures.err)
+returns-in_err-checked g c = λ bench. handed_follows c.from_residual.result c.from_residual.ensures.1 (result_over three_read (inr (inr (inl refl))) (reads_log c.args.log.now c.args.subject.now) c.in_err-checked.ensures.err)
 
 pub cover_at-requires-clause-widths : goal.cover_at-requires-clause-widths
 cover_at-requires-clause-widths g c =
     let read = c.in_ok-checked.ensures.ok in
-    subst (All (λ v. length v ≡ c.args.circuit.now.sources)) (sym read.1.patterns) (valid_widths read.1.valid)
+    subst (All (λ v. length v ≡ c.args.subject.now.sources)) (sym read.1.patterns) (valid_widths read.1.valid)
 
 pub cover_at-requires-clause-table : goal.cover_at-requires-clause-table
 cover_at-requires-clause-table g c =
     let read = c.in_ok-checked.ensures.ok in
-    subst (λ (patterns : List (List Bool)). IsTableOf c.args.circuit.now patterns c.in_ok-checked.checked.classes) (sym read.1.patterns) read.1.table
+    subst (λ (patterns : List (List Bool)). IsTableOf c.args.subject.now patterns c.in_ok-checked.checked.classes) (sym read.1.patterns) read.1.table
 
 pub returns : goal.returns
 returns g c = λ bench.
     let read = c.in_ok-checked.ensures.ok in
-    result_then (reads_log c.args.log.now c.args.circuit.now) (g.met.S.Shelf.sure_tells _) read.2 (c.cover_at.ensures bench c.args.results.now read.0 read.1)
+    result_then (reads_log c.args.log.now c.args.subject.now) (g.met.S.Shelf.sure_tells _) read.2 (c.cover_at.ensures bench c.args.results.now read.0 read.1)

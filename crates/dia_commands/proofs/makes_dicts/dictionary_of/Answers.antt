@@ -1,7 +1,6 @@
-use Rattle.std.proofs.Common.{◌≡◌, Result, Ok, Err, sym, subst, arith}
+use Rattle.std.proofs.Common.{◌≡◌, Result, Ok, Err, sym, subst}
 use Rattle.std.specs.Prelude.{IfOk}
 use Rattle.std.proofs.lemmas.Result.{IfOk-weaker}
-use Rattle.kept_vectors.proofs.KeepLemmas.{table_patterns}
 use Rattle.table_dicts.specs.declared.dict.Dict.{Dict}
 use Rattle.request_words.specs.declared.request.EntryKind.{EntryKind}
 use Rattle.request_words.specs.declared.request.EntryKind.TheVariants.{SameDiff}
@@ -13,41 +12,32 @@ always : {T E : Type 0} (P : T → Type 0) (result : Result T E) → ((x : T) �
 always P (Ok x) all = all x
 always P (Err e) all = tt
 
-pub pass_fail_at-requires : goal.pass_fail_at-requires
-pass_fail_at-requires c = record { answerable = record { faults_are = c.in_ok-faults.ensures.faults; widths = c.requires.widths; few = omega (arith, table_patterns c.requires.table, c.patterns-patterns.ensures.value, c.patterns-patterns.type_inv) }; classes = c.requires.table }
-
-pub full_at-requires : goal.full_at-requires
-full_at-requires c = record { answerable = record { faults_are = c.in_ok-faults.ensures.faults; widths = c.requires.widths; few = omega (arith, table_patterns c.requires.table, c.patterns-patterns.ensures.value, c.patterns-patterns.type_inv) }; classes = c.requires.table }
-
-pub chosen_of-requires : goal.chosen_of-requires
-chosen_of-requires c = record { answerable = record { faults_are = c.in_ok-faults.ensures.faults; widths = c.requires.widths; few = omega (arith, table_patterns c.requires.table, c.patterns-patterns.ensures.value, c.patterns-patterns.type_inv) }; classes = c.requires.table }
-
 pub returns-in-PassFail-clause-dictionary : goal.returns-in-PassFail-clause-dictionary
-returns-in-PassFail-clause-dictionary c = kind_made c.pass_fail_at.result c.in-PassFail.is c.requires.table c.pass_fail_at.ensures
+returns-in-PassFail-clause-dictionary c = kind_made c.pass_fail_at.result c.in-PassFail.is c.requires.classes c.pass_fail_at.ensures
 
 pub returns-in-Full-clause-dictionary : goal.returns-in-Full-clause-dictionary
-returns-in-Full-clause-dictionary c = kind_made c.full_at.result c.in-Full.is c.requires.table c.full_at.ensures
+returns-in-Full-clause-dictionary c = kind_made c.full_at.result c.in-Full.is c.requires.classes c.full_at.ensures
 
 pub returns-clause-dictionary : goal.returns-clause-dictionary
 returns-clause-dictionary c =
-    let circuit = c.args.circuit.now in
-    let patterns = c.args.patterns.now in
-    let classes = c.args.classes.now in
+    let circuit = c.args.setting.now.circuit.now in
+    let patterns = c.args.setting.now.patterns.now in
+    let classes = c.args.setting.now.classes.now in
     subst (λ (kind : EntryKind). IfOk c.chosen_of.result (IsOfPatterns circuit kind patterns classes)) (sym c.in-SameDiff.is) c.chosen_of.ensures.dictionary
 
 pub returns-in-PassFail-clause-most : goal.returns-in-PassFail-clause-most
 returns-in-PassFail-clause-most c =
     let is = c.in-PassFail.is in
-    always (λ (d : Dict). c.args.kind ≡ SameDiff → KeepsMostApart c.args.circuit.now c.args.patterns.now c.args.classes.now d) c.pass_fail_at.result (λ d same. absurd (cc))
+    always (λ (d : Dict). c.args.kind ≡ SameDiff → KeepsMostApart c.args.setting.now.circuit.now c.args.setting.now.patterns.now c.args.setting.now.classes.now d) c.pass_fail_at.result (λ d same. absurd (cc))
 
 pub returns-in-Full-clause-most : goal.returns-in-Full-clause-most
 returns-in-Full-clause-most c =
     let is = c.in-Full.is in
-    always (λ (d : Dict). c.args.kind ≡ SameDiff → KeepsMostApart c.args.circuit.now c.args.patterns.now c.args.classes.now d) c.full_at.result (λ d same. absurd (cc))
+    always (λ (d : Dict). c.args.kind ≡ SameDiff → KeepsMostApart c.args.setting.now.circuit.now c.args.setting.now.patterns.now c.args.setting.now.classes.now d) c.full_at.result (λ d same. absurd (cc))
 
 pub returns-clause-most : goal.returns-clause-most
 returns-clause-most c =
-    let circuit = c.args.circuit.now in
-    let patterns = c.args.patterns.now in
-    let classes = c.args.classes.now in
+    let circuit = c.args.setting.now.circuit.now in
+    let patterns = c.args.setting.now.patterns.now in
+    let classes = c.args.setting.now.classes.now in
     IfOk-weaker c.chosen_of.result (KeepsMostApart circuit patterns classes) (λ (d : Dict). c.args.kind ≡ SameDiff → KeepsMostApart circuit patterns classes d) (λ d most same. most) c.chosen_of.ensures.most

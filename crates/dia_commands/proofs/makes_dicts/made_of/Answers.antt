@@ -9,7 +9,7 @@ pub spelled-requires-clause-shaped : goal.spelled-requires-clause-shaped
 spelled-requires-clause-shaped c = shaped_of c.in_ok-dict.ensures.dictionary
 
 pub spelled-requires-clause-numbers : goal.spelled-requires-clause-numbers
-spelled-requires-clause-numbers c = numbers_of c.in_ok-dict.ensures.dictionary c.requires.table
+spelled-requires-clause-numbers c = numbers_of c.in_ok-dict.ensures.dictionary c.requires.classes
 
 pub returns : goal.returns
 returns c =
@@ -19,6 +19,6 @@ returns c =
       entries = entries;
       file_is = c.in_ok-made.ensures.file;
       text_is = c.in_ok-made.ensures.text;
-      all_apart = apart_by_kind c.args.kind c.in_ok-dict.ensures.circuit entries c.requires.table c.in_ok-made.ensures.whole;
+      all_apart = apart_by_kind c.args.kind c.in_ok-dict.ensures.circuit entries c.requires.classes c.in_ok-made.ensures.whole;
       most_apart = c.in_ok-dict.ensures.most;
     }

@@ -2,7 +2,7 @@ use Rattle.std.proofs.Common.{◌≡◌, List, ℕ, Bool, refl, sym, subst, inl,
 use Rattle.std.specs.Prelude.{All}
 use Rattle.net_model.specs.Circuit.{Circuit}
 use Rattle.net_model.specs.PatternRows.{IsTableOf}
-use Rattle.result_file.specs.Spelling.{text_of}
+use Rattle.result_records.specs.Spelling.{text_of}
 use Rattle.request_words.specs.declared.request.EntryKind.{EntryKind}
 use Rattle.dia_commands.specs.Dictionaries.{IsMadeDictionary}
 use Rattle.dia_commands.specs.Plan.{Plan}
@@ -17,29 +17,29 @@ abbrev makes : EntryKind → List ℕ → Circuit → List ℕ → Plan
 makes kind dict circuit file = makes_file dict (IsMadeDictionary circuit kind file)
 
 pub returns-in_err-checked : goal.returns-in_err-checked
-returns-in_err-checked g c = λ bench. handed_follows c.from_residual.result c.from_residual.ensures.1 (result_over two_read (inr (inr (inl refl))) (makes c.args.kind c.args.output.now c.args.circuit.now) c.in_err-checked.ensures.err)
+returns-in_err-checked g c = λ bench. handed_follows c.from_residual.result c.from_residual.ensures.1 (result_over two_read (inr (inr (inl refl))) (makes c.args.kind c.args.output.now c.args.subject.now) c.in_err-checked.ensures.err)
 
-pub made_of-requires-clause-widths : goal.made_of-requires-clause-widths
-made_of-requires-clause-widths g c =
+pub setting_of-requires-clause-widths : goal.setting_of-requires-clause-widths
+setting_of-requires-clause-widths g c =
     let read = c.in_ok-checked.ensures.ok in
-    subst (All (λ v. length v ≡ c.args.circuit.now.sources)) (sym read.1.patterns) (valid_widths read.1.valid)
+    subst (All (λ v. length v ≡ c.args.subject.now.sources)) (sym read.1.patterns) (valid_widths read.1.valid)
 
-pub made_of-requires-clause-table : goal.made_of-requires-clause-table
-made_of-requires-clause-table g c =
+pub setting_of-requires-clause-table : goal.setting_of-requires-clause-table
+setting_of-requires-clause-table g c =
     let read = c.in_ok-checked.ensures.ok in
-    subst (λ (patterns : List (List Bool)). IsTableOf c.args.circuit.now patterns c.in_ok-checked.checked.classes) (sym read.1.patterns) read.1.table
+    subst (λ (patterns : List (List Bool)). IsTableOf c.args.subject.now patterns c.in_ok-checked.checked.classes) (sym read.1.patterns) read.1.table
 
 pub returns-in_err-made : goal.returns-in_err-made
 returns-in_err-made g c = λ bench.
     handed_follows c.from_residual-in_err-made.result c.from_residual-in_err-made.ensures.1
-    (result_then (makes c.args.kind c.args.output.now c.args.circuit.now) (g.met.S.Shelf.sure_tells _) c.in_ok-checked.ensures.ok.2 (follows_nothing (g.S.Shelf.state c.read_result.new.shelf) two_read.breaks))
+    (result_then (makes c.args.kind c.args.output.now c.args.subject.now) (g.met.S.Shelf.sure_tells _) c.in_ok-checked.ensures.ok.2 (follows_nothing (g.S.Shelf.state c.read_result.new.shelf) two_read.breaks))
 
 pub returns : goal.returns
 returns g c = λ bench.
-    let circuit = c.args.circuit.now in
+    let circuit = c.args.subject.now in
     let kind = c.args.kind in
     let read = c.in_ok-checked.ensures.ok in
     let classes = c.in_ok-checked.checked.classes in
-    let made = rw (read.1.patterns, ← c.deref.ensures.value, ← c.as_bytes.ensures.value) at c.in_ok-made.ensures in
+    let made = rw (c.setting_of-setting.ensures.circuit, c.setting_of-setting.ensures.patterns, c.setting_of-setting.ensures.classes, read.1.patterns, ← c.deref.ensures.value, ← c.as_bytes.ensures.value) at c.in_ok-made.ensures in
     let is : IsMadeDictionary circuit kind (text_of read.0) c.deref.result.now c.as_bytes.result.now = record { records = read.0; spelled = refl; valid = read.1.valid; classes = classes; table = read.1.table; made = made } in
     result_then (makes kind c.args.output.now circuit) (g.met.S.Shelf.sure_tells _) read.2 (makes_follows (IsMadeDictionary circuit kind (text_of read.0)) two_read.breaks (inl refl) (inl refl) is c.save.ensures)

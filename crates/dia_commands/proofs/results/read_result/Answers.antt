@@ -37,8 +37,8 @@ returns-in_err-map_err-clause-err g c =
     (by_reading (subst (λ (w : RunFault). CouldNotRead c.args.name.now w (state c.args.shelf.now) (state c.open_file.new.self)) (sym f.2)
     (fault_read f.0 (rw f.1 at c.open_file.ensures.call) (λ told. let s = (rw f.1 at c.open_file.ensures.err) told in record { files = s.files; written = s.written; console = s.console }) (λ s e. c.open_file.ensures.sure s (f.1 ∙ ap Err e)))))
 
-pub check-requires : goal.check-requires
-check-requires g c =
+pub check_subject-requires : goal.check_subject-requires
+check_subject-requires g c =
     let well = well_of read_fault c.open_file.result _ c.in_ok-map_err.ensures.cases refl in
     let call = rw well at c.open_file.ensures.call in
     record { opened = λ told. ((rw well at c.open_file.ensures.opened) (sym call.tells ∙ told)).found }
@@ -54,7 +54,7 @@ returns-in-Ok-clause-ok g c =
       valid.1,
       record {
         facts = facts_after_read _ _ _ _ (facts_after_read _ _ _ _ (facts_same _) opened) c.in-Ok.ensures.call;
-        only = only_reads (state c.check.new.shelf) is c.in-Ok.ensures.others;
+        only = only_reads (state c.check_subject.new.shelf) is c.in-Ok.ensures.others;
         held = λ told. (rest_of (state c.open_file.new.self).world, held is told, record { same = valid.2 (is.tells ∙ told); valid = record { records = valid.0; text = refl; valid = valid.1.valid; short = valid.1.short } });
       },
     )
@@ -67,10 +67,10 @@ returns-in-Err-Result-clause-err g c =
     let is : IsOpened c.args.name.now (state c.args.shelf.now) (state c.open_file.new.self) = record { opened = rw well at c.open_file.ensures.opened; tells = opened.tells } in
     let fault = c.in-Err-Result.fault in
     let call = rw c.in-Err-Result.field-0-is at c.in-Err-Result.ensures.call in
-    over_refused (facts_after_read _ _ _ _ (facts_after_read _ _ _ _ (facts_same _) opened) call) (only_reads (state c.check.new.shelf) is c.in-Err-Result.ensures.others)
+    over_refused (facts_after_read _ _ _ _ (facts_after_read _ _ _ _ (facts_same _) opened) call) (only_reads (state c.check_subject.new.shelf) is c.in-Err-Result.ensures.others)
     (λ told.
     let text = c.in-Err-Result.ensures.refused fault (ap Err c.in-Err-Result.field-0-is) in
-    (rest_of (state c.open_file.new.self).world, held is told, record { fault = fault; refused = subst (λ (t : List ℕ). FileRefused c.args.circuit.now t fault) (sym (text.2 (is.tells ∙ told))) text.1; console_is = refl }))
+    (rest_of (state c.open_file.new.self).world, held is told, record { fault = fault; refused = subst (λ (t : List ℕ). FileRefused c.args.subject.now t fault) (sym (text.2 (is.tells ∙ told))) text.1; console_is = refl }))
     c.say_refusal.ensures
 
 pub returns-in-Err-Failed-clause-err : goal.returns-in-Err-Failed-clause-err
@@ -81,7 +81,7 @@ returns-in-Err-Failed-clause-err g c =
     let is : IsOpened c.args.name.now (state c.args.shelf.now) (state c.open_file.new.self) = record { opened = rw well at c.open_file.ensures.opened; tells = opened.tells } in
     let failed = c.in-Err-Failed.field-0-is in
     let call = rw failed at c.in-Err-Failed.ensures.call in
-    by_reading (fault_read Failed (read_after opened call) (only_reads (state c.check.new.shelf) is c.in-Err-Failed.ensures.others) (λ s e. absurd (c.in-Err-Failed.ensures.never (opened.sure ∙ s) (ap Err failed))))
+    by_reading (fault_read Failed (read_after opened call) (only_reads (state c.check_subject.new.shelf) is c.in-Err-Failed.ensures.others) (λ s e. absurd (c.in-Err-Failed.ensures.never (opened.sure ∙ s) (ap Err failed))))
 
 pub returns-in-Err-NoMemory-clause-err : goal.returns-in-Err-NoMemory-clause-err
 returns-in-Err-NoMemory-clause-err g c =
@@ -90,4 +90,4 @@ returns-in-Err-NoMemory-clause-err g c =
     let opened = rw well at c.open_file.ensures.call in
     let is : IsOpened c.args.name.now (state c.args.shelf.now) (state c.open_file.new.self) = record { opened = rw well at c.open_file.ensures.opened; tells = opened.tells } in
     let call = rw c.in-Err-NoMemory.field-0-is at c.in-Err-NoMemory.ensures.call in
-    by_reading (fault_read NoMemory (read_after opened call) (only_reads (state c.check.new.shelf) is c.in-Err-NoMemory.ensures.others) (λ s e. absurd (cc)))
+    by_reading (fault_read NoMemory (read_after opened call) (only_reads (state c.check_subject.new.shelf) is c.in-Err-NoMemory.ensures.others) (λ s e. absurd (cc)))

@@ -15,13 +15,13 @@ returns-in-Ok-clause-accepted g c = rw c.deref.ensures.value at c.in-Ok.ensures.
 
 pub returns-in-Ok-clause-ok : goal.returns-in-Ok-clause-ok
 returns-in-Ok-clause-ok g c =
-    let is : IsAcceptedText c.args.circuit.now c.in_ok-bytes.bytes.items c.in-Ok.checked = rw c.deref.ensures.value at c.in-Ok.ensures.valid in
+    let is : IsAcceptedText c.args.subject.now c.in_ok-bytes.bytes.items c.in-Ok.checked = rw c.deref.ensures.value at c.in-Ok.ensures.valid in
     was_accepted c.in_ok-bytes.ensures.ok (λ all read. result_read read is)
 
 pub returns-in-Err-Result-clause-err : goal.returns-in-Err-Result-clause-err
 returns-in-Err-Result-clause-err g c =
     let fault = c.in-Err-Result.fault in
-    let is : IsRefusedEnd c.args.circuit.now c.in_ok-bytes.bytes.items fault = rw c.deref.ensures.value at (c.in-Err-Result.ensures.refused fault (ap Err c.in-Err-Result.field-0-is)) in
+    let is : IsRefusedEnd c.args.subject.now c.in_ok-bytes.bytes.items fault = rw c.deref.ensures.value at (c.in-Err-Result.ensures.refused fault (ap Err c.in-Err-Result.field-0-is)) in
     read_refused c.in_ok-bytes.ensures.ok (λ all read. refused_result_read read is) c.say_refusal.ensures
 
 pub returns-clause-err : goal.returns-clause-err

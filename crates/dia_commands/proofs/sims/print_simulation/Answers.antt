@@ -10,8 +10,8 @@ use Rattle.sim_listing.specs.SimText.{IsSimTextFrom}
 use Rattle.sim_listing.specs.VectorTexts.{VectorTexts}
 use Rattle.dia_commands.proofs.sims.print_simulation.Goals as goal
 
-pub returns-in_err-faults : goal.returns-in_err-faults
-returns-in_err-faults g c =
+pub returns-in_err-subject : goal.returns-in_err-subject
+returns-in_err-subject g c =
     let whole = one_text c.args.circuit.now c.sources.ensures.circuit 0 c.args.vectors.now in
     (whole.text, whole.is, handed_ends c.from_residual.result c.from_residual.ensures.1 (ends_silent {meant = done} tt))
 
@@ -28,7 +28,7 @@ returns-in_err-texts g c =
 pub loop-number-init : goal.loop-number-init
 loop-number-init g c = record {
   printed = none_printed c.args.circuit.now c.args.vectors.now (g.S.Shelf.state c.args.shelf.now);
-  circuit_is = ap (λ (t : VectorTexts). t.circuit) c.in_ok-texts.ensures;
+  circuit_is = ap (λ (t : VectorTexts). t.circuit) c.in_ok-texts.ensures ∙ c.in_ok-subject.ensures;
   vectors_are = ap (λ (t : VectorTexts). t.vectors) c.in_ok-texts.ensures;
 }
 

@@ -1,7 +1,7 @@
 use Rattle.std.proofs.Common.{◌≡◌, ◌∙◌, sym, ap, arith}
 use Rattle.std.specs.Prelude.{Option, unwrap_or}
-use Rattle.result_file.specs.declared.record.Mark.{Mark}
-use Rattle.result_file.specs.declared.record.Mark.TheVariants.{Rep}
+use Rattle.result_records.specs.declared.record.Mark.{Mark}
+use Rattle.result_records.specs.declared.record.Mark.TheVariants.{Rep}
 use Rattle.result_file.specs.Summary.{is_equal, is_open}
 use Rattle.dia_gen.specs.Marked.{member_for}
 use Rattle.dia_gen.proofs.MarkedLemmas.{few_marked, marked_more}

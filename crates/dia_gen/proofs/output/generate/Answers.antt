@@ -19,17 +19,11 @@ no_line : {T : Type 0} (r : Result T ShelfFault) (c : Circuit) (a : State) → I
 no_line (Ok x) c a is = absurd is
 no_line (Err fault) c a is = ([], nothing_cut, λ told. writes_none a.world)
 
-pub returns-in_err-listed-clause-call : goal.returns-in_err-listed-clause-call
-returns-in_err-listed-clause-call g c = no_call c.from_residual.result (g.S.Shelf.state c.args.shelf.now) c.from_residual.ensures.1
+pub returns-in_err-subject-clause-call : goal.returns-in_err-subject-clause-call
+returns-in_err-subject-clause-call g c = no_call c.from_residual.result (g.S.Shelf.state c.args.shelf.now) c.from_residual.ensures.1
 
-pub returns-in_err-listed-clause-err : goal.returns-in_err-listed-clause-err
-returns-in_err-listed-clause-err g c = no_line c.from_residual.result c.args.circuit.now (g.S.Shelf.state c.args.shelf.now) c.from_residual.ensures.1
-
-pub returns-in_err-forest-clause-call : goal.returns-in_err-forest-clause-call
-returns-in_err-forest-clause-call g c = no_call c.from_residual-in_err-forest.result (g.S.Shelf.state c.args.shelf.now) c.from_residual-in_err-forest.ensures.1
-
-pub returns-in_err-forest-clause-err : goal.returns-in_err-forest-clause-err
-returns-in_err-forest-clause-err g c = no_line c.from_residual-in_err-forest.result c.args.circuit.now (g.S.Shelf.state c.args.shelf.now) c.from_residual-in_err-forest.ensures.1
+pub returns-in_err-subject-clause-err : goal.returns-in_err-subject-clause-err
+returns-in_err-subject-clause-err g c = no_line c.from_residual.result c.args.circuit.now (g.S.Shelf.state c.args.shelf.now) c.from_residual.ensures.1
 
 pub returns-in_err-levels-clause-call : goal.returns-in_err-levels-clause-call
 returns-in_err-levels-clause-call g c = no_call c.from_residual-in_err-levels.result (g.S.Shelf.state c.args.shelf.now) c.from_residual-in_err-levels.ensures.1

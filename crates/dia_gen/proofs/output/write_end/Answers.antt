@@ -1,7 +1,8 @@
 use Rattle.std.proofs.Common.{◌≡◌, ◌∙◌, [], ◌∷◌, ◌++◌, length, sym}
 use Rattle.std.proofs.lemmas.Result.{err_from_is_err_and}
-use Rattle.result_file.specs.Spelling.{Text, text_of}
-use Rattle.result_file.specs.declared.record.Record.TheVariants.{End}
+use Rattle.text_fields.specs.Fields.{Text}
+use Rattle.result_records.specs.Spelling.{text_of}
+use Rattle.result_records.specs.declared.record.Record.TheVariants.{End}
 use Rattle.result_file.proofs.SoundLemmas.{sound_circuit}
 use Rattle.result_file.proofs.Truth.{AreSound}
 use Rattle.class_refine.proofs.PatternTables.{table_numbers}

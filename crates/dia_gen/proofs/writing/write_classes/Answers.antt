@@ -1,6 +1,6 @@
 use Rattle.std.proofs.Common.{None, get_or, arith}
 use Rattle.std.proofs.lemmas.Result.{err_from_is_err_and}
-use Rattle.result_file.specs.declared.record.Record.TheVariants.{Class}
+use Rattle.result_records.specs.declared.record.Record.TheVariants.{Class}
 use Rattle.result_file.specs.Meaning.{class_records}
 use Rattle.result_file.proofs.LineLemmas.{class_at_place, class_count_lines}
 use Rattle.dia_gen.proofs.WritingLemmas.{line_gathered, line_broken, lines_gathered}

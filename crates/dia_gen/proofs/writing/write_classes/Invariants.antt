@@ -1,5 +1,5 @@
 use Rattle.std.proofs.Common.{take}
-use Rattle.result_file.specs.Spelling.{text_of}
+use Rattle.result_records.specs.Spelling.{text_of}
 use Rattle.result_file.specs.Meaning.{class_records}
 use Rattle.dia_gen.specs.Writing.{HasGathered}
 use Rattle.dia_gen.proofs.writing.write_classes.Given as goal

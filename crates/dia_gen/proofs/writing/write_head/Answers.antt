@@ -1,8 +1,8 @@
 use Rattle.std.proofs.Common.{◌∷◌, [], length, refl, sym, subst, List, ℕ}
 use Rattle.std.proofs.lemmas.Result.{err_from_is_err_and}
 use Rattle.net_model.specs.FaultList.{fault_count}
-use Rattle.result_file.specs.declared.record.Record.TheVariants.{Head, Budget}
-use Rattle.result_file.proofs.RecordLists.{text-append}
+use Rattle.result_records.specs.declared.record.Record.TheVariants.{Head, Budget}
+use Rattle.result_records.proofs.RecordLists.{text-append}
 use Rattle.dia_gen.specs.Writing.{Gathers}
 use Rattle.dia_gen.proofs.WritingLemmas.{none_gathered, gathered_last, line_broken}
 use Rattle.dia_gen.proofs.writing.write_head.Goals as goal

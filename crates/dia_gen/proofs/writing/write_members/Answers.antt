@@ -3,9 +3,9 @@ use Rattle.std.specs.Prelude.{Option, Some, unwrap_or}
 use Rattle.std.specs.List.{slice_get}
 use Rattle.std.proofs.lemmas.Result.{err_from_is_err_and}
 use Rattle.net_model.specs.ClassTable.{class_at, number_range}
-use Rattle.result_file.specs.declared.record.Mark.{Mark}
-use Rattle.result_file.specs.declared.record.Mark.TheVariants.{Rep}
-use Rattle.result_file.specs.declared.record.Record.TheVariants.{Member}
+use Rattle.result_records.specs.declared.record.Mark.{Mark}
+use Rattle.result_records.specs.declared.record.Mark.TheVariants.{Rep}
+use Rattle.result_records.specs.declared.record.Record.TheVariants.{Member}
 use Rattle.result_file.specs.Meaning.{member_records}
 use Rattle.dia_gen.specs.Marked.{member_for}
 use Rattle.result_file.proofs.LineLemmas.{member_at_place, member_count_lines}

@@ -1,6 +1,6 @@
 use Rattle.std.proofs.Common.{map, take}
 use Rattle.net_model.specs.ClassTable.{number_range}
-use Rattle.result_file.specs.Spelling.{text_of}
+use Rattle.result_records.specs.Spelling.{text_of}
 use Rattle.result_file.specs.Meaning.{member_records}
 use Rattle.dia_gen.specs.Marked.{member_for}
 use Rattle.dia_gen.specs.Writing.{HasGathered}

@@ -4,7 +4,7 @@ use Rattle.std.specs.Option.{option_map}
 use Rattle.std.specs.List.{slice_get}
 use Rattle.std.proofs.lemmas.Option.{slice_get-map, slice_get-get_or}
 use Rattle.std.proofs.lemmas.Result.{err_from_is_err_and}
-use Rattle.result_file.specs.declared.record.Record.TheVariants.{Pattern}
+use Rattle.result_records.specs.declared.record.Record.TheVariants.{Pattern}
 use Rattle.dia_gen.proofs.WritingLemmas.{line_gathered, line_broken}
 use Rattle.dia_gen.proofs.writing.write_patterns.Goals as goal
 

@@ -1,6 +1,6 @@
 use Rattle.std.proofs.Common.{map, take}
-use Rattle.result_file.specs.declared.record.Record.TheVariants.{Pattern}
-use Rattle.result_file.specs.Spelling.{text_of}
+use Rattle.result_records.specs.declared.record.Record.TheVariants.{Pattern}
+use Rattle.result_records.specs.Spelling.{text_of}
 use Rattle.dia_gen.specs.Writing.{HasGathered}
 use Rattle.dia_gen.proofs.writing.write_patterns.Given as goal
 

@@ -1,5 +1,5 @@
 use Rattle.std.specs.Prelude.{◌*◌}
-use Rattle.diagnose.specs.Lines.{digit_bits}
+use Rattle.text_fields.specs.Fields.{digit_bits}
 use Rattle.diagnose.proofs.ListingLemmas.{IsWordBegun}
 use Rattle.diagnose.proofs.log.digits_word.Given as goal
 

@@ -3,8 +3,8 @@ use Rattle.std.proofs.lemmas.List.{length-map}
 use Rattle.table_dicts.proofs.RowLemmas.{begun_none, begun_all}
 use Rattle.table_dicts.proofs.BlockWordLemmas.{words_more}
 use Rattle.table_dicts.proofs.WordLemmas.{bit_in}
-use Rattle.diagnose.specs.Lines.{digit_bits}
-use Rattle.diagnose.proofs.BitLemmas.{row_set}
+use Rattle.text_fields.specs.Fields.{digit_bits}
+use Rattle.diagnose.proofs.RowLemmas.{row_set}
 use Rattle.diagnose.proofs.log.write_row.Goals as goal
 
 pub loop-word-init : goal.loop-word-init

@@ -1,6 +1,6 @@
 use Rattle.std.specs.Prelude.{◌*◌}
 use Rattle.table_dicts.specs.Rows.{IsRowBegun}
-use Rattle.diagnose.specs.Lines.{digit_bits}
+use Rattle.text_fields.specs.Fields.{digit_bits}
 use Rattle.diagnose.proofs.log.write_row.Given as goal
 
 abbrev pub invariant-loop-word : goal.invariant-loop-word

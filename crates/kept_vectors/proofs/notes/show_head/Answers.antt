@@ -1,7 +1,6 @@
-use Rattle.std.proofs.Common.{ap, ◌∙◌, ◌++◌, ◌≡◌, sym, length, arith, List}
+use Rattle.std.proofs.Common.{ap, ◌∙◌, ◌++◌, ◌≡◌, length, arith}
 use Rattle.std.specs.Prelude.{slice_range}
 use Rattle.std.proofs.lemmas.List.{length-append}
-use Rattle.kept_vectors.specs.declared.notes.Note.{Note}
 use Rattle.kept_vectors.specs.Notes.{IsHeadReport}
 use Rattle.kept_vectors.proofs.NoteLemmas.{head_report, range_behind}
 use Rattle.kept_vectors.proofs.notes.show_head.Goals as goal

@@ -1,4 +1,4 @@
-use Rattle.std.proofs.Common.{◌≡◌, ◌∙◌, ◌+◌, ◌-◌, ℕ, get_or, subst, sym, arith}
+use Rattle.std.proofs.Common.{◌≡◌, ◌∙◌, ◌+◌, ◌-◌, ℕ, get_or, subst, arith}
 use Rattle.std.proofs.lemmas.List.{length-set}
 use Rattle.kept_vectors.specs.Units.{AreChains}
 use Rattle.kept_vectors.proofs.UnitLemmas.{chains_more}

@@ -1,7 +1,7 @@
 use Rattle.std.proofs.Common.{◌≡◌, ◌∙◌, ◌∷◌, ◌++◌, [], length, ap, inr, sym, subst}
 use Rattle.std.proofs.lemmas.List.{length_push}
 use Rattle.learn_solver.specs.Learning.{IsLearning}
-use Rattle.learn_solver.proofs.Searching.{on_error}
+use Rattle.net_model.proofs.Errors.{on_error}
 use Rattle.learn_solver.proofs.Solving.{learned_at_most, learning_more}
 use Rattle.learn_solver.proofs.search.add.Goals as goal
 

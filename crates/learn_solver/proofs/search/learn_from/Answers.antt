@@ -6,7 +6,7 @@ use Rattle.pair_miter.specs.Fresh.{IsFresh}
 use Rattle.pair_miter.specs.Log.{EndsFresh}
 use Rattle.learn_solver.specs.Learned.{IsAsserting}
 use Rattle.learn_solver.proofs.LearnSteps.{learned_fresh, quiet_below}
-use Rattle.learn_solver.proofs.Searching.{on_error}
+use Rattle.net_model.proofs.Errors.{on_error}
 use Rattle.learn_solver.proofs.Solving.{ends_named, learned_above, learned_within, named_at, refutes}
 use Rattle.learn_solver.proofs.search.learn_from.Goals as goal
 

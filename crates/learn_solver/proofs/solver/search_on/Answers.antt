@@ -5,7 +5,8 @@ use Rattle.learn_solver.specs.Search.{EndsStep, miter_clauses}
 use Rattle.learn_solver.specs.Solved.{HasSpentLog}
 use Rattle.pair_miter.proofs.PlaceSteps.{grows_none, grows_through}
 use Rattle.learn_solver.proofs.Attaching.{quiet_first}
-use Rattle.learn_solver.proofs.Searching.{learned_so_far, on_error, restarted}
+use Rattle.net_model.proofs.Errors.{on_error}
+use Rattle.learn_solver.proofs.Searching.{learned_so_far, restarted}
 use Rattle.learn_solver.proofs.Solving.{spends}
 use Rattle.learn_solver.proofs.solver.search_on.Goals as goal
 

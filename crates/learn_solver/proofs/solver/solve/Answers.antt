@@ -6,7 +6,7 @@ use Rattle.clause_pool.proofs.Numbered.{begins_itself}
 use Rattle.learn_solver.specs.Learning.{IsLearning}
 use Rattle.learn_solver.specs.Search.{miter_clauses}
 use Rattle.learn_solver.specs.Solved.{HasLearned}
-use Rattle.learn_solver.proofs.Searching.{on_error}
+use Rattle.net_model.proofs.Errors.{on_error}
 use Rattle.learn_solver.proofs.Solving.{learned_within, learning_none}
 use Rattle.learn_solver.proofs.solver.solve.Goals as goal
 

@@ -1,4 +1,5 @@
-use Rattle.learn_solver.proofs.Searching.{learned_so_far, on_error}
+use Rattle.net_model.proofs.Errors.{on_error}
+use Rattle.learn_solver.proofs.Searching.{learned_so_far}
 use Rattle.learn_solver.proofs.sweep.sweep.Goals as goal
 
 pub returns-in_err-lines-clause-err : goal.returns-in_err-lines-clause-err

@@ -1,12 +1,12 @@
-use Rattle.std.proofs.Common.{◌≡◌, ◌∙◌, ◌+◌, ℕ, length, map, sym, ap, subst, arith}
+use Rattle.std.proofs.Common.{◌≡◌, ◌∙◌, ◌+◌, ◌<◌, ℕ, length, map, sym, ap, subst, arith}
 use Rattle.std.specs.Prelude.{sum_by, slice_index}
 use Rattle.std.proofs.lemmas.List.{get_or_default, length-map}
 use Rattle.std.proofs.lemmas.Result.{IfOk-weaker}
 use Rattle.net_model.specs.Circuit.{line_count}
-use Rattle.net_model.specs.Topological.{parts_circuit}
+use Rattle.net_model.specs.Topological.{parts_circuit, pins_reading, users_at}
 use Rattle.net_model.specs.Wiring.{AreUsers, reads_at}
 use Rattle.net_model.proofs.Orders.{order_only, order_count}
-use Rattle.net_model.proofs.WiringLemmas.{readers_below, readers_by_place, renumbered_total}
+use Rattle.net_model.proofs.WiringLemmas.{readers_below, readers_by_place, renumbered_long, renumbered_total}
 use Rattle.net_model.proofs.wiring.reader_places.Goals as goal
 use Rattle.net_model.proofs.wiring.reader_places.Goals.{After-drop-readers-inside-2}
 
@@ -45,6 +45,13 @@ returns-clause-users c =
     let users = AreUsers (length order) (reads_at circuit order) in
     let found = subst users (sym (renumbered c)) (readers_by_place circuit c.requires.fits order c.requires.order c.args.readers c.requires.readers f c.in_ok-places.ensures.each) in
     IfOk-weaker c.of_users.result (λ lists. lists ≡ c.renumber.new.self) users (λ lists same. subst users (sym same) found) c.of_users.ensures
+
+pub returns-clause-long : goal.returns-clause-long
+returns-clause-long c =
+    let circuit = parts_circuit c.args.parts.now in
+    let f : ℕ → ℕ = λ user. slice_index c.in_ok-places.places.items user in
+    IfOk-weaker c.of_users.result (λ lists. lists ≡ c.renumber.new.self) (λ lists. (line : ℕ) → line < line_count circuit → length (users_at lists line) ≡ pins_reading circuit line)
+    (λ lists same line h. ap (λ us. length (users_at us line)) (same ∙ renumbered c) ∙ renumbered_long circuit c.requires.fits c.args.order.now c.requires.order c.args.readers c.requires.readers f line h) c.of_users.ensures
 
 pub returns-clause-whole : goal.returns-clause-whole
 returns-clause-whole c =

@@ -1,6 +1,7 @@
-use Rattle.std.proofs.Common.{ℕ, List, length, subst}
+use Rattle.std.proofs.Common.{◌∙◌, ◌+◌, ℕ, List, length, sym, subst}
 use Rattle.net_model.specs.Topological.{parts_circuit}
 use Rattle.net_model.specs.Wiring.{AreUsers, reads_at}
+use Rattle.net_model.proofs.DestinationCounts.{destination_count}
 use Rattle.net_model.proofs.Orders.{is_circuit-order}
 use Rattle.net_model.proofs.wiring.wiring_of.Goals as goal
 
@@ -22,4 +23,5 @@ returns c =
       showing = c.in_ok-showing.ensures.users;
       readers_whole = c.in_ok-readers.ensures.whole;
       showing_whole = c.in_ok-showing.ensures.whole;
+      fanout = λ line h. (λ i. c.in_ok-readers.ensures.long line h i + c.in_ok-showing.ensures.long line i) ∙ sym (destination_count circuit line);
     }

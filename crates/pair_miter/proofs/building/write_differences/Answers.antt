@@ -9,7 +9,7 @@ use Rattle.clause_pool.specs.Clauses.{Clause, Clauses}
 use Rattle.pair_miter.specs.Adds.{Adds}
 use Rattle.pair_miter.specs.Miter.{difference_clauses, differences_part, tidy}
 use Rattle.pair_miter.specs.Variables.{variable_count}
-use Rattle.pair_miter.proofs.AddSteps.{Remains, remains_last_few, writes_err, writes_last, adds_none, adds_keeps, next_fails, next_few}
+use Rattle.pair_miter.proofs.AddSteps.{Remains, writes_err, writes_last, adds_none, adds_keeps, next_fails}
 use Rattle.pair_miter.proofs.MiterParts.{part_of_differences, added_more}
 use Rattle.pair_miter.proofs.Differences.{difference_literal, differences_more, differences_within}
 use Rattle.pair_miter.proofs.Numbers.{position_listed, difference_at, difference_within}
@@ -48,11 +48,6 @@ write_difference-requires-clause-difference c =
     let p = c.args.numbering.now in
     c.loop-position.invariant.difference
     ∙ sym (difference_at p.circuit p.f p.g c.reached_positions-position-items.result.now c.reached_positions-position-items.ensures.value c.loop-position.position-index c.loop-position-test.true)
-
-pub write_difference-requires-clause-few : goal.write_difference-requires-clause-few
-write_difference-requires-clause-few c =
-    let p = c.args.numbering.now in
-    next_few (part_of_differences p.circuit p.f p.g c.reached_positions-position-items.result.now c.reached_positions-position-items.ensures.value c.loop-position.position-index c.loop-position-test.true) c.loop-position.invariant.adds c.requires.few
 
 pub returns-in_err-write_difference-clause-written : goal.returns-in_err-write_difference-clause-written
 returns-in_err-write_difference-clause-written c =
@@ -94,20 +89,14 @@ loop-position-preserved c =
       variables = c.in_ok-write_difference.ensures.variables ∙ h.variables;
     }
 
-pub write-requires-clause-variables : goal.write-requires-clause-variables
-write-requires-clause-variables c =
+pub write-requires : goal.write-requires
+write-requires c =
     let p = c.args.numbering.now in
     let all = take_all c.loop-position.position-index c.reached_positions-position-items.result.now c.loop-position-test.false ∙ c.reached_positions-position-items.ensures.value in
     let same : c.as_slice.result.now ≡ map (difference_literal p.circuit p.f p.g) (reached_positions p.circuit p.f p.g) = c.as_slice.ensures.value ∙ (c.loop-position.invariant.last ∙ ap (map (difference_literal p.circuit p.f p.g)) all) in
     let many : variable_count p.circuit p.f p.g ≡ c.loop-position.writer.tidier = sym c.requires.variables ∙ sym c.loop-position.invariant.variables in
     subst (λ (n : ℕ). All (λ (l : Literal). l.variable ≤ n) c.as_slice.result.now) many
     (subst (λ (xs : Clause). All (λ (l : Literal). l.variable ≤ variable_count p.circuit p.f p.g) xs) (sym same) (differences_within p.circuit p.f p.g))
-
-pub write-requires-clause-few : goal.write-requires-clause-few
-write-requires-clause-few c =
-    let p = c.args.numbering.now in
-    let all = take_all c.loop-position.position-index c.reached_positions-position-items.result.now c.loop-position-test.false ∙ c.reached_positions-position-items.ensures.value in
-    remains_last_few (last_left p.circuit p.f p.g all (c.as_slice.ensures.value ∙ c.loop-position.invariant.last) c.loop-position.invariant.adds) c.requires.few
 
 pub returns-clause-written : goal.returns-clause-written
 returns-clause-written c =

@@ -4,7 +4,7 @@ use Rattle.std.proofs.lemmas.List.{take_all}
 use Rattle.pair_miter.specs.Adds.{Adds}
 use Rattle.pair_miter.specs.Miter.{line_clauses, tidy}
 use Rattle.pair_miter.specs.Variables.{line_helpers}
-use Rattle.pair_miter.proofs.AddSteps.{adds_none, next_fails, next_few, writes_err}
+use Rattle.pair_miter.proofs.AddSteps.{adds_none, next_fails, writes_err}
 use Rattle.pair_miter.proofs.ClauseParts.{sum_taken}
 use Rattle.pair_miter.proofs.MiterParts.{part_of_lines, added_more}
 use Rattle.pair_miter.proofs.Numbers.{line_listed, helper_at}
@@ -32,11 +32,6 @@ pub write_line-requires-clause-helper : goal.write_line-requires-clause-helper
 write_line-requires-clause-helper c =
     let p = c.args.numbering.now in
     c.loop-line.invariant.helper ∙ sym (helper_at p.circuit p.f p.g c.relevant_lines-line-items.result.now c.relevant_lines-line-items.ensures.value c.loop-line.line-index c.loop-line-test.true)
-
-pub write_line-requires-clause-few : goal.write_line-requires-clause-few
-write_line-requires-clause-few c =
-    let p = c.args.numbering.now in
-    next_few (part_of_lines p.circuit p.f p.g c.relevant_lines-line-items.result.now c.relevant_lines-line-items.ensures.value c.loop-line.line-index c.loop-line-test.true) c.loop-line.invariant.adds c.requires.few
 
 pub loop-line-preserved : goal.loop-line-preserved
 loop-line-preserved c =

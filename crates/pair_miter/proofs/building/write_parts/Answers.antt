@@ -1,9 +1,9 @@
 use Rattle.std.proofs.Common.{length, arith, ap, sym, subst}
 use Rattle.std.proofs.lemmas.Result.{IfOk-from_err}
 use Rattle.pair_miter.specs.Adds.{Adds, KeepsClauses}
-use Rattle.pair_miter.proofs.AddSteps.{first_few, first_fails, left_fails, left_few, both_parts, writes_err}
+use Rattle.pair_miter.proofs.AddSteps.{first_fails, left_fails, both_parts, writes_err}
 use Rattle.pair_miter.proofs.Bounds.{few_variables_of}
-use Rattle.pair_miter.proofs.MiterParts.{miter_parts, parts_few, parts_of_miter}
+use Rattle.pair_miter.proofs.MiterParts.{miter_parts, parts_of_miter}
 use Rattle.pair_miter.proofs.Numbers.{few_reached, variables_in_all, helpers_begin, first_difference}
 use Rattle.pair_miter.proofs.building.write_parts.Goals as goal
 
@@ -37,11 +37,6 @@ write_lines-requires-clause-helper c =
     let q = c.args.numbering.now in
     omega (arith, c.in_ok-writer.ensures.helper, c.end-2.ensures.value, helpers_begin q.circuit q.f q.g)
 
-pub write_lines-requires-clause-few : goal.write_lines-requires-clause-few
-write_lines-requires-clause-few c =
-    let q = c.args.numbering.now in
-    first_few c.args.pool.now (parts_of_miter q.circuit q.f q.g) (omega (arith, ap length c.requires, parts_few q.circuit q.f q.g c.end.ensures.circuit))
-
 pub write_differences-requires-clause-variables : goal.write_differences-requires-clause-variables
 write_differences-requires-clause-variables c =
     let q = c.args.numbering.now in
@@ -51,11 +46,6 @@ pub write_differences-requires-clause-difference : goal.write_differences-requir
 write_differences-requires-clause-difference c =
     let q = c.args.numbering.now in
     omega (arith, c.end.ensures.value, c.count_helpers.ensures, first_difference q.circuit q.f q.g)
-
-pub write_differences-requires-clause-few : goal.write_differences-requires-clause-few
-write_differences-requires-clause-few c =
-    let q = c.args.numbering.now in
-    left_few (parts_of_miter q.circuit q.f q.g) c.in_ok-write_lines.ensures.written (omega (arith, ap length c.requires, parts_few q.circuit q.f q.g c.end.ensures.circuit))
 
 pub returns-clause-variables : goal.returns-clause-variables
 returns-clause-variables c =

@@ -1,18 +1,12 @@
 use Rattle.std.proofs.Common.{◌∙◌}
-use Rattle.pair_miter.proofs.AddSteps.{writes_err, writes_left, first_few, left_few, first_fails}
+use Rattle.pair_miter.proofs.AddSteps.{writes_err, writes_left, first_fails}
 use Rattle.pair_miter.proofs.RowParts.{chosen_parts}
 use Rattle.pair_miter.proofs.rows.write_chosen.Goals as goal
-
-pub write_case-requires-clause-few : goal.write_case-requires-clause-few
-write_case-requires-clause-few c = first_few c.args.pool.now (chosen_parts c.args.y c.args.operands.now c.requires.three c.index-operands-0.is c.index-operands-1.is c.index-operands-2.is) c.requires.few
 
 pub returns-in_err-write_case-clause-written : goal.returns-in_err-write_case-clause-written
 returns-in_err-write_case-clause-written c =
     let parts = chosen_parts c.args.y c.args.operands.now c.requires.three c.index-operands-0.is c.index-operands-1.is c.index-operands-2.is in
     writes_err c.from_residual.result c.from_residual.ensures.0 (first_fails parts c.in_err-write_case.ensures.written)
-
-pub write_case-requires-2-clause-few : goal.write_case-requires-2-clause-few
-write_case-requires-2-clause-few c = left_few (chosen_parts c.args.y c.args.operands.now c.requires.three c.index-operands-0.is c.index-operands-1.is c.index-operands-2.is) c.in_ok-write_case.ensures.written c.requires.few
 
 pub returns-clause-written : goal.returns-clause-written
 returns-clause-written c =

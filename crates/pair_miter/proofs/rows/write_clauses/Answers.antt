@@ -1,7 +1,7 @@
 use Rattle.std.proofs.Common.{◌≡◌, ◌∙◌, ◌+◌, ◌<◌, ℕ, List, ◌∷◌, drop, get_or, length, refl, sym, ap, subst}
 use Rattle.std.proofs.lemmas.List.{drop_more}
 use Rattle.clause_pool.specs.Clauses.{Clause, Clauses}
-use Rattle.pair_miter.proofs.AddSteps.{Remains, remains_all, step, step_fails, step_few, writes_err}
+use Rattle.pair_miter.proofs.AddSteps.{Remains, remains_all, step, step_fails, writes_err}
 use Rattle.pair_miter.proofs.rows.write_clauses.Goals as goal
 
 -- what remains begins with the next clause
@@ -10,11 +10,6 @@ remains_next old now all i clause h is remains = subst (Remains old now all) (dr
 
 pub loop-clause-init : goal.loop-clause-init
 loop-clause-init g c = record { same = refl; remains = remains_all c.args.pool.now c.args.clauses.now }
-
-pub write-requires-clause-few : goal.write-requires-clause-few
-write-requires-clause-few g c =
-    let next = remains_next c.args.pool.now c.loop-clause.pool c.args.clauses.now c.loop-clause.clause-index c.clause-item.result c.loop-clause-test.true c.clause-item.is c.loop-clause.invariant.remains in
-    step_few next refl c.requires.few
 
 pub returns-in_err-write-clause-written : goal.returns-in_err-write-clause-written
 returns-in_err-write-clause-written g c =

@@ -1,11 +1,10 @@
-use Rattle.std.proofs.Common.{◌≡◌, ℕ, refl, sym, subst, [], ◌∷◌, ◌∙◌, ◌++◌, ◌+◌, ◌<◌, ◌≤◌, ◌^◌, drop, ap, length}
-use Rattle.std.specs.Prelude.{All, Bool, not, List, if◌then◌else◌}
+use Rattle.std.proofs.Common.{◌≡◌, ℕ, refl, sym, subst, [], ◌∷◌, ◌∙◌, ◌++◌, ◌+◌, ◌≤◌, drop}
+use Rattle.std.specs.Prelude.{All, Bool, not, List}
 use Rattle.std.proofs.lemmas.List.Elements.{All-cons, All-nil}
 use Rattle.clause_pool.specs.Clauses.{Clause, Clauses}
 use Rattle.clause_pool.specs.Literal.{Literal, opposite}
-use Rattle.pair_miter.specs.Miter.{tidy}
-use Rattle.pair_miter.specs.Rows.{variables, decided_of, decided_rows, signed_literal, with_each, with_all}
-use Rattle.pair_miter.proofs.AddSteps.{Remains, remains_all, remains_last_few, step, step_fails, step_few, writes_err, writes_last}
+use Rattle.pair_miter.specs.Rows.{variables, decided_rows, signed_literal, with_each, with_all}
+use Rattle.pair_miter.proofs.AddSteps.{Remains, remains_all, step, step_fails, writes_err, writes_last}
 use Rattle.pair_miter.proofs.OperandSteps.{variable_at, constant_at, operand_within, variable_within, variables_end}
 use Rattle.pair_miter.proofs.RowParts.{decided_parts}
 use Rattle.pair_miter.proofs.rows.write_decided.Goals as goal
@@ -23,32 +22,22 @@ module _ (d : Bool) (l : Literal) (all : List ℕ) {old now : Clauses} {rows : L
   last_row : {k : Literal} → xs ≡ [] → k ≡ opposite l → Remains old now rows (with_all k d all ∷ [])
   last_row none is = subst (λ (k : Literal). Remains old now rows (with_all k d all ∷ [])) (sym is) (other none)
 
-pub write-requires-clause-variables : goal.write-requires-clause-variables
-write-requires-clause-variables c = All-cons (λ (l : Literal). l.variable ≤ c.args.tidier.now) c.args.l [] c.requires.output (All-nil (λ (l : Literal). l.variable ≤ c.args.tidier.now))
-
-pub write-requires-clause-few : goal.write-requires-clause-few
-write-requires-clause-few c =
-    let one = ap (λ b. if b then (c.args.l ∷ []) ∷ [] else decided_of c.args.decides c.args.l (variables c.args.operands.now)) (sym c.has_constant.ensures ∙ c.if-has_constant.true) in
-    subst (λ (rows : List Clause). length c.args.pool.now.clauses + length (tidy rows) < 2 ^ 30) one c.requires.few
+pub write-requires : goal.write-requires
+write-requires c = All-cons (λ (l : Literal). l.variable ≤ c.args.tidier.now) c.args.l [] c.requires.output (All-nil (λ (l : Literal). l.variable ≤ c.args.tidier.now))
 
 pub loop-operand-init : goal.loop-operand-init
 loop-operand-init c =
     let rows = decided_rows c.args.decides c.args.l c.args.operands.now in
     record { same = refl; remains = subst (Remains c.args.pool.now c.args.pool.now rows) (decided_parts c.args.decides c.args.l c.args.operands.now (sym c.has_constant.ensures ∙ c.if-has_constant.false)) (remains_all c.args.pool.now rows) }
 
-pub write-requires-in-Some-clause-variables : goal.write-requires-in-Some-clause-variables
-write-requires-in-Some-clause-variables c =
+pub write-requires-in-Some : goal.write-requires-in-Some
+write-requires-in-Some c =
     let n = c.args.tidier.now in
     let operand = operand_within c.args.operands.now c.loop-operand.operand-index c.operand-item.result c.loop-operand-test.true c.operand-item.is n c.requires.operands in
     let within = variable_within n c.in-Some.x c.operand-item.result operand (sym c.variable.ensures ∙ c.in-Some.is) in
     let below = subst (λ (l : Literal). l.variable ≤ n) (sym c.literal-lit.ensures) within.1 in
     subst (λ m. All (λ (l : Literal). l.variable ≤ m) (c.args.l ∷ c.literal-lit.result ∷ [])) (sym c.loop-operand.invariant.same)
     (All-cons (λ (l : Literal). l.variable ≤ n) c.args.l (c.literal-lit.result ∷ []) c.requires.output (All-cons (λ (l : Literal). l.variable ≤ n) c.literal-lit.result [] below (All-nil (λ (l : Literal). l.variable ≤ n))))
-
-pub write-requires-in-Some-clause-few : goal.write-requires-in-Some-clause-few
-write-requires-in-Some-clause-few c =
-    let next = variable_at c.args.operands.now c.loop-operand.operand-index c.operand-item.result c.loop-operand-test.true c.operand-item.is c.in-Some.x (sym c.variable.ensures ∙ c.in-Some.is) in
-    step_few (next_row c.args.decides c.args.l (variables c.args.operands.now) c.loop-operand.invariant.remains next) (λ j. c.args.l ∷ c.literal-lit.ensures j ∷ []) c.requires.few
 
 pub returns-in_err-write-clause-written : goal.returns-in_err-write-clause-written
 returns-in_err-write-clause-written c =
@@ -75,11 +64,6 @@ loop-operand-preserved c =
           let next = constant_at operands i c.operand-item.result test c.operand-item.is (sym c.variable.ensures ∙ w.in_default.is) in
           record { same = w.tidier-is ∙ h.same; remains = subst at (sym w.pool-is) (other c.args.decides c.args.l (variables operands) h.remains next) }
     ]
-
-pub write_all-requires-clause-few : goal.write_all-requires-clause-few
-write_all-requires-clause-few c =
-    let none = variables_end c.args.operands.now c.loop-operand.operand-index c.loop-operand-test.false in
-    remains_last_few (last_row c.args.decides c.args.l (variables c.args.operands.now) c.loop-operand.invariant.remains none c.opposite.ensures) c.requires.few
 
 pub returns-clause-written : goal.returns-clause-written
 returns-clause-written c =

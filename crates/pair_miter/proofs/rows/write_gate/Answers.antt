@@ -21,18 +21,6 @@ rows kind operation output helper operands {y = y} told is turned y_is = rows_of
 few : (pool : Clauses) {some all : List Clause} → some ≡ all → length pool.clauses + length (tidy all) < 2 ^ 30 → length pool.clauses + length (tidy some) < 2 ^ 30
 few pool same h = subst (λ (xs : List Clause). length pool.clauses + length (tidy xs) < 2 ^ 30) (sym same) h
 
-pub write_decided-requires-clause-few : goal.write_decided-requires-clause-few
-write_decided-requires-clause-few c = few c.args.pool.now (ap (λ (l : Literal). decided_rows false l c.args.operands.now) c.opposite.ensures ∙ rows c.args.kind (Folded AllOf) c.args.output c.args.helper c.args.operands.now c.operation.ensures (c.in-Folded-AllOf.is ∙ ap (λ f. Folded f) c.in-Folded-AllOf.field-0-is) c.inverts.ensures c.literal-y.ensures) c.requires.few
-
-pub write_decided-requires-in-Folded-AnyOf-clause-few : goal.write_decided-requires-in-Folded-AnyOf-clause-few
-write_decided-requires-in-Folded-AnyOf-clause-few c = few c.args.pool.now (rows c.args.kind (Folded AnyOf) c.args.output c.args.helper c.args.operands.now c.operation.ensures (c.in-Folded-AnyOf.is ∙ ap (λ f. Folded f) c.in-Folded-AnyOf.field-0-is) c.inverts.ensures c.literal-y.ensures) c.requires.few
-
-pub write_odd-requires-clause-few : goal.write_odd-requires-clause-few
-write_odd-requires-clause-few c = few c.args.pool.now (rows c.args.kind (Folded OddOf) c.args.output c.args.helper c.args.operands.now c.operation.ensures (c.in-Folded-OddOf.is ∙ ap (λ f. Folded f) c.in-Folded-OddOf.field-0-is) c.inverts.ensures c.literal-y.ensures) c.requires.few
-
-pub write_chosen-requires-clause-few : goal.write_chosen-requires-clause-few
-write_chosen-requires-clause-few c = few c.args.pool.now (rows c.args.kind Chosen c.args.output c.args.helper c.args.operands.now c.operation.ensures c.in-Chosen.is c.inverts.ensures c.literal-y.ensures) c.requires.few
-
 pub returns-in-Folded-AllOf-clause-written : goal.returns-in-Folded-AllOf-clause-written
 returns-in-Folded-AllOf-clause-written c =
     subst (λ (xs : List Clause). WritesClauses c.write_decided.result c.args.pool.now c.write_decided.new.pool (tidy xs))

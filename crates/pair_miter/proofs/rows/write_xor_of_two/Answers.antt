@@ -1,9 +1,8 @@
-use Rattle.std.proofs.Common.{◌≡◌, ◌∙◌, ◌+◌, ◌<◌, ◌≤◌, ◌^◌, ℕ, List, [], ◌∷◌, length, arith, ap, sym, subst}
+use Rattle.std.proofs.Common.{◌≡◌, ◌∙◌, ◌≤◌, ℕ, List, [], ◌∷◌, arith, ap, sym, subst}
 use Rattle.std.specs.Prelude.{All}
 use Rattle.std.proofs.lemmas.List.Elements.{All-cons, All-nil}
 use Rattle.clause_pool.specs.Literal.{Literal, opposite, pos_literal}
 use Rattle.clause_pool.specs.Clauses.{Clause}
-use Rattle.pair_miter.specs.Miter.{tidy}
 use Rattle.pair_miter.specs.Rows.{xor_of_two}
 use Rattle.pair_miter.proofs.rows.write_xor_of_two.Goals as goal
 
@@ -35,10 +34,5 @@ write_clauses-requires c =
     let nb = sym c.opposite-not_b.ensures i in
     let nc = sym not_c i in
     let pc = sym c.literal-c.ensures i in
-    (na ∷ b ∷ pc ∷ []) ∷ (na ∷ nb ∷ nc ∷ []) ∷ (a ∷ nb ∷ pc ∷ []) ∷ (a ∷ b ∷ nc ∷ []) ∷ [] in (
-      omega arith,
-      (
-        subst (λ (xs : List Clause). All (All (IsBelow n)) xs) rows (all_below n a b (pos_literal c.args.variable) c.requires.output c.requires.first c.requires.second.1),
-        subst (λ (xs : List Clause). length c.args.pool.now.clauses + length (tidy xs) < 2 ^ 30) rows c.requires.few,
-      ),
-    )
+    (na ∷ b ∷ pc ∷ []) ∷ (na ∷ nb ∷ nc ∷ []) ∷ (a ∷ nb ∷ pc ∷ []) ∷ (a ∷ b ∷ nc ∷ []) ∷ [] in
+    (omega arith, subst (λ (xs : List Clause). All (All (IsBelow n)) xs) rows (all_below n a b (pos_literal c.args.variable) c.requires.output c.requires.first c.requires.second.1))

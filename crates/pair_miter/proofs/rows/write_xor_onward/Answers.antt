@@ -5,7 +5,7 @@ use Rattle.clause_pool.specs.Clauses.{Clause, Clauses}
 use Rattle.pair_miter.specs.Marks.{AreHelpers}
 use Rattle.clause_pool.specs.Proper.{IsVariable}
 use Rattle.pair_miter.specs.Rows.{variables, xor_of_two, xor_onward}
-use Rattle.pair_miter.proofs.AddSteps.{Remains, writes_err, writes_last, remains_all, remains_less, remains_few, remains_fails, remains_last_few}
+use Rattle.pair_miter.proofs.AddSteps.{Remains, writes_err, writes_last, remains_all, remains_less, remains_fails}
 use Rattle.pair_miter.proofs.RowParts.{onward_parts}
 use Rattle.pair_miter.proofs.OperandSteps.{variable_at, constant_at, operand_within, variable_within, variables_end}
 use Rattle.pair_miter.proofs.rows.write_xor_onward.Goals as goal
@@ -30,11 +30,6 @@ literal-here-requires c =
     let one = ap length next in
     let used = c.loop-operand.invariant.helpers (omega (arith, one)) in
     subst (λ n. IsVariable n c.loop-operand.part) (sym c.loop-operand.invariant.same) (used.0, omega (arith, used.1, one))
-
-pub write_xor_of_two-requires-clause-few : goal.write_xor_of_two-requires-clause-few
-write_xor_of_two-requires-clause-few c =
-    let next = variable_at c.args.operands.now c.loop-operand.operand-index c.operand-item.result c.loop-operand-test.true c.operand-item.is c.in-Some.x (sym c.variable.ensures ∙ c.in-Some.is) in
-    remains_few c.loop-operand.invariant.remains (onward_parts c.args.y c.loop-operand.before c.loop-operand.part c.loop-operand.last c.literal-here.ensures next) c.requires.few
 
 pub returns-in_err-write_xor_of_two-clause-written : goal.returns-in_err-write_xor_of_two-clause-written
 returns-in_err-write_xor_of_two-clause-written c =
@@ -79,11 +74,6 @@ loop-operand-preserved c =
                 (subst (λ xs. Remains old c.loop-operand.pool all (xor_onward c.args.y part c.loop-operand.before (c.loop-operand.last ∷ xs))) next h.remains);
           }
     ]
-
-pub write_xor_of_two-requires-2-clause-few : goal.write_xor_of_two-requires-2-clause-few
-write_xor_of_two-requires-2-clause-few c =
-    let none = variables_end c.args.operands.now c.loop-operand.operand-index c.loop-operand-test.false in
-    remains_last_few (onward_last c.args.y c.loop-operand.part c.loop-operand.before c.loop-operand.last none c.loop-operand.invariant.remains) c.requires.few
 
 pub returns-clause-written : goal.returns-clause-written
 returns-clause-written c =

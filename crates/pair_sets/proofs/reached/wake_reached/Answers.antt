@@ -1,65 +1,39 @@
-use Rattle.std.proofs.Common.{◌≡◌, ◌<◌, ◌∙◌, [], ℕ, length, get_or, take, true, refl, sym, ap, arith, subst, inl, inr}
-use Rattle.std.specs.Prelude.{Bool, false, Contains, ◌||◌, is_some}
-use Rattle.std.specs.Bool.{then_some}
-use Rattle.std.specs.Cmp.{both_ways}
-use Rattle.std.proofs.lemmas.Bool.{eqb-true}
+use Rattle.std.proofs.Common.{◌≡◌, ◌<◌, ◌∙◌, length, get_or, take, true, refl, sym, arith, subst}
 use Rattle.std.proofs.lemmas.List.{take_more, take_all}
-use Rattle.std.proofs.lemmas.List.Elements.{Contains-get_or, Contains-push_cases}
-use Rattle.net_model.specs.declared.fault.Site.TheVariants.{Stem, Pin, Position}
-use Rattle.net_model.specs.declared.fault.Fault.{Fault}
-use Rattle.net_model.specs.declared.fault.Fault.TheVariants.{Free, Stuck}
-use Rattle.net_model.specs.Circuit.{Circuit, line_count}
-use Rattle.net_model.specs.Fault.{IsFaultOf, stuck_position}
-use Rattle.net_model.specs.Scope.{is_split, is_reached}
-use Rattle.net_model.proofs.Elements.{first_or_later, none_in}
+use Rattle.std.proofs.lemmas.List.Elements.{Contains-get_or}
+use Rattle.net_model.specs.Circuit.{line_count}
+use Rattle.net_model.specs.Scope.{is_split}
+use Rattle.net_model.proofs.ReachedPositions.{site_inside, shown_inside, AreShown, none_shown, shown_more, shown_reached}
 use Rattle.event_queue.specs.Pending.{is_pending}
 use Rattle.pair_sets.proofs.reached.wake_reached.Goals as goal
 
--- a fault of the circuit stands at one of its positions, if at one
-site_inside : (c : Circuit) (f : Fault) (at : ℕ) → IsFaultOf c f → is_some (stuck_position f at) ≡ true → at < length c.positions
-site_inside c Free at is t = cc
-site_inside c (Stuck (Stem line) bit) at is t = cc
-site_inside c (Stuck (Pin gate pin) bit) at is t = cc
-site_inside c (Stuck (Position place) bit) at is t = subst (λ n. n < length c.positions) (eqb-true place at (test_of bit t)) is
-  where
-    test_of : {b : Bool} (bit : Bool) → is_some (then_some b bit) ≡ true → b ≡ true
-    test_of {b = true} bit t = refl
-    test_of {b = false} bit t = cc
+pub loop-line-init : goal.loop-line-init
+loop-line-init c = record {
+  room = refl;
+  shown = none_shown c.args.pair.now.circuit.now c.args.pair.now.f c.args.pair.now.g (is_pending c.args.positions.now) c.requires.none;
+}
 
 pub wake-requires : goal.wake-requires
-wake-requires c = λ k d h.
-    let users = c.showing.result.now in
+wake-requires c =
     let line = get_or c.lines-line-items.result.now c.loop-line.line-index 0 in
-    let below = c.requires.wiring.showing.below line (get_or users k d) (subst (λ us. Contains us (get_or users k d)) c.showing.ensures (Contains-get_or users k d h)) in
-    omega (arith, below, c.requires.room, c.loop-line.invariant.room)
+    shown_inside c.args.pair.now.circuit.now c.args.wiring.now c.requires.wiring line (length c.loop-line.positions) c.showing.result.now c.showing.ensures (c.loop-line.invariant.room ∙ c.requires.room)
 
 pub loop-line-preserved : goal.loop-line-preserved
 loop-line-preserved c =
-    let circuit = c.args.pair.now.circuit.now in
-    let f = c.args.pair.now.f in
-    let g = c.args.pair.now.g in
+    let pair = c.args.pair.now in
+    let circuit = pair.circuit.now in
     let lines = c.lines-line-items.result.now in
     let i = c.loop-line.line-index in
     let line = get_or lines i 0 in
-    let showing = c.requires.wiring.showing in
     let was = c.loop-line.invariant in
     let inside : line < line_count circuit = omega (arith, c.lines-line-items.ensures.within i 0 c.loop-line-test.true, c.requires.cone.whole) in
-    let split : is_split circuit f g line ≡ true = sym (c.requires.cone.each line inside) ∙ c.lines-line-items.ensures.marked line (Contains-get_or lines i 0 c.loop-line-test.true) in
+    let split : is_split circuit pair.f pair.g line ≡ true = sym (c.requires.cone.each line inside) ∙ c.lines-line-items.ensures.marked line (Contains-get_or lines i 0 c.loop-line-test.true) in
     record {
       room = c.wake.ensures.room ∙ was.room;
-      woken = λ at h has. elim (Contains-push_cases (take i lines) line (get_or circuit.positions at 0) (subst (λ xs. Contains xs (get_or circuit.positions at 0)) (take_more lines i 0 c.loop-line-test.true) has)) [
-        | inl earlier ↦ c.wake.ensures.kept at (was.woken at h earlier)
-        | inr same ↦ c.wake.ensures.here at (subst (λ us. Contains us at) (sym c.showing.ensures) (showing.all line at h (0, omega arith, sym same)))
-      ];
-      only = λ at t. elim (c.wake.ensures.only at t) [
-        | inl before ↦ was.only at before
-        | inr woken ↦
-            let shows = showing.only line at (subst (λ us. Contains us at) c.showing.ensures woken) in
-            elim (first_or_later (get_or circuit.positions at 0) [] line shows) [
-              | inl same ↦ ap (is_split circuit f g) same ∙ split
-              | inr m ↦ absurd (none_in line m)
-            ]
-      ];
+      shown =
+          subst (λ xs. AreShown circuit pair.f pair.g xs (is_pending c.wake.new.self)) (sym (take_more lines i 0 c.loop-line-test.true))
+          (shown_more circuit c.args.wiring.now c.requires.wiring pair.f pair.g (take i lines) c.showing.result.now line (is_pending c.loop-line.positions) (is_pending c.wake.new.self) split c.showing.ensures
+          c.wake.ensures.here c.wake.ensures.kept c.wake.ensures.only was.shown);
     }
 
 pub wake_site-requires : goal.wake_site-requires
@@ -73,17 +47,10 @@ wake_site-requires-2 c = λ at t.
     omega (arith, inside, c.requires.room, c.loop-line.invariant.room, c.wake_site.ensures.room)
 
 pub returns-clause-reached : goal.returns-clause-reached
-unfolding is_reached
-returns-clause-reached c = λ at h.
-    let circuit = c.args.pair.now.circuit.now in
-    let f = c.args.pair.now.f in
-    let g = c.args.pair.now.g in
+returns-clause-reached c =
+    let pair = c.args.pair.now in
     let lines = c.lines-line-items.result.now in
-    let queue = c.loop-line.positions in
-    let line = get_or circuit.positions at 0 in
-    let inside : line < line_count circuit = c.requires.wiring.circuit.positions at 0 h in
-    let own : is_pending queue at ≡ is_split circuit f g line =
-    both_ways (is_pending queue at) (is_split circuit f g line) (c.loop-line.invariant.only at)
-    (λ t. c.loop-line.invariant.woken at h (subst (λ xs. Contains xs line) (sym (take_all c.loop-line.line-index lines c.loop-line-test.false)) (c.lines-line-items.ensures.all line (c.requires.cone.each line inside ∙ t)))) in
-    c.wake_site-2.ensures.woken at ∙ ap (λ b. b || is_some (stuck_position g at)) (c.wake_site.ensures.woken at)
-    ∙ ap (λ b. b || is_some (stuck_position f at) || is_some (stuck_position g at)) own
+    let all = take_all c.loop-line.line-index lines c.loop-line-test.false in
+    shown_reached pair.circuit.now c.args.wiring.now c.requires.wiring pair.f pair.g lines (is_pending c.loop-line.positions) (is_pending c.wake_site.new.positions) (is_pending c.wake_site-2.new.positions)
+    (subst (λ xs. AreShown pair.circuit.now pair.f pair.g xs (is_pending c.loop-line.positions)) all c.loop-line.invariant.shown)
+    (λ line h t. c.lines-line-items.ensures.all line (c.requires.cone.each line h ∙ t)) c.wake_site.ensures.woken c.wake_site-2.ensures.woken

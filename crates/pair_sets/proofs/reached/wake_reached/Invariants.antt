@@ -1,12 +1,10 @@
-use Rattle.std.proofs.Common.{◌≡◌, ◌<◌, ℕ, length, get_or, take, true}
-use Rattle.std.specs.Prelude.{Contains}
-use Rattle.net_model.specs.Scope.{is_split}
+use Rattle.std.proofs.Common.{◌≡◌, length, take}
+use Rattle.net_model.proofs.ReachedPositions.{AreShown}
 use Rattle.event_queue.specs.Pending.{is_pending}
 use Rattle.pair_sets.proofs.reached.wake_reached.Given as goal
 
 abbrev pub invariant-loop-line : goal.invariant-loop-line
 invariant-loop-line l = record {
   room : length l.positions ≡ length l.initial.positions;
-  woken : (at : ℕ) → at < length l.pair.circuit.now.positions → Contains (take l.line-index l.line-items) (get_or l.pair.circuit.now.positions at 0) → is_pending l.positions at ≡ true;
-  only : (at : ℕ) → is_pending l.positions at ≡ true → is_split l.pair.circuit.now l.pair.f l.pair.g (get_or l.pair.circuit.now.positions at 0) ≡ true;
+  shown : AreShown l.pair.circuit.now l.fn.pair.f l.fn.pair.g (take l.line-index l.line-items) (is_pending l.positions);
 }

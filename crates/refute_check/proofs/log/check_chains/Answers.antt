@@ -16,7 +16,8 @@ use Rattle.refute_check.specs.Propagation.{IsReadyFor}
 use Rattle.refute_check.proofs.IndexLemmas.{places_for}
 use Rattle.refute_check.proofs.Chains.{before_first, first_ends, right_log}
 use Rattle.refute_check.specs.PoolEnds.{HasEndsOf}
-use Rattle.refute_check.proofs.LogSteps.{ends_none, end_within, held_next, on_error, stopped_end, stopped_step, next_chain, rule_told, refused_step, refused_end, right_step, alike_next}
+use Rattle.net_model.proofs.Errors.{on_error}
+use Rattle.refute_check.proofs.LogSteps.{ends_none, end_within, held_next, stopped_end, stopped_step, next_chain, rule_told, refused_step, refused_end, right_step, alike_next}
 use Rattle.refute_check.proofs.log.check_chains.Goals as goal
 use Rattle.refute_check.proofs.log.check_chains.Goals.{then-not-last+in_ok-add+in_ok-take_in, else-not-last}
 

@@ -6,7 +6,8 @@ use Rattle.evidence_rules.specs.declared.refusal.CheckFault.{CheckFault}
 use Rattle.evidence_rules.specs.declared.refusal.CheckFault.TheVariants.{Refused}
 use Rattle.evidence_rules.specs.declared.refusal.RefusalKind.TheVariants.{WrongCount}
 use Rattle.evidence_rules.specs.LogRefusal.{IsRightLog, LogRefused}
-use Rattle.refute_check.proofs.LogSteps.{ends_none, ends_uncounted, few_chains, on_error}
+use Rattle.net_model.proofs.Errors.{on_error}
+use Rattle.refute_check.proofs.LogSteps.{ends_none, ends_uncounted, few_chains}
 use Rattle.refute_check.proofs.log.check_log.Goals as goal
 
 pub propagator_for-requires : goal.propagator_for-requires

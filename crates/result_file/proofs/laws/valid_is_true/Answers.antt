@@ -1,5 +1,5 @@
 use Rattle.std.proofs.Common.{◌∙◌, refl, ap}
-use Rattle.result_file.specs.Spelling.{text_of}
+use Rattle.result_records.specs.Spelling.{text_of}
 use Rattle.result_file.proofs.ValidTrue.{valid_true}
 use Rattle.result_file.proofs.SoundLemmas.{sound_circuit, sound_tables}
 use Rattle.result_file.proofs.laws.valid_is_true.Goals as goal

@@ -1,9 +1,9 @@
 use Rattle.std.proofs.Common.{◌∙◌, List, None, get_or, ◌++◌, ap, arith}
 use Rattle.std.specs.String.{string_bytes}
 use Rattle.std.proofs.lemmas.List.{take_all}
-use Rattle.result_file.specs.declared.record.Record.{Record}
-use Rattle.result_file.specs.declared.record.Record.TheVariants.{Class}
-use Rattle.result_file.specs.Spelling.{text_of}
+use Rattle.result_records.specs.declared.record.Record.{Record}
+use Rattle.result_records.specs.declared.record.Record.TheVariants.{Class}
+use Rattle.result_records.specs.Spelling.{text_of}
 use Rattle.result_file.specs.Meaning.{class_records}
 use Rattle.result_file.proofs.LineLemmas.{class_at_place, class_count_lines, text_more}
 use Rattle.result_file.proofs.tables.push_classes.Goals as goal

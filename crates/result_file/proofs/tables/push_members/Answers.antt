@@ -3,10 +3,10 @@ use Rattle.std.specs.Prelude.{zip}
 use Rattle.std.specs.String.{string_bytes}
 use Rattle.std.proofs.lemmas.List.{take_all}
 use Rattle.net_model.specs.ClassTable.{class_at}
-use Rattle.result_file.specs.declared.record.Mark.TheVariants.{Rep}
-use Rattle.result_file.specs.declared.record.Record.{Record}
-use Rattle.result_file.specs.declared.record.Record.TheVariants.{Member}
-use Rattle.result_file.specs.Spelling.{text_of}
+use Rattle.result_records.specs.declared.record.Mark.TheVariants.{Rep}
+use Rattle.result_records.specs.declared.record.Record.{Record}
+use Rattle.result_records.specs.declared.record.Record.TheVariants.{Member}
+use Rattle.result_records.specs.Spelling.{text_of}
 use Rattle.result_file.specs.Meaning.{member_records}
 use Rattle.result_file.proofs.LineLemmas.{marked_at_place, marked_count_lines, text_more}
 use Rattle.result_file.proofs.tables.push_members.Goals as goal

@@ -1,7 +1,7 @@
 use Rattle.std.proofs.Common.{◌≡◌, ◌++◌, take}
 use Rattle.std.specs.Prelude.{zip}
 use Rattle.std.specs.String.{string_bytes}
-use Rattle.result_file.specs.Spelling.{text_of}
+use Rattle.result_records.specs.Spelling.{text_of}
 use Rattle.result_file.specs.Meaning.{member_records}
 use Rattle.result_file.proofs.tables.push_members.Given as goal
 

@@ -1,4 +1,4 @@
-use Rattle.std.proofs.Common.{◌+◌, arith}
+use Rattle.std.proofs.Common.{arith}
 use Rattle.sim_listing.proofs.vector_texts.fill_from.Goals as goal
 
 pub fill_block-requires : goal.fill_block-requires

@@ -5,7 +5,7 @@ use Rattle.std.proofs.lemmas.Bool.{false_from_ne_true}
 use Rattle.std.proofs.lemmas.List.{take_all}
 use Rattle.net_model.specs.Answer.{bit_at}
 use Rattle.net_model.specs.Rows.{row_bit}
-use Rattle.word_sim.proofs.Digits.{digit_and}
+use Rattle.net_model.proofs.SingleWords.{digit_and}
 use Rattle.fault_sim.specs.FaultSim.{lanes_at}
 use Rattle.suspect_scores.specs.Columns.{IsBitCount, is_changed_lane}
 use Rattle.diagnose.proofs.WordLemmas.{packed_bit}

@@ -1,7 +1,7 @@
 use Rattle.std.proofs.Common.{◌∙◌, ◌+◌, ◌*◌, Bool, refl, ap₂, arith, w64}
 use Rattle.std.specs.Prelude.{bit_and, ◌&&◌}
 use Rattle.std.specs.Int.{bit_not}
-use Rattle.word_sim.proofs.Digits.{digit_and, digit_not}
+use Rattle.net_model.proofs.SingleWords.{digit_and, digit_not}
 use Rattle.suspect_scores.proofs.BlockScores.{lanes_scored}
 use Rattle.suspect_scores.proofs.block_scores.score_lanes.Goals as goal
 

@@ -3,7 +3,7 @@ use Rattle.std.specs.Prelude.{nat_lt, ◌&&◌, AllPairs}
 use Rattle.std.specs.Int.{bit_not}
 use Rattle.std.proofs.lemmas.List.{take_all}
 use Rattle.net_model.specs.Answer.{bit_at}
-use Rattle.word_sim.proofs.Digits.{digit_and, digit_not}
+use Rattle.net_model.proofs.SingleWords.{digit_and, digit_not}
 use Rattle.fault_sim.specs.FaultSim.{lanes_at}
 use Rattle.suspect_scores.specs.Columns.{IsBitCount, is_same_lane}
 use Rattle.diagnose.proofs.WordLemmas.{packed_bit}

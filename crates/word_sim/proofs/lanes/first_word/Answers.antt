@@ -2,7 +2,7 @@ use Rattle.std.proofs.Common.{◌≡◌, ℕ, ◌+◌, ◌-◌, ◌∙◌, ap, a
 use Rattle.std.specs.Prelude.{nat_lt, ◌&&◌}
 use Rattle.std.proofs.Math.Bool.{and-true}
 use Rattle.std.proofs.lemmas.Bool.Decides.{nat_tests}
-use Rattle.word_sim.proofs.Digits.{digit_ones}
+use Rattle.net_model.proofs.SingleWords.{digit_ones}
 use Rattle.word_sim.proofs.lanes.first_word.Goals as goal
 
 -- a place is among those that are left where the lane is below all

@@ -1,5 +1,5 @@
 use Rattle.std.proofs.Common.{◌∙◌, ◌++◌, ◌∷◌, [], List, Bool, ap}
-use Rattle.diagnose.specs.Lines.{digit_bits}
+use Rattle.text_fields.specs.Fields.{digit_bits}
 use Rattle.adaptive_tree.specs.declared.steps.Step.{Step}
 use Rattle.adaptive_tree.specs.declared.steps.Step.TheVariants.{On}
 use Rattle.adaptive_tree.proofs.ReaderLemmas.{branch_left, branch_come}

@@ -1,7 +1,7 @@
 use Rattle.std.proofs.Common.{◌≡◌, ◌∙◌, List, true, false, eqb, sym, ap}
 use Rattle.std.specs.Prelude.{reverse}
 use Rattle.std.proofs.lemmas.List.{length-map}
-use Rattle.diagnose.specs.Lines.{digit_bits}
+use Rattle.text_fields.specs.Fields.{digit_bits}
 use Rattle.adaptive_tree.specs.declared.reader.OpenAsk.{OpenAsk}
 use Rattle.adaptive_tree.specs.Reading.{innermost_has}
 use Rattle.adaptive_tree.proofs.ReaderLemmas.{branch_blocked, branch_refused, branches_again, branches_first}

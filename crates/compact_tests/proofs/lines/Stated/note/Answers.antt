@@ -1,9 +1,9 @@
 use Rattle.std.proofs.Common.{◌≡◌, ◌∙◌, ◌+◌, ◌<◌, ◌++◌, [], ◌∷◌, length, sym, subst}
 use Rattle.std.specs.Prelude.{All}
 use Rattle.std.proofs.lemmas.Result.{IfOk-weaker}
-use Rattle.result_file.specs.declared.record.Evidence.{Evidence}
-use Rattle.result_file.specs.declared.record.Record.{Record}
-use Rattle.result_file.specs.Marks.{evidence_in}
+use Rattle.result_records.specs.declared.record.Evidence.{Evidence}
+use Rattle.result_records.specs.declared.record.Record.{Record}
+use Rattle.result_records.specs.Marks.{evidence_in}
 use Rattle.compact_tests.specs.declared.lines.Span.{Span}
 use Rattle.compact_tests.specs.Stated.{IsStated, NotesLine, TakesRecord}
 use Rattle.compact_tests.proofs.StatedLemmas.{span_of}

@@ -2,9 +2,9 @@ use Rattle.std.proofs.Common.{◌<◌, [], ◌∷◌, length, Some, refl, sym, a
 use Rattle.std.specs.Prelude.{All}
 use Rattle.std.specs.Vec.{with_item}
 use Rattle.std.proofs.lemmas.List.{length-set}
-use Rattle.result_file.specs.declared.record.Evidence.{Evidence}
-use Rattle.result_file.specs.declared.record.Record.{Record}
-use Rattle.result_file.specs.Marks.{evidence_in}
+use Rattle.result_records.specs.declared.record.Evidence.{Evidence}
+use Rattle.result_records.specs.declared.record.Record.{Record}
+use Rattle.result_records.specs.Marks.{evidence_in}
 use Rattle.compact_tests.specs.declared.lines.Stated.{Stated}
 use Rattle.compact_tests.specs.ThinResult.{marks_in}
 use Rattle.compact_tests.specs.Stated.{TakesRecord}

@@ -5,7 +5,7 @@ use Rattle.std.proofs.lemmas.Option.{slice_get-get_or, slice_get_within, get_or_
 use Rattle.std.proofs.lemmas.Bool.{not-false}
 use Rattle.net_model.specs.ClassTable.{class_count}
 use Rattle.net_model.proofs.Elements.{none_is}
-use Rattle.result_file.specs.Marks.{evidence_in, next_member}
+use Rattle.result_records.specs.Marks.{evidence_in, next_member}
 use Rattle.member_marks.proofs.MarkLemmas.{open_is_next}
 use Rattle.dia_check.proofs.checker.Checker.is_next_class.Goals.{then-number-self-via-then-number-self, then-number-self-via-else-number-self+then-number-count}
 use Rattle.dia_check.proofs.checker.Checker.is_next_class.Goals as goal

@@ -1,6 +1,6 @@
 use Rattle.std.proofs.Common.{refl, arith}
 use Rattle.result_file.specs.declared.fault.ResultKind.TheVariants as why
-use Rattle.result_file.specs.declared.record.Record.TheVariants.{Class}
+use Rattle.result_records.specs.declared.record.Record.TheVariants.{Class}
 use Rattle.dia_check.proofs.CheckLemmas.{few_lines, judged_misplaced, judged_wrong}
 use Rattle.dia_check.proofs.TakenLemmas.{class_taken, class_few}
 use Rattle.dia_check.proofs.checker.Checker.judge_class.Goals.{then-self-lt2-via-then-self-lt2, then-self-lt2-via-else-self-lt2+then-self-ne0}

@@ -1,5 +1,5 @@
 use Rattle.std.proofs.Common.{arith}
-use Rattle.result_file.specs.declared.record.Record.TheVariants.{End}
+use Rattle.result_records.specs.declared.record.Record.TheVariants.{End}
 use Rattle.dia_check.proofs.CheckLemmas.{few_lines, judged_misplaced}
 use Rattle.dia_check.proofs.ProgressLemmas.{ended_out}
 use Rattle.dia_check.proofs.TakenLemmas.{numbers_are, end_taken}

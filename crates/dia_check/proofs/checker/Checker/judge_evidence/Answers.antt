@@ -1,7 +1,7 @@
 use Rattle.std.proofs.Common.{◌∙◌, Err, refl, ap, arith}
 use Rattle.evidence_rules.specs.declared.refusal.CheckFault.{CheckFault}
 use Rattle.result_file.specs.declared.fault.ResultKind.TheVariants as why
-use Rattle.result_file.specs.declared.record.Record.TheVariants.{Same}
+use Rattle.result_records.specs.declared.record.Record.TheVariants.{Same}
 use Rattle.result_file.specs.Refusal.EvidenceRefused.{by_name, by_roots, by_proof}
 use Rattle.dia_check.proofs.CheckLemmas.{few_lines, judged_misplaced, judged_wrong}
 use Rattle.dia_check.proofs.TakenLemmas.{body_place, no_body_place, names_next, member_inside, partner_inside, evidence_taken}

@@ -1,6 +1,6 @@
 use Rattle.std.proofs.Common.{length, refl, ap, arith}
 use Rattle.result_file.specs.declared.fault.ResultKind.TheVariants as why
-use Rattle.result_file.specs.declared.record.Record.TheVariants.{Head}
+use Rattle.result_records.specs.declared.record.Record.TheVariants.{Head}
 use Rattle.dia_check.proofs.CheckLemmas.{few_lines, judged_misplaced, judged_wrong}
 use Rattle.dia_check.proofs.TakenLemmas.{head_place, head_taken}
 use Rattle.dia_check.proofs.checker.Checker.judge_head.Goals as goal

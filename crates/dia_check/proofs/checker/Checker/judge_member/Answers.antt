@@ -1,6 +1,6 @@
 use Rattle.std.proofs.Common.{◌∙◌, refl, sym, arith}
 use Rattle.result_file.specs.declared.fault.ResultKind.TheVariants as why
-use Rattle.result_file.specs.declared.record.Record.TheVariants.{Member}
+use Rattle.result_records.specs.declared.record.Record.TheVariants.{Member}
 use Rattle.dia_check.proofs.CheckLemmas.{few_lines, judged_misplaced, judged_wrong}
 use Rattle.dia_check.proofs.ProgressLemmas.{ended_out}
 use Rattle.dia_check.proofs.TakenLemmas.{numbers_are, member_taken, member_few}

@@ -1,6 +1,5 @@
-use Rattle.std.proofs.Common.{List, Bool}
-use Rattle.std.proofs.Common.{◌≡◌, ◌∙◌, ◌++◌, ◌∷◌, [], length, refl, ap, arith}
-use Rattle.result_file.specs.declared.record.Record.TheVariants.{Pattern}
+use Rattle.std.proofs.Common.{List, Bool, ◌≡◌, ◌∙◌, ◌++◌, ◌∷◌, [], length, refl, ap, arith}
+use Rattle.result_records.specs.declared.record.Record.TheVariants.{Pattern}
 use Rattle.dia_check.proofs.CheckLemmas.{few_lines, misplaced_line}
 use Rattle.dia_check.proofs.TakenLemmas.{no_body_place, none_waits, pattern_waits}
 use Rattle.dia_check.proofs.checker.Checker.judge_pattern.Goals as goal

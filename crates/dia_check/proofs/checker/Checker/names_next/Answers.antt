@@ -1,8 +1,7 @@
 use Rattle.std.proofs.lemmas.Option.{same_Some}
-use Rattle.std.proofs.Common.{◌≡◌, ◌∙◌, sym}
+use Rattle.std.proofs.Common.{◌≡◌, ◌∙◌, sym, ℕ}
 use Rattle.std.specs.Prelude.{Option, None, Some}
-use Rattle.std.proofs.Common.{ℕ}
-use Rattle.result_file.specs.Marks.{evidence_in}
+use Rattle.result_records.specs.Marks.{evidence_in}
 use Rattle.member_marks.proofs.MarkLemmas.{all_marked_none, lowest_is_next}
 use Rattle.dia_check.proofs.checker.Checker.names_next.Goals as goal
 

@@ -1,7 +1,7 @@
 use Rattle.std.proofs.Common.{refl}
 use Rattle.std.proofs.lemmas.Result.{err_from_is_err_and}
 use Rattle.result_file.specs.declared.fault.ResultKind.TheVariants as why
-use Rattle.result_file.specs.declared.record.Record.TheVariants.{Pattern}
+use Rattle.result_records.specs.declared.record.Record.TheVariants.{Pattern}
 use Rattle.dia_check.proofs.CheckLemmas.{few_lines, has_after, judged_then, stopped, judged_misplaced, judged_wrong}
 use Rattle.dia_check.proofs.TakenLemmas.{body_place, no_body_place}
 use Rattle.dia_check.proofs.checker.Checker.refuse_pattern.Goals as goal

@@ -1,5 +1,5 @@
 use Rattle.std.proofs.Common.{◌≡◌, ◌≤◌, ◌^◌, length}
-use Rattle.result_file.specs.Spelling.{Text}
+use Rattle.text_fields.specs.Fields.{Text}
 use Rattle.dia_check.specs.Reader.{IsHeld, HasHeld}
 use Rattle.dia_check.proofs.reader.Reader.take_lines.Given as goal
 

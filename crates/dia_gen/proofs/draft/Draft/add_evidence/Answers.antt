@@ -1,6 +1,6 @@
 use Rattle.std.proofs.Common.{◌∷◌, []}
 use Rattle.std.proofs.lemmas.Result.{err_from_is_err_and}
-use Rattle.result_file.specs.declared.record.Record.TheVariants.{Same}
+use Rattle.result_records.specs.declared.record.Record.TheVariants.{Same}
 use Rattle.dia_gen.specs.Made.{lines_with}
 use Rattle.dia_gen.proofs.DraftSteps.{one_right, line_drafted, evidence_for, lines_given, evidence_drafted}
 use Rattle.dia_gen.proofs.WritingLemmas.{broken}

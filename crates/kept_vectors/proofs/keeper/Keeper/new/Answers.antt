@@ -1,5 +1,5 @@
-use Rattle.std.proofs.Common.{◌≡◌, ◌∙◌, length, sym, ap, subst}
-use Rattle.net_model.specs.Circuit.{Circuit}
+use Rattle.std.proofs.Common.{◌≡◌, ◌∙◌, sym, ap, subst}
+use Rattle.net_model.specs.Circuit.{Circuit, IsCircuit}
 use Rattle.net_model.specs.ClassTable.{first_table}
 use Rattle.net_model.specs.FaultList.{fault_count}
 use Rattle.net_model.proofs.Listed.{some_number}
@@ -10,11 +10,11 @@ use Rattle.kept_vectors.proofs.KeepLemmas.{keeper_first}
 use Rattle.kept_vectors.proofs.keeper.Keeper.new.Goals as goal
 
 pub new-requires : goal.new-requires
-new-requires c = rw (c.len.ensures.value ∙ ap length c.requires.faults) (some_number c.args.circuit.now)
+new-requires c = rw c.numbers.ensures.value (some_number c.args.subject.now)
 
-first_keeper : (c : goal.After-new-stream) → keeper_with c.in_ok-scan.scan.good.circuit (record { vectors = c.new-vectors.result.items; table = c.in_ok-classes.classes }) ≡ keeper_with c.args.circuit.now (nothing_kept (fault_count c.args.circuit.now))
+first_keeper : (c : goal.After-new-stream) → keeper_with c.in_ok-scan.scan.good.circuit (record { vectors = c.new-vectors.result.items; table = c.in_ok-classes.classes }) ≡ keeper_with c.args.subject.now (nothing_kept (fault_count c.args.subject.now))
 first_keeper c =
-    let table = c.in_ok-classes.ensures ∙ ap first_table (c.len.ensures.value ∙ ap length c.requires.faults) in
+    let table = c.in_ok-classes.ensures ∙ ap first_table c.numbers.ensures.value in
     λ i. keeper_with (c.in_ok-scan.ensures.circuit i) (record { vectors = c.new-vectors.ensures.items i; table = table i })
 
 pub invariant_of-result : goal.invariant_of-result
@@ -22,8 +22,8 @@ invariant_of-result c =
     let scan = c.in_ok-scan.ensures in
     record {
       scan = scan.scan;
-      keeper = subst IsKeeper (sym (first_keeper c)) (keeper_first c.args.circuit.now c.sources.ensures.circuit);
-      stream = (0, c.new-stream.ensures ∙ ap (λ n. stream_at n 0) (c.sources.ensures.value ∙ ap (λ (k : Circuit). k.sources) (sym scan.circuit)));
+      keeper = subst IsKeeper (sym (first_keeper c)) (keeper_first c.args.subject.now (subst IsCircuit c.circuit.ensures.value c.circuit.ensures.circuit));
+      stream = (0, c.new-stream.ensures ∙ ap (λ n. stream_at n 0) (c.sources.ensures.value ∙ ap (λ (k : Circuit). k.sources) (c.circuit.ensures.value ∙ sym scan.circuit)));
     }
 
 pub returns : goal.returns

@@ -1,4 +1,4 @@
-use Rattle.std.proofs.Common.{◌≡◌, ◌∙◌, ◌++◌, ℕ, List, [], sym, ap, subst, arith}
+use Rattle.std.proofs.Common.{◌∙◌, ◌++◌, ℕ, List, [], sym, ap, subst, arith}
 use Rattle.std.proofs.lemmas.List.{append-nil, append_assoc, take_more, take_all}
 use Rattle.kept_vectors.specs.Units.{AreOfUnits}
 use Rattle.kept_vectors.proofs.UnitLemmas.{of_none, of_more}

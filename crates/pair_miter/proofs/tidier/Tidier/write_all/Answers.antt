@@ -1,4 +1,4 @@
-use Rattle.std.proofs.Common.{◌-◌, ◌+◌, ◌<◌, ◌≤◌, ◌^◌, ◌∙◌, [], ◌∷◌, length, get_or, sym, subst, arith}
+use Rattle.std.proofs.Common.{◌-◌, ◌<◌, ◌≤◌, ◌^◌, ◌∙◌, [], ◌∷◌, get_or, sym, subst, arith}
 use Rattle.std.specs.Prelude.{All}
 use Rattle.pair_miter.specs.Marks.{IsOperand, HavePlaces}
 use Rattle.pair_miter.specs.Adds.{WritesClauses}
@@ -20,10 +20,6 @@ pub fill-requires : goal.fill-requires
 fill-requires c = λ k d less.
     let few = subst (λ n. n < 2 ^ 31) c.self.view_is c.self.invariant.few in
     operand_weaker c.args.self.now (2 ^ 31 - 1) (get_or c.args.operands.now k d) (omega (arith, few)) (c.requires.operands k d less)
-
-pub write_once-requires-clause-few : goal.write_once-requires-clause-few
-write_once-requires-clause-few c =
-    subst (λ row. length c.args.pool.now.clauses + length (tidy (row ∷ [])) < 2 ^ 30) (sym (c.as_slice.ensures.value ∙ c.in_ok-fill.ensures)) c.requires.few
 
 pub returns-clause-written : goal.returns-clause-written
 returns-clause-written c =

@@ -1,4 +1,4 @@
-use Rattle.std.proofs.Common.{◌≡◌, ◌+◌, ◌-◌, ◌<◌, ◌^◌, ◌∙◌, length, sym, ap, subst, arith}
+use Rattle.std.proofs.Common.{◌≡◌, ◌-◌, ◌<◌, ◌^◌, ◌∙◌, sym, ap, subst, arith}
 use Rattle.std.specs.Prelude.{Bool, true, false, ◌||◌, [], ◌∷◌, ◌++◌, if◌then◌else◌}
 use Rattle.std.proofs.Math.Bool.{or-true}
 use Rattle.clause_pool.specs.Literal.{Literal}
@@ -42,12 +42,6 @@ fill_case-requires-clause-chosen c =
 one_left : (l : Literal) (unless : Bool) (chooser : Operand) (positive : Bool) (chosen : Operand) {row : Clause} → is_constant unless chooser ≡ false → is_constant positive chosen ≡ false → row ≡ l ∷ operand_literals unless chooser ++ operand_literals positive chosen
     → case_clause l unless chooser positive chosen ≡ row ∷ []
 one_left l unless chooser positive chosen e f is = (λ i. if e i || f i then [] else (l ∷ operand_literals unless chooser ++ operand_literals positive chosen) ∷ []) ∙ ap (λ (ls : Clause). ls ∷ []) (sym is)
-
-pub write_once-requires-clause-few : goal.write_once-requires-clause-few
-write_once-requires-clause-few c =
-    subst (λ rows. length c.args.pool.now.clauses + length (tidy rows) < 2 ^ 30)
-    (one_left c.args.l c.args.unless c.args.chooser.now c.args.positive c.args.chosen.now (sym c.is_constant.ensures ∙ c.if-is_constant.false) (sym c.is_constant-else-is_constant.ensures ∙ c.if-is_constant-2.false) (c.as_slice.ensures.value ∙ c.in_ok-fill_case.ensures))
-    c.requires.few
 
 pub returns-clause-written : goal.returns-clause-written
 returns-clause-written c =

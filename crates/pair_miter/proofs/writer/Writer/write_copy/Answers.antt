@@ -1,4 +1,4 @@
-use Rattle.std.proofs.Common.{◌≡◌, ◌∙◌, ◌+◌, ◌<◌, ◌≤◌, ◌^◌, ℕ, List, [], length, arith, ap, sym, subst}
+use Rattle.std.proofs.Common.{◌≡◌, ◌∙◌, ◌<◌, ◌≤◌, ℕ, List, [], length, arith, ap, sym, subst}
 use Rattle.std.specs.Prelude.{All, Bool, IsTrue, Option, Some, is_none}
 use Rattle.std.proofs.lemmas.List.Elements.{All-cons}
 use Rattle.net_model.specs.declared.fault.Fault.{Fault}
@@ -39,18 +39,13 @@ literal-unit-requires c =
     let p = c.args.numbering.now in
     variable_within p.circuit p.f p.g c.args.side c.args.line c.variable.result c.args.self.now.tidier c.variable.ensures c.requires.variables c.requires.line c.requires.relevant
 
-pub write-requires-clause-variables : goal.write-requires-clause-variables
-write-requires-clause-variables c =
+pub write-requires : goal.write-requires
+write-requires c =
     let p = c.args.numbering.now in
     let within : IsVariable c.args.self.now.tidier c.variable.result =
     variable_within p.circuit p.f p.g c.args.side c.args.line c.variable.result c.args.self.now.tidier c.variable.ensures c.requires.variables c.requires.line c.requires.relevant in
     let below = subst (λ (l : Literal). l.variable ≤ c.args.self.now.tidier) (sym c.literal-unit.ensures) within.1 in
     All-cons (λ (l : Literal). l.variable ≤ c.args.self.now.tidier) c.literal-unit.result [] below (λ k d h. absurd (omega (arith, h)))
-
-pub write-requires-clause-few : goal.write-requires-clause-few
-write-requires-clause-few c =
-    let p = c.args.numbering.now in
-    subst (λ (xs : List Clause). length c.args.pool.now.clauses + length (tidy xs) < 2 ^ 30) (clauses_of_stuck p.circuit p.f p.g c.args.side c.args.line (stem c.args.line c.fault.ensures c.stuck_stem.ensures c.in-Some.is) c.variable.ensures c.literal-unit.ensures) c.requires.few
 
 pub returns-in-Some-clause-written : goal.returns-in-Some-clause-written
 returns-in-Some-clause-written c =
@@ -127,13 +122,6 @@ write_gate-requires-clause-pins c =
     let gate = c.gate-gate.result.now in
     let many : length c.as_slice.result.now ≡ length gate.pins = ap length (c.as_slice.ensures.value ∙ c.in_ok-read_pins.ensures) ∙ length-gate_operands p.circuit p.f p.g c.args.side c.args.line gate in
     subst (λ (n : ℕ). IsTrue (takes_pins gate.kind n)) (sym many) c.gate-gate.ensures.arity
-
-pub write_gate-requires-clause-few : goal.write_gate-requires-clause-few
-write_gate-requires-clause-few c =
-    let p = c.args.numbering.now in
-    let rows = rows_of_driven p.circuit p.f p.g c.args.side c.args.line (stem c.args.line c.fault.ensures c.stuck_stem.ensures c.in_default.is) (gate_there c.args.line c.circuit-circuit.ensures.value c.gate-gate.ensures.value)
-    c.variable-output.ensures c.requires.helper (c.as_slice.ensures.value ∙ c.in_ok-read_pins.ensures) in
-    subst (λ (xs : List Clause). length c.args.pool.now.clauses + length (tidy xs) < 2 ^ 30) rows c.requires.few
 
 pub overflow_add-self : goal.overflow_add-self
 overflow_add-self c =

@@ -1,4 +1,4 @@
-use Rattle.std.proofs.Common.{◌≡◌, ◌+◌, ◌<◌, ◌^◌, ℕ, List, [], ◌∷◌, length, get_or, arith, sym, subst}
+use Rattle.std.proofs.Common.{◌≡◌, ℕ, List, [], ◌∷◌, get_or, arith, sym, subst}
 use Rattle.std.specs.Prelude.{All}
 use Rattle.std.proofs.lemmas.List.Elements.{All-cons}
 use Rattle.net_model.specs.declared.gate.Kind.TheVariants.{Xor}
@@ -33,14 +33,6 @@ write_gate-requires-clause-operands c =
     let second = subst (IsOperand all) (sym c.shown-2.ensures.value) (within Second) in
     subst (λ (n : ℕ). All (IsOperand n) (c.shown.result ∷ c.shown-2.result ∷ [])) (sym c.requires.variables)
     (All-cons (IsOperand all) c.shown.result (c.shown-2.result ∷ []) first (All-cons (IsOperand all) c.shown-2.result [] second (λ k d h. absurd (omega (arith, h)))))
-
-pub write_gate-requires-clause-few : goal.write_gate-requires-clause-few
-unfolding difference_clauses
-write_gate-requires-clause-few c =
-    let p = c.args.numbering.now in
-    let rows : difference_clauses p.circuit p.f p.g c.args.position ≡ gate_rows Xor c.args.difference 0 (c.shown.result ∷ c.shown-2.result ∷ []) =
-    (λ i. gate_rows Xor (sym c.requires.difference i) 0 (sym c.shown.ensures.value i ∷ sym c.shown-2.ensures.value i ∷ [])) in
-    subst (λ (xs : List Clause). length c.args.pool.now.clauses + length (tidy xs) < 2 ^ 30) rows c.requires.few
 
 pub returns-clause-written : goal.returns-clause-written
 unfolding difference_clauses

@@ -1,21 +1,13 @@
 use Rattle.std.proofs.Common.{◌∙◌, arith, ap, sym, subst}
 use Rattle.pair_miter.specs.Adds.{Adds}
 use Rattle.pair_miter.specs.Miter.{tidy}
-use Rattle.pair_miter.proofs.AddSteps.{both_parts, first_fails, first_few, left_fails, left_few, writes_err}
+use Rattle.pair_miter.proofs.AddSteps.{both_parts, first_fails, left_fails, writes_err}
 use Rattle.pair_miter.proofs.LineClauses.{clauses_of_line, clauses_of_split, clauses_of_shared}
 use Rattle.pair_miter.proofs.Numbers.{second_helper, helpers_of_relevant, helpers_of_shared}
 use Rattle.pair_miter.proofs.writer.Writer.write_line.Goals as goal
 
-pub write_copy-requires-clause-few : goal.write_copy-requires-clause-few
-write_copy-requires-clause-few c = let p = c.args.numbering.now in first_few c.args.pool.now (clauses_of_line p.circuit p.f p.g c.args.line).1 c.requires.few
-
 pub write_copy-requires-then-split-clause-helper : goal.write_copy-requires-then-split-clause-helper
 write_copy-requires-then-split-clause-helper c = let p = c.args.numbering.now in omega (arith, c.in_ok-write_copy.ensures.helper, c.requires.helper, second_helper p.circuit p.f p.g c.args.line)
-
-pub write_copy-requires-then-split-clause-few : goal.write_copy-requires-then-split-clause-few
-write_copy-requires-then-split-clause-few c =
-    let p = c.args.numbering.now in
-    left_few (clauses_of_split p.circuit p.f p.g c.args.line (sym c.split.ensures.value ∙ c.if-split.true)) c.in_ok-write_copy.ensures.written c.requires.few
 
 pub returns-in_ok-write_copy-2-clause-written : goal.returns-in_ok-write_copy-2-clause-written
 returns-in_ok-write_copy-2-clause-written c =

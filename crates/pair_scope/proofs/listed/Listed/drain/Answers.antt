@@ -1,27 +1,21 @@
-use Rattle.std.proofs.Common.{◌≡◌, ◌≢◌, ◌<◌, ◌≤◌, ◌-◌, ◌∙◌, ◌∷◌, [], ◌++◌, ℕ, length, take, get_or, set, true, false, sym, ap, arith, inl, inr, length-take}
-use Rattle.std.specs.Prelude.{filter}
+use Rattle.std.proofs.Common.{◌≡◌, ◌≢◌, ◌<◌, ◌≤◌, ◌-◌, ◌∙◌, ◌∷◌, [], ◌++◌, ℕ, length, set, true, false, sym, ap, arith, inl, inr}
 use Rattle.std.specs.List.{range_with_len}
 use Rattle.std.proofs.lemmas.Bool.{cases_eq, cases_lt, false_from_ne_true}
-use Rattle.std.proofs.lemmas.List.{get_or-set_same, get_or-set_other, length-set, take_all}
-use Rattle.std.proofs.lemmas.List.FromFn.{length-range_with_len, get_or-range_with_len}
+use Rattle.std.proofs.lemmas.List.{get_or-set_same, get_or-set_other, length-set}
+use Rattle.std.proofs.lemmas.List.FromFn.{length-range_with_len}
 use Rattle.net_model.specs.Answer.{bit_at}
 use Rattle.net_model.proofs.Elements.{length-filter-le}
 use Rattle.event_queue.specs.Pending.{is_pending, IsLowest}
 use Rattle.event_queue.proofs.Marks.{pending_within, lowest_left, not_before}
-use Rattle.pair_scope.proofs.TakeLemmas.{filter_gap, filter_next}
+use Rattle.net_model.proofs.Filtered.{range_gap, range_next}
 use Rattle.pair_scope.proofs.listed.Listed.drain.Goals as goal
-
--- a number of a range stands at its own place
-own_place : (count n : ℕ) → n < count → get_or (range_with_len 0 count) n 0 ≡ n
-own_place count n h = get_or-range_with_len 0 count n 0 h ∙ omega arith
 
 pub push-requires-clause-room : goal.push-requires-clause-room
 push-requires-clause-room c =
     let was = c.loop-number.invariant in
     let queue = c.loop-number.queue in
     let number = c.in-Some.number in
-    let numbers = range_with_len 0 (length c.args.queue.now) in
-    let earlier = take c.loop-number.from numbers in
+    let earlier = range_with_len 0 c.loop-number.from in
     let low : c.loop-number.from ≤ number = not_before queue c.loop-number.from number was.low c.in-Some.ensures.cases.was in
     omega (
       arith,
@@ -31,7 +25,7 @@ push-requires-clause-room c =
       was.room,
       ap length was.numbers,
       length-filter-le (is_pending c.args.queue.now) earlier,
-      length-take c.loop-number.from numbers,
+      length-range_with_len 0 c.loop-number.from,
     )
 
 pub loop-number-preserved : goal.loop-number-preserved
@@ -43,13 +37,11 @@ loop-number-preserved c =
     let marks = c.loop-number.self.marks.items in
     let number = c.in-Some.number in
     let all = c.args.queue.now in
-    let numbers = range_with_len 0 (length all) in
     let lowest : IsLowest queue taken number = c.in-Some.ensures.cases in
     let inside : number < length all = omega (arith, pending_within queue number lowest.was, was.queue_room) in
     let low : from ≤ number = not_before queue from number was.low lowest.was in
     let passes : is_pending all number ≡ true = sym (was.next number low) ∙ lowest.was in
     let gap : (n : ℕ) → from ≤ n → n < number → is_pending all n ≡ false = λ n above h. sym (was.next n above) ∙ lowest.lower n h in
-    let here : get_or numbers number 0 ≡ number = own_place (length all) number inside in
     let marked : c.push.new.self.marks.items ≡ set marks number true = c.push.ensures.marks in
     let others : (n : ℕ) → n ≢ number → bit_at c.push.new.self.marks.items n ≡ bit_at marks n = λ n ne. ap (λ xs. bit_at xs n) marked ∙ get_or-set_other marks number n true false ne in
     record {
@@ -57,11 +49,7 @@ loop-number-preserved c =
       queue_room = c.in-Some.ensures.room ∙ was.queue_room;
       low = λ n h. false_from_ne_true (is_pending taken n) (λ t. let up = (lowest_left queue taken number lowest n t).0 in omega (arith, up, h));
       next = λ n above. lowest.others n (let ne : n ≢ number = omega (arith, above) in ne) ∙ was.next n (omega (arith, above, low));
-      numbers =
-          c.push.ensures.numbers ∙ ap (λ xs. xs ++ number ∷ []) was.numbers
-          ∙ ap (λ n. filter (is_pending all) (take from numbers) ++ n ∷ []) (sym here)
-          ∙ sym (filter_next (is_pending all) numbers from number low (omega (arith, inside, length-range_with_len 0 (length all)))
-          (λ n above h. ap (is_pending all) (own_place (length all) n (omega (arith, h, inside))) ∙ gap n above h) (ap (is_pending all) here ∙ passes));
+      numbers = c.push.ensures.numbers ∙ ap (λ xs. xs ++ number ∷ []) was.numbers ∙ sym (range_next (is_pending all) from number low gap passes);
       room = omega (arith, was.room, c.push.ensures.room);
       whole = ap length marked ∙ length-set marks number true ∙ was.whole;
       before = λ n h. elim (cases_eq n number) [
@@ -82,7 +70,6 @@ returns-clause-listed c =
     let from = c.loop-number.from in
     let all = c.args.queue.now in
     let count = length all in
-    let numbers = range_with_len 0 count in
     let none : (n : ℕ) → from ≤ n → is_pending all n ≡ false = λ n over. sym (was.next n over) ∙ c.in_default.ensures.cases.0 n in
     record {
       whole = was.whole;
@@ -90,9 +77,6 @@ returns-clause-listed c =
         | inl under ↦ was.before n under
         | inr over ↦ was.behind n over h ∙ sym (none n over)
       ];
-      numbers =
-          was.numbers
-          ∙ sym (filter_gap (is_pending all) numbers (count - from) from count (omega (arith, was.from)) (omega (arith, length-range_with_len 0 count)) (λ n over h. ap (is_pending all) (own_place count n h) ∙ none n over))
-          ∙ ap (filter (is_pending all)) (take_all count numbers (omega (arith, length-range_with_len 0 count)));
+      numbers = was.numbers ∙ sym (range_gap (is_pending all) (count - from) from count (omega (arith, was.from)) (λ n over h. none n over));
       room = was.room;
     }

@@ -1,4 +1,4 @@
-use Rattle.std.proofs.Common.{◌≡◌, ◌<◌, ◌≤◌, ◌-◌, ℕ, length, take}
+use Rattle.std.proofs.Common.{◌≡◌, ◌<◌, ◌≤◌, ◌-◌, ℕ, length}
 use Rattle.std.specs.Prelude.{false, filter, vec_capacity}
 use Rattle.std.specs.List.{range_with_len}
 use Rattle.net_model.specs.Answer.{bit_at}
@@ -11,7 +11,7 @@ invariant-loop-number l = record {
   queue_room : length l.queue ≡ length l.initial.queue;
   low : (n : ℕ) → n < l.from → is_pending l.queue n ≡ false;
   next : (n : ℕ) → l.from ≤ n → is_pending l.queue n ≡ is_pending l.initial.queue n;
-  numbers : l.self.numbers.items ≡ filter (is_pending l.initial.queue) (take l.from (range_with_len 0 (length l.initial.queue)));
+  numbers : l.self.numbers.items ≡ filter (is_pending l.initial.queue) (range_with_len 0 l.from);
   room : length l.initial.queue ≤ vec_capacity l.self.numbers;
   whole : length l.self.marks.items ≡ length l.initial.queue;
   before : (n : ℕ) → n < l.from → bit_at l.self.marks.items n ≡ is_pending l.initial.queue n;

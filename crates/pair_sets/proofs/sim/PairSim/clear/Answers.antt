@@ -1,4 +1,4 @@
-use Rattle.std.proofs.Common.{◌≡◌, ◌≤◌, ◌*◌, ◌∙◌, [], length, drop, sym, ap, arith, subst, Vec}
+use Rattle.std.proofs.Common.{◌≡◌, ◌≤◌, ◌*◌, ◌∙◌, [], length, drop, refl, sym, ap, arith, subst, Vec}
 use Rattle.std.specs.Prelude.{reverse, vec_capacity}
 use Rattle.std.specs.declared.alloc.Global.{Global}
 use Rattle.net_model.specs.declared.fault.Fault.TheVariants.{Free}
@@ -8,7 +8,7 @@ use Rattle.pair_sets.specs.CubeState.{set_at, ArePairSets}
 use Rattle.pair_sets.specs.Tally.{HasTallyPlaces}
 use Rattle.pair_sets.proofs.BlankLemmas.{back_to_base, blank_but, blank_shown, blank_tally, lowest_level}
 use Rattle.pair_sets.proofs.LevelLemmas.{first_level, right_of}
-use Rattle.pair_sets.proofs.SpreadLemmas.{none_split}
+use Rattle.net_model.proofs.ScopeLaws.{none_split}
 use Rattle.pair_sets.proofs.TrailLemmas.{length-undone}
 use Rattle.pair_sets.proofs.sim.PairSim.clear.Goals as goal
 
@@ -66,7 +66,7 @@ invariant_of-self c =
       trail_room = room;
       levels_room = subst (λ n. circuit.sources ≤ n) (sym c.clear-2.ensures.capacity) ready.levels_room;
       base = ready.base;
-      cone = record { whole = c.unmark_all.ensures.whole ∙ ready.cone.whole; each = λ line h. c.unmark_all.ensures.none line ∙ sym (none_split circuit line) };
+      cone = record { whole = c.unmark_all.ensures.whole ∙ ready.cone.whole; each = λ line h. c.unmark_all.ensures.none line ∙ sym (none_split circuit Free Free line refl refl) };
       tally = blank_tally circuit c.clear-3.new.self c.clear-3.ensures.blank (subst (λ n. HasTallyPlaces n c.clear-3.new.self) ready.tally.places.whole places);
       shown = blank_shown circuit c.clear-3.new.self new.sets.items c.clear-3.ensures.blank;
     }

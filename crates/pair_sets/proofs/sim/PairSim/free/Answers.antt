@@ -1,4 +1,4 @@
-use Rattle.std.proofs.Common.{◌≡◌, ◌≤◌, ◌*◌, ◌∙◌, [], length, sym, ap, arith, subst}
+use Rattle.std.proofs.Common.{◌≡◌, ◌≤◌, ◌*◌, ◌∙◌, [], length, refl, sym, ap, arith, subst}
 use Rattle.std.specs.Prelude.{vec_capacity}
 use Rattle.net_model.specs.declared.fault.Fault.TheVariants.{Free}
 use Rattle.net_model.specs.Circuit.{line_count}
@@ -7,7 +7,7 @@ use Rattle.net_model.proofs.SetSoFar.{fits_from}
 use Rattle.pair_sets.specs.CubeState.{ArePairSets}
 use Rattle.pair_sets.specs.Tally.{HasTallyPlaces}
 use Rattle.pair_sets.proofs.BlankLemmas.{blank_shown, blank_tally, lowest_level}
-use Rattle.pair_sets.proofs.SpreadLemmas.{none_split}
+use Rattle.net_model.proofs.ScopeLaws.{none_split}
 use Rattle.pair_sets.proofs.sim.PairSim.free.Goals as goal
 
 pub new-requires : goal.new-requires
@@ -35,7 +35,7 @@ invariant_of-result c =
       base = base;
       cone = record {
         whole = c.in_ok-none.ensures.whole ∙ c.lines-lines.ensures.value;
-        each = λ line h. c.in_ok-none.ensures.none line ∙ sym (none_split circuit line);
+        each = λ line h. c.in_ok-none.ensures.none line ∙ sym (none_split circuit Free Free line refl refl);
       };
       tally = blank_tally circuit c.in_ok-none-2.field-0 c.in_ok-none-2.ensures.blank (subst (λ n. HasTallyPlaces n c.in_ok-none-2.field-0) (ap length c.positions.ensures.value) c.in_ok-none-2.ensures.places);
       shown = blank_shown circuit c.in_ok-none-2.field-0 trail.sets.items c.in_ok-none-2.ensures.blank;

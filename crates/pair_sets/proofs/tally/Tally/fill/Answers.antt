@@ -6,12 +6,12 @@ use Rattle.std.proofs.lemmas.List.{get_or-set_other, length-set}
 use Rattle.std.proofs.lemmas.List.Sums.{count_by-le-length, length-filter}
 use Rattle.std.proofs.lemmas.List.FromFn.{length-range_with_len}
 use Rattle.net_model.specs.Scope.{is_reached, reached_positions}
+use Rattle.net_model.proofs.Filtered.{range_gap, range_next}
 use Rattle.event_queue.specs.Pending.{is_pending, IsLowest}
 use Rattle.event_queue.proofs.Marks.{pending_within, lowest_left, not_before}
 use Rattle.pair_sets.specs.PairSet.{free_pairs}
 use Rattle.pair_sets.specs.CubeState.{position_pairs}
 use Rattle.pair_sets.specs.Tally.{kept_pairs, IsShownAt}
-use Rattle.pair_sets.proofs.MarkLemmas.{filter_gap, filter_next}
 use Rattle.pair_sets.proofs.TallyLemmas.{put_here, put_kept, shown_unreached}
 use Rattle.pair_sets.proofs.tally.Tally.fill.Goals as goal
 
@@ -64,7 +64,7 @@ loop-at-preserved c =
       queue_room = c.in-Some.ensures.room ∙ was.queue_room;
       low = λ n h. false_from_ne_true (is_pending taken n) (λ t. let up = (lowest_left waiting taken at lowest n t).0 in omega (arith, up, h));
       next = λ n above h. lowest.others n (let ne : n ≢ at = omega (arith, above) in ne) ∙ was.next n (omega (arith, above, low)) h;
-      reached = c.push_reserved.ensures.items ∙ ap (λ xs. xs ++ at ∷ []) was.reached ∙ sym (filter_next test from at low gap passes);
+      reached = c.push_reserved.ensures.items ∙ ap (λ xs. xs ++ at ∷ []) was.reached ∙ sym (range_next test from at low gap passes);
       room = omega (arith, was.room, c.push_reserved.ensures.capacity);
       whole = ap length c.put.ensures ∙ length-set shown at pairs ∙ was.whole;
       before = λ n h. subst (λ xs. IsShownAt circuit f g sets xs n) (sym c.put.ensures) (elim (cases_eq n at) [
@@ -88,7 +88,7 @@ returns-clause-tally c =
     let from = c.loop-at.from in
     let was = c.loop-at.invariant in
     record {
-      reached = was.reached ∙ sym (filter_gap test (count - from) from count (omega (arith, was.from)) (λ n above h. sym (was.next n above h) ∙ c.in_default.ensures.cases.0 n));
+      reached = was.reached ∙ sym (range_gap test (count - from) from count (omega (arith, was.from)) (λ n above h. sym (was.next n above h) ∙ c.in_default.ensures.cases.0 n));
       places = record {
         whole = was.whole;
         none_waits = c.in_default.ensures.cases.1;

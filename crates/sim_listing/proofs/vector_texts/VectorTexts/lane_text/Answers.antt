@@ -1,8 +1,8 @@
-use Rattle.std.proofs.Common.{◌≡◌, ◌∙◌, ◌+◌, ◌-◌, ◌++◌, ◌<◌, ℕ, List, length, sym, ap, subst, arith}
+use Rattle.std.proofs.Common.{◌≡◌, ◌∙◌, ◌+◌, ◌++◌, ℕ, List, sym, ap, subst, arith}
 use Rattle.std.specs.Prelude.{slice_range}
 use Rattle.std.specs.String.{string_bytes}
 use Rattle.net_model.specs.PatternRows.{IsAnswerRow}
-use Rattle.answer_numbers.specs.AnswerNumbers.{numbered_vectors, vector_in}
+use Rattle.answer_numbers.specs.AnswerNumbers.{vector_in}
 use Rattle.sim_listing.specs.SimText.{vector_text, IsSimTextFrom}
 use Rattle.sim_listing.specs.VectorTexts.{VectorTexts}
 use Rattle.sim_listing.proofs.SimulatedLemmas.{lane_known, lane_is}

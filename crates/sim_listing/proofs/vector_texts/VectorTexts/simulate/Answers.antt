@@ -1,4 +1,4 @@
-use Rattle.std.proofs.Common.{◌≡◌, ◌∙◌, ◌+◌, ◌-◌, ◌<◌, ℕ, Bool, List, [], Some, None, length, take, drop, refl, sym, ap, subst, arith, All}
+use Rattle.std.proofs.Common.{◌≡◌, ◌∙◌, ◌+◌, ◌-◌, ℕ, Bool, List, Some, None, length, take, drop, sym, ap, subst, arith, All}
 use Rattle.answer_numbers.specs.AnswerNumbers.{AnswerNumbers, answer_numbers_with, numbered_vectors}
 use Rattle.table_dicts.proofs.BlockLemmas.{block_length}
 use Rattle.sim_listing.specs.LaneAnswers.{AreEqualRoots}

@@ -1,4 +1,4 @@
-use Rattle.word_sim.proofs.Digits.{digit_or}
+use Rattle.net_model.proofs.SingleWords.{digit_or}
 use Rattle.suspect_scores.proofs.bit_count.BitCount.add.Goals as goal
 
 pub returns-clause-some : goal.returns-clause-some

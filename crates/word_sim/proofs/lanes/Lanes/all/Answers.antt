@@ -1,6 +1,7 @@
 use Rattle.std.proofs.Common.{◌%◌, ◌∙◌, sym, ap, arith}
 use Rattle.net_model.specs.Rows.{bit_of}
-use Rattle.word_sim.proofs.Digits.{splat_words, splat_lane, digit_zero, digit_ones}
+use Rattle.net_model.proofs.SingleWords.{digit_zero, digit_ones}
+use Rattle.word_sim.proofs.Digits.{splat_words, splat_lane}
 use Rattle.word_sim.proofs.lanes.Lanes.all.Goals as goal
 use Rattle.word_sim.proofs.lanes.Lanes.all.Goals.{then-bit, else-bit}
 

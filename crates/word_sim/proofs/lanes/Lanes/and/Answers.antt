@@ -1,7 +1,8 @@
 use Rattle.std.proofs.Common.{ℕ, ◌<◌, ◌^◌, arith}
 use Rattle.std.proofs.lemmas.Nat.{and_le_l}
 use Rattle.std.specs.Prelude.{◌&&◌, bit_and}
-use Rattle.word_sim.proofs.Digits.{both_lanes, both_words, digit_and}
+use Rattle.net_model.proofs.SingleWords.{digit_and}
+use Rattle.word_sim.proofs.Digits.{both_lanes, both_words}
 use Rattle.word_sim.proofs.lanes.Lanes.and.Goals as goal
 
 and_lt : (a b : ℕ) → a < 2 ^ 64 → b < 2 ^ 64 → bit_and a b < 2 ^ 64

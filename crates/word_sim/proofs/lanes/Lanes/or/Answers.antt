@@ -1,6 +1,7 @@
 use Rattle.std.specs.Prelude.{◌||◌, bit_or}
 use Rattle.std.proofs.lemmas.Nat.{or_lt}
-use Rattle.word_sim.proofs.Digits.{both_lanes, both_words, digit_or}
+use Rattle.net_model.proofs.SingleWords.{digit_or}
+use Rattle.word_sim.proofs.Digits.{both_lanes, both_words}
 use Rattle.word_sim.proofs.lanes.Lanes.or.Goals as goal
 
 pub invariant_of-result : goal.invariant_of-result

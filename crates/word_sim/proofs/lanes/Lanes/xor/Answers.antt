@@ -1,6 +1,7 @@
 use Rattle.std.specs.Prelude.{not, bit_xor, if◌then◌else◌}
 use Rattle.std.proofs.lemmas.Nat.{xor_lt}
-use Rattle.word_sim.proofs.Digits.{both_lanes, both_words, digit_xor}
+use Rattle.net_model.proofs.SingleWords.{digit_xor}
+use Rattle.word_sim.proofs.Digits.{both_lanes, both_words}
 use Rattle.word_sim.proofs.lanes.Lanes.xor.Goals as goal
 
 pub invariant_of-result : goal.invariant_of-result

@@ -1,4 +1,0 @@
-use Rattle.dia_check.proofs.in_memory.check_text_for.Goals as goal
-
-pub returns-clause-refused : goal.returns-clause-refused
-returns-clause-refused c = λ fault same. c.finish.ensures.refused fault same c.args.text.now c.in_ok-feed_text.ensures

@@ -1,5 +1,0 @@
-use Rattle.diagnose.proofs.BitLemmas.{AreBitsSoFar}
-use Rattle.diagnose.proofs.lines.bits_of.Given as goal
-
-abbrev pub invariant-loop-at : goal.invariant-loop-at
-invariant-loop-at l = AreBitsSoFar l.digits l.at l.bits

@@ -1,2 +1,0 @@
-pub mod EvidenceChecker
-pub mod EvidenceCheckerFields

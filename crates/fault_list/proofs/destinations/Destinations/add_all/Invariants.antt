@@ -1,6 +1,0 @@
-use Rattle.std.proofs.Common.{take}
-use Rattle.fault_list.specs.Destinations.{reader_site, AddsReaders}
-use Rattle.fault_list.proofs.destinations.Destinations.add_all.Given as goal
-
-abbrev pub invariant-loop-place : goal.invariant-loop-place
-invariant-loop-place l = AddsReaders (reader_site l.readers) (take l.place l.lines) l.fn.self l.self

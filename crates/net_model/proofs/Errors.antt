@@ -1,0 +1,7 @@
+-- What an error leaves.
+use Rattle.std.proofs.Common.{Result, Ok, Err, OnErr}
+
+-- what holds whatever is answered
+pub on_error : {T E P : Type 0} (result : Result T E) → P → OnErr result P
+on_error (Ok x) p = tt
+on_error (Err fault) p = p

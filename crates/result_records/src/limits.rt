@@ -1,0 +1,10 @@
+//! The limits of budgets.
+
+/// The most blocks of the stream.
+pub const BLOCKS_LIMIT: u32 = 65_536;
+
+/// The most closed leaves of a tree.
+pub const CUBES_LIMIT: u32 = 1_048_576;
+
+/// The most learned clauses of a log.
+pub const CONFLICTS_LIMIT: u32 = 100_000;

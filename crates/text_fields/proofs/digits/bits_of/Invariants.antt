@@ -1,0 +1,5 @@
+use Rattle.text_fields.proofs.BitLemmas.{AreBitsSoFar}
+use Rattle.text_fields.proofs.digits.bits_of.Given as goal
+
+abbrev pub invariant-loop-at : goal.invariant-loop-at
+invariant-loop-at l = AreBitsSoFar l.digits l.at l.bits

@@ -1,0 +1,32 @@
+-- Fields of a line of text: numbers and bits as digits, and texts that are cut at a byte.
+use Rattle.std.specs.Prelude.{◌≡◌, ℕ, ◌<◌, ◌^◌, ◌⊎◌, Bool, List, ◌∷◌, ◌++◌, map, ◌==◌, Contains}
+use Rattle.net_model.specs.BitText.{bit_digit, bits_text}
+
+abbrev pub Text : Type 0
+Text = List ℕ
+
+-- The number is one of 32 bits, as those that are written and read.
+abbrev pub IsNumber : ℕ → Type 0
+IsNumber n = n < 2 ^ 32
+
+-- the bits of digits
+abbrev pub digit_bits : Text → List Bool
+digit_bits digits = map (λ digit. digit == 49) digits
+
+-- The byte is a digit of a bit.
+abbrev pub IsDigit : ℕ → Type 0
+IsDigit byte = (byte ≡ 48) ⊎ (byte ≡ 49)
+
+-- The digits are those of these bits.
+abbrev pub AreDigitsOf : List Bool → Text → Type 0
+AreDigitsOf bits digits = digits ≡ map bit_digit bits
+
+-- The digits spell the field, as bits: they are all of it, but for a dash, where there are none.
+pub record AreDigitsIn (field digits : Text) : Type 0 where
+  pub digits_are : AreDigitsOf (digit_bits digits) digits
+  pub field_is : bits_text (digit_bits digits) ≡ field
+
+-- A text is cut at the first place where a byte stands.
+pub record IsCutAt (byte : ℕ) (text front back : Text) : Type 0 where
+  pub first : ¬ Contains front byte
+  pub text_is : text ≡ front ++ byte ∷ back

@@ -1,0 +1,16 @@
+//! Texts that are cut at a byte.
+
+ghost use Rattle.std.specs.Prelude.{Contains, MatchOption};
+ghost use Rattle.text_fields.specs.Fields.{IsCutAt};
+
+use memchr::memchr;
+
+/// What stands before the first place of a byte, and behind it.
+pub fn cut(text: &[u8], byte: u8) -> Option<(&[u8], &[u8])>
+    ensures { MatchOption result (¬ Contains text.now byte) (λ parts. IsCutAt byte text.now parts.0.now parts.1.now) }
+{
+    match memchr(byte, text) {
+        None => None,
+        Some(at) => Some((&text[..at], &text[at + 1..])),
+    }
+}

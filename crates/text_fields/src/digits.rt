@@ -1,0 +1,42 @@
+//! Bits as digits.
+
+ghost use Rattle.std.specs.Prelude.{◌≡◌, ◌≢◌, ◌↔◌, Bool, List, length, slice_index, IsTrue, EachIndex, MatchOption, IfOk};
+ghost use Rattle.net_model.specs.BitText.{bits_text};
+ghost use Rattle.text_fields.specs.Fields.{digit_bits, IsDigit, AreDigitsIn};
+
+use net_model::Bits;
+use std::alloc::{AllocError, Global};
+
+/// The digits of a field of bits: all of it, but for a dash, where there are none.
+pub fn digits_of(field: &[u8]) -> Option<&[u8]>
+    ensures { MatchOption result ((bits : List Bool) → bits_text bits ≢ field.now) (λ digits. AreDigitsIn field.now digits.now) }
+{
+    if field == b"-".as_slice() {
+        return Some(&field[..0]);
+    }
+    if field.is_empty() {
+        return None;
+    }
+    if !are_digits(field) {
+        return None;
+    }
+    Some(field)
+}
+
+// Whether each byte is a digit of bits.
+fn are_digits(field: &[u8]) -> bool
+    ensures { IsTrue result ↔ EachIndex field.now (λ k. IsDigit (slice_index field.now k)) }
+{
+    field.iter().all(|b| *b == b'0' || *b == b'1')
+}
+
+/// The bits of digits.
+pub fn bits_of(alloc: Global, digits: &[u8]) -> Result<Bits, AllocError>
+    ensures { IfOk result (λ bits. bits ≡ digit_bits digits.now) }
+{
+    let mut bits = Bits::zeros(alloc, digits.len())?;
+    for (at, digit) in digits.iter().enumerate() {
+        bits.set(at, *digit == b'1');
+    }
+    Ok(bits)
+}

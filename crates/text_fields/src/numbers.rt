@@ -1,0 +1,28 @@
+//! Numbers that digits spell.
+
+ghost use Rattle.std.specs.Prelude.{◌≡◌, ◌≢◌, ℕ, decimal, MatchOption};
+ghost use Rattle.text_fields.specs.Fields.{IsNumber};
+
+/// The number that a field spells: digits without a leading zero.
+pub fn number_of(field: &str) -> Option<u32>
+    ensures { MatchOption result ((n : ℕ) → IsNumber n → decimal n ≢ field.now) (λ n. IsNumber n × (decimal n ≡ field.now)) }
+{
+    let bytes = field.as_bytes();
+    if bytes.is_empty() || bytes[0] == b'+' {
+        return None;
+    }
+    if bytes[0] == b'0' && bytes.len() > 1 {
+        return None;
+    }
+    field.parse().ok()
+}
+
+/// The number that the bytes of a field spell, which need not be text: digits without a leading zero.
+pub fn number_of_bytes(field: &[u8]) -> Option<u32>
+    ensures { MatchOption result ((n : ℕ) → IsNumber n → decimal n ≢ field.now) (λ n. IsNumber n × (decimal n ≡ field.now)) }
+{
+    let Ok(text) = str::from_utf8(field) else {
+        return None;
+    };
+    number_of(text)
+}
