@@ -6,7 +6,7 @@ use Rattle.net_model.specs.Circuit.{Circuit}
 use Rattle.net_model.specs.Answer.{IsAnswer}
 use Rattle.net_model.specs.ClassTable.{ClassTable, class_count, representative}
 use Rattle.net_model.specs.FaultList.{fault_count, fault_numbered}
-use Rattle.table_dicts.specs.AnswerTable.{Answers, AreAnswers, answer_to}
+use Rattle.dict_rows.specs.AnswerTable.{Answers, AreAnswers, answer_to}
 use Rattle.table_dicts.proofs.BlockLemmas.{lane_pattern}
 use Rattle.table_dicts.proofs.FailLemmas.{patterns_are, answer_is}
 use Rattle.answer_numbers.specs.AnswerNumbers.{AnswerNumbers, answer_numbers_with}

@@ -4,8 +4,8 @@ use Rattle.std.specs.Prelude.{Bool, true, false, not, ◌==◌, List, [], ◌∷
 use Rattle.std.specs.List.{AllByRecursion}
 use Rattle.std.proofs.lemmas.Bool.{eqb-true, eqb-false, false≢true}
 use Rattle.net_model.specs.ClassTable.{ClassTable, class_count}
-use Rattle.table_dicts.specs.AnswerTable.{Answers}
-use Rattle.table_dicts.proofs.EntryLemmas.{same_bits-Decides}
+use Rattle.dict_rows.specs.AnswerTable.{Answers}
+use Rattle.dict_rows.proofs.EntryLemmas.{same_bits-Decides}
 use Rattle.adaptive_tree.specs.declared.steps.Step.{Step}
 use Rattle.adaptive_tree.specs.declared.steps.Step.TheVariants.{On}
 use Rattle.adaptive_tree.specs.declared.class_numbers.ClassNumbers.{ClassNumbers}

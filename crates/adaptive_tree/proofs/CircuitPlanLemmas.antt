@@ -7,7 +7,7 @@ use Rattle.net_model.specs.PatternRows.{IsTableOf}
 use Rattle.net_model.proofs.OneAnswer.{one_table}
 use Rattle.class_refine.specs.Fields.{IsWhole}
 use Rattle.class_refine.proofs.PatternTables.{table_numbers}
-use Rattle.table_dicts.specs.AnswerTable.{Answers, AreAnswers, answer_to}
+use Rattle.dict_rows.specs.AnswerTable.{Answers, AreAnswers, answer_to}
 use Rattle.table_dicts.proofs.ClassLemmas.{together_where_alike}
 use Rattle.table_dicts.proofs.FailLemmas.{patterns_are, is_table}
 use Rattle.adaptive_tree.specs.Laws.{CanBePlanned}

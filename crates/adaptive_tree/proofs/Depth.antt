@@ -4,8 +4,8 @@ use Rattle.std.specs.Prelude.{Bool, true, false, not, if◌then◌else◌, List,
 use Rattle.std.proofs.lemmas.Bool.{false≢true, ltb-true, lt-ltb}
 use Rattle.std.proofs.lemmas.List.Sums.{length-filter}
 use Rattle.net_model.specs.ClassTable.{ClassTable}
-use Rattle.table_dicts.specs.AnswerTable.{Answers}
-use Rattle.table_dicts.proofs.EntryLemmas.{same_bits-Decides}
+use Rattle.dict_rows.specs.AnswerTable.{Answers}
+use Rattle.dict_rows.proofs.EntryLemmas.{same_bits-Decides}
 use Rattle.adaptive_tree.specs.PlanNode.{PlanNode, Branches, leaf, ask, no_branch, branch, depth_of, deepest}
 use Rattle.adaptive_tree.specs.Planned.{IsPlanned, ArePlanned, parted_pairs, class_answer, answer_alike, alike_with, unlike}
 use Rattle.adaptive_tree.proofs.OnePlan.{count_by-cons, some_unlike}

@@ -6,7 +6,7 @@ use Rattle.text_fields.specs.Fields.{Text}
 use Rattle.net_model.specs.ClassTable.{ClassTable, class_table, representative}
 use Rattle.net_model.proofs.Examples.{and_rows}
 use Rattle.net_model.proofs.Opened.{opened}
-use Rattle.table_dicts.specs.AnswerTable.{Answers}
+use Rattle.dict_rows.specs.AnswerTable.{Answers}
 use Rattle.adaptive_tree.specs.declared.steps.Plan.{Plan}
 use Rattle.adaptive_tree.specs.PlanNode.{PlanNode, Branches, leaf, ask, no_branch, branch, node_steps, ask_count, depth_of}
 use Rattle.adaptive_tree.specs.Planned.{IsPlan, IsPlanned}

@@ -1,6 +1,6 @@
 -- The fields of a line as a reader cuts them.
 use Rattle.std.proofs.Common.{◌≡◌, ◌≢◌, ◌∙◌, ℕ, ◌<◌, ◌^◌, refl, ap, sym, subst, lit<, arith}
-use Rattle.std.specs.Prelude.{Bool, true, false, not, List, [], ◌∷◌, ◌++◌, drop, Contains, codes, decimal}
+use Rattle.std.specs.Prelude.{Bool, true, false, not, List, ◌∷◌, ◌++◌, drop, Contains, codes, decimal}
 use Rattle.std.specs.List.{AllByRecursion}
 use Rattle.std.specs.Borrow.{Bor}
 use Rattle.std.proofs.lemmas.List.Elements.{Contains-append_right, All-from_recursion}

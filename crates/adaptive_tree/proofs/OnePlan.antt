@@ -5,7 +5,7 @@ use Rattle.std.specs.List.{range_with_len}
 use Rattle.std.proofs.lemmas.List.Sums.{sum_by-append}
 use Rattle.std.proofs.lemmas.List.Filters.{length-filter_both}
 use Rattle.net_model.specs.ClassTable.{ClassTable, class_count}
-use Rattle.table_dicts.specs.AnswerTable.{Answers}
+use Rattle.dict_rows.specs.AnswerTable.{Answers}
 use Rattle.adaptive_tree.specs.declared.steps.Step.{Step}
 use Rattle.adaptive_tree.specs.declared.steps.Step.TheVariants.{Ask, On}
 use Rattle.adaptive_tree.specs.declared.steps.Plan.{Plan}

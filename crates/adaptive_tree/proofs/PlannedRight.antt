@@ -6,8 +6,8 @@ use Rattle.std.proofs.lemmas.Bool.{false≢true}
 use Rattle.std.proofs.lemmas.List.Elements.{All-from_recursion}
 use Rattle.net_model.specs.ClassTable.{ClassTable, class_count, class_at, representative}
 use Rattle.class_refine.proofs.Refined.{representative-member}
-use Rattle.table_dicts.specs.AnswerTable.{Answers}
-use Rattle.table_dicts.proofs.EntryLemmas.{same_bits-Decides}
+use Rattle.dict_rows.specs.AnswerTable.{Answers}
+use Rattle.dict_rows.proofs.EntryLemmas.{same_bits-Decides}
 use Rattle.adaptive_tree.specs.declared.steps.Step.{Step}
 use Rattle.adaptive_tree.specs.declared.steps.Plan.{Plan}
 use Rattle.adaptive_tree.specs.PlanNode.{PlanNode, Branches, HasNode, leaf, ask, no_branch, branch, node_steps, branch_steps, ask_count, depth_of}

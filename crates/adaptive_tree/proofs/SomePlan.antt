@@ -5,8 +5,8 @@ use Rattle.std.specs.List.{range_with_len, AllByRecursion}
 use Rattle.std.proofs.lemmas.List.Filters.{length-filter_both}
 use Rattle.net_model.specs.ClassTable.{ClassTable, class_count, class_at, representative}
 use Rattle.class_refine.proofs.Refined.{representative-member}
-use Rattle.table_dicts.specs.AnswerTable.{Answers}
-use Rattle.table_dicts.proofs.EntryLemmas.{same_bits-Decides}
+use Rattle.dict_rows.specs.AnswerTable.{Answers}
+use Rattle.dict_rows.proofs.EntryLemmas.{same_bits-Decides}
 use Rattle.adaptive_tree.specs.declared.steps.Plan.{Plan}
 use Rattle.adaptive_tree.specs.PlanNode.{PlanNode, Branches, leaf, ask, no_branch, branch, node_steps}
 use Rattle.adaptive_tree.specs.Planned.{IsPlanned, ArePlanned, PartsMost, IsPlan, parted_pairs, class_answer, answer_alike, alike_with, unlike}

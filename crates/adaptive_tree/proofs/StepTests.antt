@@ -7,7 +7,7 @@ use Rattle.std.specs.Option.{option_map_or}
 use Rattle.std.proofs.lemmas.Bool.{false≢true, false_from_ne_true, not-true, ltb-true, eqb-true}
 use Rattle.std.proofs.lemmas.Bool.Decides.{nat_tests}
 use Rattle.std.proofs.Math.Bool.{or-true}
-use Rattle.table_dicts.proofs.EntryLemmas.{same_bits-Decides}
+use Rattle.dict_rows.proofs.EntryLemmas.{same_bits-Decides}
 use Rattle.adaptive_tree.specs.declared.steps.Step.{Step}
 use Rattle.adaptive_tree.specs.declared.steps.Step.TheVariants.{Ask, On, Class}
 use Rattle.adaptive_tree.specs.declared.steps.Plan.{Plan}

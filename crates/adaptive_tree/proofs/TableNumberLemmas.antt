@@ -4,8 +4,8 @@ use Rattle.std.specs.List.{range_with_len}
 use Rattle.std.proofs.lemmas.List.Elements.{Contains-get_or}
 use Rattle.std.proofs.lemmas.List.FromFn.{get_or-map-range_with_len, length-map-range_with_len}
 use Rattle.net_model.specs.ClassTable.{ClassTable, class_count, representative}
-use Rattle.table_dicts.specs.AnswerTable.{Answers, answer_to}
-use Rattle.table_dicts.specs.Grouped.{AreGroupsOf}
+use Rattle.dict_rows.specs.AnswerTable.{Answers, answer_to}
+use Rattle.dict_rows.specs.Grouped.{AreGroupsOf}
 use Rattle.adaptive_tree.specs.declared.class_numbers.ClassNumbers.{ClassNumbers}
 use Rattle.adaptive_tree.specs.Numbering.{AreRowNumbers, AreNumbersTo, AreNumbersOfTable, AddsPattern, lead_answer}
 use Rattle.adaptive_tree.proofs.NumberingLemmas.{numbers_alike}

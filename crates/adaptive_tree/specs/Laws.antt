@@ -4,7 +4,7 @@ use Rattle.net_model.specs.Circuit.{Circuit}
 use Rattle.net_model.specs.FaultList.{fault_count, fault_numbered}
 use Rattle.net_model.specs.ClassTable.{ClassTable, class_count, class_at}
 use Rattle.class_refine.specs.Fields.{IsWhole}
-use Rattle.table_dicts.specs.AnswerTable.{Answers, IsTable, AreAnswers}
+use Rattle.dict_rows.specs.AnswerTable.{Answers, IsTable, AreAnswers}
 use Rattle.diagnose.specs.declared.fault.LogKind.{LogKind}
 use Rattle.text_fields.specs.Fields.{Text}
 use Rattle.diagnose.specs.Lines.{text_limit}

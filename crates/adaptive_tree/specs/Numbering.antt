@@ -1,7 +1,7 @@
 -- What classes answer, by numbers.
 use Rattle.std.specs.Prelude.{◌≡◌, ◌≢◌, ℕ, ◌+◌, ◌<◌, ◌≤◌, ◌^◌, ◌==◌, Bool, List, [], ◌∷◌, ◌++◌, replicate, take, length, find, None, unwrap_or, slice_index, slice_index_or, if◌then◌else◌}
 use Rattle.net_model.specs.ClassTable.{ClassTable, class_count}
-use Rattle.table_dicts.specs.AnswerTable.{Answers, answer_to}
+use Rattle.dict_rows.specs.AnswerTable.{Answers, answer_to}
 use Rattle.adaptive_tree.specs.Planned.{class_answer}
 use Rattle.adaptive_tree.specs.declared.class_numbers.ClassNumbers.{ClassNumbers}
 

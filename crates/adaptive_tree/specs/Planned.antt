@@ -3,7 +3,7 @@
 use Rattle.std.specs.Prelude.{◌≡◌, ℕ, ◌+◌, ◌<◌, ◌≤◌, ◌↔◌, Bool, not, List, [], ◌∷◌, length, filter, count_by, ⊤}
 use Rattle.std.specs.List.{range_with_len}
 use Rattle.net_model.specs.ClassTable.{ClassTable, class_count, class_at, representative, same_bits}
-use Rattle.table_dicts.specs.AnswerTable.{Answers, answer_to}
+use Rattle.dict_rows.specs.AnswerTable.{Answers, answer_to}
 use Rattle.adaptive_tree.specs.declared.steps.Plan.{Plan}
 use Rattle.adaptive_tree.specs.PlanNode.{PlanNode, Branches, leaf, ask, no_branch, branch, node_steps}
 

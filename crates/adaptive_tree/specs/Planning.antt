@@ -2,7 +2,7 @@
 use Rattle.std.specs.Prelude.{◌≡◌, ℕ, ◌+◌, ◌*◌, ◌-◌, ◌<◌, ◌≤◌, ◌^◌, List, [], ◌∷◌, ◌++◌, reverse, length, sum_by, ⊤}
 use Rattle.std.specs.List.{AllByRecursion}
 use Rattle.net_model.specs.ClassTable.{ClassTable}
-use Rattle.table_dicts.specs.AnswerTable.{Answers}
+use Rattle.dict_rows.specs.AnswerTable.{Answers}
 use Rattle.adaptive_tree.specs.declared.steps.Step.{Step}
 use Rattle.adaptive_tree.specs.declared.steps.Step.TheVariants.{On}
 use Rattle.adaptive_tree.specs.declared.class_numbers.ClassNumbers.{ClassNumbers}

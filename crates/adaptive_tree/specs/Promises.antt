@@ -3,7 +3,7 @@ use Rattle.std.specs.Prelude.{◌≡◌, ℕ, ◌<◌, ◌≤◌, List, All, sli
 use Rattle.net_model.specs.Circuit.{Circuit}
 use Rattle.net_model.specs.Answer.{IsAnswer}
 use Rattle.net_model.specs.ClassTable.{ClassTable, class_at}
-use Rattle.table_dicts.specs.AnswerTable.{Answers, answer_to}
+use Rattle.dict_rows.specs.AnswerTable.{Answers, answer_to}
 use Rattle.adaptive_tree.specs.declared.outcome.Outcome.TheVariants as outcome
 use Rattle.adaptive_tree.specs.declared.steps.Plan.{Plan}
 use Rattle.adaptive_tree.specs.PlanNode.{HasNode, ask_count, depth_of}

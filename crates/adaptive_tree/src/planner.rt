@@ -3,7 +3,7 @@
 ghost use Rattle.std.specs.Prelude.{◌≡◌, ◌+◌, ◌<◌, ◌^◌, [], length, IfOk, OnOk};
 ghost use Rattle.std.specs.List.{range_with_len};
 ghost use Rattle.net_model.specs.ClassTable.{ClassTable};
-ghost use Rattle.table_dicts.specs.AnswerTable.{Answers};
+ghost use Rattle.dict_rows.specs.AnswerTable.{Answers};
 ghost use Rattle.adaptive_tree.specs.Numbering.{AreClassNumbers, AreAllTold, AreNumbersOfTable};
 ghost use Rattle.adaptive_tree.specs.Planning.{IsPlanner, IsToldSet, AddsNode, AreNodeSteps, FinishesNode};
 

@@ -1,7 +1,7 @@
 //! The plan for the classes of a table of answers, and for those of a circuit's patterns.
 
 ghost use Rattle.std.specs.Prelude.{IfOk};
-ghost use Rattle.table_dicts.specs.AnswerTable.{Answers};
+ghost use Rattle.dict_rows.specs.AnswerTable.{Answers};
 ghost use Rattle.table_dicts.specs.Setting.{IsSetting, AreAnswersAt};
 ghost use Rattle.adaptive_tree.specs.Planned.{IsPlan, IsToldApart};
 ghost use Rattle.adaptive_tree.specs.Promises.{IsGoodPlan};

@@ -2,8 +2,8 @@
 
 ghost use Rattle.std.specs.Prelude.{◌≡◌, ◌+◌, ◌<◌, ◌^◌, Bool, List, [], length, map, All, slice_index_or, IfOk, OnOk};
 ghost use Rattle.class_refine.specs.Fields.{IsWhole};
-ghost use Rattle.table_dicts.specs.AnswerTable.{answer_to, IsTable};
-ghost use Rattle.table_dicts.specs.Rows.{AreRows};
+ghost use Rattle.dict_rows.specs.AnswerTable.{answer_to, IsTable};
+ghost use Rattle.dict_rows.specs.Rows.{AreRows};
 ghost use Rattle.adaptive_tree.specs.Numbering.{AreClassNumbers, AreNumbersTo, AreNumbersOfTable, lead_answer};
 
 use crate::class_numbers::ClassNumbers;

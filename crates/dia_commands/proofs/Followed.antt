@@ -20,7 +20,7 @@ use Rattle.net_model.specs.declared.circuit.Design.{Design}
 use Rattle.net_model.specs.Circuit.{Circuit}
 use Rattle.dia_commands.specs.Netlists.{IsDesign, IsRefused}
 use Rattle.dia_commands.specs.Results.{IsResult, IsRefusedResult}
-use Rattle.table_dicts.specs.declared.dict.Dict.{Dict}
+use Rattle.dict_rows.specs.declared.dict.Dict.{Dict}
 use Rattle.dia_commands.specs.Dictionaries.{IsDictionaryFile, IsRefusedDictionary}
 use Rattle.ranked_diag.specs.PartialLog.{Line}
 use Rattle.adaptive_tree.specs.declared.outcome.Outcome.{Outcome as WalkOutcome}

@@ -13,10 +13,10 @@ use Rattle.net_model.proofs.Listed.{All-range_with_len}
 use Rattle.class_refine.specs.Fields.{IsWhole}
 use Rattle.class_refine.proofs.Refined.{representative-member}
 use Rattle.class_refine.proofs.PatternTables.{table_numbers}
-use Rattle.table_dicts.specs.declared.dict.Dict.{Dict}
+use Rattle.dict_rows.specs.declared.dict.Dict.{Dict}
 use Rattle.table_dicts.specs.Apart.{has_apart, apart_count}
-use Rattle.table_dicts.specs.Dictionary.{entry_of}
-use Rattle.table_dicts.proofs.EntryLemmas.{same_bits-Decides}
+use Rattle.dict_rows.specs.Dictionary.{entry_of}
+use Rattle.dict_rows.proofs.EntryLemmas.{same_bits-Decides}
 use Rattle.table_dicts.proofs.ApartLemmas.{apart_to, apart_all, apart_more}
 use Rattle.table_dicts.proofs.ClassLemmas.{entry_at, entries_of_classes}
 use Rattle.request_words.specs.declared.request.EntryKind.{EntryKind}

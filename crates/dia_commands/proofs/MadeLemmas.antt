@@ -15,9 +15,9 @@ use Rattle.result_records.specs.Marks.{patterns_in}
 use Rattle.result_file.specs.Valid.{IsValid, AreRightLines, record_at}
 use Rattle.result_file.specs.Lines.{IsRightLine}
 use Rattle.class_refine.proofs.PatternTables.{table_numbers}
-use Rattle.table_dicts.specs.declared.dict.Dict.{Dict}
-use Rattle.table_dicts.specs.AnswerTable.{Answers, AreAnswers}
-use Rattle.table_dicts.specs.Dictionary.{IsGroupedDict, IsShaped}
+use Rattle.dict_rows.specs.declared.dict.Dict.{Dict}
+use Rattle.dict_rows.specs.AnswerTable.{Answers, AreAnswers}
+use Rattle.dict_rows.specs.Dictionary.{IsGroupedDict, IsShaped}
 use Rattle.request_words.specs.declared.request.EntryKind.{EntryKind}
 use Rattle.request_words.specs.declared.request.EntryKind.TheVariants.{PassFail, Full, SameDiff}
 use Rattle.dia_commands.specs.Dictionaries.{IsOfPatterns, IsOfAnswers}

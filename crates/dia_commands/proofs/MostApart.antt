@@ -6,12 +6,12 @@ use Rattle.net_model.specs.PatternRows.{IsTableOf}
 use Rattle.class_refine.specs.Fields.{IsWhole}
 use Rattle.class_refine.proofs.Refined.{representative-member}
 use Rattle.class_refine.proofs.PatternTables.{table_numbers}
-use Rattle.table_dicts.specs.declared.dict.Dict.{Dict}
-use Rattle.table_dicts.specs.declared.dict.DictKind.{DictKind}
-use Rattle.table_dicts.specs.AnswerTable.{Answers, AreAnswers}
+use Rattle.dict_rows.specs.declared.dict.Dict.{Dict}
+use Rattle.dict_rows.specs.declared.dict.DictKind.{DictKind}
+use Rattle.dict_rows.specs.AnswerTable.{Answers, AreAnswers}
 use Rattle.table_dicts.specs.Apart.{has_apart, apart_count}
-use Rattle.table_dicts.specs.Entries.{same_diff_entry}
-use Rattle.table_dicts.specs.Dictionary.{entry_of, IsDictionary, IsSameDiff}
+use Rattle.dict_rows.specs.Entries.{same_diff_entry}
+use Rattle.dict_rows.specs.Dictionary.{entry_of, IsDictionary, IsSameDiff}
 use Rattle.samediff_dict.specs.Chosen.{pairs_apart, chosen_baselines}
 use Rattle.samediff_dict.specs.Laws.{KeepsAsMany, NoRowIsBetter}
 use Rattle.samediff_dict.proofs.PairLemmas.{pairs_to, pairs_are, pairs_same}

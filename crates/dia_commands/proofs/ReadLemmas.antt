@@ -6,7 +6,7 @@ use Rattle.std.proofs.lemmas.Bool.{cases_lt}
 use Rattle.std.proofs.lemmas.List.{take_all, take-take}
 use Rattle.diag_shelf.specs.Calls.{read_of}
 use Rattle.net_model.specs.Circuit.{Circuit}
-use Rattle.table_dicts.specs.declared.dict.Dict.{Dict}
+use Rattle.dict_rows.specs.declared.dict.Dict.{Dict}
 use Rattle.dict_file.specs.declared.fault.DictFault.{DictFault}
 use Rattle.dict_file.specs.Spelling.{IsFileOf}
 use Rattle.dict_file.specs.Reading.{IsRefusedBy}

@@ -8,7 +8,7 @@ use Rattle.result_records.specs.declared.record.Record.{Record}
 use Rattle.result_records.specs.Spelling.{text_of}
 use Rattle.result_records.specs.Marks.{patterns_in}
 use Rattle.result_file.specs.Valid.{IsValid}
-use Rattle.table_dicts.specs.AnswerTable.{Answers, AreAnswers}
+use Rattle.dict_rows.specs.AnswerTable.{Answers, AreAnswers}
 use Rattle.adaptive_tree.specs.declared.fault.PlanKind.{PlanKind}
 use Rattle.adaptive_tree.specs.declared.steps.Plan.{Plan as AdaptivePlan}
 use Rattle.adaptive_tree.specs.PlanNode.{HasNode, ask_count, depth_of}

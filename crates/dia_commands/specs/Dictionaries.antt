@@ -7,9 +7,9 @@ use Rattle.result_records.specs.declared.record.Record.{Record}
 use Rattle.result_records.specs.Spelling.{text_of}
 use Rattle.result_records.specs.Marks.{patterns_in}
 use Rattle.result_file.specs.Valid.{IsValid}
-use Rattle.table_dicts.specs.declared.dict.Dict.{Dict}
-use Rattle.table_dicts.specs.AnswerTable.{Answers, AreAnswers}
-use Rattle.table_dicts.specs.Dictionary.{entry_of, listed_numbers, IsPassFail, IsFull, IsSameDiff}
+use Rattle.dict_rows.specs.declared.dict.Dict.{Dict}
+use Rattle.dict_rows.specs.AnswerTable.{Answers, AreAnswers}
+use Rattle.dict_rows.specs.Dictionary.{entry_of, listed_numbers, IsPassFail, IsFull, IsSameDiff}
 use Rattle.table_dicts.specs.Apart.{apart_count}
 use Rattle.samediff_dict.specs.Chosen.{chosen_baselines}
 use Rattle.dict_file.specs.declared.fault.DictFault.{DictFault}

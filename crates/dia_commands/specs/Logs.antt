@@ -1,7 +1,7 @@
 -- What becomes of the bytes of a tester's log, whole, partial or of a walk, and of a list of vectors.
 use Rattle.std.specs.Prelude.{◌≡◌, ℕ, Bool, List}
 use Rattle.net_model.specs.Circuit.{Circuit}
-use Rattle.table_dicts.specs.declared.dict.Dict.{Dict}
+use Rattle.dict_rows.specs.declared.dict.Dict.{Dict}
 use Rattle.diagnose.specs.declared.fault.LogKind.{LogKind}
 use Rattle.diagnose.specs.LogText.{IsLog, TesterLogRefused}
 use Rattle.diagnose.specs.VectorText.{IsVectorList, VectorsRefused}

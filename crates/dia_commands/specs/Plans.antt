@@ -14,7 +14,7 @@ use Rattle.dia_commands.specs.Texts.{summary_text, not_understood_text}
 use Rattle.dia_commands.specs.Faults.{IsFaultsText}
 use Rattle.dia_commands.specs.Netlists.{IsDesign, IsRefused}
 use Rattle.dia_commands.specs.Results.{IsResult, IsRefusedResult, IsValidText}
-use Rattle.table_dicts.specs.declared.dict.Dict.{Dict}
+use Rattle.dict_rows.specs.declared.dict.Dict.{Dict}
 use Rattle.dia_commands.specs.Dictionaries.{IsDictionaryFile, IsRefusedDictionary, IsMadeDictionary, IsConverted, IsDiagnosis}
 use Rattle.dia_commands.specs.Compactions.{IsMadeThin}
 use Rattle.ranked_diag.specs.PartialLog.{Line}

@@ -1,6 +1,6 @@
 -- What the command `rank` prints of a dictionary and a partial log.
 use Rattle.std.specs.Prelude.{◌≡◌, ℕ, List}
-use Rattle.table_dicts.specs.declared.dict.Dict.{Dict}
+use Rattle.dict_rows.specs.declared.dict.Dict.{Dict}
 use Rattle.ranked_diag.specs.PartialLog.{Line}
 use Rattle.ranked_diag.specs.Mismatches.{mismatch_counts}
 use Rattle.ranked_diag.specs.Ranked.{least, IsRanking}

@@ -7,7 +7,7 @@ use Rattle.result_records.specs.declared.record.Record.{Record}
 use Rattle.result_records.specs.Spelling.{text_of}
 use Rattle.result_records.specs.Marks.{patterns_in}
 use Rattle.result_file.specs.Valid.{IsValid}
-use Rattle.table_dicts.specs.AnswerTable.{Answers, AreAnswers}
+use Rattle.dict_rows.specs.AnswerTable.{Answers, AreAnswers}
 use Rattle.diagnose.specs.Lines.{text_limit}
 use Rattle.ranked_diag.specs.PartialLog.{Line, IsPartialLog, PartialRefused}
 use Rattle.suspect_scores.specs.declared.suspect.Suspect.{Suspect}

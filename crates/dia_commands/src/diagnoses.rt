@@ -1,7 +1,7 @@
 //! The command `diagnose`: the numbers that a dictionary and a log point to.
 
 ghost use Rattle.std.specs.Prelude.{◌≡◌, ◌++◌, ℕ, Bool, List, IfOk, OnOk, Some, flat_map};
-ghost use Rattle.table_dicts.specs.Rows.{AreRows};
+ghost use Rattle.dict_rows.specs.Rows.{AreRows};
 ghost use Rattle.dict_file.specs.Spelling.{HasDictSpelling};
 ghost use Rattle.request_words.specs.Request.{diagnose};
 ghost use Rattle.dia_commands.specs.Dictionaries.{IsDiagnosis};

@@ -1,7 +1,7 @@
 //! From the name of a log, whole, partial or of a walk, or a list of vectors to what it has, or to the end of the run.
 
 ghost use Rattle.std.specs.Prelude.{Err, IfErr, IfOk};
-ghost use Rattle.table_dicts.specs.Rows.{AreRows};
+ghost use Rattle.dict_rows.specs.Rows.{AreRows};
 ghost use Rattle.net_model.specs.Rows.{AreWide};
 ghost use Rattle.ranked_diag.specs.PartialLog.{ArePartial, IsPartialLog};
 ghost use Rattle.adaptive_tree.specs.WellFormed.{IsWellFormed};

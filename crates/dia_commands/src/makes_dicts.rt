@@ -3,7 +3,7 @@
 ghost use Rattle.std.specs.Prelude.{◌≡◌, ℕ, List, IfOk, Some, length, string_bytes};
 ghost use Rattle.net_model.specs.Circuit.{IsCircuit};
 ghost use Rattle.class_refine.specs.Fields.{IsWhole};
-ghost use Rattle.table_dicts.specs.Dictionary.{IsGroupedDict, IsShaped};
+ghost use Rattle.dict_rows.specs.Dictionary.{IsGroupedDict, IsShaped};
 ghost use Rattle.table_dicts.specs.Setting.{IsSetting};
 ghost use Rattle.dict_file.specs.declared.fault.DictVersion.TheVariants.{Two};
 ghost use Rattle.dict_file.specs.Spelling.{dict_spelling};

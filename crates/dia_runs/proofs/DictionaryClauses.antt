@@ -5,7 +5,7 @@ use Rattle.std.proofs.lemmas.Option.{same_Some}
 use Rattle.diag_shelf.specs.World.{Files, World}
 use Rattle.diag_shelf.proofs.FileMaps.{get_at_insert}
 use Rattle.result_file.specs.Laws.{ValidIsTrue}
-use Rattle.table_dicts.specs.declared.dict.Dict.{Dict}
+use Rattle.dict_rows.specs.declared.dict.Dict.{Dict}
 use Rattle.dict_file.specs.Laws.{RefusedIsWrong, OneDictionary}
 use Rattle.dict_file.specs.declared.fault.DictVersion.TheVariants.{Two}
 use Rattle.dict_file.specs.Spelling.{dict_spelling, IsFileOf}

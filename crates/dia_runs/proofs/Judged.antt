@@ -16,7 +16,7 @@ use Rattle.dia_commands.specs.Dictionaries.{IsDictionaryFile, IsRefusedDictionar
 use Rattle.dia_commands.specs.Logs.{IsLogFor, IsRefusedLog, IsPartialFor, IsRefusedPartial, IsLogTo, IsRefusedWalk, IsListFor, IsRefusedList}
 use Rattle.dia_commands.specs.AdaptivePlans.{IsAdaptivePlanFile, IsRefusedPlan}
 use Rattle.dia_commands.specs.Suspects.{IsLogAt, IsRefusedAt}
-use Rattle.table_dicts.specs.declared.dict.Dict.{Dict}
+use Rattle.dict_rows.specs.declared.dict.Dict.{Dict}
 use Rattle.dict_file.specs.Laws.{RefusedIsWrong, OneDictionary}
 use Rattle.diagnose.specs.Laws.{RefusedTesterLogIsWrong, OneLogReading, RefusedListIsWrong, OneListReading}
 use Rattle.ranked_diag.specs.PartialLog.{Line}

@@ -1,8 +1,8 @@
 -- What follows from the record of a run that ranks by a partial log.
 use Rattle.std.proofs.Common.{◌≡◌, ◌++◌, ◌<◌, ◌^◌, ℕ, Bool, List, Option, ap, subst, ◌∙◌, arith}
 use Rattle.diag_shelf.specs.World.{World}
-use Rattle.table_dicts.specs.declared.dict.Dict.{Dict}
-use Rattle.table_dicts.specs.Dictionary.{listed_numbers}
+use Rattle.dict_rows.specs.declared.dict.Dict.{Dict}
+use Rattle.dict_rows.specs.Dictionary.{listed_numbers}
 use Rattle.ranked_diag.specs.PartialLog.{Line}
 use Rattle.ranked_diag.specs.Mismatches.{mismatch_counts}
 use Rattle.ranked_diag.specs.Ranked.{ranked_with, IsRanking}

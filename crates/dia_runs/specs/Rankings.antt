@@ -1,7 +1,7 @@
 -- What a run of `rank` whose work is done leaves.
 use Rattle.std.specs.Prelude.{◌≡◌, ℕ, Bool, List, Option, Some}
 use Rattle.diag_shelf.specs.World.{World}
-use Rattle.table_dicts.specs.Dictionary.{listed_numbers}
+use Rattle.dict_rows.specs.Dictionary.{listed_numbers}
 use Rattle.ranked_diag.specs.Ranked.{ranked_with}
 use Rattle.text_fields.specs.Fields.{Text}
 use Rattle.request_words.specs.Request.{Request, rank}

@@ -4,7 +4,7 @@ use Rattle.std.specs.Prelude.{Contains, decimal}
 use Rattle.std.proofs.lemmas.Fmt.{decimal_injective}
 use Rattle.std.proofs.lemmas.List.{append_cancel_left, append-nil, length-take-le, length-set, length-map, take_more_set, take_all}
 use Rattle.std.proofs.lemmas.List.Elements.{All-append, All-cons, All-weaker, All-set, All-take, Contains-append_right}
-use Rattle.table_dicts.specs.Rows.{AreRows}
+use Rattle.dict_rows.specs.Rows.{AreRows}
 use Rattle.net_model.specs.BitText.{bits_text}
 use Rattle.diagnose.specs.declared.fault.LogKind.{LogKind}
 use Rattle.diagnose.specs.declared.fault.LogKind.TheVariants.{Syntax, Order, Width, Missing}

@@ -2,7 +2,7 @@
 use Rattle.std.proofs.Common.{◌≡◌, ◌∙◌, ℕ, ◌<◌, Bool, List, [], length, get_or, set, sym, subst, inl, inr}
 use Rattle.std.proofs.lemmas.Bool.{cases_eq}
 use Rattle.std.proofs.lemmas.List.{ext_get_or, length-set, get_or-set_same, get_or-set_other}
-use Rattle.table_dicts.specs.Rows.{IsRowSet}
+use Rattle.dict_rows.specs.Rows.{IsRowSet}
 
 -- a row that is set, and the others as before
 pub row_set : {old new : List (List Bool)} {row : ℕ} {bits : List Bool} → IsRowSet old new row bits → row < length old → new ≡ set old row bits

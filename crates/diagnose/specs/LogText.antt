@@ -1,7 +1,7 @@
 -- Tester logs: a line for each pattern, with the pattern's number and the observed bits.
 use Rattle.std.specs.Prelude.{◌≡◌, ◌≢◌, ℕ, ◌<◌, ◌≤◌, ◌^◌, Bool, List, [], ◌∷◌, ◌++◌, length, decimal}
 use Rattle.net_model.specs.BitText.{bits_text}
-use Rattle.table_dicts.specs.Rows.{AreRows}
+use Rattle.dict_rows.specs.Rows.{AreRows}
 use Rattle.diagnose.specs.declared.fault.LogKind.{LogKind}
 use Rattle.diagnose.specs.declared.fault.LogKind.TheVariants.{Syntax, Order, Width, Missing}
 use Rattle.text_fields.specs.Fields.{Text, digit_bits}

@@ -7,7 +7,6 @@ mod lines;
 mod listing;
 mod log;
 mod vectors;
-mod words;
 
 pub use fault::{LogFault, LogKind};
 pub use laws::{list_is_read_once, log_is_read_once};

@@ -3,14 +3,13 @@
 ghost use Rattle.std.specs.Prelude.{◌≡◌, ◌≢◌, ◌<◌, ◌+◌, ◌*◌, ◌^◌, ◌==◌, ℕ, [], ◌∷◌, ◌++◌, length, flat_map, filter, All, slice_index, slice_index_or, if◌then◌else◌, IfOk, OnOk, MatchOption};
 ghost use Rattle.std.specs.List.{range_with_len};
 ghost use Rattle.net_model.specs.ClassTable.{same_bits};
-ghost use Rattle.table_dicts.specs.Rows.{AreRows, IsWordOf};
-ghost use Rattle.table_dicts.specs.Dictionary.{IsGroupedDict, IsShaped, observed_entry, listed_numbers};
-ghost use Rattle.table_dicts.specs.Entries.{differences};
+ghost use Rattle.dict_rows.specs.Rows.{AreRows};
+ghost use Rattle.dict_rows.specs.Dictionary.{IsGroupedDict, IsShaped, observed_entry, listed_numbers};
+ghost use Rattle.dict_rows.specs.Entries.{differences};
 
-use crate::words::put_behind;
-use net_model::{AnswerRows, with_bit, word_at};
+use dict_rows::{Dict, DictKind, write_row};
+use net_model::AnswerRows;
 use std::alloc::{AllocError, Global};
-use table_dicts::{Dict, DictKind};
 
 /// The fault numbers, ascending, whose entry is that of the observed answers, a row for each pattern.
 pub fn matches(alloc: Global, dict: &Dict, observed: &AnswerRows) -> Result<Vec<u32>, AllocError>
@@ -53,32 +52,9 @@ fn differing(
     requires wide { (row : ℕ) → row < length observed.now → length (slice_index_or observed.now row []) ≡ length (slice_index_or baselines.now row []) }
     ensures { IfOk result (λ row. row ≡ differences observed.now baselines.now ∷ []) }
 {
-    let count = observed.rows();
-    let mut bits = AnswerRows::zeros(alloc, 1, count)?;
-    for word in 0..count.div_ceil(64) {
-        let part = differing_word(observed, baselines, word);
-        bits.set_word(0, word, part);
-    }
+    let mut bits = AnswerRows::zeros(alloc, 1, observed.rows())?;
+    write_row(&mut bits, 0, |row| !is_same(observed, row, baselines, row));
     Ok(bits)
-}
-
-// Which rows aren't the baseline, at the 64 rows of a word, the lowest first.
-fn differing_word(observed: &AnswerRows, baselines: &AnswerRows, word: usize) -> u64
-    requires rows { length observed.now ≡ length baselines.now }
-    requires wide { (row : ℕ) → row < length observed.now → length (slice_index_or observed.now row []) ≡ length (slice_index_or baselines.now row []) }
-    requires word { word * 64 < length observed.now }
-    ensures { IsWordOf (differences observed.now baselines.now) word result }
-{
-    let rows = observed.rows();
-    let first = word * 64;
-    let count = (rows - first).min(64);
-    let mut bits = 0;
-    for at in 0..count {
-        let row = first + at;
-        let same = is_same(observed, row, baselines, row);
-        bits = with_bit(bits, at, !same);
-    }
-    bits
 }
 
 // Whether a row is a row of other rows.
@@ -102,35 +78,9 @@ fn joined(
     requires room { rows * width < 2 ^ 64 }
     ensures { IfOk result (λ row. row ≡ flat_map (λ bits. bits) observed.now ∷ []) }
 {
-    let size = rows * width;
-    let mut bits = AnswerRows::zeros(alloc, 1, size)?;
-    for word in 0..size.div_ceil(64) {
-        let part = joined_word(observed, width, word);
-        bits.set_word(0, word, part);
-    }
+    let mut bits = AnswerRows::zeros(alloc, 1, rows * width)?;
+    write_row(&mut bits, 0, |at| observed.get(at / width, at % width));
     Ok(bits)
-}
-
-// The bits of all rows, one after another, at the 64 places of a word, the lowest first.
-fn joined_word(observed: &AnswerRows, width: usize, word: usize) -> u64
-    requires wide { All (λ row. length row ≡ width) observed.now }
-    requires room { length observed.now * width < 2 ^ 64 }
-    requires word { word * 64 < length observed.now * width }
-    ensures { IsWordOf (flat_map (λ bits. bits) observed.now) word result }
-{
-    let first = word * 64;
-    let start = first / width;
-    let at = first % width;
-    let mut bits = word_at(observed.row_words(start), at);
-    let mut filled = width - at;
-    for row in start + 1..observed.rows() {
-        if filled >= 64 {
-            return bits;
-        }
-        bits = put_behind(bits, filled, observed.row_words(row)[0]);
-        filled += width;
-    }
-    bits
 }
 
 // The row that is equal to the one row of another list.

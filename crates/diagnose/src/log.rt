@@ -1,7 +1,6 @@
 //! Tester logs.
 
 ghost use Rattle.std.specs.Prelude.{◌≡◌, ◌≢◌, ◌<◌, ◌≤◌, ◌*◌, ◌^◌, ℕ, Bool, List, [], length, slice_index_or, slice_set, IfOk, IfErr, MatchOption, MatchResult};
-ghost use Rattle.table_dicts.specs.Rows.{IsWordOf};
 ghost use Rattle.diagnose.specs.declared.fault.LogKind.TheVariants as log_kind;
 ghost use Rattle.text_fields.specs.Fields.{digit_bits};
 ghost use Rattle.diagnose.specs.Lines.{TellsLogFault};
@@ -9,9 +8,9 @@ ghost use Rattle.diagnose.specs.LogText.{log_line, BeginsWithLine, HasNoLine, Is
 
 use crate::fault::{LogFault, LogKind};
 use crate::lines::check_size;
-use net_model::{AnswerRows, with_bit};
+use dict_rows::{Dict, write_row};
+use net_model::AnswerRows;
 use std::alloc::Global;
-use table_dicts::Dict;
 use text_fields::{cut, digits_of, number_of_bytes};
 
 // A line of a log and what stands behind it.
@@ -50,7 +49,7 @@ fn read_lines(
             Ok(line) => line,
             Err(kind) => return Err(LogFault::At(kind, pattern as u64 + 1)),
         };
-        write_row(&mut observed, pattern as usize, line.digits);
+        write_digits(&mut observed, pattern as usize, line.digits);
         rest = line.rest;
     }
     match check_end(rest) {
@@ -121,29 +120,10 @@ fn fields_of(line: &[u8]) -> Option<(u32, &[u8])>
 }
 
 // Writes the bits of digits into a row.
-fn write_row(observed: &mut AnswerRows, row: usize, digits: &[u8])
+fn write_digits(observed: &mut AnswerRows, row: usize, digits: &[u8])
     requires row { row < length observed.old }
     requires width { length (slice_index_or observed.old row []) ≡ length digits.now }
     ensures { observed.new ≡ slice_set observed.old row (digit_bits digits.now) }
 {
-    for word in 0..digits.len().div_ceil(64) {
-        let part = digits_word(digits, word);
-        observed.set_word(row, word, part);
-    }
-}
-
-// The bits of the 64 digits of a word, the lowest first.
-fn digits_word(digits: &[u8], word: usize) -> u64
-    requires { word * 64 < length digits.now }
-    ensures { IsWordOf (digit_bits digits.now) word result }
-{
-    let len = digits.len();
-    let first = word * 64;
-    let count = (len - first).min(64);
-    let mut bits = 0;
-    for at in 0..count {
-        let bit = digits[first + at] == b'1';
-        bits = with_bit(bits, at, bit);
-    }
-    bits
+    write_row(observed, row, |at| digits[at] == b'1');
 }

@@ -3,8 +3,8 @@ use Rattle.std.proofs.Common.{◌≡◌, ◌∙◌, ℕ, ◌<◌, ◌≤◌, Boo
 use Rattle.std.proofs.lemmas.List.{get_or_default}
 use Rattle.std.proofs.lemmas.List.FromFn.{fill_by_all}
 use Rattle.net_model.specs.Rows.{AreWide}
-use Rattle.table_dicts.specs.Grouped.{IsGrouped, AreGroupsOf}
-use Rattle.table_dicts.specs.Dictionary.{entry_of}
+use Rattle.dict_rows.specs.Grouped.{IsGrouped, AreGroupsOf}
+use Rattle.dict_rows.specs.Dictionary.{entry_of}
 use Rattle.dict_file.specs.declared.fault.DictVersion.{DictVersion}
 use Rattle.dict_file.specs.declared.fault.DictVersion.TheVariants.{One, Two}
 use Rattle.dict_file.specs.declared.head.FileHead.{FileHead}

@@ -4,10 +4,10 @@ use Rattle.std.specs.Prelude.{codes}
 use Rattle.std.proofs.lemmas.List.FromFn.{length-map-range_with_len, get_or-map-range_with_len, fill_by_all}
 use Rattle.net_model.specs.Rows.{AreWide}
 use Rattle.byteorder.specs.Endian.{big_bytes}
-use Rattle.table_dicts.specs.declared.dict.Dict.{Dict}
-use Rattle.table_dicts.specs.declared.dict.DictKind.{DictKind}
-use Rattle.table_dicts.specs.declared.dict.DictKind.TheVariants.{PassFail, Full, SameDiff}
-use Rattle.table_dicts.specs.Dictionary as dictionary
+use Rattle.dict_rows.specs.declared.dict.Dict.{Dict}
+use Rattle.dict_rows.specs.declared.dict.DictKind.{DictKind}
+use Rattle.dict_rows.specs.declared.dict.DictKind.TheVariants.{PassFail, Full, SameDiff}
+use Rattle.dict_rows.specs.Dictionary as dictionary
 use Rattle.dict_file.specs.declared.fault.DictVersion.{DictVersion}
 use Rattle.dict_file.specs.declared.fault.DictVersion.TheVariants.{One, Two}
 use Rattle.dict_file.specs.declared.row_bytes.RowsAt.{RowsAt}

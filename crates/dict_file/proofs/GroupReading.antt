@@ -5,7 +5,7 @@ use Rattle.std.proofs.lemmas.List.{length-replicate, get_or-replicate, get_or_de
 use Rattle.std.proofs.lemmas.List.Elements.{Contains-push, Contains-push_cases, Contains-append_left}
 use Rattle.std.proofs.lemmas.List.FromFn.{map-range_with_len_more, take-map-range_with_len}
 use Rattle.net_model.proofs.Elements.{none_in}
-use Rattle.table_dicts.specs.Grouped.{IsGrouped, IsLeastUnused, AreDifferent, AreGroupsOf}
+use Rattle.dict_rows.specs.Grouped.{IsGrouped, IsLeastUnused, AreDifferent, AreGroupsOf}
 use Rattle.dict_file.specs.declared.fault.DictFault.{DictFault}
 use Rattle.dict_file.specs.declared.fault.DictFault.TheVariants.{Value}
 use Rattle.dict_file.specs.Parts.{reaches, wants, ◌⊳◌}

@@ -3,8 +3,8 @@ use Rattle.std.proofs.Common.{◌≡◌, ◌∙◌, ℕ, zero, suc, ◌<◌, ◌
 use Rattle.std.proofs.lemmas.Bool.{cases_lt}
 use Rattle.std.proofs.lemmas.List.{ext_get_or, get_or-take, length-take-le, get_or_default}
 use Rattle.std.proofs.lemmas.List.Elements.{Contains-get_or}
-use Rattle.table_dicts.specs.Grouped.{IsGrouped, IsLeastUnused, group_row}
-use Rattle.table_dicts.proofs.RegroupLemmas.{place_in}
+use Rattle.dict_rows.specs.Grouped.{IsGrouped, IsLeastUnused, group_row}
+use Rattle.dict_rows.proofs.RegroupLemmas.{place_in}
 
 place_out : (xs : List ℕ) (n x k : ℕ) → n ≤ length xs → k < n → get_or xs k 0 ≡ x → Contains (take n xs) x
 place_out xs n x k h low e =

@@ -4,8 +4,8 @@ use Rattle.std.specs.Int.{div_ceil}
 use Rattle.std.proofs.lemmas.Bool.{cases_eq}
 use Rattle.std.proofs.lemmas.List.FromFn.{fill_by_all}
 use Rattle.net_model.specs.Rows.{bit_of, HaveSameShape, IsWordSet, row_at, row_bit}
-use Rattle.table_dicts.specs.Rows.{IsRowSet}
-use Rattle.table_dicts.proofs.RowLemmas.{same_shape, shape_later}
+use Rattle.dict_rows.specs.Rows.{IsRowSet}
+use Rattle.dict_rows.proofs.RowLemmas.{same_shape, shape_later}
 use Rattle.dict_file.specs.Packing.{file_bit, row_in}
 use Rattle.dict_file.specs.Words.{IsWordAt}
 

@@ -5,7 +5,7 @@ use Rattle.std.proofs.lemmas.List.{get_or-take, length-take-le, take_all, length
 use Rattle.std.proofs.lemmas.List.FromFn.{fill_by_all}
 use Rattle.std.proofs.lemmas.Nat.{mul-le}
 use Rattle.std.proofs.Math.Nat.{div-mul-le_self, lt-div-mul-add, mul-le-mul_right}
-use Rattle.table_dicts.specs.Grouped.{AreDifferent, IsFirstRepeat}
+use Rattle.dict_rows.specs.Grouped.{AreDifferent, IsFirstRepeat}
 use Rattle.dict_file.specs.declared.fault.DictFault.{DictFault}
 use Rattle.dict_file.specs.declared.fault.DictFault.TheVariants.{Short, Value}
 use Rattle.dict_file.specs.declared.row_bytes.RowsAt.{RowsAt}

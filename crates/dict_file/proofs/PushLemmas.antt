@@ -5,9 +5,9 @@ use Rattle.std.specs.List.{range_with_len}
 use Rattle.std.proofs.lemmas.List.{flat_map_more, take_more, map_more}
 use Rattle.std.proofs.lemmas.List.{length-map, get_or-map}
 use Rattle.std.proofs.lemmas.List.FromFn.{map-range_with_len_more, fill_by_all}
-use Rattle.table_dicts.specs.declared.dict.Dict.{Dict}
+use Rattle.dict_rows.specs.declared.dict.Dict.{Dict}
 use Rattle.net_model.specs.Rows.{row_at}
-use Rattle.table_dicts.specs.Dictionary.{IsGroupedDict, entry_of}
+use Rattle.dict_rows.specs.Dictionary.{IsGroupedDict, entry_of}
 use Rattle.dict_file.specs.Spelling.{entry_rows}
 
 -- the bytes of one element more

@@ -4,9 +4,9 @@ use Rattle.std.proofs.lemmas.List.{length-append}
 use Rattle.std.proofs.lemmas.List.Elements.{Contains-get_or}
 use Rattle.std.proofs.lemmas.List.FromFn.{length-map-range_with_len, get_or-map-range_with_len}
 use Rattle.net_model.specs.Rows.{AreWide}
-use Rattle.table_dicts.specs.declared.dict.Dict.{Dict}
-use Rattle.table_dicts.specs.Dictionary as dictionary
-use Rattle.table_dicts.specs.Dictionary.{IsShaped, IsGroupedDict, entry_of}
+use Rattle.dict_rows.specs.declared.dict.Dict.{Dict}
+use Rattle.dict_rows.specs.Dictionary as dictionary
+use Rattle.dict_rows.specs.Dictionary.{IsShaped, IsGroupedDict, entry_of}
 use Rattle.dict_file.specs.declared.fault.DictVersion.{DictVersion}
 use Rattle.dict_file.specs.declared.fault.DictVersion.TheVariants.{One}
 use Rattle.dict_file.specs.Spelling.{limit, most_bytes, HasDictSpelling, dict_spelling, SpellsDict, packed_rows, entry_rows, head_bytes}

@@ -6,11 +6,11 @@ use Rattle.std.proofs.lemmas.List.{length-append, length-take-le, get_or-take, t
 use Rattle.std.proofs.lemmas.List.FromFn.{length-map-range_with_len, get_or-map-range_with_len, fill_by_all}
 use Rattle.net_model.specs.Rows.{AreWide}
 use Rattle.byteorder.specs.Endian.{big_bytes}
-use Rattle.table_dicts.specs.declared.dict.Dict.{Dict}
-use Rattle.table_dicts.specs.Grouped.{IsLeastUnused}
-use Rattle.table_dicts.specs.Dictionary as dictionary
-use Rattle.table_dicts.specs.Dictionary.{IsShaped, IsGroupedDict}
-use Rattle.table_dicts.proofs.GroupLemmas.{few_groups}
+use Rattle.dict_rows.specs.declared.dict.Dict.{Dict}
+use Rattle.dict_rows.specs.Grouped.{IsLeastUnused}
+use Rattle.dict_rows.specs.Dictionary as dictionary
+use Rattle.dict_rows.specs.Dictionary.{IsShaped, IsGroupedDict}
+use Rattle.dict_rows.proofs.GroupLemmas.{few_groups}
 use Rattle.dict_file.specs.declared.fault.DictVersion.TheVariants.{Two}
 use Rattle.dict_file.specs.Spelling.{limit, most_bytes, HasDictSpelling, dict_spelling, SpellsDict, packed_rows, head_bytes}
 use Rattle.dict_file.specs.Reading as reading

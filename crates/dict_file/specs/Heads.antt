@@ -1,7 +1,7 @@
 -- The fields that both versions have, as they are read.
 use Rattle.std.specs.Prelude.{◌≡◌, ◌≤◌, ℕ, Bool, List, length}
-use Rattle.table_dicts.specs.declared.dict.Dict.{Dict}
-use Rattle.table_dicts.specs.declared.dict.DictKind.{DictKind}
+use Rattle.dict_rows.specs.declared.dict.Dict.{Dict}
+use Rattle.dict_rows.specs.declared.dict.DictKind.{DictKind}
 use Rattle.dict_file.specs.declared.fault.DictVersion.{DictVersion}
 use Rattle.dict_file.specs.declared.head.FileHead.{FileHead}
 use Rattle.dict_file.specs.Spelling.{kind_number, version_number, most_bytes}

@@ -1,7 +1,7 @@
 -- Rows of a file, as they are read.
 use Rattle.std.specs.Prelude.{◌≡◌, ℕ, ◌+◌, ◌-◌, ◌≤◌, ◌<◌, ◌^◌, Bool, List, length, map}
 use Rattle.std.specs.List.{range_with_len}
-use Rattle.table_dicts.specs.Grouped.{IsFirstRepeat}
+use Rattle.dict_rows.specs.Grouped.{IsFirstRepeat}
 use Rattle.dict_file.specs.declared.fault.DictFault.{DictFault}
 use Rattle.dict_file.specs.declared.fault.DictFault.TheVariants.{Value}
 use Rattle.dict_file.specs.declared.row_bytes.RowsAt.{RowsAt}

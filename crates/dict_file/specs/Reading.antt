@@ -2,7 +2,7 @@
 use Rattle.std.specs.Prelude.{◌≡◌, ◌≢◌, ℕ, ◌+◌, ◌-◌, ◌*◌, ◌<◌, ◌≤◌, ◌⊎◌, ◌==◌, Bool, List, length, map, take, drop, codes, slice_index, Contains, if◌then◌else◌}
 use Rattle.std.specs.List.{range_with_len}
 use Rattle.byteorder.specs.Endian.{big_number}
-use Rattle.table_dicts.specs.Grouped.{IsLeastUnused}
+use Rattle.dict_rows.specs.Grouped.{IsLeastUnused}
 use Rattle.dict_file.specs.declared.fault.DictFault.{DictFault}
 use Rattle.dict_file.specs.declared.fault.DictFault.TheVariants.{Magic, Version, Kind, Value, Trailing, TooLong, NoMemory}
 use Rattle.dict_file.specs.declared.row_bytes.RowsAt.{RowsAt}

@@ -2,10 +2,10 @@
 use Rattle.std.specs.Prelude.{◌≡◌, ◌<◌, ◌≤◌, ◌^◌, ℕ, Bool, List, ◌∷◌, ◌++◌, flat_map, map, length, codes}
 use Rattle.std.specs.List.{range_with_len}
 use Rattle.byteorder.specs.Endian.{big_bytes}
-use Rattle.table_dicts.specs.declared.dict.Dict.{Dict}
-use Rattle.table_dicts.specs.declared.dict.DictKind.{DictKind}
-use Rattle.table_dicts.specs.declared.dict.DictKind.TheVariants.{PassFail, Full, SameDiff}
-use Rattle.table_dicts.specs.Dictionary.{IsShaped, IsGroupedDict, entry_of}
+use Rattle.dict_rows.specs.declared.dict.Dict.{Dict}
+use Rattle.dict_rows.specs.declared.dict.DictKind.{DictKind}
+use Rattle.dict_rows.specs.declared.dict.DictKind.TheVariants.{PassFail, Full, SameDiff}
+use Rattle.dict_rows.specs.Dictionary.{IsShaped, IsGroupedDict, entry_of}
 use Rattle.dict_file.specs.declared.fault.DictVersion.{DictVersion}
 use Rattle.dict_file.specs.declared.fault.DictVersion.TheVariants.{One, Two}
 use Rattle.dict_file.specs.Packing.{packed_row}

@@ -2,7 +2,7 @@
 
 ghost use Rattle.std.specs.Prelude.{◌≡◌, ◌<◌, ◌≤◌, ◌+◌, ◌-◌, ◌^◌, ◌++◌, ◌∷◌, [], length, max, replicate, flat_map, IfOk, IfErr, OnOk};
 ghost use Rattle.byteorder.specs.Endian.{big_bytes};
-ghost use Rattle.table_dicts.specs.Grouped.{AreGroupsOf};
+ghost use Rattle.dict_rows.specs.Grouped.{AreGroupsOf};
 ghost use Rattle.dict_file.specs.declared.fault.DictFault.TheVariants as dict_fault;
 ghost use Rattle.dict_file.specs.Spelling.{most_bytes};
 ghost use Rattle.dict_file.specs.Parts.{reaches, wants, ◌⊳◌};
@@ -11,9 +11,9 @@ ghost use Rattle.dict_file.specs.Reading.{number_at, groups_from, groups_before,
 
 use crate::fault::DictFault;
 use crate::fields::{number, push_number, reach};
+use dict_rows::{Grouped, Groups, group_rows};
 use net_model::AnswerRows;
 use std::alloc::{AllocError, Global};
-use table_dicts::{Grouped, Groups, group_rows};
 
 /// The group numbers that stand from a byte on, one for each number: all groups below a count,
 /// and no others.

@@ -7,9 +7,9 @@ ghost use Rattle.dict_file.specs.Heads.{IsDictHead, IsVersionAt, IsKindAt, dict_
 
 use crate::fault::{DictFault, DictVersion};
 use crate::fields::{push_number, push_short, reach, read_count, short_number};
+use dict_rows::{Dict, DictKind, Grouped};
 use net_model::AnswerRows;
 use std::alloc::AllocError;
-use table_dicts::{Dict, DictKind, Grouped};
 
 /// The version, the kind and the sizes of a dictionary.
 #[derive(Clone, Copy)]

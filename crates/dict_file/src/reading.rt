@@ -14,8 +14,8 @@ use crate::fields::{number, reach};
 use crate::group_numbers::{group, read_groups};
 use crate::head::{FileHead, read_head};
 use crate::row_bytes::{ReadRows, RowsAt, read_new_rows, read_rows};
+use dict_rows::{Dict, DictKind, Grouped};
 use std::alloc::Global;
-use table_dicts::{Dict, DictKind, Grouped};
 
 // the most bytes of a file
 const MOST_BYTES: u64 = 1 << 40;

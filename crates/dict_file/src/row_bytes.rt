@@ -2,8 +2,8 @@
 
 ghost use Rattle.std.specs.Prelude.{◌≡◌, ◌↔◌, ◌<◌, ◌≤◌, ◌+◌, ◌-◌, ◌*◌, ◌^◌, ◌++◌, ℕ, false, length, IfOk, IfErr, OnOk};
 ghost use Rattle.net_model.specs.Rows.{bit_of, row_at};
-ghost use Rattle.table_dicts.specs.Grouped.{AreDifferent};
-ghost use Rattle.table_dicts.specs.Rows.{IsRowSet};
+ghost use Rattle.dict_rows.specs.Grouped.{AreDifferent};
+ghost use Rattle.dict_rows.specs.Rows.{IsRowSet};
 ghost use Rattle.dict_file.specs.Packing.{byte_count, row_in, packed_row};
 ghost use Rattle.dict_file.specs.Spelling.{packed_rows};
 ghost use Rattle.dict_file.specs.Parts.{each};
@@ -12,9 +12,9 @@ ghost use Rattle.dict_file.specs.Places.{IsPlaced, AreWholeTo, AreRightRows, Are
 
 use crate::fault::DictFault;
 use crate::packing::{packed_byte, word_at};
+use dict_rows::first_repeat;
 use net_model::AnswerRows;
 use std::alloc::{AllocError, Global};
-use table_dicts::first_repeat;
 
 /// Rows of one width, one after another from a byte of a file on, each up to a whole byte.
 #[derive(Clone, Copy)]

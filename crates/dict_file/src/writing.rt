@@ -3,7 +3,7 @@
 ghost use Rattle.std.specs.Prelude.{◌≡◌, ◌<◌, ◌++◌, length, flat_map, map, All, IfOk, OnOk};
 ghost use Rattle.byteorder.specs.Endian.{big_bytes};
 ghost use Rattle.net_model.specs.Rows.{row_at};
-ghost use Rattle.table_dicts.specs.Dictionary.{IsShaped, IsGroupedDict};
+ghost use Rattle.dict_rows.specs.Dictionary.{IsShaped, IsGroupedDict};
 ghost use Rattle.dict_file.specs.Spelling.{dict_spelling, body_bytes, packed_rows, entry_rows};
 
 use crate::fault::DictVersion;
@@ -11,9 +11,9 @@ use crate::fields::push_number;
 use crate::group_numbers::push_groups;
 use crate::head::push_head;
 use crate::row_bytes::{push_row, push_rows};
+use dict_rows::Dict;
 use net_model::AnswerRows;
 use std::alloc::{AllocError, Global};
-use table_dicts::Dict;
 
 /// The bytes of a dictionary in this version.
 pub fn encode(alloc: Global, dict: &Dict, version: DictVersion) -> Result<Vec<u8>, AllocError>

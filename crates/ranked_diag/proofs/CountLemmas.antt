@@ -12,9 +12,9 @@ use Rattle.std.proofs.lemmas.Nat.Bits.{bit_at-lt, bit_at-zero, same_from_bits_be
 use Rattle.std.proofs.lemmas.Simd.{mask_l-lt, bit_mask_l, ones-mask_l}
 use Rattle.net_model.specs.Answer.{bit_at}
 use Rattle.net_model.specs.Rows.{bit_of, IsPacked}
-use Rattle.table_dicts.specs.Rows.{IsWordOf}
+use Rattle.dict_rows.specs.Rows.{IsWordOf}
 use Rattle.net_model.proofs.SingleWords.{digit_and, digit_xor}
-use Rattle.diagnose.proofs.WordLemmas.{packed_bit}
+use Rattle.dict_rows.proofs.WordLemmas.{packed_bit}
 use Rattle.ranked_diag.specs.declared.partial.Seen.TheVariants.{Unseen}
 use Rattle.ranked_diag.specs.declared.seen_word.SeenWord.{SeenWord}
 use Rattle.ranked_diag.specs.Seen.{seen_of, differs}

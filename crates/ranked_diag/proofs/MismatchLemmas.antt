@@ -11,13 +11,13 @@ use Rattle.std.proofs.lemmas.List.Elements.{All-nil, All-cons, All-head, All-tai
 use Rattle.std.proofs.Math.Seq.{drop-append_seam, take-append_seam}
 use Rattle.net_model.specs.ClassTable.{same_bits}
 use Rattle.net_model.specs.Rows.{row_at}
-use Rattle.table_dicts.specs.declared.dict.Dict.{Dict}
-use Rattle.table_dicts.specs.declared.dict.DictKind.{DictKind}
-use Rattle.table_dicts.specs.declared.dict.DictKind.TheVariants.{PassFail, Full, SameDiff}
-use Rattle.table_dicts.specs.Rows.{AreRows}
-use Rattle.table_dicts.specs.Entries.{differences}
-use Rattle.table_dicts.specs.Dictionary.{entry_of, IsGroupedDict, IsShaped, observed_entry, entry_width, baseline_count, listed_numbers}
-use Rattle.table_dicts.proofs.EntryLemmas.{same_bits-Decides, length-differences}
+use Rattle.dict_rows.specs.declared.dict.Dict.{Dict}
+use Rattle.dict_rows.specs.declared.dict.DictKind.{DictKind}
+use Rattle.dict_rows.specs.declared.dict.DictKind.TheVariants.{PassFail, Full, SameDiff}
+use Rattle.dict_rows.specs.Rows.{AreRows}
+use Rattle.dict_rows.specs.Entries.{differences}
+use Rattle.dict_rows.specs.Dictionary.{entry_of, IsGroupedDict, IsShaped, observed_entry, entry_width, baseline_count, listed_numbers}
+use Rattle.dict_rows.proofs.EntryLemmas.{same_bits-Decides, length-differences}
 use Rattle.ranked_diag.specs.declared.partial.Seen.{Seen}
 use Rattle.ranked_diag.specs.declared.partial.Seen.TheVariants.{Zero, One, Unseen}
 use Rattle.ranked_diag.specs.Seen.{seen_of, is_seen, differing_bits}

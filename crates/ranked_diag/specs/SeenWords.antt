@@ -6,8 +6,8 @@ use Rattle.net_model.specs.Rows.{bit_of}
 use Rattle.ranked_diag.specs.declared.partial.Seen.{Seen}
 use Rattle.ranked_diag.specs.declared.partial.Seen.TheVariants.{Unseen}
 use Rattle.ranked_diag.specs.declared.seen_word.SeenWord.{SeenWord}
-use Rattle.table_dicts.specs.declared.dict.Dict.{Dict}
-use Rattle.table_dicts.specs.Dictionary.{entry_width}
+use Rattle.dict_rows.specs.declared.dict.Dict.{Dict}
+use Rattle.dict_rows.specs.Dictionary.{entry_width}
 use Rattle.ranked_diag.specs.Seen.{seen_of, differs, differing_bits}
 use Rattle.ranked_diag.specs.PartialLog.{Line}
 use Rattle.ranked_diag.specs.Mismatches.{entry_mismatches}

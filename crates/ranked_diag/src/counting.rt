@@ -1,7 +1,7 @@
 //! Mismatches of all fault numbers.
 
 ghost use Rattle.std.specs.Prelude.{◌≡◌, ◌<◌, ◌^◌, All, length, map, slice_index, IfOk};
-ghost use Rattle.table_dicts.specs.Dictionary.{IsGroupedDict, IsShaped};
+ghost use Rattle.dict_rows.specs.Dictionary.{IsGroupedDict, IsShaped};
 ghost use Rattle.ranked_diag.specs.PartialLog.{ArePartial};
 ghost use Rattle.ranked_diag.specs.Mismatches.{mismatch_counts};
 ghost use Rattle.ranked_diag.specs.SeenWords.{seen_mismatches, AreSeenBefore};
@@ -10,9 +10,9 @@ use crate::observing::observed_words;
 use crate::partial::Partial;
 use crate::ranks::Counts;
 use crate::seen_words::SeenWords;
+use dict_rows::Dict;
 use net_model::AnswerRows;
 use std::alloc::{AllocError, Global};
-use table_dicts::Dict;
 
 /// How many bits that were seen differ from each number's entry.
 pub fn mismatches(alloc: Global, dict: &Dict, partial: &Partial) -> Result<Counts, AllocError>

@@ -3,7 +3,7 @@
 ghost use Rattle.std.specs.Prelude.{◌≡◌, ◌<◌, ◌*◌, [], ◌∷◌, length, nat_lt, IfOk, OnOk};
 ghost use Rattle.std.specs.List.{list_all};
 ghost use Rattle.net_model.specs.Rows.{row_at};
-ghost use Rattle.table_dicts.specs.Dictionary.{IsShaped};
+ghost use Rattle.dict_rows.specs.Dictionary.{IsShaped};
 ghost use Rattle.ranked_diag.specs.Seen.{is_seen, differs, differing_bits};
 ghost use Rattle.ranked_diag.specs.PartialLog.{ArePartial};
 ghost use Rattle.ranked_diag.specs.Mismatches.{seen_difference, seen_part, part_width};
@@ -11,9 +11,9 @@ ghost use Rattle.ranked_diag.specs.SeenWords.{AreSeenBefore, IsSeenToo, AreWords
 
 use crate::partial::{Partial, Seen};
 use crate::seen_words::SeenWords;
+use dict_rows::{Dict, DictKind};
 use net_model::AnswerRows;
 use std::alloc::{AllocError, Global};
-use table_dicts::{Dict, DictKind};
 
 /// The words of an entry of which a partial log tells something, and what.
 pub(crate) fn observed_words(

@@ -7,8 +7,8 @@ ghost use Rattle.ranked_diag.specs.PartialLog.{IsPartialLog, PartialRefused};
 use crate::line::{right_line, seen_of};
 use crate::partial::Partial;
 use diagnose::{LogFault, check_size};
+use dict_rows::Dict;
 use std::alloc::Global;
-use table_dicts::Dict;
 
 /// The lines that a partial log tells, for a dictionary.
 ///

@@ -1,7 +1,7 @@
 //! What was seen of a word of an entry.
 
 ghost use Rattle.std.specs.Prelude.{◌≡◌, ◌<◌, ℕ, Bool, List};
-ghost use Rattle.table_dicts.specs.Rows.{IsWordOf};
+ghost use Rattle.dict_rows.specs.Rows.{IsWordOf};
 ghost use Rattle.ranked_diag.specs.SeenWords.{word_mismatches, IsBitSeen};
 
 use net_model::with_bit;

@@ -11,10 +11,10 @@ use Rattle.net_model.specs.ClassTable.{ClassTable, class_count, representative, 
 use Rattle.net_model.proofs.Elements.{none_in, true_false, first_or_later, any_from, passing, Contains-map, Contains-flat_map}
 use Rattle.net_model.proofs.Listed.{All-flat_map}
 use Rattle.class_refine.proofs.Ranges.{range-contains}
-use Rattle.table_dicts.specs.AnswerTable.{answer_in}
+use Rattle.dict_rows.specs.AnswerTable.{answer_in}
 use Rattle.table_dicts.specs.Apart.{has_apart}
-use Rattle.table_dicts.specs.Entries.{same_diff_entry, free_baselines}
-use Rattle.table_dicts.proofs.EntryLemmas.{same_bits-Decides}
+use Rattle.dict_rows.specs.Entries.{same_diff_entry, free_baselines}
+use Rattle.dict_rows.proofs.EntryLemmas.{same_bits-Decides}
 use Rattle.samediff_dict.specs.Chosen.{candidates, pairs_apart, with_next, greedy_baselines, better_baselines, replacements, improvement, improved_baselines, chosen_baselines}
 use Rattle.samediff_dict.specs.Numbered.{class_answers}
 use Rattle.samediff_dict.specs.Laws.{NoRowIsBetter}

@@ -6,9 +6,9 @@ use Rattle.std.proofs.lemmas.List.Elements.{Contains-get_or}
 use Rattle.std.proofs.lemmas.List.FromFn.{get_or-map-range_with_len, length-map-range_with_len}
 use Rattle.std.specs.Cmp.Derive.{one_truth}
 use Rattle.net_model.specs.ClassTable.{ClassTable, class_count, representative, same_bits}
-use Rattle.table_dicts.specs.AnswerTable.{answer_in}
-use Rattle.table_dicts.specs.Grouped.{AreGroupsOf, AreDifferent}
-use Rattle.table_dicts.proofs.EntryLemmas.{same_bits-Decides}
+use Rattle.dict_rows.specs.AnswerTable.{answer_in}
+use Rattle.dict_rows.specs.Grouped.{AreGroupsOf, AreDifferent}
+use Rattle.dict_rows.proofs.EntryLemmas.{same_bits-Decides}
 use Rattle.samediff_dict.specs.declared.numbering.Candidates.{Candidates}
 use Rattle.answer_numbers.specs.Distinct.{distinct_answers}
 use Rattle.samediff_dict.specs.Chosen.{candidates}

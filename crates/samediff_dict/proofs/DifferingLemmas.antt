@@ -1,15 +1,14 @@
 -- The entries of the classes, bit by bit.
-use Rattle.std.proofs.Common.{◌≡◌, ◌∙◌, ℕ, ◌+◌, ◌*◌, ◌<◌, ◌≤◌, Bool, true, false, not, cond, eqb, List, [], length, map, get_or, set, bit_or, ◌^◌, ◌%◌, sym, ap, arith, inl, inr}
+use Rattle.std.proofs.Common.{◌≡◌, ◌∙◌, ℕ, ◌+◌, ◌<◌, ◌≤◌, Bool, false, not, eqb, List, [], length, map, get_or, set, sym, ap, arith, inl, inr}
 use Rattle.std.specs.Prelude.{zip}
-use Rattle.std.proofs.lemmas.Bool.{cases_lt, cases_eq, eq-eqb, ne_eqb}
+use Rattle.std.proofs.lemmas.Bool.{cases_eq}
 use Rattle.std.specs.List.{range_with_len}
 use Rattle.std.proofs.lemmas.List.{ext_get_or, get_or-map, get_or-set_same, get_or-set_other, length-map, length-set}
 use Rattle.std.proofs.lemmas.List.FromFn.{get_or-map-range_with_len, length-map-range_with_len}
 use Rattle.std.proofs.lemmas.Slice.Zip.{get_or-zip, length-zip}
 use Rattle.net_model.specs.Answer.{bit_at}
-use Rattle.net_model.specs.Rows.{bit_of, row_at}
+use Rattle.net_model.specs.Rows.{row_at}
 use Rattle.net_model.proofs.Copies.{same_bits_same_list}
-use Rattle.net_model.proofs.SingleWords.{bit-set}
 use Rattle.samediff_dict.specs.declared.numbering.Candidates.{Candidates}
 use Rattle.samediff_dict.specs.Copied.{class_entry}
 
@@ -72,29 +71,3 @@ one_set count old new done rows are within row is = record {
 pub all_set : (count : ℕ) (old new : ℕ → List Bool) (rows : List (List Bool)) → AreSetTo count old new count rows → rows ≡ map new (range_with_len 0 count)
 all_set count old new rows are = ext_get_or [] rows (map new (range_with_len 0 count)) (are.count_is ∙ sym (length-map-range_with_len new 0 count))
     (λ row h. let hr : row < count = omega (arith, h, are.count_is) in are.begun row hr ∙ sym (get_or-map-range_with_len new 0 count row row [] hr (omega arith)))
-
--- ---- the bits of a word, one after another
-
--- The first bits of the word are those of a row from a place on, and the others are 0.
-pub record IsWordTo (row : List Bool) (first at bits : ℕ) : Type 0 where
-  pub done : (k : ℕ) → k < at → bit_of bits k ≡ bit_at row (first + k)
-  pub later : (k : ℕ) → at ≤ k → k < 64 → bit_of bits k ≡ false
-
-module _ (row : List Bool) (first at bits : ℕ) (so_far : IsWordTo row first at bits) (h : at < 64) where
-  pub word_set : bit_at row (first + at) ≡ true → IsWordTo row first (at + 1) (bit_or bits (1 * 2 ^ at % 2 ^ 64))
-  word_set is = record {
-    done = λ k l. bit-set bits at h k (omega (arith, l, h)) ∙ elim (cases_eq k at) [
-      | inl same ↦ ap (λ b. cond b true (bit_of bits k)) (eq-eqb k at same) ∙ (sym is ∙ ap (λ j. bit_at row (first + j)) (sym same))
-      | inr ne ↦ ap (λ b. cond b true (bit_of bits k)) (ne_eqb k at ne) ∙ so_far.done k (omega (arith, l, ne))
-    ];
-    later = λ k over l. bit-set bits at h k l ∙ (ap (λ b. cond b true (bit_of bits k)) (ne_eqb k at (λ e. omega (arith, e, over))) ∙ so_far.later k (omega (arith, over)) l);
-  }
-
-  pub word_clear : bit_at row (first + at) ≡ false → IsWordTo row first (at + 1) bits
-  word_clear is = record {
-    done = λ k l. elim (cases_lt k at) [
-      | inl low ↦ so_far.done k low
-      | inr over ↦ let same : k ≡ at = omega (arith, over, l) in so_far.later k over (omega (arith, same, h)) ∙ (sym is ∙ ap (λ j. bit_at row (first + j)) (sym same))
-    ];
-    later = λ k over l. so_far.later k (omega (arith, over)) l;
-  }

@@ -3,7 +3,7 @@ use Rattle.std.proofs.Common.{◌≡◌, ◌∙◌, ℕ, zero, suc, ◌+◌, ◌
 use Rattle.std.proofs.lemmas.Bool.{cases_lt, false_from_ne_true}
 use Rattle.std.proofs.lemmas.List.{take_more, take_all, length_push, length-take-le, get_or_append_left, get_or_push, get_or-take, get_or_default, ext_get_or}
 use Rattle.std.proofs.lemmas.List.Elements.{Contains-get_or}
-use Rattle.table_dicts.specs.Grouped.{AreGroupsOf, IsLeastUnused}
+use Rattle.dict_rows.specs.Grouped.{AreGroupsOf, IsLeastUnused}
 use Rattle.answer_numbers.specs.Distinct.{distinct_answers}
 use Rattle.answer_numbers.proofs.DistinctLemmas.{is_among, is_among_from, among_is, distinct_push, from_distinct}
 

@@ -12,7 +12,7 @@ use Rattle.net_model.specs.FaultList.{faults, fault_count}
 use Rattle.net_model.specs.PatternRows.{IsAnswerRow}
 use Rattle.net_model.proofs.Copies.{same_driven, pins_inside, same_bits_same_list}
 use Rattle.net_model.proofs.Evaluation.{rounds, Agrees-exists}
-use Rattle.table_dicts.specs.AnswerTable.{Answers, AreAnswers, answer_to}
+use Rattle.dict_rows.specs.AnswerTable.{Answers, AreAnswers, answer_to}
 
 -- what the circuit answers after the rounds
 abbrev pub evaluated : Circuit → Fault → List Bool → List Bool

@@ -4,7 +4,7 @@ use Rattle.std.specs.Option.{option_map_or}
 use Rattle.std.proofs.lemmas.Bool.{cases_Bool, ltb-true, ltb-false}
 use Rattle.net_model.specs.ClassTable.{ClassTable, class_count}
 use Rattle.net_model.proofs.Elements.{found_passes}
-use Rattle.table_dicts.specs.Entries.{same_diff_entry, free_baselines}
+use Rattle.dict_rows.specs.Entries.{same_diff_entry, free_baselines}
 use Rattle.table_dicts.specs.Apart.{has_apart, apart_count}
 use Rattle.samediff_dict.specs.Chosen.{pairs_apart, greedy_baselines, better_baselines, replacements, improvement, improved_baselines, chosen_baselines}
 use Rattle.samediff_dict.specs.Laws.{NoneIsLeft, KeepsAsMany}

@@ -8,7 +8,7 @@ use Rattle.std.proofs.lemmas.List.Elements.{All-from_get_or}
 use Rattle.std.proofs.lemmas.List.FromFn.{get_or-range_with_len}
 use Rattle.net_model.specs.ClassTable.{ClassTable}
 use Rattle.net_model.specs.Rows.{row_at}
-use Rattle.table_dicts.specs.AnswerTable.{Answers, answer_in, answer_to}
+use Rattle.dict_rows.specs.AnswerTable.{Answers, answer_in, answer_to}
 use Rattle.samediff_dict.specs.declared.numbering.Candidates.{Candidates}
 use Rattle.samediff_dict.specs.Chosen.{candidates}
 use Rattle.samediff_dict.specs.Copied.{HasClass, HaveClasses, IsLead, AreLeads, AreWanted}

@@ -15,12 +15,12 @@ use Rattle.class_refine.specs.Fields.{IsWhole}
 use Rattle.class_refine.proofs.Refined.{representative-member}
 use Rattle.net_model.proofs.OneAnswer.{one_table}
 use Rattle.class_refine.proofs.PatternTables.{table_numbers}
-use Rattle.table_dicts.specs.AnswerTable.{Answers, AreAnswerable, AreAnswers, answer_in, answer_to}
+use Rattle.dict_rows.specs.AnswerTable.{Answers, AreAnswerable, AreAnswers, answer_in, answer_to}
 use Rattle.table_dicts.specs.ByClass.{AreEntriesOfClasses}
-use Rattle.table_dicts.specs.Entries.{answers_of, differences, same_diff_entry}
-use Rattle.table_dicts.specs.Rows.{AreRows}
+use Rattle.dict_rows.specs.Entries.{answers_of, differences, same_diff_entry}
+use Rattle.dict_rows.specs.Rows.{AreRows}
 use Rattle.table_dicts.proofs.ClassLemmas.{together_where_alike}
-use Rattle.table_dicts.proofs.EntryLemmas.{length-entry, entry_bit}
+use Rattle.dict_rows.proofs.EntryLemmas.{length-entry, entry_bit}
 use Rattle.table_dicts.proofs.OneTable.{one_answers}
 use Rattle.samediff_dict.specs.declared.numbering.Candidates.{Candidates}
 use Rattle.samediff_dict.specs.Copied.{HaveClasses, class_entry}

@@ -3,7 +3,7 @@ use Rattle.std.proofs.Common.{◌≡◌, ◌∙◌, ℕ, ◌+◌, ◌<◌, ◌�
 use Rattle.std.proofs.lemmas.Bool.{cases_lt, cases_order}
 use Rattle.std.proofs.lemmas.List.{length-set, length_push, length-take-le, get_or-take, get_or_append_left, get_or_push, get_or-set_same, get_or-set_other}
 use Rattle.net_model.specs.ClassTable.{ClassTable, class_count, representative, same_bits}
-use Rattle.table_dicts.specs.AnswerTable.{answer_in}
+use Rattle.dict_rows.specs.AnswerTable.{answer_in}
 use Rattle.samediff_dict.specs.declared.partition.Partition.{Partition}
 use Rattle.samediff_dict.specs.Chosen.{pairs_apart}
 use Rattle.samediff_dict.specs.PlaceGroups.{gain_at}

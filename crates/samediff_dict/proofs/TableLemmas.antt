@@ -4,7 +4,7 @@ use Rattle.std.proofs.lemmas.Bool.{cases_lt}
 use Rattle.std.proofs.lemmas.List.{get_or-map, length-map, get_or-replicate, length-replicate}
 use Rattle.std.proofs.lemmas.List.FromFn.{length-map-range_with_len}
 use Rattle.net_model.specs.ClassTable.{ClassTable, class_count, representative}
-use Rattle.table_dicts.specs.AnswerTable.{answer_in}
+use Rattle.dict_rows.specs.AnswerTable.{answer_in}
 use Rattle.samediff_dict.specs.declared.numbering.Candidates.{Candidates}
 use Rattle.samediff_dict.specs.declared.choosing.BaselineChoice.{BaselineChoice}
 use Rattle.samediff_dict.specs.Chosen.{candidates, improvement}

@@ -7,10 +7,10 @@ use Rattle.std.proofs.lemmas.List.{get_or-map, length-map}
 use Rattle.net_model.specs.Answer.{bit_at}
 use Rattle.net_model.specs.ClassTable.{ClassTable, class_count, representative, same_bits}
 use Rattle.net_model.proofs.Copies.{same_bits_same_list}
-use Rattle.table_dicts.specs.AnswerTable.{answer_in}
-use Rattle.table_dicts.specs.Entries.{answers_of, same_diff_entry}
+use Rattle.dict_rows.specs.AnswerTable.{answer_in}
+use Rattle.dict_rows.specs.Entries.{answers_of, same_diff_entry}
 use Rattle.table_dicts.specs.Apart.{has_apart}
-use Rattle.table_dicts.proofs.EntryLemmas.{same_bits-Decides, length-differences, difference_at}
+use Rattle.dict_rows.proofs.EntryLemmas.{same_bits-Decides, length-differences, difference_at}
 use Rattle.samediff_dict.specs.Chosen.{pairs_apart}
 use Rattle.samediff_dict.specs.Numbered.{answers_base, AlikeFrom}
 use Rattle.samediff_dict.specs.declared.partition.Partition.{Partition}

@@ -2,7 +2,7 @@
 use Rattle.std.specs.Prelude.{◌≡◌, ℕ, ◌+◌, ◌<◌, ◌==◌, Bool, not, List, length, map, zip, slice_index, slice_index_or, Contains}
 use Rattle.std.specs.List.{range_with_len}
 use Rattle.net_model.specs.ClassTable.{ClassTable, class_count, representative}
-use Rattle.table_dicts.specs.AnswerTable.{Answers, answer_to}
+use Rattle.dict_rows.specs.AnswerTable.{Answers, answer_to}
 use Rattle.samediff_dict.specs.declared.numbering.Candidates.{Candidates}
 
 -- There is a number for each of so many classes, and a class that has this one.

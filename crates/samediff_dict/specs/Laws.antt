@@ -1,7 +1,7 @@
 -- Laws of the choice.
 use Rattle.std.specs.Prelude.{◌≡◌, ℕ, ◌≤◌, Bool, List, None, slice_set}
 use Rattle.net_model.specs.ClassTable.{ClassTable}
-use Rattle.table_dicts.specs.Entries.{free_baselines}
+use Rattle.dict_rows.specs.Entries.{free_baselines}
 use Rattle.samediff_dict.specs.Chosen.{pairs_apart, improvement, chosen_baselines}
 
 -- The third step has ended: no replacement of a chosen baseline by a candidate keeps more pairs apart.

@@ -3,9 +3,9 @@ use Rattle.std.specs.Prelude.{◌≡◌, ℕ, ◌+◌, ◌<◌, ◌≤◌, Bool,
 use Rattle.std.specs.List.{range_with_len}
 use Rattle.net_model.specs.Circuit.{Circuit}
 use Rattle.net_model.specs.ClassTable.{ClassTable, class_count, class_at, representative, same_bits}
-use Rattle.table_dicts.specs.AnswerTable.{Answers, answer_in, answer_to}
+use Rattle.dict_rows.specs.AnswerTable.{Answers, answer_in, answer_to}
 use Rattle.net_model.specs.Rows.{row_at}
-use Rattle.table_dicts.specs.Grouped.{AreDifferent}
+use Rattle.dict_rows.specs.Grouped.{AreDifferent}
 use Rattle.answer_numbers.specs.AnswerNumbers.{AnswerNumbers, vector_in, IsLeadNumber, IsLeadCount}
 use Rattle.samediff_dict.specs.declared.numbering.Candidates.{Candidates}
 use Rattle.answer_numbers.specs.Distinct.{distinct_answers}

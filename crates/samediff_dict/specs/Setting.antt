@@ -1,7 +1,7 @@
 -- What is answered to some of a setting's patterns, and what is chosen for them.
 use Rattle.std.specs.Prelude.{◌≡◌, ℕ, ◌+◌, ◌-◌, ◌<◌, List, length, slice_index}
 use Rattle.table_dicts.specs.declared.setting.Setting.{Setting}
-use Rattle.table_dicts.specs.AnswerTable.{Answers, HasSizes, answer_to}
+use Rattle.dict_rows.specs.AnswerTable.{Answers, HasSizes, answer_to}
 use Rattle.table_dicts.specs.Setting.{IsSetting, AreAnswersAt}
 use Rattle.samediff_dict.specs.declared.numbering.Candidates.{Candidates}
 use Rattle.samediff_dict.specs.Numbered.{HaveCandidates, AreChosen}

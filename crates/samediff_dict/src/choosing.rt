@@ -2,7 +2,7 @@
 
 ghost use Rattle.std.specs.Prelude.{◌≡◌, ◌<◌, Bool, List, length, slice_index_or, nat_lt, IfOk};
 ghost use Rattle.net_model.specs.ClassTable.{class_count};
-ghost use Rattle.table_dicts.specs.Entries.{free_baselines};
+ghost use Rattle.dict_rows.specs.Entries.{free_baselines};
 ghost use Rattle.samediff_dict.specs.Chosen.{pairs_apart, greedy_baselines, better_baselines, chosen_baselines};
 ghost use Rattle.samediff_dict.specs.Numbered.{HaveCandidates, HasBaselines, baselines_at};
 ghost use Rattle.samediff_dict.specs.Choice.{IsChoice, IsChosen};

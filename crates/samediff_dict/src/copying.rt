@@ -2,7 +2,7 @@
 
 ghost use Rattle.std.specs.Prelude.{◌≡◌, ◌+◌, ◌<◌, ◌≤◌, ℕ, Bool, List, length, slice_index, All, Contains, IfOk};
 ghost use Rattle.net_model.specs.ClassTable.{class_count};
-ghost use Rattle.table_dicts.specs.Rows.{AreRows, AreRowsBegun};
+ghost use Rattle.dict_rows.specs.Rows.{AreRows, AreRowsBegun};
 ghost use Rattle.samediff_dict.specs.Chosen.{chosen_baselines};
 ghost use Rattle.samediff_dict.specs.Numbered.{AnswerAlike, HaveCandidates};
 ghost use Rattle.samediff_dict.specs.Copied.{HaveClasses, AreLeads, AreWanted};

@@ -1,11 +1,13 @@
 //! The entries of the classes: at which patterns they answer otherwise than chosen.
 
-ghost use Rattle.std.specs.Prelude.{◌≡◌, ◌*◌, ◌<◌, length, slice_set, IfOk};
+ghost use Rattle.std.specs.Prelude.{◌≡◌, ◌<◌, length, slice_set, IfOk};
+ghost use Rattle.net_model.specs.Answer.{bit_at};
 ghost use Rattle.net_model.specs.Rows.{row_at};
-ghost use Rattle.table_dicts.specs.Rows.{AreRows, IsRowSet, IsWordOf};
+ghost use Rattle.dict_rows.specs.Rows.{AreRows, IsRowSet};
 ghost use Rattle.samediff_dict.specs.Copied.{AreEntries, HaveClasses, HasNumbers, class_entry};
 
 use crate::numbering::Candidates;
+use dict_rows::write_row;
 use net_model::AnswerRows;
 use std::alloc::{AllocError, Global};
 
@@ -54,25 +56,17 @@ fn write_entry(patterns: &[Candidates], chosen: &[u32], class: usize, entries: &
     requires width { length (row_at entries.old class) ≡ length chosen.now }
     ensures { IsRowSet entries.old entries.new class (class_entry patterns.now chosen.now class) }
 {
-    for word in 0..chosen.len().div_ceil(64) {
-        let bits = entry_word(patterns, chosen, class, word);
-        entries.set_word(class, word, bits);
-    }
+    write_row(entries, class, |pattern| {
+        answers_otherwise(patterns, chosen, class, pattern)
+    });
 }
 
-// The bits of a class's entry at the 64 patterns of a word, the lowest first.
-fn entry_word(patterns: &[Candidates], chosen: &[u32], class: usize, word: usize) -> u64
+// Whether a class answers otherwise than chosen at a pattern.
+fn answers_otherwise(patterns: &[Candidates], chosen: &[u32], class: usize, pattern: usize) -> bool
     requires numbers { HasNumbers class patterns.now chosen.now }
-    requires word { word * 64 < length chosen.now }
-    ensures { IsWordOf (class_entry patterns.now chosen.now class) word result }
+    requires pattern { pattern < length chosen.now }
+    ensures { result ≡ bit_at (class_entry patterns.now chosen.now class) pattern }
 {
-    let first = word * 64;
-    let mut bits = 0u64;
-    for at in 0..(chosen.len() - first).min(64) {
-        let number = patterns[first + at].numbers.get(class);
-        if number != chosen[first + at] {
-            bits |= 1 << at;
-        }
-    }
-    bits
+    let number = patterns[pattern].numbers.get(class);
+    number != chosen[pattern]
 }

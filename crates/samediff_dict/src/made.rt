@@ -2,8 +2,8 @@
 
 ghost use Rattle.std.specs.Prelude.{IfOk};
 ghost use Rattle.table_dicts.specs.Setting.{IsSetting, AreAnswersAt};
-ghost use Rattle.table_dicts.specs.AnswerTable.{Answers};
-ghost use Rattle.table_dicts.specs.Dictionary.{IsSameDiff};
+ghost use Rattle.dict_rows.specs.AnswerTable.{Answers};
+ghost use Rattle.dict_rows.specs.Dictionary.{IsSameDiff};
 ghost use Rattle.samediff_dict.specs.Chosen.{chosen_baselines};
 ghost use Rattle.samediff_dict.specs.Numbered.{HaveCandidates, HasBaselines};
 

@@ -3,8 +3,8 @@
 ghost use Rattle.answer_numbers.specs.AnswerNumbers.{numbered_vectors, vector_in};
 ghost use Rattle.samediff_dict.specs.Numbered.{AreAdded, AreNumbersOf, AreLeadCandidates, AreLanesAdded};
 ghost use Rattle.std.specs.Prelude.{◌≡◌, ◌<◌, ◌^◌, length, map, All, IfOk, OnOk};
-ghost use Rattle.table_dicts.specs.AnswerTable.{answer_to};
-ghost use Rattle.table_dicts.specs.Rows.{AreRows};
+ghost use Rattle.dict_rows.specs.AnswerTable.{answer_to};
+ghost use Rattle.dict_rows.specs.Rows.{AreRows};
 
 use answer_numbers::AnswerNumbers;
 use net_model::AnswerRows;

@@ -7,8 +7,8 @@ ghost use Rattle.samediff_dict.specs.Numbered.{HaveCandidates, baselines_at};
 ghost use Rattle.samediff_dict.specs.Setting.{AreAnswersOfNumbers, AreChosenOf};
 ghost use Rattle.std.specs.List.{range_with_len};
 ghost use Rattle.std.specs.Prelude.{◌≡◌, ◌+◌, ◌-◌, ◌<◌, ◌≤◌, ◌^◌, ℕ, length, map, All, IfOk, OnOk};
-ghost use Rattle.table_dicts.specs.AnswerTable.{Answers, HasSizes, answer_to};
-ghost use Rattle.table_dicts.specs.Rows.{AreRows, AreRowsBegun};
+ghost use Rattle.dict_rows.specs.AnswerTable.{Answers, HasSizes, answer_to};
+ghost use Rattle.dict_rows.specs.Rows.{AreRows, AreRowsBegun};
 ghost use Rattle.table_dicts.specs.Setting.{IsSetting, AreAnswersAt};
 
 use crate::copying::{chosen_leads, copy_own};

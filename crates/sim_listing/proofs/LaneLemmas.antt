@@ -13,8 +13,8 @@ use Rattle.net_model.specs.ClassTable.{same_bits}
 use Rattle.net_model.specs.Rows.{row_at}
 use Rattle.net_model.proofs.Listed.{some_number}
 use Rattle.class_refine.proofs.PatternTables.{answer_in_row, row_exists}
-use Rattle.table_dicts.specs.AnswerTable.{answer_in}
-use Rattle.table_dicts.proofs.EntryLemmas.{same_bits-Decides}
+use Rattle.dict_rows.specs.AnswerTable.{answer_in}
+use Rattle.dict_rows.proofs.EntryLemmas.{same_bits-Decides}
 use Rattle.answer_numbers.specs.AnswerNumbers.{vector_in, lead_fault, AreLeadAnswers, IsLeadNumber, IsLeadCount}
 use Rattle.answer_numbers.proofs.DistinctLemmas.{distinct_apart}
 use Rattle.sim_listing.specs.declared.lines.LaneAnswers.{LaneAnswers}

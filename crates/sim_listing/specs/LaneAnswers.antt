@@ -7,7 +7,7 @@ use Rattle.net_model.specs.Circuit.{Circuit, IsCircuit}
 use Rattle.net_model.specs.FaultList.{fault_count, fault_numbered}
 use Rattle.net_model.specs.PatternRows.{IsAnswerRow}
 use Rattle.net_model.specs.Rows.{row_at}
-use Rattle.table_dicts.specs.AnswerTable.{answer_in}
+use Rattle.dict_rows.specs.AnswerTable.{answer_in}
 use Rattle.answer_numbers.specs.AnswerNumbers.{AnswerNumbers, numbered_vectors, vector_in, lead_fault}
 use Rattle.answer_numbers.specs.Distinct.{distinct_answers}
 use Rattle.sim_listing.specs.declared.lines.LaneAnswers.{LaneAnswers}

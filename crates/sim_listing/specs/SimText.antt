@@ -6,7 +6,7 @@ use Rattle.net_model.specs.BitText.{bits_text}
 use Rattle.text_fields.specs.Fields.{Text}
 use Rattle.net_model.specs.ClassTable.{same_bits}
 use Rattle.net_model.specs.PatternRows.{AreAnswerRows}
-use Rattle.table_dicts.specs.AnswerTable.{answer_in}
+use Rattle.dict_rows.specs.AnswerTable.{answer_in}
 
 -- the line of a vector, by its number: what the circuit without a fault answers
 unfoldable pub vector_line : ℕ → List Bool → Text

@@ -3,7 +3,7 @@
 ghost use Rattle.std.specs.Prelude.{◌≡◌, ◌++◌, ◌<◌, ◌^◌, Bool, List, None, IfOk, IsSome, OnOk, flat_map, length, slice_index, slice_index_or, if◌then◌else◌};
 ghost use Rattle.std.specs.String.{string_bytes};
 ghost use Rattle.net_model.specs.BitText.{bits_text};
-ghost use Rattle.table_dicts.specs.AnswerTable.{answer_in};
+ghost use Rattle.dict_rows.specs.AnswerTable.{answer_in};
 ghost use Rattle.sim_listing.specs.LaneAnswers.{IsKnownLane, IsLaneRow, IsNumberPlace, AreLaneTexts};
 ghost use Rattle.sim_listing.specs.SimText.{vector_line, faulty_line, answers_otherwise, differing_numbers, numbered_line, vector_text};
 

@@ -16,12 +16,12 @@ use Rattle.net_model.proofs.Listed.{some_number}
 use Rattle.net_model.proofs.Copies.{same_bits_same_list}
 use Rattle.fault_sim.specs.FaultSim.{FaultSim, AreDifferences, lanes_at}
 use Rattle.table_dicts.specs.declared.setting.Setting.{Setting}
-use Rattle.table_dicts.specs.AnswerTable.{Answers, answer_to}
-use Rattle.table_dicts.specs.Rows.{AreRows}
+use Rattle.dict_rows.specs.AnswerTable.{Answers, answer_to}
+use Rattle.dict_rows.specs.Rows.{AreRows}
 use Rattle.table_dicts.specs.Setting.{AreAnswersAt}
 use Rattle.table_dicts.proofs.BlockLemmas.{lane_pattern, block_end}
 use Rattle.table_dicts.proofs.FailLemmas.{is_table, patterns_are, answer_is}
-use Rattle.table_dicts.proofs.RowLemmas.{width_at, rows_later, same_shape, shape_later}
+use Rattle.dict_rows.proofs.RowLemmas.{width_at, rows_later, same_shape, shape_later}
 use Rattle.ranked_diag.specs.declared.partial.Seen.TheVariants.{Unseen}
 use Rattle.ranked_diag.specs.Seen.{is_seen, differs}
 use Rattle.ranked_diag.specs.PartialLog.{Line}

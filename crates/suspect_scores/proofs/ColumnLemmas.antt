@@ -7,7 +7,7 @@ use Rattle.std.proofs.lemmas.List.Elements.{All-push, All-weaker, Contains-push,
 use Rattle.std.proofs.lemmas.List.Quantifiers.{all_pairs_push}
 use Rattle.net_model.specs.Answer.{bit_at}
 use Rattle.net_model.specs.Rows.{row_bit}
-use Rattle.table_dicts.specs.Rows.{AreRowsBegun}
+use Rattle.dict_rows.specs.Rows.{AreRowsBegun}
 use Rattle.suspect_scores.specs.Columns.{column_of, AreTransposed, AreWrongPositions}
 
 module _ (rows : List (List Bool)) where

@@ -1,9 +1,9 @@
 -- The text of the expected log, line by line.
 use Rattle.std.proofs.Common.{◌≡◌, ◌∙◌, ℕ, ◌+◌, ◌<◌, [], ◌∷◌, ◌++◌, length, take, get_or, sym, ap, arith}
 use Rattle.std.proofs.lemmas.List.{take_more, length-take-le, append-nil, ext_get_or}
-use Rattle.table_dicts.specs.AnswerTable.{Answers, answer_to}
-use Rattle.table_dicts.specs.Entries.{answers_of}
-use Rattle.table_dicts.proofs.EntryLemmas.{length-answers, answer_at}
+use Rattle.dict_rows.specs.AnswerTable.{Answers, answer_to}
+use Rattle.dict_rows.specs.Entries.{answers_of}
+use Rattle.dict_rows.proofs.EntryLemmas.{length-answers, answer_at}
 use Rattle.diagnose.specs.Lines.{lines_from}
 use Rattle.diagnose.specs.LogText.{log_line}
 use Rattle.diagnose.proofs.LineLemmas.{lines_more}

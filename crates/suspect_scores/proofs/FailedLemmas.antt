@@ -4,7 +4,7 @@ use Rattle.std.specs.Prelude.{count_by, zip, nat_lt}
 use Rattle.std.proofs.lemmas.List.Sums.{length-filter}
 use Rattle.net_model.specs.Answer.{bit_at}
 use Rattle.net_model.specs.Rows.{row_at}
-use Rattle.table_dicts.specs.AnswerTable.{Answers, answer_to}
+use Rattle.dict_rows.specs.AnswerTable.{Answers, answer_to}
 use Rattle.ranked_diag.specs.declared.partial.Seen.{Seen}
 use Rattle.ranked_diag.specs.Seen.{differs, differing_bits}
 use Rattle.ranked_diag.specs.PartialLog.{Line}

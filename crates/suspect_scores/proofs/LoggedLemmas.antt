@@ -9,7 +9,7 @@ use Rattle.net_model.specs.Circuit.{Circuit}
 use Rattle.class_refine.proofs.Ranges.{zip_at}
 use Rattle.net_model.specs.PatternRows.{IsAnswerRow}
 use Rattle.table_dicts.specs.declared.setting.Setting.{Setting}
-use Rattle.table_dicts.specs.AnswerTable.{Answers, HasSizes, AreAnswerable, AreAnswers, answer_to}
+use Rattle.dict_rows.specs.AnswerTable.{Answers, HasSizes, AreAnswerable, AreAnswers, answer_to}
 use Rattle.ranked_diag.specs.PartialLog.{Line, AreInOrder, ArePartial, patterns_of}
 use Rattle.suspect_scores.specs.Marks.{logged_line, logged_vectors, AreLogged}
 use Rattle.suspect_scores.proofs.MarkLemmas.{got_line}

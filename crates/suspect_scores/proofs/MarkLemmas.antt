@@ -3,8 +3,8 @@ use Rattle.std.proofs.Common.{◌≡◌, ◌∙◌, ℕ, zero, suc, ◌+◌, ◌
 use Rattle.std.specs.Prelude.{zip, All, Some, slice_get}
 use Rattle.net_model.specs.Answer.{bit_at}
 use Rattle.net_model.specs.Rows.{row_at}
-use Rattle.table_dicts.specs.Rows.{IsRowBegun, IsRowSet, AreRowsBegun}
-use Rattle.table_dicts.proofs.RowLemmas.{rows_more}
+use Rattle.dict_rows.specs.Rows.{IsRowBegun, IsRowSet, AreRowsBegun}
+use Rattle.dict_rows.proofs.RowLemmas.{rows_more}
 use Rattle.ranked_diag.specs.declared.partial.Seen.{Seen}
 use Rattle.ranked_diag.specs.PartialLog.{Line}
 use Rattle.suspect_scores.specs.declared.marks.LogMarks.{LogMarks}

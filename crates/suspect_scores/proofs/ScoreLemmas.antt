@@ -14,7 +14,7 @@ use Rattle.net_model.proofs.OneAnswer.{one_rows}
 use Rattle.net_model.proofs.Listed.{some_number}
 use Rattle.class_refine.proofs.Names.{numbers_after}
 use Rattle.class_refine.proofs.Pieces.{representative_lowest}
-use Rattle.table_dicts.specs.AnswerTable.{Answers, answer_to}
+use Rattle.dict_rows.specs.AnswerTable.{Answers, answer_to}
 use Rattle.table_dicts.proofs.ClassLemmas.{together_where_alike}
 use Rattle.table_dicts.proofs.FailLemmas.{is_table}
 use Rattle.ranked_diag.specs.declared.partial.Seen.{Seen}

@@ -11,7 +11,7 @@ use Rattle.std.proofs.lemmas.List.Sums.{sum_by-cons}
 use Rattle.std.proofs.lemmas.List.Sorted.{sum_by-IsPermutation, All-permutation, IsPermutation-refl, IsPermutation-trans, IsPermutation-cons, IsPermutation-insert}
 use Rattle.std.proofs.lemmas.List.Elements.{All-head, All-tail, All-map, All-filter}
 use Rattle.net_model.specs.ClassTable.{ClassTable}
-use Rattle.table_dicts.specs.AnswerTable.{Answers}
+use Rattle.dict_rows.specs.AnswerTable.{Answers}
 use Rattle.ranked_diag.specs.PartialLog.{Line}
 use Rattle.suspect_scores.specs.declared.suspect.Suspect.{Suspect}
 use Rattle.suspect_scores.specs.Listed.{representatives, suspect_of, hitting, unlike_bits, suspect_cmp, AreRanked}

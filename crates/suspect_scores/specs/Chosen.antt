@@ -2,7 +2,7 @@
 use Rattle.std.specs.Prelude.{◌≡◌, ℕ, ◌<◌, ◌≤◌, ◌&&◌, Bool, true, not, List, [], ◌∷◌, length, map, slice_index}
 use Rattle.net_model.specs.Answer.{bit_at}
 use Rattle.net_model.specs.Rows.{row_at}
-use Rattle.table_dicts.specs.AnswerTable.{Answers}
+use Rattle.dict_rows.specs.AnswerTable.{Answers}
 use Rattle.ranked_diag.specs.PartialLog.{Line}
 use Rattle.suspect_scores.specs.declared.choices.Choice.{Choice}
 use Rattle.suspect_scores.specs.declared.choosing.Best.{Best}

@@ -4,7 +4,7 @@ use Rattle.std.specs.List.{range_with_len}
 use Rattle.net_model.specs.Answer.{bit_at}
 use Rattle.net_model.specs.Rows.{bit_of, row_bit}
 use Rattle.fault_sim.specs.FaultSim.{FaultSim, lanes_at}
-use Rattle.table_dicts.specs.Rows.{AreRows}
+use Rattle.dict_rows.specs.Rows.{AreRows}
 use Rattle.suspect_scores.specs.declared.columns.LogColumns.{LogColumns}
 use Rattle.suspect_scores.specs.declared.block_scores.LaneScores.{LaneScores}
 use Rattle.suspect_scores.specs.declared.marks.LogMarks.{LogMarks}

@@ -1,8 +1,8 @@
 -- What a log tells of its patterns, in rows of bits, and what numbers answer to them.
 use Rattle.std.specs.Prelude.{◌≡◌, ℕ, ◌<◌, ◌&&◌, Bool, not, List, [], length, map, zip, All, slice_index, slice_index_or}
 use Rattle.table_dicts.specs.declared.setting.Setting.{Setting}
-use Rattle.table_dicts.specs.AnswerTable.{Answers, HasSizes, AreAnswerable, answer_to}
-use Rattle.table_dicts.specs.Rows.{AreRowsBegun}
+use Rattle.dict_rows.specs.AnswerTable.{Answers, HasSizes, AreAnswerable, answer_to}
+use Rattle.dict_rows.specs.Rows.{AreRowsBegun}
 use Rattle.table_dicts.specs.Setting.{AreAnswersAt}
 use Rattle.ranked_diag.specs.declared.partial.Seen.{Seen}
 use Rattle.ranked_diag.specs.Seen.{is_seen, differs}

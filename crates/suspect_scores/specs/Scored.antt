@@ -2,7 +2,7 @@
 use Rattle.std.specs.Prelude.{ℕ, ◌==◌, ◌&&◌, Bool, not, List, length, count_by, nat_lt}
 use Rattle.std.specs.List.{range_with_len}
 use Rattle.net_model.specs.Answer.{bit_at}
-use Rattle.table_dicts.specs.Rows.{AreRows}
+use Rattle.dict_rows.specs.Rows.{AreRows}
 use Rattle.suspect_scores.specs.declared.marks.LogMarks.{LogMarks}
 use Rattle.suspect_scores.specs.declared.scoring.LineScore.{LineScore}
 use Rattle.suspect_scores.specs.declared.suspect.Suspect.{Suspect}

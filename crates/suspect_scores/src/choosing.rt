@@ -2,7 +2,7 @@
 
 ghost use Rattle.std.specs.Prelude.{◌≡◌, ◌<◌, ◌≤◌, ◌^◌, true, Bool, List, length, replicate, slice_index, if◌then◌else◌, ◌||◌, ◌&&◌, ◌==◌, nat_lt, IfOk};
 ghost use Rattle.net_model.specs.Rows.{row_at};
-ghost use Rattle.table_dicts.specs.Rows.{AreRows};
+ghost use Rattle.dict_rows.specs.Rows.{AreRows};
 ghost use Rattle.suspect_scores.specs.Chosen.{left_count, IsBestOf, IsWithout, AreAllLeft, AreChosenFrom};
 
 use crate::choices::Choice;

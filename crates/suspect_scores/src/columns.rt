@@ -2,7 +2,7 @@
 
 ghost use Rattle.std.specs.Prelude.{◌≡◌, ℕ, ◌<◌, ◌≤◌, ◌++◌, ◌∷◌, [], false, length, if◌then◌else◌, IfOk, OnOk};
 ghost use Rattle.net_model.specs.Rows.{row_at, row_bit};
-ghost use Rattle.table_dicts.specs.Rows.{AreRows, IsRowSet};
+ghost use Rattle.dict_rows.specs.Rows.{AreRows, IsRowSet};
 ghost use Rattle.suspect_scores.specs.Scored.{AreMarkRows};
 ghost use Rattle.suspect_scores.specs.Columns.{AreColumns, AreTransposed, column_of, AreWrongPositions};
 

@@ -1,7 +1,7 @@
 //! Classes that together explain the failing patterns of a log.
 
 ghost use Rattle.std.specs.Prelude.{◌≡◌, length, IfOk};
-ghost use Rattle.table_dicts.specs.AnswerTable.{Answers};
+ghost use Rattle.dict_rows.specs.AnswerTable.{Answers};
 ghost use Rattle.table_dicts.specs.Setting.{IsSetting, AreAnswersAt};
 ghost use Rattle.ranked_diag.specs.PartialLog.{ArePartial};
 ghost use Rattle.suspect_scores.specs.Covering.{IsCover};

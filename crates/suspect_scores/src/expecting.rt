@@ -3,8 +3,8 @@
 ghost use Rattle.std.specs.Prelude.{◌≡◌, ◌<◌, ◌++◌, ◌∷◌, [], length, IfOk, OnOk};
 ghost use Rattle.std.specs.String.{string_bytes};
 ghost use Rattle.net_model.specs.BitText.{bits_text};
-ghost use Rattle.table_dicts.specs.AnswerTable.{Answers, answer_to};
-ghost use Rattle.table_dicts.specs.Entries.{answers_of};
+ghost use Rattle.dict_rows.specs.AnswerTable.{Answers, answer_to};
+ghost use Rattle.dict_rows.specs.Entries.{answers_of};
 ghost use Rattle.table_dicts.specs.Setting.{IsSetting, AreAnswersAt};
 ghost use Rattle.diagnose.specs.Lines.{lines_from};
 ghost use Rattle.diagnose.specs.LogText.{log_line};

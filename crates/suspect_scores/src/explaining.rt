@@ -4,8 +4,8 @@ ghost use Rattle.std.specs.Prelude.{◌≡◌, ℕ, ◌+◌, ◌%◌, ◌<◌, �
 ghost use Rattle.net_model.specs.FaultList.{fault_count};
 ghost use Rattle.net_model.specs.Rows.{row_at};
 ghost use Rattle.word_sim.specs.declared.lanes.TheConstants.{LANES};
-ghost use Rattle.table_dicts.specs.AnswerTable.{Answers};
-ghost use Rattle.table_dicts.specs.Rows.{AreRows};
+ghost use Rattle.dict_rows.specs.AnswerTable.{Answers};
+ghost use Rattle.dict_rows.specs.Rows.{AreRows};
 ghost use Rattle.table_dicts.specs.Setting.{AreAnswersAt};
 ghost use Rattle.ranked_diag.specs.PartialLog.{Line};
 ghost use Rattle.suspect_scores.specs.Marks.{IsLogged, IsMarked};

@@ -3,7 +3,7 @@
 ghost use Rattle.std.specs.Prelude.{◌≡◌, ◌<◌, length, nat_lt, IfOk, if◌then◌else◌};
 ghost use Rattle.net_model.specs.Answer.{bit_at};
 ghost use Rattle.net_model.specs.Rows.{row_at};
-ghost use Rattle.table_dicts.specs.AnswerTable.{Answers};
+ghost use Rattle.dict_rows.specs.AnswerTable.{Answers};
 ghost use Rattle.table_dicts.specs.Setting.{IsSetting, AreAnswersAt};
 ghost use Rattle.ranked_diag.specs.PartialLog.{ArePartial};
 ghost use Rattle.suspect_scores.specs.Scores.{failing};

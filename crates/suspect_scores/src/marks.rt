@@ -2,8 +2,8 @@
 
 ghost use Rattle.std.specs.Prelude.{◌≡◌, ◌<◌, ◌&&◌, not, length, All, IfOk};
 ghost use Rattle.net_model.specs.Rows.{row_at};
-ghost use Rattle.table_dicts.specs.AnswerTable.{answer_to};
-ghost use Rattle.table_dicts.specs.Rows.{IsBitSet, IsRowSet};
+ghost use Rattle.dict_rows.specs.AnswerTable.{answer_to};
+ghost use Rattle.dict_rows.specs.Rows.{IsBitSet, IsRowSet};
 ghost use Rattle.ranked_diag.specs.Seen.{is_seen, differs};
 ghost use Rattle.suspect_scores.specs.Marks.{AreMarksBegun, AreMarksOf, wrong_row, right_row};
 

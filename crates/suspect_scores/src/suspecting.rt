@@ -2,7 +2,7 @@
 
 ghost use Rattle.std.specs.Prelude.{◌≡◌, ◌<◌, List, length, map, filter, IsPermutation, IsSorted, All, IfOk};
 ghost use Rattle.net_model.specs.FaultList.{fault_count};
-ghost use Rattle.table_dicts.specs.AnswerTable.{Answers};
+ghost use Rattle.dict_rows.specs.AnswerTable.{Answers};
 ghost use Rattle.table_dicts.specs.Setting.{IsSetting, AreAnswersAt};
 ghost use Rattle.ranked_diag.specs.PartialLog.{Line, ArePartial};
 ghost use Rattle.suspect_scores.specs.Listed.{AreSuspects, suspect_of, suspect_cmp, unlike_bits};

@@ -13,9 +13,9 @@ use Rattle.net_model.specs.ClassTable.{ClassTable, class_count, representative, 
 use Rattle.class_refine.specs.Fields.{IsWhole}
 use Rattle.net_model.proofs.Ranges.{range_more}
 use Rattle.class_refine.proofs.Refined.{representative-member}
-use Rattle.table_dicts.specs.Grouped.{IsGrouped, group_row}
+use Rattle.dict_rows.specs.Grouped.{IsGrouped, group_row}
 use Rattle.table_dicts.specs.Apart.{has_apart, apart_count}
-use Rattle.table_dicts.proofs.EntryLemmas.{same_bits-Decides}
+use Rattle.dict_rows.proofs.EntryLemmas.{same_bits-Decides}
 
 -- how many of the first classes have their representative in a group
 abbrev pub alike_to : ClassTable → List ℕ → ℕ → ℕ → ℕ

@@ -19,11 +19,11 @@ use Rattle.class_refine.proofs.Ranges.{zip_at}
 use Rattle.fault_heads.proofs.SeenPins.{seen_at}
 use Rattle.class_refine.proofs.PatternTables.{answer_exists, answer_width, answer_in_row}
 use Rattle.class_refine.proofs.PatternTables.{rows_exist}
-use Rattle.table_dicts.proofs.EntryLemmas.{same_bits-Decides}
-use Rattle.table_dicts.specs.AnswerTable.{Answers, answer_to, answer_bit, HasSizes, IsTable, AreAnswers}
+use Rattle.dict_rows.proofs.EntryLemmas.{same_bits-Decides}
+use Rattle.dict_rows.specs.AnswerTable.{Answers, answer_to, answer_bit, HasSizes, IsTable, AreAnswers, IsNumberSet}
 use Rattle.table_dicts.specs.declared.simulating.Kept.{Kept}
 use Rattle.table_dicts.specs.declared.simulating.Kept.TheVariants.{Bits, Fails}
-use Rattle.table_dicts.specs.Blocks.{IsAnswerBit, IsFailBit, IsKeptBit, IsListedBit, IsNumberSet, AreNumbersSet, AreRightBits}
+use Rattle.table_dicts.specs.Blocks.{IsAnswerBit, IsFailBit, IsKeptBit, IsListedBit, AreNumbersSet, AreRightBits}
 
 -- ---- what is written
 
@@ -50,15 +50,6 @@ numbers_more {right} {count} {old} {mid} {new} {number} {first} positions so_far
   others = λ p n k low hp hm hk.
       one.others p n k (omega (arith, hp, so_far.sizes.patterns_are)) (omega (arith, hm, so_far.sizes.numbers_are)) (omega (arith, hk, so_far.sizes.positions_are)) (inl low)
       ∙ so_far.others p n k low hp hm hk;
-}
-
--- what is right of a number at a place is right by what is asked there
-pub number_as : {right : ℕ → ℕ → ℕ → Bool → Type 0} {count : ℕ} {old new : Answers} {place first positions : ℕ} (over : ℕ → ℕ → ℕ → Bool → Type 0) → ((lane k : ℕ) (bit : Bool) → lane < count → k < positions → right lane place k bit → over lane place k bit)
-    → IsNumberSet right count old new place first positions → IsNumberSet over count old new place first positions
-number_as {right} {count} {old} {new} {place} {first} {positions} over asked set = record {
-  sizes = set.sizes;
-  here = λ lane k hl hk. asked lane k (answer_bit new (first + lane) place k) hl hk (set.here lane k hl hk);
-  others = set.others;
 }
 
 -- ---- that it is right

@@ -7,9 +7,9 @@ use Rattle.std.proofs.lemmas.List.FromFn.{length-map-range_with_len, get_or-map-
 use Rattle.net_model.specs.ClassTable.{ClassTable, class_at}
 use Rattle.net_model.specs.Rows.{row_at}
 use Rattle.table_dicts.specs.ByClass.{AreRowsOfClasses}
-use Rattle.table_dicts.specs.Grouped.{AreFirstsOf, AreGroupsOf}
-use Rattle.table_dicts.proofs.GroupLemmas.{few_firsts}
-use Rattle.table_dicts.proofs.RegroupLemmas.{groups_over}
+use Rattle.dict_rows.specs.Grouped.{AreFirstsOf, AreGroupsOf}
+use Rattle.dict_rows.proofs.GroupLemmas.{few_firsts}
+use Rattle.dict_rows.proofs.RegroupLemmas.{groups_over}
 
 module _ (t : ClassTable) where
   -- a row for each number, which is as long as the number of its class

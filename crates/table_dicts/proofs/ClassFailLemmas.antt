@@ -11,10 +11,10 @@ use Rattle.net_model.specs.PatternRows.{IsTableOf}
 use Rattle.class_refine.specs.Fields.{IsWhole}
 use Rattle.class_refine.proofs.Refined.{representative-member}
 use Rattle.class_refine.proofs.PatternTables.{table_numbers}
-use Rattle.table_dicts.specs.AnswerTable.{Answers, IsTable, AreAnswers}
+use Rattle.dict_rows.specs.AnswerTable.{Answers, IsTable, AreAnswers}
 use Rattle.table_dicts.specs.Blocks.{IsListedBit, AreRightBits}
 use Rattle.table_dicts.specs.ByClass.{AreEntriesOfClasses}
-use Rattle.table_dicts.specs.Entries.{differences, full_entry, free_baselines, pass_fail_entry}
+use Rattle.dict_rows.specs.Entries.{differences, full_entry, free_baselines, pass_fail_entry}
 use Rattle.table_dicts.specs.declared.simulating.Kept.TheVariants.{Fails}
 use Rattle.table_dicts.proofs.FailLemmas.{is_table, fails_are}
 use Rattle.table_dicts.proofs.ClassLemmas.{entries_of, entry_at, same_answers, entries_of_classes}

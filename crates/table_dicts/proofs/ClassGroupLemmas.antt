@@ -6,9 +6,9 @@ use Rattle.net_model.specs.ClassTable.{ClassTable, class_count, class_at, repres
 use Rattle.class_refine.specs.Fields.{IsWhole}
 use Rattle.class_refine.proofs.Pieces.{representative_lowest}
 use Rattle.class_refine.proofs.Refined.{representative-member}
-use Rattle.table_dicts.specs.Grouped.{AreFirstsOf}
+use Rattle.dict_rows.specs.Grouped.{AreFirstsOf}
 use Rattle.table_dicts.specs.ByClass.{AreRowsOfClasses}
-use Rattle.table_dicts.proofs.GroupLemmas.{firsts_with, firsts_none, begins, joins}
+use Rattle.dict_rows.proofs.GroupLemmas.{firsts_with, firsts_none, begins, joins}
 
 -- The numbers below a limit are in groups by their classes. The first of each group is the lowest of its class, and the group of a class that has begun is noted.
 pub record AreBegun (t : ClassTable) (done : ℕ) (groups firsts noted : List ℕ) : Type 0 where

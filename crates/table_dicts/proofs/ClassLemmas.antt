@@ -17,14 +17,14 @@ use Rattle.class_refine.proofs.Refined.{numbers-refined, class-refined, after_sa
 use Rattle.net_model.proofs.OneAnswer.{one_table}
 use Rattle.class_refine.proofs.PatternTables.{table_numbers}
 use Rattle.net_model.specs.Rows.{row_at}
-use Rattle.table_dicts.specs.Rows.{AreRows}
-use Rattle.table_dicts.specs.AnswerTable.{Answers, answer_in, IsTable, AreAnswers}
-use Rattle.table_dicts.specs.Entries.{answers_of, full_entry}
+use Rattle.dict_rows.specs.Rows.{AreRows}
+use Rattle.dict_rows.specs.AnswerTable.{Answers, answer_in, IsTable, AreAnswers}
+use Rattle.dict_rows.specs.Entries.{answers_of, full_entry}
 use Rattle.table_dicts.specs.Blocks.{IsListedBit, AreRightBits}
 use Rattle.table_dicts.specs.declared.simulating.Kept.TheVariants.{Bits}
 use Rattle.table_dicts.specs.ByClass.{AreRowsOfClasses}
-use Rattle.table_dicts.specs.Grouped.{AreFirstsOf}
-use Rattle.table_dicts.proofs.EntryLemmas.{length-answers, answer_at as answer_of_at, answers_are}
+use Rattle.dict_rows.specs.Grouped.{AreFirstsOf}
+use Rattle.dict_rows.proofs.EntryLemmas.{length-answers, answer_at as answer_of_at, answers_are}
 use Rattle.table_dicts.proofs.FailLemmas.{is_table, answers_listed}
 
 -- ---- classes and answers

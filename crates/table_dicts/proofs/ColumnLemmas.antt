@@ -1,11 +1,13 @@
 -- A number's answers to a block, written position by position.
-use Rattle.std.proofs.Common.{◌≡◌, ◌∙◌, ℕ, ◌+◌, ◌<◌, ◌≤◌, ◌↔◌, Bool, true, false, not, cond, List, [], length, get_or, refl, sym, subst, arith, inl, inr, IsTrue}
+use Rattle.std.proofs.Common.{◌≡◌, ◌≢◌, ◌∙◌, ℕ, ◌+◌, ◌<◌, ◌≤◌, ◌↔◌, Bool, true, false, not, cond, List, [], ◌∷◌, ◌++◌, length, get_or, refl, sym, ap, subst, arith, inl, inr, IsTrue}
 use Rattle.std.proofs.lemmas.Bool.{cases_eq, false≢true, false_from_ne_true}
+use Rattle.std.proofs.lemmas.List.{length_push, get_or_append_left, get_or_push}
 use Rattle.net_model.specs.Answer.{bit_at}
 use Rattle.word_sim.specs.declared.lanes.TheConstants.{LANES}
-use Rattle.table_dicts.specs.AnswerTable.{Answers, answer_bit, HasBitSet}
-use Rattle.table_dicts.specs.Blocks.{IsNumberSet, IsColumnSet, HasLanes}
-use Rattle.table_dicts.proofs.BlockLemmas.{same_sizes, sizes_later, number_as}
+use Rattle.dict_rows.specs.AnswerTable.{Answers, answer_bit, HasBitSet, HasSizes, IsNumberSet}
+use Rattle.table_dicts.specs.Blocks.{IsColumnSet, HasLanes}
+use Rattle.dict_rows.proofs.BlockWordLemmas.{number_as}
+use Rattle.table_dicts.proofs.BlockLemmas.{same_sizes, sizes_later}
 
 -- ---- one position, lane by lane
 
@@ -45,6 +47,37 @@ column_stands free lanes differ any count t number first position none found is 
       stands lane h ∙ sym (same_lane (bit_at lanes lane) (bit_at free lane) (bit_at differ lane) (is lane inside) off);
   others = λ p n k hp hn hk apart. refl;
 }
+
+-- ---- a table of one number, position by position
+
+-- The table has the first lanes, so many, and no bit of a later position is set.
+pub record HasLanesBegun (width : ℕ) (lanes : List (List Bool)) (t : Answers) (done : ℕ) : Type 0 where
+  pub sizes : HasSizes t LANES 1 width
+  pub long : length lanes ≡ done
+  pub begun : (lane k : ℕ) → lane < LANES → k < done → answer_bit t lane 0 k ≡ bit_at (get_or lanes k []) lane
+  pub clear : (lane k : ℕ) → lane < LANES → done ≤ k → k < width → answer_bit t lane 0 k ≡ false
+
+pub lanes_more : {width position : ℕ} {lanes : List (List Bool)} {column : List Bool} {old new : Answers} → HasLanesBegun width lanes old position → IsColumnSet column LANES old new 0 0 position → position < width
+    → HasLanesBegun width (lanes ++ column ∷ []) new (position + 1)
+lanes_more {width} {position} {lanes} {column} {old} {new} so_far one inside =
+    let was = so_far.sizes in
+    let kept : (lane k : ℕ) → lane < LANES → k < width → k ≢ position → answer_bit new lane 0 k ≡ answer_bit old lane 0 k =
+    λ lane k h hk ne. one.others lane 0 k (omega (arith, h, was.patterns_are)) (omega (arith, was.numbers_are)) (omega (arith, hk, was.positions_are)) (inr (inr ne)) in
+    record {
+      sizes = record { patterns_are = one.sizes.patterns_are ∙ was.patterns_are; numbers_are = one.sizes.numbers_are ∙ was.numbers_are; positions_are = one.sizes.positions_are ∙ was.positions_are };
+      long = omega (arith, length_push lanes column, so_far.long);
+      begun = λ lane k h low. elim (cases_eq k position) [
+        | inl same ↦
+            let first : lane ≡ 0 + lane = omega arith in
+            subst (λ j. answer_bit new lane 0 j ≡ bit_at (get_or (lanes ++ column ∷ []) j []) lane) (sym same)
+            (ap (λ n. answer_bit new n 0 position) first ∙ (one.here lane h ∙ sym (ap (λ (bits : List Bool). bit_at bits lane) (get_or_push lanes column [] position so_far.long))))
+        | inr ne ↦
+            let before : k < position = omega (arith, low, ne) in
+            kept lane k h (omega (arith, before, inside)) ne
+            ∙ (so_far.begun lane k h before ∙ sym (ap (λ (bits : List Bool). bit_at bits lane) (get_or_append_left lanes (column ∷ []) [] k (omega (arith, before, so_far.long)))))
+      ];
+      clear = λ lane k h past hk. kept lane k h hk (λ e. omega (arith, e, past)) ∙ so_far.clear lane k h (omega (arith, past)) hk;
+    }
 
 -- ---- all positions, one after another
 

@@ -15,11 +15,11 @@ use Rattle.net_model.proofs.Copies.{same_bits_same_list}
 use Rattle.net_model.proofs.Listed.{some_number}
 use Rattle.class_refine.proofs.Ranges.{zip_at}
 use Rattle.class_refine.proofs.PatternTables.{answer_width, answer_in_row}
-use Rattle.table_dicts.specs.AnswerTable.{Answers, answer_in, answer_to, answer_bit, IsTable, AreAnswers}
-use Rattle.table_dicts.specs.Entries.{answers_of, full_entry, free_baselines, pass_fail_entry}
+use Rattle.dict_rows.specs.AnswerTable.{Answers, answer_in, answer_to, answer_bit, IsTable, AreAnswers}
+use Rattle.dict_rows.specs.Entries.{answers_of, full_entry, free_baselines, pass_fail_entry}
 use Rattle.table_dicts.specs.Blocks.{IsListedBit, AreRightBits}
 use Rattle.table_dicts.specs.declared.simulating.Kept.TheVariants.{Bits, Fails}
-use Rattle.table_dicts.proofs.EntryLemmas.{length-answers, answer_at, answers_are, length-entry, entry_bit}
+use Rattle.dict_rows.proofs.EntryLemmas.{length-answers, answer_at, answers_are, length-entry, entry_bit}
 
 -- ---- entries of one bit for each pattern
 

@@ -1,17 +1,10 @@
-pub mod RowLemmas
-pub mod TableLemmas
-pub mod EntryLemmas
-pub mod GroupLemmas
 pub mod ApartLemmas
 pub mod BlockLemmas
 pub mod FailLemmas
 pub mod ClassLemmas
 pub mod ClassGroupLemmas
-pub mod RegroupLemmas
 pub mod RootLemmas
 pub mod OneTable
 pub mod ClassFailLemmas
 pub mod ClassEntryLemmas
-pub mod BlockWordLemmas
-pub mod WordLemmas
 pub mod ColumnLemmas

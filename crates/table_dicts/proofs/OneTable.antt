@@ -4,7 +4,7 @@ use Rattle.net_model.specs.Circuit.{Circuit, IsCircuit}
 use Rattle.net_model.specs.FaultList.{fault_count}
 use Rattle.net_model.proofs.OneAnswer.{one_rows}
 use Rattle.class_refine.proofs.PatternTables.{rows_exist}
-use Rattle.table_dicts.specs.AnswerTable.{Answers, AreAnswers}
+use Rattle.dict_rows.specs.AnswerTable.{Answers, AreAnswers}
 
 abbrev answers_with : ℕ → ℕ → List (List (List Bool)) → Answers
 answers_with numbers positions rows = record { numbers = numbers; positions = positions; rows = rows }

@@ -10,11 +10,11 @@ use Rattle.fault_collapse.specs.Forest.{Forest, IsForestOf, forest_with}
 use Rattle.fault_collapse.specs.ForestFields.{AreForestFields}
 use Rattle.fault_collapse.proofs.Settled.{is_settled, same_equal}
 use Rattle.class_refine.proofs.PatternTables.{answer_exists}
-use Rattle.table_dicts.specs.AnswerTable.{Answers, ArePicked}
+use Rattle.dict_rows.specs.AnswerTable.{Answers, ArePicked}
 use Rattle.table_dicts.specs.Blocks.{IsAnswerBit, IsListedBit, AreRightBits}
 use Rattle.table_dicts.specs.declared.simulating.Kept.TheVariants.{Bits}
 use Rattle.table_dicts.specs.ByRoot.{AreGroupsByRoot}
-use Rattle.table_dicts.proofs.GroupLemmas.{firsts_with}
+use Rattle.dict_rows.proofs.GroupLemmas.{firsts_with}
 
 -- at first there is no group
 pub roots_none : (roots : List ℕ) → AreGroupsByRoot roots 0 [] []

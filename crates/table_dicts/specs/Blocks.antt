@@ -9,7 +9,7 @@ use Rattle.word_sim.specs.declared.lanes.TheConstants.{LANES}
 use Rattle.table_dicts.specs.declared.bench.Bench.{Bench}
 use Rattle.table_dicts.specs.declared.simulating.Kept.{Kept}
 use Rattle.table_dicts.specs.declared.simulating.Kept.TheVariants.{Bits, Fails}
-use Rattle.table_dicts.specs.AnswerTable.{Answers, HasSizes, answer_bit}
+use Rattle.dict_rows.specs.AnswerTable.{Answers, HasSizes, answer_bit}
 
 -- All parts are those of one circuit.
 pub record IsBench (c : Circuit) (b : Bench) : Type 0 where
@@ -52,13 +52,6 @@ pub record FitsAt (kept : Kept) (b : Bench) (t : Answers) (first : ℕ) : Type 0
   pub width : t.positions ≡ kept_width kept (length b.good.circuit.positions)
   pub aligned : first % 64 ≡ 0
   pub within : first + length b.block.vectors ≤ length t.rows
-
--- The new table has right bits of a number at the positions below a limit, from the first pattern on, so many, and other numbers and
--- earlier patterns have theirs as before. Which bits are right is said by place in the block, number and position.
-pub record IsNumberSet (right : ℕ → ℕ → ℕ → Bool → Type 0) (count : ℕ) (old new : Answers) (number first limit : ℕ) : Type 0 where
-  pub sizes : HasSizes new (length old.rows) old.numbers old.positions
-  pub here : (lane k : ℕ) → lane < count → k < limit → right lane number k (answer_bit new (first + lane) number k)
-  pub others : (p n k : ℕ) → p < length old.rows → n < old.numbers → k < old.positions → (p < first) ⊎ (n ≢ number) → answer_bit new p n k ≡ answer_bit old p n k
 
 -- The new table has the bits of lanes as a number's answers at a position, to so many patterns from the first one on, and other numbers,
 -- other positions and earlier patterns have theirs as before.

@@ -1,7 +1,7 @@
 -- Laws of tables.
 use Rattle.std.specs.Prelude.{◌≡◌, Bool, List}
 use Rattle.net_model.specs.Circuit.{Circuit, IsCircuit}
-use Rattle.table_dicts.specs.AnswerTable.{Answers, AreAnswers}
+use Rattle.dict_rows.specs.AnswerTable.{Answers, AreAnswers}
 
 -- there is one table of a circuit's answers to patterns, and no other
 abbrev pub HaveOneTable : Type 0

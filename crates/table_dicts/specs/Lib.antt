@@ -1,13 +1,6 @@
-pub mod Rows
-pub mod AnswerTable
-pub mod AnswerTableFields
-pub mod Entries
-pub mod Grouped
 pub mod ByClass
 pub mod ByRoot
-pub mod Dictionary
 pub mod Apart
 pub mod Blocks
 pub mod Laws
 pub mod Setting
-pub mod BlockWords

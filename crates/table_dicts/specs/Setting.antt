@@ -1,7 +1,7 @@
 -- A circuit with its faults, patterns, and the classes of these patterns.
 use Rattle.net_model.specs.PatternRows.{IsTableOf}
 use Rattle.table_dicts.specs.declared.setting.Setting.{Setting}
-use Rattle.table_dicts.specs.AnswerTable.{Answers, AreAnswerable, AreAnswers}
+use Rattle.dict_rows.specs.AnswerTable.{Answers, AreAnswerable, AreAnswers}
 
 -- The faults and the classes are those of the circuit and the patterns, which can be answered.
 pub record IsSetting (s : Setting) : Type 0 where

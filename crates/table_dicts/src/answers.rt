@@ -2,13 +2,12 @@
 
 ghost use Rattle.std.specs.Prelude.{◌≡◌, ◌<◌, ◌^◌, ℕ, length, slice_index, All, IfOk};
 ghost use Rattle.net_model.specs.FaultList.{fault_count};
-ghost use Rattle.table_dicts.specs.AnswerTable.{Answers, AreAnswerable, AreAnswers, ArePicked, HasSizes, IsTable, answer_to};
+ghost use Rattle.dict_rows.specs.AnswerTable.{Answers, AreAnswerable, AreAnswers, ArePicked, HasSizes, IsTable, answer_to};
 ghost use Rattle.table_dicts.specs.Blocks.{IsListedBit, AreRightBits};
 
-use crate::answer_table::AnswerTable;
 use crate::by_root::root_groups;
-use crate::grouping::Sorted;
 use crate::simulating::{Kept, tabulate};
+use dict_rows::{AnswerTable, Sorted};
 use fault_collapse::collapse;
 use fault_list::FaultList;
 use net_model::{Circuit, Vector, Vectors};

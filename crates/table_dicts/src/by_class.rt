@@ -5,17 +5,15 @@ ghost use Rattle.std.specs.List.{range_with_len};
 ghost use Rattle.class_refine.specs.Fields.{IsWhole};
 ghost use Rattle.net_model.specs.ClassTable.{class_count, class_at, representative};
 ghost use Rattle.net_model.specs.Rows.{row_at};
-ghost use Rattle.table_dicts.specs.AnswerTable.{Answers, HasSizes};
+ghost use Rattle.dict_rows.specs.AnswerTable.{Answers, HasSizes};
 ghost use Rattle.table_dicts.specs.ByClass.{AreRowsOfClasses, AreEntriesOfClasses};
-ghost use Rattle.table_dicts.specs.Dictionary.{IsDictionary};
-ghost use Rattle.table_dicts.specs.Entries.{same_diff_entry};
-ghost use Rattle.table_dicts.specs.Grouped.{AreFirstsOf, AreGroupsOf};
-ghost use Rattle.table_dicts.specs.Rows.{AreRows};
+ghost use Rattle.dict_rows.specs.Dictionary.{IsDictionary};
+ghost use Rattle.dict_rows.specs.Entries.{same_diff_entry};
+ghost use Rattle.dict_rows.specs.Grouped.{AreFirstsOf, AreGroupsOf};
+ghost use Rattle.dict_rows.specs.Rows.{AreRows};
 
-use crate::bits::rows_at;
-use crate::dict::{Dict, DictKind, Groups};
-use crate::grouping::{Grouped, Sorted, group_rows};
 use class_refine::Classes;
+use dict_rows::{Dict, DictKind, Grouped, Groups, Sorted, group_rows, rows_at};
 use net_model::AnswerRows;
 use std::alloc::{AllocError, Global};
 

@@ -3,7 +3,7 @@
 ghost use Rattle.std.specs.Prelude.{◌≡◌, ◌<◌, ◌≤◌, ◌^◌, length, slice_index, All, IfOk};
 ghost use Rattle.table_dicts.specs.ByRoot.{AreGroupsByRoot};
 
-use crate::grouping::Sorted;
+use dict_rows::Sorted;
 use std::alloc::{AllocError, Global};
 
 /// A group for each root, numbered in order of the lowest numbers that have it, which are the firsts.

@@ -1,17 +1,16 @@
 //! Dictionaries of a circuit from the simulators, without a table of all answers.
 
 ghost use Rattle.std.specs.Prelude.{◌≡◌, length, IfOk};
-ghost use Rattle.table_dicts.specs.AnswerTable.{Answers};
-ghost use Rattle.table_dicts.specs.Dictionary.{IsFull, IsPassFail};
-ghost use Rattle.table_dicts.specs.Entries.{free_baselines};
-ghost use Rattle.table_dicts.specs.Rows.{AreRows};
+ghost use Rattle.dict_rows.specs.AnswerTable.{Answers};
+ghost use Rattle.dict_rows.specs.Dictionary.{IsFull, IsPassFail};
+ghost use Rattle.dict_rows.specs.Entries.{free_baselines};
+ghost use Rattle.dict_rows.specs.Rows.{AreRows};
 ghost use Rattle.table_dicts.specs.Setting.{IsSetting, AreAnswersAt};
 
 use crate::by_class::{class_groups, dict_of_classes, representatives};
-use crate::dict::{Dict, DictKind};
-use crate::projecting::answers_of;
 use crate::setting::Setting;
 use crate::simulating::{Kept, tabulate};
+use dict_rows::{Dict, DictKind, answers_of};
 use net_model::AnswerRows;
 use std::alloc::{AllocError, Global};
 

@@ -4,12 +4,12 @@ ghost use Rattle.std.specs.Prelude.{◌≡◌, ◌+◌, ◌^◌, ◌<◌, ◌≤
 ghost use Rattle.net_model.specs.Answer.{bit_at};
 ghost use Rattle.net_model.specs.FaultList.{fault_numbered};
 ghost use Rattle.fault_sim.specs.FaultSim.{AreDifferences};
-ghost use Rattle.table_dicts.specs.AnswerTable.{answer_bit};
-ghost use Rattle.table_dicts.specs.Blocks.{HasRunPatterns, HasLanes, FitsAt, IsKeptBit, kept_width, IsNumberSet, IsColumnSet};
+ghost use Rattle.dict_rows.specs.AnswerTable.{answer_bit, IsNumberSet};
+ghost use Rattle.table_dicts.specs.Blocks.{HasRunPatterns, HasLanes, FitsAt, IsKeptBit, kept_width, IsColumnSet};
 
-use crate::answer_table::AnswerTable;
 use crate::bench::Bench;
 use crate::simulating::Kept;
+use dict_rows::AnswerTable;
 use std::alloc::{AllocError, Global};
 use word_sim::{LANES, Lanes};
 
@@ -35,13 +35,15 @@ impl FreeBlock {
         ensures run { HasRunPatterns bench.new }
         ensures width { IfOk result (λ free. length free.lanes.items ≡ width) }
     {
+        let none = Lanes::all(false);
         let mut lanes = Vec::with_capacity(alloc, width as usize)?;
+        let mut answers = AnswerTable::zeros(alloc, LANES, 1, width)?;
         bench.inject(0);
         for position in 0..width {
-            lanes.push(bench.lanes(kept, 0, position))?;
+            let column = bench.lanes(kept, 0, position);
+            correct(&mut answers, 0, 0, LANES, position, none, column);
+            lanes.push(column)?;
         }
-        let mut answers = AnswerTable::zeros(alloc, LANES, 1, width)?;
-        answers.set_block(0, 0, LANES, lanes.as_slice());
         Ok(FreeBlock { lanes, answers })
     }
 
@@ -74,14 +76,14 @@ impl FreeBlock {
     }
 }
 
-// Writes a column of lanes as a number's answers at a position, where the fault-free ones stand there.
+// Writes a column of lanes as a number's answers at a position, where these ones stand there.
 fn correct(
     table: &mut AnswerTable,
     number: u32,
     first: u32,
     count: u32,
     position: u32,
-    free: Lanes,
+    stands: Lanes,
     column: Lanes,
 )
     requires number { number < table.old.numbers }
@@ -89,10 +91,10 @@ fn correct(
     requires few { count ≤ LANES }
     requires fits { first + count < 2 ^ 32 }
     requires position { position < table.old.positions }
-    requires free { (lane : ℕ) → lane < count → answer_bit table.old (first + lane) number position ≡ bit_at free lane }
+    requires stands { (lane : ℕ) → lane < count → answer_bit table.old (first + lane) number position ≡ bit_at stands lane }
     ensures { IsColumnSet column count table.old table.new number first position }
 {
-    let differ = column.xor(free).any();
+    let differ = column.xor(stands).any();
     if !differ {
         return;
     }

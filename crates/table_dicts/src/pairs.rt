@@ -1,11 +1,11 @@
 //! How many pairs of classes a dictionary keeps apart.
 
 ghost use Rattle.std.specs.Prelude.{◌≡◌, ◌+◌, ◌<◌, ◌^◌, IfOk, length, slice_index, slice_set};
-ghost use Rattle.table_dicts.specs.Dictionary.{entry_of, IsGroupedDict};
+ghost use Rattle.dict_rows.specs.Dictionary.{entry_of, IsGroupedDict};
 ghost use Rattle.table_dicts.specs.Apart.{apart_count};
 
-use crate::dict::Dict;
 use class_refine::Classes;
+use dict_rows::Dict;
 use std::alloc::{AllocError, Global};
 
 /// How many pairs of classes have representatives with different entries.

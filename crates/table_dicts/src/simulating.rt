@@ -2,12 +2,12 @@
 
 ghost use Rattle.std.specs.Prelude.{◌≡◌, ◌<◌, ◌^◌, length, All, IfOk};
 ghost use Rattle.net_model.specs.FaultList.{fault_count};
-ghost use Rattle.table_dicts.specs.AnswerTable.{AreAnswerable};
-ghost use Rattle.table_dicts.specs.Blocks.{HasRunPatterns, FitsAt, IsKeptBit, IsListedBit, kept_width, IsNumberSet, AreNumbersSet, AreRightBits};
+ghost use Rattle.dict_rows.specs.AnswerTable.{AreAnswerable, IsNumberSet};
+ghost use Rattle.table_dicts.specs.Blocks.{HasRunPatterns, FitsAt, IsKeptBit, IsListedBit, kept_width, AreNumbersSet, AreRightBits};
 
-use crate::answer_table::AnswerTable;
 use crate::bench::Bench;
 use crate::free_block::FreeBlock;
+use dict_rows::AnswerTable;
 use fault_list::FaultList;
 use net_model::{Circuit, Vector};
 use std::alloc::{AllocError, Global};

@@ -2,7 +2,7 @@
 use Rattle.std.proofs.Common.{◌≡◌, ◌∙◌, ℕ, ◌<◌, length, sym, ap, arith}
 use Rattle.net_model.specs.ClassTable.{ClassTable, representative}
 use Rattle.net_model.proofs.Copies.{same_bits_same_list}
-use Rattle.table_dicts.specs.AnswerTable.{Answers, IsTable, answer_to, answer_bit}
+use Rattle.dict_rows.specs.AnswerTable.{Answers, IsTable, answer_to, answer_bit}
 use Rattle.samediff_dict.specs.Numbered.{AnswerAlike}
 use Rattle.tests_dictionaries.specs.Leads.{AnswerAsLeads}
 

@@ -1,7 +1,7 @@
 -- Numbers that answer as the lowest member of their class.
 use Rattle.std.specs.Prelude.{◌≡◌, ℕ, ◌<◌}
 use Rattle.net_model.specs.ClassTable.{ClassTable, class_at, representative}
-use Rattle.table_dicts.specs.AnswerTable.{Answers, answer_to}
+use Rattle.dict_rows.specs.AnswerTable.{Answers, answer_to}
 
 -- Each of the first numbers answers a pattern as the lowest member of its class.
 abbrev pub AnswerAsLeads : ClassTable → Answers → ℕ → ℕ → Type 0

@@ -1,8 +1,8 @@
 //! Which fault numbers of an AND of two sources a log lists.
 
 ghost use Rattle.std.specs.Prelude.{◌<◌, IfOk, OnOk};
-ghost use Rattle.table_dicts.specs.Dictionary.{IsGroupedDict, IsShaped};
-ghost use Rattle.table_dicts.specs.Rows.{AreRows};
+ghost use Rattle.dict_rows.specs.Dictionary.{IsGroupedDict, IsShaped};
+ghost use Rattle.dict_rows.specs.Rows.{AreRows};
 
 use diagnose::{matches, read_log};
 use net_model::AnswerRows;

@@ -1,8 +1,8 @@
 //! How partial logs rank the fault numbers of small circuits, by each kind of dictionary, and partial logs that are refused.
 
 ghost use Rattle.std.specs.Prelude.{◌≡◌, ◌<◌, IfOk, OnOk};
-ghost use Rattle.table_dicts.specs.declared.dict.DictKind.TheVariants as dict_kind;
-ghost use Rattle.table_dicts.specs.Dictionary.{IsGroupedDict, IsShaped};
+ghost use Rattle.dict_rows.specs.declared.dict.DictKind.TheVariants as dict_kind;
+ghost use Rattle.dict_rows.specs.Dictionary.{IsGroupedDict, IsShaped};
 
 use diagnose::{LogFault, LogKind};
 use ranked_diag::{Ranking, mismatches, ranking, read_partial};

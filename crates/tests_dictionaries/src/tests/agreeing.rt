@@ -1,7 +1,7 @@
 //! Whether members of one class have the same answers, found by a look at each number.
 
 ghost use Rattle.std.specs.Prelude.{◌≡◌, ◌<◌, length, IsTrue};
-ghost use Rattle.table_dicts.specs.AnswerTable.{answer_to};
+ghost use Rattle.dict_rows.specs.AnswerTable.{answer_to};
 ghost use Rattle.samediff_dict.specs.Numbered.{AnswerAlike};
 ghost use Rattle.tests_dictionaries.specs.Leads.{AnswerAsLeads};
 

@@ -1,7 +1,7 @@
 //! Baselines of small tables.
 
 ghost use Rattle.std.specs.Prelude.{◌≡◌, ◌<◌, length, IfOk};
-ghost use Rattle.table_dicts.specs.Rows.{AreRows};
+ghost use Rattle.dict_rows.specs.Rows.{AreRows};
 
 use crate::tests::agreeing::alike;
 use crate::tests::made::{GivenTable, classes_of, table_of};

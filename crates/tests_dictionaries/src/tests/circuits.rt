@@ -3,8 +3,8 @@
 ghost use Rattle.std.specs.Prelude.{◌≡◌, ◌<◌, ◌^◌, length, All, IfOk, OnOk};
 ghost use Rattle.net_model.specs.FaultList.{faults as faults_of, fault_count};
 ghost use Rattle.net_model.specs.PatternRows.{IsTableOf};
-ghost use Rattle.table_dicts.specs.Dictionary.{IsGroupedDict};
-ghost use Rattle.table_dicts.specs.Rows.{AreRows};
+ghost use Rattle.dict_rows.specs.Dictionary.{IsGroupedDict};
+ghost use Rattle.dict_rows.specs.Rows.{AreRows};
 ghost use Rattle.table_dicts.specs.Setting.{IsSetting};
 
 use crate::tests::spelled::is_dict;

@@ -1,7 +1,7 @@
 //! Rows and dictionaries, spelled.
 
 ghost use Rattle.std.specs.Prelude.{◌<◌, length, IsTrue};
-ghost use Rattle.table_dicts.specs.Rows.{AreRows};
+ghost use Rattle.dict_rows.specs.Rows.{AreRows};
 
 use net_model::AnswerRows;
 use std::alloc::{AllocError, Global};

@@ -1,7 +1,7 @@
 //! Dictionaries of tables that were made by hand.
 
 ghost use Rattle.std.specs.Prelude.{◌<◌, IfOk, OnOk};
-ghost use Rattle.table_dicts.specs.Dictionary.{IsGroupedDict};
+ghost use Rattle.dict_rows.specs.Dictionary.{IsGroupedDict};
 
 use crate::tests::made::classes_of;
 use crate::tests::spelled::{fit, is_dict, rows_of};

@@ -4,7 +4,7 @@ use Rattle.std.specs.List.{range_with_len}
 use Rattle.net_model.specs.ClassTable.{class_count, representative}
 use Rattle.net_model.specs.FaultList.{fault_count}
 use Rattle.class_refine.proofs.PatternTables.{table_numbers}
-use Rattle.table_dicts.specs.AnswerTable.{Answers, AreAnswers}
+use Rattle.dict_rows.specs.AnswerTable.{Answers, AreAnswers}
 use Rattle.table_dicts.proofs.FailLemmas.{patterns_are}
 use Rattle.adaptive_tree.specs.Laws.{CanBePlanned}
 use Rattle.adaptive_tree.specs.Numbering.{AreNumbersOfTable}

@@ -1,8 +1,8 @@
 use Rattle.std.proofs.Common.{ℕ, Bool, List, [], length, map, sym, subst, arith}
 use Rattle.std.proofs.lemmas.Grind.{get_or_default_zero}
 use Rattle.std.proofs.lemmas.List.{get_or-map, length-map}
-use Rattle.table_dicts.specs.AnswerTable.{answer_to}
-use Rattle.table_dicts.specs.Grouped.{AreGroupsOf}
+use Rattle.dict_rows.specs.AnswerTable.{answer_to}
+use Rattle.dict_rows.specs.Grouped.{AreGroupsOf}
 use Rattle.adaptive_tree.specs.Numbering.{AreRowNumbers, lead_answer}
 use Rattle.adaptive_tree.proofs.TableNumberLemmas.{groups_are_numbers, pattern_added}
 use Rattle.adaptive_tree.proofs.table_numbers.add_row.Goals as goal

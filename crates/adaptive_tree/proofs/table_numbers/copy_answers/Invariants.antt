@@ -1,6 +1,6 @@
 use Rattle.std.proofs.Common.{length, get_or}
-use Rattle.table_dicts.specs.AnswerTable.{answer_to}
-use Rattle.table_dicts.specs.Rows.{AreRowsBegun}
+use Rattle.dict_rows.specs.AnswerTable.{answer_to}
+use Rattle.dict_rows.specs.Rows.{AreRowsBegun}
 use Rattle.adaptive_tree.proofs.table_numbers.copy_answers.Given as goal
 
 abbrev pub invariant-loop-class : goal.invariant-loop-class

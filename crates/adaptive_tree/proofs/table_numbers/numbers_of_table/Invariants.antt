@@ -1,5 +1,5 @@
 use Rattle.std.proofs.Common.{length}
-use Rattle.table_dicts.specs.Rows.{AreRows}
+use Rattle.dict_rows.specs.Rows.{AreRows}
 use Rattle.adaptive_tree.specs.Numbering.{AreClassNumbers, AreNumbersTo, lead_answer}
 use Rattle.adaptive_tree.proofs.table_numbers.numbers_of_table.Given as goal
 

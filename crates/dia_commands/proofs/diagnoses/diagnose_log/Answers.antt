@@ -1,5 +1,5 @@
 use Rattle.std.proofs.Common.{List, ℕ, Bool, refl, inl, inr}
-use Rattle.table_dicts.specs.declared.dict.Dict.{Dict}
+use Rattle.dict_rows.specs.declared.dict.Dict.{Dict}
 use Rattle.dia_commands.specs.Dictionaries.{IsDiagnosis}
 use Rattle.dia_commands.specs.Plan.{Plan}
 use Rattle.dia_commands.specs.Plans.{with_log, says}

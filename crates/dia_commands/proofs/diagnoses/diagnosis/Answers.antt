@@ -1,6 +1,6 @@
 use Rattle.std.proofs.Common.{◌≡◌, ◌++◌, ◌∙◌, ℕ, List, ap, ap₂, length, arith}
 use Rattle.std.specs.List.{flat_map}
-use Rattle.table_dicts.specs.Dictionary.{listed_numbers}
+use Rattle.dict_rows.specs.Dictionary.{listed_numbers}
 use Rattle.dia_commands.specs.Texts.{numbers_text, number_line, listed_text}
 use Rattle.dia_commands.proofs.diagnoses.diagnosis.Goals as goal
 

@@ -1,8 +1,8 @@
 use Rattle.std.proofs.Common.{refl}
 use Rattle.std.proofs.lemmas.Result.{IfOk-weaker}
-use Rattle.table_dicts.specs.AnswerTable.{Answers, AreAnswers}
-use Rattle.table_dicts.specs.declared.dict.Dict.{Dict}
-use Rattle.table_dicts.specs.Dictionary.{IsSameDiff}
+use Rattle.dict_rows.specs.AnswerTable.{Answers, AreAnswers}
+use Rattle.dict_rows.specs.declared.dict.Dict.{Dict}
+use Rattle.dict_rows.specs.Dictionary.{IsSameDiff}
 use Rattle.samediff_dict.specs.Chosen.{chosen_baselines}
 use Rattle.dia_commands.specs.Dictionaries.{KeepsMostApart}
 use Rattle.dia_commands.proofs.MadeLemmas.{kind_made}

@@ -1,5 +1,5 @@
 use Rattle.std.proofs.Common.{List, ℕ, refl, inl, inr}
-use Rattle.table_dicts.specs.declared.dict.Dict.{Dict}
+use Rattle.dict_rows.specs.declared.dict.Dict.{Dict}
 use Rattle.ranked_diag.specs.PartialLog.{Line}
 use Rattle.dia_commands.specs.Plan.{Plan}
 use Rattle.dia_commands.specs.Plans.{with_partial, says}

@@ -3,7 +3,7 @@ use Rattle.std.specs.String.{string_bytes}
 use Rattle.std.proofs.lemmas.List.FromFn.{length-map-range_with_len}
 use Rattle.std.proofs.lemmas.Option.{get_or_from_slice_get}
 use Rattle.std.proofs.lemmas.Result.{IfOk-weaker}
-use Rattle.table_dicts.specs.declared.dict.Dict.{Dict}
+use Rattle.dict_rows.specs.declared.dict.Dict.{Dict}
 use Rattle.ranked_diag.specs.PartialLog.{Line}
 use Rattle.ranked_diag.specs.Mismatches.{mismatch_count, mismatch_counts}
 use Rattle.ranked_diag.specs.Ranked.{least, IsRanking}

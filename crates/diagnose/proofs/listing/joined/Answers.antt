@@ -1,29 +1,20 @@
-use Rattle.std.proofs.Common.{◌∙◌, ◌*◌, ℕ, ap, arith}
+use Rattle.std.proofs.Common.{rules, ◌≡◌, ◌∙◌, ◌+◌, ◌*◌, ◌/◌, ◌%◌, ◌<◌, ℕ, length, false, sym, ap, arith, get_or}
 use Rattle.std.specs.Prelude.{flat_map}
-use Rattle.diagnose.proofs.ListingLemmas.{entry_none, entry_size, entry_more, entry_all, length-flat}
+use Rattle.std.proofs.Math.Nat.{div-add-mod}
+use Rattle.std.proofs.lemmas.Nat.{mod_below, div_below}
+use Rattle.net_model.specs.Rows.{row_bit}
+use Rattle.diagnose.proofs.ListingLemmas.{entry_tested, some_width, flat_bit, length-flat}
 use Rattle.diagnose.proofs.listing.joined.Goals as goal
-
-pub loop-word-init : goal.loop-word-init
-loop-word-init c = entry_none (c.args.rows * c.args.width) (flat_map (λ bits. bits) c.args.observed.now) c.in_ok-bits.ensures
-
-pub joined_word-part-requires-clause-room : goal.joined_word-part-requires-clause-room
-joined_word-part-requires-clause-room c = rw c.requires.rows.count_is c.requires.room
-
-pub joined_word-part-requires-clause-word : goal.joined_word-part-requires-clause-word
-joined_word-part-requires-clause-word c = rw c.requires.rows.count_is (omega (arith, c.loop-word-test.true, c.div_ceil-word-end.ensures))
-
-pub set_word-requires-clause-row : goal.set_word-requires-clause-row
-set_word-requires-clause-row c = omega (arith, c.loop-word.invariant.shape.count)
-
-pub set_word-requires-clause-word : goal.set_word-requires-clause-word
-set_word-requires-clause-word c = omega (arith, entry_size c.loop-word.word c.loop-word.invariant, c.loop-word-test.true, c.div_ceil-word-end.ensures)
-
-pub loop-word-preserved : goal.loop-word-preserved
-loop-word-preserved c =
-    let long = length-flat c.args.observed.now c.args.width c.requires.rows.width_is ∙ ap (λ (n : ℕ). n * c.args.width) c.requires.rows.count_is in
-    entry_more c.loop-word.word c.loop-word.invariant c.set_word.ensures c.joined_word-part.ensures long
 
 pub returns : goal.returns
 returns c =
-    let long = length-flat c.args.observed.now c.args.width c.requires.rows.width_is ∙ ap (λ (n : ℕ). n * c.args.width) c.requires.rows.count_is in
-    entry_all c.loop-word.word c.loop-word.invariant long (omega (arith, c.loop-word-test.false, c.div_ceil-word-end.ensures))
+    let observed = c.args.observed.now in
+    let width = c.args.width in
+    let rows = c.requires.rows in
+    let long = length-flat observed width rows.width_is ∙ ap (λ (n : ℕ). n * width) rows.count_is in
+    entry_tested (flat_map (λ bits. bits) observed) c.in_ok-bits.ensures c.write_row.ensures long (λ at bit h answered.
+    let some : 0 < width = some_width c.args.rows width at h in
+    let place : at / width * width + at % width ≡ at = omega (arith, div-add-mod at width) in
+    let low : at / width < length observed = omega (arith, div_below at width c.args.rows some h, rows.count_is) in
+    let told : bit ≡ row_bit observed (at / width) (at % width) = search rules in
+    told ∙ (sym (flat_bit observed width (at / width) (at % width) rows.width_is low (mod_below at width some)) ∙ ap (λ (n : ℕ). get_or (flat_map (λ bits. bits) observed) n false) place))

@@ -10,7 +10,7 @@ returns-in-Err-clause-refused c =
 pub loop-pattern-preserved : goal.loop-pattern-preserved
 loop-pattern-preserved c =
     let line = c.in-Ok.line in
-    subst (λ (rows : List (List Bool)). IsLogSoFar c.args.patterns c.args.positions c.args.bytes.now (c.loop-pattern.pattern + 1) rows line.rest.now) (sym c.write_row.ensures)
+    subst (λ (rows : List (List Bool)). IsLogSoFar c.args.patterns c.args.positions c.args.bytes.now (c.loop-pattern.pattern + 1) rows line.rest.now) (sym c.write_digits.ensures)
     (log_more c.args.patterns c.args.positions c.args.bytes.now c.loop-pattern.pattern c.loop-pattern.observed c.loop-pattern.rest.now line.digits.now line.rest.now
     c.loop-pattern.invariant c.loop-pattern-test.true c.in-Ok.ensures)
 

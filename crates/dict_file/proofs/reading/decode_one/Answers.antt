@@ -1,6 +1,6 @@
 use Rattle.std.proofs.Common.{inl, inr, sym, subst, arith}
 use Rattle.std.proofs.lemmas.Result.{err_from_is_err_and}
-use Rattle.table_dicts.specs.declared.dict.Dict.{Dict}
+use Rattle.dict_rows.specs.declared.dict.Dict.{Dict}
 use Rattle.dict_file.specs.declared.fault.DictVersion.TheVariants.{One}
 use Rattle.dict_file.specs.Spelling.{IsFileOf}
 use Rattle.dict_file.specs.Reading.{end_part}

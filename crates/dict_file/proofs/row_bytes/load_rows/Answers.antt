@@ -1,5 +1,5 @@
 use Rattle.std.proofs.Common.{◌∙◌, ◌<◌, refl, arith}
-use Rattle.table_dicts.proofs.RowLemmas.{zeros_begun, width_at, rows_more, rows_all}
+use Rattle.dict_rows.proofs.RowLemmas.{zeros_begun, width_at, rows_more, rows_all}
 use Rattle.dict_file.specs.Places.{first_rows}
 use Rattle.dict_file.specs.Reading.{row_of}
 use Rattle.dict_file.proofs.FieldLemmas.{length-rows_of, get_or-rows_of}

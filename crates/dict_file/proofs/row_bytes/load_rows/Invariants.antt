@@ -1,4 +1,4 @@
-use Rattle.table_dicts.specs.Rows.{AreRowsBegun}
+use Rattle.dict_rows.specs.Rows.{AreRowsBegun}
 use Rattle.dict_file.specs.Reading.{row_of}
 use Rattle.dict_file.proofs.row_bytes.load_rows.Given as goal
 

@@ -1,6 +1,6 @@
 use Rattle.std.proofs.Common.{◌<◌, length, refl, sym, ap, subst, arith}
 use Rattle.std.proofs.lemmas.Result.{err_from_is_err_and}
-use Rattle.table_dicts.specs.Grouped.{AreDifferent, IsFirstRepeat}
+use Rattle.dict_rows.specs.Grouped.{AreDifferent, IsFirstRepeat}
 use Rattle.dict_file.specs.Parts.{each}
 use Rattle.dict_file.specs.Reading.{new_row_part}
 use Rattle.dict_file.proofs.FieldLemmas.{length-rows_of}

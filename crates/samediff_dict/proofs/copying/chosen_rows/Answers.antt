@@ -2,8 +2,8 @@ use Rattle.std.proofs.Common.{◌≡◌, ◌∙◌, ◌<◌, ℕ, Bool, List, le
 use Rattle.std.specs.Prelude.{All}
 use Rattle.std.proofs.lemmas.Result.{IfOk-weaker}
 use Rattle.net_model.specs.Rows.{row_at}
-use Rattle.table_dicts.specs.Rows.{AreRows, AreRowsBegun}
-use Rattle.table_dicts.proofs.RowLemmas.{rows_all}
+use Rattle.dict_rows.specs.Rows.{AreRows, AreRowsBegun}
+use Rattle.dict_rows.proofs.RowLemmas.{rows_all}
 use Rattle.samediff_dict.specs.Chosen.{chosen_baselines}
 use Rattle.samediff_dict.specs.Copied.{AreLeads, AreWanted}
 use Rattle.samediff_dict.specs.Numbered.{HasBaselines, baselines_at}

@@ -1,6 +1,6 @@
 use Rattle.std.proofs.Common.{◌≡◌, ◌+◌, Bool, List, subst, arith}
-use Rattle.table_dicts.specs.Rows.{AreRowsBegun, IsRowSet}
-use Rattle.table_dicts.proofs.RowLemmas.{rows_later, rows_more}
+use Rattle.dict_rows.specs.Rows.{AreRowsBegun, IsRowSet}
+use Rattle.dict_rows.proofs.RowLemmas.{rows_later, rows_more}
 use Rattle.samediff_dict.proofs.copying.copy_own.Goals as goal
 
 pub loop-pattern-preserved : goal.loop-pattern-preserved

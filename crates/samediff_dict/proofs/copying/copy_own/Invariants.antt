@@ -1,5 +1,5 @@
 use Rattle.std.proofs.Common.{ℕ, ◌+◌, Bool, List, length}
-use Rattle.table_dicts.specs.Rows.{AreRows, AreRowsBegun}
+use Rattle.dict_rows.specs.Rows.{AreRows, AreRowsBegun}
 use Rattle.samediff_dict.specs.Copied.{AreWanted}
 use Rattle.samediff_dict.proofs.copying.copy_own.Given as goal
 

@@ -1,6 +1,6 @@
 use Rattle.std.proofs.Common.{◌≡◌, ◌+◌, ℕ, Bool, List, [], length, subst, arith}
-use Rattle.table_dicts.specs.Rows.{AreRowsBegun}
-use Rattle.table_dicts.proofs.RowLemmas.{zeros_begun}
+use Rattle.dict_rows.specs.Rows.{AreRowsBegun}
+use Rattle.dict_rows.proofs.RowLemmas.{zeros_begun}
 use Rattle.samediff_dict.proofs.copying.own_rows.Goals as goal
 use Rattle.samediff_dict.proofs.copying.own_rows.Goals.{In_ok-rows}
 

@@ -1,7 +1,7 @@
 use Rattle.std.proofs.Common.{[], length, map, refl, arith}
 use Rattle.std.specs.List.{range_with_len}
 use Rattle.std.proofs.lemmas.List.FromFn.{get_or-map-range_with_len, length-map-range_with_len}
-use Rattle.table_dicts.proofs.RowLemmas.{rows_all, rows_more, width_at, zeros_begun}
+use Rattle.dict_rows.proofs.RowLemmas.{rows_all, rows_more, width_at, zeros_begun}
 use Rattle.samediff_dict.specs.Copied.{class_entry}
 use Rattle.samediff_dict.proofs.differing.class_entries.Goals as goal
 

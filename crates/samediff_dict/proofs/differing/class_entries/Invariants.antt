@@ -1,5 +1,5 @@
 use Rattle.std.proofs.Common.{length}
-use Rattle.table_dicts.specs.Rows.{AreRowsBegun}
+use Rattle.dict_rows.specs.Rows.{AreRowsBegun}
 use Rattle.samediff_dict.specs.Copied.{class_entry}
 use Rattle.samediff_dict.proofs.differing.class_entries.Given as goal
 

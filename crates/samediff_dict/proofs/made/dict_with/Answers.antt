@@ -3,13 +3,13 @@ use Rattle.std.specs.List.{range_with_len}
 use Rattle.std.proofs.lemmas.Result.{IfOk-weaker}
 use Rattle.net_model.specs.ClassTable.{class_count}
 use Rattle.class_refine.proofs.PatternTables.{table_numbers}
-use Rattle.table_dicts.specs.declared.dict.Dict.{Dict}
-use Rattle.table_dicts.specs.declared.dict.DictKind.TheVariants.{SameDiff}
-use Rattle.table_dicts.specs.AnswerTable.{Answers, HasSizes}
+use Rattle.dict_rows.specs.declared.dict.Dict.{Dict}
+use Rattle.dict_rows.specs.declared.dict.DictKind.TheVariants.{SameDiff}
+use Rattle.dict_rows.specs.AnswerTable.{Answers, HasSizes}
 use Rattle.table_dicts.specs.ByClass.{AreEntriesOfClasses}
-use Rattle.table_dicts.specs.Dictionary.{IsDictionary, IsSameDiff}
-use Rattle.table_dicts.specs.Entries.{same_diff_entry}
-use Rattle.table_dicts.specs.Rows.{AreRows}
+use Rattle.dict_rows.specs.Dictionary.{IsDictionary, IsSameDiff}
+use Rattle.dict_rows.specs.Entries.{same_diff_entry}
+use Rattle.dict_rows.specs.Rows.{AreRows}
 use Rattle.table_dicts.proofs.FailLemmas.{patterns_are}
 use Rattle.samediff_dict.specs.Chosen.{chosen_baselines}
 use Rattle.samediff_dict.specs.Copied.{HaveClasses, class_entry}

@@ -1,7 +1,7 @@
 use Rattle.std.proofs.Common.{List, sym, subst}
 use Rattle.std.proofs.lemmas.Result.{IfOk-weaker}
-use Rattle.table_dicts.specs.AnswerTable.{Answers}
-use Rattle.table_dicts.specs.Dictionary.{IsSameDiff}
+use Rattle.dict_rows.specs.AnswerTable.{Answers}
+use Rattle.dict_rows.specs.Dictionary.{IsSameDiff}
 use Rattle.table_dicts.specs.Setting.{AreAnswersAt}
 use Rattle.table_dicts.proofs.OneTable.{one_answers}
 use Rattle.samediff_dict.specs.declared.numbering.Candidates.{Candidates}

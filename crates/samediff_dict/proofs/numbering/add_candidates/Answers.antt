@@ -1,7 +1,7 @@
 use Rattle.std.proofs.Common.{◌≡◌, ◌∙◌, ◌+◌, ◌++◌, ◌∷◌, ℕ, Bool, [], List, length, get_or, map, refl, sym, ap, subst, arith}
 use Rattle.std.proofs.lemmas.List.{length_push, get_or_append_left}
-use Rattle.table_dicts.specs.AnswerTable.{answer_to}
-use Rattle.table_dicts.proofs.RowLemmas.{zeros_begun}
+use Rattle.dict_rows.specs.AnswerTable.{answer_to}
+use Rattle.dict_rows.proofs.RowLemmas.{zeros_begun}
 use Rattle.samediff_dict.specs.declared.numbering.Candidates.{Candidates}
 use Rattle.samediff_dict.specs.Numbered.{AreNumbersOf}
 use Rattle.samediff_dict.proofs.CandidateLemmas.{added_push}

@@ -1,6 +1,6 @@
 use Rattle.std.proofs.Common.{◌≡◌, ℕ, ◌+◌, ◌<◌, length, get_or, map}
-use Rattle.table_dicts.specs.AnswerTable.{answer_to}
-use Rattle.table_dicts.specs.Rows.{AreRows}
+use Rattle.dict_rows.specs.AnswerTable.{answer_to}
+use Rattle.dict_rows.specs.Rows.{AreRows}
 use Rattle.samediff_dict.specs.declared.numbering.Candidates.{Candidates}
 use Rattle.samediff_dict.specs.Numbered.{AreNumbersOf}
 use Rattle.samediff_dict.proofs.numbering.add_candidates.Given as goal

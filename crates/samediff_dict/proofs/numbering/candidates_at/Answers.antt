@@ -1,6 +1,6 @@
 use Rattle.std.proofs.Common.{◌∙◌, Bool, List, map, subst, arith}
-use Rattle.table_dicts.specs.AnswerTable.{answer_to}
-use Rattle.table_dicts.specs.Grouped.{AreGroupsOf}
+use Rattle.dict_rows.specs.AnswerTable.{answer_to}
+use Rattle.dict_rows.specs.Grouped.{AreGroupsOf}
 use Rattle.samediff_dict.proofs.CandidateLemmas.{numbers_of_groups, groups_few}
 use Rattle.samediff_dict.proofs.numbering.candidates_at.Goals as goal
 

@@ -1,7 +1,7 @@
 use Rattle.std.proofs.Common.{[], map, arith}
 use Rattle.std.proofs.lemmas.List.{get_or-map, length-map}
-use Rattle.table_dicts.specs.AnswerTable.{answer_to}
-use Rattle.table_dicts.proofs.RowLemmas.{rows_all, rows_more}
+use Rattle.dict_rows.specs.AnswerTable.{answer_to}
+use Rattle.dict_rows.proofs.RowLemmas.{rows_all, rows_more}
 use Rattle.samediff_dict.proofs.numbering.copy_answers.Goals as goal
 
 pub returns-clause-rows : goal.returns-clause-rows

@@ -1,5 +1,5 @@
 use Rattle.std.proofs.Common.{refl, arith}
-use Rattle.table_dicts.proofs.RowLemmas.{rows_all}
+use Rattle.dict_rows.proofs.RowLemmas.{rows_all}
 use Rattle.samediff_dict.specs.Numbered.{baselines_at}
 use Rattle.samediff_dict.proofs.CandidateLemmas.{length-baselines}
 use Rattle.samediff_dict.proofs.setting.baselines.Goals as goal

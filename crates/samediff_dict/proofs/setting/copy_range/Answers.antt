@@ -4,7 +4,7 @@ use Rattle.std.specs.List.{range_with_len}
 use Rattle.std.proofs.lemmas.List.FromFn.{length-range_with_len}
 use Rattle.net_model.specs.Rows.{row_at}
 use Rattle.class_refine.proofs.Ranges.{range_below}
-use Rattle.table_dicts.specs.Rows.{AreRowsBegun}
+use Rattle.dict_rows.specs.Rows.{AreRowsBegun}
 use Rattle.samediff_dict.specs.Numbered.{baselines_at}
 use Rattle.samediff_dict.proofs.LeadLemmas.{places_wanted}
 use Rattle.samediff_dict.proofs.setting.copy_range.Given as given

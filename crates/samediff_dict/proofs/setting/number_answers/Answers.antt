@@ -1,6 +1,6 @@
 use Rattle.std.proofs.Common.{◌≡◌, ◌∙◌, ◌-◌, List, Bool, length, get_or, sym, ap, subst, arith}
 use Rattle.std.specs.Prelude.{slice_range}
-use Rattle.table_dicts.specs.AnswerTable.{AreAnswerable, answer_to}
+use Rattle.dict_rows.specs.AnswerTable.{AreAnswerable, answer_to}
 use Rattle.samediff_dict.proofs.EvaluatedLemmas.{evaluated_answers, evaluated_are}
 use Rattle.samediff_dict.proofs.MadeLemmas.{length-range, answerable_range, range_answers}
 use Rattle.samediff_dict.proofs.setting.number_answers.Goals as goal

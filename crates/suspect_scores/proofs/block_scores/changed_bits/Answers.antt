@@ -8,7 +8,7 @@ use Rattle.net_model.specs.Rows.{row_bit}
 use Rattle.net_model.proofs.SingleWords.{digit_and}
 use Rattle.fault_sim.specs.FaultSim.{lanes_at}
 use Rattle.suspect_scores.specs.Columns.{IsBitCount, is_changed_lane}
-use Rattle.diagnose.proofs.WordLemmas.{packed_bit}
+use Rattle.dict_rows.proofs.WordLemmas.{packed_bit}
 use Rattle.suspect_scores.proofs.BitCountLemmas.{counted_none, counted_more, counted_fits, counted_all}
 use Rattle.suspect_scores.proofs.BlockScores.{and_false, lane_bit}
 use Rattle.suspect_scores.proofs.block_scores.changed_bits.Goals as goal

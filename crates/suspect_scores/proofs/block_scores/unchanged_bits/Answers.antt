@@ -6,7 +6,7 @@ use Rattle.net_model.specs.Answer.{bit_at}
 use Rattle.net_model.proofs.SingleWords.{digit_and, digit_not}
 use Rattle.fault_sim.specs.FaultSim.{lanes_at}
 use Rattle.suspect_scores.specs.Columns.{IsBitCount, is_same_lane}
-use Rattle.diagnose.proofs.WordLemmas.{packed_bit}
+use Rattle.dict_rows.proofs.WordLemmas.{packed_bit}
 use Rattle.suspect_scores.proofs.BitCountLemmas.{counted_none, counted_more, counted_fits, counted_all}
 use Rattle.suspect_scores.proofs.BlockScores.{and_false, lane_bit}
 use Rattle.suspect_scores.proofs.block_scores.unchanged_bits.Goals as goal

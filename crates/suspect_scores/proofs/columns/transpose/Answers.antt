@@ -1,6 +1,6 @@
 use Rattle.std.proofs.Common.{◌∙◌, sym, arith}
 use Rattle.suspect_scores.specs.Columns.{column_of}
-use Rattle.table_dicts.proofs.RowLemmas.{begun_none, begun_more, begun_all}
+use Rattle.dict_rows.proofs.RowLemmas.{begun_none, begun_more, begun_all}
 use Rattle.suspect_scores.proofs.ColumnLemmas.{column_long, column_bit}
 use Rattle.suspect_scores.proofs.columns.transpose.Goals as goal
 

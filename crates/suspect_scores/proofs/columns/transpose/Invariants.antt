@@ -1,4 +1,4 @@
-use Rattle.table_dicts.specs.Rows.{IsRowBegun}
+use Rattle.dict_rows.specs.Rows.{IsRowBegun}
 use Rattle.suspect_scores.specs.Columns.{column_of}
 use Rattle.suspect_scores.proofs.columns.transpose.Given as goal
 

@@ -1,5 +1,5 @@
 use Rattle.std.proofs.Common.{refl, arith}
-use Rattle.table_dicts.proofs.RowLemmas.{zeros_begun, rows_more, width_at}
+use Rattle.dict_rows.proofs.RowLemmas.{zeros_begun, rows_more, width_at}
 use Rattle.suspect_scores.proofs.ColumnLemmas.{all_transposed}
 use Rattle.suspect_scores.proofs.columns.transposed.Goals as goal
 

@@ -1,4 +1,4 @@
-use Rattle.table_dicts.specs.Rows.{AreRowsBegun}
+use Rattle.dict_rows.specs.Rows.{AreRowsBegun}
 use Rattle.suspect_scores.specs.Columns.{column_of}
 use Rattle.suspect_scores.proofs.columns.transposed.Given as goal
 

@@ -1,8 +1,8 @@
 use Rattle.std.proofs.Common.{◌≡◌, ◌∙◌, Bool, List, length, sym, ap, subst, arith}
 use Rattle.std.proofs.lemmas.Result.{IfOk-weaker}
 use Rattle.net_model.proofs.Listed.{some_number}
-use Rattle.table_dicts.specs.AnswerTable.{Answers, AreAnswers}
-use Rattle.table_dicts.specs.Entries.{answers_of}
+use Rattle.dict_rows.specs.AnswerTable.{Answers, AreAnswers}
+use Rattle.dict_rows.specs.Entries.{answers_of}
 use Rattle.table_dicts.proofs.FailLemmas.{patterns_are}
 use Rattle.diagnose.specs.Lines.{lines_from}
 use Rattle.diagnose.specs.LogText.{log_line}

@@ -1,5 +1,5 @@
 use Rattle.std.proofs.Common.{◌∙◌, ◌++◌, ◌∷◌, [], sym, arith}
-use Rattle.table_dicts.specs.AnswerTable.{answer_to}
+use Rattle.dict_rows.specs.AnswerTable.{answer_to}
 use Rattle.diagnose.specs.LogText.{log_line}
 use Rattle.suspect_scores.proofs.ExpectedLemmas.{text_more}
 use Rattle.suspect_scores.proofs.expecting.log_text.Goals as goal

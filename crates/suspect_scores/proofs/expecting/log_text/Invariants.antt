@@ -1,6 +1,6 @@
 use Rattle.std.specs.Prelude.{◌≡◌, take}
 use Rattle.std.specs.String.{string_bytes}
-use Rattle.table_dicts.specs.Entries.{answers_of}
+use Rattle.dict_rows.specs.Entries.{answers_of}
 use Rattle.diagnose.specs.Lines.{lines_from}
 use Rattle.diagnose.specs.LogText.{log_line}
 use Rattle.suspect_scores.proofs.expecting.log_text.Given as goal

@@ -1,7 +1,7 @@
 use Rattle.std.proofs.Common.{◌≡◌, ◌++◌, take, map}
 use Rattle.std.specs.String.{string_bytes}
 use Rattle.net_model.specs.BitText.{bit_digit}
-use Rattle.table_dicts.specs.AnswerTable.{answer_to}
+use Rattle.dict_rows.specs.AnswerTable.{answer_to}
 use Rattle.suspect_scores.proofs.expecting.push_bits.Given as goal
 
 abbrev pub invariant-loop-position : goal.invariant-loop-position

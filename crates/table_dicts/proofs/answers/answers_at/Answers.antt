@@ -4,7 +4,7 @@ use Rattle.std.proofs.lemmas.Result.{IfOk-weaker}
 use Rattle.std.proofs.lemmas.List.Elements.{All-from_get_or}
 use Rattle.net_model.specs.FaultList.{fault_count}
 use Rattle.table_dicts.specs.declared.simulating.Kept.TheVariants.{Bits}
-use Rattle.table_dicts.specs.AnswerTable.{Answers, AreAnswerable, AreAnswers, ArePicked, IsTable}
+use Rattle.dict_rows.specs.AnswerTable.{Answers, AreAnswerable, AreAnswers, ArePicked, IsTable}
 use Rattle.table_dicts.specs.Blocks.{IsListedBit, AreRightBits}
 use Rattle.table_dicts.specs.ByRoot.{AreGroupsByRoot}
 use Rattle.table_dicts.proofs.BlockLemmas.{right_all}

@@ -1,7 +1,7 @@
 use Rattle.std.proofs.Common.{◌≡◌, ◌∙◌, ◌<◌, cond, eqb, length, set, subst, arith}
 use Rattle.std.proofs.lemmas.List.{with_items_is}
 use Rattle.net_model.specs.ClassTable.{class_at, representative}
-use Rattle.table_dicts.specs.Grouped.{AreFirstsOf}
+use Rattle.dict_rows.specs.Grouped.{AreFirstsOf}
 use Rattle.table_dicts.proofs.ClassGroupLemmas.{noted_with, Comes, comes}
 use Rattle.table_dicts.proofs.by_class.class_groups.Goals as goal
 use Rattle.table_dicts.proofs.by_class.class_groups.Goals.{After-group_of-group}

@@ -1,10 +1,10 @@
 use Rattle.std.proofs.Common.{◌≡◌, ◌∙◌, [], length, map, refl, sym, subst, arith}
 use Rattle.std.specs.List.{range_with_len}
 use Rattle.std.proofs.lemmas.List.FromFn.{get_or-map-range_with_len}
-use Rattle.table_dicts.specs.declared.dict.Dict.{Dict}
-use Rattle.table_dicts.specs.Entries.{same_diff_entry}
-use Rattle.table_dicts.specs.Rows.{AreRows}
-use Rattle.table_dicts.proofs.EntryLemmas.{dictionary_of, entry_rows_are, kind_width, kind_count}
+use Rattle.dict_rows.specs.declared.dict.Dict.{Dict}
+use Rattle.dict_rows.specs.Entries.{same_diff_entry}
+use Rattle.dict_rows.specs.Rows.{AreRows}
+use Rattle.dict_rows.proofs.EntryLemmas.{dictionary_of, entry_rows_are, kind_width, kind_count}
 use Rattle.table_dicts.proofs.by_class.dict_of_classes.Goals as goal
 
 pub group_numbers-requires : goal.group_numbers-requires

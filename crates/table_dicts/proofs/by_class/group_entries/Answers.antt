@@ -3,8 +3,8 @@ use Rattle.std.specs.Prelude.{IfOk}
 use Rattle.std.proofs.lemmas.List.{length-map}
 use Rattle.net_model.specs.ClassTable.{class_at}
 use Rattle.net_model.specs.Rows.{row_at}
-use Rattle.table_dicts.specs.declared.grouping.Grouped.{Grouped}
-use Rattle.table_dicts.specs.Grouped.{AreGroupsOf}
+use Rattle.dict_rows.specs.declared.grouping.Grouped.{Grouped}
+use Rattle.dict_rows.specs.Grouped.{AreGroupsOf}
 use Rattle.table_dicts.proofs.by_class.group_entries.Goals as goal
 use Rattle.table_dicts.proofs.by_class.group_entries.Goals.{In_ok-cells}
 

@@ -2,7 +2,7 @@ use Rattle.std.proofs.Common.{◌≡◌, ◌∙◌, ◌<◌, ℕ, Bool, List, le
 use Rattle.std.proofs.lemmas.List.Elements.{All-from_get_or}
 use Rattle.net_model.specs.ClassTable.{class_at}
 use Rattle.net_model.specs.Rows.{row_at}
-use Rattle.table_dicts.specs.Grouped.{AreGroupsOf}
+use Rattle.dict_rows.specs.Grouped.{AreGroupsOf}
 use Rattle.table_dicts.proofs.ClassEntryLemmas.{firsts_inside, firsts_few, group_known, cells_long, groups_of_numbers}
 use Rattle.table_dicts.proofs.by_class.group_numbers.Goals as goal
 use Rattle.table_dicts.proofs.by_class.group_numbers.Goals.{In_ok-sorted, In_ok-grouped}

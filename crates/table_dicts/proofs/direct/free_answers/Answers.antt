@@ -2,10 +2,10 @@ use Rattle.std.proofs.Common.{◌≡◌, ◌∙◌, List, Bool, [], ◌∷◌, l
 use Rattle.std.proofs.lemmas.Result.{IfOk-weaker}
 use Rattle.net_model.proofs.Listed.{some_number}
 use Rattle.table_dicts.specs.declared.simulating.Kept.TheVariants.{Bits}
-use Rattle.table_dicts.specs.AnswerTable.{Answers, AreAnswerable, AreAnswers}
+use Rattle.dict_rows.specs.AnswerTable.{Answers, AreAnswerable, AreAnswers}
 use Rattle.table_dicts.specs.Blocks.{IsListedBit, AreRightBits}
-use Rattle.table_dicts.specs.Entries.{answers_of, free_baselines}
-use Rattle.table_dicts.specs.Rows.{AreRows}
+use Rattle.dict_rows.specs.Entries.{answers_of, free_baselines}
+use Rattle.dict_rows.specs.Rows.{AreRows}
 use Rattle.table_dicts.proofs.FailLemmas.{baselines_are}
 use Rattle.table_dicts.proofs.direct.free_answers.Goals as goal
 use Rattle.table_dicts.proofs.direct.free_answers.Goals.{In_ok-free}

@@ -2,15 +2,15 @@ use Rattle.std.proofs.Common.{◌≡◌, ◌∙◌, ◌<◌, ◌≤◌, ℕ, Lis
 use Rattle.std.specs.Prelude.{All}
 use Rattle.net_model.specs.FaultList.{fault_count}
 use Rattle.class_refine.proofs.PatternTables.{table_numbers}
-use Rattle.table_dicts.specs.declared.dict.Dict.{Dict}
-use Rattle.table_dicts.specs.declared.dict.DictKind.TheVariants.{Full}
+use Rattle.dict_rows.specs.declared.dict.Dict.{Dict}
+use Rattle.dict_rows.specs.declared.dict.DictKind.TheVariants.{Full}
 use Rattle.table_dicts.specs.declared.simulating.Kept.TheVariants.{Bits}
-use Rattle.table_dicts.specs.AnswerTable.{AreAnswerable}
-use Rattle.table_dicts.specs.Entries.{full_entry}
+use Rattle.dict_rows.specs.AnswerTable.{AreAnswerable}
+use Rattle.dict_rows.specs.Entries.{full_entry}
 use Rattle.table_dicts.specs.Blocks.{IsListedBit, AreRightBits}
-use Rattle.table_dicts.proofs.EntryLemmas.{dictionary_of, no_rows}
+use Rattle.dict_rows.proofs.EntryLemmas.{dictionary_of, no_rows}
 use Rattle.table_dicts.proofs.FailLemmas.{patterns_are}
-use Rattle.table_dicts.proofs.GroupLemmas.{grouped_by}
+use Rattle.dict_rows.proofs.GroupLemmas.{grouped_by}
 use Rattle.table_dicts.proofs.ClassLemmas.{entries_of, entries_are, cells_listed, firsts_by}
 use Rattle.table_dicts.proofs.ClassEntryLemmas.{firsts_inside, firsts_few}
 use Rattle.table_dicts.proofs.direct.full_at.Goals as goal

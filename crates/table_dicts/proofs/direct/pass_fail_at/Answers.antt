@@ -5,14 +5,14 @@ use Rattle.std.proofs.lemmas.Result.{IfOk-weaker}
 use Rattle.net_model.specs.ClassTable.{class_count, representative}
 use Rattle.net_model.specs.FaultList.{fault_count}
 use Rattle.class_refine.proofs.PatternTables.{table_numbers}
-use Rattle.table_dicts.specs.declared.dict.DictKind.TheVariants.{PassFail}
+use Rattle.dict_rows.specs.declared.dict.DictKind.TheVariants.{PassFail}
 use Rattle.table_dicts.specs.declared.simulating.Kept.TheVariants.{Fails}
-use Rattle.table_dicts.specs.AnswerTable.{Answers, AreAnswerable, AreAnswers, HasSizes}
+use Rattle.dict_rows.specs.AnswerTable.{Answers, AreAnswerable, AreAnswers, HasSizes}
 use Rattle.table_dicts.specs.Blocks.{IsListedBit, AreRightBits}
 use Rattle.table_dicts.specs.ByClass.{AreEntriesOfClasses}
-use Rattle.table_dicts.specs.Dictionary.{IsDictionary, IsPassFail}
-use Rattle.table_dicts.specs.Entries.{same_diff_entry}
-use Rattle.table_dicts.specs.Rows.{AreRows}
+use Rattle.dict_rows.specs.Dictionary.{IsDictionary, IsPassFail}
+use Rattle.dict_rows.specs.Entries.{same_diff_entry}
+use Rattle.dict_rows.specs.Rows.{AreRows}
 use Rattle.table_dicts.proofs.FailLemmas.{patterns_are}
 use Rattle.table_dicts.proofs.ClassFailLemmas.{fails_of_classes}
 use Rattle.table_dicts.proofs.direct.pass_fail_at.Goals as goal

@@ -3,7 +3,7 @@ use Rattle.table_dicts.proofs.ColumnLemmas.{column_none, column_more, column_sta
 use Rattle.table_dicts.proofs.free_block.correct.Goals as goal
 
 pub returns-then-not-differ : goal.returns-then-not-differ
-returns-then-not-differ c = column_stands c.args.free c.args.column c.xor.result c.any-differ.result c.args.count c.args.table.now c.args.number c.args.first c.args.position c.if-not-differ.true c.any-differ.ensures c.xor.ensures c.requires.few c.requires.free
+returns-then-not-differ c = column_stands c.args.stands c.args.column c.xor.result c.any-differ.result c.args.count c.args.table.now c.args.number c.args.first c.args.position c.if-not-differ.true c.any-differ.ensures c.xor.ensures c.requires.few c.requires.stands
 
 pub loop-lane-init : goal.loop-lane-init
 loop-lane-init c = column_none c.args.column c.args.table.now c.args.number c.args.first c.args.position

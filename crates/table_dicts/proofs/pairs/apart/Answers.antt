@@ -1,7 +1,7 @@
 use Rattle.std.proofs.Common.{◌≡◌, ◌∙◌, ◌<◌, ◌+◌, ◌-◌, ℕ, List, length, get_or, set, replicate, sym, ap, refl, arith}
 use Rattle.std.proofs.lemmas.List.{length-replicate, get_or-replicate, length-set, with_items_is}
 use Rattle.net_model.specs.ClassTable.{class_count, representative}
-use Rattle.table_dicts.specs.Dictionary.{entry_of}
+use Rattle.dict_rows.specs.Dictionary.{entry_of}
 use Rattle.table_dicts.proofs.ApartLemmas.{alike_to, apart_to, apart_all, apart_more, alike_within, group_known, counted, alike_after}
 use Rattle.table_dicts.proofs.pairs.apart.Goals as goal
 use Rattle.table_dicts.proofs.pairs.apart.Goals.{After-as_mut_slice}

@@ -1,5 +1,5 @@
 use Rattle.std.proofs.Common.{◌≡◌, ◌<◌, ◌≤◌, ◌*◌, ◌^◌, ℕ, length, get_or}
-use Rattle.table_dicts.specs.Dictionary.{entry_of}
+use Rattle.dict_rows.specs.Dictionary.{entry_of}
 use Rattle.table_dicts.proofs.ApartLemmas.{alike_to, apart_to}
 use Rattle.table_dicts.proofs.pairs.apart.Given as goal
 

@@ -2,8 +2,10 @@ use Rattle.std.proofs.Common.{◌≡◌, ◌∙◌, ◌<◌, length, get_or, ref
 use Rattle.std.proofs.lemmas.List.Elements.{All-get_or}
 use Rattle.net_model.specs.FaultList.{fault_count}
 use Rattle.table_dicts.specs.declared.bench.Bench.{Bench}
-use Rattle.table_dicts.specs.Blocks.{FitsAt, IsKeptBit, IsListedBit, IsNumberSet, AreNumbersSet}
-use Rattle.table_dicts.proofs.BlockLemmas.{number_as, numbers_none, numbers_more}
+use Rattle.dict_rows.specs.AnswerTable.{IsNumberSet}
+use Rattle.table_dicts.specs.Blocks.{FitsAt, IsKeptBit, IsListedBit, AreNumbersSet}
+use Rattle.dict_rows.proofs.BlockWordLemmas.{number_as}
+use Rattle.table_dicts.proofs.BlockLemmas.{numbers_none, numbers_more}
 use Rattle.table_dicts.proofs.simulating.write_block.Goals as goal
 
 pub loop-place-init : goal.loop-place-init

@@ -1,6 +1,7 @@
 use Rattle.std.proofs.Common.{length, sym, subst}
 use Rattle.table_dicts.specs.declared.bench.Bench.{Bench}
-use Rattle.table_dicts.specs.Blocks.{FitsAt, IsKeptBit, IsNumberSet}
+use Rattle.dict_rows.specs.AnswerTable.{IsNumberSet}
+use Rattle.table_dicts.specs.Blocks.{FitsAt, IsKeptBit}
 use Rattle.table_dicts.proofs.simulating.write_number.Goals as goal
 
 pub write-requires-clause-fits : goal.write-requires-clause-fits

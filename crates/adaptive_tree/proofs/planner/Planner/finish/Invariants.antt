@@ -1,6 +1,6 @@
 use Rattle.std.proofs.Common.{ℕ, List}
 use Rattle.net_model.specs.ClassTable.{ClassTable}
-use Rattle.table_dicts.specs.AnswerTable.{Answers}
+use Rattle.dict_rows.specs.AnswerTable.{Answers}
 use Rattle.adaptive_tree.specs.Numbering.{AreNumbersOfTable}
 use Rattle.adaptive_tree.specs.Planning.{IsPlanner, BeginNode, nodes_left}
 use Rattle.adaptive_tree.proofs.planner.Planner.finish.Given as goal

@@ -1,6 +1,6 @@
 use Rattle.std.proofs.Common.{◌≡◌, ◌∙◌, ltb, sym, ap}
 use Rattle.std.proofs.lemmas.Bool.{ltb-true, ltb-false}
-use Rattle.table_dicts.specs.Entries.{free_baselines}
+use Rattle.dict_rows.specs.Entries.{free_baselines}
 use Rattle.samediff_dict.specs.Chosen.{pairs_apart, greedy_baselines}
 use Rattle.samediff_dict.specs.Numbered.{baselines_at}
 use Rattle.samediff_dict.proofs.ChoiceLemmas.{better_free, better_greedy}

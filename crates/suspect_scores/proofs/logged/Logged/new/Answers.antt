@@ -2,7 +2,7 @@ use Rattle.std.proofs.Common.{◌≡◌, ◌∙◌, ◌<◌, ℕ, Bool, List, []
 use Rattle.std.specs.Prelude.{All}
 use Rattle.std.proofs.lemmas.List.{length-map}
 use Rattle.net_model.proofs.Listed.{some_number}
-use Rattle.table_dicts.specs.AnswerTable.{answer_to}
+use Rattle.dict_rows.specs.AnswerTable.{answer_to}
 use Rattle.ranked_diag.specs.PartialLog.{Line}
 use Rattle.suspect_scores.specs.Columns.{AreColumns}
 use Rattle.suspect_scores.specs.Marks.{logged_line, logged_vectors}

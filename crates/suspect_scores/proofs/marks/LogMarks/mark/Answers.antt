@@ -1,7 +1,7 @@
 use Rattle.std.proofs.Common.{◌∙◌, Bool, not, sym, arith}
 use Rattle.std.specs.Prelude.{◌&&◌}
 use Rattle.net_model.specs.Rows.{row_at}
-use Rattle.table_dicts.proofs.RowLemmas.{begun_more, begun_all}
+use Rattle.dict_rows.proofs.RowLemmas.{begun_more, begun_all}
 use Rattle.ranked_diag.specs.declared.partial.Seen.{Seen}
 use Rattle.ranked_diag.specs.Seen.{is_seen, differs}
 use Rattle.suspect_scores.proofs.MarkLemmas.{bit_marked, tested_long}

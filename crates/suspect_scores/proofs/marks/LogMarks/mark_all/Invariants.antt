@@ -1,4 +1,4 @@
-use Rattle.table_dicts.specs.AnswerTable.{answer_to}
+use Rattle.dict_rows.specs.AnswerTable.{answer_to}
 use Rattle.suspect_scores.specs.Marks.{AreMarksBegun}
 use Rattle.suspect_scores.proofs.marks.LogMarks.mark_all.Given as goal
 

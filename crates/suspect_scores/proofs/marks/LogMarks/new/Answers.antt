@@ -1,5 +1,5 @@
 use Rattle.std.proofs.Common.{◌∙◌}
-use Rattle.table_dicts.proofs.RowLemmas.{zeros_begun}
+use Rattle.dict_rows.proofs.RowLemmas.{zeros_begun}
 use Rattle.suspect_scores.proofs.marks.LogMarks.new.Goals as goal
 
 pub mark_all-requires-clause-begun : goal.mark_all-requires-clause-begun

@@ -2,7 +2,8 @@ use Rattle.std.proofs.Common.{◌≡◌, ◌∙◌, ◌+◌, ◌<◌, ◌≤◌,
 use Rattle.std.proofs.lemmas.List.{get_or_default}
 use Rattle.word_sim.specs.declared.lanes.TheConstants.{LANES}
 use Rattle.net_model.specs.Answer.{bit_at}
-use Rattle.table_dicts.specs.Blocks.{IsKeptBit, IsNumberSet}
+use Rattle.dict_rows.specs.AnswerTable.{IsNumberSet}
+use Rattle.table_dicts.specs.Blocks.{IsKeptBit}
 use Rattle.table_dicts.proofs.ColumnLemmas.{either_none, either_more, either_all}
 use Rattle.table_dicts.proofs.free_block.FreeBlock.write.Goals as goal
 use Rattle.table_dicts.proofs.free_block.FreeBlock.write.Goals.{After-live-count}
@@ -21,15 +22,15 @@ pub copy_block-requires-clause-within : goal.copy_block-requires-clause-within
 copy_block-requires-clause-within c = inside (goal.at.copy_block-requires-clause-within c).After-live-count
 
 pub copy_block-requires-clause-few : goal.copy_block-requires-clause-few
-copy_block-requires-clause-few c = few (goal.at.copy_block-requires-clause-few c).After-live-count
+copy_block-requires-clause-few c = omega (arith, few (goal.at.copy_block-requires-clause-few c).After-live-count, c.args.self.now.same.sizes.patterns_are)
 
 pub loop-position-init : goal.loop-position-init
 loop-position-init c =
     let at = (goal.at.loop-position-init c).After-live-count in
     either_none (right at) c.args.self.now.same c.requires.free (few at) c.copy_block.ensures
 
-pub correct-requires-clause-free : goal.correct-requires-clause-free
-correct-requires-clause-free c = λ lane h.
+pub correct-requires-clause-stands : goal.correct-requires-clause-stands
+correct-requires-clause-stands c = λ lane h.
     let free = c.args.self.now.lanes.items in
     let position = c.loop-position.position in
     let row = c.index-free-position.result in

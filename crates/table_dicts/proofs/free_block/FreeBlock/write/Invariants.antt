@@ -1,4 +1,5 @@
-use Rattle.table_dicts.specs.Blocks.{IsKeptBit, IsNumberSet}
+use Rattle.dict_rows.specs.AnswerTable.{IsNumberSet}
+use Rattle.table_dicts.specs.Blocks.{IsKeptBit}
 use Rattle.table_dicts.proofs.ColumnLemmas.{IsEither}
 use Rattle.table_dicts.proofs.free_block.FreeBlock.write.Given as goal
 

@@ -1,8 +1,8 @@
 use Rattle.std.specs.Prelude.{All, length}
 use Rattle.std.proofs.Common.{◌≡◌, subst}
-use Rattle.table_dicts.specs.declared.dict.DictKind.{DictKind}
-use Rattle.table_dicts.specs.Dictionary.{baseline_count, entry_width}
-use Rattle.table_dicts.specs.Rows.{AreRows}
+use Rattle.dict_rows.specs.declared.dict.DictKind.{DictKind}
+use Rattle.dict_rows.specs.Dictionary.{baseline_count, entry_width}
+use Rattle.dict_rows.specs.Rows.{AreRows}
 use Rattle.tests_diagnosis.proofs.tests.ranked.as_same_diff.Goals as goal
 
 pub returns-clause-shaped : goal.returns-clause-shaped

@@ -1,5 +1,5 @@
 use Rattle.std.proofs.Common.{◌≡◌, ℕ, ◌<◌}
-use Rattle.table_dicts.specs.AnswerTable.{answer_bit}
+use Rattle.dict_rows.specs.AnswerTable.{answer_bit}
 use Rattle.tests_dictionaries.proofs.tests.agreeing.same_answers.Given as goal
 
 abbrev pub invariant-loop-position : goal.invariant-loop-position

@@ -1,7 +1,0 @@
-use Rattle.std.proofs.Common.{◌*◌}
-use Rattle.table_dicts.specs.AnswerTable.{answer_to}
-use Rattle.table_dicts.specs.Rows.{IsRowBegun}
-use Rattle.table_dicts.proofs.answer_table.AnswerTable.copy_answer.Given as goal
-
-abbrev pub invariant-loop-word : goal.invariant-loop-word
-invariant-loop-word l = IsRowBegun l.initial.rows l.rows l.row (l.word * 64) (answer_to l.self l.pattern l.number)

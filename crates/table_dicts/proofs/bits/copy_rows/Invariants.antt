@@ -1,6 +1,0 @@
-use Rattle.net_model.specs.Rows.{row_at}
-use Rattle.table_dicts.specs.Rows.{AreRowsBegun}
-use Rattle.table_dicts.proofs.bits.copy_rows.Given as goal
-
-abbrev pub invariant-loop-row : goal.invariant-loop-row
-invariant-loop-row l = AreRowsBegun l.count l.width l.row (row_at l.rows) l.copy
