@@ -75,7 +75,7 @@ fn cover_at<S: Shelf>(
     say(shelf, text.as_bytes())
 }
 
-// The text of the cover of a log, for a result that was checked.
+// The text of the cover of a log at a setting.
 fn text_at(alloc: Global, setting: &Setting, partial: &Partial) -> Result<String, AllocError>
     requires setting { IsSetting setting.now }
     requires partial { ArePartial (length setting.now.patterns.now) (length setting.now.circuit.now.positions) partial.now }

@@ -57,7 +57,7 @@ struct Expected {
     text: String,
 }
 
-// The log for the patterns.
+// The log that a chip without a fault gives at a setting, and what is printed of it.
 fn expected_of(alloc: Global, setting: &Setting) -> Result<Expected, AllocError>
     requires { IsSetting setting.now }
     ensures { IfOk result (λ made. IsExpectedOf setting.now.circuit.now setting.now.patterns.now setting.now.classes.now made.file.items (string_bytes made.text)) }

@@ -66,7 +66,7 @@ struct Made {
     text: String,
 }
 
-// The dictionary's file, and what is printed of it.
+// The dictionary at a setting as a file, and what is printed of it.
 fn made_of(alloc: Global, kind: EntryKind, setting: &Setting) -> Result<Made, AllocError>
     requires { IsSetting setting.now }
     ensures { IfOk result (λ made. IsMadeOf setting.now.circuit.now kind setting.now.patterns.now setting.now.classes.now made.file.items (string_bytes made.text)) }

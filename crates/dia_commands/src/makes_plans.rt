@@ -61,7 +61,7 @@ struct Made {
     text: String,
 }
 
-// The plan's file, and what is printed of it.
+// The plan at a setting as a file, and what is printed of it.
 fn made_of(alloc: Global, setting: &Setting) -> Result<Made, AllocError>
     requires { IsSetting setting.now }
     ensures { IfOk result (λ made. IsPlanFileOf setting.now.circuit.now setting.now.patterns.now setting.now.classes.now made.file.items (string_bytes made.text)) }

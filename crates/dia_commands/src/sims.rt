@@ -56,7 +56,7 @@ fn print_simulation<S: Shelf>(
     requires { All (λ v. length v ≡ circuit.now.sources) vectors.now }
     ensures { (text : List ℕ) × IsSimText circuit.now vectors.now text × Ends (said done text) (IsPartOf (said done text)) result (S.state shelf.old) (S.state shelf.new) }
 {
-    let _ = circuit.sources();
+    circuit.stands();
     let subject = Subject::new(alloc, circuit)?;
     let roots = root_places(alloc, &subject)?;
     let mut texts = VectorTexts::new(alloc, &subject, &roots, vectors)?;

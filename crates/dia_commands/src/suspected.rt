@@ -81,7 +81,7 @@ fn suspects_at<S: Shelf>(
     say(shelf, text.as_bytes())
 }
 
-// The text of the suspects of a log, for a result that was checked.
+// The text of the suspects of a log at a setting.
 fn text_at(
     alloc: Global,
     setting: &Setting,

@@ -4,7 +4,7 @@ ghost use Rattle.net_model.specs.Rows.{row_at};
 ghost use Rattle.std.specs.BTreeMap.{get};
 ghost use Rattle.std.specs.Borrow.{Bor};
 ghost use Rattle.std.specs.Ordering.{is_eq};
-ghost use Rattle.std.specs.Prelude.{◌≡◌, ◌↔◌, ◌<◌, ◌≤◌, ◌^◌, ◌&&◌, ◌==◌, ℕ, List, [], ◌∷◌, ◌++◌, if◌then◌else◌, not, is_none, unwrap_or, length, map, Some, IsTrue, IfOk, OnOk, MatchOption};
+ghost use Rattle.std.specs.Prelude.{◌≡◌, ◌↔◌, ◌<◌, ◌≤◌, ◌^◌, ◌&&◌, ◌==◌, ◌⊎◌, ℕ, List, [], ◌∷◌, ◌++◌, if◌then◌else◌, not, is_none, unwrap_or, length, map, Some, IsTrue, IfOk, OnOk, OnErr, MatchOption};
 ghost use Rattle.dict_rows.specs.Grouped.{words_order, AreGroupsOf, AreDifferent, IsFirstRepeat, AreFirstsOf};
 
 use crate::bits::rows_at;
@@ -66,11 +66,13 @@ impl Sorted {
         }
     }
 
-    /// Puts the next row into a group, or begins one.
+    /// Puts the next row into a group, or begins one. After an error no group was begun, and the row may have its group.
     pub fn put(&mut self, group: u32, row: u32) -> Result<(), AllocError>
         requires { group ≤ length self.old.firsts.items }
         ensures groups { OnOk result (self.new.groups ≡ self.old.groups ++ group ∷ []) }
         ensures firsts { OnOk result (self.new.firsts.items ≡ (if group == length self.old.firsts.items then self.old.firsts.items ++ row ∷ [] else self.old.firsts.items)) }
+        ensures left { OnErr result (self.new.firsts.items ≡ self.old.firsts.items) }
+        ensures cut { OnErr result ((self.new.groups ≡ self.old.groups) ⊎ (self.new.groups ≡ self.old.groups ++ group ∷ [])) }
     {
         self.groups.push(group)?;
         if group as usize == self.firsts.len() {

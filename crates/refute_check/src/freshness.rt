@@ -165,7 +165,14 @@ fn close(
     while head < held.trail.len() {
         let falsified = held.trail[head].opposite();
         head += 1;
-        if !visit(held, looked, pool, index.lists.at(falsified), head, at) {
+        if !visit(
+            held,
+            looked,
+            pool,
+            index.lists.at(falsified.code()),
+            head,
+            at,
+        ) {
             return false;
         }
     }

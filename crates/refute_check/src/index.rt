@@ -1,65 +1,22 @@
 //! The clauses of a pool by their literals.
 
-ghost use Rattle.std.specs.Prelude.{◌≡◌, ◌+◌, ◌*◌, ◌<◌, [], ◌∷◌, ◌++◌, List, ℕ, All, IfOk, OnOk, IsTrue, length, map, replicate, slice_set};
-ghost use Rattle.refute_check.specs.Index.{HasTwo, IsIndexOf, list_at};
+ghost use Rattle.std.specs.Prelude.{◌≡◌, ◌+◌, ◌<◌, [], ◌∷◌, ◌++◌, List, ℕ, All, IfOk, OnOk, IsTrue, length};
+ghost use Rattle.refute_check.specs.Index.{HasTwo, IsIndexOf};
 ghost use Rattle.clause_pool.specs.Clauses.{Clause};
 ghost use Rattle.clause_pool.specs.LiteralCode.{code_of};
 ghost use Rattle.clause_pool.specs.Proper.{HasVariablesUpTo};
 
 use clause_pool::{Lit, Pool};
+use net_model::GrowingLists;
 use std::alloc::{AllocError, Global};
-use std::marker::Model;
-
-/// Numbers of clauses, a list for each literal.
-#[derive(Drop)]
-pub(crate) struct Lists {
-    // by the literal's place
-    lists: Vec<Vec<u32>>,
-}
 
 /// The clauses of a pool by their literals, and those of them that don't have two different literals. Unit propagation
 /// finds something at the latter from the start, and at the others only once a literal of theirs is false.
 #[derive(Drop)]
 pub(crate) struct Index {
-    pub(crate) lists: Lists,
+    // by the literal's code
+    pub(crate) lists: GrowingLists<u32>,
     pub(crate) short: Vec<u32>,
-}
-
-impl Model for Lists {
-    ghost Value = { List (List ℕ) };
-
-    ghost view = { λ a. map (λ list. list.items) a.lists.items };
-}
-
-impl Lists {
-    /// An empty list for each literal of the variables up to this number.
-    pub(crate) fn none(alloc: Global, variables: u32) -> Result<Lists, AllocError>
-        ensures { IfOk result (λ lists. lists ≡ replicate (2 * variables + 2) []) }
-    {
-        let places = 2 * variables as usize + 2;
-        let mut lists = Vec::with_capacity(alloc, places)?;
-        for _ in 0..places {
-            lists.push(Vec::new(alloc))?;
-        }
-        Ok(Lists { lists })
-    }
-
-    /// Adds a number to the list of a literal.
-    pub(crate) fn add(&mut self, lit: Lit, number: u32) -> Result<(), AllocError>
-        requires { code_of lit < length self.old }
-        ensures { OnOk result (self.new ≡ slice_set self.old (code_of lit) (list_at self.old (code_of lit) ++ number ∷ [])) }
-    {
-        self.lists[lit.code()].push(number)?;
-        Ok(())
-    }
-
-    /// The numbers of a literal's list.
-    pub(crate) fn at(&self, lit: Lit) -> &[u32]
-        requires { code_of lit < length self.now }
-        ensures { result.now ≡ list_at self.now (code_of lit) }
-    {
-        self.lists[lit.code()].as_slice()
-    }
 }
 
 impl Index {
@@ -68,7 +25,7 @@ impl Index {
         ensures { IfOk result (λ index. IsIndexOf variables [] index.lists index.short.items) }
     {
         Ok(Index {
-            lists: Lists::none(alloc, variables)?,
+            lists: GrowingLists::none(alloc, 2 * variables as usize + 2)?,
             short: Vec::new(alloc),
         })
     }
@@ -91,7 +48,7 @@ impl Index {
         ensures { OnOk result ((variables : ℕ) (clauses : List Clause) → length clauses + 1 ≡ number → IsIndexOf variables clauses self.old.lists self.old.short.items → IsIndexOf variables (clauses ++ clause.now ∷ []) self.new.lists self.new.short.items) }
     {
         for lit in clause {
-            self.lists.add(*lit, number)?;
+            self.lists.add(lit.code(), number)?;
         }
         if !has_two(clause) {
             self.short.push(number)?;

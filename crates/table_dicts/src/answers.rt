@@ -47,7 +47,7 @@ fn spread(
     let lowest = sorted.firsts.as_slice();
     let listed = tabulate(alloc, circuit, faults, patterns, Kept::Bits, lowest)?;
     let table = listed.pick(alloc, sorted.groups.as_slice())?;
-    let _ = table.numbers();
+    table.stands();
     Ok(table)
 }
 
@@ -66,6 +66,6 @@ pub fn number_answers_at(
     ensures answers { IfOk result (λ table. (t : Answers) → AreAnswers circuit.now patterns.now t → (pattern place : ℕ) → pattern < length patterns.now → place < length numbers.now → answer_to table pattern place ≡ answer_to t pattern (slice_index numbers.now place)) }
 {
     let table = tabulate(alloc, circuit, faults, patterns, Kept::Bits, numbers)?;
-    let _ = table.numbers();
+    table.stands();
     Ok(table)
 }

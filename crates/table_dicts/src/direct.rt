@@ -22,7 +22,7 @@ pub fn full_at(alloc: Global, setting: &Setting) -> Result<Dict, AllocError>
 {
     let circuit = setting.circuit;
     let faults = setting.faults;
-    let _ = circuit.sources();
+    circuit.stands();
     let numbers = faults.len();
     let patterns = setting.patterns.as_slice();
     let sorted = class_groups(alloc, setting.classes, numbers)?;
@@ -78,6 +78,6 @@ fn free_answers(alloc: Global, setting: &Setting) -> Result<AnswerRows, AllocErr
     let patterns = setting.patterns.as_slice();
     let circuit = setting.circuit;
     let free = tabulate(alloc, circuit, setting.faults, patterns, Kept::Bits, &[0])?;
-    let _ = free.positions();
+    free.stands();
     answers_of(alloc, &free, 0)
 }

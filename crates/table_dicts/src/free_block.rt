@@ -64,7 +64,8 @@ impl FreeBlock {
         requires free { length self.now.lanes.items ≡ table.old.positions }
         ensures { IsNumberSet (λ lane at. IsKeptBit kept bench.now.good.circuit bench.now.block.vectors lane number) (length bench.now.block.vectors) table.old table.new place first table.old.positions }
     {
-        let _ = table.patterns();
+        // That there are few patterns is known by this.
+        let _patterns = table.patterns();
         let count = bench.block.live();
         table.copy_block(place, first, count, &self.answers);
         let free = self.lanes.as_slice();

@@ -1,14 +1,13 @@
 //! Runs of `suspects` and `cover` with a log of more lines than there are lanes.
 
 use crate::tests::runs::left_by;
-use std::alloc::{AllocError, Global};
+use std::alloc::Global;
 use std::process::Abort;
 use std::test::Fail;
 
-// One OR of 280 inputs. An input stuck at 0 has an odd number, from 1 on, and the output stuck at 0 has 561; each of these is
-// alone in its class. Only the pattern at which an input alone is 1 tells that input stuck at 0 from the good circuit, so that
-// it is a pattern of the result; there the good circuit answers 1.
-const INPUTS: usize = 280;
+// One OR of 260 inputs. An input stuck at 0 has an odd number, from 1 on, and stuck at 1 the next one; the output stuck at 0
+// has 521, and stuck at 1 522. The inputs stuck at 1 have the root 522.
+const INPUTS: u32 = 260;
 
 fn one_or(alloc: Global) -> Result<String, Fail> {
     let mut text = String::from_str(alloc, "OUTPUT(z)\nINPUT(i0)\n")?;
@@ -21,127 +20,109 @@ fn one_or(alloc: Global) -> Result<String, Fail> {
     Ok(text)
 }
 
-// The digits of each pattern of a result.
-fn patterns_of(alloc: Global, result: &str) -> Result<Vec<&str>, AllocError> {
-    let mut patterns = Vec::new(alloc);
-    for line in result.split('\n') {
-        if let Some(digits) = line.strip_prefix("pattern ") {
-            patterns.push(digits)?;
-        }
+// The line of the pattern at which one input alone is 1, or none where no input has this number.
+fn push_pattern(text: &mut String, one: u32) -> Result<(), Fail> {
+    text.push_str("pattern ")?;
+    for input in 0..INPUTS {
+        text.push_str(if input == one { "1" } else { "0" })?;
     }
-    Ok(patterns)
+    text.push_str("\n")?;
+    Ok(())
 }
 
-// The number of the input stuck at 0 that a pattern tells from the good circuit, if it tells one.
-fn told_by(digits: &str) -> Option<usize> {
-    let first = digits.find('1')?;
-    if digits.rfind('1') != Some(first) {
-        return None;
+// The patterns of the result: the one at which an input alone is 1 for each input, and the one with no 1.
+fn push_patterns(text: &mut String) -> Result<(), Fail> {
+    for one in 0..INPUTS + 1 {
+        push_pattern(text, one)?;
     }
-    Some(first.saturating_mul(2).saturating_add(1))
+    Ok(())
 }
 
-// A pattern, and the number that it tells.
-type Telling = (usize, usize);
-
-// Of the patterns that tell a number the first and the last.
-fn ends(patterns: &[&str]) -> Option<(Telling, Telling)> {
-    let mut ends = None;
-    for (pattern, digits) in patterns.iter().enumerate() {
-        if let Some(number) = told_by(*digits) {
-            let (first, _) = ends.unwrap_or(((pattern, number), (pattern, number)));
-            ends = Some((first, (pattern, number)));
-        }
+// The inputs stuck at 1 and the output stuck at 1 stand in the class of 2, and have its root.
+fn push_evidence(text: &mut String) -> Result<(), Fail> {
+    for input in 1..INPUTS + 1 {
+        let number = 2 * input + 2;
+        writeln!(text, "same {number} 2 C")?;
     }
-    ends
+    Ok(())
 }
 
-// How many patterns have a 1.
-fn count_ones(patterns: &[&str]) -> usize {
-    patterns
-        .iter()
-        .filter(|digits| digits.contains('1'))
-        .count()
+// Each pattern splits an input stuck at 0 off the class of 0, the first one together with the output stuck at 0, from which the
+// second one parts it; and the last one splits off what is stuck at 1.
+fn push_classes(text: &mut String) -> Result<(), Fail> {
+    text.push_str("class 0 - -\nclass 1 0 0\nclass 2 0 1\nclass 3 1 1\n")?;
+    for pattern in 2..INPUTS + 1 {
+        let class = pattern + 2;
+        writeln!(text, "class {class} 0 {pattern}")?;
+    }
+    Ok(())
 }
 
-// The log of a chip that answers 0 to these patterns, and to all others as the good one.
-fn log_of(alloc: Global, patterns: &[&str], failing: &[usize]) -> Result<String, Fail> {
+fn push_members(text: &mut String) -> Result<(), Fail> {
+    text.push_str(
+        "member 0 0 rep\nmember 1 1 rep\nmember 2 262 rep\nmember 3 2 rep\nmember 4 262 equal\n",
+    )?;
+    for input in 2..INPUTS {
+        let (low, high) = (2 * input + 1, 2 * input + 2);
+        let class = input + 2;
+        writeln!(text, "member {low} {class} rep\nmember {high} 262 equal")?;
+    }
+    text.push_str("member 521 3 rep\nmember 522 262 equal\nend\n")?;
+    Ok(())
+}
+
+fn result_of_or(alloc: Global) -> Result<String, Fail> {
+    let mut text = String::from_str(alloc, "diatest 1 260 1 523\nbudget 0 64 2000\n")?;
+    push_patterns(&mut text)?;
+    push_evidence(&mut text)?;
+    push_classes(&mut text)?;
+    push_members(&mut text)?;
+    Ok(text)
+}
+
+// The log of a chip that answers 0 to these patterns, and to all others as the good one: 1, and 0 to the last.
+fn log_of(alloc: Global, failing: &[u32]) -> Result<String, Fail> {
     let mut log = String::new(alloc);
-    for (pattern, digits) in patterns.iter().enumerate() {
-        let bit = u8::from(digits.contains('1') && !failing.contains(&pattern));
+    for pattern in 0..INPUTS {
+        let bit = u8::from(!failing.contains(&pattern));
         writeln!(log, "{pattern} {bit}")?;
     }
+    writeln!(log, "{INPUTS} 0")?;
     Ok(log)
 }
 
-// A netlist, its result, the patterns of the result, and how many of these have a 1.
-struct OneOr<'a> {
-    netlist: &'a [u8],
-    result: &'a [u8],
-    patterns: &'a [&'a str],
-    ones: usize,
-}
-
-// Whether `suspects` and `cover` print this of the chip that answers 0 to these patterns: behind the suspects how many patterns
-// are failing and logged.
+// Whether `suspects` and `cover` print this of the chip that answers 0 to these patterns.
 fn are_printed(
     alloc: Global,
-    made: &OneOr,
-    failing: &[usize],
-    suspects: &str,
-    cover: &str,
+    failing: &[u32],
+    suspects: &[u8],
+    cover: &[u8],
 ) -> Result<bool, Fail> {
-    let log = log_of(alloc, made.patterns, failing)?;
+    let netlist = one_or(alloc)?;
+    let made = result_of_or(alloc)?;
+    let log = log_of(alloc, failing)?;
     let files = [
-        ("n", made.netlist),
-        ("r", made.result),
+        ("n", netlist.as_bytes()),
+        ("r", made.as_bytes()),
         ("l", log.as_bytes()),
     ];
     let listed = left_by(alloc, 4096, &[], &files, &["suspects", "n", "r", "l"])?;
-    let logged = made.patterns.len();
-    let console = format!(in alloc; "{suspects} failing {} logged {logged}\n", failing.len())?;
     let covered = left_by(alloc, 4096, &[], &files, &["cover", "n", "r", "l"])?;
-    Ok(listed.ended(0, console.as_bytes()) && covered.ended(0, cover.as_bytes()))
+    Ok(listed.ended(0, suspects) && covered.ended(0, cover))
 }
 
-// Whether that is so of a chip that fails at the first and the last pattern that tell a number, and of one that fails at the
-// last alone. The output stuck at 0 puts a 0 also at each other pattern with a 1.
-fn both_are_printed(alloc: Global, made: &OneOr, ends: (Telling, Telling)) -> Result<bool, Fail> {
-    let ((first, low), (last, high)) = ends;
-    let others = made.ones.saturating_sub(2);
-    let (least, most) = (low.min(high), low.max(high));
-    let suspects = format!(in alloc;
-        "561 2 2 0 {others}\n{least} 1 1 1 0\n{most} 1 1 1 0\nlisted 3"
-    )?;
-    let cover = "561 2\nlisted 1 explained 2 failing 2\n";
-    let two = are_printed(alloc, made, &[first, last], &suspects, cover)?;
-    let others = made.ones.saturating_sub(1);
-    let suspects = format!(in alloc; "{high} 1 1 0 0\n561 1 1 0 {others}\nlisted 2")?;
-    let cover = format!(in alloc; "{high} 1\nlisted 1 explained 1 failing 1\n")?;
-    Ok(two && are_printed(alloc, made, &[last], &suspects, &cover)?)
-}
+const OF_BOTH: &[u8] = b"521 2 2 0 258\n1 1 1 1 0\n519 1 1 1 0\nlisted 3 failing 2 logged 261\n";
 
+const OF_LAST: &[u8] = b"519 1 1 0 0\n521 1 1 0 259\nlisted 2 failing 1 logged 261\n";
+
+// A chip fails at a pattern of either block, and one at a pattern of the last block alone. The output stuck at 0 puts a 0 also
+// at each other pattern with a 1.
 #[test]
 fn logs_of_two_blocks(rt: HostRuntime) -> Result<(), Fail> {
     let alloc = rt.alloc();
-    let netlist = one_or(alloc)?;
-    let words = ["gen", "n", "r", "--blocks", "0"];
-    let left = left_by(alloc, 4096, &[], &[("n", netlist.as_bytes())], &words)?;
-    let result = left.copy_of(alloc, "r")?;
-    let Ok(text) = str::from_utf8(&result) else {
-        return Err(Fail::new("a result is no text"));
-    };
-    let patterns = patterns_of(alloc, text)?;
-    let Some(ends) = ends(&patterns) else {
-        return Err(Fail::new("no pattern tells a number"));
-    };
-    assert!(rt; ends.0.0 < 256 && 256 <= ends.1.0, "both stand in one block");
-    let made = OneOr {
-        netlist: netlist.as_bytes(),
-        result: &result,
-        patterns: &patterns,
-        ones: count_ones(&patterns),
-    };
-    assert!(rt; both_are_printed(alloc, &made, ends)?);
+    let by_output = b"521 2\nlisted 1 explained 2 failing 2\n";
+    assert!(rt; are_printed(alloc, &[0, 259], OF_BOTH, by_output)?);
+    let by_input = b"519 1\nlisted 1 explained 1 failing 1\n";
+    assert!(rt; are_printed(alloc, &[259], OF_LAST, by_input)?);
     Ok(())
 }

@@ -12,17 +12,17 @@ use Rattle.dia_commands.proofs.sims.print_simulation.Goals as goal
 
 pub returns-in_err-subject : goal.returns-in_err-subject
 returns-in_err-subject g c =
-    let whole = one_text c.args.circuit.now c.sources.ensures.circuit 0 c.args.vectors.now in
+    let whole = one_text c.args.circuit.now c.stands.ensures 0 c.args.vectors.now in
     (whole.text, whole.is, handed_ends c.from_residual.result c.from_residual.ensures.1 (ends_silent {meant = done} tt))
 
 pub returns-in_err-roots : goal.returns-in_err-roots
 returns-in_err-roots g c =
-    let whole = one_text c.args.circuit.now c.sources.ensures.circuit 0 c.args.vectors.now in
+    let whole = one_text c.args.circuit.now c.stands.ensures 0 c.args.vectors.now in
     (whole.text, whole.is, handed_ends c.from_residual-in_err-roots.result c.from_residual-in_err-roots.ensures.1 (ends_silent {meant = done} tt))
 
 pub returns-in_err-texts : goal.returns-in_err-texts
 returns-in_err-texts g c =
-    let whole = one_text c.args.circuit.now c.sources.ensures.circuit 0 c.args.vectors.now in
+    let whole = one_text c.args.circuit.now c.stands.ensures 0 c.args.vectors.now in
     (whole.text, whole.is, handed_ends c.from_residual-in_err-texts.result c.from_residual-in_err-texts.ensures.1 (ends_silent {meant = done} tt))
 
 pub loop-number-init : goal.loop-number-init
@@ -34,7 +34,7 @@ loop-number-init g c = record {
 
 pub print_vector-requires : goal.print_vector-requires
 print_vector-requires g c = record {
-  circuit = subst IsCircuit (sym c.loop-number.invariant.circuit_is) c.sources.ensures.circuit;
+  circuit = subst IsCircuit (sym c.loop-number.invariant.circuit_is) c.stands.ensures;
   number = omega (arith, ap (length {A = List Bool}) c.loop-number.invariant.vectors_are);
 }
 
@@ -49,7 +49,7 @@ returns-in_err-print_vector g c =
     (subst (λ (vs : List (List Bool)). IsSimTextFrom c.loop-number.texts.circuit number (slice_range vs number (number + 1)) said.0) c.loop-number.invariant.vectors_are said.1) in
     subst (λ (e : Ending). PrintsText c.args.circuit.now vectors e (state c.args.shelf.now) (state c.print_vector.new.shelf))
     (sym (handed_on c.from_residual-in_err-print_vector.result c.from_residual-in_err-print_vector.ensures.1))
-    (broken_off c.sources.ensures.circuit (omega arith) (omega arith) (λ z. absurd (cc)) c.loop-number.invariant.printed text said.2)
+    (broken_off c.stands.ensures (omega arith) (omega arith) (λ z. absurd (cc)) c.loop-number.invariant.printed text said.2)
 
 pub loop-number-preserved : goal.loop-number-preserved
 loop-number-preserved g c =

@@ -1,4 +1,4 @@
-use Rattle.std.proofs.Common.{◌∙◌, ◌+◌, ◌<◌, ◌≤◌, length, sym, ap, subst, arith}
+use Rattle.std.proofs.Common.{◌∙◌, ◌<◌, ◌≤◌, length, sym, ap, subst, arith}
 use Rattle.std.specs.Prelude.{All, Contains}
 use Rattle.std.proofs.lemmas.List.Elements.{All-weaker, All-contains_itself}
 use Rattle.clause_pool.specs.Literal.{Literal}
@@ -39,14 +39,14 @@ at-requires c =
     let same = ap (λ (l : Literal). l.variable) c.opposite-falsified.ensures in
     let low : c.opposite-falsified.result.variable ≤ c.args.variables = omega (arith, inside, same, c.loop-head.invariant.step.size, c.requires.size) in
     let within = code_within c.opposite-falsified.result c.args.variables low in
-    omega (arith, within, c.requires.index.places)
+    omega (arith, within, c.code.ensures, c.requires.index.places)
 
 pub visit-requires-in-loop-head-clause-numbers : goal.visit-requires-in-loop-head-clause-numbers
 visit-requires-in-loop-head-clause-numbers c =
     let count = length c.args.pool.now.clauses in
     let place = code_of c.opposite-falsified.result in
     let list = list_at c.args.index.now.lists place in
-    subst (All (IsClauseNumber count)) (sym c.at.ensures) (All-weaker (Contains list) (IsClauseNumber count) (c.requires.index.numbers place) list (All-contains_itself list))
+    rw (c.at.ensures, c.code.ensures) (All-weaker (Contains list) (IsClauseNumber count) (c.requires.index.numbers place) list (All-contains_itself list))
 
 pub visit-requires-in-loop-head-clause-from : goal.visit-requires-in-loop-head-clause-from
 visit-requires-in-loop-head-clause-from c = omega (arith, c.loop-head-test.true, c.len.ensures, c.loop-head.held.trail.ok.0)
@@ -74,7 +74,7 @@ loop-head-preserved c =
       inside = omega (arith, here, c.visit-in-loop-head.ensures.longer);
       looks = c.visit-in-loop-head.ensures.looked c.if-not-visit-2.false;
       settled = c.visit-in-loop-head.ensures.settled c.if-not-visit-2.false
-          (subst (AreClausesSettled clauses a (head + 1)) (sym c.at.ensures)
+          (rw (c.at.ensures, c.code.ensures)
           (turn c.args.variables clauses index.lists index.short.items c.requires.index a head c.index.result.now c.opposite-falsified.result here c.index.ensures c.opposite-falsified.ensures c.loop-head.invariant.settled));
     }
 

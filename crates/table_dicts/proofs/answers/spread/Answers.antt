@@ -22,7 +22,7 @@ returns c =
     let patterns = c.args.patterns.now in
     let listed = c.in_ok-listed.listed in (
       listed,
-      c.numbers.ensures.table,
+      c.stands.ensures,
       subst (λ (ns : List ℕ). AreRightBits (IsListedBit Bits circuit patterns ns) (length patterns) (length ns) (length circuit.positions) (length patterns) listed) c.as_slice-lowest.ensures.value c.in_ok-listed.ensures,
       subst (λ (ns : List ℕ). ArePicked listed ns c.in_ok-table.table) c.as_slice.ensures c.in_ok-table.ensures,
     )

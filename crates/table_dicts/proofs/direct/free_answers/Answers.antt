@@ -37,4 +37,4 @@ returns-clause-free c =
     let patterns = c.args.setting.now.patterns.now in
     let free = c.in_ok-free.free in
     IfOk-weaker c.answers_of.result (λ rows. rows ≡ answers_of free.rows 0) (λ rows. (t : Answers) → AreAnswers circuit patterns t → rows ≡ free_baselines t.rows)
-    (λ rows is t are. is ∙ baselines_are circuit patterns t are free c.positions.ensures.table (right (goal.at.returns-clause-free c).In_ok-free)) c.answers_of.ensures.rows
+    (λ rows is t are. is ∙ baselines_are circuit patterns t are free c.stands.ensures (right (goal.at.returns-clause-free c).In_ok-free)) c.answers_of.ensures.rows

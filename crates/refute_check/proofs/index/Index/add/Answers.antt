@@ -1,7 +1,7 @@
-use Rattle.std.proofs.Common.{◌<◌, ◌+◌, ◌∙◌, ◌++◌, ◌∷◌, [], ℕ, length, refl, sym, ap, subst, arith, Vec, Global}
+use Rattle.std.proofs.Common.{◌<◌, ◌∙◌, ◌++◌, ◌∷◌, [], ℕ, length, refl, sym, ap, subst, arith, Vec, Global}
 use Rattle.clause_pool.specs.Literal.{Literal}
 use Rattle.clause_pool.specs.LiteralCode.{code_of}
-use Rattle.refute_check.proofs.IndexLemmas.{IsAdded, added_none, added_more, index_two, index_short}
+use Rattle.refute_check.proofs.IndexLemmas.{added_none, added_more, index_two, index_short}
 use Rattle.refute_check.proofs.index.Index.add.Goals as goal
 
 pub loop-lit-init : goal.loop-lit-init
@@ -11,7 +11,7 @@ pub add-requires : goal.add-requires
 add-requires c =
     let lists = c.args.self.now.lists in
     let inside : code_of c.lit-item.result < length lists = subst (λ (l : Literal). code_of l < length lists) (sym c.lit-item.is) (c.requires c.loop-lit.lit-index c.lit-item.result c.loop-lit-test.true) in
-    omega (arith, inside, c.loop-lit.invariant.added.places)
+    omega (arith, inside, c.code.ensures, c.loop-lit.invariant.added.places)
 
 pub loop-lit-preserved : goal.loop-lit-preserved
 loop-lit-preserved c =
@@ -20,7 +20,7 @@ loop-lit-preserved c =
     let inside : code_of c.lit-item.result < length old = subst (λ (l : Literal). code_of l < length old) (sym c.lit-item.is) (c.requires c.loop-lit.lit-index c.lit-item.result c.loop-lit-test.true) in
     let within : code_of c.lit-item.result < length mid = omega (arith, inside, c.loop-lit.invariant.added.places) in
     record {
-      added = subst (IsAdded c.args.number c.args.clause.now (c.loop-lit.lit-index + 1) old) (sym c.in_ok-add.ensures)
+      added = rw (c.in_ok-add.ensures.ok, c.code.ensures)
           (added_more c.args.number c.args.clause.now old c.loop-lit.lit-index mid c.loop-lit.invariant.added c.lit-item.result within c.loop-lit-test.true c.lit-item.is);
       short = c.loop-lit.invariant.short;
     }
