@@ -19,13 +19,13 @@ makes log circuit file = makes_file log (IsExpectedLog circuit file)
 pub returns-in_err-checked : goal.returns-in_err-checked
 returns-in_err-checked g c = λ bench. handed_follows c.from_residual.result c.from_residual.ensures.1 (result_over two_read (inr (inr (inl refl))) (makes c.args.output.now c.args.subject.now) c.in_err-checked.ensures.err)
 
-pub setting_of-requires-clause-widths : goal.setting_of-requires-clause-widths
-setting_of-requires-clause-widths g c =
+pub setting_of-setting-requires-clause-widths : goal.setting_of-setting-requires-clause-widths
+setting_of-setting-requires-clause-widths g c =
     let read = c.in_ok-checked.ensures.ok in
     subst (All (λ v. length v ≡ c.args.subject.now.sources)) (sym read.1.patterns) (valid_widths read.1.valid)
 
-pub setting_of-requires-clause-table : goal.setting_of-requires-clause-table
-setting_of-requires-clause-table g c =
+pub setting_of-setting-requires-clause-table : goal.setting_of-setting-requires-clause-table
+setting_of-setting-requires-clause-table g c =
     let read = c.in_ok-checked.ensures.ok in
     subst (λ (patterns : List (List Bool)). IsTableOf c.args.subject.now patterns c.in_ok-checked.checked.classes) (sym read.1.patterns) read.1.table
 

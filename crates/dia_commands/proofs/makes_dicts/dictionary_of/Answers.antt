@@ -18,8 +18,8 @@ returns-in-PassFail-clause-dictionary c = kind_made c.pass_fail_at.result c.in-P
 pub returns-in-Full-clause-dictionary : goal.returns-in-Full-clause-dictionary
 returns-in-Full-clause-dictionary c = kind_made c.full_at.result c.in-Full.is c.requires.classes c.full_at.ensures
 
-pub returns-clause-dictionary : goal.returns-clause-dictionary
-returns-clause-dictionary c =
+pub returns-in-SameDiff-clause-dictionary : goal.returns-in-SameDiff-clause-dictionary
+returns-in-SameDiff-clause-dictionary c =
     let circuit = c.args.setting.now.circuit.now in
     let patterns = c.args.setting.now.patterns.now in
     let classes = c.args.setting.now.classes.now in
@@ -35,8 +35,8 @@ returns-in-Full-clause-most c =
     let is = c.in-Full.is in
     always (λ (d : Dict). c.args.kind ≡ SameDiff → KeepsMostApart c.args.setting.now.circuit.now c.args.setting.now.patterns.now c.args.setting.now.classes.now d) c.full_at.result (λ d same. absurd (cc))
 
-pub returns-clause-most : goal.returns-clause-most
-returns-clause-most c =
+pub returns-in-SameDiff-clause-most : goal.returns-in-SameDiff-clause-most
+returns-in-SameDiff-clause-most c =
     let circuit = c.args.setting.now.circuit.now in
     let patterns = c.args.setting.now.patterns.now in
     let classes = c.args.setting.now.classes.now in
