@@ -1,6 +1,6 @@
 -- The fields of a line as a reader cuts them.
 use Rattle.std.proofs.Common.{◌≡◌, ◌≢◌, ◌∙◌, ℕ, ◌<◌, ◌^◌, refl, ap, sym, subst, lit<, arith}
-use Rattle.std.specs.Prelude.{Bool, true, false, not, List, ◌∷◌, ◌++◌, drop, Contains, codes, decimal}
+use Rattle.std.specs.Prelude.{Bool, List, ◌∷◌, ◌++◌, drop, Contains, codes, decimal}
 use Rattle.std.specs.List.{AllByRecursion}
 use Rattle.std.specs.Borrow.{Bor}
 use Rattle.std.proofs.lemmas.List.Elements.{Contains-append_right, All-from_recursion}
@@ -15,14 +15,6 @@ use Rattle.adaptive_tree.specs.PlanText.{PlanLine, head, step, end, plan_line}
 use Rattle.adaptive_tree.specs.Refusal.{HasNoPlanLine}
 use Rattle.adaptive_tree.specs.Forms.{IsFormOf, IsFirstForm, IsNoPlanLine, IsPairIn, pair_text, sizes_text}
 use Rattle.adaptive_tree.proofs.LineLemmas.{line_without_feed, kind_shown, kind_number, first_two}
-
-pub not_true : (b : Bool) → true ≡ not b → false ≡ b
-not_true true e = absurd (cc)
-not_true false e = refl
-
-pub not_false : (b : Bool) → false ≡ not b → true ≡ b
-not_false true e = refl
-not_false false e = absurd (cc)
 
 -- ---- a text and its first line
 

@@ -26,15 +26,15 @@ pub(crate) fn numbers_of_leads(
     leads: &[u32],
 ) -> Result<ClassNumbers, AllocError>
     requires setting { IsSetting setting.now }
-    requires known { All (λ lead. lead < fault_count setting.now.circuit.now) leads.now }
+    requires known { All (λ lead. lead < fault_count setting.now.subject.now) leads.now }
     requires few { length leads.now < 2 ^ 32 }
     requires some { 0 < length leads.now }
-    ensures { IfOk result (AreLeadsNumbered setting.now.circuit.now setting.now.patterns.now leads.now (length setting.now.patterns.now)) }
+    ensures { IfOk result (AreLeadsNumbered setting.now.subject.now setting.now.patterns.now leads.now (length setting.now.patterns.now)) }
 {
     let vectors = setting.patterns.as_slice();
-    let sources = setting.circuit.sources();
-    let mut source = AnswerNumbers::new(alloc, setting.circuit, setting.faults, leads)?;
-    let mut block = Block::new(alloc, sources)?;
+    let circuit = setting.subject.circuit();
+    let mut source = AnswerNumbers::new(alloc, circuit, setting.subject.listed(), leads)?;
+    let mut block = Block::new(alloc, circuit.sources())?;
     let mut numbers = ClassNumbers::new(alloc, leads.len())?;
     let mut first = 0;
     while first < vectors.len() {

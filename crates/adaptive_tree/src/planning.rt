@@ -37,7 +37,7 @@ pub fn plan_at(alloc: Global, setting: &Setting) -> Result<Plan, AllocError>
     ensures good { IfOk result (λ plan. (t : Answers) → AreAnswersAt setting.now t → IsGoodPlan setting.now.classes.now t plan) }
     ensures well_formed { IfOk result (λ plan. IsWellFormed plan) }
 {
-    let positions = setting.circuit.positions().len() as u32;
+    let positions = setting.subject.circuit().positions().len() as u32;
     let patterns = setting.patterns.as_slice().len() as u32;
     let leads = representatives(alloc, setting.classes)?;
     let numbers = numbers_of_leads(alloc, setting, leads.as_slice())?;

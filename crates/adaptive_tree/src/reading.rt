@@ -1,6 +1,7 @@
 //! Plans read from text.
 
-ghost use Rattle.std.specs.Prelude.{◌≡◌, ◌≤◌, ◌^◌, ◌∷◌, ◌++◌, [], length, IfOk, IfErr, MatchResult};
+ghost use Rattle.std.specs.Prelude.{◌≡◌, ◌≤◌, ◌∷◌, ◌++◌, [], length, IfOk, IfErr, MatchResult};
+ghost use Rattle.diagnose.specs.Lines.{text_limit};
 ghost use Rattle.adaptive_tree.specs.declared.steps.Plan as spec;
 ghost use Rattle.adaptive_tree.specs.PlanNode.{HasNode};
 ghost use Rattle.adaptive_tree.specs.PlanText.{head, end};
@@ -24,7 +25,7 @@ struct HeadLine<'a> {
     rest: &'a [u8],
 }
 
-/// The plan of a text, which has at most 2^30 bytes. A fault tells the first line that breaks a rule.
+/// The plan of a text, which has at most `diagnose::TEXT_LIMIT` bytes. A fault tells the first line that breaks a rule.
 pub fn read_plan(alloc: Global, bytes: &[u8]) -> Result<Plan, PlanFault>
     ensures read { IfOk result (λ plan. IsTextOf plan bytes.now) }
     ensures refused { IfErr result (TellsPlanFault (PlanRefused bytes.now)) }
@@ -37,7 +38,7 @@ pub fn read_plan(alloc: Global, bytes: &[u8]) -> Result<Plan, PlanFault>
 }
 
 fn read_lines(alloc: Global, bytes: &[u8]) -> Result<Plan, PlanFault>
-    requires { length bytes.now ≤ 2 ^ 30 }
+    requires { length bytes.now ≤ text_limit }
     ensures read { IfOk result (λ plan. IsTextOf plan bytes.now) }
     ensures refused { IfErr result (TellsPlanFault (PlanRefused bytes.now)) }
 {

@@ -1,7 +1,7 @@
 //! Where a log of answers leads in a plan.
 
-ghost use Rattle.std.specs.Prelude.{◌≡◌, ◌≢◌, ◌≤◌, ◌^◌, ◌↔◌, List, [], length, IsTrue, IfOk, IfErr, MatchResult};
-ghost use Rattle.diagnose.specs.Lines.{TellsLogFault};
+ghost use Rattle.std.specs.Prelude.{◌≡◌, ◌≢◌, ◌≤◌, ◌↔◌, List, [], length, IsTrue, IfOk, IfErr, MatchResult};
+ghost use Rattle.diagnose.specs.Lines.{text_limit, TellsLogFault};
 ghost use Rattle.adaptive_tree.specs.declared.outcome.Outcome.TheVariants as outcome;
 ghost use Rattle.adaptive_tree.specs.PlanNode.{PlanNode};
 ghost use Rattle.adaptive_tree.specs.WellFormed.{IsWellFormed};
@@ -17,7 +17,7 @@ use std::alloc::Global;
 
 /// Where a log of answers leads in a plan.
 ///
-/// A log has at most 2^30 bytes. A fault tells the first line that breaks a rule. No memory is taken.
+/// A log has at most `diagnose::TEXT_LIMIT` bytes. A fault tells the first line that breaks a rule. No memory is taken.
 pub fn follow(_alloc: Global, plan: &Plan, log: &[u8]) -> Result<Outcome, LogFault>
     requires { IsWellFormed plan.now }
     ensures led { IfOk result (λ outcome. LeadsTo plan.now log.now outcome) }
@@ -29,7 +29,7 @@ pub fn follow(_alloc: Global, plan: &Plan, log: &[u8]) -> Result<Outcome, LogFau
 
 fn follow_lines(plan: &Plan, log: &[u8]) -> Result<Outcome, LogFault>
     requires formed { IsWellFormed plan.now }
-    requires short { length log.now ≤ 2 ^ 30 }
+    requires short { length log.now ≤ text_limit }
     ensures led { IfOk result (λ outcome. LeadsTo plan.now log.now outcome) }
     ensures refused { IfErr result (TellsLogFault (WalkRefused plan.now log.now)) }
 {

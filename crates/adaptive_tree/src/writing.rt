@@ -2,7 +2,6 @@
 
 ghost use Rattle.std.specs.Prelude.{◌≡◌, ◌++◌, ◌∷◌, [], flat_map, IfOk, OnOk};
 ghost use Rattle.std.specs.String.{string_bytes};
-ghost use Rattle.net_model.specs.BitText.{bits_text};
 ghost use Rattle.adaptive_tree.specs.declared.steps.Step.TheVariants.{On};
 ghost use Rattle.adaptive_tree.specs.PlanText.{head, step, end, plan_line, plan_lines_text, plan_text};
 ghost use Rattle.adaptive_tree.specs.WellFormed.{IsWellFormed};
@@ -10,6 +9,7 @@ ghost use Rattle.adaptive_tree.specs.WellFormed.{IsWellFormed};
 use crate::steps::{Plan, Step};
 use packed_bits::PackedBits;
 use std::alloc::{AllocError, Global};
+use text_fields::push_bits;
 
 /// The text of a plan. It may have more bytes than `read_plan` reads.
 pub fn write_plan(alloc: Global, plan: &Plan) -> Result<Vec<u8>, AllocError>
@@ -60,21 +60,8 @@ fn push_branch(text: &mut String, answer: &PackedBits) -> Result<(), AllocError>
     ensures { OnOk result (string_bytes text.new ≡ string_bytes text.old ++ plan_line (step (On answer.now)) ++ 10 ∷ []) }
 {
     text.push_str("on ")?;
-    push_bits(text, answer)?;
+    push_bits(text, answer.len(), |at| answer.get(at))?;
     text.push('\n')?;
-    Ok(())
-}
-
-// Appends the digits of bits, or a dash where there are none.
-fn push_bits(text: &mut String, bits: &PackedBits) -> Result<(), AllocError>
-    ensures { OnOk result (string_bytes text.new ≡ string_bytes text.old ++ bits_text bits.now) }
-{
-    if bits.len() == 0 {
-        text.push('-')?;
-    }
-    for at in 0..bits.len() {
-        text.push(if bits.get(at) { '1' } else { '0' })?;
-    }
     Ok(())
 }
 

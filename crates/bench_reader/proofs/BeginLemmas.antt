@@ -1,7 +1,8 @@
 -- Whether some statement begins with given tokens can be told.
 use Rattle.std.proofs.Common.{◌≡◌, ℕ, true, false, List, [], ◌∷◌, ◌++◌, refl, ◌⊎◌, inl, inr, Option, None, Some}
 use Rattle.std.specs.Prelude.{Bool, option_map, codes, if◌then◌else◌}
-use Rattle.bench_reader.specs.Tokens.{Text, open_bracket, close_bracket, comma_mark, equals_mark, name_run, Token}
+use Rattle.text_fields.specs.Fields.{Text}
+use Rattle.bench_reader.specs.Tokens.{open_bracket, close_bracket, comma_mark, equals_mark, name_run, Token}
 use Rattle.bench_reader.specs.Grammar.{Named, Driver, driver_of, takes, is_word, Phrase, input_phrase, output_phrase, gate_phrase, gate_pins, driver_pins, observed_phrase, driven_phrase, phrase_of, CanBegin}
 use Rattle.bench_reader.proofs.DriverPins.{name_first, no_pins, some_pins, pins_are}
 use Rattle.bench_reader.proofs.StopLemmas.{nothing_begins, one_begins, no_word, Observes, two_begins, three_begins, equals_begins, no_gate, gate_begins}

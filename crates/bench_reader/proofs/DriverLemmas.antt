@@ -4,13 +4,14 @@ use Rattle.std.specs.Prelude.{map, filter_map, flat_map, sum_by, All, IsTrue, Op
 use Rattle.std.proofs.lemmas.List.{length-map}
 use Rattle.std.proofs.lemmas.List.Elements.{All-nil, All-cons, All-head, All-tail, All-map}
 use Rattle.std.proofs.lemmas.Option.{some_pair_parts}
+use Rattle.text_fields.specs.Fields.{Text}
+use Rattle.bench_reader.specs.declared.reading.TheConstants.{NETLIST_LIMIT}
 use Rattle.bench_reader.specs.declared.fault.NetKind.{NetKind}
 use Rattle.bench_reader.specs.declared.fault.NetKind.TheVariants.{DrivenTwice, Undriven}
 use Rattle.bench_reader.specs.declared.fault.Place.{Place}
 use Rattle.bench_reader.specs.declared.statement.Word.{Word}
 use Rattle.bench_reader.specs.declared.statement.Statement.{Statement}
 use Rattle.bench_reader.specs.Netlist.{Netlist}
-use Rattle.bench_reader.specs.Tokens.{Text}
 use Rattle.bench_reader.specs.Grammar.{Named, gate_driver, flip_flop_driver, Phrase, input_phrase, output_phrase, gate_phrase, has_right_pins}
 use Rattle.bench_reader.specs.Reading.{names_of, driven_names, all_used_names, driven_twice, undriven, place_of, statement_with, statement_of, IsNetlist}
 use Rattle.bench_reader.specs.Refusal.{TextRefused, by_second, by_missing}
@@ -100,7 +101,7 @@ module _ (text : Text) (n : Netlist) (p : IsParsed text n) where
         netlist_is = p.netlist_is;
       }
 
-  pub all_driven : driver_fault n.statements ≡ None → length n.names ≤ 16777216 → sum_by statement_size n.statements ≤ 16777216 → IsDriven n
+  pub all_driven : driver_fault n.statements ≡ None → length n.names ≤ NETLIST_LIMIT → sum_by statement_size n.statements ≤ NETLIST_LIMIT → IsDriven n
   unfolding as_word
   all_driven none few small =
       let parts = fault_none (second_driver n.statements) (missing_driver n.statements) none in

@@ -1,7 +1,8 @@
 -- The pins of a gate, by what its word says.
 use Rattle.std.proofs.Common.{◌≡◌, ℕ, [], ◌∷◌, List, refl, None, Some}
 use Rattle.std.specs.Prelude.{Bool, true, false, if◌then◌else◌}
-use Rattle.bench_reader.specs.Tokens.{Text, close_bracket, name_run, Token}
+use Rattle.text_fields.specs.Fields.{Text}
+use Rattle.bench_reader.specs.Tokens.{close_bracket, name_run, Token}
 use Rattle.bench_reader.specs.Grammar.{Named, Driver, takes, gate_pins, driver_pins}
 
 -- where a name comes first, any gate takes pins

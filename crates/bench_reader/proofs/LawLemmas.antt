@@ -2,8 +2,9 @@
 use Rattle.std.proofs.Common.{◌≡◌, ◌∙◌, ℕ, false, List, [], ◌∷◌, ◌++◌, length, refl, sym, ap, append_assoc, ◌⊎◌, inl, inr, Option, None, Some}
 use Rattle.std.specs.Prelude.{option_map, option_and_then, IsTrue}
 use Rattle.std.proofs.lemmas.List.{append-nil}
+use Rattle.text_fields.specs.Fields.{Text}
 use Rattle.bench_reader.specs.declared.fault.NetKind.{NetKind}
-use Rattle.bench_reader.specs.Tokens.{Text, Token, open_bracket, close_bracket, comma_mark, equals_mark, name_run, tokens_of}
+use Rattle.bench_reader.specs.Tokens.{Token, open_bracket, close_bracket, comma_mark, equals_mark, name_run, tokens_of}
 use Rattle.bench_reader.specs.Grammar.{Named, Driver, Phrase, gate_phrase, driver_of, driver_pins, gate_pins, driven_phrase, phrase_of, has_right_pins, CanBegin}
 use Rattle.bench_reader.specs.Reading.{joined_tokens, ArePhrases, IsText}
 use Rattle.bench_reader.specs.Refusal.{stop_of, StopsAt, at_token, at_end, at_pins}

@@ -5,7 +5,8 @@ use Rattle.std.specs.List.{prefix_len, list_all}
 use Rattle.std.proofs.Common.{one-add, arith}
 use Rattle.std.proofs.Math.Seq.{take-append_seam, drop-append_seam}
 use Rattle.std.proofs.lemmas.List.Elements.{All-head, All-tail}
-use Rattle.bench_reader.specs.Tokens.{Text, is_name_byte, Piece, open_bracket, close_bracket, comma_mark, equals_mark, name_run}
+use Rattle.text_fields.specs.Fields.{Text}
+use Rattle.bench_reader.specs.Tokens.{is_name_byte, Piece, open_bracket, close_bracket, comma_mark, equals_mark, name_run}
 use Rattle.bench_reader.specs.Scanning.{tokens_in}
 use Rattle.bench_reader.specs.Spelled.{Written, written_input, written_output, written_gate, spelled, spelled_pins, Spells, IsRun, HasRuns, pins_end, written_line}
 use Rattle.bench_reader.proofs.ScanLemmas.{skip_byte, no_tokens, name_tokens, begins, whole_text}

@@ -8,13 +8,13 @@ use Rattle.std.proofs.lemmas.List.Elements.{filter-append}
 use Rattle.std.proofs.lemmas.List.Folds.{list_any-append}
 use Rattle.std.proofs.lemmas.Map.Views.{any-filter_same}
 use Rattle.std.proofs.lemmas.Grind.{flat_map-append}
+use Rattle.text_fields.specs.Fields.{Text}
 use Rattle.bench_reader.specs.declared.statement.Word.{Word}
 use Rattle.bench_reader.specs.declared.word.Port.{Port}
 use Rattle.bench_reader.specs.declared.word.Port.TheVariants as says
 use Rattle.bench_reader.specs.declared.scanner.Lexeme.{Lexeme}
 use Rattle.bench_reader.specs.Scanning.{text_in, named_in}
 use Rattle.bench_reader.specs.Shapes.{port_phrase}
-use Rattle.bench_reader.specs.Tokens.{Text}
 use Rattle.bench_reader.specs.Grammar.{Named, Driver, gate_driver, flip_flop_driver, Phrase, input_phrase, output_phrase, gate_phrase, phrase_names}
 use Rattle.bench_reader.specs.Reading.{distinct_names, names_of, named_word, statement_with, statement_of}
 use Rattle.bench_reader.specs.Numbering.{is_one_of, with_name, with_names, port_statement, gate_statement}

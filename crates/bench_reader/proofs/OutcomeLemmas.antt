@@ -2,9 +2,11 @@
 use Rattle.std.proofs.Common.{◌≡◌, ◌∙◌, ℕ, zero, suc, ◌+◌, ◌≤◌, true, false, List, [], ◌∷◌, ◌++◌, length, refl, ap, sym, append_assoc, arith, length-append, ◌⊎◌, inl, inr, Option, None, Some}
 use Rattle.std.specs.Prelude.{◌≢◌, Bool, IsTrue}
 use Rattle.std.proofs.lemmas.List.{append-nil}
+use Rattle.text_fields.specs.Fields.{Text}
+use Rattle.bench_reader.specs.declared.reading.TheConstants.{NETLIST_LIMIT}
 use Rattle.bench_reader.specs.declared.fault.NetKind.{NetKind}
 use Rattle.bench_reader.specs.declared.fault.NetKind.TheVariants as kind
-use Rattle.bench_reader.specs.Tokens.{Text, Token, tokens_of}
+use Rattle.bench_reader.specs.Tokens.{Token, tokens_of}
 use Rattle.bench_reader.specs.Grammar.{Named, Phrase, input_phrase, output_phrase, gate_phrase, phrase_of, has_right_pins, CanBegin}
 use Rattle.bench_reader.specs.Netlist.{Netlist}
 use Rattle.bench_reader.specs.Reading.{joined_tokens, ArePhrases, IsText, IsNetlist, driven_twice, undriven, netlist_of}
@@ -88,7 +90,7 @@ names_decide text phrases t = by (driven_twice phrases) (undriven phrases) refl 
     by None (Some n) e f = inr ((kind.Undriven, n.1), by_missing phrases n t e f refl)
     by None None e f = inl (netlist_of text phrases, record { phrases = phrases; is_text = t; once = e; all_driven = f; netlist_is = refl })
 
-pub short_text : (text : Text) → length text ≤ 16777216 → Decided text
+pub short_text : (text : Text) → length text ≤ NETLIST_LIMIT → Decided text
 short_text text short = by (outcome (length (tokens_of text)) (length text) (tokens_of text) (omega arith))
   where
     by : Outcome (length text) (tokens_of text) → Decided text

@@ -10,8 +10,9 @@ use Rattle.std.proofs.lemmas.List.Sums.{passes_at_first, fails_before_first}
 use Rattle.std.proofs.lemmas.Slice.Eq.{bytes_eq-Decides}
 use Rattle.net_model.proofs.Copies.{later}
 use Rattle.net_model.proofs.Elements.{true_false}
+use Rattle.text_fields.specs.Fields.{Text}
 use Rattle.bench_reader.specs.declared.statement.Word.{Word}
-use Rattle.bench_reader.specs.Tokens.{Text, Token}
+use Rattle.bench_reader.specs.Tokens.{Token}
 use Rattle.bench_reader.specs.Grammar.{Named, gate_driver, flip_flop_driver, Phrase, input_phrase, output_phrase, gate_phrase, has_right_pins, phrase_names}
 use Rattle.bench_reader.specs.Reading.{distinct_names, names_of, is_among, driven_names, all_used_names, driven_twice, undriven, named_word, name_number, first_word, statement_with, ArePhrases}
 use Rattle.bench_reader.specs.Drivers.{driven_word, used_words, has_number, repeated_word}

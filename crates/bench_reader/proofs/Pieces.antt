@@ -5,7 +5,8 @@ use Rattle.std.specs.List.{prefix_len}
 use Rattle.std.proofs.lemmas.Bool.Decides.{nat_tests}
 use Rattle.std.proofs.lemmas.List.Sums.{prefix_len-le-length}
 use Rattle.std.proofs.lemmas.Bool.{and_parts}
-use Rattle.bench_reader.specs.Tokens.{Text, is_blank, is_name_byte, Piece, blank_piece, open_bracket, close_bracket, comma_mark, equals_mark, name_run, bad_byte, join_name, with_byte, pieces}
+use Rattle.text_fields.specs.Fields.{Text}
+use Rattle.bench_reader.specs.Tokens.{is_blank, is_name_byte, Piece, blank_piece, open_bracket, close_bracket, comma_mark, equals_mark, name_run, bad_byte, join_name, with_byte, pieces}
 
 abbrev pub begins_with_name : List Piece → Bool
 begins_with_name (name_run text ∷ pieces) = true

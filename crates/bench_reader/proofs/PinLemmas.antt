@@ -4,6 +4,7 @@ use Rattle.std.specs.Prelude.{◌≢◌, map, option_map, All, Vec}
 use Rattle.std.specs.declared.alloc.Global.{Global}
 use Rattle.std.proofs.lemmas.List.{append-nil, map-append, length-map}
 use Rattle.std.proofs.lemmas.List.Elements.{All-nil, All-cons, All-push}
+use Rattle.text_fields.specs.Fields.{Text}
 use Rattle.bench_reader.specs.declared.fault.NetFault.{NetFault}
 use Rattle.bench_reader.specs.declared.fault.NetFault.TheVariants.{At}
 use Rattle.bench_reader.specs.declared.fault.Place.{Place}
@@ -13,7 +14,7 @@ use Rattle.bench_reader.specs.declared.scanner.Lexeme.{Lexeme}
 use Rattle.bench_reader.specs.declared.fault.NetKind.TheVariants.{WrongPins}
 use Rattle.bench_reader.specs.declared.shape.Shape.TheVariants.{Gate}
 use Rattle.bench_reader.specs.declared.shape.GateHead.{GateHead}
-use Rattle.bench_reader.specs.Tokens.{Text, open_bracket, close_bracket, comma_mark, equals_mark, name_run, Token}
+use Rattle.bench_reader.specs.Tokens.{open_bracket, close_bracket, comma_mark, equals_mark, name_run, Token}
 use Rattle.bench_reader.specs.Grammar.{Named, Driver, gate_phrase, takes, gate_pins, driver_pins, driven_phrase, phrase_of, CanBegin}
 use Rattle.bench_reader.specs.Refusal.{stop_of}
 use Rattle.bench_reader.specs.Scanning.{tokens_at, lexeme_piece, text_in, named_in, token_in, IsLexeme, IsNext}

@@ -5,7 +5,7 @@ use Rattle.std.specs.List.{list_any, position_or_len}
 use Rattle.std.specs.Str.{bytes_eq}
 use Rattle.std.specs.declared.alloc.Global.{Global}
 use Rattle.std.proofs.lemmas.Bool.Decides.{nat_tests}
-use Rattle.bench_reader.specs.Tokens.{Text}
+use Rattle.text_fields.specs.Fields.{Text}
 use Rattle.bench_reader.specs.Numbering.{is_one_of}
 
 abbrev pub text_of : Vec ℕ Global → Text

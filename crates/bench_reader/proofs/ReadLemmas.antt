@@ -4,6 +4,8 @@ use Rattle.std.specs.Prelude.{map, IsTrue}
 use Rattle.std.proofs.lemmas.List.{append-nil, map-append}
 use Rattle.std.proofs.lemmas.Grind.{flat_map-append}
 use Rattle.indexmap.proofs.SetLemmas.{AllZip-push}
+use Rattle.text_fields.specs.Fields.{Text}
+use Rattle.bench_reader.specs.declared.reading.TheConstants.{NETLIST_LIMIT}
 use Rattle.bench_reader.specs.declared.fault.NetFault.{NetFault}
 use Rattle.bench_reader.specs.declared.fault.NetFault.TheVariants.{At, Loop, NoMemory}
 use Rattle.bench_reader.specs.declared.fault.NetKind.{NetKind}
@@ -11,7 +13,7 @@ use Rattle.bench_reader.specs.declared.fault.NetKind.TheVariants.{TooLong}
 use Rattle.bench_reader.specs.declared.fault.Place.{Place}
 use Rattle.bench_reader.specs.declared.statement.Statement.{Statement}
 use Rattle.bench_reader.specs.declared.shape.Shape.{Shape}
-use Rattle.bench_reader.specs.Tokens.{Text, Token, tokens_of}
+use Rattle.bench_reader.specs.Tokens.{Token, tokens_of}
 use Rattle.bench_reader.specs.Grammar.{Phrase, phrase_of, phrase_names, has_right_pins}
 use Rattle.bench_reader.specs.Reading.{place_of, names_of, statement_of, joined_tokens, ArePhrases}
 use Rattle.bench_reader.specs.Refusal.{TextRefused, too_long, by_grammar}
@@ -46,7 +48,7 @@ some_token [] p e = cc
 some_token (t ∷ ts) p e = omega arith
 
 module _ (text : Text) (byte : ℕ) (statements : List Statement) (names : List Text) (r : ReadSoFar text byte statements names) where
-  pub all_read : length text ≤ 16777216 → tokens_at text byte ≡ [] → IsParsed text (record { statements = statements; names = names })
+  pub all_read : length text ≤ NETLIST_LIMIT → tokens_at text byte ≡ [] → IsParsed text (record { statements = statements; names = names })
   all_read short none = record {
     phrases = r.phrases;
     is_text = record { short = short; groups = r.groups; whole = r.whole ∙ ap (λ ts. joined_tokens r.groups ++ ts) none ∙ append-nil (joined_tokens r.groups); each = r.each };
@@ -66,7 +68,7 @@ module _ (text : Text) (byte : ℕ) (statements : List Statement) (names : List 
       tokens_now : tokens_of text ≡ (joined_tokens r.groups ++ s.group) ++ tokens_at text found.1.byte
       tokens_now = r.whole ∙ ap (λ ts. joined_tokens r.groups ++ ts) (same ∙ s.whole) ∙ sym (append_assoc (joined_tokens r.groups) s.group (tokens_at text found.1.byte))
 
-      pub few_now : length text ≤ 16777216 → length names + length (phrase_names phrase) < 2 ^ 31
+      pub few_now : length text ≤ NETLIST_LIMIT → length names + length (phrase_names phrase) < 2 ^ 31
       few_now short =
           let all : length (tokens_of text) ≡ length (joined_tokens r.groups) + length s.group + length (tokens_at text found.1.byte) =
           ap length tokens_now ∙ length-append (joined_tokens r.groups ++ s.group) (tokens_at text found.1.byte) ∙ ap (λ k. k + length (tokens_at text found.1.byte)) (length-append (joined_tokens r.groups) s.group) in
@@ -93,12 +95,12 @@ module _ (text : Text) (byte : ℕ) (statements : List Statement) (names : List 
             known = known_push more r.phrases phrase (rw e (known_more names grown.0 r.phrases r.known)) (rw n grown.2);
           }
 
-pub text_fault : (text : Text) (f : NetFault) → length text ≤ 16777216 → IsGrammarFault text f → IsTextFault text f
+pub text_fault : (text : Text) (f : NetFault) → length text ≤ NETLIST_LIMIT → IsGrammarFault text f → IsTextFault text f
 text_fault text (At kind place) short h = (h.0, by_grammar h.1.before h.1.phrases short h.1.whole h.1.stops)
 text_fault text (Loop place walk) short h = h
 text_fault text NoMemory short h = tt
 
-pub long_text : (text : Text) (place : Place) → 16777216 < length text → place ≡ place_of text 16777216 → IsPlace text place × TextRefused text (TooLong, place.byte)
+pub long_text : (text : Text) (place : Place) → NETLIST_LIMIT < length text → place ≡ place_of text NETLIST_LIMIT → IsPlace text place × TextRefused text (TooLong, place.byte)
 long_text text place h e = rw e (refl, too_long h refl)
 
 pub driver_refused : (text : Text) (n : Netlist) → IsParsed text n → (kind : NetKind) (place : Place) → driver_fault n.statements ≡ Some (kind, place) → IsPlace text place × TextRefused text (kind, place.byte)

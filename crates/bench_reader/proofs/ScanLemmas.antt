@@ -8,8 +8,9 @@ use Rattle.std.proofs.lemmas.List.Folds.{length-prefix_len}
 use Rattle.std.proofs.lemmas.List.Sums.{sum_by-append, sum_by-cons, count_by-le-length, count_by_more_yes, count_by_more_no, prefix_len-le-length}
 use Rattle.std.proofs.Math.Seq.{take-add, take-length, drop-cons, drop-length}
 use Rattle.std.proofs.lemmas.List.{drop-drop}
+use Rattle.text_fields.specs.Fields.{Text}
 use Rattle.bench_reader.specs.declared.fault.Place.{Place}
-use Rattle.bench_reader.specs.Tokens.{Text, is_blank, is_name_byte, without_comments, Piece, name_run, with_byte, pieces, placed_pieces, is_blank_piece, tokens_of, line_of}
+use Rattle.bench_reader.specs.Tokens.{is_blank, is_name_byte, without_comments, Piece, name_run, with_byte, pieces, placed_pieces, is_blank_piece, tokens_of, line_of}
 use Rattle.bench_reader.specs.declared.scanner.LexemeKind.{LexemeKind}
 use Rattle.bench_reader.specs.declared.scanner.LexemeKind.TheVariants.{OpenBracket, CloseBracket, Comma, Equals, Name, BadByte, End}
 use Rattle.bench_reader.specs.Scanning.{tokens_in, tokens_at, tokens_with, lexeme_piece, IsPlace, IsNext}

@@ -5,7 +5,8 @@ use Rattle.std.specs.Str.{bytes_eq}
 use Rattle.std.proofs.lemmas.List.{length-map}
 use Rattle.std.proofs.lemmas.List.Sums.{sum_by-cons}
 use Rattle.net_model.proofs.Elements.{length-filter-le}
-use Rattle.bench_reader.specs.Tokens.{Text, without_comments, Piece, pieces, piece_length, placed_pieces, is_blank_piece, Token, tokens_of, open_bracket, close_bracket, comma_mark, equals_mark, name_run}
+use Rattle.text_fields.specs.Fields.{Text}
+use Rattle.bench_reader.specs.Tokens.{without_comments, Piece, pieces, piece_length, placed_pieces, is_blank_piece, Token, tokens_of, open_bracket, close_bracket, comma_mark, equals_mark, name_run}
 use Rattle.bench_reader.specs.Grammar.{Named, Driver, gate_driver, flip_flop_driver, driver_of, is_word, Phrase, input_phrase, output_phrase, gate_phrase, phrase_of, driver_pins, gate_pins, observed_phrase, driven_phrase, phrase_names}
 use Rattle.bench_reader.specs.Reading.{distinct_names, names_of, statement_of, joined_tokens, ArePhrases}
 use Rattle.bench_reader.specs.Driven.{statement_size}

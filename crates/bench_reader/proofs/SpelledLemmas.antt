@@ -8,8 +8,10 @@ use Rattle.std.proofs.lemmas.List.{map-append, length-map, get_or-map, get_or_de
 use Rattle.std.proofs.lemmas.List.Elements.{All-nil, All-cons, All-head, All-tail, All-weaker}
 use Rattle.std.proofs.lemmas.List.Folds.{list_any_none, list_any_at}
 use Rattle.std.proofs.lemmas.Slice.Eq.{bytes_eq-Decides}
+use Rattle.text_fields.specs.Fields.{Text}
+use Rattle.bench_reader.specs.declared.reading.TheConstants.{NETLIST_LIMIT}
 use Rattle.bench_reader.specs.Netlist.{Netlist}
-use Rattle.bench_reader.specs.Tokens.{Text, Piece, open_bracket, close_bracket, comma_mark, equals_mark, name_run, Token, tokens_of}
+use Rattle.bench_reader.specs.Tokens.{Piece, open_bracket, close_bracket, comma_mark, equals_mark, name_run, Token, tokens_of}
 use Rattle.bench_reader.specs.Grammar.{Named, Driver, gate_driver, flip_flop_driver, driver_of, takes, Phrase, input_phrase, output_phrase, gate_phrase, phrase_of, gate_pins, driver_pins, observed_phrase, driven_phrase, has_right_pins, phrase_names}
 use Rattle.bench_reader.specs.Reading.{distinct_names, names_of, is_among, driven_names, all_used_names, driven_twice, undriven, name_number, named_word, statement_with, statement_of, netlist_of, joined_tokens, ArePhrases, IsNetlist}
 use Rattle.bench_reader.specs.Spelled.{Written, written_input, written_output, written_gate, written_driven, written_used, written_names, HasRightWord, AreRightTogether, spelled, spelled_pins, Spells, ReadsAs, IsAsWritten}
@@ -246,7 +248,7 @@ module _ (text : Text) (names : List Text) where
   reads_all [] a = tt
   reads_all (p ∷ ps) a = (reads_one p a.0, reads_all ps a.1)
 
-pub accepted : (text : Text) (ws : List Written) → length text ≤ 16777216 → Spells text ws → AreRightTogether ws → (netlist : Netlist) × IsNetlist text netlist × IsAsWritten ws netlist
+pub accepted : (text : Text) (ws : List Written) → length text ≤ NETLIST_LIMIT → Spells text ws → AreRightTogether ws → (netlist : Netlist) × IsNetlist text netlist × IsAsWritten ws netlist
 unfolding driven_twice undriven names_of
 accepted text ws short spells right =
     let g = read_groups ws (tokens_of text) spells right.words in

@@ -2,6 +2,7 @@
 use Rattle.std.proofs.Common.{◌≡◌, ◌∙◌, List, [], ◌∷◌, ◌++◌, length, refl, ap, sym, None, Some}
 use Rattle.std.specs.Prelude.{◌≢◌, IsTrue}
 use Rattle.std.proofs.lemmas.List.Elements.{All-nil, All-cons}
+use Rattle.text_fields.specs.Fields.{Text}
 use Rattle.bench_reader.specs.declared.fault.NetFault.{NetFault}
 use Rattle.bench_reader.specs.declared.fault.NetFault.TheVariants.{At}
 use Rattle.bench_reader.specs.declared.fault.NetKind.TheVariants as fault
@@ -12,7 +13,7 @@ use Rattle.bench_reader.specs.declared.word.Driver as found
 use Rattle.bench_reader.specs.declared.word.Port.{Port}
 use Rattle.bench_reader.specs.declared.word.Port.TheVariants as says
 use Rattle.bench_reader.specs.declared.shape.Shape.TheVariants as shape
-use Rattle.bench_reader.specs.Tokens.{Text, open_bracket, close_bracket, equals_mark, name_run, Token, line_of}
+use Rattle.bench_reader.specs.Tokens.{open_bracket, close_bracket, equals_mark, name_run, Token, line_of}
 use Rattle.bench_reader.specs.Grammar.{Named, Driver, driver_of, Phrase, observed_phrase, has_right_pins}
 use Rattle.bench_reader.specs.Scanning.{tokens_at, tokens_from, text_in, named_in, token_in, IsPlace, IsLexeme, IsNext}
 use Rattle.bench_reader.specs.Shapes.{stop_kind, port_phrase, head_tokens, IsStatement}

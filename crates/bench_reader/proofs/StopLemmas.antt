@@ -2,12 +2,13 @@
 use Rattle.std.proofs.Common.{◌≡◌, ◌∙◌, ℕ, List, [], ◌∷◌, ◌++◌, length, refl, ap, sym, None, Some}
 use Rattle.std.specs.Prelude.{◌≢◌, codes}
 use Rattle.std.proofs.lemmas.List.{append-nil}
+use Rattle.text_fields.specs.Fields.{Text}
 use Rattle.bench_reader.specs.declared.fault.NetFault.{NetFault}
 use Rattle.bench_reader.specs.declared.fault.NetFault.TheVariants.{At}
 use Rattle.bench_reader.specs.declared.scanner.LexemeKind.{LexemeKind}
 use Rattle.bench_reader.specs.declared.scanner.LexemeKind.TheVariants.{OpenBracket, CloseBracket, Equals, Name, BadByte, End}
 use Rattle.bench_reader.specs.declared.scanner.Lexeme.{Lexeme}
-use Rattle.bench_reader.specs.Tokens.{Text, open_bracket, close_bracket, equals_mark, name_run, Token}
+use Rattle.bench_reader.specs.Tokens.{open_bracket, close_bracket, equals_mark, name_run, Token}
 use Rattle.bench_reader.specs.Grammar.{Named, Driver, driver_of, Phrase, input_phrase, gate_phrase, driver_pins, gate_pins, observed_phrase, driven_phrase, phrase_of, CanBegin}
 use Rattle.bench_reader.specs.Refusal.{stop_of}
 use Rattle.bench_reader.specs.Scanning.{tokens_at, tokens_with, tokens_from, lexeme_piece, text_in, token_in, IsPlace, IsNext}

@@ -1,10 +1,11 @@
 -- What single bytes of a text begin, and which are skipped.
 use Rattle.std.specs.Prelude.{◌≡◌, ℕ, ◌≤◌, ◌<◌, Bool, false, not, ◌&&◌, ◌||◌, length, slice_index, ◌==◌, if◌then◌else◌}
 use Rattle.std.specs.List.{prefix_len}
+use Rattle.text_fields.specs.Fields.{Text}
 use Rattle.bench_reader.specs.declared.fault.Place.{Place}
 use Rattle.bench_reader.specs.declared.scanner.LexemeKind.{LexemeKind}
 use Rattle.bench_reader.specs.declared.scanner.LexemeKind.TheVariants.{OpenBracket, CloseBracket, Comma, Equals, Name, BadByte}
-use Rattle.bench_reader.specs.Tokens.{Text, is_blank, is_name_byte}
+use Rattle.bench_reader.specs.Tokens.{is_blank, is_name_byte}
 use Rattle.bench_reader.specs.Scanning.{tokens_at, IsPlace}
 
 -- what a byte that isn't skipped begins

@@ -1,6 +1,7 @@
 -- What is known of the statements of every netlist that is read: each name is driven once, and no other is used.
 use Rattle.std.specs.Prelude.{◌≢◌, ℕ, ◌+◌, ◌<◌, ◌≤◌, Bool, true, List, [], ◌∷◌, length, map, filter_map, flat_map, sum_by, All, AllPairs, Contains, IsTrue, Option, None, Some}
 use Rattle.net_model.specs.Gate.{takes_pins}
+use Rattle.bench_reader.specs.declared.reading.TheConstants.{NETLIST_LIMIT}
 use Rattle.bench_reader.specs.declared.statement.Statement.{Statement}
 use Rattle.bench_reader.specs.declared.statement.Statement.TheVariants.{Input, Output, Drive, Flop}
 use Rattle.bench_reader.specs.Netlist.{Netlist}
@@ -37,5 +38,5 @@ pub record IsDriven (n : Netlist) : Type 0 where
   pub named : All (λ number. number < length n.names) (driven_numbers n.statements)
   pub used : All (λ number. Contains (driven_numbers n.statements) number) (flat_map used_numbers n.statements)
   pub arities : All (λ statement. IsTrue (takes_its_pins statement)) n.statements
-  pub few : length n.names ≤ 16777216
-  pub small : sum_by statement_size n.statements ≤ 16777216
+  pub few : length n.names ≤ NETLIST_LIMIT
+  pub small : sum_by statement_size n.statements ≤ NETLIST_LIMIT

@@ -4,7 +4,8 @@ use Rattle.std.specs.Str.{str_eq_ignore_ascii_case}
 use Rattle.net_model.specs.declared.gate.Kind.{Kind}
 use Rattle.net_model.specs.declared.gate.Kind.TheVariants.{And, Nand, Or, Nor, Xor, Xnor, Not, Buff, Mux, Const0, Const1}
 use Rattle.net_model.specs.Gate.{takes_pins}
-use Rattle.bench_reader.specs.Tokens.{Text, open_bracket, close_bracket, comma_mark, equals_mark, name_run, Token}
+use Rattle.text_fields.specs.Fields.{Text}
+use Rattle.bench_reader.specs.Tokens.{open_bracket, close_bracket, comma_mark, equals_mark, name_run, Token}
 
 -- ---- words
 

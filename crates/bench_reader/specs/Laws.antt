@@ -1,8 +1,9 @@
 -- Laws of the definitions.
 use Rattle.std.specs.Prelude.{◌≡◌, ◌⊎◌, ℕ, ◌≤◌, List, length, flat_map, All}
+use Rattle.text_fields.specs.Fields.{Text}
+use Rattle.bench_reader.specs.declared.reading.TheConstants.{NETLIST_LIMIT}
 use Rattle.bench_reader.specs.declared.fault.NetKind.{NetKind}
 use Rattle.bench_reader.specs.Netlist.{Netlist}
-use Rattle.bench_reader.specs.Tokens.{Text}
 use Rattle.bench_reader.specs.Reading.{IsNetlist}
 use Rattle.bench_reader.specs.Refusal.{TextRefused}
 use Rattle.bench_reader.specs.Spelled.{Written, AreRightTogether, Spells, HasRuns, written_line, IsAsWritten}
@@ -25,7 +26,7 @@ OneNetlist = (text : Text) (one other : Netlist) → IsNetlist text one → IsNe
 
 -- a text that isn't too long and spells right statements is accepted, and reads as them
 abbrev pub SpelledIsAccepted : Type 0
-SpelledIsAccepted = (text : Text) (statements : List Written) → length text ≤ 16777216 → Spells text statements → AreRightTogether statements → (netlist : Netlist) × IsNetlist text netlist × IsAsWritten statements netlist
+SpelledIsAccepted = (text : Text) (statements : List Written) → length text ≤ NETLIST_LIMIT → Spells text statements → AreRightTogether statements → (netlist : Netlist) × IsNetlist text netlist × IsAsWritten statements netlist
 
 -- a line for each statement spells the statements
 abbrev pub LinesSpell : Type 0

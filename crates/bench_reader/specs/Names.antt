@@ -4,7 +4,7 @@ use Rattle.std.specs.declared.alloc.Global.{Global}
 use Rattle.std.specs.declared.hash.FoldHasher.{FoldHasher}
 use Rattle.std.specs.declared.hash.BuildHasherDefault.{BuildHasherDefault}
 use Rattle.indexmap.specs.IndexSet.{IndexSet}
-use Rattle.bench_reader.specs.Tokens.{Text}
+use Rattle.text_fields.specs.Fields.{Text}
 
 abbrev pub NameSet : Type 0
 NameSet = IndexSet (Vec ℕ Global) (BuildHasherDefault FoldHasher)

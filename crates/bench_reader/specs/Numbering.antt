@@ -2,12 +2,12 @@
 use Rattle.std.specs.Prelude.{Bool, List, [], ◌∷◌, ◌++◌, if◌then◌else◌}
 use Rattle.std.specs.List.{list_any}
 use Rattle.std.specs.Str.{bytes_eq}
+use Rattle.text_fields.specs.Fields.{Text}
 use Rattle.bench_reader.specs.declared.statement.Word.{Word}
 use Rattle.bench_reader.specs.declared.statement.Statement.{Statement}
 use Rattle.bench_reader.specs.declared.statement.Statement.TheVariants.{Input, Output, Drive, Flop}
 use Rattle.bench_reader.specs.declared.word.Port.{Port}
 use Rattle.bench_reader.specs.declared.word.Port.TheVariants as says
-use Rattle.bench_reader.specs.Tokens.{Text}
 use Rattle.bench_reader.specs.Grammar.{Named, Driver, gate_driver, flip_flop_driver}
 
 -- whether a name is one of these

@@ -1,7 +1,7 @@
 -- Statements whose names may be driven twice or not at all.
 use Rattle.std.specs.Prelude.{◌≡◌, List}
+use Rattle.text_fields.specs.Fields.{Text}
 use Rattle.bench_reader.specs.Netlist.{Netlist}
-use Rattle.bench_reader.specs.Tokens.{Text}
 use Rattle.bench_reader.specs.Grammar.{Phrase}
 use Rattle.bench_reader.specs.Reading.{IsText, netlist_of}
 

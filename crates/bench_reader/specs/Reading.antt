@@ -2,12 +2,14 @@
 use Rattle.std.specs.Prelude.{◌≡◌, ℕ, ◌≤◌, Bool, not, List, [], ◌∷◌, map, filter, filter_map, flat_map, find, length, take, unwrap_or, position, Option, Some, None, IsTrue, option_map}
 use Rattle.std.specs.List.{AllZip, list_any, enumerate_from}
 use Rattle.std.specs.Str.{bytes_eq}
+use Rattle.text_fields.specs.Fields.{Text}
+use Rattle.bench_reader.specs.declared.reading.TheConstants.{NETLIST_LIMIT}
 use Rattle.bench_reader.specs.declared.fault.Place.{Place}
 use Rattle.bench_reader.specs.declared.statement.Word.{Word}
 use Rattle.bench_reader.specs.declared.statement.Statement.{Statement}
 use Rattle.bench_reader.specs.declared.statement.Statement.TheVariants.{Input, Output, Drive, Flop}
 use Rattle.bench_reader.specs.Netlist.{Netlist}
-use Rattle.bench_reader.specs.Tokens.{Text, Token, tokens_of, line_of}
+use Rattle.bench_reader.specs.Tokens.{Token, tokens_of, line_of}
 use Rattle.bench_reader.specs.Grammar.{Named, Driver, gate_driver, flip_flop_driver, Phrase, input_phrase, output_phrase, gate_phrase, phrase_of, has_right_pins, driven_name, used_names, phrase_names}
 
 -- ---- names
@@ -85,7 +87,7 @@ ArePhrases groups phrases = AllZip (λ group phrase. (phrase_of group ≡ Some p
 
 -- The text is these statements, one after another.
 pub record IsText (text : Text) (phrases : List Phrase) : Type 0 where
-  pub short : length text ≤ 16777216
+  pub short : length text ≤ NETLIST_LIMIT
   pub groups : List (List Token)
   pub whole : tokens_of text ≡ joined_tokens groups
   pub each : ArePhrases groups phrases

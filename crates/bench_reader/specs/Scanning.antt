@@ -1,10 +1,11 @@
 -- The tokens of a text from a byte on, and what a reader that goes from token to token holds.
 use Rattle.std.specs.Prelude.{◌≡◌, ℕ, ◌≤◌, Bool, false, not, List, [], ◌∷◌, length, filter, drop, slice_range}
+use Rattle.text_fields.specs.Fields.{Text}
 use Rattle.bench_reader.specs.declared.fault.Place.{Place}
 use Rattle.bench_reader.specs.declared.scanner.LexemeKind.{LexemeKind}
 use Rattle.bench_reader.specs.declared.scanner.LexemeKind.TheVariants.{OpenBracket, CloseBracket, Comma, Equals, Name, BadByte, End}
 use Rattle.bench_reader.specs.declared.scanner.Lexeme.{Lexeme}
-use Rattle.bench_reader.specs.Tokens.{Text, without_comments, Piece, blank_piece, open_bracket, close_bracket, comma_mark, equals_mark, name_run, bad_byte, pieces, Token, placed_pieces, is_blank_piece, line_of}
+use Rattle.bench_reader.specs.Tokens.{without_comments, Piece, blank_piece, open_bracket, close_bracket, comma_mark, equals_mark, name_run, bad_byte, pieces, Token, placed_pieces, is_blank_piece, line_of}
 use Rattle.bench_reader.specs.Grammar.{Named}
 use Rattle.bench_reader.specs.Reading.{place_of}
 

@@ -1,6 +1,7 @@
 -- The statements that a reader finds, as statements of the grammar.
 use Rattle.std.specs.Prelude.{◌≡◌, ◌≤◌, List, [], ◌∷◌, ◌++◌, length, map, All, IsTrue, Some, Vec}
 use Rattle.std.specs.declared.alloc.Global.{Global}
+use Rattle.text_fields.specs.Fields.{Text}
 use Rattle.bench_reader.specs.declared.fault.NetKind.{NetKind}
 use Rattle.bench_reader.specs.declared.fault.NetKind.TheVariants as kind
 use Rattle.bench_reader.specs.declared.fault.Place.{Place}
@@ -14,7 +15,7 @@ use Rattle.bench_reader.specs.declared.word.Port.TheVariants as port
 use Rattle.bench_reader.specs.declared.shape.Shape.{Shape}
 use Rattle.bench_reader.specs.declared.shape.Shape.TheVariants as shape
 use Rattle.bench_reader.specs.declared.shape.GateHead.{GateHead}
-use Rattle.bench_reader.specs.Tokens.{Text, Token}
+use Rattle.bench_reader.specs.Tokens.{Token}
 use Rattle.bench_reader.specs.Grammar.{Named, gate_driver, flip_flop_driver, driver_of, Phrase, input_phrase, output_phrase, gate_phrase, phrase_of, driver_pins, has_right_pins}
 use Rattle.bench_reader.specs.Grammar as grammar
 use Rattle.bench_reader.specs.Scanning.{tokens_at, IsPlace, text_in, named_in, token_in, IsLexeme}

@@ -1,10 +1,11 @@
 -- Statements as they are written: the tokens and the lines that spell them, and the statements that they read as.
 use Rattle.std.specs.Prelude.{◌≡◌, ◌≢◌, ◌<◌, List, [], ◌∷◌, ◌++◌, length, codes, map, filter_map, flat_map, All, AllPairs, Contains, IsTrue, Option, None, Some}
 use Rattle.std.specs.List.{AllZip, list_all}
+use Rattle.text_fields.specs.Fields.{Text}
 use Rattle.bench_reader.specs.declared.statement.Statement.{Statement}
 use Rattle.bench_reader.specs.declared.statement.Statement.TheVariants.{Input, Output, Drive, Flop}
 use Rattle.bench_reader.specs.Netlist.{Netlist}
-use Rattle.bench_reader.specs.Tokens.{Text, is_name_byte, Piece, open_bracket, close_bracket, comma_mark, equals_mark, name_run, tokens_of}
+use Rattle.bench_reader.specs.Tokens.{is_name_byte, Piece, open_bracket, close_bracket, comma_mark, equals_mark, name_run, tokens_of}
 use Rattle.bench_reader.specs.Grammar.{Driver, gate_driver, flip_flop_driver, driver_of, takes}
 use Rattle.bench_reader.specs.Reading.{distinct_names, name_number}
 

@@ -1,10 +1,11 @@
 -- How the grammar refuses a text.
 use Rattle.std.specs.Prelude.{◌≡◌, ◌≢◌, ℕ, false, List, [], ◌∷◌, ◌++◌, length, None, Some}
+use Rattle.text_fields.specs.Fields.{Text}
 use Rattle.bench_reader.specs.declared.fault.NetKind.{NetKind}
 use Rattle.bench_reader.specs.declared.fault.NetKind.TheVariants as kind
 use Rattle.bench_reader.specs.declared.fault.NetFault.{NetFault}
 use Rattle.bench_reader.specs.declared.fault.NetFault.TheVariants.{At, Loop, NoMemory}
-use Rattle.bench_reader.specs.Tokens.{Text, Token}
+use Rattle.bench_reader.specs.Tokens.{Token}
 use Rattle.bench_reader.specs.Grammar.{Named, Driver, Phrase, gate_phrase, phrase_of, has_right_pins, CanBegin}
 use Rattle.bench_reader.specs.Reading.{ArePhrases}
 use Rattle.bench_reader.specs.Refusal.{stop_of, StopsAt, TextRefused}

@@ -1,8 +1,6 @@
 -- The tokens of a netlist's text. Together with the blanks between them they are the whole text.
 use Rattle.std.specs.Prelude.{ℕ, ◌+◌, Bool, true, false, not, ◌&&◌, ◌||◌, List, [], ◌∷◌, length, filter, take, count_by, nat_le, ◌==◌, if◌then◌else◌}
-
-abbrev pub Text : Type 0
-Text = List ℕ
+use Rattle.text_fields.specs.Fields.{Text}
 
 -- ---- bytes
 

@@ -21,7 +21,7 @@ pub enum NetKind {
     DrivenTwice,
     /// A name is used, and nothing drives it.
     Undriven,
-    /// The text has more than 16,777,216 bytes.
+    /// The text has more than `NETLIST_LIMIT` bytes.
     TooLong,
 }
 

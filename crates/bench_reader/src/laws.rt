@@ -21,7 +21,7 @@ pub fn one_netlist()
     ensures { OneNetlist }
 {}
 
-/// A text of at most 16,777,216 bytes that spells right statements is accepted, and reads as them.
+/// A text of at most `NETLIST_LIMIT` bytes that spells right statements is accepted, and reads as them.
 pub fn spelled_is_accepted()
     ensures { SpelledIsAccepted }
 {}

@@ -18,5 +18,5 @@ pub use laws::{
     accepted_or_refused, lines_spell, never_accepted_and_refused, one_netlist, one_refusal,
     spelled_is_accepted,
 };
-pub use reading::read;
+pub use reading::{NETLIST_LIMIT, read};
 pub use statement::{Statement, Statements, Word, Words};

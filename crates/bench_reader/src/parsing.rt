@@ -1,5 +1,6 @@
 //! The statements of a whole text.
 ghost use Rattle.std.specs.Prelude.{◌≡◌, ◌≤◌, [], length, IfOk, OnOk, IfErr};
+ghost use Rattle.bench_reader.specs.declared.reading.TheConstants.{NETLIST_LIMIT};
 ghost use Rattle.bench_reader.specs.Names.{texts_in};
 ghost use Rattle.bench_reader.specs.Parsed.{IsParsed};
 ghost use Rattle.bench_reader.specs.Stops.{IsGrammarFault};
@@ -15,7 +16,7 @@ use std::alloc::Global;
 
 /// Reads a text as statements, or answers the first rule of the grammar that it breaks.
 pub(crate) fn parse(alloc: Global, bytes: &[u8]) -> Result<Parsed, NetFault>
-    requires { length bytes.now ≤ 16777216 }
+    requires { length bytes.now ≤ NETLIST_LIMIT }
     ensures ok { IfOk result (IsParsed bytes.now) }
     ensures refused { IfErr result (IsGrammarFault bytes.now) }
 {
@@ -33,7 +34,7 @@ fn add_statements(
     statements: &mut Vec<Statement>,
     names: &mut IndexSet<Vec<u8>>,
 ) -> Result<(), NetFault>
-    requires short { length bytes.now ≤ 16777216 }
+    requires short { length bytes.now ≤ NETLIST_LIMIT }
     requires no_statements { statements.old.items ≡ [] }
     requires no_names { texts_in names.old ≡ [] }
     ensures ok { OnOk result (IsParsed bytes.now (record { statements = statements.new.items; names = texts_in names.new })) }

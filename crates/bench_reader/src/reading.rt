@@ -1,10 +1,10 @@
 //! Reading a netlist's text.
 ghost use Rattle.std.specs.Prelude.{◌≡◌, ◌<◌, None, IfOk, OnOk, IfErr, count_by, ◌==◌, length};
+ghost use Rattle.text_fields.specs.Fields.{Text};
 ghost use Rattle.bench_reader.specs.Drivers.{driver_fault, AreNumbered};
 ghost use Rattle.bench_reader.specs.Parsed.{IsParsed};
 ghost use Rattle.bench_reader.specs.Reading.{place_of, IsNetlist};
 ghost use Rattle.bench_reader.specs.Stops.{IsTextFault};
-ghost use Rattle.bench_reader.specs.Tokens.{Text};
 
 use crate::drivers::check_drivers;
 use crate::fault::{NetFault, NetKind, Place};
@@ -13,13 +13,13 @@ use crate::parsing::parse;
 use crate::statement::Statements;
 use std::alloc::Global;
 
-/// The most bytes that a text may have.
-const MOST_BYTES: usize = 16_777_216;
+/// The most bytes of a netlist.
+pub const NETLIST_LIMIT: u64 = 16_777_216;
 
 /// Reads a netlist: statements in the `.bench` format of Brglez and Fujiwara (1985), with comments from `#` to the end of a line.
 ///
 /// # Errors
-/// `At` with the first rule that the text breaks and where: a text of more than 16,777,216 bytes; then, from left to right, the
+/// `At` with the first rule that the text breaks and where: a text of more than [`NETLIST_LIMIT`] bytes; then, from left to right, the
 /// rules of bytes, words and statements; then a name that is driven twice; then a used name that nothing drives. `NoMemory` where
 /// memory is wanting. `Loop` never comes from here.
 pub fn read(alloc: Global, bytes: &[u8]) -> Result<Statements, NetFault>
@@ -51,7 +51,7 @@ fn parse_short(alloc: Global, bytes: &[u8]) -> Result<Parsed, NetFault>
     ensures ok { IfOk result (IsParsed bytes.now) }
     ensures refused { IfErr result (IsTextFault bytes.now) }
 {
-    if bytes.len() > MOST_BYTES {
+    if bytes.len() as u64 > NETLIST_LIMIT {
         return Err(NetFault::At(NetKind::TooLong, limit_place(bytes)));
     }
     parse(alloc, bytes)
@@ -59,12 +59,12 @@ fn parse_short(alloc: Global, bytes: &[u8]) -> Result<Parsed, NetFault>
 
 // The place of the first byte behind the limit.
 fn limit_place(bytes: &[u8]) -> Place
-    requires { 16777216 < length bytes.now }
-    ensures { result ≡ place_of bytes.now 16777216 }
+    requires { NETLIST_LIMIT < length bytes.now }
+    ensures { result ≡ place_of bytes.now NETLIST_LIMIT }
 {
     Place {
-        byte: MOST_BYTES as u32,
-        line: feeds(&bytes[..MOST_BYTES]) as u32 + 1,
+        byte: NETLIST_LIMIT as u32,
+        line: feeds(&bytes[..NETLIST_LIMIT as usize]) as u32 + 1,
     }
 }
 

@@ -1,5 +1,5 @@
 //! Tokens, one after another, each with its place.
-ghost use Rattle.std.specs.Prelude.{◌≡◌, ◌+◌, ◌≤◌, ◌<◌, ◌^◌, ◌&&◌, ◌||◌, ◌==◌, not, length, if◌then◌else◌};
+ghost use Rattle.std.specs.Prelude.{◌≡◌, ◌+◌, ◌≤◌, ◌<◌, ◌^◌, ◌&&◌, ◌||◌, ◌==◌, length, if◌then◌else◌};
 ghost use Rattle.std.specs.List.{prefix_len};
 ghost use Rattle.bench_reader.specs.Tokens.{is_blank, is_name_byte};
 ghost use Rattle.bench_reader.specs.Scanning.{IsPlace, text_in, IsLexeme, IsNext};

@@ -1,5 +1,5 @@
 -- What the check answers, once the rest of the file is read.
-use Rattle.std.proofs.Common.{◌≡◌, ◌∙◌, ℕ, ◌≤◌, ◌^◌, true, false, List, length, Option, None, Result, Ok, Err, refl, sym, ap}
+use Rattle.std.proofs.Common.{◌≡◌, ◌∙◌, ℕ, ◌≤◌, true, false, List, length, Option, None, Result, Ok, Err, refl, sym, ap}
 use Rattle.std.specs.Prelude.{IfOk, OnOk, IsErrOf, IsSome, is_some}
 use Rattle.diag_shelf.specs.World.{State}
 use Rattle.diag_shelf.specs.Calls.{Told, IsReadCall}
@@ -7,6 +7,7 @@ use Rattle.diag_shelf.specs.declared.shelf.ShelfFault.{ShelfFault}
 use Rattle.diag_shelf.proofs.Steps.{read_unkept}
 use Rattle.diag_shelf.specs.declared.shelf.ShelfFault.TheVariants as shelf
 use Rattle.net_model.specs.Circuit.{Circuit}
+use Rattle.result_records.specs.declared.limits.TheConstants.{RESULT_LIMIT}
 use Rattle.result_records.specs.declared.record.Record.{Record}
 use Rattle.result_file.specs.declared.fault.ResultFault.{ResultFault}
 use Rattle.text_fields.specs.Fields.{Text}
@@ -62,7 +63,7 @@ module _ {c : Circuit} {reader : Reader} {old new : State} (read : HasRead c rea
   pub told_read : Told old new ReadsRest
   told_read told = rest_read (read.all told) read.few
 
-  pub valid_after : (result : Result Checked FileFault) → IfOk result (λ checked. (fed : Text) → IsReading c fed reader → (length fed ≤ 2 ^ 40) × IsAcceptedText c fed checked)
+  pub valid_after : (result : Result Checked FileFault) → IfOk result (λ checked. (fed : Text) → IsReading c fed reader → (length fed ≤ RESULT_LIMIT) × IsAcceptedText c fed checked)
       → IfOk result (λ checked. (records : List Record) × IsAccepted c records checked × Told old new (λ old new. rest_of old ≡ text_of records))
   valid_after (Ok checked) ok =
       let both = ok read.fed read.reading in

@@ -4,6 +4,7 @@ use Rattle.std.specs.Prelude.{Contains, ◌==◌}
 use Rattle.std.proofs.lemmas.List.{append-nil, length-map}
 use Rattle.net_model.specs.Circuit.{Circuit}
 use Rattle.net_model.specs.PatternRows.{IsTableOf}
+use Rattle.result_records.specs.declared.limits.TheConstants.{RESULT_LIMIT}
 use Rattle.result_records.specs.declared.record.Record.{Record}
 use Rattle.result_records.specs.declared.record.Record.TheVariants.{Pattern}
 use Rattle.result_file.specs.declared.fault.ResultKind.{ResultKind}
@@ -43,7 +44,7 @@ pub refused_longer : {c : Circuit} {text : Text} {fault : ResultFault} (more : T
 refused_longer {c} {text} {fault} more is = record { refused = λ rest. subst (λ (file : Text). FileRefused c file fault) (sym (append_assoc text more rest)) (is.refused (more ++ rest)) }
 
 module _ {c : Circuit} {text : Text} {k : Checker} (is : IsCheckOf c text k) where
-  pub many_lines : k.progress.lines + length k.waiting.items ≤ 2 ^ 40
+  pub many_lines : k.progress.lines + length k.waiting.items ≤ RESULT_LIMIT
   many_lines = omega (
     arith,
     is.short,
@@ -62,7 +63,7 @@ module _ {c : Circuit} {text : Text} {k : Checker} (is : IsCheckOf c text k) whe
     text_seen = is.text_is ∙ ap (λ (w : List (List Bool)). text_of (is.seen ++ map Pattern w)) none ∙ ap text_of (append-nil is.seen)
 
     -- the line is refused
-    pub refused_line : (line : Text) (reason : ResultKind) → ¬ Contains line 10 → length (text ++ (line ++ 10 ∷ [])) ≤ 2 ^ 40 → ((more : Text) → RestRefused c is.seen (line ++ 10 ∷ more) reason)
+    pub refused_line : (line : Text) (reason : ResultKind) → ¬ Contains line 10 → length (text ++ (line ++ 10 ∷ [])) ≤ RESULT_LIMIT → ((more : Text) → RestRefused c is.seen (line ++ 10 ∷ more) reason)
         → IsRefusedText c (text ++ (line ++ 10 ∷ [])) (fault_behind reason k.progress.lines)
     refused_line line reason one short rest = record {
       refused = λ more.
@@ -74,7 +75,7 @@ module _ {c : Circuit} {text : Text} {k : Checker} (is : IsCheckOf c text k) whe
           (λ i. fault_behind reason (is.is.progress.lines i));
     }
 
-    module _ (r : Record) (spelled : HasSpelling r) (one : ¬ Contains (spelling r) 10) (short : length (text ++ record_line r) ≤ 2 ^ 40) where
+    module _ (r : Record) (spelled : HasSpelling r) (one : ¬ Contains (spelling r) 10) (short : length (text ++ record_line r) ≤ RESULT_LIMIT) where
       begins : (more : Text) → BeginsWithRecord (spelling r ++ 10 ∷ more) r
       begins more = record { spelled = spelled; more = more; text_is = refl }
 
@@ -85,7 +86,7 @@ module _ {c : Circuit} {text : Text} {k : Checker} (is : IsCheckOf c text k) whe
       wrong_line reason place refused = refused_line (spelling r) reason one short (λ more. wrong r (begins more) (record { table = k.keeper.kept.table; table_is = table_seen; place = place; refused = refused }))
 
     -- the line is one more
-    pub taken_line : (r : Record) (new : Checker) → length (text ++ record_line r) ≤ 2 ^ 40 → new.waiting.items ≡ [] → IsChecker c (is.seen ++ r ∷ []) new → IsCheckOf c (text ++ record_line r) new
+    pub taken_line : (r : Record) (new : Checker) → length (text ++ record_line r) ≤ RESULT_LIMIT → new.waiting.items ≡ [] → IsChecker c (is.seen ++ r ∷ []) new → IsCheckOf c (text ++ record_line r) new
     taken_line r new short empty next = record {
       seen = is.seen ++ r ∷ [];
       is = next;

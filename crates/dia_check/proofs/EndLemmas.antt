@@ -1,10 +1,11 @@
 -- The end of a file.
-use Rattle.std.proofs.Common.{◌≡◌, ◌≢◌, ◌∙◌, ◌≤◌, ◌^◌, false, [], ◌++◌, length, length-append, Err, refl, ap, arith}
+use Rattle.std.proofs.Common.{◌≡◌, ◌≢◌, ◌∙◌, ◌≤◌, false, [], ◌++◌, length, length-append, Err, refl, ap, arith}
 use Rattle.std.specs.Prelude.{Contains}
 use Rattle.net_model.specs.Circuit.{Circuit}
 use Rattle.kept_vectors.proofs.KeepLemmas.{table_patterns}
 use Rattle.result_file.specs.declared.fault.ResultKind.TheVariants as why
 use Rattle.text_fields.specs.Fields.{Text}
+use Rattle.result_records.specs.declared.limits.TheConstants.{RESULT_LIMIT}
 use Rattle.result_records.specs.Spelling.{text_of}
 use Rattle.result_file.specs.Refusal.{line_length, FileRefused}
 use Rattle.result_file.specs.Refusal.RestRefused.{no_line, no_record}
@@ -27,7 +28,7 @@ ends_stopped {c} {old} {mid} {new} {rest} s first = record { judged = λ text is
 
 module _ {c : Circuit} {text : Text} {k : Checker} (is : IsCheckOf c text k) (none : k.waiting.items ≡ []) (rest : Text) where
   -- bytes without LF stand behind the last line
-  pub end_syntax : ¬ Contains rest 10 → length (text ++ rest) ≤ 2 ^ 40 → rest ≢ [] → FileRefused c (text ++ rest) (fault_behind why.Syntax k.progress.lines)
+  pub end_syntax : ¬ Contains rest 10 → length (text ++ rest) ≤ RESULT_LIMIT → rest ≢ [] → FileRefused c (text ++ rest) (fault_behind why.Syntax k.progress.lines)
   end_syntax one short some =
       let long : line_length rest ≡ length rest = unended_length rest one in
       at_line is.seen rest why.Syntax (record { text = ap (λ (t : Text). t ++ rest) (text_seen is none); right = is.is.lines })

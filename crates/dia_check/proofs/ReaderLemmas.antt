@@ -1,5 +1,5 @@
 -- Bytes that are read: lines among them, the limit, and the end.
-use Rattle.std.proofs.Common.{◌≡◌, ◌∙◌, ℕ, suc, ◌-◌, ◌<◌, ◌≤◌, ◌^◌, true, false, [], ◌∷◌, ◌++◌, length, length-append, length-take, take, Option, None, Some, Ok, Err, refl, sym, ap, subst, append_assoc, arith}
+use Rattle.std.proofs.Common.{◌≡◌, ◌∙◌, ℕ, suc, ◌-◌, ◌<◌, ◌≤◌, true, false, [], ◌∷◌, ◌++◌, length, length-append, length-take, take, Option, None, Some, Ok, Err, refl, sym, ap, subst, append_assoc, arith}
 use Rattle.std.specs.Prelude.{Contains, not, min, drop, is_some}
 use Rattle.std.specs.List.{prefix_len}
 use Rattle.std.proofs.lemmas.Bool.{ne_eqb}
@@ -8,6 +8,7 @@ use Rattle.net_model.specs.Circuit.{Circuit}
 use Rattle.result_file.specs.declared.fault.ResultKind.TheVariants as why
 use Rattle.result_file.specs.declared.fault.ResultFault.{ResultFault}
 use Rattle.text_fields.specs.Fields.{Text}
+use Rattle.result_records.specs.declared.limits.TheConstants.{RESULT_LIMIT}
 use Rattle.result_records.specs.Spelling.{text_of}
 use Rattle.result_records.specs.Held.{IsFirstLine}
 use Rattle.result_file.specs.Refusal.{line_length, FileRefused}
@@ -25,14 +26,14 @@ use Rattle.dia_check.proofs.CheckLemmas.{fault_behind, refused_longer, text_seen
 
 -- ---- a line that is taken out
 
-module _ {c : Circuit} {fed : Text} {r : Reader} (h : IsHeld c fed r) (short : length fed ≤ 2 ^ 40) (line rest : Text) (first : IsFirstLine r.lines line rest) where
+module _ {c : Circuit} {fed : Text} {r : Reader} (h : IsHeld c fed r) (short : length fed ≤ RESULT_LIMIT) (line rest : Text) (first : IsFirstLine r.lines line rest) where
   abbrev ended : Text
   ended = line ++ 10 ∷ []
 
   parts : fed ≡ (h.text ++ ended) ++ rest
   parts = h.fed_is ∙ ap (λ (t : Text). h.text ++ t) (first.cut ∙ sym (append_assoc line (10 ∷ []) rest)) ∙ sym (append_assoc h.text ended rest)
 
-  within : length (h.text ++ ended) ≤ 2 ^ 40
+  within : length (h.text ++ ended) ≤ RESULT_LIMIT
   within = omega (arith, short, ap length parts, length-append (h.text ++ ended) rest)
 
   pub line_held : (new : Checker) (x : Unit {0}) → JudgesText c r.checker new ended (Ok x) → (r' : Reader) → r'.checker ≡ new → r'.lines ≡ rest → IsHeld c fed r'
@@ -80,7 +81,7 @@ line_longer held more one some =
     let taken = length-take (prefix_len is_inside (held ++ more)) (held ++ more) in
     omega (arith, size, taken, some, length-append held more)
 
-module _ {c : Circuit} {text : Text} (held : Text) {k : Checker} (is : IsCheckOf c text k) (none : k.waiting.items ≡ []) (one : ¬ Contains held 10) (full : length (text ++ held) ≡ 2 ^ 40) where
+module _ {c : Circuit} {text : Text} (held : Text) {k : Checker} (is : IsCheckOf c text k) (none : k.waiting.items ≡ []) (one : ¬ Contains held 10) (full : length (text ++ held) ≡ RESULT_LIMIT) where
   pub beyond_limit : (over : Text) → 0 < length over → IsRefusedText c ((text ++ held) ++ over) (fault_behind why.TooLong k.progress.lines)
   beyond_limit over some = record {
     refused = λ more.
@@ -96,7 +97,7 @@ module _ {c : Circuit} {text : Text} (held : Text) {k : Checker} (is : IsCheckOf
 -- ---- what is known of the bytes so far
 
 -- at first there are none
-pub reading_none : {c : Circuit} (r : Reader) → IsCheckOf c [] r.checker → r.lines ≡ [] → r.room ≡ 2 ^ 40 → r.refused ≡ None → IsReading c [] r
+pub reading_none : {c : Circuit} (r : Reader) → IsCheckOf c [] r.checker → r.lines ≡ [] → r.room ≡ RESULT_LIMIT → r.refused ≡ None → IsReading c [] r
 reading_none {c} r is lines_is room_is none = record {
   going = λ e. record {
     held = record { text = []; check = is; fed_is = sym lines_is };
@@ -144,7 +145,7 @@ module _ {c : Circuit} {fed : Text} {old : Reader} (is : HasJudgedLines c fed ol
   inside_length : length inside ≡ count
   inside_length = omega (arith, length-take count piece, count_is)
 
-  pub inside_short : length (fed ++ inside) ≤ 2 ^ 40
+  pub inside_short : length (fed ++ inside) ≤ RESULT_LIMIT
   inside_short = omega (arith, length-append fed inside, inside_length, is.room, count_is)
 
   whole : (fed ++ inside) ++ drop count piece ≡ fed ++ piece
@@ -193,7 +194,7 @@ module _ {c : Circuit} {fed : Text} {old : Reader} (is : HasJudgedLines c fed ol
       piece_beyond {k} judges none below =
           let taken = takes.taken (fed ++ inside) inside_held inside_short in
           let h = taken.0 in
-          let full : length (h.text ++ new.lines) ≡ 2 ^ 40 = omega (arith, ap length h.fed_is, length-append fed inside, inside_length, is.room, count_is, below) in
+          let full : length (h.text ++ new.lines) ≡ RESULT_LIMIT = omega (arith, ap length h.fed_is, length-append fed inside, inside_length, is.room, count_is, below) in
           let fault = fault_behind why.TooLong k.progress.lines in
           let refused = beyond_limit new.lines (judges.judged h.text h.check) none taken.1 full (drop count piece) (omega (arith, below, length-drop count piece)) in
           subst (λ (t : Text). IsRefusedText c t fault) (ap (λ (t : Text). t ++ drop count piece) (sym h.fed_is) ∙ whole) refused
@@ -207,7 +208,7 @@ has_held {c} has piece count count_is r checker_is lines_is = record {
 
 -- ---- as the calls state it
 
-pub lines_stopped : {c : Circuit} {old mid new : Reader} {k : Checker} (s : Stop) (line rest : Text) → ((fed : Text) → IsHeld c fed old → length fed ≤ 2 ^ 40 → IsHeld c fed mid) → IsFirstLine mid.lines line rest
+pub lines_stopped : {c : Circuit} {old mid new : Reader} {k : Checker} (s : Stop) (line rest : Text) → ((fed : Text) → IsHeld c fed old → length fed ≤ RESULT_LIMIT → IsHeld c fed mid) → IsFirstLine mid.lines line rest
     → JudgesText c mid.checker k (line ++ 10 ∷ []) (Err s) → new.room ≡ old.room → new.refused ≡ old.refused → TakesLines c old new (Err s)
 lines_stopped {c} {old} {mid} {new} {k} s line rest held first judges room refused = record {
   taken = λ fed is short. line_stopped (held fed is short) short line rest first k s judges new;
@@ -237,7 +238,7 @@ end_refused {c} {fed} {r} {new} {rest} {fault} is rest_is judges =
     }
 
 pub end_accepted : {c : Circuit} {fed : Text} {r : Reader} {new : Checker} {rest : Text} {x : Unit {0}} {checked : Checked} → HasJudgedLines c fed r → rest ≡ r.lines → JudgesEnd c r.checker new rest (Ok x)
-    → ((c : Circuit) (text : Text) → IsJudgedWhole c text new → IsAcceptedText c text checked) → (length fed ≤ 2 ^ 40) × IsAcceptedText c fed checked
+    → ((c : Circuit) (text : Text) → IsJudgedWhole c text new → IsAcceptedText c text checked) → (length fed ≤ RESULT_LIMIT) × IsAcceptedText c fed checked
 end_accepted {c} {fed} {r} {new} {rest} {x} {checked} is rest_is judges accepted =
     let h = is.held in
     let whole : h.text ++ rest ≡ fed = ap (λ (t : Text). h.text ++ t) rest_is ∙ sym h.fed_is in

@@ -1,5 +1,5 @@
 -- The rest of a file, piece by piece.
-use Rattle.std.proofs.Common.{◌≡◌, ◌∙◌, Bool, true, false, IsTrue, ℕ, ◌+◌, ◌<◌, ◌≤◌, ◌^◌, List, [], ◌++◌, length, take, Option, Some, inl, inr, refl, sym, ap, subst, append_assoc, arith}
+use Rattle.std.proofs.Common.{◌≡◌, ◌∙◌, Bool, true, false, IsTrue, ℕ, ◌+◌, ◌<◌, ◌≤◌, List, [], ◌++◌, length, take, Option, Some, inl, inr, refl, sym, ap, subst, append_assoc, arith}
 use Rattle.std.specs.Prelude.{unwrap_or, IsSome, drop}
 use Rattle.std.proofs.lemmas.List.{append-nil}
 use Rattle.std.proofs.Math.Seq.{drop_at}
@@ -8,6 +8,7 @@ use Rattle.diag_shelf.specs.World.{World}
 use Rattle.diag_shelf.specs.Calls.{Takes, Same, OnlyReads, ReadsUpTo}
 use Rattle.diag_shelf.proofs.Steps.{left_by, reads_on_few}
 use Rattle.net_model.specs.Circuit.{Circuit}
+use Rattle.result_records.specs.declared.limits.TheConstants.{RESULT_LIMIT}
 use Rattle.result_file.specs.declared.fault.ResultFault.{ResultFault}
 use Rattle.text_fields.specs.Fields.{Text}
 use Rattle.result_file.specs.Refusal.{FileRefused}
@@ -59,24 +60,24 @@ takes_end {fed} {old} {mid} {new} piece count so_far takes zero some =
     }
 
 -- or where so many bytes are taken
-pub takes_limit : {fed : Text} {old new : World} → TakesText fed old new → length fed ≡ 2 ^ 40 + 1 → TakesAll fed old new
+pub takes_limit : {fed : Text} {old new : World} → TakesText fed old new → length fed ≡ RESULT_LIMIT + 1 → TakesAll fed old new
 takes_limit taken full = record { taken = taken; end = inl full }
 
 module _ {fed : Text} {old new : World} (all : TakesAll fed old new) where
-  pub rest_read : length fed ≤ 2 ^ 40 + 1 → ReadsRest old new
+  pub rest_read : length fed ≤ RESULT_LIMIT + 1 → ReadsRest old new
   rest_read few =
       let now : new.rest ≡ Some (rest_of new) = left_by new.rest all.taken.opened in
       record {
         rest = now ∙ ap (λ (t : Text). Some t) (elim all.end [
           | inl full ↦
-              sym (ap (λ (t : Text). drop (2 ^ 40 + 1) t) all.taken.rest ∙ drop_at fed (rest_of new) (2 ^ 40 + 1) full)
+              sym (ap (λ (t : Text). drop (RESULT_LIMIT + 1) t) all.taken.rest ∙ drop_at fed (rest_of new) (RESULT_LIMIT + 1) full)
           | inr none ↦
               let whole : rest_of old ≡ fed = all.taken.rest ∙ ap (λ (t : Text). fed ++ t) none ∙ append-nil fed in
-              none ∙ sym (drop_of_length-le (rest_of old) {i = 2 ^ 40 + 1} (omega (arith, few, ap length whole)))
+              none ∙ sym (drop_of_length-le (rest_of old) {i = RESULT_LIMIT + 1} (omega (arith, few, ap length whole)))
         ]);
       }
 
-  pub rest_whole : length fed ≤ 2 ^ 40 → rest_of old ≡ fed
+  pub rest_whole : length fed ≤ RESULT_LIMIT → rest_of old ≡ fed
   rest_whole short = elim all.end [
     | inl full ↦ absurd (omega (arith, short, full))
     | inr none ↦ all.taken.rest ∙ ap (λ (t : Text). fed ++ t) none ∙ append-nil fed

@@ -13,6 +13,7 @@ use Rattle.class_refine.proofs.PatternTables.{table_numbers}
 use Rattle.member_marks.specs.declared.marks.Given.{Given}
 use Rattle.member_marks.specs.Given.{given_mark, AreGiven}
 use Rattle.member_marks.proofs.MarkLemmas.{given_more, lowest_is_next, lead_inside}
+use Rattle.result_records.specs.declared.limits.TheConstants.{RESULT_LIMIT}
 use Rattle.result_records.specs.declared.record.Budgets.{Budgets}
 use Rattle.result_records.specs.declared.record.Mark.{Mark}
 use Rattle.result_records.specs.declared.record.Mark.TheVariants.{Rep}
@@ -60,7 +61,7 @@ module _ {c : Circuit} {text : Text} {k : Checker} (is : IsCheckOf c text k) whe
       never (omega (arith, place.0, is.is.progress.lines), omega (arith, place.1, is.is.progress.classes)))
 
   -- a pattern more waits
-  pub pattern_waits : (v : List Bool) → ¬ Contains (spelling (Pattern v)) 10 → length v ≡ c.sources → (2 ≤ k.progress.lines) × (k.progress.classes ≡ 0) → length k.waiting.items < LANES → length (text ++ record_line (Pattern v)) ≤ 2 ^ 40
+  pub pattern_waits : (v : List Bool) → ¬ Contains (spelling (Pattern v)) 10 → length v ≡ c.sources → (2 ≤ k.progress.lines) × (k.progress.classes ≡ 0) → length k.waiting.items < LANES → length (text ++ record_line (Pattern v)) ≤ RESULT_LIMIT
       → (new : Checker) → new.keeper ≡ k.keeper → new.marks ≡ k.marks → new.from ≡ k.from → new.progress ≡ k.progress → new.evidence ≡ k.evidence → new.waiting.items ≡ k.waiting.items ++ v ∷ [] → IsCheckOf c (text ++ record_line (Pattern v)) new
   pattern_waits v one width body room short new keeper_is marks_is from_is progress_is evidence_is waiting_is =
       let waiting = k.waiting.items in
@@ -107,7 +108,7 @@ module _ {c : Circuit} {text : Text} {k : Checker} (is : IsCheckOf c text k) (no
   some_class = omega (arith, is.is.keeper.whole.patterns)
 
   -- one line more that is no pattern and no evidence
-  one_more : (r : Record) (q : Progress) → HasSpelling r → length (text ++ record_line r) ≤ 2 ^ 40 → IsInPlace t is.seen r → IsRightContent c t is.seen r → pattern_of r ≡ None → evidence_of r ≡ None
+  one_more : (r : Record) (q : Progress) → HasSpelling r → length (text ++ record_line r) ≤ RESULT_LIMIT → IsInPlace t is.seen r → IsRightContent c t is.seen r → pattern_of r ≡ None → evidence_of r ≡ None
       → (0 < class_lines (is.seen ++ r ∷ []) → next_member t (evidence_in is.seen) ≡ None) → IsProgress (is.seen ++ r ∷ []) q → IsCheckOf c (text ++ record_line r) (record k { progress = q })
   one_more r q spelled short place content no_pattern no_evidence complete progress =
       taken_line is none r (record k { progress = q }) short none (checker_line is.is r q (next_line is r spelled place content) no_pattern no_evidence complete progress)
@@ -117,7 +118,7 @@ module _ {c : Circuit} {text : Text} {k : Checker} (is : IsCheckOf c text k) (no
   pub head_place : p.lines ≡ 0 → is.seen ≡ []
   head_place zero = nil_from_length is.seen (omega (arith, is.is.progress.lines))
 
-  pub head_taken : (sources positions numbers : ℕ) → HasSpelling (Head sources positions numbers) → length (text ++ record_line (Head sources positions numbers)) ≤ 2 ^ 40 → p.lines ≡ 0
+  pub head_taken : (sources positions numbers : ℕ) → HasSpelling (Head sources positions numbers) → length (text ++ record_line (Head sources positions numbers)) ≤ RESULT_LIMIT → p.lines ≡ 0
       → IsRightContent c t is.seen (Head sources positions numbers) → IsCheckOf c (text ++ record_line (Head sources positions numbers)) (record k { progress = record p { lines = p.lines + 1 } })
   head_taken sources positions numbers spelled short zero content =
       let r = Head sources positions numbers in
@@ -126,7 +127,7 @@ module _ {c : Circuit} {text : Text} {k : Checker} (is : IsCheckOf c text k) (no
       (λ some. is.is.complete (omega (arith, some, count_same is.seen r is_class refl)))
       (progress_line is.is.progress (open_in_place is.is.progress t r first) r refl refl refl refl refl refl)
 
-  pub budget_taken : (b : Budgets) → HasSpelling (Budget b) → length (text ++ record_line (Budget b)) ≤ 2 ^ 40 → p.lines ≡ 1 → AreWithinLimits b
+  pub budget_taken : (b : Budgets) → HasSpelling (Budget b) → length (text ++ record_line (Budget b)) ≤ RESULT_LIMIT → p.lines ≡ 1 → AreWithinLimits b
       → IsCheckOf c (text ++ record_line (Budget b)) (record k { progress = record p { lines = p.lines + 1; budgets = b } })
   budget_taken b spelled short one limits =
       let place : length is.seen ≡ 1 = omega (arith, one, is.is.progress.lines) in
@@ -144,7 +145,7 @@ module _ {c : Circuit} {text : Text} {k : Checker} (is : IsCheckOf c text k) (no
 
   -- ---- classes
 
-  pub class_taken : (number : ℕ) (birth : Option (ℕ × ℕ)) → HasSpelling (Class number birth) → length (text ++ record_line (Class number birth)) ≤ 2 ^ 40 → 2 ≤ p.lines → p.members ≡ 0 → IsRightClass t is.seen number birth
+  pub class_taken : (number : ℕ) (birth : Option (ℕ × ℕ)) → HasSpelling (Class number birth) → length (text ++ record_line (Class number birth)) ≤ RESULT_LIMIT → 2 ≤ p.lines → p.members ≡ 0 → IsRightClass t is.seen number birth
       → IsCheckOf c (text ++ record_line (Class number birth)) (record k { progress = record p { lines = p.lines + 1; classes = p.classes + 1 } })
   class_taken number birth spelled short two no_member content =
       let r = Class number birth in
@@ -157,7 +158,7 @@ module _ {c : Circuit} {text : Text} {k : Checker} (is : IsCheckOf c text k) (no
 
   -- ---- members
 
-  pub member_taken : (number class : ℕ) (m : Mark) → HasSpelling (Member number class m) → length (text ++ record_line (Member number class m)) ≤ 2 ^ 40 → p.classes ≡ class_count t → p.ended ≡ false → IsRightMember t is.seen number class m
+  pub member_taken : (number class : ℕ) (m : Mark) → HasSpelling (Member number class m) → length (text ++ record_line (Member number class m)) ≤ RESULT_LIMIT → p.classes ≡ class_count t → p.ended ≡ false → IsRightMember t is.seen number class m
       → IsCheckOf c (text ++ record_line (Member number class m)) (record k { progress = with_member p m })
   member_taken number class m spelled short all going content =
       let r = Member number class m in
@@ -170,7 +171,7 @@ module _ {c : Circuit} {text : Text} {k : Checker} (is : IsCheckOf c text k) (no
 
   -- ---- the end
 
-  pub end_taken : length (text ++ record_line End) ≤ 2 ^ 40 → p.classes ≡ class_count t → p.members ≡ fault_count c → p.ended ≡ false
+  pub end_taken : length (text ++ record_line End) ≤ RESULT_LIMIT → p.classes ≡ class_count t → p.members ≡ fault_count c → p.ended ≡ false
       → IsCheckOf c (text ++ record_line End) (record k { progress = record p { lines = p.lines + 1; ended = true } })
   end_taken short all whole going =
       let classes : class_lines is.seen ≡ class_count t = omega (arith, all, is.is.progress.classes) in
@@ -213,7 +214,7 @@ module _ {c : Circuit} {text : Text} {k : Checker} (is : IsCheckOf c text k) (no
           subst P (sym kept) (names.lowest.below n (omega (arith, below, other)))
     ]
 
-    pub evidence_taken : HasSpelling (Same e) → length (text ++ record_line (Same e)) ≤ 2 ^ 40 → (2 ≤ p.lines) × (p.classes ≡ 0) → HasRightRoots c (fault_numbered c e.partner) (fault_numbered c e.member) e.proof
+    pub evidence_taken : HasSpelling (Same e) → length (text ++ record_line (Same e)) ≤ RESULT_LIMIT → (2 ≤ p.lines) × (p.classes ≡ 0) → HasRightRoots c (fault_numbered c e.partner) (fault_numbered c e.member) e.proof
         → IsRightProof c (fault_numbered c e.partner) (fault_numbered c e.member) p.budgets e.proof
         → (new : Checker) → new.keeper ≡ k.keeper → new.marks ≡ set k.marks e.member (Some g) → new.from ≡ e.member + 1 → new.progress ≡ record p { lines = p.lines + 1 } → IsReadyFor c new.evidence → new.waiting.items ≡ []
         → IsCheckOf c (text ++ record_line (Same e)) new

@@ -7,6 +7,7 @@ use Rattle.word_sim.specs.declared.lanes.TheConstants.{LANES}
 use Rattle.kept_vectors.specs.Keeper.{keeper_with, IsKeeper}
 use Rattle.member_marks.specs.declared.marks.Given.{Given}
 use Rattle.member_marks.specs.Given.{given_mark, AreGiven, IsLowestOpen}
+use Rattle.result_records.specs.declared.limits.TheConstants.{RESULT_LIMIT}
 use Rattle.result_records.specs.declared.record.Evidence.{Evidence}
 use Rattle.result_records.specs.declared.record.Record.{Record}
 use Rattle.result_records.specs.declared.record.Record.TheVariants.{Pattern}
@@ -54,7 +55,7 @@ pub record IsCheckOf (c : Circuit) (text : Text) (k : Checker) : Type 0 where
   pub is : IsChecker c seen k
   pub waiting : AreUnjudged c seen k.waiting.items
   pub text_is : text ≡ text_of (seen ++ map Pattern k.waiting.items)
-  pub short : length text ≤ 2 ^ 40
+  pub short : length text ≤ RESULT_LIMIT
 
 pub record HasCheck (c : Circuit) (k : Checker) : Type 0 where
   pub text : Text
@@ -72,7 +73,7 @@ IsJudged c text k (Err stop.NoMemory) = ⊤
 
 -- A text that comes behind what was judged is judged too, where all of it is within the limit.
 pub record JudgesText (c : Circuit) (old new : Checker) (more : Text) (result : Result (Unit {0}) Stop) : Type 0 where
-  pub judged : (text : Text) → IsCheckOf c text old → length (text ++ more) ≤ 2 ^ 40 → IsJudged c (text ++ more) new result
+  pub judged : (text : Text) → IsCheckOf c text old → length (text ++ more) ≤ RESULT_LIMIT → IsJudged c (text ++ more) new result
 
 -- What waits is judged.
 pub record JudgesWaiting (c : Circuit) (old new : Checker) (result : Result (Unit {0}) Stop) : Type 0 where
@@ -101,4 +102,4 @@ IsWholly c text rest k (Err stop.NoMemory) = ⊤
 
 -- The end of the file is judged.
 pub record JudgesEnd (c : Circuit) (old new : Checker) (rest : Text) (result : Result (Unit {0}) Stop) : Type 0 where
-  pub judged : (text : Text) → IsCheckOf c text old → length (text ++ rest) ≤ 2 ^ 40 → IsWholly c text rest new result
+  pub judged : (text : Text) → IsCheckOf c text old → length (text ++ rest) ≤ RESULT_LIMIT → IsWholly c text rest new result

@@ -1,10 +1,9 @@
 -- What was read of a file.
-use Rattle.std.specs.Prelude.{◌≡◌, ◌≤◌, ◌<◌, ◌+◌, ◌^◌, List, ◌++◌, length, Contains, None, Some, Result, Ok, Err, ⊤}
+use Rattle.std.specs.Prelude.{◌≡◌, ◌≤◌, ◌<◌, ◌+◌, ◌++◌, length, Contains, None, Some, Result, Ok, Err, ⊤}
 use Rattle.net_model.specs.Circuit.{Circuit}
-use Rattle.result_records.specs.declared.record.Record.{Record}
+use Rattle.result_records.specs.declared.limits.TheConstants.{RESULT_LIMIT}
 use Rattle.result_file.specs.declared.fault.ResultFault.{ResultFault}
 use Rattle.text_fields.specs.Fields.{Text}
-use Rattle.result_records.specs.Spelling.{text_of}
 use Rattle.result_file.specs.Refusal.{FileRefused}
 use Rattle.dia_check.specs.declared.stop.Stop.{Stop}
 use Rattle.dia_check.specs.declared.stop.Stop.TheVariants as stop
@@ -21,7 +20,7 @@ pub record IsHeld (c : Circuit) (fed : Text) (r : Reader) : Type 0 where
 pub record HasJudgedLines (c : Circuit) (fed : Text) (r : Reader) : Type 0 where
   pub held : IsHeld c fed r
   pub one : ¬ Contains r.lines 10
-  pub room : length fed + r.room ≡ 2 ^ 40
+  pub room : length fed + r.room ≡ RESULT_LIMIT
 
 -- These bytes were read, and the first line that breaks a rule is known if there is one.
 pub record IsReading (c : Circuit) (fed : Text) (r : Reader) : Type 0 where
@@ -31,7 +30,7 @@ pub record IsReading (c : Circuit) (fed : Text) (r : Reader) : Type 0 where
 pub record HasHeld (c : Circuit) (r : Reader) : Type 0 where
   pub fed : Text
   pub held : IsHeld c fed r
-  pub short : length fed ≤ 2 ^ 40
+  pub short : length fed ≤ RESULT_LIMIT
 
 pub record HasOpen (c : Circuit) (r : Reader) : Type 0 where
   pub fed : Text
@@ -48,7 +47,7 @@ AreTaken c fed r (Err (stop.Refused fault)) = IsRefusedText c fed fault
 AreTaken c fed r (Err stop.NoMemory) = ⊤
 
 pub record TakesLines (c : Circuit) (old new : Reader) (result : Result (Unit {0}) Stop) : Type 0 where
-  pub taken : (fed : Text) → IsHeld c fed old → length fed ≤ 2 ^ 40 → AreTaken c fed new result
+  pub taken : (fed : Text) → IsHeld c fed old → length fed ≤ RESULT_LIMIT → AreTaken c fed new result
   pub room : new.room ≡ old.room
   pub refused : new.refused ≡ old.refused
 
@@ -65,4 +64,4 @@ pub record TakesPiece (c : Circuit) (old new : Reader) (piece : Text) (result : 
 -- A file is refused whose first bytes these are: with no byte behind them, or whatever stands there if they go beyond the limit.
 pub record IsRefusedEnd (c : Circuit) (fed : Text) (fault : ResultFault) : Type 0 where
   pub whole : FileRefused c fed fault
-  pub beyond : 2 ^ 40 < length fed → IsRefusedText c fed fault
+  pub beyond : RESULT_LIMIT < length fed → IsRefusedText c fed fault

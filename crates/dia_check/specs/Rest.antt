@@ -1,9 +1,10 @@
 -- How the rest of a file is read.
-use Rattle.std.specs.Prelude.{◌≡◌, ◌⊎◌, ◌≤◌, ◌+◌, ◌^◌, ℕ, [], ◌++◌, length, IsSome}
+use Rattle.std.specs.Prelude.{◌≡◌, ◌⊎◌, ◌≤◌, ◌+◌, ℕ, [], ◌++◌, length, IsSome}
 use Rattle.diag_shelf.specs.World.{World, State}
 use Rattle.diag_shelf.specs.Calls.{Told}
 use Rattle.net_model.specs.Circuit.{Circuit}
 use Rattle.text_fields.specs.Fields.{Text}
+use Rattle.result_records.specs.declared.limits.TheConstants.{RESULT_LIMIT}
 use Rattle.dia_check.specs.declared.reader.Reader.{Reader}
 use Rattle.dia_check.specs.Left.{rest_of}
 use Rattle.dia_check.specs.Reader.{IsReading}
@@ -16,12 +17,12 @@ pub record TakesText (fed : Text) (old new : World) : Type 0 where
 -- The rest was taken to its end, or to one byte beyond the limit.
 pub record TakesAll (fed : Text) (old new : World) : Type 0 where
   pub taken : TakesText fed old new
-  pub end : (length fed ≡ 2 ^ 40 + 1) ⊎ (rest_of new ≡ [])
+  pub end : (length fed ≡ RESULT_LIMIT + 1) ⊎ (rest_of new ≡ [])
 
 pub record HasRead (c : Circuit) (reader : Reader) (old new : State) : Type 0 where
   pub fed : Text
   pub reading : IsReading c fed reader
-  pub few : length fed ≤ 2 ^ 40 + 1
+  pub few : length fed ≤ RESULT_LIMIT + 1
   pub all : Told old new (TakesAll fed)
 
 -- So many bytes were taken so far.

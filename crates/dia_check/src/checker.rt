@@ -25,15 +25,9 @@ use result_file::{
     Budgets, Checked, Evidence, Mark, Record, RecordFault, ResultFault, ResultKind, Summary,
     read_record,
 };
+use result_records::{BLOCKS_LIMIT, CONFLICTS_LIMIT, CUBES_LIMIT};
 use std::alloc::{AllocError, Global};
 use word_sim::LANES;
-
-// The greatest budgets.
-const BLOCKS_LIMIT: u32 = 65_536;
-
-const CUBES_LIMIT: u32 = 1_048_576;
-
-const CONFLICTS_LIMIT: u32 = 100_000;
 
 // What the lines so far have stated: the patterns with their classes, the marks, of which each below a number is given, and
 // the counts; the checker of evidence; and patterns that wait, so that a block of them is judged at once.

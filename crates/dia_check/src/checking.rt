@@ -1,6 +1,6 @@
 //! The check of the opened file.
 
-ghost use Rattle.std.specs.Prelude.{◌≡◌, ℕ, ◌≤◌, ◌<◌, ◌+◌, ◌^◌, [], List, IfOk, OnOk, OnErr, IsErrOf, IsTrue, IsSome};
+ghost use Rattle.std.specs.Prelude.{◌≡◌, ℕ, ◌≤◌, ◌<◌, ◌+◌, [], List, IfOk, OnOk, OnErr, IsErrOf, IsTrue, IsSome};
 ghost use Rattle.diag_shelf.specs.Calls.{IsReadCall, Told, OnlyReads, ReadsUpTo};
 ghost use Rattle.result_records.specs.declared.record.Record.{Record};
 ghost use Rattle.result_file.specs.declared.fault.ResultFault.{ResultFault};
@@ -13,15 +13,16 @@ ghost use Rattle.dia_check.specs.Reader.{IsReading};
 ghost use Rattle.dia_check.specs.Rest.{HasRead};
 
 use crate::answer::FileFault;
-use crate::reader::{LIMIT, Reader};
+use crate::reader::Reader;
 use diag_shelf::Shelf;
 use fault_collapse::Subject;
 use net_model::Circuit;
 use result_file::Checked;
+use result_records::RESULT_LIMIT;
 use std::alloc::Global;
 
 /// Checks the opened file against a circuit: it is accepted exactly where its rest is a valid result. Else the first line
-/// that breaks a rule is answered. The rest is read to its end or to one byte beyond the limit of 2^40 bytes, whatever is
+/// that breaks a rule is answered. The rest is read to its end or to one byte beyond [`RESULT_LIMIT`], whatever is
 /// found in it, so that a failed read comes before a refusal.
 pub fn check<S: Shelf>(
     alloc: Global,
@@ -38,7 +39,7 @@ pub fn check<S: Shelf>(
     // failed read or want of memory a beginning of that was read.
     ensures others { Told (S.state shelf.old) (S.state shelf.new) OnlyReads }
     ensures read { OnOk (as_shelf result) (Told (S.state shelf.old) (S.state shelf.new) ReadsRest) }
-    ensures err { OnErr (as_shelf result) (Told (S.state shelf.old) (S.state shelf.new) (ReadsUpTo (2 ^ 40 + 1))) }
+    ensures err { OnErr (as_shelf result) (Told (S.state shelf.old) (S.state shelf.new) (ReadsUpTo (RESULT_LIMIT + 1))) }
 
     // Some records are accepted with the answer. Where the shelf tells, their text is the rest of the file.
     ensures valid { IfOk result (λ checked. (records : List Record) × IsAccepted circuit.now records checked × Told (S.state shelf.old) (S.state shelf.new) (λ old new. rest_of old ≡ text_of records)) }
@@ -69,7 +70,7 @@ pub fn check_subject<S: Shelf>(
     // failed read or want of memory a beginning of that was read.
     ensures others { Told (S.state shelf.old) (S.state shelf.new) OnlyReads }
     ensures read { OnOk (as_shelf result) (Told (S.state shelf.old) (S.state shelf.new) ReadsRest) }
-    ensures err { OnErr (as_shelf result) (Told (S.state shelf.old) (S.state shelf.new) (ReadsUpTo (2 ^ 40 + 1))) }
+    ensures err { OnErr (as_shelf result) (Told (S.state shelf.old) (S.state shelf.new) (ReadsUpTo (RESULT_LIMIT + 1))) }
 
     // Some records are accepted with the answer. Where the shelf tells, their text is the rest of the file.
     ensures valid { IfOk result (λ checked. (records : List Record) × IsAccepted subject.now records checked × Told (S.state shelf.old) (S.state shelf.new) (λ old new. rest_of old ≡ text_of records)) }
@@ -100,13 +101,13 @@ fn read_rest<S: Shelf>(
     ensures call { IsReadCall (as_shelf result) (S.state shelf.old) (S.state shelf.new) }
     ensures others { Told (S.state shelf.old) (S.state shelf.new) OnlyReads }
     ensures read { OnOk result (HasRead subject.now reader.new (S.state shelf.old) (S.state shelf.new)) }
-    ensures err { OnErr result (Told (S.state shelf.old) (S.state shelf.new) (ReadsUpTo (2 ^ 40 + 1))) }
+    ensures err { OnErr result (Told (S.state shelf.old) (S.state shelf.new) (ReadsUpTo (RESULT_LIMIT + 1))) }
     ensures never { IsTrue (S.state shelf.old).sure → ¬ IsErrOf result FileFault.Failed }
     ensures result { (fault : ResultFault) → ¬ IsErrOf result (FileFault.Result fault) }
 {
     let mut piece = [0u8; PIECE];
     let mut taken = 0;
-    while taken <= LIMIT {
+    while taken <= RESULT_LIMIT {
         let count = shelf.read(&mut piece[..wanted(taken)])?;
         if count == 0 {
             return Ok(());
@@ -119,12 +120,12 @@ fn read_rest<S: Shelf>(
 
 // How many bytes are asked for behind so many.
 fn wanted(taken: u64) -> usize
-    requires { taken ≤ 2 ^ 40 }
+    requires { taken ≤ RESULT_LIMIT }
     ensures some { 0 < result }
     ensures piece { result ≤ 4096 }
-    ensures within { taken + result ≤ 2 ^ 40 + 1 }
+    ensures within { taken + result ≤ RESULT_LIMIT + 1 }
 {
-    let room = LIMIT - taken;
+    let room = RESULT_LIMIT - taken;
     if room < PIECE as u64 {
         room as usize + 1
     } else {

@@ -9,6 +9,7 @@ ghost use Rattle.pair_miter.specs.Miter.{miter};
 ghost use Rattle.evidence_rules.specs.declared.refusal.Refusal.{Refusal};
 ghost use Rattle.evidence_rules.specs.LogRefusal.{IsRightLog, LogRefused};
 ghost use Rattle.evidence_rules.specs.TreeRefusal.{IsRightTree};
+ghost use Rattle.result_records.specs.declared.limits.TheConstants.{CONFLICTS_LIMIT};
 ghost use Rattle.result_file.specs.Lines.{HasRightRoots, IsRightProof};
 ghost use Rattle.result_file.specs.Refusal.{PairRefused, ProofRefused};
 
@@ -75,7 +76,7 @@ impl<'a> EvidenceChecker<'a> {
         requires member { evidence.now.member < fault_count subject.now }
         requires partner { evidence.now.partner < fault_count subject.now }
         requires empty { self.old.pool.clauses ≡ [] }
-        requires conflicts { budgets.conflicts ≤ 100000 }
+        requires conflicts { budgets.conflicts ≤ CONFLICTS_LIMIT }
         ensures right { OnOk result (IsRightProof subject.now (fault_numbered subject.now evidence.now.partner) (fault_numbered subject.now evidence.now.member) budgets evidence.now.proof) }
         ensures refused { (refusal : Refusal) → IsErrOf result (CheckFault.Refused refusal) → ProofRefused subject.now (fault_numbered subject.now evidence.now.partner) (fault_numbered subject.now evidence.now.member) budgets evidence.now.proof refusal }
         ensures circuit { self.new.circuit ≡ self.old.circuit }
@@ -98,7 +99,7 @@ impl<'a> EvidenceChecker<'a> {
         requires first { IsFaultOf self.old.circuit f.now }
         requires second { IsFaultOf self.old.circuit g.now }
         requires empty { self.old.pool.clauses ≡ [] }
-        requires conflicts { budgets.conflicts ≤ 100000 }
+        requires conflicts { budgets.conflicts ≤ CONFLICTS_LIMIT }
         ensures right { OnOk result (IsRightProof self.old.circuit f.now g.now budgets proof.now) }
         ensures refused { (refusal : Refusal) → IsErrOf result (CheckFault.Refused refusal) → ProofRefused self.old.circuit f.now g.now budgets proof.now refusal }
         ensures circuit { self.new.circuit ≡ self.old.circuit }
@@ -136,7 +137,7 @@ impl<'a> EvidenceChecker<'a> {
         requires second { IsFaultOf self.old.circuit g.now }
         requires kind { kind ≢ EvidenceKind.Covered }
         requires empty { self.old.pool.clauses ≡ [] }
-        requires conflicts { budgets.conflicts ≤ 100000 }
+        requires conflicts { budgets.conflicts ≤ CONFLICTS_LIMIT }
         ensures tree { OnOk result (IsRightTree self.old.circuit f.now g.now kind budgets.cubes tree.now) }
         ensures log { OnOk result (IsRightLog kind (miter self.old.circuit f.now g.now) budgets.conflicts log.now) }
         ensures refused { (refusal : Refusal) → IsErrOf result (CheckFault.Refused refusal) → PairRefused self.old.circuit f.now g.now kind budgets tree.now log.now refusal }
@@ -164,7 +165,7 @@ impl<'a> EvidenceChecker<'a> {
         requires second { IsFaultOf self.old.circuit g.now }
         requires kind { kind ≢ EvidenceKind.Covered }
         requires empty { self.old.pool.clauses ≡ [] }
-        requires conflicts { conflicts ≤ 100000 }
+        requires conflicts { conflicts ≤ CONFLICTS_LIMIT }
         ensures log { OnOk result (IsRightLog kind (miter self.old.circuit f.now g.now) conflicts log.now) }
         ensures refused { (refusal : Refusal) → IsErrOf result (CheckFault.Refused refusal) → LogRefused kind (miter self.old.circuit f.now g.now) conflicts log.now refusal }
         ensures circuit { self.new.circuit ≡ self.old.circuit }

@@ -1,6 +1,6 @@
 //! The check of a text in memory.
 
-ghost use Rattle.std.specs.Prelude.{◌≡◌, [], IfOk, OnOk, IsErrOf};
+ghost use Rattle.std.specs.Prelude.{[], IfOk, OnOk, IsErrOf};
 ghost use Rattle.result_file.specs.declared.fault.ResultFault.{ResultFault};
 ghost use Rattle.result_file.specs.Accepted.{IsAcceptedText};
 ghost use Rattle.dia_check.specs.Reader.{IsReading, IsRefusedEnd};
@@ -14,7 +14,7 @@ use result_file::Checked;
 use std::alloc::{AllocError, Global};
 
 /// Checks a text against a circuit, as `check` does the opened file: it is accepted exactly where it is a valid result, of at most
-/// 2^40 bytes. Else the first line that breaks a rule is answered.
+/// `RESULT_LIMIT` bytes. Else the first line that breaks a rule is answered.
 pub fn check_text(alloc: Global, circuit: &Circuit, text: &[u8]) -> Result<Checked, FileFault>
     ensures valid { IfOk result (IsAcceptedText circuit.now text.now) }
 

@@ -1,6 +1,6 @@
 //! The reader of lines out of pieces.
 
-ghost use Rattle.std.specs.Prelude.{◌≡◌, ◌≤◌, ◌++◌, ◌^◌, [], min, length, IfOk, OnOk, IsErrOf};
+ghost use Rattle.std.specs.Prelude.{◌≡◌, ◌≤◌, ◌++◌, [], min, length, IfOk, OnOk, IsErrOf};
 ghost use Rattle.result_file.specs.declared.fault.ResultFault.{ResultFault};
 ghost use Rattle.text_fields.specs.Fields.{Text};
 ghost use Rattle.result_file.specs.Accepted.{IsAcceptedText};
@@ -11,10 +11,8 @@ use crate::checker::Checker;
 use crate::stop::{Judged, Stop};
 use fault_collapse::Subject;
 use result_file::{Checked, Lines, ResultFault, ResultKind};
+use result_records::RESULT_LIMIT;
 use std::alloc::{AllocError, Global};
-
-/// The most bytes of a file.
-pub(crate) const LIMIT: u64 = 1 << 40;
 
 // The checker of the lines so far, the bytes behind them, how many bytes there may still be, and the first line that breaks
 // a rule, behind which nothing is looked at.
@@ -45,7 +43,7 @@ impl<'a> Reader<'a> {
         Ok(Reader {
             checker: Checker::start(alloc, subject)?,
             lines: Lines::new(alloc),
-            room: LIMIT,
+            room: RESULT_LIMIT,
             refused: None,
         })
     }
@@ -114,7 +112,7 @@ impl<'a> Reader<'a> {
     // What was read, as the whole of a file.
     pub(crate) fn finish(self, alloc: Global, subject: &Subject) -> Result<Checked, FileFault>
         requires { HasReading subject.now self }
-        ensures valid { IfOk result (λ checked. (fed : Text) → IsReading subject.now fed self.entry → (length fed ≤ 2 ^ 40) × IsAcceptedText subject.now fed checked) }
+        ensures valid { IfOk result (λ checked. (fed : Text) → IsReading subject.now fed self.entry → (length fed ≤ RESULT_LIMIT) × IsAcceptedText subject.now fed checked) }
         ensures refused { (fault : ResultFault) → IsErrOf result (FileFault.Result fault) → (fed : Text) → IsReading subject.now fed self.entry → IsRefusedEnd subject.now fed fault }
         ensures never { ¬ (IsErrOf result FileFault.Failed) }
     {

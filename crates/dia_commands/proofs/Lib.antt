@@ -1,6 +1,7 @@
 pub mod HandedOn
 pub mod Runs
 pub mod Followed
+pub mod Judged
 pub mod ReadLemmas
 pub mod ResultReads
 pub mod NetlistLemmas

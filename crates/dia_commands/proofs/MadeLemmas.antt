@@ -12,6 +12,8 @@ use Rattle.net_model.specs.PatternRows.{IsTableOf}
 use Rattle.result_records.specs.declared.record.Record.{Record}
 use Rattle.result_records.specs.declared.record.Record.TheVariants.{Pattern, End}
 use Rattle.result_records.specs.Marks.{patterns_in}
+use Rattle.result_file.specs.declared.checked.Checked.{Checked}
+use Rattle.result_file.specs.Accepted.{IsAccepted}
 use Rattle.result_file.specs.Valid.{IsValid, AreRightLines, record_at}
 use Rattle.result_file.specs.Lines.{IsRightLine}
 use Rattle.class_refine.proofs.PatternTables.{table_numbers}
@@ -42,8 +44,16 @@ module _ {c : Circuit} {all : List Record} (right : AreRightLines c all) where
       All-cons (λ v. length v ≡ c.sources) bits (patterns_in rest) line.content.width (widths_from (before ++ Pattern bits ∷ []) rest (e ∙ sym (append_assoc before (Pattern bits ∷ []) rest)))
   widths_from before (r ∷ rest) e = widths_from (before ++ r ∷ []) rest (e ∙ sym (append_assoc before (r ∷ []) rest))
 
-pub valid_widths : {c : Circuit} {records : List Record} → IsValid c records → All (λ v. length v ≡ c.sources) (patterns_in records)
+valid_widths : {c : Circuit} {records : List Record} → IsValid c records → All (λ v. length v ≡ c.sources) (patterns_in records)
 valid_widths {c} {records} valid = widths_from valid.lines [] records refl
+
+-- so are those that a check answers, and the table is theirs
+module _ {c : Circuit} {records : List Record} {checked : Checked} (is : IsAccepted c records checked) where
+  pub checked_widths : All (λ v. length v ≡ c.sources) checked.patterns
+  checked_widths = subst (All (λ v. length v ≡ c.sources)) (sym is.patterns) (valid_widths is.valid)
+
+  pub checked_table : IsTableOf c checked.patterns checked.classes
+  checked_table = subst (λ (patterns : List (List Bool)). IsTableOf c patterns checked.classes) (sym is.patterns) is.table
 
 -- ---- the dictionary of a kind
 

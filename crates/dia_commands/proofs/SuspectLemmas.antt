@@ -1,6 +1,5 @@
 -- Logs for a result that was checked.
 use Rattle.std.proofs.Common.{◌≡◌, ◌∙◌, ℕ, List, length, refl, ap, subst}
-use Rattle.diag_shelf.specs.World.{State}
 use Rattle.net_model.specs.Circuit.{Circuit}
 use Rattle.result_records.specs.declared.record.Record.{Record}
 use Rattle.result_records.specs.Spelling.{text_of}
@@ -9,19 +8,8 @@ use Rattle.result_file.specs.declared.checked.Checked.{Checked}
 use Rattle.result_file.specs.Accepted.{IsAccepted}
 use Rattle.ranked_diag.specs.PartialLog.{Line, IsPartialLog}
 use Rattle.text_fields.specs.Fields.{Text}
-use Rattle.dia_commands.specs.declared.ending.FileKind.{FileKind}
-use Rattle.dia_commands.specs.declared.ending.RunFault.{RunFault}
 use Rattle.dia_commands.specs.Logs.{IsRefusedPartialOf}
-use Rattle.dia_commands.specs.Steps.{WasAccepted, IsOver, by_refusal, by_reading}
 use Rattle.dia_commands.specs.Suspects.{AreValidBytes, IsLogAt, IsRefusedAt}
-
--- what was read of a file, by another rule that follows
-pub accepted_as : {X : Type 0} {name : Text} {Accepted Other : Text → X → Type 0} {x : X} {a b : State} → ((bytes : Text) → Accepted bytes x → Other bytes x) → WasAccepted name Accepted x a b → WasAccepted name Other x a b
-accepted_as {X} {name} {Accepted} {Other} {x} {a} {b} follows was = record { facts = was.facts; only = was.only; held = λ told. let h = was.held told in (h.0, h.1, follows h.0 h.2) }
-
-pub over_as : {name : Text} {kind : FileKind} {Refused Other : Text → Text → Type 0} {why : RunFault} {a b : State} → ((bytes console : Text) → Refused bytes console → Other bytes console) → IsOver name kind Refused why a b → IsOver name kind Other why a b
-over_as {name} {kind} {Refused} {Other} {why} {a} {b} follows (by_refusal console held ends) = by_refusal console (λ told. let h = held told in (h.0, h.1, follows h.0 console h.2)) ends
-over_as {name} {kind} {Refused} {Other} {why} {a} {b} follows (by_reading could) = by_reading could
 
 module _ {c : Circuit} {records : List Record} {checked : Checked} (is : IsAccepted c records checked) where
   abbrev pub valid_bytes : AreValidBytes c (text_of records)

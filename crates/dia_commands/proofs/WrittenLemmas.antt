@@ -5,7 +5,6 @@ use Rattle.result_records.specs.declared.record.Budgets.{Budgets}
 use Rattle.result_file.specs.Valid.{IsValidFile}
 use Rattle.text_fields.specs.Fields.{Text}
 use Rattle.request_words.specs.Request.{gen, check}
-use Rattle.dia_commands.specs.declared.ending.FileKind.TheVariants as kind
 use Rattle.dia_commands.specs.Ending.{Ending, done, refused}
 use Rattle.dia_commands.specs.Outcome.{Outcome, said, IsCut, IsCutText, IsPartOf}
 use Rattle.dia_commands.specs.Plan.{refused_file, accepted_file, CallsFor, MayLeave}

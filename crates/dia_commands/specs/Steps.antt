@@ -1,12 +1,19 @@
 -- The steps of a run: the netlist is read and judged, and the rest follows.
-use Rattle.std.specs.Prelude.{◌≡◌, ℕ, Option, Some, None, Err, IsTrue}
+use Rattle.std.specs.Prelude.{◌≡◌, ℕ, Option, Some, None, Result, Ok, Err, IsTrue}
+use Rattle.std.specs.Option.{option_map}
+use Rattle.std.specs.Borrow.{Bor}
 use Rattle.std.specs.FinMap.{get}
 use Rattle.diag_shelf.specs.World.{State}
 use Rattle.diag_shelf.specs.Calls.{Rose, SameFacts, OnlyReads, Told, read_of}
 use Rattle.bench_reader.specs.declared.fault.NetFault.{NetFault}
 use Rattle.bench_reader.specs.declared.fault.NetFault.TheVariants as fault
+use Rattle.dict_file.specs.declared.fault.DictFault.{DictFault}
+use Rattle.diagnose.specs.declared.fault.LogFault.{LogFault}
+use Rattle.diagnose.specs.declared.fault.LogFault.TheVariants as log
+use Rattle.adaptive_tree.specs.declared.fault.PlanFault.{PlanFault}
+use Rattle.adaptive_tree.specs.declared.fault.PlanFault.TheVariants as plan
 use Rattle.text_fields.specs.Fields.{Text}
-use Rattle.dia_commands.specs.Texts.{refusal_text, loop_text}
+use Rattle.dia_commands.specs.Texts.{refusal_text, loop_text, dictionary_rule, dictionary_text, log_text, plan_fault_text}
 use Rattle.dia_commands.specs.declared.ending.FileKind.{FileKind}
 use Rattle.dia_commands.specs.declared.ending.RunFault.{RunFault}
 use Rattle.dia_commands.specs.declared.ending.RunFault.TheVariants.{ReadFailed, NoMemory}
@@ -19,6 +26,20 @@ abbrev pub fault_text : NetFault → Option Text
 fault_text (fault.At kind place) = Some (refusal_text kind place)
 fault_text (fault.Loop place names) = Some (loop_text place names)
 fault_text fault.NoMemory = None
+
+-- that of a dictionary's
+abbrev pub dictionary_fault_text : DictFault → Option Text
+dictionary_fault_text fault = option_map (λ place. dictionary_text place.0 place.1) (dictionary_rule fault)
+
+-- of one of a log or a list of vectors
+abbrev pub log_fault_text : LogFault → Option Text
+log_fault_text (log.At kind line) = Some (log_text kind line)
+log_fault_text log.NoMemory = None
+
+-- and of an adaptive plan's
+abbrev pub adaptive_fault_text : PlanFault → Option Text
+adaptive_fault_text (plan.At kind line) = Some (plan_fault_text kind line)
+adaptive_fault_text plan.NoMemory = None
 
 -- Nothing was done but to read.
 pub record HasOnlyRead (old new : State) : Type 0 where
@@ -47,3 +68,29 @@ pub record WasAccepted {X : Type 0} (name : Text) (Accepted : Text → X → Typ
 pub data IsOver (name : Text) (kind : FileKind) (Refused : Text → Text → Type 0) (why : RunFault) (old new : State) : Type 0 where
   by_refusal : (console : Text) → (IsTrue old.tells → (bytes : Text) × (get old.world.files name ≡ Some bytes) × Refused bytes console) → Ends (said (refused kind) console) (IsPartOf (said (refused kind) console)) (Err why) old new → IsOver name kind Refused why old new
   by_reading : CouldNotRead name why old new → IsOver name kind Refused why old new
+
+-- ---- files that are judged by their bytes
+
+-- A judge that answers like this accepts some bytes as this.
+pub record AcceptsSome {X E : Type 0} (Answers : Bor Text → Result X E → Type 0) (x : X) : Type 0 where
+  pub bytes : Bor Text
+  pub answered : Answers bytes (Ok x)
+
+-- It accepts a file as this, of which it is given one byte beyond a limit at most,
+pub record AcceptsFile {X E : Type 0} (Answers : Bor Text → Result X E → Type 0) (limit : ℕ) (all : Text) (x : X) : Type 0 where
+  pub bytes : Bor Text
+  pub read : bytes.now ≡ read_of limit all
+  pub answered : Answers bytes (Ok x)
+
+-- or it refuses the file, by a fault of which the console says this.
+pub record RefusesFile {X E : Type 0} (Answers : Bor Text → Result X E → Type 0) (said_of : E → Option Text) (limit : ℕ) (all console : Text) : Type 0 where
+  pub bytes : Bor Text
+  pub read : bytes.now ≡ read_of limit all
+  pub fault : E
+  pub answered : Answers bytes (Err fault)
+  pub console_is : said_of fault ≡ Some console
+
+-- The console says why a file is refused, or memory was wanting, and nothing was done.
+pub data IsSaid (console : Option Text) (kind : FileKind) (why : RunFault) (old new : State) : Type 0 where
+  by_text : (text : Text) → console ≡ Some text → Ends (said (refused kind) text) (IsPartOf (said (refused kind) text)) (Err why) old new → IsSaid console kind why old new
+  by_want : why ≡ NoMemory → new ≡ old → IsSaid console kind why old new

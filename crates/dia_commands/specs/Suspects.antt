@@ -9,7 +9,7 @@ use Rattle.result_records.specs.Marks.{patterns_in}
 use Rattle.result_file.specs.Valid.{IsValid}
 use Rattle.dict_rows.specs.AnswerTable.{Answers, AreAnswers}
 use Rattle.diagnose.specs.Lines.{text_limit}
-use Rattle.ranked_diag.specs.PartialLog.{Line, IsPartialLog, PartialRefused}
+use Rattle.ranked_diag.specs.PartialLog.{Line, IsPartialLog}
 use Rattle.suspect_scores.specs.declared.suspect.Suspect.{Suspect}
 use Rattle.suspect_scores.specs.declared.choices.Choice.{Choice}
 use Rattle.suspect_scores.specs.Scores.{failing, explains}

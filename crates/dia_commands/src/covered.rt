@@ -78,13 +78,13 @@ fn cover_at<S: Shelf>(
 // The text of the cover of a log at a setting.
 fn text_at(alloc: Global, setting: &Setting, partial: &Partial) -> Result<String, AllocError>
     requires setting { IsSetting setting.now }
-    requires partial { ArePartial (length setting.now.patterns.now) (length setting.now.circuit.now.positions) partial.now }
-    ensures { IfOk result (λ text. IsCoverOf setting.now.circuit.now setting.now.patterns.now setting.now.classes.now partial.now (string_bytes text)) }
+    requires partial { ArePartial (length setting.now.patterns.now) (length setting.now.subject.now.positions) partial.now }
+    ensures { IfOk result (λ text. IsCoverOf setting.now.subject.now setting.now.patterns.now setting.now.classes.now partial.now (string_bytes text)) }
 {
     // What a cover explains is known by these.
     circuits_are_classed();
     one_cover_explains();
-    let _sources = setting.circuit.sources();
+    setting.subject.circuit().stands();
     let choices = cover(alloc, setting, partial)?;
     let failing = count_failing(alloc, setting, partial)?;
     let text = cover_text(alloc, &choices, failing)?;

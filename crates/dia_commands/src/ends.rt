@@ -1,6 +1,6 @@
 //! The steps at either end of a run: a file is read, and at last one is written, or a text printed, and the ending follows.
 
-ghost use Rattle.std.specs.Prelude.{◌≡◌, ◌≤◌, ◌+◌, ℕ, List, [], ◌∷◌, Err, IfOk, IfErr, length, string_bytes};
+ghost use Rattle.std.specs.Prelude.{◌≡◌, ◌≤◌, ◌+◌, [], ◌∷◌, Err, IfOk, IfErr, length};
 ghost use Rattle.dia_commands.specs.Ending.{done, IsDecided, read_fault, write_fault};
 ghost use Rattle.dia_commands.specs.Outcome.{said, saved, IsPartOf};
 ghost use Rattle.dia_commands.specs.Ran.{Ends};
@@ -8,7 +8,7 @@ ghost use Rattle.dia_commands.specs.Steps.{HasReadBytes, CouldNotRead};
 
 use crate::ending::RunFault;
 use diag_shelf::{Shelf, ShelfFault, print_all, read_all, write_all};
-use std::alloc::{AllocError, Global};
+use std::alloc::Global;
 
 /// Why a run ends after a fault of a read.
 pub(crate) fn read_fault(fault: ShelfFault) -> RunFault
@@ -59,21 +59,6 @@ pub(crate) fn refuse<S: Shelf>(shelf: &mut S, why: RunFault, text: &[u8]) -> Run
     match print_all(shelf, text) {
         Ok(()) => why,
         Err(fault) => write_fault(fault),
-    }
-}
-
-/// The same, or want of memory where there is no text.
-pub(crate) fn refuse_by<S: Shelf>(
-    shelf: &mut S,
-    why: RunFault,
-    text: Result<String, AllocError>,
-) -> RunFault
-    requires { IsDecided (Err why) }
-    ensures { (said_text : List ℕ) → IfOk text (λ t. string_bytes t ≡ said_text) → Ends (said (Err why) said_text) (IsPartOf (said (Err why) said_text)) (Err result) (S.state shelf.old) (S.state shelf.new) }
-{
-    match text {
-        Ok(text) => refuse(shelf, why, text.as_bytes()),
-        Err(_) => RunFault::NoMemory,
     }
 }
 

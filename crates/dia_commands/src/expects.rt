@@ -60,13 +60,13 @@ struct Expected {
 // The log that a chip without a fault gives at a setting, and what is printed of it.
 fn expected_of(alloc: Global, setting: &Setting) -> Result<Expected, AllocError>
     requires { IsSetting setting.now }
-    ensures { IfOk result (λ made. IsExpectedOf setting.now.circuit.now setting.now.patterns.now setting.now.classes.now made.file.items (string_bytes made.text)) }
+    ensures { IfOk result (λ made. IsExpectedOf setting.now.subject.now setting.now.patterns.now setting.now.classes.now made.file.items (string_bytes made.text)) }
 {
     // That the log is read back and lists nothing is known by these.
     circuits_are_classed();
     expected_log_lists_nothing();
     let patterns = setting.classes.patterns();
-    let positions = setting.circuit.positions().len() as u32;
+    let positions = setting.subject.circuit().positions().len() as u32;
     let file = expected_log(alloc, setting)?;
     let text = expected_counts_text(alloc, patterns, positions)?;
     Ok(Expected { file, text })

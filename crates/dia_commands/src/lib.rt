@@ -21,6 +21,7 @@ mod makes_dicts;
 mod makes_plans;
 mod netlists;
 mod rankings;
+mod reads;
 mod results;
 mod sims;
 mod suspected;

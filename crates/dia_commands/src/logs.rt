@@ -1,31 +1,24 @@
 //! From the name of a log, whole, partial or of a walk, or a list of vectors to what it has, or to the end of the run.
 
-ghost use Rattle.std.specs.Prelude.{Err, IfErr, IfOk};
+ghost use Rattle.std.specs.Prelude.{IfErr, IfOk};
 ghost use Rattle.dict_rows.specs.Rows.{AreRows};
 ghost use Rattle.net_model.specs.Rows.{AreWide};
 ghost use Rattle.ranked_diag.specs.PartialLog.{ArePartial, IsPartialLog};
 ghost use Rattle.adaptive_tree.specs.WellFormed.{IsWellFormed};
 ghost use Rattle.dia_commands.specs.Logs.{IsLogFor, IsRefusedLog, IsRefusedPartialOf, IsLogTo, IsRefusedWalk, IsListFor, IsRefusedList};
 ghost use Rattle.dia_commands.specs.declared.ending.FileKind.TheVariants as file;
-ghost use Rattle.dia_commands.specs.Ending.{refused};
-ghost use Rattle.dia_commands.specs.Outcome.{said, IsPartOf};
-ghost use Rattle.dia_commands.specs.Ran.{Ends};
-ghost use Rattle.dia_commands.specs.Steps.{WasAccepted, IsOver};
-ghost use Rattle.dia_commands.specs.Texts.{log_text};
+ghost use Rattle.dia_commands.specs.Steps.{log_fault_text, WasAccepted, IsOver};
 
 use crate::ending::{FileKind, RunFault};
-use crate::ends::{read_file, refuse_by};
+use crate::reads::{BytesFault, read_judged};
 use crate::texts::log_text;
 use adaptive_tree::{Outcome, Plan, follow};
 use diag_shelf::Shelf;
-use diagnose::{LogFault, LogKind, read_log, read_vectors};
+use diagnose::{LogFault, TEXT_LIMIT, read_log, read_vectors};
 use net_model::{AnswerRows, Circuit, Vectors};
 use ranked_diag::{Partial, read_partial_of};
-use std::alloc::Global;
+use std::alloc::{AllocError, Global};
 use table_dicts::Dict;
-
-// The most bytes that a log, whole, partial or of a walk, or a list of vectors may have.
-const TEXT_LIMIT: u64 = 1_073_741_824;
 
 /// Reads and judges the log under a name. Where it isn't accepted, the console says why, and the run is over.
 pub(crate) fn read_observed<S: Shelf>(
@@ -38,12 +31,9 @@ pub(crate) fn read_observed<S: Shelf>(
     ensures ok { IfOk result (λ observed. WasAccepted name.now (IsLogFor dict.now) observed (S.state shelf.old) (S.state shelf.new)) }
     ensures err { IfErr result (λ why. IsOver name.now file.Log (IsRefusedLog dict.now) why (S.state shelf.old) (S.state shelf.new)) }
 {
-    let bytes = read_file(alloc, shelf, name, TEXT_LIMIT)?;
-    match read_log(alloc, dict, &bytes) {
-        Ok(observed) => Ok(observed),
-        Err(LogFault::At(kind, line)) => Err(say_refusal(alloc, shelf, kind, line)),
-        Err(LogFault::NoMemory) => Err(RunFault::NoMemory),
-    }
+    read_judged(alloc, shelf, name, TEXT_LIMIT, FileKind::Log, |bytes| {
+        read_log(alloc, dict, bytes)
+    })
 }
 
 /// Reads and judges the partial log under a name, of so many patterns and positions. Where it isn't accepted, the console says
@@ -59,12 +49,9 @@ pub(crate) fn read_partial_log<S: Shelf>(
     ensures ok { IfOk result (λ partial. WasAccepted name.now (IsPartialLog patterns positions) partial (S.state shelf.old) (S.state shelf.new)) }
     ensures err { IfErr result (λ why. IsOver name.now file.Log (IsRefusedPartialOf patterns positions) why (S.state shelf.old) (S.state shelf.new)) }
 {
-    let bytes = read_file(alloc, shelf, name, TEXT_LIMIT)?;
-    match read_partial_of(alloc, patterns, positions, &bytes) {
-        Ok(partial) => Ok(partial),
-        Err(LogFault::At(kind, line)) => Err(say_refusal(alloc, shelf, kind, line)),
-        Err(LogFault::NoMemory) => Err(RunFault::NoMemory),
-    }
+    read_judged(alloc, shelf, name, TEXT_LIMIT, FileKind::Log, |bytes| {
+        read_partial_of(alloc, patterns, positions, bytes)
+    })
 }
 
 /// Reads and judges the log under a name, of answers to a plan. Where it isn't accepted, the console says why, and the run is over.
@@ -78,12 +65,9 @@ pub(crate) fn read_walk<S: Shelf>(
     ensures ok { IfOk result (λ outcome. WasAccepted name.now (IsLogTo plan.now) outcome (S.state shelf.old) (S.state shelf.new)) }
     ensures err { IfErr result (λ why. IsOver name.now file.Log (IsRefusedWalk plan.now) why (S.state shelf.old) (S.state shelf.new)) }
 {
-    let bytes = read_file(alloc, shelf, name, TEXT_LIMIT)?;
-    match follow(alloc, plan, &bytes) {
-        Ok(outcome) => Ok(outcome),
-        Err(LogFault::At(kind, line)) => Err(say_refusal(alloc, shelf, kind, line)),
-        Err(LogFault::NoMemory) => Err(RunFault::NoMemory),
-    }
+    read_judged(alloc, shelf, name, TEXT_LIMIT, FileKind::Log, |bytes| {
+        follow(alloc, plan, bytes)
+    })
 }
 
 /// Reads and judges the list of vectors under a name. Where it isn't accepted, the console says why, and the run is
@@ -98,21 +82,19 @@ pub(crate) fn read_list<S: Shelf>(
     ensures ok { IfOk result (λ vectors. WasAccepted name.now (IsListFor circuit.now) vectors (S.state shelf.old) (S.state shelf.new)) }
     ensures err { IfErr result (λ why. IsOver name.now file.Log (IsRefusedList circuit.now) why (S.state shelf.old) (S.state shelf.new)) }
 {
-    let bytes = read_file(alloc, shelf, name, TEXT_LIMIT)?;
-    match read_vectors(alloc, circuit.sources(), &bytes) {
-        Ok(vectors) => Ok(vectors),
-        Err(LogFault::At(kind, line)) => Err(say_refusal(alloc, shelf, kind, line)),
-        Err(LogFault::NoMemory) => Err(RunFault::NoMemory),
-    }
+    let sources = circuit.sources();
+    read_judged(alloc, shelf, name, TEXT_LIMIT, FileKind::Log, |bytes| {
+        read_vectors(alloc, sources, bytes)
+    })
 }
 
-// Says why a log or a list is refused.
-fn say_refusal<S: Shelf>(alloc: Global, shelf: &mut S, kind: LogKind, line: u64) -> RunFault
-    ensures { Ends (said (refused file.Log) (log_text kind line)) (IsPartOf (said (refused file.Log) (log_text kind line))) (Err result) (S.state shelf.old) (S.state shelf.new) }
-{
-    refuse_by(
-        shelf,
-        RunFault::Refused(FileKind::Log),
-        log_text(alloc, kind, line),
-    )
+impl BytesFault for LogFault {
+    ghost said = { log_fault_text };
+
+    fn text(self, alloc: Global) -> Result<Vec<u8>, AllocError> {
+        match self {
+            LogFault::At(kind, line) => Ok(log_text(alloc, kind, line)?.into_bytes()),
+            LogFault::NoMemory => Err(AllocError),
+        }
+    }
 }

@@ -69,7 +69,7 @@ struct Made {
 // The dictionary at a setting as a file, and what is printed of it.
 fn made_of(alloc: Global, kind: EntryKind, setting: &Setting) -> Result<Made, AllocError>
     requires { IsSetting setting.now }
-    ensures { IfOk result (λ made. IsMadeOf setting.now.circuit.now kind setting.now.patterns.now setting.now.classes.now made.file.items (string_bytes made.text)) }
+    ensures { IfOk result (λ made. IsMadeOf setting.now.subject.now kind setting.now.patterns.now setting.now.classes.now made.file.items (string_bytes made.text)) }
 {
     let dict = dictionary_of(alloc, kind, setting)?;
     let made = spelled(alloc, &dict, setting.classes)?;
@@ -79,12 +79,12 @@ fn made_of(alloc: Global, kind: EntryKind, setting: &Setting) -> Result<Made, Al
 // The dictionary of this kind.
 fn dictionary_of(alloc: Global, kind: EntryKind, setting: &Setting) -> Result<Dict, AllocError>
     requires { IsSetting setting.now }
-    ensures circuit { IsCircuit setting.now.circuit.now }
-    ensures dictionary { IfOk result (IsOfPatterns setting.now.circuit.now kind setting.now.patterns.now setting.now.classes.now) }
-    ensures most { IfOk result (λ dict. kind ≡ EntryKind.SameDiff → KeepsMostApart setting.now.circuit.now setting.now.patterns.now setting.now.classes.now dict) }
+    ensures circuit { IsCircuit setting.now.subject.now }
+    ensures dictionary { IfOk result (IsOfPatterns setting.now.subject.now kind setting.now.patterns.now setting.now.classes.now) }
+    ensures most { IfOk result (λ dict. kind ≡ EntryKind.SameDiff → KeepsMostApart setting.now.subject.now setting.now.patterns.now setting.now.classes.now dict) }
 {
     // That the circuit is one is known by this.
-    let _sources = setting.circuit.sources();
+    setting.subject.circuit().stands();
     match kind {
         EntryKind::PassFail => pass_fail_at(alloc, setting),
         EntryKind::Full => full_at(alloc, setting),
@@ -95,8 +95,8 @@ fn dictionary_of(alloc: Global, kind: EntryKind, setting: &Setting) -> Result<Di
 // The same/different dictionary with the baselines that are chosen.
 fn chosen_of(alloc: Global, setting: &Setting) -> Result<Dict, AllocError>
     requires { IsSetting setting.now }
-    ensures dictionary { IfOk result (IsOfPatterns setting.now.circuit.now EntryKind.SameDiff setting.now.patterns.now setting.now.classes.now) }
-    ensures most { IfOk result (KeepsMostApart setting.now.circuit.now setting.now.patterns.now setting.now.classes.now) }
+    ensures dictionary { IfOk result (IsOfPatterns setting.now.subject.now EntryKind.SameDiff setting.now.patterns.now setting.now.classes.now) }
+    ensures most { IfOk result (KeepsMostApart setting.now.subject.now setting.now.patterns.now setting.now.classes.now) }
 {
     keeps_as_many();
     no_row_is_better();

@@ -64,7 +64,7 @@ struct Made {
 // The plan at a setting as a file, and what is printed of it.
 fn made_of(alloc: Global, setting: &Setting) -> Result<Made, AllocError>
     requires { IsSetting setting.now }
-    ensures { IfOk result (λ made. IsPlanFileOf setting.now.circuit.now setting.now.patterns.now setting.now.classes.now made.file.items (string_bytes made.text)) }
+    ensures { IfOk result (λ made. IsPlanFileOf setting.now.subject.now setting.now.patterns.now setting.now.classes.now made.file.items (string_bytes made.text)) }
 {
     let plan = plan_for(alloc, setting)?;
     let made = spelled(alloc, &plan)?;
@@ -74,7 +74,7 @@ fn made_of(alloc: Global, setting: &Setting) -> Result<Made, AllocError>
 // The plan for the classes of the patterns.
 fn plan_for(alloc: Global, setting: &Setting) -> Result<Plan, AllocError>
     requires { IsSetting setting.now }
-    ensures { IfOk result (IsPlanOf setting.now.circuit.now setting.now.patterns.now setting.now.classes.now) }
+    ensures { IfOk result (IsPlanOf setting.now.subject.now setting.now.patterns.now setting.now.classes.now) }
 {
     // That the plan leads faults home is known by this.
     plan_of_a_table_is_good();

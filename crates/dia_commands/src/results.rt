@@ -1,27 +1,26 @@
 //! From a result's name to what it states, and to its bytes, or to the end of the run; and the setting that it states.
 
-ghost use Rattle.std.specs.Prelude.{◌≡◌, List, All, Err, IfErr, IfOk, length};
+ghost use Rattle.std.specs.Prelude.{◌≡◌, List, All, IfErr, IfOk, Some, length};
 ghost use Rattle.net_model.specs.PatternRows.{IsTableOf};
 ghost use Rattle.result_records.specs.declared.record.Record.{Record};
 ghost use Rattle.result_records.specs.Spelling.{text_of};
 ghost use Rattle.result_file.specs.Accepted.{IsAccepted, IsAcceptedText};
 ghost use Rattle.table_dicts.specs.Setting.{IsSetting};
 ghost use Rattle.dia_commands.specs.declared.ending.FileKind.TheVariants as kind;
-ghost use Rattle.dia_commands.specs.Ending.{refused};
-ghost use Rattle.dia_commands.specs.Outcome.{said, IsPartOf};
-ghost use Rattle.dia_commands.specs.Ran.{Ends};
 ghost use Rattle.dia_commands.specs.Results.{IsResult, IsRefusedResult};
 ghost use Rattle.dia_commands.specs.Steps.{WasAccepted, IsOver};
 ghost use Rattle.dia_commands.specs.Texts.{result_text};
 
 use crate::ending::{FileKind, RunFault};
-use crate::ends::{read_fault, read_file, refuse_by};
+use crate::ends::{read_fault, read_file};
+use crate::reads::{BytesFault, say_fault};
 use crate::texts::result_text;
 use dia_check::{FileFault, check_subject, check_subject_text};
 use diag_shelf::Shelf;
 use fault_collapse::Subject;
 use result_file::{Checked, ResultFault};
-use std::alloc::Global;
+use result_records::RESULT_LIMIT;
+use std::alloc::{AllocError, Global};
 use table_dicts::Setting;
 
 /// Reads and judges the result under a name. Where it isn't valid, the console says why, and the run is over.
@@ -37,14 +36,11 @@ pub(crate) fn read_result<S: Shelf>(
     shelf.open_file(name).map_err(read_fault)?;
     match check_subject(alloc, subject, shelf) {
         Ok(checked) => Ok(checked),
-        Err(FileFault::Result(fault)) => Err(say_refusal(alloc, shelf, fault)),
+        Err(FileFault::Result(fault)) => Err(say_fault(alloc, shelf, FileKind::Result, fault)),
         Err(FileFault::Failed) => Err(RunFault::ReadFailed),
         Err(FileFault::NoMemory) => Err(RunFault::NoMemory),
     }
 }
-
-// The most bytes that a result may have.
-const RESULT_LIMIT: u64 = 1_099_511_627_776;
 
 /// A valid result: all of its bytes, and what they state.
 #[derive(Drop)]
@@ -67,9 +63,17 @@ pub(crate) fn read_whole_result<S: Shelf>(
     let bytes = read_file(alloc, shelf, name, RESULT_LIMIT)?;
     match check_subject_text(alloc, subject, &bytes) {
         Ok(checked) => Ok(WholeResult { bytes, checked }),
-        Err(FileFault::Result(fault)) => Err(say_refusal(alloc, shelf, fault)),
+        Err(FileFault::Result(fault)) => Err(say_fault(alloc, shelf, FileKind::Result, fault)),
         Err(FileFault::Failed) => unreachable!(),
         Err(FileFault::NoMemory) => Err(RunFault::NoMemory),
+    }
+}
+
+impl BytesFault for ResultFault {
+    ghost said = { λ fault. Some (result_text fault) };
+
+    fn text(self, alloc: Global) -> Result<Vec<u8>, AllocError> {
+        Ok(result_text(alloc, self)?.into_bytes())
     }
 }
 
@@ -78,27 +82,15 @@ pub(crate) fn setting_of<'a>(subject: &'a Subject<'a>, checked: &'a Checked) -> 
     requires widths { All (λ v. length v ≡ subject.now.sources) checked.now.patterns }
     requires table { IsTableOf subject.now checked.now.patterns checked.now.classes }
     ensures setting { IsSetting result }
-    ensures circuit { result.circuit.now ≡ subject.now }
+    ensures circuit { result.subject.now ≡ subject.now }
     ensures patterns { result.patterns.now ≡ checked.now.patterns }
     ensures classes { result.classes.now ≡ checked.now.classes }
 {
     // That there are few patterns is known by this.
     let _patterns = checked.classes.patterns();
     Setting {
-        circuit: subject.circuit(),
-        faults: subject.listed(),
+        subject,
         patterns: &checked.patterns,
         classes: &checked.classes,
     }
-}
-
-// Says why a result is refused.
-fn say_refusal<S: Shelf>(alloc: Global, shelf: &mut S, fault: ResultFault) -> RunFault
-    ensures { Ends (said (refused kind.Result) (result_text fault)) (IsPartOf (said (refused kind.Result) (result_text fault))) (Err result) (S.state shelf.old) (S.state shelf.new) }
-{
-    refuse_by(
-        shelf,
-        RunFault::Refused(FileKind::Result),
-        result_text(alloc, fault),
-    )
 }

@@ -89,14 +89,14 @@ fn text_at(
     most: u32,
 ) -> Result<String, AllocError>
     requires setting { IsSetting setting.now }
-    requires partial { ArePartial (length setting.now.patterns.now) (length setting.now.circuit.now.positions) partial.now }
-    ensures { IfOk result (λ text. AreSuspectsOf setting.now.circuit.now setting.now.patterns.now setting.now.classes.now partial.now most (string_bytes text)) }
+    requires partial { ArePartial (length setting.now.patterns.now) (length setting.now.subject.now.positions) partial.now }
+    ensures { IfOk result (λ text. AreSuspectsOf setting.now.subject.now setting.now.patterns.now setting.now.classes.now partial.now most (string_bytes text)) }
 {
     // What holds of all members of a class and of the log of one fault is known by these.
     circuits_are_classed();
     members_score_alike();
     one_list_of_suspects();
-    let _sources = setting.circuit.sources();
+    setting.subject.circuit().stands();
     let listed = suspects(alloc, setting, partial, most)?;
     let failing = count_failing(alloc, setting, partial)?;
     let text = suspects_text(alloc, &listed, failing, partial.len())?;

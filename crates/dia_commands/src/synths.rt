@@ -8,7 +8,8 @@ ghost use Rattle.dia_commands.specs.Ran.{Ran, SavesResult};
 use crate::ending::RunFault;
 use crate::ends::write_fault;
 use crate::generates::save_result;
-use crate::netlists::{Stop, judge};
+use crate::netlists::judge;
+use bench_reader::NetFault;
 use diag_shelf::{Shelf, write_all};
 use net_model::Circuit;
 use result_file::Budgets;
@@ -39,8 +40,9 @@ pub fn synthesize<S: Shelf>(
     no_number_is_refused();
     match judge(alloc, &text) {
         Ok(design) => save_both(alloc, shelf, &text, &design.circuit, bench, output),
-        Err(Stop::Refused(_)) => unreachable!(),
-        Err(Stop::NoMemory) => Err(RunFault::NoMemory),
+        Err(NetFault::At(_, _)) => unreachable!(),
+        Err(NetFault::Loop(_, _)) => unreachable!(),
+        Err(NetFault::NoMemory) => Err(RunFault::NoMemory),
     }
 }
 

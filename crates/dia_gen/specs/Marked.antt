@@ -1,5 +1,5 @@
 -- Which numbers are marked, and how many members are marked equal or left open.
-use Rattle.std.specs.Prelude.{◌≡◌, ◌+◌, ◌<◌, ℕ, List, map, length, count_by, Option, unwrap_or, IsSome}
+use Rattle.std.specs.Prelude.{◌≡◌, ◌<◌, ℕ, List, map, length, count_by, Option, unwrap_or, IsSome}
 use Rattle.std.specs.List.{range_with_len}
 use Rattle.net_model.specs.ClassTable.{ClassTable, class_at, class_count}
 use Rattle.result_records.specs.declared.record.Mark.{Mark}

@@ -1,6 +1,6 @@
 //! Lines that are made and not yet written.
 
-ghost use Rattle.std.specs.Prelude.{◌≡◌, ◌∷◌, ◌<◌, [], OnOk, IfOk, length, slice_index_or, None};
+ghost use Rattle.std.specs.Prelude.{◌≡◌, ◌∷◌, ◌<◌, [], OnOk, length, slice_index_or, None};
 ghost use Rattle.net_model.specs.ClassTable.{class_at, class_count};
 ghost use Rattle.result_records.specs.Spelling.{text_of};
 ghost use Rattle.result_records.specs.declared.record.Record.TheVariants.{Pattern, Class, Member};

@@ -1,12 +1,13 @@
 //! What becomes of a number and its representative.
 
-ghost use Rattle.std.specs.Prelude.{◌≡◌, ◌≢◌, ◌<◌, ◌≤◌, [], Some, IfOk, OnOk, length, slice_set};
+ghost use Rattle.std.specs.Prelude.{◌≡◌, ◌≢◌, ◌<◌, ◌≤◌, Some, IfOk, OnOk, length, slice_set};
 ghost use Rattle.clause_pool.specs.Clauses.{BeginsWith};
 ghost use Rattle.net_model.specs.Answer.{bit_at};
 ghost use Rattle.net_model.specs.Circuit.{IsCircuit};
 ghost use Rattle.net_model.specs.Fault.{IsFaultOf};
 ghost use Rattle.net_model.specs.FaultList.{fault_count};
 ghost use Rattle.pair_miter.specs.Miter as spec;
+ghost use Rattle.result_records.specs.declared.limits.TheConstants.{CONFLICTS_LIMIT};
 ghost use Rattle.dia_gen.specs.Settled.{IsSpaceFor, HasRelevant, IsSettledFor, IsSearched, IsOpenFor, IsSolvedFor, IsSettledBy};
 
 use crate::setting::GenerationSetting;
@@ -168,7 +169,7 @@ fn solve_pair(
     conflicts: u32,
 ) -> Result<Solved, AllocError>
     requires some { conflicts ≢ 0 }
-    requires limit { conflicts ≤ 100000 }
+    requires limit { conflicts ≤ CONFLICTS_LIMIT }
     requires clauses { pool.old.clauses ≡ spec.miter miter.now.circuit miter.now.f miter.now.g }
     ensures solved { IfOk result (IsSolvedFor miter.now.circuit miter.now.f miter.now.g conflicts) }
     ensures begins { BeginsWith pool.new.clauses pool.old.clauses }

@@ -103,8 +103,7 @@ impl<'a> GenerationSetting<'a> {
         ensures circuit { IfOk result (λ keeper. keeper.circuit ≡ self.now.circuit) }
         ensures kept { IfOk result (λ keeper. Keeps self.now.circuit (stream self.now.circuit.sources self.now.budgets.blocks) (nothing_kept (fault_count self.now.circuit)) keeper.kept) }
     {
-        // That the circuit is one is known by this.
-        let _circuit = self.subject.circuit();
+        self.subject.circuit().stands();
         let mut keeper = Keeper::new(alloc, self.subject)?;
         keeper.keep_stream(self.budgets.blocks)?;
         Ok(keeper)

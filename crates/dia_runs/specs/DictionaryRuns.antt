@@ -4,8 +4,9 @@ use Rattle.std.specs.FinMap.{get}
 use Rattle.diag_shelf.specs.World.{Files, World}
 use Rattle.dict_rows.specs.declared.dict.Dict.{Dict}
 use Rattle.dict_rows.specs.Dictionary.{listed_numbers}
+use Rattle.dict_file.specs.declared.reading.TheConstants.{DICTIONARY_LIMIT}
 use Rattle.dict_file.specs.declared.fault.DictVersion.TheVariants.{Two}
-use Rattle.dict_file.specs.Spelling.{dict_spelling, most_bytes, IsFileOf}
+use Rattle.dict_file.specs.Spelling.{dict_spelling, IsFileOf}
 use Rattle.request_words.specs.declared.request.EntryKind.{EntryKind}
 use Rattle.text_fields.specs.Fields.{Text}
 use Rattle.request_words.specs.Request.{Request, make_dict, convert, diagnose}
@@ -55,5 +56,5 @@ PrintsDiagnosis request ending old new = (dict log : Text) → request ≡ Some 
 -- A dictionary and its version 2, within the limit of bytes, are diagnosed alike: with every log a run by the one is to end as a run by
 -- the other.
 abbrev pub DiagnosesAlike : Type 0
-DiagnosesAlike = (files : Files) (first second log bytes : Text) (d : Dict) → get files first ≡ Some bytes → IsFileOf d bytes → get files second ≡ Some (dict_spelling Two d) → length (dict_spelling Two d) ≤ most_bytes
+DiagnosesAlike = (files : Files) (first second log bytes : Text) (d : Dict) → get files first ≡ Some bytes → IsFileOf d bytes → get files second ≡ Some (dict_spelling Two d) → length (dict_spelling Two d) ≤ DICTIONARY_LIMIT
     → (o : Outcome) → CallsFor files (plan_of (Some (diagnose first log))) o ↔ CallsFor files (plan_of (Some (diagnose second log))) o

@@ -1,15 +1,16 @@
 -- Texts of lines, each with a row of bits.
-use Rattle.std.specs.Prelude.{◌≡◌, ℕ, ◌+◌, ◌<◌, ◌≤◌, ◌^◌, Bool, List, [], ◌∷◌, ◌++◌, length, take, count_by, ◌==◌, ⊤}
+use Rattle.std.specs.Prelude.{◌≡◌, ℕ, ◌+◌, ◌<◌, ◌≤◌, Bool, List, [], ◌∷◌, ◌++◌, length, take, count_by, ◌==◌, ⊤}
 use Rattle.net_model.specs.Rows.{AreWide}
 use Rattle.text_fields.specs.Fields.{Text}
 use Rattle.diagnose.specs.declared.fault.LogKind.{LogKind}
 use Rattle.diagnose.specs.declared.fault.LogKind.TheVariants.{TooLong}
 use Rattle.diagnose.specs.declared.fault.LogFault.{LogFault}
 use Rattle.diagnose.specs.declared.fault.LogFault.TheVariants.{At, NoMemory}
+use Rattle.diagnose.specs.declared.lines.TheConstants.{TEXT_LIMIT}
 
--- the most bytes of a log or a list of vectors
+-- the most bytes of a log, a list of vectors or a plan
 abbrev pub text_limit : ℕ
-text_limit = 2 ^ 30
+text_limit = TEXT_LIMIT
 
 -- the line of a byte, counted from 1
 abbrev pub line_number : Text → ℕ → ℕ

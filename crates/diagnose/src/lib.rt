@@ -10,7 +10,7 @@ mod vectors;
 
 pub use fault::{LogFault, LogKind};
 pub use laws::{list_is_read_once, log_is_read_once};
-pub use lines::check_size;
+pub use lines::{TEXT_LIMIT, check_size};
 pub use listing::matches;
 pub use log::read_log;
 pub use vectors::read_vectors;

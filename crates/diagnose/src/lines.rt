@@ -7,17 +7,17 @@ ghost use Rattle.diagnose.specs.Lines.{text_limit, line_number};
 
 use crate::fault::{LogFault, LogKind};
 
-// the most bytes of a text
-const LIMIT: usize = 1 << 30;
+/// The most bytes of a log, whole, partial or of answers to a plan, of a list of vectors, or of a plan.
+pub const TEXT_LIMIT: u64 = 1_073_741_824;
 
 /// Refuses a text of too many bytes.
 pub fn check_size(text: &[u8]) -> Result<(), LogFault>
     ensures { MatchResult result (λ _. length text.now ≤ text_limit) (λ fault. (text_limit < length text.now) × (fault ≡ log_fault.At log_kind.TooLong (line_number text.now text_limit))) }
 {
-    if text.len() <= LIMIT {
+    if text.len() as u64 <= TEXT_LIMIT {
         return Ok(());
     }
-    Err(LogFault::At(LogKind::TooLong, line_at(text, LIMIT)))
+    Err(LogFault::At(LogKind::TooLong, line_at(text, TEXT_LIMIT as usize)))
 }
 
 // The line of the byte at this place, counted from 1.

@@ -3,7 +3,7 @@
 ghost use Rattle.std.specs.Prelude.{◌≡◌, ◌≢◌, ◌<◌, ◌≤◌, ◌*◌, ◌^◌, ℕ, Bool, List, [], length, slice_index_or, slice_set, IfOk, IfErr, MatchOption, MatchResult};
 ghost use Rattle.diagnose.specs.declared.fault.LogKind.TheVariants as log_kind;
 ghost use Rattle.text_fields.specs.Fields.{digit_bits};
-ghost use Rattle.diagnose.specs.Lines.{TellsLogFault};
+ghost use Rattle.diagnose.specs.Lines.{text_limit, TellsLogFault};
 ghost use Rattle.diagnose.specs.LogText.{log_line, BeginsWithLine, HasNoLine, IsLog, TesterLogRefused, LogRestRefused, IsRightLogLine};
 
 use crate::fault::{LogFault, LogKind};
@@ -23,7 +23,7 @@ struct LogLine<'a> {
 
 /// The observed answers that a tester's log tells, a row for each pattern of the dictionary.
 ///
-/// A log has at most 2^30 bytes. A fault tells the first line that breaks a rule.
+/// A log has at most `TEXT_LIMIT` bytes. A fault tells the first line that breaks a rule.
 pub fn read_log(alloc: Global, dict: &Dict, bytes: &[u8]) -> Result<AnswerRows, LogFault>
     ensures read { IfOk result (λ observed. IsLog dict.now.patterns dict.now.positions bytes.now observed) }
     ensures refused { IfErr result (TellsLogFault (TesterLogRefused dict.now.patterns dict.now.positions bytes.now)) }
@@ -38,7 +38,7 @@ fn read_lines(
     positions: u32,
     bytes: &[u8],
 ) -> Result<AnswerRows, LogFault>
-    requires { length bytes.now ≤ 2 ^ 30 }
+    requires { length bytes.now ≤ text_limit }
     ensures read { IfOk result (λ observed. IsLog patterns positions bytes.now observed) }
     ensures refused { IfErr result (TellsLogFault (TesterLogRefused patterns positions bytes.now)) }
 {

@@ -1,9 +1,9 @@
 //! Lists of vectors.
 
-ghost use Rattle.std.specs.Prelude.{◌≡◌, ◌≢◌, ◌≤◌, ◌^◌, ◌++◌, ◌∷◌, [], ℕ, length, IfOk, IfErr, MatchOption, MatchResult};
+ghost use Rattle.std.specs.Prelude.{◌≡◌, ◌≢◌, ◌≤◌, ◌++◌, ◌∷◌, [], ℕ, length, IfOk, IfErr, MatchOption, MatchResult};
 ghost use Rattle.net_model.specs.BitText.{bits_text};
 ghost use Rattle.text_fields.specs.Fields.{digit_bits};
-ghost use Rattle.diagnose.specs.Lines.{TellsLogFault};
+ghost use Rattle.diagnose.specs.Lines.{text_limit, TellsLogFault};
 ghost use Rattle.diagnose.specs.VectorText.{HasNoVector, IsVectorList, VectorsRefused, VectorRestRefused, IsRightVector};
 
 use crate::fault::{LogFault, LogKind};
@@ -14,7 +14,7 @@ use text_fields::{bits_of, cut, digits_of};
 
 /// The vectors that a list has, a line of bits for each, with a bit for each source.
 ///
-/// A list has at most 2^30 bytes. A fault tells the first line that breaks a rule.
+/// A list has at most `TEXT_LIMIT` bytes. A fault tells the first line that breaks a rule.
 pub fn read_vectors(alloc: Global, sources: u32, bytes: &[u8]) -> Result<Vectors, LogFault>
     ensures read { IfOk result (λ vectors. IsVectorList sources bytes.now vectors) }
     ensures refused { IfErr result (TellsLogFault (VectorsRefused sources bytes.now)) }
@@ -24,7 +24,7 @@ pub fn read_vectors(alloc: Global, sources: u32, bytes: &[u8]) -> Result<Vectors
 }
 
 fn read_lines(alloc: Global, sources: u32, bytes: &[u8]) -> Result<Vectors, LogFault>
-    requires { length bytes.now ≤ 2 ^ 30 }
+    requires { length bytes.now ≤ text_limit }
     ensures read { IfOk result (λ vectors. IsVectorList sources bytes.now vectors) }
     ensures refused { IfErr result (TellsLogFault (VectorsRefused sources bytes.now)) }
 {

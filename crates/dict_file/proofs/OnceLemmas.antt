@@ -9,7 +9,7 @@ use Rattle.dict_file.specs.declared.fault.DictVersion.{DictVersion}
 use Rattle.dict_file.specs.declared.fault.DictVersion.TheVariants.{One, Two}
 use Rattle.dict_file.specs.Spelling.{kind_number, version_number, SpellsDict, IsFileOf, entry_rows}
 use Rattle.dict_file.specs.Reading as reading
-use Rattle.dict_file.specs.Reading.{file_part, IsRefusedBy, part_one, part_two}
+use Rattle.dict_file.specs.Reading.{file_part, IsRefusedBy}
 use Rattle.dict_file.proofs.PartLemmas.{file_is}
 use Rattle.dict_file.proofs.GroupingOnce.{grouping_once}
 use Rattle.dict_file.proofs.FieldLemmas.{AreFields}

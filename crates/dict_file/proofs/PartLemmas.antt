@@ -2,10 +2,11 @@
 use Rattle.std.proofs.Common.{◌≡◌, ◌∙◌, ℕ, ◌+◌, ◌-◌, ◌*◌, ◌<◌, ◌≤◌, ◌⊎◌, List, length, take, sym, subst, arith, inl, inr}
 use Rattle.std.specs.Prelude.{codes}
 use Rattle.std.proofs.lemmas.Bool.{cases_lt}
+use Rattle.dict_file.specs.declared.reading.TheConstants.{DICTIONARY_LIMIT}
 use Rattle.dict_file.specs.Packing.{byte_count, HasZeroPadding}
 use Rattle.dict_file.specs.declared.fault.DictFault.{DictFault}
 use Rattle.dict_file.specs.declared.fault.DictFault.TheVariants.{Magic, Version, Kind, Short, Value, Trailing, TooLong}
-use Rattle.dict_file.specs.Spelling.{limit, most_bytes}
+use Rattle.dict_file.specs.Spelling.{limit}
 use Rattle.dict_file.specs.Parts.{Part, wants, reaches, ◌⊳◌, each, when}
 use Rattle.dict_file.specs.declared.row_bytes.RowsAt.{RowsAt}
 use Rattle.dict_file.specs.Reading.{row_start, rows_end, row_part, new_row_part, IsNewRow, number_at, version, kind, magic_part, version_part, kind_part, count_part, head_part, read_baseline_count, baseline_rows_at, entries_one, end_part, part_one, group_count_part, groups_from, group_part, groups_part, IsGroupCount, IsGroupNumber, AreUsed, numbers, groups, entries_two, part_two, file_part}
@@ -140,6 +141,6 @@ module _ (bytes : List ℕ) where
 
   pub file_is : IsExclusive (file_part bytes)
   file_is =
-      then_is (wants (length bytes ≤ most_bytes) (TooLong most_bytes)) (head_part bytes ⊳ both_bodies) (wants_is (length bytes ≤ most_bytes) (TooLong most_bytes))
+      then_is (wants (length bytes ≤ DICTIONARY_LIMIT) (TooLong DICTIONARY_LIMIT)) (head_part bytes ⊳ both_bodies) (wants_is (length bytes ≤ DICTIONARY_LIMIT) (TooLong DICTIONARY_LIMIT))
       (then_is (head_part bytes) both_bodies head_is
       (then_is (when (version bytes ≡ 1) (part_one bytes)) (when (version bytes ≡ 2) (part_two bytes)) (when_is (version bytes ≡ 1) (part_one bytes) one_is) (when_is (version bytes ≡ 2) (part_two bytes) two_is)))

@@ -6,16 +6,17 @@ use Rattle.std.proofs.lemmas.List.FromFn.{fill_by_all}
 use Rattle.std.proofs.lemmas.Nat.{mul-le}
 use Rattle.std.proofs.Math.Nat.{div-mul-le_self, lt-div-mul-add, mul-le-mul_right}
 use Rattle.dict_rows.specs.Grouped.{AreDifferent, IsFirstRepeat}
+use Rattle.dict_file.specs.declared.reading.TheConstants.{DICTIONARY_LIMIT}
 use Rattle.dict_file.specs.declared.fault.DictFault.{DictFault}
 use Rattle.dict_file.specs.declared.fault.DictFault.TheVariants.{Short, Value}
 use Rattle.dict_file.specs.declared.row_bytes.RowsAt.{RowsAt}
 use Rattle.dict_file.specs.Packing.{byte_count, row_in, HasZeroPadding}
-use Rattle.dict_file.specs.Spelling.{limit, most_bytes}
+use Rattle.dict_file.specs.Spelling.{limit}
 use Rattle.std.specs.Prelude.{Result, IfOk, IfErr}
 use Rattle.dict_file.specs.declared.row_bytes.ReadRows.{ReadRows}
 use Rattle.dict_file.specs.Parts.{Part, each}
 use Rattle.dict_file.specs.Reading as reading
-use Rattle.dict_file.specs.Reading.{row_start, rows_end, row_of, row_part, new_row_part, IsNewRow, head_part, groups_part, baseline_rows_at, entries_at, TellsDictFault}
+use Rattle.dict_file.specs.Reading.{row_start, row_of, row_part, new_row_part, IsNewRow, head_part, groups_part, baseline_rows_at, entries_at, TellsDictFault}
 use Rattle.dict_file.specs.Places.{IsPlaced, AreWholeTo, AreRightRows, AreRead, first_rows}
 use Rattle.dict_file.proofs.FieldLemmas.{length-rows_of, get_or-rows_of}
 
@@ -145,13 +146,13 @@ entries_narrow bytes h k = elim (cases_Bool (eqb (reading.kind bytes) 2)) [
       omega (arith, e, h)
 ]
 
-pub baselines_placed : (bytes : List ℕ) (from : ℕ) → (head_part bytes).Right → length bytes ≤ most_bytes → from ≤ length bytes → IsPlaced bytes (baseline_rows_at bytes from)
+pub baselines_placed : (bytes : List ℕ) (from : ℕ) → (head_part bytes).Right → length bytes ≤ DICTIONARY_LIMIT → from ≤ length bytes → IsPlaced bytes (baseline_rows_at bytes from)
 baselines_placed bytes from right short within =
     let few = baselines_few bytes right.1.1.1.1.0.1 in
     let narrow = right.1.1.1.0.1 in
     record { begins = within; short = short; narrow = omega (arith, narrow); few = omega (arith, few) }
 
-pub entries_placed : (bytes : List ℕ) (from count : ℕ) → (head_part bytes).Right → length bytes ≤ most_bytes → from ≤ length bytes → count < 2 ^ 32 → IsPlaced bytes (entries_at bytes from count)
+pub entries_placed : (bytes : List ℕ) (from count : ℕ) → (head_part bytes).Right → length bytes ≤ DICTIONARY_LIMIT → from ≤ length bytes → count < 2 ^ 32 → IsPlaced bytes (entries_at bytes from count)
 entries_placed bytes from count right short within few = record { begins = within; short = short; narrow = entries_narrow bytes right.1.1.1.1.0.1 right.1.1.1.0.1; few = few }
 
 -- ---- rows without bits

@@ -7,11 +7,12 @@ use Rattle.net_model.specs.Rows.{AreWide}
 use Rattle.dict_rows.specs.declared.dict.Dict.{Dict}
 use Rattle.dict_rows.specs.Dictionary as dictionary
 use Rattle.dict_rows.specs.Dictionary.{IsShaped, IsGroupedDict, entry_of}
+use Rattle.dict_file.specs.declared.reading.TheConstants.{DICTIONARY_LIMIT}
 use Rattle.dict_file.specs.declared.fault.DictVersion.{DictVersion}
 use Rattle.dict_file.specs.declared.fault.DictVersion.TheVariants.{One}
-use Rattle.dict_file.specs.Spelling.{limit, most_bytes, HasDictSpelling, dict_spelling, SpellsDict, packed_rows, entry_rows, head_bytes}
+use Rattle.dict_file.specs.Spelling.{limit, HasDictSpelling, dict_spelling, SpellsDict, packed_rows, entry_rows, head_bytes}
 use Rattle.dict_file.specs.Reading as reading
-use Rattle.dict_file.specs.Reading.{rows_end, row_part, head_part, part_one, baseline_rows_at, entries_one, end_part}
+use Rattle.dict_file.specs.Reading.{rows_end, row_part, head_part, part_one, baseline_rows_at, entries_one}
 use Rattle.dict_file.specs.Places.{first_rows}
 use Rattle.dict_file.proofs.Standing.{IsAt, at_itself, at_first, at_second, at_both, at_whole}
 use Rattle.dict_file.proofs.FieldLemmas.{AreBytes, AreRowsOf, rows_read, rows_written, length-rows_of, wide_rows_of, AreFields, HasHead, head_stands, fields_stand, baselines_counted, entries_measured}
@@ -104,7 +105,7 @@ pub baselines_stand : {bytes : List ℕ} {v : DictVersion} {d : Dict} (from : �
 baselines_stand {bytes} {v} {d} from fits is within right =
     subst (λ rows. IsAt bytes from (packed_rows rows)) (sym is.baselines_are) (rows_written bytes (baseline_rows_at bytes from) fits within right)
 
-pub spells_one : {bytes : List ℕ} {d : Dict} → AreBytes bytes → length bytes ≤ most_bytes → IsReadAs bytes One 19 d → (part_one bytes).Right → entry_rows d ≡ first_rows bytes (entries_one bytes) (reading.numbers bytes) → SpellsDict One d bytes
+pub spells_one : {bytes : List ℕ} {d : Dict} → AreBytes bytes → length bytes ≤ DICTIONARY_LIMIT → IsReadAs bytes One 19 d → (part_one bytes).Right → entry_rows d ≡ first_rows bytes (entries_one bytes) (reading.numbers bytes) → SpellsDict One d bytes
 unfolding dict_spelling
 spells_one {bytes} {d} fits short is right entries_are =
     let head : IsAt bytes 0 (head_bytes One d) = fields_stand bytes One d fits is.head is.fields in

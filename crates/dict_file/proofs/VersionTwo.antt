@@ -9,12 +9,12 @@ use Rattle.byteorder.specs.Endian.{big_bytes}
 use Rattle.dict_rows.specs.declared.dict.Dict.{Dict}
 use Rattle.dict_rows.specs.Grouped.{IsLeastUnused}
 use Rattle.dict_rows.specs.Dictionary as dictionary
-use Rattle.dict_rows.specs.Dictionary.{IsShaped, IsGroupedDict}
 use Rattle.dict_rows.proofs.GroupLemmas.{few_groups}
+use Rattle.dict_file.specs.declared.reading.TheConstants.{DICTIONARY_LIMIT}
 use Rattle.dict_file.specs.declared.fault.DictVersion.TheVariants.{Two}
-use Rattle.dict_file.specs.Spelling.{limit, most_bytes, HasDictSpelling, dict_spelling, SpellsDict, packed_rows, head_bytes}
+use Rattle.dict_file.specs.Spelling.{limit, HasDictSpelling, dict_spelling, SpellsDict, packed_rows, head_bytes}
 use Rattle.dict_file.specs.Reading as reading
-use Rattle.dict_file.specs.Reading.{row_start, rows_end, row_of, row_part, new_row_part, IsNewRow, number_at, part_two, baseline_rows_at, groups_from, group_at, groups_before, group_part, groups_part, IsGroupCount, IsGroupNumber, group_count_part, AreUsed, entries_two, end_part}
+use Rattle.dict_file.specs.Reading.{rows_end, row_of, IsNewRow, part_two, baseline_rows_at, groups_from, group_at, groups_before, IsGroupCount, IsGroupNumber, AreUsed, entries_two}
 use Rattle.dict_file.specs.Places.{first_rows}
 use Rattle.dict_file.proofs.Standing.{IsAt, at_itself, at_first, at_second, at_both, at_whole}
 use Rattle.dict_file.proofs.ManyRows.{length-numbers, numbers_stand, stand_numbers, number_stands, four_stand}
@@ -171,7 +171,7 @@ module _ {bytes : List ℕ} {d : Dict} (has : HasDictSpelling d) (reads : ReadsT
 
 -- ---- what is read is spelled
 
-pub spells_two : {bytes : List ℕ} {d : Dict} → AreBytes bytes → length bytes ≤ most_bytes → IsReadAs bytes Two 23 d → (part_two bytes).Right → d.groups ≡ groups_before bytes (reading.numbers bytes)
+pub spells_two : {bytes : List ℕ} {d : Dict} → AreBytes bytes → length bytes ≤ DICTIONARY_LIMIT → IsReadAs bytes Two 23 d → (part_two bytes).Right → d.groups ≡ groups_before bytes (reading.numbers bytes)
     → d.entries ≡ first_rows bytes (entries_two bytes) (reading.groups bytes) → SpellsDict Two d bytes
 unfolding dict_spelling
 spells_two {bytes} {d} fits short is right groups_are entries_are =

@@ -2,9 +2,10 @@
 use Rattle.std.specs.Prelude.{◌≡◌, ◌≤◌, ℕ, Bool, List, length}
 use Rattle.dict_rows.specs.declared.dict.Dict.{Dict}
 use Rattle.dict_rows.specs.declared.dict.DictKind.{DictKind}
+use Rattle.dict_file.specs.declared.reading.TheConstants.{DICTIONARY_LIMIT}
 use Rattle.dict_file.specs.declared.fault.DictVersion.{DictVersion}
 use Rattle.dict_file.specs.declared.head.FileHead.{FileHead}
-use Rattle.dict_file.specs.Spelling.{kind_number, version_number, most_bytes}
+use Rattle.dict_file.specs.Spelling.{kind_number, version_number}
 use Rattle.dict_file.specs.Reading as reading
 use Rattle.dict_file.specs.Reading.{head_part}
 
@@ -28,7 +29,7 @@ pub record IsDictHead (bytes : List ℕ) (head : FileHead) : Type 0 where
 pub record Begins (bytes : List ℕ) (version : DictVersion) (head : FileHead) : Type 0 where
   pub is : IsDictHead bytes head
   pub version_is : head.version ≡ version
-  pub short : length bytes ≤ most_bytes
+  pub short : length bytes ≤ DICTIONARY_LIMIT
 
 -- the dictionary with the fields of a head
 abbrev pub dict_with : FileHead → List (List Bool) → List ℕ → List (List Bool) → Dict

@@ -1,10 +1,11 @@
 -- Laws: bytes are the file of one dictionary or refused for one fault, and never both.
 use Rattle.std.specs.Prelude.{◌≡◌, ◌≤◌, ℕ, List, length}
 use Rattle.dict_rows.specs.declared.dict.Dict.{Dict}
+use Rattle.dict_file.specs.declared.reading.TheConstants.{DICTIONARY_LIMIT}
 use Rattle.dict_file.specs.declared.fault.DictFault.{DictFault}
 use Rattle.dict_file.specs.declared.fault.DictVersion.{DictVersion}
 use Rattle.dict_file.specs.declared.fault.DictVersion.TheVariants.{Two}
-use Rattle.dict_file.specs.Spelling.{dict_spelling, most_bytes, SpellsDict, IsFileOf}
+use Rattle.dict_file.specs.Spelling.{dict_spelling, SpellsDict, IsFileOf}
 use Rattle.dict_file.specs.Reading.{IsRefusedBy}
 
 -- bytes that are refused are no dictionary's file
@@ -21,4 +22,4 @@ OneDictionary = (bytes : List ℕ) (version other : DictVersion) (d e : Dict) �
 
 -- a dictionary that has a file has one in version 2, if that isn't too long
 abbrev pub Respelled : Type 0
-Respelled = (bytes : List ℕ) (d : Dict) → IsFileOf d bytes → length (dict_spelling Two d) ≤ most_bytes → IsFileOf d (dict_spelling Two d)
+Respelled = (bytes : List ℕ) (d : Dict) → IsFileOf d bytes → length (dict_spelling Two d) ≤ DICTIONARY_LIMIT → IsFileOf d (dict_spelling Two d)

@@ -2,19 +2,19 @@
 use Rattle.std.specs.Prelude.{◌≡◌, ℕ, ◌+◌, ◌-◌, ◌≤◌, ◌<◌, ◌^◌, Bool, List, length, map}
 use Rattle.std.specs.List.{range_with_len}
 use Rattle.dict_rows.specs.Grouped.{IsFirstRepeat}
+use Rattle.dict_file.specs.declared.reading.TheConstants.{DICTIONARY_LIMIT}
 use Rattle.dict_file.specs.declared.fault.DictFault.{DictFault}
 use Rattle.dict_file.specs.declared.fault.DictFault.TheVariants.{Value}
 use Rattle.dict_file.specs.declared.row_bytes.RowsAt.{RowsAt}
 use Rattle.dict_file.specs.declared.row_bytes.ReadRows.{ReadRows}
 use Rattle.dict_file.specs.Parts.{Part, each}
 use Rattle.dict_file.specs.Packing.{byte_count}
-use Rattle.dict_file.specs.Spelling.{most_bytes}
 use Rattle.dict_file.specs.Reading.{row_start, rows_end, row_of, row_part}
 
 -- The rows begin within bytes that aren't too many, and their sizes are small enough to count with.
 pub record IsPlaced (bytes : List ℕ) (rows : RowsAt) : Type 0 where
   pub begins : rows.from ≤ length bytes
-  pub short : length bytes ≤ most_bytes
+  pub short : length bytes ≤ DICTIONARY_LIMIT
   pub narrow : rows.width < 2 ^ 60
   pub few : rows.count < 2 ^ 32
 

@@ -3,11 +3,12 @@ use Rattle.std.specs.Prelude.{◌≡◌, ◌≢◌, ℕ, ◌+◌, ◌-◌, ◌*�
 use Rattle.std.specs.List.{range_with_len}
 use Rattle.byteorder.specs.Endian.{big_number}
 use Rattle.dict_rows.specs.Grouped.{IsLeastUnused}
+use Rattle.dict_file.specs.declared.reading.TheConstants.{DICTIONARY_LIMIT}
 use Rattle.dict_file.specs.declared.fault.DictFault.{DictFault}
 use Rattle.dict_file.specs.declared.fault.DictFault.TheVariants.{Magic, Version, Kind, Value, Trailing, TooLong, NoMemory}
 use Rattle.dict_file.specs.declared.row_bytes.RowsAt.{RowsAt}
 use Rattle.dict_file.specs.Packing.{byte_count, row_in, HasZeroPadding}
-use Rattle.dict_file.specs.Spelling.{limit, most_bytes}
+use Rattle.dict_file.specs.Spelling.{limit}
 use Rattle.dict_file.specs.Parts.{Part, wants, reaches, ◌⊳◌, each, when}
 
 -- ---- rows
@@ -154,7 +155,7 @@ module _ (bytes : List ℕ) where
   -- ---- the file
 
   abbrev pub file_part : Part
-  file_part = wants (length bytes ≤ most_bytes) (TooLong most_bytes) ⊳ head_part ⊳ when (version ≡ 1) part_one ⊳ when (version ≡ 2) part_two
+  file_part = wants (length bytes ≤ DICTIONARY_LIMIT) (TooLong DICTIONARY_LIMIT) ⊳ head_part ⊳ when (version ≡ 1) part_one ⊳ when (version ≡ 2) part_two
 
   -- The bytes are refused for this fault, which is the first one.
   pub record IsRefusedBy (fault : DictFault) : Type 0 where

@@ -1,11 +1,12 @@
 -- The bytes of a dictionary, in either version.
-use Rattle.std.specs.Prelude.{◌≡◌, ◌<◌, ◌≤◌, ◌^◌, ℕ, Bool, List, ◌∷◌, ◌++◌, flat_map, map, length, codes}
+use Rattle.std.specs.Prelude.{◌≡◌, ◌<◌, ◌≤◌, ℕ, Bool, List, ◌∷◌, ◌++◌, flat_map, map, length, codes}
 use Rattle.std.specs.List.{range_with_len}
 use Rattle.byteorder.specs.Endian.{big_bytes}
 use Rattle.dict_rows.specs.declared.dict.Dict.{Dict}
 use Rattle.dict_rows.specs.declared.dict.DictKind.{DictKind}
 use Rattle.dict_rows.specs.declared.dict.DictKind.TheVariants.{PassFail, Full, SameDiff}
 use Rattle.dict_rows.specs.Dictionary.{IsShaped, IsGroupedDict, entry_of}
+use Rattle.dict_file.specs.declared.reading.TheConstants.{DICTIONARY_LIMIT}
 use Rattle.dict_file.specs.declared.fault.DictVersion.{DictVersion}
 use Rattle.dict_file.specs.declared.fault.DictVersion.TheVariants.{One, Two}
 use Rattle.dict_file.specs.Packing.{packed_row}
@@ -22,10 +23,6 @@ version_number Two = 2
 -- the largest count of positions, patterns or numbers
 abbrev pub limit : ℕ
 limit = 67108864
-
--- the most bytes of a file
-abbrev pub most_bytes : ℕ
-most_bytes = 2 ^ 40
 
 -- What has a spelling: a grouped dictionary of the right shape within the limits.
 pub record HasDictSpelling (d : Dict) : Type 0 where
@@ -61,7 +58,7 @@ dict_spelling version d = head_bytes version d ++ body_bytes version d
 pub record SpellsDict (version : DictVersion) (d : Dict) (bytes : List ℕ) : Type 0 where
   pub has : HasDictSpelling d
   pub bytes_are : bytes ≡ dict_spelling version d
-  pub short : length bytes ≤ most_bytes
+  pub short : length bytes ≤ DICTIONARY_LIMIT
 
 -- The bytes are a file of the dictionary.
 abbrev pub IsFileOf : Dict → List ℕ → Type 0

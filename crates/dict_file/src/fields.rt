@@ -2,7 +2,6 @@
 
 ghost use Rattle.std.specs.Prelude.{◌≡◌, ◌+◌, ◌-◌, ◌<◌, ◌≤◌, ◌^◌, ◌++◌, length, drop, IfOk, IfErr, OnOk};
 ghost use Rattle.byteorder.specs.Endian.{big_bytes, big_number};
-ghost use Rattle.dict_file.specs.Spelling.{limit};
 ghost use Rattle.dict_file.specs.Parts.{reaches};
 ghost use Rattle.dict_file.specs.Reading.{number_at, count_part};
 

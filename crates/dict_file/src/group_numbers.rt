@@ -3,8 +3,8 @@
 ghost use Rattle.std.specs.Prelude.{◌≡◌, ◌<◌, ◌≤◌, ◌+◌, ◌-◌, ◌^◌, ◌++◌, ◌∷◌, [], length, max, replicate, flat_map, IfOk, IfErr, OnOk};
 ghost use Rattle.byteorder.specs.Endian.{big_bytes};
 ghost use Rattle.dict_rows.specs.Grouped.{AreGroupsOf};
+ghost use Rattle.dict_file.specs.declared.reading.TheConstants.{DICTIONARY_LIMIT};
 ghost use Rattle.dict_file.specs.declared.fault.DictFault.TheVariants as dict_fault;
-ghost use Rattle.dict_file.specs.Spelling.{most_bytes};
 ghost use Rattle.dict_file.specs.Parts.{reaches, wants, ◌⊳◌};
 ghost use Rattle.dict_file.specs.Reading as reading;
 ghost use Rattle.dict_file.specs.Reading.{number_at, groups_from, groups_before, groups_part, TellsDictFault};
@@ -28,7 +28,7 @@ pub(crate) fn read_groups(
     requires numbers { numbers ≡ reading.numbers bytes.now }
     requires groups { groups ≡ reading.groups bytes.now }
     requires begins { from ≤ length bytes.now }
-    requires short { length bytes.now ≤ most_bytes }
+    requires short { length bytes.now ≤ DICTIONARY_LIMIT }
     requires some { 0 < numbers }
     ensures read { IfOk result (λ read. read ≡ groups_before bytes.now numbers) }
     ensures right { OnOk result (groups_part bytes.now).Right }

@@ -13,5 +13,5 @@ mod writing;
 
 pub use fault::{DictFault, DictVersion};
 pub use laws::dictionary_is_read_once;
-pub use reading::decode;
+pub use reading::{DICTIONARY_LIMIT, decode};
 pub use writing::encode;

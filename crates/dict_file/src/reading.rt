@@ -1,9 +1,9 @@
 //! Bytes read as a dictionary.
 
-ghost use Rattle.std.specs.Prelude.{◌≡◌, ◌+◌, ◌*◌, ◌<◌, ◌≤◌, ◌^◌, ℕ, List, length, IfOk, IfErr, OnOk};
+ghost use Rattle.std.specs.Prelude.{◌≡◌, ◌+◌, ◌*◌, ◌<◌, ◌≤◌, ℕ, List, length, IfOk, IfErr, OnOk};
 ghost use Rattle.dict_file.specs.declared.fault.DictVersion.TheVariants as dict_version;
 ghost use Rattle.dict_file.specs.Heads.{IsDictHead, Begins};
-ghost use Rattle.dict_file.specs.Spelling.{IsFileOf, most_bytes};
+ghost use Rattle.dict_file.specs.Spelling.{IsFileOf};
 ghost use Rattle.dict_file.specs.Parts.{each};
 ghost use Rattle.dict_file.specs.Places.{AreRead};
 ghost use Rattle.dict_file.specs.Reading as reading;
@@ -17,19 +17,19 @@ use crate::row_bytes::{ReadRows, RowsAt, read_new_rows, read_rows};
 use dict_rows::{Dict, DictKind, Grouped};
 use std::alloc::Global;
 
-// the most bytes of a file
-const MOST_BYTES: u64 = 1 << 40;
+/// The most bytes of a dictionary.
+pub const DICTIONARY_LIMIT: u64 = 1_099_511_627_776;
 
 /// The dictionary that bytes are, in version 1 or 2.
 ///
 /// Fields and rows are read in the order of the file, and a fault tells the first that is wrong.
-/// More than 2^40 bytes are refused first.
+/// More than [`DICTIONARY_LIMIT`] bytes are refused first.
 pub fn decode(alloc: Global, bytes: &[u8]) -> Result<Dict, DictFault>
     ensures read { IfOk result (λ dict. IsFileOf dict bytes.now) }
     ensures refused { IfErr result (TellsDictFault (IsRefusedBy bytes.now)) }
 {
-    if bytes.len() as u64 > MOST_BYTES {
-        return Err(DictFault::TooLong(MOST_BYTES));
+    if bytes.len() as u64 > DICTIONARY_LIMIT {
+        return Err(DictFault::TooLong(DICTIONARY_LIMIT));
     }
     let head = read_head(bytes)?;
     match head.version {
@@ -89,7 +89,7 @@ fn baselines(
 ) -> Result<ReadRows, DictFault>
     requires head { IsDictHead bytes.now head }
     requires begins { from ≤ length bytes.now }
-    requires short { length bytes.now ≤ most_bytes }
+    requires short { length bytes.now ≤ DICTIONARY_LIMIT }
     ensures read { IfOk result (AreRead bytes.now (row_part bytes.now) (reading.baseline_rows_at bytes.now from)) }
     ensures refused { IfErr result (TellsDictFault (baselines_part bytes.now from).Refused) }
 {
@@ -102,7 +102,7 @@ fn entries(alloc: Global, bytes: &[u8], head: FileHead, from: usize) -> Result<R
     requires head { IsDictHead bytes.now head }
     requires from { from ≡ rows_end (reading.baseline_rows_at bytes.now 19) }
     requires begins { from ≤ length bytes.now }
-    requires short { length bytes.now ≤ most_bytes }
+    requires short { length bytes.now ≤ DICTIONARY_LIMIT }
     ensures read { IfOk result (AreRead bytes.now (row_part bytes.now) (entries_one bytes.now)) }
     ensures refused { IfErr result (TellsDictFault (each (reading.numbers bytes.now) (row_part bytes.now (entries_one bytes.now))).Refused) }
 {
@@ -122,7 +122,7 @@ fn new_entries(
     requires from { from ≡ groups_from bytes.now + 4 * reading.numbers bytes.now }
     requires count { count ≡ reading.groups bytes.now }
     requires begins { from ≤ length bytes.now }
-    requires short { length bytes.now ≤ most_bytes }
+    requires short { length bytes.now ≤ DICTIONARY_LIMIT }
     ensures read { IfOk result (AreRead bytes.now (new_row_part bytes.now) (entries_two bytes.now)) }
     ensures refused { IfErr result (TellsDictFault (each (reading.groups bytes.now) (new_row_part bytes.now (entries_two bytes.now))).Refused) }
 {

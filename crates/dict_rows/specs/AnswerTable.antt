@@ -1,9 +1,8 @@
 -- The answers of all fault numbers to all patterns.
 use Rattle.std.specs.Prelude.{◌≡◌, ℕ, ◌+◌, ◌<◌, ◌^◌, ◌⊎◌, ◌≢◌, Bool, List, [], length, slice_index, slice_index_or, All}
-use Rattle.net_model.specs.declared.fault.Fault.{Fault}
 use Rattle.net_model.specs.Circuit.{Circuit}
 use Rattle.net_model.specs.Answer.{bit_at}
-use Rattle.net_model.specs.FaultList.{faults as faults_of, fault_count}
+use Rattle.net_model.specs.FaultList.{fault_count}
 use Rattle.net_model.specs.PatternRows.{AreAnswerRows}
 
 -- a row for each pattern, with an answer for each number
@@ -58,8 +57,7 @@ pub record AreAnswers (c : Circuit) (patterns : List (List Bool)) (t : Answers) 
   pub positions : t.positions ≡ length c.positions
   pub rows : AreAnswerRows c patterns t.rows
 
--- The faults are the circuit's, each pattern has a bit for each of its sources, and 32 bits number the patterns.
-pub record AreAnswerable (c : Circuit) (faults : List Fault) (patterns : List (List Bool)) : Type 0 where
-  pub faults_are : faults ≡ faults_of c
+-- Each pattern has a bit for each of the circuit's sources, and 32 bits number the patterns.
+pub record AreAnswerable (c : Circuit) (patterns : List (List Bool)) : Type 0 where
   pub widths : All (λ v. length v ≡ c.sources) patterns
   pub few : length patterns < 2 ^ 32

@@ -1,7 +1,7 @@
 //! Partial logs read from text.
 
-ghost use Rattle.std.specs.Prelude.{◌≤◌, ◌^◌, length, IfOk, IfErr};
-ghost use Rattle.diagnose.specs.Lines.{TellsLogFault};
+ghost use Rattle.std.specs.Prelude.{◌≤◌, length, IfOk, IfErr};
+ghost use Rattle.diagnose.specs.Lines.{text_limit, TellsLogFault};
 ghost use Rattle.ranked_diag.specs.PartialLog.{IsPartialLog, PartialRefused};
 
 use crate::line::{right_line, seen_of};
@@ -12,7 +12,7 @@ use std::alloc::Global;
 
 /// The lines that a partial log tells, for a dictionary.
 ///
-/// A log has at most 2^30 bytes. A fault tells the first line that breaks a rule.
+/// A log has at most `diagnose::TEXT_LIMIT` bytes. A fault tells the first line that breaks a rule.
 pub fn read_partial(alloc: Global, dict: &Dict, bytes: &[u8]) -> Result<Partial, LogFault>
     ensures read { IfOk result (IsPartialLog dict.now.patterns dict.now.positions bytes.now) }
     ensures refused { IfErr result (TellsLogFault (PartialRefused dict.now.patterns dict.now.positions bytes.now)) }
@@ -22,7 +22,7 @@ pub fn read_partial(alloc: Global, dict: &Dict, bytes: &[u8]) -> Result<Partial,
 
 /// The lines that a partial log tells, of so many patterns and positions.
 ///
-/// A log has at most 2^30 bytes. A fault tells the first line that breaks a rule.
+/// A log has at most `diagnose::TEXT_LIMIT` bytes. A fault tells the first line that breaks a rule.
 pub fn read_partial_of(
     alloc: Global,
     patterns: u32,
@@ -42,7 +42,7 @@ fn read_lines(
     positions: u32,
     bytes: &[u8],
 ) -> Result<Partial, LogFault>
-    requires { length bytes.now ≤ 2 ^ 30 }
+    requires { length bytes.now ≤ text_limit }
     ensures read { IfOk result (IsPartialLog patterns positions bytes.now) }
     ensures refused { IfErr result (TellsLogFault (PartialRefused patterns positions bytes.now)) }
 {

@@ -10,7 +10,7 @@ use Rattle.pair_miter.specs.Resolution.{chain_end, SameLiterals, AreAlike}
 use Rattle.evidence_rules.specs.declared.refusal.EvidenceKind.{EvidenceKind}
 use Rattle.evidence_rules.specs.declared.refusal.EvidenceKind.TheVariants.{Covered, Refuted, Spent}
 use Rattle.evidence_rules.specs.declared.refusal.RefusalKind.{RefusalKind}
-use Rattle.evidence_rules.specs.declared.refusal.RefusalKind.TheVariants.{NoSuchClause, NoPivot, WrongCount}
+use Rattle.evidence_rules.specs.declared.refusal.RefusalKind.TheVariants.{WrongCount}
 use Rattle.evidence_rules.specs.declared.refusal.Refusal.{Refusal}
 use Rattle.evidence_rules.specs.LogRefusal.{AreRightBefore, ChainStops, EndsAs, HasRightLength, IsRightEnd, IsRuleFor, LogRefused, at_step, at_end, end_refusal, is_last, no_clause, no_pivot, no_start}
 use Rattle.refute_check.specs.PoolEnds.{HasEndsOf, chains_before, right_chains}

@@ -1,5 +1,5 @@
 -- A file is refused in one way, and only where it isn't valid.
-use Rattle.std.proofs.Common.{◌≡◌, ◌∙◌, ℕ, ◌+◌, ◌<◌, ◌≤◌, ◌^◌, cond, List, [], ◌∷◌, ◌++◌, length, length-append, take, refl, sym, ap, ap₂, subst, arith}
+use Rattle.std.proofs.Common.{◌≡◌, ◌∙◌, ℕ, ◌+◌, ◌<◌, ◌≤◌, cond, List, [], ◌∷◌, ◌++◌, length, length-append, take, refl, sym, ap, ap₂, subst, arith}
 use Rattle.std.specs.Prelude.{All}
 use Rattle.std.proofs.lemmas.List.{append_assoc, append-nil, get_or-append-add}
 use Rattle.std.proofs.lemmas.List.Concat.{flat_map-append}
@@ -7,6 +7,7 @@ use Rattle.std.proofs.lemmas.List.Elements.{All-head, All-tail, All-from_get_or}
 use Rattle.std.proofs.lemmas.List.Sums.{sum_by-append}
 use Rattle.std.proofs.Math.Seq.{take-append-add}
 use Rattle.net_model.specs.Circuit.{Circuit, IsCircuit}
+use Rattle.result_records.specs.declared.limits.TheConstants.{RESULT_LIMIT}
 use Rattle.result_records.specs.declared.record.Record.{Record}
 use Rattle.result_records.specs.declared.record.Record.TheVariants.{End}
 use Rattle.result_file.specs.declared.fault.ResultKind.{ResultKind}
@@ -81,7 +82,7 @@ module _ (c : Circuit) (is : IsCircuit c) where
   never_more {ls} {ms} {x} reason r more rest refused right e line = let next = next_right ls r more right e in rest_wrong c is ls x reason r refused (record { spelled = next.spelled; more = rest; text_is = line }) next.right
 
   -- a line that goes beyond the limit is on no lines within it
-  never_within : (ls ms : List Record) (x : Text) (r : Record) (more : List Record) (rest : Text) → 2 ^ 40 < length (text_of ls) + line_length x → AreRightLines c ms → length (text_of ms) ≤ 2 ^ 40
+  never_within : (ls ms : List Record) (x : Text) (r : Record) (more : List Record) (rest : Text) → RESULT_LIMIT < length (text_of ls) + line_length x → AreRightLines c ms → length (text_of ms) ≤ RESULT_LIMIT
       → ms ≡ ls ++ r ∷ more → x ≡ spelling r ++ 10 ∷ rest → ⊥
   never_within ls ms x r more rest beyond right within e line =
       let next = next_right ls r more right e in
@@ -97,15 +98,15 @@ module _ (c : Circuit) (is : IsCircuit c) where
   lines_once ls ms x y reason other right right' refused refused' (shorter r more es line) = absurd (never_more reason r more (text_of more ++ y) refused right' es line)
   lines_once ls ms x y reason other right right' refused refused' (longer r more es line) = absurd (never_more other r more (text_of more ++ x) refused' right es line)
 
-  never_both : (ls ms : List Record) (x y : Text) (reason : ResultKind) → AreRightLines c ls → AreRightLines c ms → RestRefused c ls x reason → length (text_of ls) + line_length x ≤ 2 ^ 40
-      → 2 ^ 40 < length (text_of ms) + line_length y → Compared ls ms x y → ⊥
+  never_both : (ls ms : List Record) (x y : Text) (reason : ResultKind) → AreRightLines c ls → AreRightLines c ms → RestRefused c ls x reason → length (text_of ls) + line_length x ≤ RESULT_LIMIT
+      → RESULT_LIMIT < length (text_of ms) + line_length y → Compared ls ms x y → ⊥
   never_both ls ms x y reason right right' refused within beyond (same es rest) =
       omega (arith, within, beyond, ap (λ (rs : List Record). length (text_of rs)) es, ap line_length rest)
   never_both ls ms x y reason right right' refused within beyond (shorter r more es line) = never_more reason r more (text_of more ++ y) refused right' es line
   never_both ls ms x y reason right right' refused within beyond (longer r more es line) = never_within ms ls y r more (text_of more ++ x) beyond right (omega (arith, within)) es line
 
-  one_length : (ls ms : List Record) (x y : Text) → AreRightLines c ls → AreRightLines c ms → length (text_of ls) ≤ 2 ^ 40 → length (text_of ms) ≤ 2 ^ 40
-      → 2 ^ 40 < length (text_of ls) + line_length x → 2 ^ 40 < length (text_of ms) + line_length y → Compared ls ms x y → ls ≡ ms
+  one_length : (ls ms : List Record) (x y : Text) → AreRightLines c ls → AreRightLines c ms → length (text_of ls) ≤ RESULT_LIMIT → length (text_of ms) ≤ RESULT_LIMIT
+      → RESULT_LIMIT < length (text_of ls) + line_length x → RESULT_LIMIT < length (text_of ms) + line_length y → Compared ls ms x y → ls ≡ ms
   one_length ls ms x y right right' within within' beyond beyond' (same es rest) = es
   one_length ls ms x y right right' within within' beyond beyond' (shorter r more es line) = absurd (never_within ls ms x r more (text_of more ++ y) beyond right' within' es line)
   one_length ls ms x y right right' within within' beyond beyond' (longer r more es line) = absurd (never_within ms ls y r more (text_of more ++ x) beyond' right within es line)
@@ -146,7 +147,7 @@ module _ (c : Circuit) (is : IsCircuit c) where
   line_not_valid ls records x reason right valid refused (shorter r more es line) = never_more reason r more (text_of more ++ []) refused valid.lines es line
   line_not_valid ls records x reason right valid refused (longer r more es line) = empty_line (spelling r) (text_of more ++ x) line
 
-  length_not_valid : (ls records : List Record) (x : Text) → AreRightLines c ls → IsValid c records → length (text_of ls) ≤ 2 ^ 40 → length (text_of records) ≤ 2 ^ 40 → 2 ^ 40 < length (text_of ls) + line_length x
+  length_not_valid : (ls records : List Record) (x : Text) → AreRightLines c ls → IsValid c records → length (text_of ls) ≤ RESULT_LIMIT → length (text_of records) ≤ RESULT_LIMIT → RESULT_LIMIT < length (text_of ls) + line_length x
       → Compared ls records x [] → ⊥
   length_not_valid ls records x right valid within short beyond (same es rest) = omega (arith, within, beyond, ap line_length rest)
   length_not_valid ls records x right valid within short beyond (shorter r more es line) = never_within ls records x r more (text_of more ++ []) beyond valid.lines short es line

@@ -1,8 +1,9 @@
 -- What is accepted.
-use Rattle.std.specs.Prelude.{◌≡◌, ◌≤◌, ◌^◌, List, length}
+use Rattle.std.specs.Prelude.{◌≡◌, ◌≤◌, List, length}
 use Rattle.net_model.specs.Circuit.{Circuit}
 use Rattle.net_model.specs.PatternRows.{IsTableOf}
 use Rattle.result_file.specs.declared.checked.Checked.{Checked}
+use Rattle.result_records.specs.declared.limits.TheConstants.{RESULT_LIMIT}
 use Rattle.result_records.specs.declared.record.Record.{Record}
 use Rattle.text_fields.specs.Fields.{Text}
 use Rattle.result_records.specs.Spelling.{text_of}
@@ -15,7 +16,7 @@ use Rattle.result_file.specs.Valid.{IsValid}
 -- patterns, and the classes of these.
 pub record IsAccepted (c : Circuit) (records : List Record) (checked : Checked) : Type 0 where
   pub valid : IsValid c records
-  pub short : length (text_of records) ≤ 2 ^ 40
+  pub short : length (text_of records) ≤ RESULT_LIMIT
   pub summary : checked.summary ≡ summary_of records
   pub budgets : checked.budgets ≡ budgets_in records
   pub patterns : checked.patterns ≡ patterns_in records

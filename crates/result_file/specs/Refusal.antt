@@ -1,5 +1,5 @@
 -- Which line of a file that isn't valid is refused, and by which rule.
-use Rattle.std.specs.Prelude.{◌≡◌, ◌≢◌, ℕ, ◌+◌, ◌<◌, ◌≤◌, ◌^◌, min, not, ◌==◌, take_while, List, [], ◌∷◌, ◌++◌, length}
+use Rattle.std.specs.Prelude.{◌≡◌, ◌≢◌, ℕ, ◌+◌, ◌<◌, ◌≤◌, min, not, ◌==◌, take_while, List, [], ◌∷◌, ◌++◌, length}
 use Rattle.net_model.specs.declared.fault.Fault.{Fault}
 use Rattle.net_model.specs.Circuit.{Circuit}
 use Rattle.net_model.specs.ClassTable.{ClassTable}
@@ -13,6 +13,7 @@ use Rattle.evidence_rules.specs.declared.refusal.EvidenceKind.TheVariants as kin
 use Rattle.evidence_rules.specs.TreeRefusal.{TreeRefused, IsRightTree}
 use Rattle.evidence_rules.specs.LogRefusal.{LogRefused}
 use Rattle.evidence_rules.specs.declared.refusal.Refusal.{Refusal}
+use Rattle.result_records.specs.declared.limits.TheConstants.{RESULT_LIMIT}
 use Rattle.result_records.specs.declared.record.Proof.{Proof}
 use Rattle.result_records.specs.declared.record.Proof.TheVariants as proof
 use Rattle.result_records.specs.declared.record.Evidence.{Evidence}
@@ -110,7 +111,7 @@ pub data RestRefused (c : Circuit) (before : List Record) (rest : Text) (reason 
   misplaced : (r : Record) → BeginsWithRecord rest r → IsMisplaced c before r → reason ≡ why.Order → RestRefused c before rest reason
   wrong : (r : Record) → BeginsWithRecord rest r → IsWrongThere c before r reason → RestRefused c before rest reason
 
--- ---- files: 2^40 bytes are the most
+-- ---- files
 
 -- The file begins with these right lines, and the rest stands behind them.
 pub record BeginsWithRightLines (c : Circuit) (file : Text) (before : List Record) (rest : Text) : Type 0 where
@@ -119,7 +120,7 @@ pub record BeginsWithRightLines (c : Circuit) (file : Text) (before : List Recor
 
 -- The file is refused so: at its first line that isn't right, or at the line that goes beyond the limit.
 pub data FileRefused (c : Circuit) (file : Text) (fault : ResultFault) : Type 0 where
-  at_line : (before : List Record) (rest : Text) (reason : ResultKind) → BeginsWithRightLines c file before rest → length (text_of before) + line_length rest ≤ 2 ^ 40 → RestRefused c before rest reason
+  at_line : (before : List Record) (rest : Text) (reason : ResultKind) → BeginsWithRightLines c file before rest → length (text_of before) + line_length rest ≤ RESULT_LIMIT → RestRefused c before rest reason
       → fault ≡ record { kind = reason; line = length before + 1 } → FileRefused c file fault
-  too_long : (before : List Record) (rest : Text) → BeginsWithRightLines c file before rest → length (text_of before) ≤ 2 ^ 40 → 2 ^ 40 < length (text_of before) + line_length rest
+  too_long : (before : List Record) (rest : Text) → BeginsWithRightLines c file before rest → length (text_of before) ≤ RESULT_LIMIT → RESULT_LIMIT < length (text_of before) + line_length rest
       → fault ≡ record { kind = why.TooLong; line = length before + 1 } → FileRefused c file fault

@@ -1,5 +1,5 @@
 -- What a reader answers, from what the readers of its parts answer.
-use Rattle.std.proofs.Common.{◌≡◌, ◌≢◌, ◌∙◌, ℕ, ◌-◌, ◌<◌, ◌≤◌, Bool, true, false, not, List, [], ◌∷◌, ◌++◌, map, length, take, drop, get_or, Option, Some, None, Result, Ok, Err, refl, sym, ap, arith, if◌then◌else◌}
+use Rattle.std.proofs.Common.{◌≡◌, ◌≢◌, ◌∙◌, ℕ, ◌-◌, ◌<◌, ◌≤◌, Bool, true, false, List, [], ◌∷◌, ◌++◌, map, length, take, drop, get_or, Option, Some, None, Result, Ok, Err, refl, sym, ap, arith, if◌then◌else◌}
 use Rattle.std.specs.Prelude.{All, ◌==◌, flat_map, codes, decimal, IfOk, IsErrOf, IsSome, MatchOption}
 use Rattle.std.specs.Option.{option_to_list}
 use Rattle.std.specs.List.{slice_split}
@@ -31,14 +31,6 @@ pub unread : (fresh : Bool) (texts all : List Text) (fault : RecordFault) → Re
 unread fresh texts all fault reads turn =
     turned (λ (both : List Token × List ChainView). HasTreeSpelling both.0 × All (IsChainOf fresh) both.1) (λ both. evidence_fields both.0 both.1) texts HasProofSpelling proof_fields all fault reads
     (λ never. turn (λ tree log spelled each. never (tree, log) (spelled, each)))
-
-pub not_true : (b : Bool) → true ≡ not b → false ≡ b
-not_true true e = absurd (cc)
-not_true false e = refl
-
-pub not_false : (b : Bool) → false ≡ not b → true ≡ b
-not_false true e = refl
-not_false false e = absurd (cc)
 
 -- three items
 pub three_texts : {B : Type 0} (now : B → Text) (xs : List B) (d : B) → 3 ≤ length xs → length xs < 4 → map now xs ≡ now (get_or xs 0 d) ∷ now (get_or xs 1 d) ∷ now (get_or xs 2 d) ∷ []

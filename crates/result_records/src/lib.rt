@@ -14,7 +14,7 @@ mod write_log;
 
 pub use fault::RecordFault;
 pub use laws::{lines_are_what_was_fed, record_is_spelled_once};
-pub use limits::{BLOCKS_LIMIT, CONFLICTS_LIMIT, CUBES_LIMIT};
+pub use limits::{BLOCKS_LIMIT, CONFLICTS_LIMIT, CUBES_LIMIT, RESULT_LIMIT};
 pub use lines::Lines;
 pub use read::read_record;
 pub use record::{Budgets, Evidence, Mark, Proof, Record};

@@ -1,4 +1,7 @@
-//! The limits of budgets.
+//! The limits of a result and of its budgets.
+
+/// The most bytes of a result.
+pub const RESULT_LIMIT: u64 = 1_099_511_627_776;
 
 /// The most blocks of the stream.
 pub const BLOCKS_LIMIT: u32 = 65_536;

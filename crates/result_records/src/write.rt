@@ -13,6 +13,7 @@ use net_model::Bits;
 use pair_miter::Log;
 use pair_sets::{Token, Tree};
 use std::alloc::{AllocError, Global};
+use text_fields::push_bits;
 
 /// The line of a record, with its LF.
 pub fn write_record(alloc: Global, r: &Record) -> Result<Vec<u8>, AllocError>
@@ -94,22 +95,8 @@ fn push_digits(text: &mut String, bits: &Bits) -> Result<(), AllocError>
     ensures ok { OnOk result (string_bytes text.new ≡ string_bytes text.old ++ bits_text bits.now ++ 10 ∷ []) }
     ensures err { OnErr result ((some : List ℕ) × (string_bytes text.new ≡ string_bytes text.old ++ some)) }
 {
-    push_bits(text, bits)?;
+    push_bits(text, bits.len(), |at| bits.get(at))?;
     text.push('\n')
-}
-
-// Appends the digits of bits, or a dash where there are none.
-fn push_bits(text: &mut String, bits: &Bits) -> Result<(), AllocError>
-    ensures ok { OnOk result (string_bytes text.new ≡ string_bytes text.old ++ bits_text bits.now) }
-    ensures err { OnErr result ((some : List ℕ) × (string_bytes text.new ≡ string_bytes text.old ++ some)) }
-{
-    if bits.len() == 0 {
-        text.push('-')?;
-    }
-    for at in 0..bits.len() {
-        text.push(if bits.get(at) { '1' } else { '0' })?;
-    }
-    Ok(())
 }
 
 #[tactic(auto, unfolding(crate::specs::Spelling::spelling))]

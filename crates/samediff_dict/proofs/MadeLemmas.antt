@@ -1,11 +1,10 @@
 -- The answers of a circuit's classes to patterns, and the dictionary of their entries.
 use Rattle.std.proofs.Common.{◌≡◌, ◌∙◌, ℕ, ◌+◌, ◌-◌, ◌<◌, ◌≤◌, Bool, not, List, [], length, get_or, map, drop, refl, sym, ap, subst, arith, inl, inr}
-use Rattle.std.specs.Prelude.{slice_range, All}
+use Rattle.std.specs.Prelude.{slice_range}
 use Rattle.std.proofs.lemmas.Bool.{cases_lt}
 use Rattle.std.specs.List.{range_with_len}
 use Rattle.std.proofs.lemmas.List.{ext_get_or, get_or-map, length-map, get_or-take, get_or-drop, length-take-le, length-drop}
 use Rattle.std.proofs.lemmas.List.FromFn.{get_or-map-range_with_len, length-map-range_with_len, fill_by_all}
-use Rattle.net_model.specs.declared.fault.Fault.{Fault}
 use Rattle.net_model.specs.Circuit.{Circuit, IsCircuit}
 use Rattle.net_model.specs.FaultList.{fault_count}
 use Rattle.net_model.specs.PatternRows.{IsTableOf}
@@ -34,11 +33,10 @@ pub length-range : {X : Type 0} (xs : List X) (first end : ℕ) → end ≤ leng
 length-range xs first end h = length-take-le (end - first) (drop first xs) (omega (arith, length-drop first xs, h))
 
 -- some of the patterns can be answered as all can
-pub answerable_range : {c : Circuit} {faults : List Fault} {patterns : List (List Bool)} → AreAnswerable c faults patterns → (first end : ℕ) → end ≤ length patterns → AreAnswerable c faults (slice_range patterns first end)
-answerable_range {c} {faults} {patterns} are first end le =
+pub answerable_range : {c : Circuit} {patterns : List (List Bool)} → AreAnswerable c patterns → (first end : ℕ) → end ≤ length patterns → AreAnswerable c (slice_range patterns first end)
+answerable_range {c} {patterns} are first end le =
     let long = length-range patterns first end le in
     record {
-      faults_are = are.faults_are;
       widths = λ k d h.
           let below : k < end - first = omega (arith, h, long) in
           ap length (get_or-take (end - first) (drop first patterns) k d below ∙ get_or-drop first patterns k d) ∙ are.widths (first + k) d (omega (arith, below, le));
@@ -84,17 +82,11 @@ as_classes t rows table leads first many same = record {
       (λ class hc. get_or-map (answer_to table pattern) leads class 0 [] (omega (arith, hc, many)) ∙ same pattern class h hc);
 }
 
--- the lowest numbers of the classes are numbers
-pub leads_known : (t : ClassTable) → IsWhole t → (numbers : ℕ) → length t.class_of ≡ numbers → All (λ lead. lead < numbers) (map (representative t) (range_with_len 0 (class_count t)))
-leads_known t whole numbers e class d h =
-    let low : class < class_count t = omega (arith, h, length-map-range_with_len (representative t) 0 (class_count t)) in
-    omega (arith, (representative-member t whole class low).0, e, get_or-map-range_with_len (representative t) 0 (class_count t) class class d low (omega arith))
-
--- each in its place
+-- the lowest number of each class, in its place
 pub lead_at : (t : ClassTable) (leads : List ℕ) → leads ≡ map (representative t) (range_with_len 0 (class_count t)) → (class : ℕ) → class < class_count t → get_or leads class 0 ≡ representative t class
 lead_at t leads are class h = ap (λ (xs : List ℕ). get_or xs class 0) are ∙ get_or-map-range_with_len (representative t) 0 (class_count t) class class 0 h (omega arith)
 
--- and answer as their classes do
+-- these answer as their classes do
 pub leads_answer : (t : ClassTable) (table : Answers) (leads : List ℕ) → leads ≡ map (representative t) (range_with_len 0 (class_count t)) → AnswerAsClasses t table.rows table leads 0
 leads_answer t table leads are =
     as_classes t table.rows table leads 0 (ap length are ∙ length-map-range_with_len (representative t) 0 (class_count t)) (λ pattern class hp hc.

@@ -8,7 +8,7 @@ use Rattle.samediff_dict.specs.Numbered.{HaveCandidates, AreChosen}
 
 -- The table has what each of these numbers answers to the patterns in a range.
 pub record AreAnswersOfNumbers (s : Setting) (numbers : List ℕ) (first end : ℕ) (table : Answers) : Type 0 where
-  pub sizes : HasSizes table (end - first) (length numbers) (length s.circuit.now.positions)
+  pub sizes : HasSizes table (end - first) (length numbers) (length s.subject.now.positions)
   pub each : (t : Answers) → AreAnswersAt s t → (pattern place : ℕ) → first + pattern < end → place < length numbers → answer_to table pattern place ≡ answer_to t (first + pattern) (slice_index numbers place)
 
 -- These are the answers, and the candidates of each pattern by them, with the number of one that is chosen for each.

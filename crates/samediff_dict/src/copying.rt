@@ -25,7 +25,6 @@ pub fn choose(
     ensures chosen { IfOk result (λ rows. rows ≡ chosen_baselines classes.now table.now.rows) }
     ensures shape { IfOk result (AreRows (length table.now.rows) table.now.positions) }
 {
-    let _count = classes.count();
     let leads = representatives(alloc, classes)?;
     let mut patterns = Vec::with_capacity(alloc, table.patterns() as usize)?;
     add_candidates(alloc, table, leads.as_slice(), &mut patterns)?;

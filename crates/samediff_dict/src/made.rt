@@ -21,7 +21,7 @@ pub fn same_diff_at(alloc: Global, setting: &Setting) -> Result<Dict, AllocError
     requires { IsSetting setting.now }
     ensures { IfOk result (λ dict. (t : Answers) → AreAnswersAt setting.now t → IsSameDiff t (chosen_baselines setting.now.classes.now t.rows) dict) }
 {
-    let _sources = setting.circuit.sources();
+    setting.subject.circuit().stands();
     let found = candidates(alloc, setting)?;
     dict_among(alloc, setting, found.as_slice())
 }
@@ -55,8 +55,8 @@ fn dict_with(
     let classes = setting.classes;
     let baselines = baselines(alloc, setting, patterns, chosen)?;
     let entries = class_entries(alloc, patterns, chosen, classes.count())?;
-    let numbers = setting.faults.len();
-    let positions = setting.circuit.positions().len() as u32;
+    let numbers = setting.subject.numbers();
+    let positions = setting.subject.circuit().positions().len() as u32;
     let kind = DictKind::SameDiff;
     dict_of_classes(
         alloc, kind, classes, numbers, positions, baselines, &entries,

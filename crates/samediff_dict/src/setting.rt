@@ -37,13 +37,14 @@ fn candidates_of(
 ) -> Result<Vec<Candidates>, AllocError>
     requires setting { IsSetting setting.now }
     requires leads { leads.now ≡ map (representative setting.now.classes.now) (range_with_len 0 (class_count setting.now.classes.now)) }
-    requires within { All (λ number. number < fault_count setting.now.circuit.now) leads.now }
+    requires within { All (λ number. number < fault_count setting.now.subject.now) leads.now }
     requires few { length leads.now < 2 ^ 32 }
     ensures { IfOk result (λ patterns. (t : Answers) → AreAnswersAt setting.now t → HaveCandidates setting.now.classes.now t.rows patterns.items) }
 {
     let vectors = setting.patterns.as_slice();
-    let mut numbers = AnswerNumbers::new(alloc, setting.circuit, setting.faults, leads)?;
-    let mut block = Block::new(alloc, setting.circuit.sources())?;
+    let circuit = setting.subject.circuit();
+    let mut numbers = AnswerNumbers::new(alloc, circuit, setting.subject.listed(), leads)?;
+    let mut block = Block::new(alloc, circuit.sources())?;
     let mut patterns = Vec::with_capacity(alloc, vectors.len())?;
     let mut first = 0;
     while first < vectors.len() {
@@ -74,7 +75,7 @@ pub(crate) fn baselines(
     ensures rows { IfOk result (λ rows. rows ≡ baselines_at setting.now.classes.now t.rows chosen.now) }
     ensures shape { IfOk result (AreRows (length t.rows) t.positions) }
 {
-    let positions = setting.circuit.positions().len();
+    let positions = setting.subject.circuit().positions().len();
     let mut rows = AnswerRows::zeros(alloc, chosen.len(), positions)?;
     let mut first = 0;
     while first < chosen.len() {
@@ -151,15 +152,15 @@ fn number_answers(
     end: usize,
 ) -> Result<AnswerTable, AllocError>
     requires setting { IsSetting setting.now }
-    requires numbers { All (λ number. number < fault_count setting.now.circuit.now) numbers.now }
+    requires numbers { All (λ number. number < fault_count setting.now.subject.now) numbers.now }
     requires count { length numbers.now < 2 ^ 32 }
     requires first { first ≤ end }
     requires end { end ≤ length setting.now.patterns.now }
     ensures { IfOk result (AreAnswersOfNumbers setting.now numbers.now first end) }
 {
-    let _sources = setting.circuit.sources();
+    setting.subject.circuit().stands();
     let patterns = setting.patterns.as_slice();
     let some = &patterns[first..end];
-    let table = number_answers_at(alloc, setting.circuit, setting.faults, some, numbers)?;
+    let table = number_answers_at(alloc, setting.subject, some, numbers)?;
     Ok(table)
 }

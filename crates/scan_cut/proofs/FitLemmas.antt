@@ -8,6 +8,7 @@ use Rattle.net_model.specs.Gate.{takes_pins}
 use Rattle.net_model.specs.declared.gate.Gate.{Gate}
 use Rattle.net_model.specs.Circuit.{FitsTogether, line_count}
 use Rattle.net_model.proofs.Elements.{All-left, All-right}
+use Rattle.bench_reader.specs.declared.reading.TheConstants.{NETLIST_LIMIT}
 use Rattle.bench_reader.specs.declared.statement.Word.{Word}
 use Rattle.bench_reader.specs.declared.statement.Statement.{Statement}
 use Rattle.bench_reader.specs.declared.statement.Statement.TheVariants.{Input, Output, Drive, Flop}
@@ -99,7 +100,7 @@ module _ (n : Netlist) (o : IsDriven n) where
   pub used_lines : All (Contains (line_names n.statements)) (flat_map used_numbers n.statements)
   used_lines = All-weaker (Contains (driven_numbers n.statements)) (Contains (line_names n.statements)) (line_from_driven n.statements) (flat_map used_numbers n.statements) o.used
 
-  pub few_parts : length (line_names n.statements) + length (position_names n.statements) + sum_by (λ gate. length gate.pins) (filter_map (gate_of n.statements) n.statements) ≤ 16777216
+  pub few_parts : length (line_names n.statements) + length (position_names n.statements) + sum_by (λ gate. length gate.pins) (filter_map (gate_of n.statements) n.statements) ≤ NETLIST_LIMIT
   few_parts =
       omega (
         arith,

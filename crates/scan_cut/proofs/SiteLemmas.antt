@@ -4,9 +4,10 @@ use Rattle.std.specs.Prelude.{flat_map, filter_map, sum_by}
 use Rattle.std.proofs.lemmas.List.{length-map}
 use Rattle.net_model.specs.Circuit.{line_count, all_lines}
 use Rattle.net_model.specs.FaultList.{sites_of_line, faults, fault_count}
+use Rattle.text_fields.specs.Fields.{Text}
 use Rattle.fault_list.proofs.Stuck.{length-stuck}
 use Rattle.fault_list.proofs.Bound.{sites_within}
-use Rattle.bench_reader.specs.Tokens.{Text}
+use Rattle.bench_reader.specs.declared.reading.TheConstants.{NETLIST_LIMIT}
 use Rattle.bench_reader.specs.Netlist.{Netlist}
 use Rattle.bench_reader.specs.Reading.{IsNetlist}
 use Rattle.bench_reader.specs.Parsed.{IsParsed}
@@ -15,7 +16,7 @@ use Rattle.scan_cut.specs.Cut.{input_of, output_of, flop_output, flop_data, posi
 use Rattle.scan_cut.proofs.FitLemmas.{parts_size}
 
 -- lines, positions and pins are no more than the text has bytes
-parts_within : (text : Text) (n : Netlist) → IsNetlist text n → line_count (cut_circuit n) + length (cut_circuit n).positions + sum_by (λ gate. length gate.pins) (cut_circuit n).gates ≤ 16777216
+parts_within : (text : Text) (n : Netlist) → IsNetlist text n → line_count (cut_circuit n) + length (cut_circuit n).positions + sum_by (λ gate. length gate.pins) (cut_circuit n).gates ≤ NETLIST_LIMIT
 unfolding cut_circuit
 parts_within text n is =
     let parsed : IsParsed text n = record { phrases = is.phrases; is_text = is.is_text; netlist_is = is.netlist_is } in

@@ -2,9 +2,9 @@
 use Rattle.std.specs.Prelude.{ℕ, ◌<◌, ◌^◌, List, [], ◌∷◌, ◌++◌, All, Contains}
 use Rattle.net_model.specs.Circuit.{Reaches}
 use Rattle.net_model.specs.FaultList.{fault_count}
+use Rattle.text_fields.specs.Fields.{Text}
 use Rattle.bench_reader.specs.declared.statement.Statement.{Statement}
 use Rattle.bench_reader.specs.declared.statement.Statement.TheVariants.{Input, Output, Drive, Flop}
-use Rattle.bench_reader.specs.Tokens.{Text}
 use Rattle.bench_reader.specs.Netlist.{Netlist}
 use Rattle.bench_reader.specs.Reading.{IsNetlist}
 use Rattle.scan_cut.specs.Cut.{source_names, cut_circuit}

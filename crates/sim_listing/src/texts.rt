@@ -6,6 +6,7 @@ ghost use Rattle.net_model.specs.BitText.{bits_text};
 
 use net_model::Answer;
 use std::alloc::{AllocError, Global};
+use text_fields::push_bits;
 
 /// Room for so many texts.
 pub(crate) fn no_texts(alloc: Global, count: u32) -> Result<Vec<Option<String>>, AllocError>
@@ -24,12 +25,7 @@ pub(crate) fn answer_text(alloc: Global, answer: &Answer) -> Result<String, Allo
     ensures { IfOk result (λ text. string_bytes text ≡ bits_text answer.now) }
 {
     let mut text = String::with_capacity(alloc, answer.len())?;
-    if answer.len() == 0 {
-        text.push('-')?;
-    }
-    for position in 0..answer.len() {
-        text.push(if answer.get(position) { '1' } else { '0' })?;
-    }
+    push_bits(&mut text, answer.len(), |position| answer.get(position))?;
     Ok(text)
 }
 

@@ -58,7 +58,7 @@ changed_is false false false h = refl
 
 module _ (s : Setting) (lines : List Line) (table : Answers) (logged : Logged) (is : IsLogged s lines logged) (are : AreAnswersAt s table) where
   abbrev c : Circuit
-  c = s.circuit.now
+  c = s.subject.now
 
   pub many : length logged.patterns.items ≡ length lines
   many = ap length is.patterns_are ∙ length-map lines (λ (l : Line). get_or s.patterns.now l.0 [])
@@ -174,13 +174,13 @@ scored_begun s logged numbers scores begun =
     }
 
 module _ (s : Setting) (logged : Logged) (numbers : List ℕ) (vectors : List (List Bool)) (first end : ℕ) (block : vectors ≡ slice_range logged.patterns.items first end) (order : first ≤ end) (within : end ≤ length logged.patterns.items)
-    (known : All (λ number. number < fault_count s.circuit.now) numbers) where
+    (known : All (λ number. number < fault_count s.subject.now) numbers) where
   last_is : end ≡ first + length vectors
-  last_is = block_end s.circuit.now logged.patterns.items vectors first end block order within
+  last_is = block_end s.subject.now logged.patterns.items vectors first end block order within
 
-  pub scored_more : (old new : List Suspect) → length s.circuit.now.positions < 2 ^ 32 → AreScored s logged numbers first old → AreAdded s.circuit.now vectors logged.columns first old new → AreScored s logged numbers end new
+  pub scored_more : (old new : List Suspect) → length s.subject.now.positions < 2 ^ 32 → AreScored s logged numbers first old → AreAdded s.subject.now vectors logged.columns first old new → AreScored s logged numbers end new
   scored_more old new wide so_far added =
-      let one : (place : ℕ) (none : Suspect) → place < length numbers → IsAdded s.circuit.now vectors logged.columns first (get_or old place none) (get_or new place none) = λ place none h. added.each place none (omega (arith, h, so_far.count)) in
+      let one : (place : ℕ) (none : Suspect) → place < length numbers → IsAdded s.subject.now vectors logged.columns first (get_or old place none) (get_or new place none) = λ place none h. added.each place none (omega (arith, h, so_far.count)) in
       record {
         count = added.count ∙ so_far.count;
         numbered = λ place none h. (one place none h).more.number ∙ so_far.numbered place none h;
@@ -191,7 +191,7 @@ module _ (s : Setting) (logged : Logged) (numbers : List ℕ) (vectors : List (L
         are = λ lines table is are place none h.
             let o = one place none h in
             let number = get_or numbers place 0 in
-            let differ = subst (λ (n : ℕ). AreDifferences s.circuit.now (fault_numbered s.circuit.now n) vectors o.sim.differences) (so_far.numbered place none h) o.differ in
+            let differ = subst (λ (n : ℕ). AreDifferences s.subject.now (fault_numbered s.subject.now n) vectors o.sim.differences) (so_far.numbered place none h) o.differ in
             let inside : first + length vectors ≤ length lines = omega (arith, last_is, within, many s lines table logged is are) in
             subst (λ (n : ℕ). get_or new place none ≡ suspect_of table (take n lines) number) (sym last_is)
             (suspect_more table lines number first (length vectors) inside (lane_score logged.columns o.sim first)
@@ -217,8 +217,8 @@ pub record AreExplained (s : Setting) (logged : Logged) (numbers : List ℕ) (fi
       → row_bit rows place k ≡ (is_failing table (logged_line lines k) && explains table (get_or numbers place 0) (logged_line lines k))
 
 module _ (s : Setting) (logged : Logged) (numbers : List ℕ) (vectors : List (List Bool)) (first end : ℕ) (block : vectors ≡ slice_range logged.patterns.items first end) (order : first ≤ end) (within : end ≤ length logged.patterns.items)
-    (known : All (λ number. number < fault_count s.circuit.now) numbers) where
-  pub explained_more : (old new : List (List Bool)) → AreExplained s logged numbers first old → AreNoted s.circuit.now vectors logged.columns first old new numbers (length numbers) → AreExplained s logged numbers end new
+    (known : All (λ number. number < fault_count s.subject.now) numbers) where
+  pub explained_more : (old new : List (List Bool)) → AreExplained s logged numbers first old → AreNoted s.subject.now vectors logged.columns first old new numbers (length numbers) → AreExplained s logged numbers end new
   explained_more old new so_far noted = record {
     shape = rows_later noted.shape so_far.shape;
     are = λ lines table is are place k h low. elim (cases_lt k first) [
@@ -226,7 +226,7 @@ module _ (s : Setting) (logged : Logged) (numbers : List ℕ) (vectors : List (L
       | inr past ↦
           let lane = k - first in
           let at : first + lane ≡ k = omega (arith, past) in
-          let live : lane < length vectors = omega (arith, low, past, block_end s.circuit.now logged.patterns.items vectors first end block order within) in
+          let live : lane < length vectors = omega (arith, low, past, block_end s.subject.now logged.patterns.items vectors first end block order within) in
           let o = noted.here place lane h live in
           let number = get_or numbers place 0 in
           let right = lane_right s lines table logged is are o.sim vectors first end lane number o.circuit block order within (known place 0 h) o.differ live in

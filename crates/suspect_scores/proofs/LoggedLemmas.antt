@@ -45,10 +45,9 @@ pub lines_inside : (patterns positions : ℕ) (lines : List Line) → ArePartial
 lines_inside patterns positions lines are = λ k d h.
     subst (λ n. n < patterns) (get_or-map (λ (l : Line). l.0) lines k d 0 h) (are.order.below k 0 (omega (arith, h, length-map lines (λ (l : Line). l.0))))
 
-pub vectors_answerable : (c : Circuit) (s : Setting) (lines : List Line) (vectors : List (List Bool)) → AreAnswerable c s.faults.now s.patterns.now → All (λ line. line.0 < length s.patterns.now) lines → length lines ≤ length s.patterns.now
-    → vectors ≡ logged_vectors s.patterns.now lines → AreAnswerable c s.faults.now vectors
-vectors_answerable c s lines vectors is inside few are = subst (AreAnswerable c s.faults.now) (sym are) (record {
-  faults_are = is.faults_are;
+pub vectors_answerable : (c : Circuit) (s : Setting) (lines : List Line) (vectors : List (List Bool)) → AreAnswerable c s.patterns.now → All (λ line. line.0 < length s.patterns.now) lines → length lines ≤ length s.patterns.now
+    → vectors ≡ logged_vectors s.patterns.now lines → AreAnswerable c vectors
+vectors_answerable c s lines vectors is inside few are = subst (AreAnswerable c) (sym are) (record {
   widths = λ k d h.
       let at : Line → List Bool = λ l. get_or s.patterns.now l.0 [] in
       let below : k < length lines = omega (arith, h, length-map lines at) in

@@ -49,14 +49,14 @@ pub record AreLogged (table : Answers) (lines : List Line) (numbers : List ℕ) 
 
 -- The patterns can be answered, and there are marks for each, by line and by position.
 pub record IsMarked (s : Setting) (logged : Logged) : Type 0 where
-  pub answerable : AreAnswerable s.circuit.now s.faults.now logged.patterns.items
-  pub marks : AreMarkRows (length logged.patterns.items) (length s.circuit.now.positions) logged.marks
-  pub columns : AreColumns (length logged.patterns.items) (length s.circuit.now.positions) logged.marks logged.columns
+  pub answerable : AreAnswerable s.subject.now logged.patterns.items
+  pub marks : AreMarkRows (length logged.patterns.items) (length s.subject.now.positions) logged.marks
+  pub columns : AreColumns (length logged.patterns.items) (length s.subject.now.positions) logged.marks logged.columns
 
 -- The patterns and marks are those of the lines.
 pub record IsLogged (s : Setting) (lines : List Line) (logged : Logged) : Type 0 where
   pub answered : IsMarked s logged
   pub inside : All (λ line. line.0 < length s.patterns.now) lines
-  pub wide : All (λ line. length line.1 ≡ length s.circuit.now.positions) lines
+  pub wide : All (λ line. length line.1 ≡ length s.subject.now.positions) lines
   pub patterns_are : logged.patterns.items ≡ logged_vectors s.patterns.now lines
   pub marks_are : (table : Answers) → AreAnswersAt s table → AreMarks table lines logged.marks

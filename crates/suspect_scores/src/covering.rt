@@ -17,7 +17,7 @@ use table_dicts::{Setting, representatives};
 /// Classes that together explain the failing patterns of a partial log, one after another.
 pub fn cover(alloc: Global, setting: &Setting, partial: &Partial) -> Result<Cover, AllocError>
     requires setting { IsSetting setting.now }
-    requires partial { ArePartial (length setting.now.patterns.now) (length setting.now.circuit.now.positions) partial.now }
+    requires partial { ArePartial (length setting.now.patterns.now) (length setting.now.subject.now.positions) partial.now }
     ensures { IfOk result (λ choices. (table : Answers) → AreAnswersAt setting.now table → IsCover setting.now.classes.now table partial.now choices) }
 {
     let lowest = representatives(alloc, setting.classes)?;

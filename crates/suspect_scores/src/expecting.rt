@@ -2,7 +2,6 @@
 
 ghost use Rattle.std.specs.Prelude.{◌≡◌, ◌<◌, ◌++◌, ◌∷◌, [], length, IfOk, OnOk};
 ghost use Rattle.std.specs.String.{string_bytes};
-ghost use Rattle.net_model.specs.BitText.{bits_text};
 ghost use Rattle.dict_rows.specs.AnswerTable.{Answers, answer_to};
 ghost use Rattle.dict_rows.specs.Entries.{answers_of};
 ghost use Rattle.table_dicts.specs.Setting.{IsSetting, AreAnswersAt};
@@ -12,6 +11,7 @@ ghost use Rattle.suspect_scores.specs.Expected.{expected_text};
 
 use std::alloc::{AllocError, Global};
 use table_dicts::{AnswerTable, Setting, number_answers_at};
+use text_fields::push_bits;
 
 /// The log that a chip without a fault gives to the patterns.
 pub fn expected_log(alloc: Global, setting: &Setting) -> Result<Vec<u8>, AllocError>
@@ -19,7 +19,7 @@ pub fn expected_log(alloc: Global, setting: &Setting) -> Result<Vec<u8>, AllocEr
     ensures { IfOk result (λ text. (table : Answers) → AreAnswersAt setting.now table → text.items ≡ expected_text table) }
 {
     let patterns = setting.patterns.as_slice();
-    let free = number_answers_at(alloc, setting.circuit, setting.faults, patterns, &[0])?;
+    let free = number_answers_at(alloc, setting.subject, patterns, &[0])?;
     log_text(alloc, &free)
 }
 
@@ -42,23 +42,8 @@ fn push_line(text: &mut String, free: &AnswerTable, pattern: u32) -> Result<(), 
     ensures { OnOk result (string_bytes text.new ≡ string_bytes text.old ++ (log_line pattern (answer_to free.now pattern 0) ++ 10 ∷ [])) }
 {
     write!(text, "{pattern} ")?;
-    push_bits(text, free, pattern)?;
+    push_bits(text, free.positions() as usize, |position| {
+        free.get(pattern, 0, position as u32)
+    })?;
     text.push('\n')
-}
-
-// Appends the bits of number 0's answer to a pattern, or a dash where there are no positions.
-fn push_bits(text: &mut String, free: &AnswerTable, pattern: u32) -> Result<(), AllocError>
-    requires pattern { pattern < length free.now.rows }
-    requires some { 0 < free.now.numbers }
-    ensures { OnOk result (string_bytes text.new ≡ string_bytes text.old ++ bits_text (answer_to free.now pattern 0)) }
-{
-    let positions = free.positions();
-    if positions == 0 {
-        text.push('-')?;
-    }
-    for position in 0..positions {
-        let bit = free.get(pattern, 0, position);
-        text.push(if bit { '1' } else { '0' })?;
-    }
-    Ok(())
 }

@@ -30,12 +30,12 @@ pub(crate) fn explained_rows(
     numbers: &[u32],
 ) -> Result<AnswerRows, AllocError>
     requires answered { IsMarked setting.now logged.now }
-    requires numbers { All (λ number. number < fault_count setting.now.circuit.now) numbers.now }
+    requires numbers { All (λ number. number < fault_count setting.now.subject.now) numbers.now }
     ensures shape { IfOk result (AreRows (length numbers.now) (length logged.now.patterns.items)) }
     ensures rows { IfOk result (λ rows. (lines : List Line) (table : Answers) → IsLogged setting.now lines logged.now → AreAnswersAt setting.now table → (place : ℕ) → place < length numbers.now → row_at rows place ≡ explained_by table lines (slice_index numbers.now place)) }
 {
     let patterns = logged.patterns.as_slice();
-    let mut bench = Bench::new(alloc, setting.circuit, setting.faults)?;
+    let mut bench = Bench::new(alloc, setting.subject)?;
     let mut rows = AnswerRows::zeros(alloc, numbers.len(), patterns.len())?;
     let mut first = 0;
     while first < patterns.len() {

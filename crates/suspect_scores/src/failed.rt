@@ -22,7 +22,7 @@ pub fn count_failing(
     partial: &Partial,
 ) -> Result<usize, AllocError>
     requires setting { IsSetting setting.now }
-    requires partial { ArePartial (length setting.now.patterns.now) (length setting.now.circuit.now.positions) partial.now }
+    requires partial { ArePartial (length setting.now.patterns.now) (length setting.now.subject.now.positions) partial.now }
     ensures { IfOk result (λ count. (table : Answers) → AreAnswersAt setting.now table → count ≡ length (failing table partial.now)) }
 {
     let logged = Logged::new(alloc, setting, partial)?;

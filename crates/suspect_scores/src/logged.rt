@@ -27,14 +27,14 @@ impl Logged {
         partial: &Partial,
     ) -> Result<Logged, AllocError>
         requires setting { IsSetting setting.now }
-        requires partial { ArePartial (length setting.now.patterns.now) (length setting.now.circuit.now.positions) partial.now }
+        requires partial { ArePartial (length setting.now.patterns.now) (length setting.now.subject.now.positions) partial.now }
         ensures { IfOk result (IsLogged setting.now partial.now) }
     {
         let patterns = logged_patterns(alloc, setting.patterns.as_slice(), partial)?;
         let logged = patterns.as_slice();
-        let free = number_answers_at(alloc, setting.circuit, setting.faults, logged, &[0])?;
+        let free = number_answers_at(alloc, setting.subject, logged, &[0])?;
         let marks = LogMarks::new(alloc, &free, partial)?;
-        let positions = setting.circuit.positions().len() as u32;
+        let positions = setting.subject.circuit().positions().len() as u32;
         let columns = LogColumns::of(alloc, &marks, patterns.len(), positions)?;
         Ok(Logged {
             patterns,

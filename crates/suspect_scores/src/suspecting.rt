@@ -29,7 +29,7 @@ pub fn suspects(
     most: u32,
 ) -> Result<Suspects, AllocError>
     requires setting { IsSetting setting.now }
-    requires partial { ArePartial (length setting.now.patterns.now) (length setting.now.circuit.now.positions) partial.now }
+    requires partial { ArePartial (length setting.now.patterns.now) (length setting.now.subject.now.positions) partial.now }
     ensures { IfOk result (λ listed. (table : Answers) → AreAnswersAt setting.now table → AreSuspects setting.now.classes.now table partial.now most listed) }
 {
     let lowest = representatives(alloc, setting.classes)?;
@@ -49,11 +49,11 @@ fn scores(
     numbers: &[u32],
 ) -> Result<Vec<Suspect>, AllocError>
     requires answered { IsMarked setting.now logged.now }
-    requires numbers { All (λ number. number < fault_count setting.now.circuit.now) numbers.now }
+    requires numbers { All (λ number. number < fault_count setting.now.subject.now) numbers.now }
     ensures { IfOk result (λ scores. (lines : List Line) (table : Answers) → IsLogged setting.now lines logged.now → AreAnswersAt setting.now table → scores.items ≡ map (suspect_of table lines) numbers.now) }
 {
     let patterns = logged.patterns.as_slice();
-    let mut bench = Bench::new(alloc, setting.circuit, setting.faults)?;
+    let mut bench = Bench::new(alloc, setting.subject)?;
     let mut scores = begun(alloc, numbers)?;
     let mut first = 0;
     while first < patterns.len() {

@@ -14,6 +14,7 @@ use Rattle.net_model.specs.declared.gate.Kind.TheVariants.{And, Nand, Or, Nor, X
 use Rattle.net_model.proofs.Listed.{All-flat_map, All-range_with_len}
 use Rattle.net_model.proofs.Elements.{Contains-map}
 use Rattle.net_model.proofs.Orders.{Contains-range}
+use Rattle.bench_reader.specs.declared.reading.TheConstants.{NETLIST_LIMIT}
 use Rattle.bench_reader.specs.Tokens.{is_name_byte}
 use Rattle.bench_reader.specs.Grammar.{gate_driver, driver_of, takes}
 use Rattle.bench_reader.specs.Spelled.{Written, written_input, written_output, written_gate, written_driven, written_used, HasRightWord, AreRightTogether, IsRun, HasRuns, written_line}
@@ -303,7 +304,7 @@ cells_length : (n a m : ℕ) → length (cells n (range_with_len a m)) ≡ 7 * m
 cells_length n a zero = refl
 cells_length n a (suc m) = omega (arith, cells_length n (a + 1) m)
 
-pub text_is_short : (n : ℕ) → n ≤ 2000 → length (synth_text n) ≤ 16777216
+pub text_is_short : (n : ℕ) → n ≤ 2000 → length (synth_text n) ≤ NETLIST_LIMIT
 text_is_short n small =
     let ws = synth_statements n in
     omega (

@@ -1,20 +1,18 @@
 -- Blocks of patterns: what is written of them, and that it is right.
 use Rattle.std.proofs.Common.{◌≡◌, ◌≢◌, ◌∙◌, ℕ, ◌+◌, ◌-◌, ◌<◌, ◌≤◌, ◌↔◌, Bool, true, false, not, cond, List, [], ◌∷◌, ◌++◌, length, get_or, take, drop, refl, sym, ap, subst, arith, inl, inr, IsTrue}
-use Rattle.std.specs.Prelude.{slice_get, slice_range, Some}
+use Rattle.std.specs.Prelude.{slice_range}
 use Rattle.std.proofs.lemmas.Bool.{cases_lt, cases_eq, false≢true, false_from_ne_true}
 use Rattle.std.proofs.lemmas.List.{ext_get_or, take_more, get_or-take, get_or-drop, length-drop, length-take-le}
 use Rattle.std.proofs.lemmas.Slice.Zip.{AllZip-long}
-use Rattle.std.proofs.lemmas.Option.{get_or_from_slice_get, slice_get_within}
 use Rattle.net_model.specs.declared.fault.Fault.{Fault}
 use Rattle.net_model.specs.declared.fault.Fault.TheVariants.{Free}
 use Rattle.net_model.specs.Circuit.{Circuit, IsCircuit}
-use Rattle.net_model.specs.Fault.{IsFaultOf, stuck_position}
+use Rattle.net_model.specs.Fault.{stuck_position}
 use Rattle.net_model.specs.Answer.{bit_at, IsAnswer, Agrees}
 use Rattle.net_model.specs.FaultList.{faults, fault_count, fault_numbered}
 use Rattle.net_model.specs.PatternRows.{IsAnswerRow, AreAnswerRows}
 use Rattle.net_model.specs.ClassTable.{same_bits}
 use Rattle.net_model.proofs.Copies.{same_bits_same_list}
-use Rattle.net_model.proofs.Listed.{listed}
 use Rattle.class_refine.proofs.Ranges.{zip_at}
 use Rattle.fault_heads.proofs.SeenPins.{seen_at}
 use Rattle.class_refine.proofs.PatternTables.{answer_exists, answer_width, answer_in_row}
@@ -148,15 +146,7 @@ shown_bit c is f v answer position line good differs h at differ free_bit of =
     let good_is : good ≡ bit_at free.0 position = free_bit free.1.bits free.1.agrees ∙ sym shows in
     ap (λ b. cond b (not differs) differs) good_is ∙ flipped (bit_at answer position) (bit_at free.0 position) differs (differ answer free.0 of free.1)
 
--- ---- the fault list
-
-pub listed_fault : (c : Circuit) (all : List Fault) (number : ℕ) (fault : Fault) → all ≡ faults c → slice_get all number ≡ Some fault → fault ≡ fault_numbered c number
-listed_fault c all number fault same got = sym (get_or_from_slice_get all number fault Free got) ∙ ap (λ (fs : List Fault). get_or fs number Free) same
-
-pub listed_stands : (c : Circuit) (all : List Fault) (number : ℕ) (fault : Fault) → all ≡ faults c → slice_get all number ≡ Some fault → IsFaultOf c fault
-listed_stands c all number fault same got =
-    let there : slice_get (faults c) number ≡ Some fault = ap (λ (fs : List Fault). slice_get fs number) (sym same) ∙ got in
-    subst (λ f. IsFaultOf c f) (get_or_from_slice_get (faults c) number fault Free there) (listed c number Free (slice_get_within (faults c) number fault there))
+-- ---- a range of patterns
 
 pub range_none : (patterns : List (List Bool)) (first : ℕ) → slice_range patterns first first ≡ []
 range_none patterns first = let none : first - first ≡ 0 = omega arith in ap (λ n. take n (drop first patterns)) none

@@ -2,7 +2,7 @@
 use Rattle.std.specs.Prelude.{◌≡◌, ◌≢◌, ℕ, ◌+◌, ◌%◌, ◌<◌, ◌≤◌, ◌⊎◌, Bool, not, List, [], length, Some, slice_index, slice_index_or}
 use Rattle.net_model.specs.Circuit.{Circuit, IsCircuit}
 use Rattle.net_model.specs.Answer.{bit_at, IsAnswer}
-use Rattle.net_model.specs.FaultList.{faults, fault_numbered}
+use Rattle.net_model.specs.FaultList.{fault_numbered}
 use Rattle.net_model.specs.ClassTable.{same_bits}
 use Rattle.net_model.specs.declared.fault.Fault.TheVariants.{Free}
 use Rattle.word_sim.specs.declared.lanes.TheConstants.{LANES}
@@ -14,7 +14,7 @@ use Rattle.dict_rows.specs.AnswerTable.{Answers, HasSizes, answer_bit}
 -- All parts are those of one circuit.
 pub record IsBench (c : Circuit) (b : Bench) : Type 0 where
   pub circuit : IsCircuit c
-  pub faults_are : b.faults.now ≡ faults c
+  pub subject : b.subject.now ≡ c
   pub block : b.block.sources ≡ c.sources
   pub good : b.good.circuit ≡ c
   pub sim : b.sim.circuit ≡ c

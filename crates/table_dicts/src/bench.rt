@@ -2,21 +2,21 @@
 
 ghost use Rattle.std.specs.Prelude.{◌≡◌, ◌+◌, ◌<◌, ◌≤◌, ℕ, length, min, All, IfOk, slice_range};
 ghost use Rattle.net_model.specs.Circuit.{Circuit};
-ghost use Rattle.net_model.specs.FaultList.{faults as faults_of, fault_count, fault_numbered};
+ghost use Rattle.net_model.specs.FaultList.{fault_count, fault_numbered};
 ghost use Rattle.net_model.specs.Answer.{bit_at};
 ghost use Rattle.fault_sim.specs.FaultSim.{AreDifferences};
 ghost use Rattle.table_dicts.specs.Blocks.{IsBench, HasRunPatterns, IsAnswerBit, IsFailBit, IsKeptBit, kept_width};
 
 use crate::simulating::Kept;
-use fault_list::FaultList;
+use fault_collapse::Subject;
 use fault_sim::FaultSim;
-use net_model::{Circuit, Vector};
+use net_model::Vector;
 use std::alloc::{AllocError, Global};
 use word_sim::{Block, GoodSim, LANES, Lanes};
 
-/// The faults of a circuit, a block of patterns, and the simulators of the circuit without a fault and with one.
+/// A circuit with its faults, a block of patterns, and the simulators of the circuit without a fault and with one.
 pub struct Bench<'a> {
-    pub faults: &'a FaultList,
+    pub subject: &'a Subject<'a>,
     pub block: Block,
     pub good: GoodSim<'a>,
     pub sim: FaultSim<'a>,
@@ -27,7 +27,7 @@ pub struct Bench<'a> {
 impl Drop for Bench<'_> {
     fn drop(self) {
         let Bench {
-            faults: _,
+            subject: _,
             block: _,
             good: _,
             sim: _,
@@ -36,18 +36,14 @@ impl Drop for Bench<'_> {
 }
 
 impl<'a> Bench<'a> {
-    /// A bench of a circuit. `faults` is the list of its faults. No pattern has been run.
-    pub fn new(
-        alloc: Global,
-        circuit: &'a Circuit,
-        faults: &'a FaultList,
-    ) -> Result<Bench<'a>, AllocError>
-        requires { faults.now ≡ faults_of circuit.now }
+    /// A bench of a circuit. No pattern has been run.
+    pub fn new(alloc: Global, subject: &'a Subject<'a>) -> Result<Bench<'a>, AllocError>
         ensures bench { IfOk result (λ bench. IsBench bench.good.circuit bench) }
-        ensures circuit { IfOk result (λ bench. bench.good.circuit ≡ circuit.now) }
+        ensures circuit { IfOk result (λ bench. bench.good.circuit ≡ subject.now) }
     {
+        let circuit = subject.circuit();
         Ok(Bench {
-            faults,
+            subject,
             block: Block::new(alloc, circuit.sources())?,
             good: GoodSim::new(alloc, circuit)?,
             sim: FaultSim::new(alloc, circuit)?,
@@ -78,7 +74,7 @@ impl<'a> Bench<'a> {
         ensures run { HasRunPatterns self.new }
         ensures differ { AreDifferences self.new.good.circuit (fault_numbered self.new.good.circuit number) self.new.block.vectors self.new.sim.differences }
     {
-        self.sim.inject(&self.good, &self.faults.get(number));
+        self.sim.inject(&self.good, &self.subject.fault(number));
     }
 
     /// What is kept of the injected number's answers at a position, a lane for each pattern that was run.

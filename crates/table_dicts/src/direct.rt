@@ -20,14 +20,13 @@ pub fn full_at(alloc: Global, setting: &Setting) -> Result<Dict, AllocError>
     requires { IsSetting setting.now }
     ensures { IfOk result (λ dict. (t : Answers) → AreAnswersAt setting.now t → IsFull t dict) }
 {
-    let circuit = setting.circuit;
-    let faults = setting.faults;
-    circuit.stands();
-    let numbers = faults.len();
+    let subject = setting.subject;
+    subject.circuit().stands();
+    let numbers = subject.numbers();
     let patterns = setting.patterns.as_slice();
     let sorted = class_groups(alloc, setting.classes, numbers)?;
     let lowest = sorted.firsts.as_slice();
-    let table = tabulate(alloc, circuit, faults, patterns, Kept::Bits, lowest)?;
+    let table = tabulate(alloc, subject, patterns, Kept::Bits, lowest)?;
     Ok(Dict {
         kind: DictKind::Full,
         numbers,
@@ -45,25 +44,18 @@ pub fn pass_fail_at(alloc: Global, setting: &Setting) -> Result<Dict, AllocError
     requires { IsSetting setting.now }
     ensures { IfOk result (λ dict. (t : Answers) → AreAnswersAt setting.now t → IsPassFail t dict) }
 {
-    let circuit = setting.circuit;
+    let subject = setting.subject;
     let patterns = setting.patterns.as_slice();
     let lowest = representatives(alloc, setting.classes)?;
     let lowest = lowest.as_slice();
-    let fails = tabulate(
-        alloc,
-        circuit,
-        setting.faults,
-        patterns,
-        Kept::Fails,
-        lowest,
-    )?;
+    let fails = tabulate(alloc, subject, patterns, Kept::Fails, lowest)?;
     let baselines = free_answers(alloc, setting)?;
     dict_of_classes(
         alloc,
         DictKind::PassFail,
         setting.classes,
-        setting.faults.len(),
-        circuit.positions().len() as u32,
+        subject.numbers(),
+        subject.circuit().positions().len() as u32,
         baselines,
         fails.cells(),
     )
@@ -72,12 +64,11 @@ pub fn pass_fail_at(alloc: Global, setting: &Setting) -> Result<Dict, AllocError
 // The answers of the circuit without a fault, which number 0 stands for.
 fn free_answers(alloc: Global, setting: &Setting) -> Result<AnswerRows, AllocError>
     requires { IsSetting setting.now }
-    ensures shape { IfOk result (AreRows (length setting.now.patterns.now) (length setting.now.circuit.now.positions)) }
+    ensures shape { IfOk result (AreRows (length setting.now.patterns.now) (length setting.now.subject.now.positions)) }
     ensures free { IfOk result (λ rows. (t : Answers) → AreAnswersAt setting.now t → rows ≡ free_baselines t.rows) }
 {
     let patterns = setting.patterns.as_slice();
-    let circuit = setting.circuit;
-    let free = tabulate(alloc, circuit, setting.faults, patterns, Kept::Bits, &[0])?;
+    let free = tabulate(alloc, setting.subject, patterns, Kept::Bits, &[0])?;
     free.stands();
     answers_of(alloc, &free, 0)
 }

@@ -8,8 +8,8 @@ ghost use Rattle.table_dicts.specs.Blocks.{HasRunPatterns, FitsAt, IsKeptBit, Is
 use crate::bench::Bench;
 use crate::free_block::FreeBlock;
 use dict_rows::AnswerTable;
-use fault_list::FaultList;
-use net_model::{Circuit, Vector};
+use fault_collapse::Subject;
+use net_model::Vector;
 use std::alloc::{AllocError, Global};
 
 /// What is kept of a number's answer to a pattern: its bits, or whether it differs from the fault-free one.
@@ -19,23 +19,23 @@ pub(crate) enum Kept {
     Fails,
 }
 
-/// What is kept of the answers of these numbers, one behind another, to patterns. `faults` is the list of the circuit's faults.
+/// What is kept of the answers of these numbers, one behind another, to patterns.
 pub(crate) fn tabulate(
     alloc: Global,
-    circuit: &Circuit,
-    faults: &FaultList,
+    subject: &Subject,
     patterns: &[Vector],
     kept: Kept,
     numbers: &[u32],
 ) -> Result<AnswerTable, AllocError>
-    requires answerable { AreAnswerable circuit.now faults.now patterns.now }
-    requires numbers { All (λ number. number < fault_count circuit.now) numbers.now }
+    requires answerable { AreAnswerable subject.now patterns.now }
+    requires numbers { All (λ number. number < fault_count subject.now) numbers.now }
     requires count { length numbers.now < 2 ^ 32 }
-    ensures { IfOk result (AreRightBits (IsListedBit kept circuit.now patterns.now numbers.now) (length patterns.now) (length numbers.now) (kept_width kept (length circuit.now.positions)) (length patterns.now)) }
+    ensures { IfOk result (AreRightBits (IsListedBit kept subject.now patterns.now numbers.now) (length patterns.now) (length numbers.now) (kept_width kept (length subject.now.positions)) (length patterns.now)) }
 {
-    let width = width_of(kept, circuit.positions().len() as u32);
+    let positions = subject.circuit().positions();
+    let width = width_of(kept, positions.len() as u32);
     let mut table = AnswerTable::zeros(alloc, patterns.len() as u32, numbers.len() as u32, width)?;
-    let mut bench = Bench::new(alloc, circuit, faults)?;
+    let mut bench = Bench::new(alloc, subject)?;
     let mut first = 0;
     while first < patterns.len() {
         let end = bench.run(patterns, first);

@@ -1,5 +1,6 @@
 -- Fields of a line of text: numbers and bits as digits, and texts that are cut at a byte.
-use Rattle.std.specs.Prelude.{◌≡◌, ℕ, ◌<◌, ◌^◌, ◌⊎◌, Bool, List, ◌∷◌, ◌++◌, map, ◌==◌, Contains}
+use Rattle.std.specs.Prelude.{◌≡◌, ℕ, ◌<◌, ◌^◌, ◌⊎◌, Bool, List, ◌∷◌, ◌++◌, map, length, ◌==◌, Contains}
+use Rattle.net_model.specs.Answer.{bit_at}
 use Rattle.net_model.specs.BitText.{bit_digit, bits_text}
 
 abbrev pub Text : Type 0
@@ -12,6 +13,11 @@ IsNumber n = n < 2 ^ 32
 -- the bits of digits
 abbrev pub digit_bits : Text → List Bool
 digit_bits digits = map (λ digit. digit == 49) digits
+
+-- There are so many bits, each the only one that is answered at its place.
+pub record AreBitsOf (answers : ℕ → Bool → Type 0) (count : ℕ) (bits : List Bool) : Type 0 where
+  pub count_is : length bits ≡ count
+  pub each : (at : ℕ) (bit : Bool) → at < count → answers at bit → bit ≡ bit_at bits at
 
 -- The byte is a digit of a bit.
 abbrev pub IsDigit : ℕ → Type 0

@@ -1,8 +1,9 @@
 //! Bits as digits.
 
-ghost use Rattle.std.specs.Prelude.{◌≡◌, ◌≢◌, ◌↔◌, Bool, List, length, slice_index, IsTrue, EachIndex, MatchOption, IfOk};
+ghost use Rattle.std.specs.Prelude.{◌≡◌, ◌≢◌, ◌<◌, ◌↔◌, ◌++◌, ℕ, Bool, List, length, slice_index, IsTrue, EachIndex, MatchOption, IfOk, OnOk, OnErr};
+ghost use Rattle.std.specs.String.{string_bytes};
 ghost use Rattle.net_model.specs.BitText.{bits_text};
-ghost use Rattle.text_fields.specs.Fields.{digit_bits, IsDigit, AreDigitsIn};
+ghost use Rattle.text_fields.specs.Fields.{digit_bits, AreBitsOf, IsDigit, AreDigitsIn};
 
 use net_model::Bits;
 use std::alloc::{AllocError, Global};
@@ -39,4 +40,25 @@ pub fn bits_of(alloc: Global, digits: &[u8]) -> Result<Bits, AllocError>
         bits.set(at, *digit == b'1');
     }
     Ok(bits)
+}
+
+/// Appends so many bits as digits, each the one that is answered at its place, or a dash where there are none.
+///
+/// After an error something of it may stand behind the text.
+pub fn push_bits<F: Fn(usize) -> bool>(
+    text: &mut String,
+    count: usize,
+    bit: F,
+) -> Result<(), AllocError>
+    requires { (at : ℕ) → at < count → F.pre bit at }
+    ensures ok { (bits : List Bool) → AreBitsOf (F.post bit) count bits → OnOk result (string_bytes text.new ≡ string_bytes text.old ++ bits_text bits) }
+    ensures err { OnErr result ((some : List ℕ) × (string_bytes text.new ≡ string_bytes text.old ++ some)) }
+{
+    if count == 0 {
+        text.push('-')?;
+    }
+    for at in 0..count {
+        text.push(if bit(at) { '1' } else { '0' })?;
+    }
+    Ok(())
 }

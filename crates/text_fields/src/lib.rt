@@ -6,5 +6,5 @@ mod digits;
 mod numbers;
 
 pub use cutting::cut;
-pub use digits::{bits_of, digits_of};
+pub use digits::{bits_of, digits_of, push_bits};
 pub use numbers::{number_of, number_of_bytes};

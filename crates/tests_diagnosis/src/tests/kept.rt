@@ -19,14 +19,13 @@ pub(crate) struct Kept {
 }
 
 // What is kept of these vectors.
-pub(crate) fn kept_of(alloc: Global, circuit: &Circuit, texts: &[&str]) -> Result<Kept, Fail>
-    ensures widths { IfOk result (λ kept. All (λ v. length v ≡ circuit.now.sources) kept.patterns) }
+pub(crate) fn kept_of(alloc: Global, subject: &Subject, texts: &[&str]) -> Result<Kept, Fail>
+    ensures widths { IfOk result (λ kept. All (λ v. length v ≡ subject.now.sources) kept.patterns) }
     ensures few { IfOk result (λ kept. length kept.patterns < 2 ^ 32) }
-    ensures table { IfOk result (λ kept. IsTableOf circuit.now kept.patterns kept.classes) }
+    ensures table { IfOk result (λ kept. IsTableOf subject.now kept.patterns kept.classes) }
 {
-    let subject = Subject::new(alloc, circuit)?;
-    let mut keeper = Keeper::new(alloc, &subject)?;
-    keep_all(alloc, circuit, &mut keeper, texts)?;
+    let mut keeper = Keeper::new(alloc, subject)?;
+    keep_all(alloc, subject.circuit(), &mut keeper, texts)?;
     kept_by(alloc, keeper)
 }
 

@@ -1,12 +1,10 @@
 //! Which classes a log suspects, which of them cover its failing patterns, and the log that a chip without a fault gives.
 
-ghost use Rattle.std.specs.Prelude.{◌≡◌};
-ghost use Rattle.net_model.specs.FaultList.{faults as faults_of};
 ghost use Rattle.table_dicts.specs.Setting.{IsSetting};
 
 use crate::tests::kept::kept_of;
-use fault_list::{FaultList, list};
-use net_model::{Circuit, Kind};
+use fault_collapse::Subject;
+use net_model::Kind;
 use ranked_diag::read_partial_of;
 use sample_circuits::{AND_OF_TWO, CircuitParts, circuit};
 use std::alloc::Global;
@@ -159,7 +157,7 @@ fn is_suspected(alloc: Global, setting: &Setting, logged: &Logged) -> Result<boo
     requires { IsSetting setting.now }
 {
     let patterns = setting.patterns.as_slice().len() as u32;
-    let positions = setting.circuit.positions().len() as u32;
+    let positions = setting.subject.circuit().positions().len() as u32;
     let partial = read_partial_of(alloc, patterns, positions, logged.0.as_bytes())?;
     let listed = suspects(alloc, setting, &partial, logged.1)?;
     Ok(are_suspects(&listed, logged.2))
@@ -197,7 +195,7 @@ fn is_covered(alloc: Global, setting: &Setting, covered: &Covered) -> Result<boo
     requires { IsSetting setting.now }
 {
     let patterns = setting.patterns.as_slice().len() as u32;
-    let positions = setting.circuit.positions().len() as u32;
+    let positions = setting.subject.circuit().positions().len() as u32;
     let partial = read_partial_of(alloc, patterns, positions, covered.0.as_bytes())?;
     let choices = cover(alloc, setting, &partial)?;
     Ok(are_choices(&choices, covered.1))
@@ -225,13 +223,10 @@ fn is_told(alloc: Global, setting: &Setting, case: &Case) -> Result<bool, Fail>
     Ok(are_suspected(alloc, setting, case.3)? && are_covered(alloc, setting, case.4)?)
 }
 
-fn is_kept(alloc: Global, circuit: &Circuit, faults: &FaultList, case: &Case) -> Result<bool, Fail>
-    requires { faults.now ≡ faults_of circuit.now }
-{
-    let kept = kept_of(alloc, circuit, case.1)?;
+fn is_kept(alloc: Global, subject: &Subject, case: &Case) -> Result<bool, Fail> {
+    let kept = kept_of(alloc, subject, case.1)?;
     let setting = Setting {
-        circuit,
-        faults,
+        subject,
         patterns: &kept.patterns,
         classes: &kept.classes,
     };
@@ -240,8 +235,8 @@ fn is_kept(alloc: Global, circuit: &Circuit, faults: &FaultList, case: &Case) ->
 
 fn holds(alloc: Global, case: &Case) -> Result<bool, Fail> {
     let circuit = circuit(alloc, case.0)?;
-    let faults = list(alloc, &circuit)?;
-    is_kept(alloc, &circuit, &faults, case)
+    let subject = Subject::new(alloc, &circuit)?;
+    is_kept(alloc, &subject, case)
 }
 
 #[test]

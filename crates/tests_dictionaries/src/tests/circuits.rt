@@ -1,7 +1,7 @@
 //! Dictionaries of small circuits.
 
 ghost use Rattle.std.specs.Prelude.{◌≡◌, ◌<◌, ◌^◌, length, All, IfOk, OnOk};
-ghost use Rattle.net_model.specs.FaultList.{faults as faults_of, fault_count};
+ghost use Rattle.net_model.specs.FaultList.{fault_count};
 ghost use Rattle.net_model.specs.PatternRows.{IsTableOf};
 ghost use Rattle.dict_rows.specs.Dictionary.{IsGroupedDict};
 ghost use Rattle.dict_rows.specs.Rows.{AreRows};
@@ -10,7 +10,6 @@ ghost use Rattle.table_dicts.specs.Setting.{IsSetting};
 use crate::tests::spelled::is_dict;
 use class_refine::Classes;
 use fault_collapse::Subject;
-use fault_list::{FaultList, list};
 use kept_vectors::Keeper;
 use net_model::{Circuit, Vector, Vectors};
 use sample_circuits::{AND_OF_TWO, CircuitParts, SHOWN_TWICE, bits, circuit};
@@ -63,15 +62,14 @@ fn keep_vector(circuit: &Circuit, keeper: &mut Keeper, v: &Vector) -> Result<(),
 }
 
 // What is kept of these vectors.
-pub(crate) fn kept_of(alloc: Global, circuit: &Circuit, texts: &[&str]) -> Result<Kept, Fail>
-    ensures widths { IfOk result (λ kept. All (λ v. length v ≡ circuit.now.sources) kept.patterns) }
+pub(crate) fn kept_of(alloc: Global, subject: &Subject, texts: &[&str]) -> Result<Kept, Fail>
+    ensures widths { IfOk result (λ kept. All (λ v. length v ≡ subject.now.sources) kept.patterns) }
     ensures few { IfOk result (λ kept. length kept.patterns < 2 ^ 32) }
-    ensures numbers { IfOk result (λ kept. length kept.classes.class_of ≡ fault_count circuit.now) }
-    ensures table { IfOk result (λ kept. IsTableOf circuit.now kept.patterns kept.classes) }
+    ensures numbers { IfOk result (λ kept. length kept.classes.class_of ≡ fault_count subject.now) }
+    ensures table { IfOk result (λ kept. IsTableOf subject.now kept.patterns kept.classes) }
 {
-    let subject = Subject::new(alloc, circuit)?;
-    let mut keeper = Keeper::new(alloc, &subject)?;
-    keep_all(alloc, circuit, &mut keeper, texts)?;
+    let mut keeper = Keeper::new(alloc, subject)?;
+    keep_all(alloc, subject.circuit(), &mut keeper, texts)?;
     kept_by(alloc, keeper)
 }
 
@@ -201,9 +199,14 @@ const CASES: &[Case] = &[
 // Whether both are made of a table of all answers.
 fn are_tabled(alloc: Global, kept: &Kept, setting: &Setting, case: &Case) -> Result<bool, Fail>
     requires setting { IsSetting setting.now }
-    requires numbers { length kept.now.classes.class_of ≡ fault_count setting.now.circuit.now }
+    requires numbers { length kept.now.classes.class_of ≡ fault_count setting.now.subject.now }
 {
-    let table = answers_at(alloc, setting.circuit, setting.faults, setting.patterns)?;
+    let table = answers_at(
+        alloc,
+        setting.subject.circuit(),
+        setting.subject.listed(),
+        setting.patterns,
+    )?;
     if table.numbers() == 0 {
         return Err(Fail::new("there is no number"));
     }
@@ -240,7 +243,7 @@ fn is_pass_fail_at(alloc: Global, setting: &Setting, wanted: &str) -> Result<boo
 // Whether both are made without a table, and of one.
 fn are_made(alloc: Global, kept: &Kept, setting: &Setting, case: &Case) -> Result<bool, Fail>
     requires setting { IsSetting setting.now }
-    requires numbers { length kept.now.classes.class_of ≡ fault_count setting.now.circuit.now }
+    requires numbers { length kept.now.classes.class_of ≡ fault_count setting.now.subject.now }
 {
     Ok(
         is_full_at(alloc, setting, case.2.0)?
@@ -249,28 +252,21 @@ fn are_made(alloc: Global, kept: &Kept, setting: &Setting, case: &Case) -> Resul
     )
 }
 
-// Whether all is so for these faults of a circuit.
-fn is_kept(alloc: Global, circuit: &Circuit, faults: &FaultList, case: &Case) -> Result<bool, Fail>
-    requires { faults.now ≡ faults_of circuit.now }
-{
-    let kept = kept_of(alloc, circuit, case.1)?;
+// Whether all is so for this circuit.
+fn is_kept(alloc: Global, subject: &Subject, case: &Case) -> Result<bool, Fail> {
+    let kept = kept_of(alloc, subject, case.1)?;
     let setting = Setting {
-        circuit,
-        faults,
+        subject,
         patterns: &kept.patterns,
         classes: &kept.classes,
     };
     are_made(alloc, &kept, &setting, case)
 }
 
-fn is_listed(alloc: Global, circuit: &Circuit, case: &Case) -> Result<bool, Fail> {
-    let faults = list(alloc, circuit)?;
-    is_kept(alloc, circuit, &faults, case)
-}
-
 fn holds(alloc: Global, case: &Case) -> Result<bool, Fail> {
     let circuit = circuit(alloc, case.0)?;
-    is_listed(alloc, &circuit, case)
+    let subject = Subject::new(alloc, &circuit)?;
+    is_kept(alloc, &subject, case)
 }
 
 #[test]

@@ -1,13 +1,10 @@
 //! Plans of small circuits, without a table of answers and from one.
 
-ghost use Rattle.std.specs.Prelude.{◌≡◌};
-ghost use Rattle.net_model.specs.FaultList.{faults as faults_of};
 ghost use Rattle.table_dicts.specs.Setting.{IsSetting};
 
 use crate::tests::circuits::kept_of;
 use adaptive_tree::{plan, plan_at, write_plan};
-use fault_list::{FaultList, list};
-use net_model::Circuit;
+use fault_collapse::Subject;
 use sample_circuits::{AND_OF_TWO, CircuitParts, circuit};
 use std::alloc::Global;
 use std::test::Fail;
@@ -55,20 +52,17 @@ fn is_planned(alloc: Global, setting: &Setting, wanted: &str) -> Result<bool, Fa
 fn is_planned_by_table(alloc: Global, setting: &Setting, wanted: &str) -> Result<bool, Fail>
     requires { IsSetting setting.now }
 {
-    let _sources = setting.circuit.sources();
-    let table = answers_at(alloc, setting.circuit, setting.faults, setting.patterns)?;
+    let circuit = setting.subject.circuit();
+    let table = answers_at(alloc, circuit, setting.subject.listed(), setting.patterns)?;
     let made = plan(alloc, &table, setting.classes)?;
     let text = write_plan(alloc, &made)?;
     Ok(text.as_slice() == wanted.as_bytes())
 }
 
-fn is_kept(alloc: Global, circuit: &Circuit, faults: &FaultList, case: &Case) -> Result<bool, Fail>
-    requires { faults.now ≡ faults_of circuit.now }
-{
-    let kept = kept_of(alloc, circuit, case.1)?;
+fn is_kept(alloc: Global, subject: &Subject, case: &Case) -> Result<bool, Fail> {
+    let kept = kept_of(alloc, subject, case.1)?;
     let setting = Setting {
-        circuit,
-        faults,
+        subject,
         patterns: &kept.patterns,
         classes: &kept.classes,
     };
@@ -77,8 +71,8 @@ fn is_kept(alloc: Global, circuit: &Circuit, faults: &FaultList, case: &Case) ->
 
 fn holds(alloc: Global, case: &Case) -> Result<bool, Fail> {
     let circuit = circuit(alloc, case.0)?;
-    let faults = list(alloc, &circuit)?;
-    is_kept(alloc, &circuit, &faults, case)
+    let subject = Subject::new(alloc, &circuit)?;
+    is_kept(alloc, &subject, case)
 }
 
 #[test]

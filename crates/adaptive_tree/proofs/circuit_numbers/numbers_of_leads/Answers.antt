@@ -8,7 +8,7 @@ use Rattle.adaptive_tree.proofs.circuit_numbers.numbers_of_leads.Goals as goal
 
 pub loop-first-preserved : goal.loop-first-preserved
 loop-first-preserved c =
-    let circuit = c.args.setting.now.circuit.now in
+    let circuit = c.args.setting.now.subject.now in
     let patterns = c.args.setting.now.patterns.now in
     let leads = c.args.leads.now in
     let so_far = c.loop-first.invariant in
@@ -36,4 +36,4 @@ pub returns : goal.returns
 returns c =
     let s = c.args.setting.now in
     let end : c.loop-first.first ≡ length s.patterns.now = omega (arith, c.loop-first-test.false, c.loop-first.invariant.within, ap length c.as_slice-vectors.ensures) in
-    subst (λ k. AreLeadsNumbered s.circuit.now s.patterns.now c.args.leads.now k c.loop-first.numbers) end c.loop-first.invariant.numbered
+    subst (λ k. AreLeadsNumbered s.subject.now s.patterns.now c.args.leads.now k c.loop-first.numbers) end c.loop-first.invariant.numbered

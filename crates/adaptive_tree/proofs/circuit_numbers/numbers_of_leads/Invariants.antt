@@ -5,10 +5,10 @@ use Rattle.adaptive_tree.proofs.circuit_numbers.numbers_of_leads.Given as goal
 abbrev pub invariant-loop-first : goal.invariant-loop-first
 invariant-loop-first l = record {
   within : l.first ≤ length l.vectors;
-  circuit : l.source.circuit ≡ l.setting.circuit.now;
+  circuit : l.source.circuit ≡ l.setting.subject.now;
   leads : l.source.leads ≡ l.leads;
-  sources : l.block.sources ≡ l.setting.circuit.now.sources;
-  numbered : AreLeadsNumbered l.setting.circuit.now l.setting.patterns.now l.leads l.first l.numbers;
+  sources : l.block.sources ≡ l.setting.subject.now.sources;
+  numbered : AreLeadsNumbered l.setting.subject.now l.setting.patterns.now l.leads l.first l.numbers;
 }
 
 abbrev pub decreases-loop-first : goal.decreases-loop-first

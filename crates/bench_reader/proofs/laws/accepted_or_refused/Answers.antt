@@ -1,5 +1,6 @@
 use Rattle.std.proofs.Common.{inl, inr, length, refl}
 use Rattle.std.proofs.lemmas.Bool.Decides.{leb_tells}
+use Rattle.bench_reader.specs.declared.reading.TheConstants.{NETLIST_LIMIT}
 use Rattle.bench_reader.specs.declared.fault.NetKind.TheVariants.{TooLong}
 use Rattle.bench_reader.specs.Refusal.{too_long}
 use Rattle.bench_reader.specs.Laws.{AcceptedOrRefused}
@@ -7,7 +8,7 @@ use Rattle.bench_reader.proofs.OutcomeLemmas.{short_text}
 use Rattle.bench_reader.proofs.laws.accepted_or_refused.Goals as goal
 
 one_of_both : AcceptedOrRefused
-one_of_both text = elim (leb_tells (length text) 16777216) [ inl short ↦ short_text text short.1 | inr long ↦ inr ((TooLong, 16777216), too_long long.1 refl) ]
+one_of_both text = elim (leb_tells (length text) NETLIST_LIMIT) [ inl short ↦ short_text text short.1 | inr long ↦ inr ((TooLong, NETLIST_LIMIT), too_long long.1 refl) ]
 
 pub returns : goal.returns
 returns c = one_of_both

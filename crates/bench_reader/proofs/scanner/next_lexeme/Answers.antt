@@ -1,6 +1,6 @@
 use Rattle.std.proofs.Common.{◌≡◌, ◌+◌, ◌≤◌, ◌<◌, ℕ, drop, length, length-drop, get_or, arith}
+use Rattle.text_fields.specs.Fields.{Text}
 use Rattle.bench_reader.specs.declared.scanner.LexemeKind.{LexemeKind}
-use Rattle.bench_reader.specs.Tokens.{Text}
 use Rattle.bench_reader.specs.Bytes.{kind_at, length_at}
 use Rattle.bench_reader.proofs.ScanLemmas.{next_end, next_some, length_at_le, rest_all, byte_front}
 use Rattle.bench_reader.proofs.scanner.next_lexeme.Goals as goal

@@ -2,7 +2,7 @@ use Rattle.std.proofs.Common.{◌≡◌, List, [], ◌∷◌, refl, ◌∙◌, a
 use Rattle.std.specs.Prelude.{Bool, Option, Some, None, codes, find, option_map, if◌then◌else◌}
 use Rattle.std.specs.Str.{str_eq_ignore_ascii_case}
 use Rattle.net_model.specs.declared.gate.Kind.TheVariants.{And, Nand, Or, Nor, Xor, Xnor, Not, Buff, Mux, Const0, Const1}
-use Rattle.bench_reader.specs.Tokens.{Text}
+use Rattle.text_fields.specs.Fields.{Text}
 use Rattle.bench_reader.specs.Grammar.{Driver, gate_driver, flip_flop_driver, driver_of, is_word}
 use Rattle.bench_reader.proofs.word.driver_of.Goals as goal
 

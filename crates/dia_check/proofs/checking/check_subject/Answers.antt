@@ -1,4 +1,4 @@
-use Rattle.std.proofs.Common.{rules, ◌≡◌, Result, Err, refl, ap}
+use Rattle.std.proofs.Common.{◌≡◌, Result, Err, refl, ap}
 use Rattle.result_file.specs.declared.fault.ResultFault.{ResultFault}
 use Rattle.diag_shelf.specs.Calls.{Told}
 use Rattle.diag_shelf.proofs.Steps.{facts_same, read_unkept, on_error}
@@ -8,7 +8,7 @@ use Rattle.dia_check.specs.declared.answer.FileFault.{FileFault}
 use Rattle.dia_check.specs.declared.answer.FileFault.TheVariants as file
 use Rattle.std.proofs.lemmas.Result.{err_from_is_err_and}
 use Rattle.dia_check.proofs.RestLemmas.{takes_few, reads_nothing, text_refused}
-use Rattle.dia_check.proofs.AnswerLemmas.{on_any, on_no_result, memory_is_no_failure, call_after, told_read, valid_after}
+use Rattle.dia_check.proofs.AnswerLemmas.{on_any, on_no_result, call_after, told_read, valid_after}
 use Rattle.dia_check.proofs.checking.check_subject.Goals as goal
 
 pub returns-in_err-read_rest-clause-call : goal.returns-in_err-read_rest-clause-call

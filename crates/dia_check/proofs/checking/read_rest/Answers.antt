@@ -1,10 +1,11 @@
-use Rattle.std.proofs.Common.{◌≡◌, ◌∙◌, ◌+◌, ◌<◌, ◌≤◌, ◌^◌, ◌++◌, [], Result, Ok, IsTrue, take, length, length-append, refl, arith}
+use Rattle.std.proofs.Common.{◌≡◌, ◌∙◌, ◌+◌, ◌<◌, ◌≤◌, ◌++◌, [], Result, Ok, IsTrue, take, length, length-append, refl, arith}
 use Rattle.std.proofs.lemmas.Result.{err_from_is_err_and}
 use Rattle.std.specs.Prelude.{IsErrOf, drop}
 use Rattle.std.proofs.lemmas.List.{take-append-le, length-take}
 use Rattle.diag_shelf.specs.World.{State}
 use Rattle.diag_shelf.specs.Calls.{SameFacts, IsReadCall}
 use Rattle.diag_shelf.proofs.Steps.{facts_same, facts_after_read, reads_more, on_error}
+use Rattle.result_records.specs.declared.limits.TheConstants.{RESULT_LIMIT}
 use Rattle.dia_check.specs.declared.answer.FileFault.{FileFault}
 use Rattle.dia_check.specs.declared.answer.FileFault.TheVariants as file
 use Rattle.dia_check.proofs.AnswerLemmas.{opened_never_fails}
@@ -53,7 +54,7 @@ pub returns : goal.returns
 returns g c =
     let so_far = c.loop-taken.invariant.so_far in
     let test = c.loop-taken-test.false in
-    let full : length so_far.fed ≡ 2 ^ 40 + 1 = omega (arith, so_far.taken_is, c.loop-taken.invariant.few) in
+    let full : length so_far.fed ≡ RESULT_LIMIT + 1 = omega (arith, so_far.taken_is, c.loop-taken.invariant.few) in
     record {
       call = called c.loop-taken.invariant.facts;
       others = c.loop-taken.invariant.only;
@@ -94,7 +95,7 @@ returns-in_err-feed-clause-err g c =
     let piece = c.read.new.piece in
     let count = c.in_ok-count.count in
     let bound = c.in_ok-count.ensures.bound in
-    let few : length (so_far.fed ++ take count piece) ≤ 2 ^ 40 + 1 =
+    let few : length (so_far.fed ++ take count piece) ≤ RESULT_LIMIT + 1 =
     omega (arith, so_far.taken_is, bound, length-append so_far.fed (take count piece), length-take count piece, c.read.auto.piece, c.wanted.array_long, length-take c.wanted.result c.loop-taken.piece) in
     on_error c.from_residual-in_err-feed.result (λ told.
     let read = c.in_ok-count.ensures.taken (before.facts.tells ∙ told) in

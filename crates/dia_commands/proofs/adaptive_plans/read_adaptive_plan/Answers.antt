@@ -1,27 +1,16 @@
-use Rattle.std.proofs.Common.{refl}
-use Rattle.dia_commands.specs.Texts.{plan_fault_text}
-use Rattle.dia_commands.specs.AdaptivePlans.{IsAdaptivePlanFile, IsRefusedPlan}
-use Rattle.dia_commands.specs.Steps.{by_reading}
-use Rattle.dia_commands.proofs.HandedOn.{handed_err}
+use Rattle.std.proofs.Common.{rules}
+use Rattle.std.proofs.lemmas.Result.{IfOk-weaker, IfErr-weaker}
+use Rattle.adaptive_tree.specs.Refusal.{TellsPlanFault, PlanRefused}
+use Rattle.dia_commands.specs.AdaptivePlans.{IsAdaptivePlanFile}
 use Rattle.dia_commands.proofs.ReadLemmas.{plan_read, refused_plan_read}
-use Rattle.dia_commands.proofs.Followed.{was_accepted, read_refused, over_memory}
+use Rattle.dia_commands.proofs.Judged.{accepted_by, over_by}
 use Rattle.dia_commands.proofs.adaptive_plans.read_adaptive_plan.Goals as goal
 
-pub returns-in_err-bytes-clause-err : goal.returns-in_err-bytes-clause-err
-returns-in_err-bytes-clause-err g c = handed_err _ c.from_residual.result c.from_residual.ensures.1 (by_reading c.in_err-bytes.ensures.err)
+pub returns-clause-formed : goal.returns-clause-formed
+returns-clause-formed g c = IfOk-weaker c.read_judged.result _ _ (λ x some. let told = some.answered in let is : IsAdaptivePlanFile some.bytes.now x = search rules in is.well_formed) c.read_judged.ensures.judged
 
-pub returns-in-Ok-clause-formed : goal.returns-in-Ok-clause-formed
-returns-in-Ok-clause-formed g c = c.in-Ok.ensures.read.well_formed
-
-pub returns-in-Ok-clause-ok : goal.returns-in-Ok-clause-ok
-returns-in-Ok-clause-ok g c =
-    let is : IsAdaptivePlanFile c.in_ok-bytes.bytes.items c.in-Ok.plan = rw c.deref.ensures.value at c.in-Ok.ensures.read in
-    was_accepted c.in_ok-bytes.ensures.ok (λ all read. plan_read read is)
-
-pub returns-in-Err-At-clause-err : goal.returns-in-Err-At-clause-err
-returns-in-Err-At-clause-err g c =
-    let refused : IsRefusedPlan c.in_ok-bytes.bytes.items (plan_fault_text c.in-Err-At.kind c.in-Err-At.line) = record { kind = c.in-Err-At.kind; line = c.in-Err-At.line; refused = rw (c.deref.ensures.value, c.in-Err-At.field-0-is) at c.in-Err-At.ensures.refused; console_is = refl } in
-    read_refused c.in_ok-bytes.ensures.ok (λ all read. refused_plan_read read refused) c.say_refusal.ensures
+pub returns-clause-ok : goal.returns-clause-ok
+returns-clause-ok g c = IfOk-weaker c.read_judged.result _ _ (λ x. accepted_by (λ bytes told. let is : IsAdaptivePlanFile bytes.now x = search rules in (λ all read. plan_read read is))) c.read_judged.ensures.ok
 
 pub returns-clause-err : goal.returns-clause-err
-returns-clause-err g c = over_memory c.in_ok-bytes.ensures.ok.facts c.in_ok-bytes.ensures.ok.only
+returns-clause-err g c = IfErr-weaker c.read_judged.result _ _ (λ why. over_by (λ bytes fault told. let rule : TellsPlanFault (PlanRefused bytes.now) fault = search rules in (λ all console read. refused_plan_read fault read rule))) c.read_judged.ensures.err

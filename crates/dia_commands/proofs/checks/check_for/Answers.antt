@@ -1,25 +1,17 @@
-use Rattle.std.proofs.Common.{◌∙◌, List, ℕ, refl, ap, inl, inr}
-use Rattle.net_model.specs.Circuit.{Circuit}
+use Rattle.std.proofs.Common.{◌∙◌, refl, ap, inl, inr}
 use Rattle.result_records.specs.Spelling.{text_of}
 use Rattle.dia_commands.specs.Texts.{valid_text}
 use Rattle.dia_commands.specs.Results.{IsValidText}
-use Rattle.dia_commands.specs.Plan.{Plan}
-use Rattle.dia_commands.specs.Plans.{says}
-use Rattle.dia_commands.proofs.Followed.{follows_nothing, handed_follows, result_over, result_then}
+use Rattle.dia_commands.proofs.Followed.{ends_at_file, goes_on, no_memory_after}
 use Rattle.dia_commands.proofs.Generated.{two_read, says_follows}
 use Rattle.dia_commands.proofs.checks.check_for.Goals as goal
 
--- what follows the result
-abbrev says_valid : Circuit → List ℕ → Plan
-says_valid circuit file = says (IsValidText circuit file)
-
 pub returns-in_err-checked : goal.returns-in_err-checked
-returns-in_err-checked g c = λ bench. handed_follows c.from_residual.result c.from_residual.ensures.1 (result_over two_read (inr (inr (inl refl))) (says_valid c.args.subject.now) c.in_err-checked.ensures.err)
+returns-in_err-checked g c = λ bench. ends_at_file two_read (inr (inr (inl refl))) c.from_residual.result c.from_residual.ensures.1 c.in_err-checked.ensures.err
 
 pub returns-in_err-text : goal.returns-in_err-text
 returns-in_err-text g c = λ bench.
-    handed_follows c.from_residual-in_err-text.result c.from_residual-in_err-text.ensures.1
-    (result_then (says_valid c.args.subject.now) (g.met.S.Shelf.sure_tells _) c.in_ok-checked.ensures.ok.2 (follows_nothing (g.S.Shelf.state c.read_result.new.shelf) two_read.breaks))
+    no_memory_after two_read c.from_residual-in_err-text.result c.from_residual-in_err-text.ensures.1 (g.met.S.Shelf.sure_tells _) c.in_ok-checked.ensures.ok.2
 
 pub returns : goal.returns
 returns g c = λ bench.
@@ -27,4 +19,4 @@ returns g c = λ bench.
     let read = c.in_ok-checked.ensures.ok in
     let text = c.as_bytes.ensures.value ∙ c.in_ok-text.ensures in
     let is : IsValidText circuit (text_of read.0) c.as_bytes.result.now = record { records = read.0; spelled = refl; valid = read.1.valid; text_is = text ∙ ap valid_text read.1.summary } in
-    result_then (says_valid circuit) (g.met.S.Shelf.sure_tells _) read.2 (says_follows (IsValidText circuit (text_of read.0)) two_read.breaks (inl refl) is c.say.ensures)
+    goes_on (g.met.S.Shelf.sure_tells _) read.2 (says_follows (IsValidText circuit (text_of read.0)) two_read.breaks (inl refl) is c.say.ensures)

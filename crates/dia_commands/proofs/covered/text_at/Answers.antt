@@ -1,18 +1,19 @@
-use Rattle.std.proofs.Common.{◌∙◌, ap}
+use Rattle.std.proofs.Common.{◌∙◌, ap, subst}
+use Rattle.net_model.specs.Circuit.{IsCircuit}
 use Rattle.dia_commands.specs.Texts.{cover_text}
 use Rattle.dia_commands.proofs.MadeLemmas.{answers_of_table, are_answers}
 use Rattle.dia_commands.proofs.covered.text_at.Goals as goal
 
 pub returns : goal.returns
 returns c =
-    let circuit = c.args.setting.now.circuit.now in
+    let circuit = c.args.setting.now.subject.now in
     let patterns = c.args.setting.now.patterns.now in
     let classes = c.args.setting.now.classes.now in
     let lines = c.args.partial.now in
     let choices = c.in_ok-choices.choices in
     let answers = answers_of_table c.requires.setting.classes in
     let are = are_answers c.requires.setting.classes in
-    let classed = c.circuits_are_classed.ensures circuit patterns classes answers c.sources-sources.ensures.circuit c.requires.setting.classes are in
+    let classed = c.circuits_are_classed.ensures circuit patterns classes answers (subst IsCircuit c.circuit.ensures.value c.stands.ensures) c.requires.setting.classes are in
     let cover = c.in_ok-choices.ensures answers are in
     record {
       table = answers;

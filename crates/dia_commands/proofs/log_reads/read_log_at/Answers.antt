@@ -3,7 +3,8 @@ use Rattle.std.proofs.lemmas.Result.{IfOk-weaker, IfErr-weaker}
 use Rattle.net_model.specs.Circuit.{Circuit}
 use Rattle.kept_vectors.proofs.KeepLemmas.{table_patterns}
 use Rattle.ranked_diag.specs.PartialLog.{ArePartial}
-use Rattle.dia_commands.proofs.SuspectLemmas.{accepted_as, over_as, log_at, refused_at}
+use Rattle.dia_commands.proofs.Judged.{accepted_as, over_as}
+use Rattle.dia_commands.proofs.SuspectLemmas.{log_at, refused_at}
 use Rattle.dia_commands.proofs.log_reads.read_log_at.Goals as goal
 
 pub returns-clause-lines : goal.returns-clause-lines

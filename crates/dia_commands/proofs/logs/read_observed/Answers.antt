@@ -1,27 +1,17 @@
-use Rattle.std.proofs.Common.{refl}
-use Rattle.dia_commands.specs.Texts.{log_text}
-use Rattle.dia_commands.specs.Logs.{IsLogFor, IsRefusedLog}
-use Rattle.dia_commands.specs.Steps.{by_reading}
-use Rattle.dia_commands.proofs.HandedOn.{handed_err}
-use Rattle.dia_commands.proofs.ReadLemmas.{log_read, refused_text_read}
-use Rattle.dia_commands.proofs.Followed.{was_accepted, read_refused, over_memory}
+use Rattle.std.proofs.Common.{rules}
+use Rattle.std.proofs.lemmas.Result.{IfOk-weaker, IfErr-weaker}
+use Rattle.diagnose.specs.Lines.{TellsLogFault}
+use Rattle.diagnose.specs.LogText.{TesterLogRefused}
+use Rattle.dia_commands.specs.Logs.{IsLogFor}
+use Rattle.dia_commands.proofs.ReadLemmas.{log_read, lines_read, refused_by_some}
+use Rattle.dia_commands.proofs.Judged.{accepted_by, over_by}
 use Rattle.dia_commands.proofs.logs.read_observed.Goals as goal
 
-pub returns-in_err-bytes-clause-err : goal.returns-in_err-bytes-clause-err
-returns-in_err-bytes-clause-err g c = handed_err _ c.from_residual.result c.from_residual.ensures.1 (by_reading c.in_err-bytes.ensures.err)
+pub returns-clause-rows : goal.returns-clause-rows
+returns-clause-rows g c = IfOk-weaker c.read_judged.result _ _ (λ x some. let told = some.answered in let is : IsLogFor c.args.dict.now some.bytes.now x = search rules in is.rows) c.read_judged.ensures.judged
 
-pub returns-in-Ok-clause-rows : goal.returns-in-Ok-clause-rows
-returns-in-Ok-clause-rows g c = c.in-Ok.ensures.read.rows
-
-pub returns-in-Ok-clause-ok : goal.returns-in-Ok-clause-ok
-returns-in-Ok-clause-ok g c =
-    let is : IsLogFor c.args.dict.now c.in_ok-bytes.bytes.items c.in-Ok.observed = rw c.deref.ensures.value at c.in-Ok.ensures.read in
-    was_accepted c.in_ok-bytes.ensures.ok (λ all read. log_read c.args.dict.now read is)
-
-pub returns-in-Err-At-clause-err : goal.returns-in-Err-At-clause-err
-returns-in-Err-At-clause-err g c =
-    let refused : IsRefusedLog c.args.dict.now c.in_ok-bytes.bytes.items (log_text c.in-Err-At.kind c.in-Err-At.line) = record { kind = c.in-Err-At.kind; line = c.in-Err-At.line; refused = rw (c.deref.ensures.value, c.in-Err-At.field-0-is) at c.in-Err-At.ensures.refused; console_is = refl } in
-    read_refused c.in_ok-bytes.ensures.ok (λ all read. refused_text_read read refused) c.say_refusal.ensures
+pub returns-clause-ok : goal.returns-clause-ok
+returns-clause-ok g c = IfOk-weaker c.read_judged.result _ _ (λ x. accepted_by (λ bytes told. let is : IsLogFor c.args.dict.now bytes.now x = search rules in (λ all read. log_read c.args.dict.now read is))) c.read_judged.ensures.ok
 
 pub returns-clause-err : goal.returns-clause-err
-returns-clause-err g c = over_memory c.in_ok-bytes.ensures.ok.facts c.in_ok-bytes.ensures.ok.only
+returns-clause-err g c = IfErr-weaker c.read_judged.result _ _ (λ why. over_by (λ bytes fault told. let rule : TellsLogFault (TesterLogRefused c.args.dict.now.patterns c.args.dict.now.positions bytes.now) fault = search rules in (λ all console read. refused_by_some (λ kind line. lines_read read) fault rule))) c.read_judged.ensures.err

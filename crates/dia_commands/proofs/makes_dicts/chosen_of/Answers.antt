@@ -14,7 +14,7 @@ returns-clause-dictionary c = kind_made c.same_diff_at.result refl c.requires.cl
 
 pub returns-clause-most : goal.returns-clause-most
 returns-clause-most c =
-    let circuit = c.args.setting.now.circuit.now in
+    let circuit = c.args.setting.now.subject.now in
     let patterns = c.args.setting.now.patterns.now in
     let classes = c.args.setting.now.classes.now in
     IfOk-weaker c.same_diff_at.result (λ (d : Dict). (t : Answers) → AreAnswers circuit patterns t → IsSameDiff t (chosen_baselines classes t.rows) d) (KeepsMostApart circuit patterns classes)

@@ -20,7 +20,7 @@ returns-in-Full-clause-dictionary c = kind_made c.full_at.result c.in-Full.is c.
 
 pub returns-in-SameDiff-clause-dictionary : goal.returns-in-SameDiff-clause-dictionary
 returns-in-SameDiff-clause-dictionary c =
-    let circuit = c.args.setting.now.circuit.now in
+    let circuit = c.args.setting.now.subject.now in
     let patterns = c.args.setting.now.patterns.now in
     let classes = c.args.setting.now.classes.now in
     subst (λ (kind : EntryKind). IfOk c.chosen_of.result (IsOfPatterns circuit kind patterns classes)) (sym c.in-SameDiff.is) c.chosen_of.ensures.dictionary
@@ -28,16 +28,16 @@ returns-in-SameDiff-clause-dictionary c =
 pub returns-in-PassFail-clause-most : goal.returns-in-PassFail-clause-most
 returns-in-PassFail-clause-most c =
     let is = c.in-PassFail.is in
-    always (λ (d : Dict). c.args.kind ≡ SameDiff → KeepsMostApart c.args.setting.now.circuit.now c.args.setting.now.patterns.now c.args.setting.now.classes.now d) c.pass_fail_at.result (λ d same. absurd (cc))
+    always (λ (d : Dict). c.args.kind ≡ SameDiff → KeepsMostApart c.args.setting.now.subject.now c.args.setting.now.patterns.now c.args.setting.now.classes.now d) c.pass_fail_at.result (λ d same. absurd (cc))
 
 pub returns-in-Full-clause-most : goal.returns-in-Full-clause-most
 returns-in-Full-clause-most c =
     let is = c.in-Full.is in
-    always (λ (d : Dict). c.args.kind ≡ SameDiff → KeepsMostApart c.args.setting.now.circuit.now c.args.setting.now.patterns.now c.args.setting.now.classes.now d) c.full_at.result (λ d same. absurd (cc))
+    always (λ (d : Dict). c.args.kind ≡ SameDiff → KeepsMostApart c.args.setting.now.subject.now c.args.setting.now.patterns.now c.args.setting.now.classes.now d) c.full_at.result (λ d same. absurd (cc))
 
 pub returns-in-SameDiff-clause-most : goal.returns-in-SameDiff-clause-most
 returns-in-SameDiff-clause-most c =
-    let circuit = c.args.setting.now.circuit.now in
+    let circuit = c.args.setting.now.subject.now in
     let patterns = c.args.setting.now.patterns.now in
     let classes = c.args.setting.now.classes.now in
     IfOk-weaker c.chosen_of.result (KeepsMostApart circuit patterns classes) (λ (d : Dict). c.args.kind ≡ SameDiff → KeepsMostApart circuit patterns classes d) (λ d most same. most) c.chosen_of.ensures.most

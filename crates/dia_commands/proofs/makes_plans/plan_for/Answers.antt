@@ -3,7 +3,7 @@ use Rattle.dia_commands.proofs.makes_plans.plan_for.Goals as goal
 
 pub returns : goal.returns
 returns c =
-    let circuit = c.args.setting.now.circuit.now in
+    let circuit = c.args.setting.now.subject.now in
     let patterns = c.args.setting.now.patterns.now in
     let classes = c.args.setting.now.classes.now in
     let plan = c.in_ok-plan.plan in

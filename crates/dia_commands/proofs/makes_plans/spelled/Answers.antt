@@ -1,4 +1,4 @@
-use Rattle.std.proofs.Common.{◌∙◌, ap, ap₂, arith}
+use Rattle.std.proofs.Common.{◌∙◌, ap₂, arith}
 use Rattle.dia_commands.specs.Texts.{plan_counts_text}
 use Rattle.dia_commands.proofs.makes_plans.spelled.Goals as goal
 

@@ -1,18 +1,16 @@
-use Rattle.std.proofs.Common.{ap, Err}
-use Rattle.dia_commands.proofs.Refusals.{read_refused, IsCutFault, cut_refused, is_design}
+use Rattle.std.proofs.Common.{◌∙◌, ap, Err}
+use Rattle.dia_commands.proofs.HandedOn.{handed_err, ok_by, err_by}
+use Rattle.dia_commands.proofs.Refusals.{read_refused, cut_refused, is_design}
 use Rattle.dia_commands.proofs.netlists.judge.Goals as goal
 
-pub returns-in-Err-clause-refused : goal.returns-in-Err-clause-refused
-returns-in-Err-clause-refused c text is =
-    read_refused c.args.bytes.now text.items c.in-Err.fault (c.refusal.ensures text (cc)) c.in-Err.ensures.refused
+pub returns-in_err-statements-clause-refused : goal.returns-in_err-statements-clause-refused
+returns-in_err-statements-clause-refused c = handed_err _ c.from_residual.result c.from_residual.ensures.1 (λ text is. read_refused c.args.bytes.now text _ is c.in_err-statements.ensures.refused)
 
-pub returns-in-Ok-cut-clause-ok : goal.returns-in-Ok-cut-clause-ok
-returns-in-Ok-cut-clause-ok c = is_design c.in-Ok.ensures.ok c.in-Ok-cut.ensures.ok c.in-Ok-cut.ensures.circuit
+pub returns-clause-ok : goal.returns-clause-ok
+returns-clause-ok c = ok_by c.cut.result (λ design is. is_design c.in_ok-statements.ensures.ok (rw is at c.cut.ensures.ok) (rw is at c.cut.ensures.circuit))
 
 pub returns-clause-refused : goal.returns-clause-refused
-returns-clause-refused c text is =
-    let known : IsCutFault c.in-Ok.statements c.in-Err-cut.fault = record {
-      looped = λ place names e. c.in-Err-cut.ensures.looped place names (ap Err e);
-      no_rule = λ kind place e. c.in-Err-cut.ensures.no_rule kind place (ap Err e);
-    } in
-    cut_refused c.args.bytes.now text.items c.in-Ok.statements c.in-Err-cut.fault c.in-Ok.ensures.ok (c.refusal-in-Err-cut.ensures text (cc)) known
+returns-clause-refused c = err_by c.cut.result (λ fault is text said. cut_refused c.args.bytes.now text c.in_ok-statements.statements fault c.in_ok-statements.ensures.ok said (record {
+  looped = λ place names e. c.cut.ensures.looped place names (is ∙ ap Err e);
+  no_rule = λ kind place e. c.cut.ensures.no_rule kind place (is ∙ ap Err e);
+}))

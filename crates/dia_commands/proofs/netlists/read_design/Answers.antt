@@ -1,24 +1,16 @@
-use Rattle.std.proofs.Common.{List, ℕ, subst}
+use Rattle.std.proofs.Common.{rules, ◌≡◌, ℕ, List, Some}
+use Rattle.std.proofs.lemmas.Result.{IfOk-weaker, IfErr-weaker}
 use Rattle.dia_commands.specs.Netlists.{IsDesign, IsRefused}
-use Rattle.dia_commands.specs.Steps.{by_reading}
-use Rattle.dia_commands.proofs.HandedOn.{handed_err}
+use Rattle.dia_commands.specs.Steps.{fault_text}
 use Rattle.dia_commands.proofs.NetlistLemmas.{design_read, refused_read}
-use Rattle.dia_commands.proofs.Followed.{was_accepted, read_refused, over_memory}
+use Rattle.dia_commands.proofs.Judged.{accepted_by, over_by}
 use Rattle.dia_commands.proofs.netlists.read_design.Goals as goal
 
-pub returns-in_err-bytes-clause-err : goal.returns-in_err-bytes-clause-err
-returns-in_err-bytes-clause-err g c = handed_err _ c.from_residual.result c.from_residual.ensures.1 (by_reading c.in_err-bytes.ensures.err)
+pub returns-clause-named : goal.returns-clause-named
+returns-clause-named g c = IfOk-weaker c.read_judged.result _ _ (λ x some. let told = some.answered in search rules) c.read_judged.ensures.judged
 
-pub returns-in-Ok-clause-ok : goal.returns-in-Ok-clause-ok
-returns-in-Ok-clause-ok g c =
-    let judged : IsDesign c.in_ok-bytes.bytes.items c.in-Ok.design = rw c.deref.ensures.value at c.in-Ok.ensures.ok in
-    was_accepted c.in_ok-bytes.ensures.ok (λ all is. design_read is judged)
-
-pub returns-in-Err-Refused-clause-err : goal.returns-in-Err-Refused-clause-err
-returns-in-Err-Refused-clause-err g c =
-    let text = c.in-Err-Refused.text.items in
-    let refused : IsRefused c.in_ok-bytes.bytes.items text = subst (λ (b : List ℕ). IsRefused b text) c.deref.ensures.value (c.in-Err-Refused.ensures.refused c.in-Err-Refused.text (cc)) in
-    read_refused c.in_ok-bytes.ensures.ok (λ all is. refused_read is refused) (rw c.deref-in-Err-Refused.ensures.value at c.refuse.ensures)
+pub returns-clause-ok : goal.returns-clause-ok
+returns-clause-ok g c = IfOk-weaker c.read_judged.result _ _ (λ x. accepted_by (λ bytes told. let is : IsDesign bytes.now x = search rules in (λ all read. design_read read is))) c.read_judged.ensures.ok
 
 pub returns-clause-err : goal.returns-clause-err
-returns-clause-err g c = over_memory c.in_ok-bytes.ensures.ok.facts c.in_ok-bytes.ensures.ok.only
+returns-clause-err g c = IfErr-weaker c.read_judged.result _ _ (λ why. over_by (λ bytes fault told. let rule : (text : List ℕ) → fault_text fault ≡ Some text → IsRefused bytes.now text = search rules in (λ all console read is. refused_read read (rule console is)))) c.read_judged.ensures.err

@@ -11,7 +11,8 @@ use Rattle.dia_commands.specs.declared.ending.RunFault.{RunFault}
 use Rattle.dia_commands.specs.Ending.{read_fault}
 use Rattle.dia_commands.specs.Steps.{CouldNotRead, by_reading}
 use Rattle.dia_commands.proofs.HandedOn.{well_of, fault_of, handed_err}
-use Rattle.dia_commands.proofs.Followed.{fault_read, over_refused, read_after}
+use Rattle.dia_commands.proofs.Followed.{fault_read, over_said, read_after}
+use Rattle.dia_commands.proofs.ReadLemmas.{some_text}
 use Rattle.dia_commands.proofs.results.read_result.Goals as goal
 
 some_held : (o : Option (List ℕ)) → IsSome o → o ≡ Some (unwrap_or o [])
@@ -67,11 +68,11 @@ returns-in-Err-Result-clause-err g c =
     let is : IsOpened c.args.name.now (state c.args.shelf.now) (state c.open_file.new.self) = record { opened = rw well at c.open_file.ensures.opened; tells = opened.tells } in
     let fault = c.in-Err-Result.fault in
     let call = rw c.in-Err-Result.field-0-is at c.in-Err-Result.ensures.call in
-    over_refused (facts_after_read _ _ _ _ (facts_after_read _ _ _ _ (facts_same _) opened) call) (only_reads (state c.check_subject.new.shelf) is c.in-Err-Result.ensures.others)
-    (λ told.
+    over_said (facts_after_read _ _ _ _ (facts_after_read _ _ _ _ (facts_same _) opened) call) (only_reads (state c.check_subject.new.shelf) is c.in-Err-Result.ensures.others)
+    (λ console said told.
     let text = c.in-Err-Result.ensures.refused fault (ap Err c.in-Err-Result.field-0-is) in
-    (rest_of (state c.open_file.new.self).world, held is told, record { fault = fault; refused = subst (λ (t : List ℕ). FileRefused c.args.subject.now t fault) (sym (text.2 (is.tells ∙ told))) text.1; console_is = refl }))
-    c.say_refusal.ensures
+    (rest_of (state c.open_file.new.self).world, held is told, record { fault = fault; refused = subst (λ (t : List ℕ). FileRefused c.args.subject.now t fault) (sym (text.2 (is.tells ∙ told))) text.1; console_is = some_text said }))
+    c.say_fault.ensures
 
 pub returns-in-Err-Failed-clause-err : goal.returns-in-Err-Failed-clause-err
 returns-in-Err-Failed-clause-err g c =

@@ -4,7 +4,7 @@ use Rattle.dia_check.specs.Reader.{IsRefusedEnd}
 use Rattle.dia_commands.specs.Steps.{by_reading}
 use Rattle.dia_commands.proofs.HandedOn.{handed_err}
 use Rattle.dia_commands.proofs.ResultReads.{result_read, refused_result_read}
-use Rattle.dia_commands.proofs.Followed.{was_accepted, read_refused, over_memory}
+use Rattle.dia_commands.proofs.Followed.{was_accepted, over_said, over_memory}
 use Rattle.dia_commands.proofs.results.read_whole_result.Goals as goal
 
 pub returns-in_err-bytes-clause-err : goal.returns-in_err-bytes-clause-err
@@ -22,7 +22,8 @@ pub returns-in-Err-Result-clause-err : goal.returns-in-Err-Result-clause-err
 returns-in-Err-Result-clause-err g c =
     let fault = c.in-Err-Result.fault in
     let is : IsRefusedEnd c.args.subject.now c.in_ok-bytes.bytes.items fault = rw c.deref.ensures.value at (c.in-Err-Result.ensures.refused fault (ap Err c.in-Err-Result.field-0-is)) in
-    read_refused c.in_ok-bytes.ensures.ok (λ all read. refused_result_read read is) c.say_refusal.ensures
+    let was = c.in_ok-bytes.ensures.ok in
+    over_said was.facts was.only (λ text said told. let read = was.held told in (read.0, read.1, refused_result_read read.2 is said)) c.say_fault.ensures
 
 pub returns-clause-err : goal.returns-clause-err
 returns-clause-err g c = over_memory c.in_ok-bytes.ensures.ok.facts c.in_ok-bytes.ensures.ok.only

@@ -1,4 +1,5 @@
-use Rattle.std.proofs.Common.{◌∙◌, ℕ, List, ap₂, sym, subst}
+use Rattle.std.proofs.Common.{◌∙◌, List, ap₂, sym, subst}
+use Rattle.net_model.specs.Circuit.{IsCircuit}
 use Rattle.ranked_diag.specs.PartialLog.{Line}
 use Rattle.suspect_scores.specs.Listed.{AreSuspects}
 use Rattle.suspect_scores.specs.Laws.{StandsFirst}
@@ -8,7 +9,7 @@ use Rattle.dia_commands.proofs.suspected.text_at.Goals as goal
 
 pub returns : goal.returns
 returns c =
-    let circuit = c.args.setting.now.circuit.now in
+    let circuit = c.args.setting.now.subject.now in
     let patterns = c.args.setting.now.patterns.now in
     let classes = c.args.setting.now.classes.now in
     let lines = c.args.partial.now in
@@ -16,7 +17,7 @@ returns c =
     let listed = c.in_ok-listed.listed in
     let answers = answers_of_table c.requires.setting.classes in
     let are = are_answers c.requires.setting.classes in
-    let classed = c.circuits_are_classed.ensures circuit patterns classes answers c.sources-sources.ensures.circuit c.requires.setting.classes are in
+    let classed = c.circuits_are_classed.ensures circuit patterns classes answers (subst IsCircuit c.circuit.ensures.value c.stands.ensures) c.requires.setting.classes are in
     let suspects = c.in_ok-listed.ensures answers are in
     record {
       table = answers;

@@ -1,7 +1,9 @@
-use Rattle.std.proofs.Common.{◌∙◌, ◌∷◌, [], ℕ, List, refl, inl, inr, subst}
+use Rattle.std.proofs.Common.{◌∙◌, ◌∷◌, [], ℕ, List, refl, ap, inl, inr, subst}
 use Rattle.dia_commands.specs.Outputs.{synth_budgets}
 use Rattle.synth_netlist.specs.Synth.{synth_text}
+use Rattle.dia_commands.specs.Texts.{refusal_text, loop_text}
 use Rattle.dia_commands.specs.Netlists.{IsDesign, IsRefused}
+use Rattle.dia_commands.specs.Steps.{fault_text}
 use Rattle.dia_commands.specs.Ran.{SavesResult}
 use Rattle.dia_commands.proofs.NetlistLemmas.{never_with_text}
 use Rattle.dia_commands.proofs.Followed.{handed_follows, follows_nothing}
@@ -10,8 +12,14 @@ use Rattle.dia_commands.proofs.synths.synthesize.Goals as goal
 
 pub unreachable-requires : goal.unreachable-requires
 unreachable-requires g c =
-    let text = c.in-Err-Refused.field-0-0 in
-    let refused : IsRefused (synth_text c.args.n) text.items = subst (λ (b : List ℕ). IsRefused b text.items) (c.deref.ensures.value ∙ c.in_ok-text.ensures) (c.in-Err-Refused.ensures.refused text (cc)) in
+    let text = refusal_text c.in-Err-At.field-0-0 c.in-Err-At.field-0-1 in
+    let refused : IsRefused (synth_text c.args.n) text = subst (λ (b : List ℕ). IsRefused b text) (c.deref.ensures.value ∙ c.in_ok-text.ensures) (c.in-Err-At.ensures.refused text (ap fault_text c.in-Err-At.field-0-is)) in
+    never_with_text (c.no_number_is_refused.ensures c.args.n c.requires.most) refused
+
+pub unreachable-requires-in-Err-Loop : goal.unreachable-requires-in-Err-Loop
+unreachable-requires-in-Err-Loop g c =
+    let text = loop_text c.in-Err-Loop.field-0-0 c.in-Err-Loop.field-0-1 in
+    let refused : IsRefused (synth_text c.args.n) text = subst (λ (b : List ℕ). IsRefused b text) (c.deref.ensures.value ∙ c.in_ok-text.ensures) (c.in-Err-Loop.ensures.refused text (ap fault_text c.in-Err-Loop.field-0-is)) in
     never_with_text (c.no_number_is_refused.ensures c.args.n c.requires.most) refused
 
 pub returns-in-Ok : goal.returns-in-Ok

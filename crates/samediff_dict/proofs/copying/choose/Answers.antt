@@ -1,11 +1,10 @@
-use Rattle.std.proofs.Common.{◌≡◌, ◌∙◌, ◌<◌, ℕ, List, length, map, refl, sym, ap, subst, arith}
+use Rattle.std.proofs.Common.{◌≡◌, ◌∙◌, ◌<◌, List, length, map, refl, sym, ap, subst, arith}
 use Rattle.std.specs.Prelude.{All}
 use Rattle.std.specs.List.{range_with_len}
-use Rattle.std.proofs.lemmas.List.FromFn.{length-map-range_with_len}
 use Rattle.net_model.specs.ClassTable.{class_count, representative}
 use Rattle.samediff_dict.specs.declared.numbering.Candidates.{Candidates}
 use Rattle.samediff_dict.specs.Numbered.{HaveCandidates}
-use Rattle.samediff_dict.proofs.MadeLemmas.{numbered_none, numbered_more, numbered_all, leads_known, leads_answer}
+use Rattle.samediff_dict.proofs.MadeLemmas.{numbered_none, numbered_more, numbered_all, leads_answer}
 use Rattle.samediff_dict.proofs.copying.choose.Goals as goal
 use Rattle.samediff_dict.proofs.copying.choose.Goals.{After-as_slice}
 
@@ -13,12 +12,10 @@ leads_are : (c : After-as_slice) → c.as_slice.result.now ≡ map (representati
 leads_are c = c.as_slice.ensures.value ∙ c.in_ok-leads.ensures.lowest
 
 pub add_candidates-requires-clause-known : goal.add_candidates-requires-clause-known
-add_candidates-requires-clause-known c =
-    subst (λ (xs : List ℕ). All (λ lead. lead < c.args.table.now.numbers) xs) (sym (leads_are (goal.at.add_candidates-requires-clause-known c).After-as_slice)) (leads_known c.args.classes.now c.count-count.ensures.whole c.args.table.now.numbers c.requires.numbers)
+add_candidates-requires-clause-known c = rw c.as_slice.ensures.value (subst (λ n. All (λ lead. lead < n) c.in_ok-leads.leads.items) c.requires.numbers c.in_ok-leads.ensures.within)
 
 pub add_candidates-requires-clause-few : goal.add_candidates-requires-clause-few
-add_candidates-requires-clause-few c =
-    omega (arith, ap length (leads_are (goal.at.add_candidates-requires-clause-few c).After-as_slice), length-map-range_with_len (representative c.args.classes.now) 0 (class_count c.args.classes.now), c.count-count.ensures.value, c.count-count.type_inv)
+add_candidates-requires-clause-few c = omega (arith, ap length c.as_slice.ensures.value, c.in_ok-leads.ensures.few)
 
 pub chosen_rows-requires : goal.chosen_rows-requires
 chosen_rows-requires c =

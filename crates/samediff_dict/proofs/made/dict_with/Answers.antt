@@ -1,6 +1,7 @@
 use Rattle.std.proofs.Common.{◌≡◌, ◌∙◌, Bool, List, length, map, sym, ap, subst, arith}
 use Rattle.std.specs.List.{range_with_len}
 use Rattle.std.proofs.lemmas.Result.{IfOk-weaker}
+use Rattle.net_model.specs.Circuit.{Circuit, IsCircuit}
 use Rattle.net_model.specs.ClassTable.{class_count}
 use Rattle.class_refine.proofs.PatternTables.{table_numbers}
 use Rattle.dict_rows.specs.declared.dict.Dict.{Dict}
@@ -29,15 +30,15 @@ class_entries-requires g c =
     subst (λ n. HaveClasses n c.args.patterns.now chosen) (sym c.count.ensures.value) (have_classes c.args.setting.now.classes.now g.t.rows c.args.patterns.now chosen c.requires.1.1.0 has.one_each has.chosen_are)
 
 pub dict_of_classes-requires-clause-numbers : goal.dict_of_classes-requires-clause-numbers
-dict_of_classes-requires-clause-numbers g c = c.len-numbers.ensures.value ∙ (ap length c.requires.0.answerable.faults_are ∙ sym (table_numbers c.requires.0.classes))
+dict_of_classes-requires-clause-numbers g c = c.numbers-numbers.ensures.value ∙ sym (table_numbers c.requires.0.classes)
 
 pub dict_of_classes-requires-clause-few : goal.dict_of_classes-requires-clause-few
 dict_of_classes-requires-clause-few g c =
-    omega (arith, c.in_ok-baselines.ensures.shape.count_is, patterns_are c.args.setting.now.circuit.now c.args.setting.now.patterns.now g.t c.requires.1.0, c.requires.0.answerable.few)
+    omega (arith, c.in_ok-baselines.ensures.shape.count_is, patterns_are c.args.setting.now.subject.now c.args.setting.now.patterns.now g.t c.requires.1.0, c.requires.0.answerable.few)
 
 pub returns : goal.returns
 returns g c =
-    let circuit = c.args.setting.now.circuit.now in
+    let circuit = c.args.setting.now.subject.now in
     let k = c.args.setting.now.classes.now in
     let patterns = c.args.patterns.now in
     let chosen = c.args.chosen.now in
@@ -46,16 +47,16 @@ returns g c =
     let baselines = c.in_ok-baselines.baselines in
     let same = c.in_ok-baselines.ensures.rows in
     let shape = subst (λ (bs : List (List Bool)). AreRows (length g.t.rows) g.t.positions bs) same c.in_ok-baselines.ensures.shape in
-    let alike = answer_alike circuit c.positions.ensures.circuit c.args.setting.now.patterns.now k c.requires.0.classes g.t c.requires.1.0 in
+    let alike = answer_alike circuit (subst IsCircuit c.circuit.ensures.value c.circuit.ensures.circuit) c.args.setting.now.patterns.now k c.requires.0.classes g.t c.requires.1.0 in
     let listed : c.in_ok-entries.entries ≡ map (class_entry patterns chosen) (range_with_len 0 (class_count k)) = c.in_ok-entries.ensures.entries ∙ ap (λ n. map (class_entry patterns chosen) (range_with_len 0 n)) c.count.ensures.value in
     let entries : AreEntriesOfClasses k c.in_ok-entries.entries (same_diff_entry g.t.rows baselines) =
     subst (λ (bs : List (List Bool)). AreEntriesOfClasses k c.in_ok-entries.entries (same_diff_entry g.t.rows bs)) (sym same)
     (subst (λ (es : List (List Bool)). AreEntriesOfClasses k es (same_diff_entry g.t.rows bases)) (sym listed) (entries_are k g.t patterns chosen c.requires.1.1.0 has.one_each has.chosen_are shape c.count.ensures.whole alike)) in
-    let sizes : HasSizes g.t (length baselines) c.len-numbers.result (length c.positions.result.now) = record {
+    let sizes : HasSizes g.t (length baselines) c.numbers-numbers.result (length c.positions.result.now) = record {
       patterns_are = sym c.in_ok-baselines.ensures.shape.count_is;
-      numbers_are = c.requires.1.0.numbers ∙ (ap length (sym c.requires.0.answerable.faults_are) ∙ sym c.len-numbers.ensures.value);
-      positions_are = c.requires.1.0.positions ∙ ap length (sym c.positions.ensures.value);
+      numbers_are = c.requires.1.0.numbers ∙ sym c.numbers-numbers.ensures.value;
+      positions_are = c.requires.1.0.positions ∙ ap length (sym (c.positions.ensures.value ∙ ap (λ (n : Circuit). n.positions) c.circuit.ensures.value));
     } in
     IfOk-weaker c.dict_of_classes.result
-    (λ (d : Dict). (t : Answers) → HasSizes t (length baselines) c.len-numbers.result (length c.positions.result.now) → AreEntriesOfClasses k c.in_ok-entries.entries (same_diff_entry t.rows baselines) → IsDictionary d SameDiff t baselines (same_diff_entry t.rows baselines))
+    (λ (d : Dict). (t : Answers) → HasSizes t (length baselines) c.numbers-numbers.result (length c.positions.result.now) → AreEntriesOfClasses k c.in_ok-entries.entries (same_diff_entry t.rows baselines) → IsDictionary d SameDiff t baselines (same_diff_entry t.rows baselines))
     (IsSameDiff g.t (chosen_baselines k g.t.rows)) (λ d made. subst (λ (bs : List (List Bool)). IsSameDiff g.t bs d) (same ∙ has.baselines_are) (made g.t sizes entries)) c.dict_of_classes.ensures

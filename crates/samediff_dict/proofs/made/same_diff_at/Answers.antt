@@ -1,5 +1,6 @@
 use Rattle.std.proofs.Common.{List, sym, subst}
 use Rattle.std.proofs.lemmas.Result.{IfOk-weaker}
+use Rattle.net_model.specs.Circuit.{IsCircuit}
 use Rattle.dict_rows.specs.AnswerTable.{Answers}
 use Rattle.dict_rows.specs.Dictionary.{IsSameDiff}
 use Rattle.table_dicts.specs.Setting.{AreAnswersAt}
@@ -13,15 +14,15 @@ use Rattle.samediff_dict.proofs.made.same_diff_at.Goals as goal
 pub dict_among-requires : goal.dict_among-requires
 dict_among-requires c =
     let setting = c.args.setting.now in
-    let t = evaluated_answers setting.circuit.now setting.patterns.now in
-    let are = evaluated_are setting.circuit.now c.sources-sources.ensures.circuit setting.patterns.now in
+    let t = evaluated_answers setting.subject.now setting.patterns.now in
+    let are = evaluated_are setting.subject.now (subst IsCircuit c.circuit.ensures.value c.stands.ensures) setting.patterns.now in
     (c.requires, (are, subst (λ (xs : List Candidates). HaveCandidates setting.classes.now t.rows xs) (sym c.as_slice.ensures.value) (c.in_ok-found.ensures t are)))
 
 pub returns : goal.returns
 returns c =
     let setting = c.args.setting.now in
     let classes = setting.classes.now in
-    let is = c.sources-sources.ensures.circuit in
-    let t = evaluated_answers setting.circuit.now setting.patterns.now in
+    let is = subst IsCircuit c.circuit.ensures.value c.stands.ensures in
+    let t = evaluated_answers setting.subject.now setting.patterns.now in
     IfOk-weaker c.dict_among.result (IsSameDiff t (chosen_baselines classes t.rows)) (λ dict. (u : Answers) → AreAnswersAt setting u → IsSameDiff u (chosen_baselines classes u.rows) dict)
-    (λ dict made u of. subst (λ (v : Answers). IsSameDiff v (chosen_baselines classes v.rows) dict) (one_answers setting.circuit.now is (evaluated_are setting.circuit.now is setting.patterns.now) of) made) c.dict_among.ensures
+    (λ dict made u of. subst (λ (v : Answers). IsSameDiff v (chosen_baselines classes v.rows) dict) (one_answers setting.subject.now is (evaluated_are setting.subject.now is setting.patterns.now) of) made) c.dict_among.ensures

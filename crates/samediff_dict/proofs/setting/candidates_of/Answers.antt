@@ -11,7 +11,7 @@ fill_block-requires-clause-few c = c.end_after-end.ensures.few
 
 pub loop-first-preserved : goal.loop-first-preserved
 loop-first-preserved c =
-    let circuit = c.args.setting.now.circuit.now in
+    let circuit = c.args.setting.now.subject.now in
     let leads = c.args.leads.now in
     let so_far = c.loop-first.invariant in
     let first = c.loop-first.first in
@@ -34,7 +34,7 @@ loop-first-preserved c =
 pub returns : goal.returns
 returns c = λ t of.
     let s = c.args.setting.now in
-    let found : AreFoundTo s.circuit.now c.args.leads.now s.patterns.now c.loop-first.first c.loop-first.patterns.items =
-    subst (λ (vs : List (List Bool)). AreFoundTo s.circuit.now c.args.leads.now vs c.loop-first.first c.loop-first.patterns.items) c.as_slice-vectors.ensures c.loop-first.invariant.found in
-    found_all s.classes.now s.circuit.now s.patterns.now c.args.leads.now c.requires.leads c.requires.within t of c.loop-first.first c.loop-first.patterns.items found
+    let found : AreFoundTo s.subject.now c.args.leads.now s.patterns.now c.loop-first.first c.loop-first.patterns.items =
+    subst (λ (vs : List (List Bool)). AreFoundTo s.subject.now c.args.leads.now vs c.loop-first.first c.loop-first.patterns.items) c.as_slice-vectors.ensures c.loop-first.invariant.found in
+    found_all s.classes.now s.subject.now s.patterns.now c.args.leads.now c.requires.leads c.requires.within t of c.loop-first.first c.loop-first.patterns.items found
     (omega (arith, c.loop-first.invariant.within, ap length c.as_slice-vectors.ensures))

@@ -24,13 +24,13 @@ module _ (g : given.Over) (c : After-as_slice g) where
 
   -- there is a pattern for each
   all : length c.args.chosen.now ≡ length c.args.setting.now.patterns.now
-  all = c.requires.0.one_each ∙ patterns_are c.args.setting.now.circuit.now c.args.setting.now.patterns.now g.t c.requires.0.answers
+  all = c.requires.0.one_each ∙ patterns_are c.args.setting.now.subject.now c.args.setting.now.patterns.now g.t c.requires.0.answers
 
   leads : AreLeads c.args.setting.now.classes.now (slice_range c.args.patterns.now c.args.first c.args.end) (slice_range c.args.chosen.now c.args.first c.args.end) count c.as_slice.result.now
   leads = subst (λ (xs : List ℕ). AreLeads c.args.setting.now.classes.now (slice_range c.args.patterns.now c.args.first c.args.end) (slice_range c.args.chosen.now c.args.first c.args.end) count xs) (sym c.as_slice.ensures.value) c.in_ok-leads.ensures
 
 pub number_answers-requires-clause-numbers : goal.number_answers-requires-clause-numbers
-number_answers-requires-clause-numbers g c = leads_inside (leads g (goal.at.number_answers-requires-clause-numbers g c).After-as_slice) (fault_count c.args.setting.now.circuit.now) (table_numbers c.requires.0.setting.classes)
+number_answers-requires-clause-numbers g c = leads_inside (leads g (goal.at.number_answers-requires-clause-numbers g c).After-as_slice) (fault_count c.args.setting.now.subject.now) (table_numbers c.requires.0.setting.classes)
 
 pub number_answers-requires-clause-count : goal.number_answers-requires-clause-count
 number_answers-requires-clause-count g c =

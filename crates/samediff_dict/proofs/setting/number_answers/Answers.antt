@@ -1,5 +1,6 @@
 use Rattle.std.proofs.Common.{◌≡◌, ◌∙◌, ◌-◌, List, Bool, length, get_or, sym, ap, subst, arith}
 use Rattle.std.specs.Prelude.{slice_range}
+use Rattle.net_model.specs.Circuit.{IsCircuit}
 use Rattle.dict_rows.specs.AnswerTable.{AreAnswerable, answer_to}
 use Rattle.samediff_dict.proofs.EvaluatedLemmas.{evaluated_answers, evaluated_are}
 use Rattle.samediff_dict.proofs.MadeLemmas.{length-range, answerable_range, range_answers}
@@ -11,13 +12,13 @@ slice_bounds-some-end c = omega (arith, ap length c.as_slice-patterns.ensures, c
 pub number_answers_at-requires-clause-answerable : goal.number_answers_at-requires-clause-answerable
 number_answers_at-requires-clause-answerable c =
     let setting = c.args.setting.now in
-    subst (λ (ps : List (List Bool)). AreAnswerable setting.circuit.now setting.faults.now (slice_range ps c.args.first c.args.end)) (sym c.as_slice-patterns.ensures)
+    subst (λ (ps : List (List Bool)). AreAnswerable setting.subject.now (slice_range ps c.args.first c.args.end)) (sym c.as_slice-patterns.ensures)
     (answerable_range c.requires.setting.answerable c.args.first c.args.end c.requires.end)
 
 pub returns : goal.returns
 returns c =
-    let circuit = c.args.setting.now.circuit.now in
-    let is = c.sources-sources.ensures.circuit in
+    let circuit = c.args.setting.now.subject.now in
+    let is = subst IsCircuit c.circuit.ensures.value c.stands.ensures in
     let patterns = c.args.setting.now.patterns.now in
     let first = c.args.first in
     let end = c.args.end in

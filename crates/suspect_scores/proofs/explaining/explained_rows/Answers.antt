@@ -33,7 +33,7 @@ loop-first-preserved c =
     let within : end ≤ length patterns = omega (arith, c.run-end.ensures.end) in
     let inside : end ≤ length logged.patterns.items = omega (arith, within, ap length same) in
     let block : vectors ≡ slice_range logged.patterns.items first end = c.run-end.ensures.vectors ∙ ap (λ (ps : List (List Bool)). slice_range ps first end) same in
-    let circuit : c.run-end.new.self.good.circuit ≡ s.circuit.now = c.run-end.ensures.circuit ∙ so_far.circuit in
+    let circuit : c.run-end.new.self.good.circuit ≡ s.subject.now = c.run-end.ensures.circuit ∙ so_far.circuit in
     let noted = subst (λ (k : Circuit). AreNoted k vectors logged.columns first c.loop-first.rows c.note_lines.new.rows numbers (length numbers)) circuit c.note_lines.ensures.noted in
     record {
       bench = c.note_lines.ensures.run.bench;

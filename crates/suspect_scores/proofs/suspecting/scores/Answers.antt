@@ -48,8 +48,8 @@ loop-first-preserved c =
     let within : end ≤ length patterns = omega (arith, c.run-end.ensures.end) in
     let inside : end ≤ length logged.patterns.items = omega (arith, within, ap length same) in
     let block : vectors ≡ slice_range logged.patterns.items first end = c.run-end.ensures.vectors ∙ ap (λ (ps : List (List Bool)). slice_range ps first end) same in
-    let circuit : c.run-end.new.self.good.circuit ≡ s.circuit.now = c.run-end.ensures.circuit ∙ so_far.circuit in
-    let built : IsCircuit s.circuit.now = subst IsCircuit circuit c.run-end.ensures.run.bench.circuit in
+    let circuit : c.run-end.new.self.good.circuit ≡ s.subject.now = c.run-end.ensures.circuit ∙ so_far.circuit in
+    let built : IsCircuit s.subject.now = subst IsCircuit circuit c.run-end.ensures.run.bench.circuit in
     let added = subst (λ (k : Circuit). AreAdded k vectors logged.columns first old new) circuit c.add_lines.ensures.added in
     record {
       bench = c.add_lines.ensures.run.bench;

@@ -12,8 +12,8 @@ scores-requires-clause-answered c = c.in_ok-logged.ensures.answered
 
 pub scores-requires-clause-numbers : goal.scores-requires-clause-numbers
 scores-requires-clause-numbers c =
-    subst (λ (xs : List ℕ). All (λ number. number < fault_count c.args.setting.now.circuit.now) xs) (sym c.as_slice.ensures.value)
-    (subst (λ n. All (λ number. number < n) c.in_ok-lowest.lowest.items) (table_numbers c.args.setting.now.circuit.now c.args.setting.now.patterns.now c.args.setting.now.classes.now c.requires.setting.classes) c.in_ok-lowest.ensures.within)
+    subst (λ (xs : List ℕ). All (λ number. number < fault_count c.args.setting.now.subject.now) xs) (sym c.as_slice.ensures.value)
+    (subst (λ n. All (λ number. number < n) c.in_ok-lowest.lowest.items) (table_numbers c.args.setting.now.subject.now c.args.setting.now.patterns.now c.args.setting.now.classes.now c.requires.setting.classes) c.in_ok-lowest.ensures.within)
 
 pub returns : goal.returns
 unfolding hitting representatives

@@ -18,7 +18,7 @@ pick-requires c =
 
 pub returns : goal.returns
 returns c =
-    let circuit = c.args.circuit.now in
+    let circuit = c.args.subject.now in
     let patterns = c.args.patterns.now in
     let listed = c.in_ok-listed.listed in (
       listed,

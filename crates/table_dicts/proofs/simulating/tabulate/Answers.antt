@@ -11,7 +11,7 @@ use Rattle.table_dicts.proofs.simulating.tabulate.Goals.{After-new-in-loop-first
 pub loop-first-init : goal.loop-first-init
 loop-first-init c =
     let sizes = c.in_ok-table.ensures.sizes in
-    let circuit = c.args.circuit.now in
+    let circuit = c.args.subject.now in
     let patterns = c.args.patterns.now in
     let numbers = c.args.numbers.now in
     record {
@@ -20,7 +20,7 @@ loop-first-init c =
       within = omega arith;
       aligned = λ h. omega arith;
       right = right_none (IsListedBit c.args.kept circuit patterns numbers) (length patterns) (length numbers) (kept_width c.args.kept (length circuit.positions)) c.in_ok-table.table
-          (record { patterns_are = sizes.patterns_are; numbers_are = sizes.numbers_are; positions_are = sizes.positions_are ∙ (c.width_of-width.ensures ∙ ap (λ (ps : List ℕ). kept_width c.args.kept (length ps)) c.positions.ensures.value) });
+          (record { patterns_are = sizes.patterns_are; numbers_are = sizes.numbers_are; positions_are = sizes.positions_are ∙ (c.width_of-width.ensures ∙ ap (λ (ps : List ℕ). kept_width c.args.kept (length ps)) (c.positions-positions.ensures.value ∙ ap (λ (k : Circuit). k.positions) c.circuit.ensures.value)) });
     }
 
 pub run-end-requires-clause-widths : goal.run-end-requires-clause-widths
@@ -28,7 +28,7 @@ run-end-requires-clause-widths c = subst (λ (k : Circuit). All (λ v. length v 
 
 -- the bench that has run a block is that of the circuit, and has the patterns of the block
 module _ (c : After-new-in-loop-first) where
-  circuit_is : c.new-in-loop-first.new.bench.good.circuit ≡ c.args.circuit.now
+  circuit_is : c.new-in-loop-first.new.bench.good.circuit ≡ c.args.subject.now
   circuit_is = ap (λ (b : Bench). b.good.circuit) c.new-in-loop-first.ensures.bench ∙ (c.run-end.ensures.circuit ∙ c.loop-first.invariant.circuit)
 
   vectors_are : c.new-in-loop-first.new.bench.block.vectors ≡ slice_range c.args.patterns.now c.loop-first.first c.run-end.result
@@ -43,7 +43,7 @@ write_block-requires-clause-rows c = c.loop-first.invariant.right.sizes.numbers_
 
 pub write_block-requires-clause-free : goal.write_block-requires-clause-free
 write_block-requires-clause-free c =
-    omega (arith, c.in_ok-free.ensures.width, c.width_of-width.ensures, ap (λ (ps : List ℕ). kept_width c.args.kept (length ps)) c.positions.ensures.value, c.loop-first.invariant.right.sizes.positions_are)
+    omega (arith, c.in_ok-free.ensures.width, c.width_of-width.ensures, ap (λ (ps : List ℕ). kept_width c.args.kept (length ps)) (c.positions-positions.ensures.value ∙ ap (λ (k : Circuit). k.positions) c.circuit.ensures.value), c.loop-first.invariant.right.sizes.positions_are)
 
 pub write_block-requires-clause-fits : goal.write_block-requires-clause-fits
 write_block-requires-clause-fits c =
@@ -77,8 +77,8 @@ loop-first-preserved c =
       circuit = ap (λ (b : Bench). b.good.circuit) c.write_block.ensures.bench ∙ circuit;
       within = within;
       aligned = λ h. omega (arith, h, c.run-end.ensures.end, so_far.aligned c.loop-first-test.true);
-      right = right_more end so_far.right set (listed_moved c.args.circuit.now patterns vectors first end (vectors_are at) order within kept numbers)
-          (block_end c.args.circuit.now patterns vectors first end (vectors_are at) order within) within;
+      right = right_more end so_far.right set (listed_moved c.args.subject.now patterns vectors first end (vectors_are at) order within kept numbers)
+          (block_end c.args.subject.now patterns vectors first end (vectors_are at) order within) within;
     }
 
 pub loop-first-smaller : goal.loop-first-smaller
@@ -89,4 +89,4 @@ returns c =
     let patterns = c.args.patterns.now in
     let numbers = c.args.numbers.now in
     let all : c.loop-first.first ≡ length patterns = omega (arith, c.loop-first.invariant.within) in
-    subst (λ n. AreRightBits (IsListedBit c.args.kept c.args.circuit.now patterns numbers) (length patterns) (length numbers) (kept_width c.args.kept (length c.args.circuit.now.positions)) n c.loop-first.table) all c.loop-first.invariant.right
+    subst (λ n. AreRightBits (IsListedBit c.args.kept c.args.subject.now patterns numbers) (length patterns) (length numbers) (kept_width c.args.kept (length c.args.subject.now.positions)) n c.loop-first.table) all c.loop-first.invariant.right

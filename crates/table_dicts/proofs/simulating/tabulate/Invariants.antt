@@ -5,10 +5,10 @@ use Rattle.table_dicts.proofs.simulating.tabulate.Given as goal
 abbrev pub invariant-loop-first : goal.invariant-loop-first
 invariant-loop-first l = record {
   bench : IsBench l.bench.good.circuit l.bench;
-  circuit : l.bench.good.circuit ≡ l.circuit;
+  circuit : l.bench.good.circuit ≡ l.fn.subject;
   within : l.first ≤ length l.patterns;
   aligned : l.first < length l.patterns → l.first % 64 ≡ 0;
-  right : AreRightBits (IsListedBit l.kept l.circuit l.patterns l.numbers) (length l.patterns) (length l.numbers) (kept_width l.kept (length l.circuit.positions)) l.first l.table;
+  right : AreRightBits (IsListedBit l.kept l.fn.subject l.patterns l.numbers) (length l.patterns) (length l.numbers) (kept_width l.kept (length l.fn.subject.positions)) l.first l.table;
 }
 
 abbrev pub decreases-loop-first : goal.decreases-loop-first

@@ -6,11 +6,14 @@ use Rattle.table_dicts.proofs.bench.Bench.new.Goals as goal
 
 pub returns-clause-bench : goal.returns-clause-bench
 returns-clause-bench c =
-    let same : c.in_ok-new-2.field-0.circuit ≡ c.args.circuit.now = ap (λ (good : GoodSim). good.circuit) c.in_ok-new-2.ensures in
+    let same : c.in_ok-new-2.field-0.circuit ≡ c.circuit-circuit.result.now = ap (λ (good : GoodSim). good.circuit) c.in_ok-new-2.ensures in
     record {
       circuit = rw same c.sources.ensures.circuit;
-      faults_are = rw same c.requires;
+      subject = sym (same ∙ c.circuit-circuit.ensures.value);
       block = ap (λ (block : Block). block.sources) c.in_ok-new.ensures ∙ (c.sources.ensures.value ∙ ap (λ (circuit : Circuit). circuit.sources) (sym same));
       good = refl;
       sim = c.in_ok-new-3.ensures.circuit ∙ sym same;
     }
+
+pub returns-clause-circuit : goal.returns-clause-circuit
+returns-clause-circuit c = ap (λ (good : GoodSim). good.circuit) c.in_ok-new-2.ensures ∙ c.circuit-circuit.ensures.value

@@ -9,7 +9,7 @@ returns-clause-run c =
     let ran = c.run.ensures in
     let long = block_length c.args.patterns.now c.args.first (c.args.first + c.min.result) (omega arith) (omega (arith, c.min.ensures, c.requires.first)) in
     record {
-      bench = rw ran (record { circuit = bench.circuit; faults_are = bench.faults_are; block = c.fill_block.ensures.sources ∙ bench.block; good = bench.good; sim = bench.sim });
+      bench = rw ran (record { circuit = bench.circuit; subject = bench.subject; block = c.fill_block.ensures.sources ∙ bench.block; good = bench.good; sim = bench.sim });
       ran = ap (λ (g : GoodSim). g.ran) ran;
       few = omega (arith, ap length c.fill_block.ensures.vectors, long, c.min.ensures);
     }
