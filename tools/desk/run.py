@@ -21,6 +21,7 @@ from usage import COMMANDS, files_of, usage  # noqa: E402
 KEPT = 1 << 16  # bytes of the console that are kept, of which a refusal is the first line
 REFUSED = (3, 4, 5, 6, 10)
 STOPS = (signal.SIGHUP, signal.SIGINT, signal.SIGTERM)
+ENDED = {"gen": "RESULT", "compact": "NEW", "adapt": "PLAN", "synth": "RESULT"}  # by command the file whose last line is `end`
 
 
 class Console:
@@ -127,10 +128,10 @@ class Run:
                 tell(f"there is no {named(name)} yet")
             elif now == before:
                 tell(f"{named(name)} is as it was before")
-            elif self.command in ("dict", "convert") or label == "NETLIST":
-                tell(f"{named(name)} was begun, and may be cut short")
-            else:
+            elif label == ENDED.get(self.command):
                 self.tell_begun(name)
+            else:
+                tell(f"{named(name)} was begun, and may be cut short")
 
     def tell_begun(self, name):
         """Tells whether a result or a plan that was begun is whole."""
