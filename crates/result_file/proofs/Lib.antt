@@ -6,7 +6,10 @@ pub mod Truth
 pub mod FirstLine
 pub mod RefusalLemmas
 pub mod FileLemmas
+pub mod StatedLines
 -- Valid is true
 mod ShapeLemmas
 pub mod ValidTrue
 pub mod SoundLemmas
+-- Closed classes
+mod ClosedLemmas

@@ -1,13 +1,16 @@
 -- Laws: a file is refused in one way and only where it isn't valid, and what a valid one states is true.
-use Rattle.std.specs.Prelude.{◌≡◌, List}
+use Rattle.std.specs.Prelude.{◌≡◌, ◌<◌, ◌↔◌, ℕ, List}
 use Rattle.net_model.specs.Circuit.{Circuit, IsCircuit}
+use Rattle.net_model.specs.Answer.{AreEqual}
+use Rattle.net_model.specs.FaultList.{fault_count, fault_numbered}
+use Rattle.result_records.specs.declared.record.Mark.TheVariants as mark
 use Rattle.result_records.specs.declared.record.Budgets.{Budgets}
 use Rattle.result_records.specs.declared.record.Record.{Record}
 use Rattle.result_file.specs.declared.fault.ResultFault.{ResultFault}
 use Rattle.text_fields.specs.Fields.{Text}
 use Rattle.result_file.specs.Valid.{IsValid, IsValidFile}
 use Rattle.result_file.specs.Refusal.{FileRefused}
-use Rattle.result_file.specs.Meaning.{StatedResult, stated_records, IsTrueResult, IsTrueFile}
+use Rattle.result_file.specs.Meaning.{StatedResult, stated_records, stated_class, stated_mark, IsTrueResult, IsTrueFile}
 
 -- a refused file isn't valid
 abbrev pub RefusedFileIsWrong : Type 0
@@ -24,3 +27,12 @@ ValidIsTrue = (c : Circuit) (records : List Record) → IsCircuit c → IsValid 
 -- what a valid file states is true of the circuit, whatever budgets it states
 abbrev pub ValidFileIsTrue : Type 0
 ValidFileIsTrue = (c : Circuit) (file : Text) → IsCircuit c → IsValidFile c file → (budgets : Budgets) × IsTrueFile c budgets file
+
+-- no member is stated to be open
+abbrev pub HasNoOpen : Circuit → StatedResult → Type 0
+HasNoOpen c s = (n : ℕ) → n < fault_count c → stated_mark s n ≡ mark.Spent → ⊥
+
+-- where no member is open two numbers are of one class exactly where their faults answer alike to every vector
+abbrev pub ClosedClassesAreEqual : Type 0
+ClosedClassesAreEqual = (c : Circuit) (s : StatedResult) (m n : ℕ) → IsCircuit c → IsTrueResult c s → HasNoOpen c s → m < fault_count c → n < fault_count c
+    → (stated_class s m ≡ stated_class s n) ↔ AreEqual c (fault_numbered c m) (fault_numbered c n)

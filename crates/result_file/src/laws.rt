@@ -1,6 +1,6 @@
 //! Laws over the definitions: each function computes nothing, and its contract is the law.
 
-ghost use Rattle.result_file.specs.Laws.{RefusedFileIsWrong, OneFileRefusal, ValidIsTrue, ValidFileIsTrue};
+ghost use Rattle.result_file.specs.Laws.{RefusedFileIsWrong, OneFileRefusal, ValidIsTrue, ValidFileIsTrue, ClosedClassesAreEqual};
 
 use class_refine::named_separates_faults;
 use fault_collapse::same_root_equal;
@@ -24,3 +24,9 @@ pub fn valid_is_true()
     leaves_are_closed();
     full_tree_is_covered();
 }
+
+/// Where no member is open two numbers are of one class exactly where their faults answer alike to every vector: no vector
+/// whatever makes more classes.
+pub fn closed_classes_are_equal()
+    ensures { ClosedClassesAreEqual }
+{}
