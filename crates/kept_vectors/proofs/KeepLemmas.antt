@@ -114,7 +114,7 @@ pub table_patterns : {c : Circuit} {patterns : List (List Bool)} {t : ClassTable
 table_patterns {c} {patterns} {t} is =
     ap (λ (u : ClassTable). u.patterns) is.table ∙ omega (arith, patterns-fold is.rows (first_table (fault_count c)), AllZip-long (IsAnswerRow c) patterns is.rows is.answers)
 
-table_more : {c : Circuit} {patterns : List (List Bool)} {t : ClassTable} (v : List Bool) (row : List (List Bool)) → IsTableOf c patterns t → IsAnswerRow c v row → IsTableOf c (patterns ++ v ∷ []) (refined_table t row)
+pub table_more : {c : Circuit} {patterns : List (List Bool)} {t : ClassTable} (v : List Bool) (row : List (List Bool)) → IsTableOf c patterns t → IsAnswerRow c v row → IsTableOf c (patterns ++ v ∷ []) (refined_table t row)
 table_more {c} {patterns} {t} v row is answers = record {
   rows = is.rows ++ row ∷ [];
   answers = all_zip_more (IsAnswerRow c) patterns is.rows v row is.answers answers;
@@ -191,7 +191,8 @@ keeper_after c vectors old new is widths keeps =
 pub keeper_first_after : (c : Circuit) (vectors : List (List Bool)) (old new : KeptSoFar) → IsKeeper (keeper_with c old) → All (λ v. length v ≡ c.sources) vectors → KeepsFirst c vectors old new → IsKeeper (keeper_with c new)
 keeper_first_after c vectors old new is widths some = keeper_after c (take some.count vectors) old new is (All-take (λ v. length v ≡ c.sources) some.count vectors widths) some.keeps
 
-whole_fold : (k : KeptSoFar) (pairs : List (List Bool × List (List Bool))) → IsWhole k.table → IsWhole (fold with_vector k pairs).table × IsFiner k.table (fold with_vector k pairs).table
+-- also with pairs of a vector and its row
+pub whole_fold : (k : KeptSoFar) (pairs : List (List Bool × List (List Bool))) → IsWhole k.table → IsWhole (fold with_vector k pairs).table × IsFiner k.table (fold with_vector k pairs).table
 whole_fold k [] whole = (whole, record { numbers = refl; together = λ m n hm hn e. e })
 whole_fold k (pair ∷ pairs) whole =
     let one = whole_kept k pair.0 pair.1 whole in

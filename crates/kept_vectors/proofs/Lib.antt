@@ -16,5 +16,7 @@ pub mod JudgeLemmas
 mod LaneLemmas
 mod RootLemmas
 mod ScanLemmas
+pub mod ListLemmas
 pub mod StreamLemmas
+pub mod PartedLemmas
 pub mod Separating

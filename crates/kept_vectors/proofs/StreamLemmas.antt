@@ -5,14 +5,11 @@ use Rattle.std.specs.List.{range_with_len}
 use Rattle.std.proofs.lemmas.List.{length-map}
 use Rattle.std.proofs.lemmas.List.FromFn.{length-range_with_len}
 use Rattle.std.proofs.lemmas.List.Elements.{All-map}
-use Rattle.net_model.specs.Circuit.{Circuit, IsCircuit}
-use Rattle.net_model.specs.FaultList.{fault_count}
+use Rattle.net_model.specs.Circuit.{Circuit}
 use Rattle.word_sim.specs.Block.{Block, block_with}
 use Rattle.word_sim.specs.Stream.{stream, stream_vector}
 use Rattle.word_sim.specs.Laws.{StreamContinues}
-use Rattle.kept_vectors.specs.Kept.{KeptSoFar, nothing_kept, IsKept, Keeps, KeepsFirst}
-use Rattle.kept_vectors.specs.Keeper.{Keeper, keeper_with}
-use Rattle.class_refine.proofs.PatternTables.{rows_exist}
+use Rattle.kept_vectors.specs.Kept.{KeptSoFar, Keeps, KeepsFirst}
 use Rattle.kept_vectors.proofs.KeepLemmas.{keeps_more, first_more, first_longer}
 
 -- the vectors of some blocks behind others
@@ -41,10 +38,3 @@ stream_some law {c} {old} {mid} {new} done count left before some =
     let whole : stream c.sources (done + count + left) ≡ (stream c.sources done ++ blocks_from c.sources done count) ++ blocks_from c.sources (done + count) left =
     law c.sources (done + count) left ∙ ap (λ (vs : List (List Bool)). vs ++ blocks_from c.sources (done + count) left) (law c.sources done count) in
     subst (λ (vs : List (List Bool)). KeepsFirst c vs old new) (sym whole) (first_longer (blocks_from c.sources (done + count) left) (first_more before some))
-
--- what a new keeper keeps of the first blocks
-pub stream_kept : {c : Circuit} {keeper : Keeper} (blocks : ℕ) (new : KeptSoFar) → IsCircuit c → keeper ≡ keeper_with c (nothing_kept (fault_count c)) → Keeps keeper.circuit (stream keeper.circuit.sources blocks) keeper.kept new → IsKept c blocks new.vectors
-stream_kept {c} {keeper} blocks new is fresh keeps =
-    let from_none = subst (λ (k : Keeper). Keeps k.circuit (stream k.circuit.sources blocks) k.kept new) fresh keeps in
-    let rows = rows_exist c is (stream c.sources blocks) in
-    record { rows = rows.0; answers = rows.1; kept_is = ap (λ (k : KeptSoFar). k.vectors) (from_none.by_rows rows.0 rows.1) }

@@ -22,11 +22,15 @@ with_vector k x = if cuts_class k.table x.1 then record { vectors = k.vectors ++
 abbrev pub keeping : ℕ → List (List Bool × List (List Bool)) → KeptSoFar
 keeping numbers vectors = fold with_vector (nothing_kept numbers) vectors
 
--- These are the kept vectors of the first blocks of the stream.
-pub record IsKept (c : Circuit) (blocks : ℕ) (kept : List (List Bool)) : Type 0 where
+-- These are the vectors of a list that are kept.
+pub record IsKeptOf (c : Circuit) (vectors kept : List (List Bool)) : Type 0 where
   pub rows : List (List (List Bool))
-  pub answers : AreAnswerRows c (stream c.sources blocks) rows
-  pub kept_is : kept ≡ (keeping (fault_count c) (zip (stream c.sources blocks) rows)).vectors
+  pub answers : AreAnswerRows c vectors rows
+  pub kept_is : kept ≡ (keeping (fault_count c) (zip vectors rows)).vectors
+
+-- These are the kept vectors of the first blocks of the stream.
+abbrev pub IsKept : Circuit → ℕ → List (List Bool) → Type 0
+IsKept c blocks kept = IsKeptOf c (stream c.sources blocks) kept
 
 -- The second is what is kept once these vectors come behind those of the first, each with the row of answers that the circuit gives to it.
 pub record Keeps (c : Circuit) (vectors : List (List Bool)) (old new : KeptSoFar) : Type 0 where

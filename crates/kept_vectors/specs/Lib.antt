@@ -1,6 +1,7 @@
 pub mod Cube
 pub mod Kept
 pub mod Keeper
+pub mod Laws
 pub mod Leaves
 pub mod KeeperFields
 pub mod Notes

@@ -85,6 +85,24 @@ impl<'a> Keeper<'a> {
         Ok(())
     }
 
+    /// Keeps of the vectors of a list those that split a class. After an error some of the first vectors, and not all, have
+    /// been looked at, as if no others had come.
+    pub fn keep_list(&mut self, vectors: &[Vector]) -> Result<(), AllocError>
+        requires { All (λ v. length v ≡ self.old.circuit.sources) vectors.now }
+        ensures circuit { self.new.circuit ≡ self.old.circuit }
+        ensures ok { OnOk result (Keeps self.old.circuit vectors.now self.old.kept self.new.kept) }
+        ensures err { OnErr result (KeepsFirst self.old.circuit vectors.now self.old.kept self.new.kept) }
+    {
+        let mut first = 0;
+        while first < vectors.len() {
+            let end = first + (vectors.len() - first).min(LANES as usize);
+            fill(&mut self.scan.block, &vectors[first..end]);
+            self.scan.keep_block(&mut self.kept)?;
+            first = end;
+        }
+        Ok(())
+    }
+
     /// Keeps a vector if it splits a class. After an error nothing has changed.
     pub fn keep(&mut self, v: &Vector) -> Result<(), AllocError>
         requires { length v.now ≡ self.old.circuit.sources }

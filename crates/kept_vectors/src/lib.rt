@@ -5,11 +5,18 @@ mod apart;
 mod cube;
 mod differences;
 mod keeper;
+mod laws;
 mod leaving;
 mod notes;
+mod parting;
 mod scan;
 mod tally;
 mod units;
 mod waiting;
 
 pub use keeper::Keeper;
+pub use laws::{
+    kept_answer_alike, kept_once, kept_tell_as_much, none_of_list_splits, nothing_more_is_kept,
+    splitters_are_kept, tables_are_parted_by,
+};
+pub use parting::classes_of;
