@@ -17,7 +17,7 @@ use Rattle.net_model.specs.FaultList.{fault_count}
 use Rattle.kept_vectors.specs.Kept.{nothing_kept}
 use Rattle.kept_vectors.specs.Keeper.{keeper_with, IsKeeper}
 use Rattle.class_refine.proofs.PatternTables.{table_numbers}
-use Rattle.kept_vectors.proofs.StreamLemmas.{stream_kept}
+use Rattle.kept_vectors.proofs.ListLemmas.{list_kept}
 use Rattle.dia_gen.specs.declared.draft.Draft.{Draft}
 use Rattle.dia_gen.specs.GenerationSetting.{GenerationSetting}
 use Rattle.dia_gen.specs.Draft.{IsBegun, IsDrafted, IsDraft}
@@ -29,7 +29,7 @@ begun {s} {d} b kept =
     let keeper : IsKeeper (keeper_with s.circuit d.keeper.kept) = subst (λ (c : Circuit). IsKeeper (keeper_with c d.keeper.kept)) b.circuit kept in
     let small = keeper.circuit.small in
     record {
-      first = stream_kept {c = s.circuit} {keeper = keeper_with s.circuit (nothing_kept (fault_count s.circuit))} s.budgets.blocks d.keeper.kept keeper.circuit refl b.kept;
+      first = list_kept {c = s.circuit} {keeper = keeper_with s.circuit (nothing_kept (fault_count s.circuit))} s.vectors d.keeper.kept keeper.circuit refl b.kept;
       lines = draft_first s.circuit s.budgets d.keeper.kept.vectors (omega (arith, small)) (omega (arith, small)) b.few b.limits keeper.splits;
       few = b.few;
       circuit = b.circuit;

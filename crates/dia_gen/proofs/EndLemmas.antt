@@ -19,7 +19,7 @@ use Rattle.member_marks.specs.declared.counts.MarkCounts.{MarkCounts}
 use Rattle.dia_gen.specs.GenerationSetting.{GenerationSetting}
 use Rattle.member_marks.specs.Given.{AreAllMarked}
 use Rattle.dia_gen.specs.Marked.{member_for, AreMarkedBelow}
-use Rattle.dia_gen.specs.Made.{lines_with, IsMade}
+use Rattle.dia_gen.specs.Made.{lines_with, IsMadeFrom}
 use Rattle.dia_gen.specs.Writing.{HasGathered, HasWritten, Gathers, BrokeOff}
 use Rattle.dia_gen.specs.Draft.{IsDraft}
 use Rattle.dia_gen.proofs.WritingLemmas.{gathered_then, broken, stopped}
@@ -71,7 +71,7 @@ module _ {s : GenerationSetting} {d : Draft} {start now : State} (draft : IsDraf
 
   module _ (sound : AreSound s.circuit) (marked : MarkCounts) (counted : AreMarkedBelow t d.marks (length t.class_of) marked) where
     pub whole_made : NamedSeparatesFaults
-        → IsMade s.circuit s.budgets (summary_with t marked) (text_of (lines ++ classes ++ members ++ End ∷ []))
+        → IsMadeFrom s.circuit s.vectors s.budgets (summary_with t marked) (text_of (lines ++ classes ++ members ++ End ∷ []))
     whole_made named = record {
       is_true = record {
         stated = stated s.circuit s.budgets draft.kept draft.later t d.marks;

@@ -1,7 +1,7 @@
 -- Without a budget of cubes and one of conflicts there is one made file: each line follows from those before it.
 use Rattle.std.proofs.Common.{◌≡◌, ◌∙◌, ℕ, ◌<◌, ◌≤◌, List, [], ◌∷◌, ◌++◌, map, length, get_or, cond, Option, Some, refl, sym, ap, subst, append_assoc, arith}
 use Rattle.std.specs.Prelude.{All, ⊤, Bool}
-use Rattle.std.specs.List.{slice_get, fold, enumerate_from, zip}
+use Rattle.std.specs.List.{slice_get, fold, enumerate_from}
 use Rattle.std.proofs.lemmas.List.Elements.{All-append, All-map, All-head, All-tail, filter_map-append}
 use Rattle.std.proofs.lemmas.List.{append-nil}
 use Rattle.std.proofs.lemmas.List.Sums.{sum_by-append}
@@ -11,7 +11,7 @@ use Rattle.net_model.specs.Circuit.{Circuit, IsCircuit}
 use Rattle.net_model.specs.FaultList.{fault_count, fault_numbered}
 use Rattle.net_model.specs.ClassTable.{ClassTable, class_count, class_at, representative, refined_table, first_table}
 use Rattle.net_model.specs.PatternRows.{IsTableOf}
-use Rattle.net_model.proofs.OneAnswer.{one_rows, one_table}
+use Rattle.net_model.proofs.OneAnswer.{one_table}
 use Rattle.class_refine.proofs.Refined.{count-refined}
 use Rattle.pair_sets.specs.declared.tree.Token.{Token}
 use Rattle.pair_sets.specs.declared.tree.Token.TheVariants.{Rest}
@@ -34,10 +34,10 @@ use Rattle.result_file.specs.Summary.{summary_of}
 use Rattle.result_file.specs.Meaning.{stated_records, class_records, member_records}
 use Rattle.result_file.proofs.FileLemmas.{next_right}
 use Rattle.result_file.proofs.RightLines.{IsNextLine}
-use Rattle.kept_vectors.specs.Kept.{IsKept, keeping}
 use Rattle.word_sim.specs.Stream.{stream}
-use Rattle.dia_gen.specs.Made.{HasNoSearch, HasNoRefutation, IsMade}
-use Rattle.dia_gen.specs.Laws.{stream_budgets, OneFileOfStream}
+use Rattle.kept_vectors.proofs.ListLemmas.{one_list_kept}
+use Rattle.dia_gen.specs.Made.{HasNoSearch, HasNoRefutation, IsMadeFrom}
+use Rattle.dia_gen.specs.Laws.{stream_budgets, OneFileOfStream, OneFileOfList}
 use Rattle.dia_gen.proofs.DraftResult.{count_end}
 
 -- The record is no pattern, and evidence without a search and without a refutation.
@@ -193,8 +193,8 @@ module _ (c : Circuit) (circuit : IsCircuit c) (sources positions numbers : ℕ)
 
 -- ---- the file
 
-module _ {c : Circuit} {blocks : ℕ} {summary : Summary} {file : Text} (made : IsMade c (stream_budgets blocks) summary file) where
-  -- the lines behind the patterns of the stream, up to the end
+module _ {c : Circuit} {vectors : List (List Bool)} {blocks : ℕ} {summary : Summary} {file : Text} (made : IsMadeFrom c vectors (stream_budgets blocks) summary file) where
+  -- the lines behind the patterns that are kept first, up to the end
   abbrev rest : List Record
   rest = made.later ++ class_records made.is_true.stated.births ++ member_records made.is_true.stated.members
 
@@ -229,17 +229,15 @@ module _ {c : Circuit} {blocks : ℕ} {summary : Summary} {file : Text} (made : 
       (All-map IsWithoutChoice (λ (x : ℕ × Option (ℕ × ℕ)). Class x.0 x.1) (enumerate_from 0 made.is_true.stated.births) (λ at d below. tt)))
       (All-map IsWithoutChoice (λ (x : ℕ × (ℕ × Mark)). Member x.0 x.1.0 x.1.1) (enumerate_from 0 made.is_true.stated.members) (λ at d below. tt))
 
-kept_once : {c : Circuit} {blocks : ℕ} {kept other : List (List Bool)} → IsCircuit c → IsKept c blocks kept → IsKept c blocks other → kept ≡ other
-kept_once {c} {blocks} circuit is is' =
-    let vectors = stream c.sources blocks in
-    is.kept_is ∙ ap (λ (rows : List (List (List Bool))). (keeping (fault_count c) (zip vectors rows)).vectors) (one_rows c circuit vectors is.rows is'.rows is.answers is'.answers) ∙ sym is'.kept_is
-
-pub one_file : OneFileOfStream
-one_file c blocks summary other file text circuit made made' =
-    let kept = kept_once circuit made.kept_are made'.kept_are in
+pub one_file : OneFileOfList
+one_file c vectors blocks summary other file text circuit made made' =
+    let kept = one_list_kept circuit made.kept_are made'.kept_are in
     let lines' : stated_records c made'.is_true.stated ≡ first made ++ rest made' ++ End ∷ [] =
     lines_are made' ∙ ap (λ (vs : List (List Bool)). Head c.sources (length c.positions) (fault_count c) ∷ Budget (stream_budgets blocks) ∷ map Pattern vs ++ rest made' ++ End ∷ []) (sym kept) in
     let same : rest made ≡ rest made' =
     lines_once c circuit c.sources (length c.positions) (fault_count c) (stream_budgets blocks) refl refl (map Pattern made.kept) (rest made) (rest made') made.valid.lines (lines_are made) made'.valid.lines lines' (rest_free made) (rest_free made') in
     let records : stated_records c made.is_true.stated ≡ stated_records c made'.is_true.stated = lines_are made ∙ ap (λ (rs : List Record). first made ++ rs ++ End ∷ []) same ∙ sym lines' in
     (made.is_true.text ∙ ap text_of records ∙ sym made'.is_true.text, made.summary_is ∙ ap summary_of records ∙ sym made'.summary_is)
+
+pub one_stream_file : OneFileOfStream
+one_stream_file c blocks = one_file c (stream c.sources blocks) blocks

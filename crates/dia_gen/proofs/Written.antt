@@ -1,5 +1,5 @@
 -- What was written of a result that was cut short.
-use Rattle.std.proofs.Common.{◌≡◌, ◌∙◌, ℕ, ◌≤◌, ◌^◌, List, [], ◌∷◌, ◌++◌, length, Option, Some, None, refl, ap, arith}
+use Rattle.std.proofs.Common.{◌≡◌, ◌∙◌, ℕ, ◌≤◌, ◌^◌, Bool, List, [], ◌∷◌, ◌++◌, length, Option, Some, None, refl, ap, arith}
 use Rattle.diag_shelf.specs.World.{World, Files, appended}
 use Rattle.diag_shelf.specs.Calls.{Writes}
 use Rattle.net_model.specs.Circuit.{Circuit}
@@ -10,7 +10,7 @@ use Rattle.result_records.specs.declared.record.Record.TheVariants.{End}
 use Rattle.result_file.specs.Meaning.{class_records, member_records}
 use Rattle.result_file.specs.Valid.{AreRightLines}
 use Rattle.result_file.proofs.Truth.{AreSound, none_open}
-use Rattle.dia_gen.specs.Made.{IsMade, IsCutFile}
+use Rattle.dia_gen.specs.Made.{IsMadeFrom, IsCutFile}
 
 pub nothing_right : {c : Circuit} → AreRightLines c []
 nothing_right {c} = record { spelled = λ at below. absurd (omega arith); right = λ at below. absurd (omega arith) }
@@ -19,8 +19,8 @@ pub nothing_cut : {c : Circuit} → IsCutFile c []
 nothing_cut {c} = record { records = []; right = nothing_right; count = 0; cut = refl }
 
 -- with as many cubes as there are vectors a made file leaves no member open
-pub made_closed : {c : Circuit} {budgets : Budgets} {summary : Summary} {file : List ℕ} → AreSound c → IsMade c budgets summary file → 2 ^ c.sources ≤ budgets.cubes → summary.spent ≡ 0
-made_closed {c} {budgets} sound made enough =
+pub made_closed : {c : Circuit} {vectors : List (List Bool)} {budgets : Budgets} {summary : Summary} {file : List ℕ} → AreSound c → IsMadeFrom c vectors budgets summary file → 2 ^ c.sources ≤ budgets.cubes → summary.spent ≡ 0
+made_closed {c} {vectors} {budgets} sound made enough =
     let s = made.is_true.stated in
     let rest = s.body ++ class_records s.births ++ member_records s.members ++ End ∷ [] in
     ap (λ (x : Summary). x.spent) made.summary_is

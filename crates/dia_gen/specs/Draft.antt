@@ -12,8 +12,7 @@ use Rattle.result_records.specs.Spelling.{text_of}
 use Rattle.result_records.specs.Marks.{patterns_in, evidence_in}
 use Rattle.result_file.specs.Valid.{AreRightLines}
 use Rattle.result_file.specs.Meaning.{is_body_record}
-use Rattle.word_sim.specs.Stream.{stream}
-use Rattle.kept_vectors.specs.Kept.{IsKept, Keeps, nothing_kept}
+use Rattle.kept_vectors.specs.Kept.{IsKeptOf, Keeps, nothing_kept}
 use Rattle.kept_vectors.specs.Keeper.{keeper_with, IsKeeper}
 use Rattle.dia_gen.specs.declared.draft.Draft.{Draft}
 use Rattle.dia_gen.specs.GenerationSetting.{GenerationSetting}
@@ -31,10 +30,10 @@ pub record AreDraftLines (c : Circuit) (budgets : Budgets) (kept : List (List Bo
   pub no_refutation : (at : ℕ) (e : Evidence) → budgets.conflicts ≡ 0 → slice_get later at ≡ Some (Same e) → HasNoRefutation e.proof
   pub no_choice : (at : ℕ) (v : List Bool) → budgets.cubes ≡ 0 → budgets.conflicts ≡ 0 → slice_get later at ≡ Some (Pattern v) → ⊥
 
--- What the lines are made from: these vectors of the stream are kept, and then the patterns of the later lines. The marks are those of
+-- What the lines are made from: these vectors of the setting are kept, and then the patterns of the later lines. The marks are those of
 -- their evidence, and the space is one for pairs of the circuit.
 pub record IsDrafted (s : GenerationSetting) (d : Draft) (kept : List (List Bool)) (later : List Record) : Type 0 where
-  pub first : IsKept s.circuit s.budgets.blocks kept
+  pub first : IsKeptOf s.circuit s.vectors kept
   pub lines : AreDraftLines s.circuit s.budgets kept later
   pub few : fault_count s.circuit < 2 ^ 27
   pub circuit : d.keeper.circuit ≡ s.circuit
@@ -43,11 +42,11 @@ pub record IsDrafted (s : GenerationSetting) (d : Draft) (kept : List (List Bool
   pub marks : AreGiven d.keeper.kept.table (evidence_in later) d.marks
   pub space : IsSpaceFor s.circuit d.space
 
--- The vectors of the stream are kept, no number is marked, and no line is made.
+-- The first vectors are kept, no number is marked, and no line is made.
 pub record IsBegun (s : GenerationSetting) (d : Draft) : Type 0 where
   pub is_circuit : IsCircuit s.circuit
   pub circuit : d.keeper.circuit ≡ s.circuit
-  pub kept : Keeps s.circuit (stream s.circuit.sources s.budgets.blocks) (nothing_kept (fault_count s.circuit)) d.keeper.kept
+  pub kept : Keeps s.circuit s.vectors (nothing_kept (fault_count s.circuit)) d.keeper.kept
   pub few : fault_count s.circuit < 2 ^ 27
   pub limits : AreWithinLimits s.budgets
   pub marks : d.marks ≡ replicate (fault_count s.circuit) None

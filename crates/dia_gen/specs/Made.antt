@@ -19,13 +19,15 @@ use Rattle.result_records.specs.Marks.{patterns_in, evidence_in, next_member}
 use Rattle.result_file.specs.Summary.{summary_of}
 use Rattle.result_file.specs.Valid.{AreRightLines, IsValid}
 use Rattle.result_file.specs.Meaning.{stated_records, IsTrueFile}
-use Rattle.kept_vectors.specs.Kept.{IsKept}
+use Rattle.word_sim.specs.Stream.{stream}
+use Rattle.kept_vectors.specs.Kept.{IsKeptOf}
+use Rattle.dia_gen.specs.declared.output.ToppedUp.{ToppedUp}
 
 -- the first two lines
 abbrev pub head_lines : Circuit → Budgets → List Record
 head_lines c budgets = Head c.sources (length c.positions) (fault_count c) ∷ Budget budgets ∷ []
 
--- with the patterns of the stream, and the lines behind them
+-- with the patterns that are kept first, and the lines behind them
 abbrev pub lines_with : Circuit → Budgets → List (List Bool) → List Record → List Record
 lines_with c budgets kept later = head_lines c budgets ++ map Pattern kept ++ later
 
@@ -51,17 +53,17 @@ HasNoRefutation (proof.Covered tree) = ⊤
 HasNoRefutation (proof.Refuted tree log) = ⊥
 HasNoRefutation (proof.Spent tree log) = ⊤
 
--- The generator may write this file for the circuit and the budgets, and the file amounts to this summary.
-pub record IsMade (c : Circuit) (budgets : Budgets) (summary : Summary) (file : Text) : Type 0 where
+-- The generator may write this file for the circuit and the budgets, from a list of vectors, and the file amounts to this summary.
+pub record IsMadeFrom (c : Circuit) (vectors : List (List Bool)) (budgets : Budgets) (summary : Summary) (file : Text) : Type 0 where
   -- The file states these budgets, and what it states is true of the circuit.
   pub is_true : IsTrueFile c budgets file
   -- Its lines are valid.
   pub valid : IsValid c (stated_records c is_true.stated)
-  -- Its first patterns are the kept ones of the stream, and stand before any evidence.
+  -- Its first patterns are those of the list that are kept, and stand before any evidence.
   pub kept : List (List Bool)
   pub later : List Record
   pub body : is_true.stated.body ≡ map Pattern kept ++ later
-  pub kept_are : IsKept c budgets.blocks kept
+  pub kept_are : IsKeptOf c vectors kept
   -- Each later pattern separates a number from its representative: the lowest number that is, at that place, neither a
   -- representative nor marked.
   pub patterns : (at : ℕ) (v : List Bool) → slice_get later at ≡ Some (Pattern v) → SeparatesNext c (lines_with c budgets kept (take at later)) v
@@ -69,10 +71,19 @@ pub record IsMade (c : Circuit) (budgets : Budgets) (summary : Summary) (file : 
   pub no_search : (at : ℕ) (e : Evidence) → budgets.cubes ≡ 0 → slice_get later at ≡ Some (Same e) → HasNoSearch e.proof
   -- Without a budget of conflicts no evidence is a refutation.
   pub no_refutation : (at : ℕ) (e : Evidence) → budgets.conflicts ≡ 0 → slice_get later at ≡ Some (Same e) → HasNoRefutation e.proof
-  -- Without either budget there is no later pattern. Then the file is a function of the circuit and the budget of blocks.
+  -- Without either budget there is no later pattern. Then the file is a function of the circuit, the list and the budgets.
   pub no_choice : (at : ℕ) (v : List Bool) → budgets.cubes ≡ 0 → budgets.conflicts ≡ 0 → slice_get later at ≡ Some (Pattern v) → ⊥
   -- The summary is what the lines amount to.
   pub summary_is : summary ≡ summary_of (stated_records c is_true.stated)
+
+-- The file may be made from the list, amounts to the summary, and so many vectors of the list are kept in it.
+pub record IsToppedUp (c : Circuit) (vectors : List (List Bool)) (budgets : Budgets) (topped : ToppedUp) (file : Text) : Type 0 where
+  pub made : IsMadeFrom c vectors budgets topped.summary file
+  pub kept : topped.kept ≡ length made.kept
+
+-- From the first blocks of the stream.
+abbrev pub IsMade : Circuit → Budgets → Summary → Text → Type 0
+IsMade c budgets summary file = IsMadeFrom c (stream c.sources budgets.blocks) budgets summary file
 
 -- A beginning of right lines, the last perhaps cut.
 pub record IsCutFile (c : Circuit) (part : Text) : Type 0 where

@@ -42,7 +42,7 @@ impl Drop for Draft<'_> {
 }
 
 impl<'a> Draft<'a> {
-    // The vectors of the stream that are kept, and no mark.
+    // The first vectors that are kept, and no mark.
     pub(crate) fn begin(
         alloc: Global,
         setting: &GenerationSetting<'a>,
@@ -60,7 +60,7 @@ impl<'a> Draft<'a> {
         })
     }
 
-    // Writes the first two lines, and a line for each vector of the stream that is kept.
+    // Writes the first two lines, and a line for each of the first vectors that is kept.
     pub(crate) fn start<S: Shelf>(
         &mut self,
         setting: &GenerationSetting,

@@ -11,5 +11,7 @@ mod pair;
 mod setting;
 mod writing;
 
-pub use laws::file_of_stream_is_one;
-pub use output::generate;
+pub use laws::{
+    file_of_list_is_one, file_of_stream_is_one, list_is_graded, patterns_split_in_turn,
+};
+pub use output::{ToppedUp, generate, top_up};

@@ -1,23 +1,23 @@
 //! Results, written piece by piece.
 
-ghost use Rattle.std.specs.Prelude.{◌≡◌, ◌≤◌, ◌^◌, ℕ, List, IfOk, IfErr, OnErr, IsTrue, IsSome, IsErrOf};
+ghost use Rattle.std.specs.Prelude.{◌≡◌, ◌≤◌, ◌^◌, ℕ, List, IfOk, IfErr, OnErr, IsTrue, IsSome, IsErrOf, All, length};
 ghost use Rattle.diag_shelf.specs.World.{State};
 ghost use Rattle.diag_shelf.specs.Calls.{IsWriteCall, Told, Writes};
 ghost use Rattle.result_records.specs.Limits.{AreWithinLimits};
 ghost use Rattle.member_marks.specs.Given.{AreAllMarked};
 ghost use Rattle.dia_gen.specs.Draft.{IsBegun, IsDraft};
-ghost use Rattle.dia_gen.specs.Made.{IsMade, IsCutFile};
+ghost use Rattle.dia_gen.specs.Made.{IsMade, IsMadeFrom, IsToppedUp, IsCutFile};
 ghost use Rattle.dia_gen.specs.Writing.{HasWritten, BrokeOff};
 
 use crate::counts::count_marks;
 use crate::draft::Draft;
-use crate::setting::GenerationSetting;
+use crate::setting::{FirstVectors, GenerationSetting};
 use crate::writing::{write_classes, write_members};
 use class_refine::named_separates_faults;
 use diag_shelf::{Shelf, ShelfFault};
 use distinguish_search::Levels;
 use fault_collapse::{Subject, same_root_equal};
-use net_model::Circuit;
+use net_model::{Circuit, Vector};
 use pair_sets::{covering_is_equal, full_tree_is_covered, leaves_are_closed};
 use result_file::{Budgets, Record, Summary};
 use std::alloc::Global;
@@ -54,7 +54,58 @@ pub fn generate<S: Shelf>(
 {
     let subject = Subject::new(alloc, circuit)?;
     let levels = Levels::new(alloc, circuit)?;
-    let setting = GenerationSetting::new(&subject, &levels, budgets);
+    let setting = GenerationSetting::new(&subject, &levels, budgets, FirstVectors::OfStream);
+    match write_result(alloc, &setting, shelf) {
+        Ok(topped) => Ok(topped.summary),
+        Err(fault) => Err(fault),
+    }
+}
+
+/// What a result amounts to that was made from a list of vectors, and how many vectors of the list were kept.
+#[derive(Clone, Copy, Debug, PartialEq, Eq)]
+pub struct ToppedUp {
+    pub summary: Summary,
+    pub kept: u32,
+}
+
+/// Generates a result from a list of vectors, and appends it as `generate` does. Of the list each vector is kept that splits a
+/// class of those kept before it. Then members are searched, as behind the stream: without budgets of cubes and conflicts none is.
+///
+/// After an error a beginning of right lines was appended, the last perhaps cut.
+pub fn top_up<S: Shelf>(
+    alloc: Global,
+    circuit: &Circuit,
+    vectors: &[Vector],
+    budgets: Budgets,
+    shelf: &mut S,
+) -> Result<ToppedUp, ShelfFault>
+    requires limits { AreWithinLimits budgets }
+
+    // Each vector has a bit for each source.
+    requires widths { All (λ v. length v ≡ circuit.now.sources) vectors.now }
+
+    // A shelf that tells its files has one that is written.
+    requires created { IsTrue (S.state shelf.old).tells → IsSome (S.state shelf.old).world.written }
+
+    // It is a call that writes: where it answers `Failed` the count of write faults rose, and no other count changed.
+    ensures call { IsWriteCall result (S.state shelf.old) (S.state shelf.new) }
+
+    // A file is made from the list that amounts to the summary, and so many vectors of the list are kept in it. Where the shelf
+    // tells, it is what was appended.
+    ensures written { IfOk result (λ topped. (file : List ℕ) × IsToppedUp circuit.now vectors.now budgets topped file × Told (S.state shelf.old) (S.state shelf.new) (Writes file)) }
+
+    // With as many cubes as there are vectors no member is left open.
+    ensures complete { IfOk result (λ topped. 2 ^ circuit.now.sources ≤ budgets.cubes → topped.summary.spent ≡ 0) }
+
+    // After an error there is a beginning of right lines, the last perhaps cut. Where the shelf tells, it is what was appended.
+    ensures err { OnErr result ((part : List ℕ) × IsCutFile circuit.now part × Told (S.state shelf.old) (S.state shelf.new) (Writes part)) }
+
+    // A sure shelf never fails.
+    ensures never { IsTrue (S.state shelf.old).sure → ¬ (IsErrOf result ShelfFault.Failed) }
+{
+    let subject = Subject::new(alloc, circuit)?;
+    let levels = Levels::new(alloc, circuit)?;
+    let setting = GenerationSetting::new(&subject, &levels, budgets, FirstVectors::OfList(vectors));
     write_result(alloc, &setting, shelf)
 }
 
@@ -63,11 +114,11 @@ fn write_result<S: Shelf>(
     alloc: Global,
     setting: &GenerationSetting,
     shelf: &mut S,
-) -> Result<Summary, ShelfFault>
+) -> Result<ToppedUp, ShelfFault>
     ghost start: { State }
     requires start { start ≡ S.state shelf.old }
-    ensures ok { IfOk result (λ summary. (file : List ℕ) × IsMade setting.now.circuit setting.now.budgets summary file × HasWritten file start (S.state shelf.new)) }
-    ensures complete { IfOk result (λ summary. 2 ^ setting.now.circuit.sources ≤ setting.now.budgets.cubes → summary.spent ≡ 0) }
+    ensures ok { IfOk result (λ topped. (file : List ℕ) × IsToppedUp setting.now.circuit setting.now.vectors setting.now.budgets topped file × HasWritten file start (S.state shelf.new)) }
+    ensures complete { IfOk result (λ topped. 2 ^ setting.now.circuit.sources ≤ setting.now.budgets.cubes → topped.summary.spent ≡ 0) }
     ensures err { IfErr result (λ fault. BrokeOff setting.now.circuit fault start (S.state shelf.new)) }
 {
     match Draft::begin(alloc, setting) {
@@ -82,17 +133,19 @@ fn write_lines<S: Shelf>(
     setting: &GenerationSetting,
     shelf: &mut S,
     draft: &mut Draft,
-) -> Result<Summary, ShelfFault>
+) -> Result<ToppedUp, ShelfFault>
     ghost start: { State }
     requires start { start ≡ S.state shelf.old }
     requires begun { IsBegun setting.now draft.old }
-    ensures ok { IfOk result (λ summary. (file : List ℕ) × IsMade setting.now.circuit setting.now.budgets summary file × HasWritten file start (S.state shelf.new)) }
-    ensures complete { IfOk result (λ summary. 2 ^ setting.now.circuit.sources ≤ setting.now.budgets.cubes → summary.spent ≡ 0) }
+    ensures ok { IfOk result (λ topped. (file : List ℕ) × IsToppedUp setting.now.circuit setting.now.vectors setting.now.budgets topped file × HasWritten file start (S.state shelf.new)) }
+    ensures complete { IfOk result (λ topped. 2 ^ setting.now.circuit.sources ≤ setting.now.budgets.cubes → topped.summary.spent ≡ 0) }
     ensures err { IfErr result (λ fault. BrokeOff setting.now.circuit fault start (S.state shelf.new)) }
 {
+    let kept = draft.keeper.classes().patterns();
     draft.start(setting, shelf)?;
     draft.mark_all(alloc, setting, shelf)?;
-    write_end(setting, shelf, draft)
+    let summary = write_end(setting, shelf, draft)?;
+    Ok(ToppedUp { summary, kept })
 }
 
 // Writes the lines of the classes and of the numbers, and the end.
@@ -104,7 +157,7 @@ fn write_end<S: Shelf>(
     ghost start: { State }
     requires draft { IsDraft setting.now draft.old start (S.state shelf.old) }
     requires marked { AreAllMarked draft.old.keeper.kept.table draft.old.marks }
-    ensures ok { IfOk result (λ summary. (file : List ℕ) × IsMade setting.now.circuit setting.now.budgets summary file × HasWritten file start (S.state shelf.new)) }
+    ensures ok { IfOk result (λ summary. (file : List ℕ) × IsMadeFrom setting.now.circuit setting.now.vectors setting.now.budgets summary file × HasWritten file start (S.state shelf.new)) }
     ensures complete { IfOk result (λ summary. 2 ^ setting.now.circuit.sources ≤ setting.now.budgets.cubes → summary.spent ≡ 0) }
     ensures err { IfErr result (λ fault. BrokeOff setting.now.circuit fault start (S.state shelf.new)) }
 {

@@ -1,38 +1,46 @@
 //! What a result is made for.
 
-ghost use Rattle.std.specs.Prelude.{◌≡◌, ◌<◌, ◌↔◌, ◌^◌, IsTrue, IfOk};
+ghost use Rattle.std.specs.Prelude.{◌≡◌, ◌<◌, ◌↔◌, ◌^◌, IsTrue, IfOk, OnOk};
 ghost use Rattle.net_model.specs.Circuit.{IsCircuit};
 ghost use Rattle.net_model.specs.Fault.{IsFaultOf};
 ghost use Rattle.net_model.specs.Collapse.{root};
 ghost use Rattle.dia_gen.specs.GenerationSetting as spec;
 ghost use Rattle.net_model.specs.FaultList.{fault_count, fault_numbered};
 ghost use Rattle.kept_vectors.specs.Kept.{Keeps, nothing_kept};
-ghost use Rattle.word_sim.specs.Stream.{stream};
 ghost use Rattle.result_records.specs.Limits.{AreWithinLimits};
-ghost use Rattle.dia_gen.specs.GenerationSetting.{setting_with};
+ghost use Rattle.dia_gen.specs.GenerationSetting.{setting_from, first_vectors, HaveWidth};
 
 use distinguish_search::Levels;
 use fault_collapse::Subject;
 use kept_vectors::Keeper;
-use net_model::{Circuit, Fault};
+use net_model::{Circuit, Fault, Vector};
 use result_file::Budgets;
 use std::alloc::{AllocError, Global};
 use std::marker::Model;
 
-// The circuit with its faults, the levels of its lines, and the budgets.
+// Where the vectors come from of which those that split a class are kept before any pair is searched: the first blocks of the
+// stream, as many as the budget has, or a list.
+#[derive(Clone, Copy)]
+pub(crate) enum FirstVectors<'a> {
+    OfStream,
+    OfList(&'a [Vector]),
+}
+
+// The circuit with its faults, the levels of its lines, the budgets, and the first vectors.
 #[derive(Drop)]
 pub(crate) struct GenerationSetting<'a> {
     subject: &'a Subject<'a>,
     levels: &'a Levels,
     budgets: Budgets,
+    first: FirstVectors<'a>,
 }
 
 impl<'a> Model for GenerationSetting<'a> {
     ghost Value = { spec.GenerationSetting };
 
-    ghost view = { λ a. setting_with a.subject.now a.budgets };
+    ghost view = { λ a. setting_from a.subject.now a.budgets (first_vectors a.subject.now a.budgets a.first) };
 
-    ghost invariant = { λ a. AreWithinLimits a.budgets };
+    ghost invariant = { λ a. AreWithinLimits a.budgets × HaveWidth a.subject.now a.first };
 }
 
 impl<'a> GenerationSetting<'a> {
@@ -40,14 +48,17 @@ impl<'a> GenerationSetting<'a> {
         subject: &'a Subject<'a>,
         levels: &'a Levels,
         budgets: Budgets,
+        first: FirstVectors<'a>,
     ) -> GenerationSetting<'a>
-        requires { AreWithinLimits budgets }
-        ensures { result ≡ setting_with subject.now budgets }
+        requires limits { AreWithinLimits budgets }
+        requires widths { HaveWidth subject.now first }
+        ensures { result ≡ setting_from subject.now budgets (first_vectors subject.now budgets first.entry) }
     {
         GenerationSetting {
             subject,
             levels,
             budgets,
+            first,
         }
     }
 
@@ -96,16 +107,28 @@ impl<'a> GenerationSetting<'a> {
         self.subject.same_root(a, b)
     }
 
-    // A keeper of vectors for the circuit, which keeps those of the stream that it needs.
+    // A keeper of vectors for the circuit, which keeps those of the first vectors that it needs.
     pub(crate) fn keeper(&self, alloc: Global) -> Result<Keeper<'a>, AllocError>
         ensures is_circuit { IsCircuit self.now.circuit }
         ensures limits { AreWithinLimits self.now.budgets }
         ensures circuit { IfOk result (λ keeper. keeper.circuit ≡ self.now.circuit) }
-        ensures kept { IfOk result (λ keeper. Keeps self.now.circuit (stream self.now.circuit.sources self.now.budgets.blocks) (nothing_kept (fault_count self.now.circuit)) keeper.kept) }
+        ensures kept { IfOk result (λ keeper. Keeps self.now.circuit self.now.vectors (nothing_kept (fault_count self.now.circuit)) keeper.kept) }
     {
         self.subject.circuit().stands();
         let mut keeper = Keeper::new(alloc, self.subject)?;
-        keeper.keep_stream(self.budgets.blocks)?;
+        self.keep_first(&mut keeper)?;
         Ok(keeper)
+    }
+
+    // Keeps of the first vectors those that split a class.
+    fn keep_first(&self, keeper: &mut Keeper) -> Result<(), AllocError>
+        requires { keeper.old.circuit ≡ self.now.circuit }
+        ensures circuit { keeper.new.circuit ≡ self.now.circuit }
+        ensures ok { OnOk result (Keeps self.now.circuit self.now.vectors keeper.old.kept keeper.new.kept) }
+    {
+        match self.first {
+            FirstVectors::OfStream => keeper.keep_stream(self.budgets.blocks),
+            FirstVectors::OfList(vectors) => keeper.keep_list(vectors),
+        }
     }
 }

@@ -1,5 +1,5 @@
-use Rattle.dia_gen.proofs.OneFile.{one_file}
+use Rattle.dia_gen.proofs.OneFile.{one_stream_file}
 use Rattle.dia_gen.proofs.laws.file_of_stream_is_one.Goals as goal
 
 pub returns : goal.returns
-returns c = one_file
+returns c = one_stream_file

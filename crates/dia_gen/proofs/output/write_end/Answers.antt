@@ -7,7 +7,7 @@ use Rattle.result_file.proofs.SoundLemmas.{sound_circuit}
 use Rattle.result_file.proofs.Truth.{AreSound}
 use Rattle.class_refine.proofs.PatternTables.{table_numbers}
 use Rattle.dia_gen.specs.Marked.{AreMarkedBelow}
-use Rattle.dia_gen.specs.Made.{IsMade}
+use Rattle.dia_gen.specs.Made.{IsMadeFrom}
 use Rattle.dia_gen.proofs.EndLemmas.{lines_then, all_written, lines, classes, members, classes_broken, members_broken, end_broken, last_broken, summary_with, whole_made}
 use Rattle.dia_gen.proofs.Written.{made_closed}
 use Rattle.dia_gen.proofs.output.write_end.Given as given
@@ -63,7 +63,7 @@ sound : (g : given.Over) (c : After-count_marks-marked g) → AreSound c.args.se
 sound g c = sound_circuit c.args.setting.now.circuit c.requires.1.0.is.keeper.circuit c.same_root_equal.ensures c.covering_is_equal.ensures c.leaves_are_closed.ensures c.full_tree_is_covered.ensures
 
 made : (g : given.Over) (c : After-count_marks-marked g)
-    → IsMade c.args.setting.now.circuit c.args.setting.now.budgets (summary_with c.args.draft.now.keeper.kept.table c.count_marks-marked.result) (file g c)
+    → IsMadeFrom c.args.setting.now.circuit c.args.setting.now.vectors c.args.setting.now.budgets (summary_with c.args.draft.now.keeper.kept.table c.count_marks-marked.result) (file g c)
 made g c =
     let d = c.requires.1.0 in
     let t = c.args.draft.now.keeper.kept.table in
