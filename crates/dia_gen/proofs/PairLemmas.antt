@@ -19,8 +19,8 @@ use Rattle.pair_miter.specs.Variables.{variable_count}
 use Rattle.pair_miter.proofs.LogEnds.{log_long}
 use Rattle.pair_miter.proofs.Within.{miter_proper}
 use Rattle.pair_miter.proofs.Bounds.{few_clauses, few_variables_of}
-use Rattle.distinguish_search.specs.declared.found.Found.TheVariants as found
-use Rattle.distinguish_search.specs.Found.{SeparatesAll}
+use Rattle.distinguish_search.specs.declared.searched.Searched.TheVariants as searched
+use Rattle.distinguish_search.specs.Searched.{SeparatesAll}
 use Rattle.learn_solver.specs.Solved.{HasRefutation, HasSpentLog}
 use Rattle.result_records.specs.declared.record.Budgets.{Budgets}
 use Rattle.result_records.specs.declared.record.Proof.TheVariants as proof
@@ -32,7 +32,7 @@ use Rattle.net_model.proofs.Copies.{All-at}
 use Rattle.result_records.specs.declared.record.Proof.{Proof}
 use Rattle.dia_gen.specs.declared.pair.Settled.{Settled}
 use Rattle.dia_gen.specs.declared.pair.Settled.TheVariants.{Apart, By}
-use Rattle.dia_gen.specs.Settled.{AreApartBy, HasRelevant, IsSearched, IsOpenFor, IsProofBy, IsProofFor, IsSettledBy, IsSettledFor}
+use Rattle.dia_gen.specs.Settled.{AreApartBy, HasRelevant, IsSearchedFor, IsOpenFor, IsProofBy, IsProofFor, IsSettledBy, IsSettledFor}
 use Rattle.dia_gen.proofs.FreeSources.{separates_also}
 use Rattle.dia_gen.proofs.LogSpelling.{literal_spelled, log_spelled}
 
@@ -57,11 +57,11 @@ module _ (c : Circuit) (is : IsCircuit c) (f g : Fault) (budgets : Budgets) (tok
   sources : c.sources < 2 ^ 32
   sources = let small = is.small in omega (arith, small)
 
-  pub covered_by : IsSearched c f g budgets (found.Covered tokens) → IsProofBy c f g budgets (proof.Covered tokens)
-  covered_by s = record { roots = λ apart. apart; spelled = tree_spelling c f g sources tokens s.is_found.tree; right = s.is_found; no_search = λ none. absurd (let e = s.none none in cc); no_refutation = λ none. tt }
+  pub covered_by : IsSearchedFor c f g budgets (searched.Covered tokens) → IsProofBy c f g budgets (proof.Covered tokens)
+  covered_by s = record { roots = λ apart. apart; spelled = tree_spelling c f g sources tokens s.is_searched.tree; right = s.is_searched; no_search = λ none. absurd (let e = s.none none in cc); no_refutation = λ none. tt }
 
-  pub open_for : IsSearched c f g budgets (found.Spent tokens) → IsOpenFor c f g budgets tokens
-  open_for s = record { spending = s.is_found; none = λ none. (let e = s.none none in cc) }
+  pub open_for : IsSearchedFor c f g budgets (searched.Spent tokens) → IsOpenFor c f g budgets tokens
+  open_for s = record { spending = s.is_searched; none = λ none. (let e = s.none none in cc) }
 
   module _ (left : IsOpenFor c f g budgets tokens) where
     spelled_tree : HasTreeSpelling tokens

@@ -9,9 +9,9 @@ use Rattle.net_model.specs.FaultList.{fault_numbered}
 use Rattle.pair_sets.specs.declared.tree.Token.{Token}
 use Rattle.pair_sets.specs.declared.tree.Token.TheVariants.{Rest}
 use Rattle.pair_sets.specs.Tree.{IsSpending}
-use Rattle.distinguish_search.specs.declared.found.Found.{Found}
-use Rattle.distinguish_search.specs.declared.found.Found.TheVariants as found
-use Rattle.distinguish_search.specs.Found.{IsFound}
+use Rattle.distinguish_search.specs.declared.searched.Searched.{Searched}
+use Rattle.distinguish_search.specs.declared.searched.Searched.TheVariants as searched
+use Rattle.distinguish_search.specs.Searched.{IsSearched}
 use Rattle.clause_pool.specs.Clauses.{Clause}
 use Rattle.learn_solver.specs.declared.solved.Solved.{Solved}
 use Rattle.learn_solver.specs.Solved.{IsSolved}
@@ -42,9 +42,9 @@ pub record IsSolvedFor (c : Circuit) (f g : Fault) (conflicts : ℕ) (solved : S
 
 module _ (c : Circuit) (f g : Fault) (budgets : Budgets) where
   -- What a search finds within the budget of cubes: without one, a tree of one open leaf.
-  pub record IsSearched (result : Found) : Type 0 where
-    pub is_found : IsFound c f g budgets.cubes result
-    pub none : budgets.cubes ≡ 0 → result ≡ found.Spent (Rest ∷ [])
+  pub record IsSearchedFor (result : Searched) : Type 0 where
+    pub is_searched : IsSearched c f g budgets.cubes result
+    pub none : budgets.cubes ≡ 0 → result ≡ searched.Spent (Rest ∷ [])
 
   -- The tree leaves the pair open, and spends the budget of cubes.
   pub record IsOpenFor (tree : List Token) : Type 0 where

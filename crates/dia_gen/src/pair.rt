@@ -8,11 +8,11 @@ ghost use Rattle.net_model.specs.Fault.{IsFaultOf};
 ghost use Rattle.net_model.specs.FaultList.{fault_count};
 ghost use Rattle.pair_miter.specs.Miter as spec;
 ghost use Rattle.result_records.specs.declared.limits.TheConstants.{CONFLICTS_LIMIT};
-ghost use Rattle.dia_gen.specs.Settled.{IsSpaceFor, HasRelevant, IsSettledFor, IsSearched, IsOpenFor, IsSolvedFor, IsSettledBy};
+ghost use Rattle.dia_gen.specs.Settled.{IsSpaceFor, HasRelevant, IsSettledFor, IsSearchedFor, IsOpenFor, IsSolvedFor, IsSettledBy};
 
 use crate::setting::GenerationSetting;
 use clause_pool::Pool;
-use distinguish_search::{Found, search};
+use distinguish_search::{Searched, search_with};
 use learn_solver::{Solved, solve};
 use net_model::{Fault, Vector};
 use pair_miter::{Log, Miter, MiterSpace};
@@ -75,9 +75,9 @@ pub(crate) fn settle_pair(
     let f = setting.fault(lead);
     let g = setting.fault(member);
     match search_cubes(alloc, setting, &mut space.sim, &f, &g)? {
-        Found::Apart(cube) => Ok(Settled::Apart(cube)),
-        Found::Covered(tree) => Ok(Settled::By(Proof::Covered(tree))),
-        Found::Spent(tree) => learn(alloc, setting, space, &f, &g, tree),
+        Searched::Apart(cube) => Ok(Settled::Apart(cube)),
+        Searched::Covered(tree) => Ok(Settled::By(Proof::Covered(tree))),
+        Searched::Spent(tree) => learn(alloc, setting, space, &f, &g, tree),
     }
 }
 
@@ -88,20 +88,20 @@ fn search_cubes(
     sim: &mut PairSim,
     f: &Fault,
     g: &Fault,
-) -> Result<Found, AllocError>
+) -> Result<Searched, AllocError>
     requires first { IsFaultOf setting.now.circuit f.now }
     requires second { IsFaultOf setting.now.circuit g.now }
     requires simulated { sim.old.circuit ≡ setting.now.circuit }
-    ensures found { IfOk result (IsSearched setting.now.circuit f.now g.now setting.now.budgets) }
+    ensures found { IfOk result (IsSearchedFor setting.now.circuit f.now g.now setting.now.budgets) }
     ensures circuit { sim.new.circuit ≡ sim.old.circuit }
 {
     let cubes = setting.budgets().cubes;
     if cubes > 0 {
-        return search(alloc, sim, setting.levels(), f, g, cubes);
+        return search_with(alloc, sim, setting.levels(), f, g, cubes);
     }
     let mut tree = Tree::new(alloc);
     tree.push(Token::Rest)?;
-    Ok(Found::Spent(tree))
+    Ok(Searched::Spent(tree))
 }
 
 // What the solver makes of a pair that a tree leaves open: without a budget for it, evidence without clauses.

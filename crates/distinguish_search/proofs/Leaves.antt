@@ -17,9 +17,9 @@ use Rattle.pair_sets.specs.Subtree.{IsSubtree}
 use Rattle.pair_sets.specs.Tree.{closed_count}
 use Rattle.pair_sets.proofs.TreeLemmas.{closed_leaf, open_leaf, subtree_is_tree}
 use Rattle.distinguish_search.specs.declared.frames.Frame.{Frame}
-use Rattle.distinguish_search.specs.declared.found.Found.TheVariants.{Covered, Spent}
+use Rattle.distinguish_search.specs.declared.searched.Searched.TheVariants.{Covered, Spent}
 use Rattle.distinguish_search.specs.End.{leaf_token}
-use Rattle.distinguish_search.specs.Found.{IsFound}
+use Rattle.distinguish_search.specs.Searched.{IsSearched}
 use Rattle.distinguish_search.specs.Frames.{IsUnderWay, is_open_leaf, open_leaves, closed_in, open_in, SplitsOn, GoesOn, IsWholeTree}
 
 -- The search is under way with so many closed leaves, and no leaf is open as long as one more may be closed.
@@ -88,13 +88,13 @@ module _ (c : Circuit) (f g : Fault) (leaves closed now : ℕ) (sim : PairSim) (
 
   module _ (full : Bool) (is : (closed == leaves) ≡ full) (more : now ≡ (if full then closed else closed + 1)) where
     -- a whole tree is what is found
-    pub whole_found : (tree : List Token) → IsWholeTree c f g (leaf_token full ∷ []) frames tree → IsFound c f g leaves (if list_any is_open_leaf tree then Spent tree else Covered tree)
+    pub whole_found : (tree : List Token) → IsWholeTree c f g (leaf_token full ∷ []) frames tree → IsSearched c f g leaves (if list_any is_open_leaf tree then Spent tree else Covered tree)
     whole_found tree whole = by (list_any is_open_leaf tree) refl
       where
         counts : IsCounted leaves now (closed_count tree) (open_leaves tree)
         counts = count_from full (closed_count tree) (open_leaves tree) is more whole.closed whole.left_open
 
-        by : (b : Bool) → list_any is_open_leaf tree ≡ b → IsFound c f g leaves (if b then Spent tree else Covered tree)
+        by : (b : Bool) → list_any is_open_leaf tree ≡ b → IsSearched c f g leaves (if b then Spent tree else Covered tree)
         by true e = record { tree = subtree_is_tree c f g tree whole.right; open_leaf = some_open tree e; full = counts.counted ∙ counts.spent (open_counted tree e) }
         by false e = record { tree = subtree_is_tree c f g tree whole.right; covered = none_open tree e; few = omega (arith, counts.counted, counts.few) }
 

@@ -11,9 +11,9 @@ use Rattle.pair_sets.specs.Subtree.{IsSubtree}
 use Rattle.pair_sets.proofs.StateLemmas.{apart_differs}
 use Rattle.distinguish_search.specs.declared.end.End.TheVariants.{Leaf, Apart}
 use Rattle.distinguish_search.specs.declared.frames.Frame.{Frame}
-use Rattle.distinguish_search.specs.declared.found.Found.TheVariants.{Covered, Spent}
+use Rattle.distinguish_search.specs.declared.searched.Searched.TheVariants.{Covered, Spent}
 use Rattle.distinguish_search.specs.End.{IsSearchEnd, leaf_token}
-use Rattle.distinguish_search.specs.Found.{SeparatesAll, IsFound}
+use Rattle.distinguish_search.specs.Searched.{SeparatesAll, IsSearched}
 use Rattle.distinguish_search.specs.Frames.{tried_cube, is_open_leaf, IsUnderWay, SplitsOn, IsClimbed}
 use Rattle.distinguish_search.proofs.FrameLemmas.{once_of, has_fixed}
 use Rattle.distinguish_search.proofs.Leaves.{IsInBudget, leaf_right, whole_found, still_in_budget}
@@ -66,7 +66,7 @@ module _ (c : Circuit) (f g : Fault) (leaves closed : ℕ) (sim : PairSim) (star
     climbed : (whole : Option (List Token)) → IsClimbed new.circuit new.f new.g tree stack later left whole → IsClimbed c f g (leaf_token (closed == leaves) ∷ []) stack later left whole
     climbed whole h = subst (λ xs. IsClimbed c f g xs stack later left whole) leaf (subst (λ (s : PairSim). IsClimbed s.circuit s.f s.g tree stack later left whole) is h)
 
-    pub tree_found : (whole : List Token) → IsClimbed new.circuit new.f new.g tree stack later left (Some whole) → IsFound c f g leaves (if list_any is_open_leaf whole then Spent whole else Covered whole)
+    pub tree_found : (whole : List Token) → IsClimbed new.circuit new.f new.g tree stack later left (Some whole) → IsSearched c f g leaves (if list_any is_open_leaf whole then Spent whole else Covered whole)
     tree_found whole h = whole_found c f g leaves closed now sim start stack budget on (closed == leaves) refl more whole (climbed (Some whole) h)
 
     pub goes_on : IsClimbed new.circuit new.f new.g tree stack later left None → IsInBudget c f g leaves now later left

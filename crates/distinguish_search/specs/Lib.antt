@@ -1,3 +1,4 @@
+pub mod Searched
 pub mod Found
 pub mod Levels
 pub mod Asked

@@ -6,14 +6,14 @@ ghost use Rattle.net_model.specs.Fault.{IsFaultOf};
 ghost use Rattle.pair_sets.specs.PairSim.{pair_sim, with_cube};
 ghost use Rattle.distinguish_search.specs.End.{leaf_token};
 ghost use Rattle.distinguish_search.specs.Frames.{is_open_leaf};
-ghost use Rattle.distinguish_search.specs.Found.{IsFound};
+ghost use Rattle.distinguish_search.specs.Searched.{IsSearched};
 
 use crate::climb::climb;
 use crate::descent::descend;
 use crate::end::End;
-use crate::found::Found;
 use crate::levels::Levels;
 use crate::rule::Rule;
+use crate::searched::Searched;
 use crate::stack::Stack;
 use net_model::Fault;
 use pair_sets::{PairSim, Token, Tree};
@@ -26,18 +26,18 @@ use std::alloc::{AllocError, Global};
 ///
 /// Each run restarts the simulation, whatever faults and cube it stands at, so one simulation serves every search in a
 /// circuit. The stack of a run is in memory from `alloc`, and grows by a frame for each source that is fixed.
-pub fn search(
+pub fn search_with(
     alloc: Global,
     sim: &mut PairSim,
     levels: &Levels,
     f: &Fault,
     g: &Fault,
     leaves: u32,
-) -> Result<Found, AllocError>
+) -> Result<Searched, AllocError>
     requires first { IsFaultOf sim.old.circuit f.now }
     requires second { IsFaultOf sim.old.circuit g.now }
     requires leaves { 1 ≤ leaves }
-    ensures found { IfOk result (IsFound sim.old.circuit f.now g.now leaves) }
+    ensures found { IfOk result (IsSearched sim.old.circuit f.now g.now leaves) }
     ensures circuit { sim.new.circuit ≡ sim.old.circuit }
 
     // Whatever is answered, the simulation is of the two faults, under some cube.
@@ -52,9 +52,9 @@ pub fn search(
         differences_first: true,
     };
     match run(alloc, sim, by_bit, f, g, leaves)? {
-        Found::Apart(cube) => Ok(Found::Apart(cube)),
-        Found::Covered(tree) => Ok(Found::Covered(tree)),
-        Found::Spent(_tree) => run(alloc, sim, by_difference, f, g, leaves),
+        Searched::Apart(cube) => Ok(Searched::Apart(cube)),
+        Searched::Covered(tree) => Ok(Searched::Covered(tree)),
+        Searched::Spent(_tree) => run(alloc, sim, by_difference, f, g, leaves),
     }
 }
 
@@ -66,13 +66,13 @@ fn run(
     f: &Fault,
     g: &Fault,
     leaves: u32,
-) -> Result<Found, AllocError>
+) -> Result<Searched, AllocError>
     requires leaves { 1 ≤ leaves }
     requires first { IsFaultOf sim.old.circuit f.now }
     requires second { IsFaultOf sim.old.circuit g.now }
     ensures circuit { sim.new.circuit ≡ sim.old.circuit }
     ensures faults { sim.new ≡ pair_sim sim.old.circuit f.now g.now sim.new.cube }
-    ensures found { IfOk result (IsFound sim.old.circuit f.now g.now leaves) }
+    ensures found { IfOk result (IsSearched sim.old.circuit f.now g.now leaves) }
 {
     let mut stack = Stack::new(alloc);
     sim.restart(f, g);
@@ -86,7 +86,7 @@ fn go_through(
     stack: &mut Stack,
     rule: Rule,
     leaves: u32,
-) -> Result<Found, AllocError>
+) -> Result<Searched, AllocError>
     requires leaves { 1 ≤ leaves }
     requires first { IsFaultOf sim.old.circuit sim.old.f }
     requires second { IsFaultOf sim.old.circuit sim.old.g }
@@ -94,7 +94,7 @@ fn go_through(
     requires empty { stack.old ≡ [] }
     ensures circuit { sim.new.circuit ≡ sim.old.circuit }
     ensures faults { sim.new ≡ with_cube sim.old sim.new.cube }
-    ensures found { IfOk result (IsFound sim.old.circuit sim.old.f sim.old.g leaves) }
+    ensures found { IfOk result (IsSearched sim.old.circuit sim.old.f sim.old.g leaves) }
 {
     let circuit = sim.circuit();
     let mut closed = 0;
@@ -102,7 +102,7 @@ fn go_through(
         let full = closed == leaves;
         match descend(sim, stack, rule, full)? {
             End::Leaf => {}
-            End::Apart => return Ok(Found::Apart(stack.cube(alloc, circuit.sources())?)),
+            End::Apart => return Ok(Searched::Apart(stack.cube(alloc, circuit.sources())?)),
         }
         if !full {
             closed += 1;
@@ -126,13 +126,13 @@ fn leaf(alloc: Global, full: bool) -> Result<Tree, AllocError>
 }
 
 // A whole tree is spent where it has an open leaf, else covered.
-fn finished(tree: Tree) -> Found
-    ensures { result ≡ (if list_any is_open_leaf tree then Found.Spent tree else Found.Covered tree) }
+fn finished(tree: Tree) -> Searched
+    ensures { result ≡ (if list_any is_open_leaf tree then Searched.Spent tree else Searched.Covered tree) }
 {
     if has_open(tree.as_slice()) {
-        Found::Spent(tree)
+        Searched::Spent(tree)
     } else {
-        Found::Covered(tree)
+        Searched::Covered(tree)
     }
 }
 

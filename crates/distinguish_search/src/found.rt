@@ -1,13 +1,13 @@
-//! What a search finds.
+//! What a search for a pair of faults finds.
 
+use net_model::Vector;
 use pair_sets::Tree;
 
-/// A cube, every vector of which separates the faults: a bit for each source that it fixes, and none for one that is
-/// free; a tree of cubes that are all closed; or a tree in which some cube is left open, with as many closed ones as
-/// the limit allows.
+/// A vector that separates the faults; a tree of cubes that are all closed; or a tree in which some cube is left open,
+/// with as many closed ones as the limit allows.
 #[derive(Drop)]
 pub enum Found {
-    Apart(Vec<Option<bool>>),
+    Vector(Vector),
     Covered(Tree),
     Spent(Tree),
 }

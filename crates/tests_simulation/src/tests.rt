@@ -2,6 +2,7 @@
 
 mod cubes;
 mod flipped;
+mod found;
 mod injected;
 mod lanes;
 mod refined;

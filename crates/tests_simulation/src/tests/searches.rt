@@ -3,7 +3,7 @@
 ghost use Rattle.std.specs.Prelude.{◌≤◌};
 ghost use Rattle.net_model.specs.Fault.{IsFaultOf};
 
-use distinguish_search::{Found, Levels, search};
+use distinguish_search::{Levels, Searched, search_with};
 use net_model::{Circuit, Fault, Kind};
 use pair_sets::{PairSim, Token, Tree};
 use sample_circuits::{
@@ -28,13 +28,13 @@ fn count(tree: &Tree, token: Token) -> usize {
         .count()
 }
 
-fn shape_of(found: &Found) -> Shape {
+fn shape_of(found: &Searched) -> Shape {
     match found {
-        Found::Apart(cube) => Shape::Apart(cube.iter().filter(|bit| bit.is_some()).count()),
-        Found::Covered(tree) => {
+        Searched::Apart(cube) => Shape::Apart(cube.iter().filter(|bit| bit.is_some()).count()),
+        Searched::Covered(tree) => {
             Shape::Covered(count(tree, Token::Closed), count(tree, Token::Rest))
         }
-        Found::Spent(tree) => Shape::Spent(count(tree, Token::Closed), count(tree, Token::Rest)),
+        Searched::Spent(tree) => Shape::Spent(count(tree, Token::Closed), count(tree, Token::Rest)),
     }
 }
 
@@ -52,7 +52,7 @@ fn found_with(
     requires some { 1 ≤ leaves }
     requires fault { IsFaultOf sim.old.circuit stuck }
 {
-    let found = search(alloc, sim, levels, &Fault::Free, &stuck, leaves)?;
+    let found = search_with(alloc, sim, levels, &Fault::Free, &stuck, leaves)?;
     Ok(shape_of(&found))
 }
 

@@ -20,4 +20,4 @@ pub returns-in-Apart-clause-settled : goal.returns-in-Apart-clause-settled
 returns-in-Apart-clause-settled c =
     let setting = c.args.setting.now in
     let found = rw (c.in-Apart.is, c.fault-f.ensures.value, c.fault-g.ensures.value) at c.in_ok-cube.ensures.found in
-    cube_apart setting.circuit (fault_numbered setting.circuit c.args.lead) (fault_numbered setting.circuit c.args.member) setting.budgets c.in-Apart.cube.items (λ none. let e = found.none none in cc) found.is_found
+    cube_apart setting.circuit (fault_numbered setting.circuit c.args.lead) (fault_numbered setting.circuit c.args.member) setting.budgets c.in-Apart.cube.items (λ none. let e = found.none none in cc) found.is_searched

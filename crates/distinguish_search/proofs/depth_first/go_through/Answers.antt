@@ -3,7 +3,7 @@ use Rattle.std.specs.Prelude.{◌==◌, if◌then◌else◌}
 use Rattle.net_model.specs.Circuit.{Circuit}
 use Rattle.pair_sets.specs.Cube.{FixesOnce}
 use Rattle.distinguish_search.specs.End.{IsSearchEnd}
-use Rattle.distinguish_search.specs.Found.{IsFound}
+use Rattle.distinguish_search.specs.Searched.{IsSearched}
 use Rattle.distinguish_search.specs.Frames.{tried_cube, IsClimbed}
 use Rattle.distinguish_search.proofs.SearchSteps.{more_then, more_else, once_here, cube_found, leaf_here, tree_found, goes_on}
 use Rattle.distinguish_search.proofs.depth_first.go_through.Goals as goal
@@ -44,7 +44,7 @@ returns-in-Some-clause-found c =
     let loop = c.loop-stack in
     let new = c.descend.new.sim in
     let stack = c.descend.new.stack in
-    subst (IsFound c.args.sim.now.circuit c.args.sim.now.f c.args.sim.now.g c.args.leaves) (sym c.finished.ensures)
+    subst (IsSearched c.args.sim.now.circuit c.args.sim.now.f c.args.sim.now.g c.args.leaves) (sym c.finished.ensures)
     (tree_found c.args.sim.now.circuit c.args.sim.now.f c.args.sim.now.g c.args.leaves loop.closed loop.sim loop.stack loop.invariant new stack c.in_ok-descend.ensures.under_way c.in_ok-descend.ensures.splits
     c.if-not-full.closed (closed_now (goal.at.returns-in-Some-clause-found c).After-climb) c.in_ok-tree.tree c.in_ok-tree.ensures c.climb.new.sim c.climb.new.stack c.in-Some.tree
     (subst (IsClimbed new.circuit new.f new.g c.in_ok-tree.tree stack c.climb.new.sim c.climb.new.stack) c.in-Some.is c.in_ok-tree-2.ensures.climbed))
