@@ -9,6 +9,7 @@ mod dictionaries;
 mod failing;
 mod following;
 mod generating;
+mod kept;
 mod listing;
 mod netlists;
 mod rankings;

@@ -80,7 +80,7 @@ fn calls_to_read(files: &[File]) -> u64 {
 }
 
 // Whether a run of which a call failed shows it: a read leaves nothing, and a write a part of what the run leaves of which no
-// call fails, which prints last.
+// call fails, which prints last. What it read is as it was.
 fn shows(left: &Left, whole: &Left, name: &str, call: u64, reads: u64) -> bool {
     if call < reads {
         return left.ended(7, Is(b"")) && left.holds(name, Absent);
@@ -107,7 +107,7 @@ fn each_shows(alloc: Global, case: &Calling) -> Result<bool, AllocError> {
         if left.ended(0, Is(whole.console())) {
             return Ok(is_whole && call > reads && kept >= prints);
         }
-        if !shows(&left, &whole, name, call, reads) {
+        if !left.keeps(files) || !shows(&left, &whole, name, call, reads) {
             return Ok(false);
         }
         kept = if is_whole { kept.saturating_add(1) } else { 0 };

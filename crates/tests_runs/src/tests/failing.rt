@@ -10,7 +10,7 @@ use std::test::Fail;
 // A call fails: its number, the status, and the output.
 type Failing = (u64, u8, FileText<'static>);
 
-// Each of these calls fails in a run that moves so many bytes at a time, and prints last.
+// Each of these calls fails in a run that moves so many bytes at a time, and prints last. What it read is as it was.
 fn each_fails(
     rt: &impl Abort,
     alloc: Global,
@@ -23,7 +23,7 @@ fn each_fails(
     for (call, status, file) in cases {
         let left = left_by(alloc, chunk, &[*call], files, words)?;
         let failed = left.ended(*status, Is(b"")) && left.holds(output, *file);
-        assert!(rt; failed, "call {call}");
+        assert!(rt; failed && left.keeps(files), "call {call}");
     }
     Ok(())
 }

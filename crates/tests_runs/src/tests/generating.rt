@@ -2,17 +2,30 @@
 
 use crate::tests::runs::FileText::{Any, Begins, Ends, Is};
 use crate::tests::runs::{Case, Left, all_leave, has, is_accepted, left_by, plain};
-use crate::tests::texts::{AND, AND_RESULT, C17, PARITY, S27, TRUTH, TRUTH_RESULT};
+use crate::tests::texts::{AND, AND_RESULT, C17, MUX, PARITY, S27, TRUTH, TRUTH_RESULT};
 use std::alloc::{AllocError, Global};
 use std::test::Fail;
 use synth_netlist::synth_text;
 
-// A wire; no line at all; an AND; an OR of a signal and its complement, without a search too; a flip-flop that toggles; the
-// wire without a block of the stream, where no vector is kept, and all faults stay in one class; an input that no position
-// shows, where the miter of each pair has the empty clause alone.
-static SMALL: [Case; 8] = [
+// A wire, with its gate before its output and behind it; no line at all; an AND; an OR of a signal and its complement, without
+// a search too; a flip-flop that toggles; the wire without a block of the stream, where no vector is kept, and all faults stay
+// in one class; an input that no position shows, where the miter of each pair has the empty clause alone; a multiplexer; and a
+// constant, whose only pattern has no bit.
+static SMALL: [Case; 11] = [
     (
         &[("n", b"INPUT(a)\nz=BUFF(a)\nOUTPUT(z)\n")],
+        &["gen", "n", "r"],
+        0,
+        Is(b"numbers 5 patterns 2 classes 3 equal 2 open 0\n"),
+        (
+            "r",
+            Is(
+                b"diatest 1 1 1 5\nbudget 4 64 2000\npattern 0\npattern 1\nsame 3 1 C\nsame 4 2 C\nclass 0 - -\nclass 1 0 0\nclass 2 0 1\nmember 0 0 rep\nmember 1 2 rep\nmember 2 1 rep\nmember 3 2 equal\nmember 4 1 equal\nend\n",
+            ),
+        ),
+    ),
+    (
+        &[("n", b"INPUT(a)\nOUTPUT(z)\nz=BUFF(a)\n")],
         &["gen", "n", "r"],
         0,
         Is(b"numbers 5 patterns 2 classes 3 equal 2 open 0\n"),
@@ -105,57 +118,35 @@ static SMALL: [Case; 8] = [
             ),
         ),
     ),
+    (
+        &[("n", MUX)],
+        &["gen", "n", "r"],
+        0,
+        Is(b"numbers 9 patterns 6 classes 9 equal 0 open 0\n"),
+        (
+            "r",
+            Is(
+                b"diatest 1 3 1 9\nbudget 4 64 2000\npattern 000\npattern 100\npattern 010\npattern 110\npattern 001\npattern 101\nclass 0 - -\nclass 1 0 0\nclass 2 0 1\nclass 3 1 1\nclass 4 0 2\nclass 5 0 3\nclass 6 4 4\nclass 7 0 5\nclass 8 6 5\nmember 0 0 rep\nmember 1 5 rep\nmember 2 4 rep\nmember 3 6 rep\nmember 4 1 rep\nmember 5 7 rep\nmember 6 2 rep\nmember 7 8 rep\nmember 8 3 rep\nend\n",
+            ),
+        ),
+    ),
+    (
+        &[("n", b"OUTPUT(z)\nz=CONST1()\n")],
+        &["gen", "n", "r"],
+        0,
+        Is(b"numbers 3 patterns 1 classes 2 equal 1 open 0\n"),
+        (
+            "r",
+            Is(
+                b"diatest 1 0 1 3\nbudget 4 64 2000\npattern -\nsame 2 0 T .\nclass 0 - -\nclass 1 0 0\nmember 0 0 rep\nmember 1 1 rep\nmember 2 0 equal\nend\n",
+            ),
+        ),
+    ),
 ];
 
 #[test]
 fn results_of_small_circuits(rt: HostRuntime) -> Result<(), Fail> {
     all_leave(&rt, rt.alloc(), 7, &SMALL)
-}
-
-const FIVE_BLOCKS: &[&str] = &[
-    "gen",
-    "n",
-    "r",
-    "--blocks",
-    "5",
-    "--cubes",
-    "0",
-    "--conflicts",
-    "0",
-];
-
-// Five blocks of the stream are two fills of the lanes, of which the second has one block: the kept vectors are those of a plain
-// evaluation of each fault at each vector, worked out outside.
-static KEPT: [Case; 2] = [
-    (
-        &[("n", C17)],
-        FIVE_BLOCKS,
-        0,
-        Any,
-        (
-            "r",
-            Begins(
-                b"diatest 1 5 2 35\nbudget 5 0 0\npattern 00000\npattern 10000\npattern 01000\npattern 00100\npattern 10100\npattern 01100\npattern 01010\npattern 00110\npattern 01110\npattern 00001\npattern 00111\nsame ",
-            ),
-        ),
-    ),
-    (
-        &[("n", S27)],
-        FIVE_BLOCKS,
-        0,
-        Any,
-        (
-            "r",
-            Begins(
-                b"diatest 1 7 4 53\nbudget 5 0 0\npattern 0000001\npattern 1000001\npattern 0100001\npattern 0010000\npattern 1010001\npattern 0001001\npattern 1001000\npattern 0000101\npattern 0101100\npattern 0000011\npattern 1000010\npattern 0101010\npattern 0000110\npattern 0010010\nsame ",
-            ),
-        ),
-    ),
-];
-
-#[test]
-fn kept_vectors_of_five_blocks(rt: HostRuntime) -> Result<(), Fail> {
-    all_leave(&rt, rt.alloc(), 7, &KEPT)
 }
 
 // Wires, c17, s27 and the parity circuit: the file's first lines, and the console's end.

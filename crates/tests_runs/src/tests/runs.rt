@@ -66,6 +66,13 @@ impl Left {
         }
     }
 
+    /// Whether each of these files is as it was given.
+    pub(crate) fn keeps(&self, files: &[(&str, &[u8])]) -> bool {
+        files
+            .iter()
+            .all(|(name, bytes)| self.holds(*name, FileText::Is(*bytes)))
+    }
+
     /// Whether the file under a name is as the other run left it.
     pub(crate) fn holds_same(&self, other: &Left, name: &str) -> bool {
         match other.shelf.file(name) {
@@ -97,7 +104,8 @@ impl Left {
     }
 }
 
-fn strings(alloc: Global, all: &[&str]) -> Result<Vec<String>, AllocError> {
+/// The words of a run.
+pub(crate) fn strings(alloc: Global, all: &[&str]) -> Result<Vec<String>, AllocError> {
     let mut words = Vec::new(alloc);
     for word in all {
         words.push(String::from_str(alloc, *word)?)?;

@@ -37,7 +37,12 @@ fn is_synthesized(alloc: Global, left: &Left) -> Result<bool, AllocError> {
 }
 
 fn is_right(alloc: Global, left: &Left) -> Result<bool, Fail> {
-    Ok(is_synthesized(alloc, left)? && is_accepted(alloc, left)? && replaces(alloc, left)?)
+    Ok(
+        is_synthesized(alloc, left)?
+            && is_accepted(alloc, left)?
+            && replaces(alloc, left)?
+            && is_repeated(alloc, "8", left)?,
+    )
 }
 
 #[test]
@@ -47,15 +52,19 @@ fn results_of_a_netlist_by_number(rt: HostRuntime) -> Result<(), Fail> {
     Ok(())
 }
 
-// Whether a run of the same words leaves the same, of fifty cells.
-fn is_repeated(alloc: Global, left: &Left) -> Result<bool, Fail> {
-    let again = plain(alloc, &[], &["synth", "50", "n", "r"])?;
-    Ok(again.ended(0, Is(left.console())) && again.holds_same(left, "r"))
+// Whether a run of the same words leaves the same, of so many cells.
+fn is_repeated(alloc: Global, cells: &str, left: &Left) -> Result<bool, Fail> {
+    let again = plain(alloc, &[], &["synth", cells, "n", "r"])?;
+    Ok(
+        again.ended(0, Is(left.console()))
+            && again.holds_same(left, "n")
+            && again.holds_same(left, "r"),
+    )
 }
 
 fn is_of_fifty(alloc: Global, left: &Left) -> Result<bool, Fail> {
     let begun = left.holds("r", Begins(b"diatest 1 101 51 1203\nbudget 4 16 100\n"));
-    Ok(left.ended(0, Any) && begun && is_repeated(alloc, left)? && is_accepted(alloc, left)?)
+    Ok(left.ended(0, Any) && begun && is_repeated(alloc, "50", left)? && is_accepted(alloc, left)?)
 }
 
 #[test]

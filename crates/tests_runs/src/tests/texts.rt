@@ -5,6 +5,9 @@ pub(crate) const TRUTH: &[u8] = b"INPUT(a)\nOUTPUT(z)\nb=NOT(a)\nz=OR(a,b)\n";
 
 pub(crate) const AND: &[u8] = b"INPUT(a)\nINPUT(b)\nOUTPUT(z)\nz=AND(a,b)\n";
 
+/// A multiplexer.
+pub(crate) const MUX: &[u8] = b"INPUT(s)\nINPUT(a)\nINPUT(b)\nOUTPUT(z)\nz=MUX(s,a,b)\n";
+
 /// An input that two outputs show.
 pub(crate) const TWICE: &[u8] = b"INPUT(a)\nOUTPUT(a)\nOUTPUT(a)\n";
 
