@@ -5,6 +5,7 @@ mod flipped;
 mod found;
 mod injected;
 mod lanes;
+mod named;
 mod refined;
 mod searches;
 mod turned;

@@ -131,7 +131,10 @@ fn finds(alloc: Global, circuit: &Circuit, case: &Case) -> Result<bool, Fail>
     requires leaves { 1 ≤ case.now.leaves }
 {
     let leaves = case.leaves;
-    match (search(alloc, circuit, &case.f, &case.g, leaves)?, case.wanted) {
+    match (
+        search(alloc, circuit, &case.f, &case.g, leaves)?,
+        case.wanted,
+    ) {
         (Found::Vector(v), Wanted::Vector) => is_apart(alloc, circuit, case, &v),
         (Found::Covered(tree), Wanted::Covered) => Ok(is_covered(&tree, leaves)),
         (Found::Spent(tree), Wanted::Spent) => Ok(is_spent(&tree, leaves)),
