@@ -1,11 +1,9 @@
 //! DIATEST: tests that tell single stuck-at faults apart.
 #![tactic(auto)]
 
-mod real;
-
-use crate::real::RealShelf;
 use dia_commands::{RunFault, status_of};
 use dia_runs::run;
+use real_shelf::RealShelf;
 use std::alloc::AllocError;
 use std::env;
 use std::io::ErrorKind;

@@ -1,5 +1,5 @@
-// A shelf of real files and standard output. It tells no contents.
-ghost use Rattle.std.specs.Prelude.{◌≡◌, ◌≤◌, ◌<◌, IfOk, IfSome};
+// Files of the system and standard output.
+ghost use Rattle.std.specs.Prelude.{◌≡◌, ◌≤◌, ◌<◌, None, IfOk, IfSome};
 ghost use Rattle.diag_shelf.specs.Calls.{Rose};
 
 use diag_shelf::{Shelf, ShelfFault};
@@ -7,8 +7,9 @@ use std::io::{Read, Write};
 use std::rt::Files;
 use std::{fs, io};
 
+/// A shelf of real files and standard output. It tells no contents.
 #[derive(Drop)]
-pub(crate) struct RealShelf<'a, R: Files + Print> {
+pub struct RealShelf<'a, R: Files + Print> {
     rt: &'a R,
     opened: Option<R::File>,
     written: Option<R::File>,
@@ -17,7 +18,13 @@ pub(crate) struct RealShelf<'a, R: Files + Print> {
 }
 
 impl<'a, R: Files + Print> RealShelf<'a, R> {
-    pub(crate) fn new(rt: &'a R) -> RealShelf<'a, R> {
+    /// A shelf that has failed in no call, with no file opened or created.
+    pub fn new(rt: &'a R) -> RealShelf<'a, R>
+        ensures opened { result.opened ≡ None }
+        ensures written { result.written ≡ None }
+        ensures reads { result.read_faults ≡ 0 }
+        ensures writes { result.write_faults ≡ 0 }
+    {
         RealShelf {
             rt,
             opened: None,
@@ -52,7 +59,7 @@ fn taken(answer: io::Result<usize>, offered: usize) -> Option<usize>
 }
 
 impl<'a, R: Files + Print> Shelf for RealShelf<'a, R> {
-    ghost use Rattle.diatest.specs.Real.{silent};
+    ghost use Rattle.real_shelf.specs.Real.{silent};
 
     ghost state = { λ s. silent s.read_faults s.write_faults };
 
