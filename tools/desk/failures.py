@@ -2,6 +2,7 @@
 
 import errno
 import os
+import select
 import stat
 
 from telling import named
@@ -19,6 +20,10 @@ WHY = {
     errno.EBADF: "it is closed",
     errno.EPIPE: "its reader has closed it",
 }
+
+
+class Unwritten(Exception):
+    """Why standard output can't be written."""
 
 
 def why(error):
@@ -75,3 +80,15 @@ def full(name, folder):
         if error.errno in (errno.ENOSPC, errno.EDQUOT, errno.EFBIG):
             return f"{named(name)} is cut short: {why(error)}"
     return None
+
+
+def hand_out(text):
+    """Writes a text on standard output."""
+    left = text.encode("utf-8", "surrogateescape")
+    while left:
+        try:
+            left = left[os.write(1, left) :]
+        except BlockingIOError:
+            select.select([], [1], [])
+        except OSError as error:
+            raise Unwritten(f"standard output can't be written: {why(error)}") from None

@@ -5,7 +5,9 @@ import struct
 from itertools import islice
 
 import bench
+import mends
 from telling import bytes_caret, caret, line_start, named, plain_file
+from usage import COMMANDS
 
 LONGEST = 1 << 24  # bytes of a line that are looked at
 
@@ -64,8 +66,16 @@ LOG_FORM = {"sim": (BITS, END), **dict.fromkeys(PARTIAL, (NUMBER, rb" ", SEEN, E
 LOG_WORDS = {"sim": "A line is a vector's bits, source 0 first, and one LF", **dict.fromkeys(PARTIAL, SEEN_WORDS)}
 WHOLE_FORM, WHOLE_WORDS = (NUMBER, rb" ", BITS, END), "A line is a pattern's number without zeros in front, one space, the bits, and one LF"
 
-HEADS = ((b"DIAT", "a dictionary"), (b"diatest 1 ", "a result"), (b"adapt 1 ", "an adaptive plan"))
-WANTED = {"result": "a result", "dictionary": "a dictionary", "plan": "an adaptive plan"}
+LARGEST = 4_294_967_295  # of the numbers in texts
+HEADS = (  # what a file is by its beginning
+    (rb"DIAT", "a dictionary"),
+    (rb"diatest 1 ", "a result"),
+    (rb"adapt 1 ", "an adaptive plan"),
+    (rb"[0-9]+ [01xX]+\r?\n", "a log"),
+    (rb"(?i)(\s|#[^\n]*\n)*(in|out)put\s*\(", "a netlist"),
+    (rb"(?s)(\s|//[^\n]*\n|/\*.*?\*/)*(module|`timescale)\s", "Verilog, of which tools/from-verilog makes a netlist"),
+)
+WANTED = {"netlist": "a netlist", "result": "a result", "dictionary": "a dictionary", "plan": "an adaptive plan", "log": "a log"}
 NAMES = {
     "netlist": ("NETLIST",),
     "result": ("RESULT",),
@@ -103,31 +113,79 @@ def sizes(command, files):
         return patterns, positions
 
 
-def log_order(command, line, text, patterns):
+def fault_numbers(netlist):
+    """How many fault numbers a netlist has."""
+    uses = {}
+    for _, pins in netlist.gates.values():
+        for it in pins:
+            uses[it] = uses.get(it, 0) + 1
+    for it in netlist.shown:
+        uses[it] = uses.get(it, 0) + 1
+    return 1 + 2 * (len(netlist.sources) + len(netlist.gates) + sum(it for it in uses.values() if it > 1))
+
+
+def sizes_in_words(sizes):
+    """The three sizes of a circuit."""
+    counts = [f"{size} {what}{'' if str(size) == '1' else 's'}" for size, what in zip(sizes, ("source", "position", "fault number"))]
+    return f"{counts[0]}, {counts[1]} and {counts[2]}"
+
+
+def circuit_sizes(files, text):
+    """Which sizes a result's head has, and which the netlist has, if they differ."""
+    head = text.split()[2:5]
+    netlist = bench.read(files["NETLIST"])
+    here = [len(netlist.sources), len(netlist.positions), fault_numbers(netlist)]
+    if [str(it).encode() for it in here] == head or len(head) < 3:
+        return ""
+    there = sizes_in_words([it.decode("latin-1") for it in head])
+    return f"The result is of another circuit: it has {there}, and {named(files['NETLIST'])} has {sizes_in_words(here)}."
+
+
+def first_number(name):
+    """The number in the first line of a log, if there is one."""
+    with open(name, "rb") as file:
+        found = re.match(NUMBER, file.readline(LONGEST))
+    return int(found[0]) if found else None
+
+
+def log_order(command, name, line, text, patterns):
     """What the number of a line of a log has to be."""
+    number = int(re.match(NUMBER, text)[0])
     if command in PARTIAL:
-        return f"The number is below {patterns} and above that of the line before: patterns are counted from 0."
+        beyond = number >= patterns and first_number(name) == 1
+        mend = mends.FROM_ONE if beyond else mends.AGAIN if number < patterns else None
+        words = f"The number is below {patterns} and above that of the line before: patterns are counted from 0."
+        return words + (mends.sentence(mend, "It seems that this log", name) if mend else "")
     if command == "follow":
         return "The line has to answer the pattern that the plan asks there: `follow` with the lines above tells it."
     if line > patterns:
         return f"There are {patterns} patterns, and each has had its line."
-    counted = " This log seems to begin with 1." if line == 1 and text.startswith(b"1 ") else ""
-    return f"Line {line} has the number {line - 1}: patterns are counted from 0, and `diagnose` wants each (`rank` doesn't).{counted}"
+    words = f"Line {line} has the number {line - 1}: patterns are counted from 0, and `diagnose` wants each (`rank` doesn't)."
+    mend = mends.FROM_ONE if line == 1 and number == 1 else mends.AGAIN if number < line - 1 else None
+    return words + (mends.sentence(mend, "It seems that this log", name) if mend else "")
 
 
-def log_place(command, files, rule, line, text):
+def log_syntax(command, name, text):
+    """Where a line of a log leaves its form, and what the form is."""
+    words, number = LOG_WORDS.get(command, WHOLE_WORDS), re.match(NUMBER, text)
+    if command != "sim" and number and int(number[0]) > LARGEST:
+        return 0, f"{words}. Its number is above {LARGEST}, the largest that is read."
+    mend = "" if mends.of_file(text, name) else mends.of_line(text, mends.VECTORS if command == "sim" else mends.NUMBERED, name)
+    partial = "" if command in (*PARTIAL, "sim") or "x" not in mend + text.decode("latin-1") else " `rank` and `suspects` take an x."
+    return first_wrong(text, LOG_FORM.get(command, WHOLE_FORM)), f"{words}.{partial}{mend}"
+
+
+def log_place(command, files, name, rule, line, text):
     """The place of the caret in a line of a log, and what the rule asks."""
-    words = LOG_WORDS.get(command, WHOLE_WORDS)
     if rule == "TooLong":
         return 0, "The text has at most 1,073,741,824 bytes."
     if rule == "Syntax":
-        feeds = " This line ends with CR and LF: `tr -d '\\r'` leaves the CRs out." if text.endswith(b"\r\n") else ""
-        return first_wrong(text, LOG_FORM.get(command, WHOLE_FORM)), f"{words}.{feeds}"
+        return log_syntax(command, name, text)
     patterns, width = sizes(command, files)
     if rule == "Order":
-        return 0, log_order(command, line, text, patterns)
+        return 0, log_order(command, name, line, text, patterns)
     if rule == "Missing":
-        return 0, f"The log ends before the last of the {patterns} patterns. `rank` takes a log in which some are wanting."
+        return 0, f"The log ends before the last of the {patterns} patterns. `rank` takes a log in which some are missing."
     begin = text.rfind(b" ") + 1
     bits = 0 if text[begin:] == b"-\n" else len(text) - 1 - begin
     return begin + min(width, bits), f"Each line has {width} bits, and this one has {bits}."
@@ -150,30 +208,46 @@ def result_place(rule, step, text):
     return found.start() if found else len(text.rstrip(b"\n"))
 
 
-def another(kind, file):
-    """What a file seems to be that is refused, where that is another than the one that is asked for."""
+def another(kind, command, name, file):
+    """What a file seems to be that is refused, if that is another than the one that is asked for, and how it is encoded."""
     file.seek(0)
-    head = file.read(16)
-    for begin, what in HEADS:
-        if head.startswith(begin) and what != WANTED.get(kind):
-            return f" This file begins as {what}."
-    return ""
+    head = file.read(4096)
+    encoded = mends.of_file(head, name)
+    found = next((what for begin, what in HEADS if re.match(begin, head)), None)
+    if encoded or not found or found == WANTED[kind]:
+        return encoded
+    takes = [WANTED[it] for it, names in NAMES.items() if set(names) & set(COMMANDS[command].read.split())]
+    order = f" The order is: diatest {command} {COMMANDS[command].words}." if found in takes else ""
+    return f" This file looks like {found}.{order}"
 
 
-def in_text(kind, command, files, rule, step, line, file):
+def cut_or_feeds(kind, name, rule, text):
+    """What else is said of a refused line of a result or a plan: that the file was cut short, or how its lines end."""
+    if rule == "Order" and not text:
+        return "The file ends before its line `end`: it was cut short."
+    if rule != "Syntax" or re.fullmatch(mends.FEEDS.form, text):
+        return mends.of_line(text, (mends.FEEDS,), name).strip() if rule == "Syntax" else ""
+    if text == b"end":
+        return mends.of_line(text, (mends.OPEN,), name).strip()
+    whole = text.endswith(b"\n") or len(text) == LONGEST
+    return "" if whole else "The file ends inside this line: it was cut short."
+
+
+def in_text(kind, command, files, name, rule, step, line, file):
     """The place of the caret in a log, a result or a plan, and what the rule asks."""
     start = line_start(file, line)
     file.seek(start)
     text = file.readline(LONGEST)
     if kind == "log":
-        place, sentence = log_place(command, files, rule, line, text)
-    elif kind == "plan":
+        place, sentence = log_place(command, files, name, rule, line, text)
+        return start + place, sentence
+    if kind == "plan":
         place, sentence = 0, PLAN.get(rule, "")
     else:
         place, sentence = result_place(rule, step, text), RESULT.get(rule, "")
-    if kind != "log" and rule == "Order" and not text:
-        sentence = "The file ends before its line `end`: it was cut short."
-    return start + place, sentence
+    if kind == "result" and rule == "Head":
+        sentence = circuit_sizes(files, text) or sentence
+    return start + place, cut_or_feeds(kind, name, rule, text) or sentence
 
 
 def explain(command, files, console):
@@ -189,8 +263,10 @@ def explain(command, files, console):
         return f"diatest: {named(name)} can't be read a second time, to show the place\n"
     with file:
         if kind == "dictionary":
-            return f"diatest: {named(name)}, byte {byte}:\n{bytes_caret(file, byte)}\n{DICTIONARY.get(rule, '')}{another(kind, file)}\n"
-        sentence = NETLIST.get(rule, "")
-        if kind != "netlist":
-            byte, sentence = in_text(kind, command, files, rule, step, line, file)
-        return f"diatest: {named(name)}, line {line}:\n{caret(file, byte)}\n{sentence}{another(kind, file)}\n"
+            place, shown, sentence = f"byte {byte}", bytes_caret(file, byte), DICTIONARY.get(rule, "")
+        else:
+            sentence = NETLIST.get(rule, "")
+            if kind != "netlist":
+                byte, sentence = in_text(kind, command, files, name, rule, step, line, file)
+            place, shown = f"line {line}", caret(file, byte)
+        return f"diatest: {named(name)}, {place}:\n{shown}\n{sentence}{another(kind, command, name, file)}\n"

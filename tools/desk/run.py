@@ -1,7 +1,10 @@
 """run.py PROGRAM WORD..: runs DIATEST with the words, and tells on standard error what it leaves open.
 
-Status and files are the program's, and what it prints is handed on byte for byte. Where that can't be written, the program's next write
-fails, or its last ones are known to have failed: the status is 8 in either case, as without this script."""
+The status is the program's, and what it prints is handed on byte for byte. Its files are written beside their names, and get these when the
+status is 0. Where standard output can't be written, the program's next write fails, or its last ones are known to have failed: the status is 8
+in either case, as without this script. A run that would write over a file that it reads isn't begun, unless --force is among the words."""
+
+import quiet  # noqa: F401, I001 (the first, so that an interrupt this early leaves no trace of Python)
 
 import os
 import select
@@ -9,18 +12,17 @@ import signal
 import subprocess
 import sys
 
-if signal.getsignal(signal.SIGINT) == signal.default_int_handler:
-    signal.signal(signal.SIGINT, signal.SIG_DFL)  # so that an interrupt this early leaves no trace of Python
-
-from failures import unread, unwritten, why  # noqa: E402
-from progress import Progress, stamp  # noqa: E402
-from refusals import explain  # noqa: E402
-from telling import named, plain_file, say, tell  # noqa: E402
-from usage import COMMANDS, files_of, usage  # noqa: E402
+from failures import unread, unwritten, why
+from outputs import FORCE, Outputs, Refused, refuse_same
+from progress import Progress, stamp
+from refusals import explain
+from telling import named, say, tell
+from usage import COMMANDS, places_of, usage
+from words import wrong
 
 KEPT = 1 << 16  # bytes of the console that are kept, of which a refusal is the first line
 REFUSED = (3, 4, 5, 6, 10)
-STOPS = (signal.SIGHUP, signal.SIGINT, signal.SIGTERM)
+STOPS = (signal.SIGHUP, signal.SIGINT, signal.SIGQUIT, signal.SIGTERM)
 ENDED = {"gen": "RESULT", "compact": "NEW", "adapt": "PLAN", "synth": "RESULT"}  # by command the file whose last line is `end`
 
 
@@ -45,13 +47,38 @@ class Run:
     """A run of the program."""
 
     def __init__(self, program, words):
-        known = words[0] in COMMANDS
-        self.words, self.command = [program, *words], words[0] if known else None
-        self.files = files_of(words[0], words[1:]) if known else {}
-        made = [it for it in COMMANDS[words[0]].made.split() if it in self.files] if known else []
-        self.before = {it: stamp(self.files[it]) for it in made}
-        self.progress = Progress(self.files["RESULT"]) if words[0] == "gen" and made and os.isatty(2) else None
         self.child, self.signal, self.console = None, None, Console()
+        self.handle(self.pass_on)
+        force, words = take_force(words)
+        self.wrong = wrong(words) if words else None
+        known = words[:1] != [] and words[0] in COMMANDS
+        self.command, self.words = words[0] if known else None, [program, *words]
+        places = places_of(words[0], words[1:]) if known else {}
+        self.files = {label: words[1 + at] for label, at in places.items()}
+        made = COMMANDS[words[0]].made.split() if known and not self.wrong else []
+        self.outputs = self.begun(made, force)
+        for label in made:
+            self.words[2 + places[label]] = self.outputs.by_label[label].written
+        shown = self.command == "gen" and made and os.isatty(2)
+        self.progress = Progress(self.outputs.by_label["RESULT"].written) if shown else None
+
+    def begun(self, made, force):
+        """The files that the run writes, unless that would destroy one."""
+        read = [self.files[it] for it in COMMANDS[self.command].read.split()] if made else []
+        if not force:
+            refuse_same(read, [self.files[it] for it in made], FORCE)
+        outputs = Outputs({it: self.files[it] for it in made})
+        unsafe = None if force else outputs.unsafe()
+        if unsafe:
+            outputs.drop()
+            raise Refused(f"{unsafe}; with {FORCE} it is written in its place")
+        return outputs
+
+    def handle(self, handler):
+        """Says what is done at a signal that stops a run, as long as it isn't ignored."""
+        for number in STOPS:
+            if signal.getsignal(number) != signal.SIG_IGN:
+                signal.signal(number, handler)
 
     def pass_on(self, number, _frame):
         """Tells the program of a signal that this script got."""
@@ -60,11 +87,8 @@ class Run:
             self.child.send_signal(number)
 
     def start(self):
-        """Starts the program, over a pipe in the place of standard output."""
-        for number in STOPS:
-            if signal.getsignal(number) != signal.SIG_IGN:
-                signal.signal(number, self.pass_on)
-        self.child = subprocess.Popen(self.words, stdout=subprocess.PIPE, bufsize=0)
+        """Starts the program, over a pipe in the place of standard output. Other open descriptors are its own, too."""
+        self.child = subprocess.Popen(self.words, stdout=subprocess.PIPE, bufsize=0, close_fds=False)
         if self.signal:
             self.child.send_signal(self.signal)
 
@@ -83,9 +107,6 @@ class Run:
             self.console.hand_on(piece)
         self.child.stdout.close()
         self.child.wait()
-        for number in STOPS:
-            if signal.getsignal(number) == self.pass_on:
-                signal.signal(number, signal.SIG_DFL)
 
     def status(self):
         """The status that the program has, where it gives one."""
@@ -99,10 +120,14 @@ class Run:
         elif self.console.error:
             tell(f"standard output can't be written: {why(self.console.error)}")
         elif status == 2:
+            if self.wrong:
+                tell(self.wrong)
             say(usage(self.command))
         elif not self.command:
             return
         elif status in REFUSED:
+            self.outputs.drop()
+            self.handle(signal.SIG_DFL)  # to find the place may take a while
             say(explain(self.command, self.files, self.console.kept.decode("utf-8", "surrogateescape")))
         elif status in (7, 8):
             self.tell_failed(status)
@@ -116,56 +141,72 @@ class Run:
         tell(next(causes, f"a {'read' if status == 7 else 'write'} failed, and now no cause is seen"))
 
     def tell_killed(self, number):
-        """Tells that the program was stopped, and what its files are now."""
+        """Tells that the program was stopped."""
         if self.signal == signal.SIGINT and os.isatty(2):
             say("\n")  # behind what the terminal shows of the key
         if number not in STOPS:
             tell(f"the program was ended by {signal.Signals(number).name}")
-        for label, before in self.before.items():
-            name = self.files[label]
-            now = stamp(name)
-            if now is None:
-                tell(f"there is no {named(name)} yet")
-            elif now == before:
-                tell(f"{named(name)} is as it was before")
-            elif label == ENDED.get(self.command):
-                self.tell_begun(name)
-            else:
-                tell(f"{named(name)} was begun, and may be cut short")
 
-    def tell_begun(self, name):
-        """Tells whether a result or a plan that was begun is whole."""
-        file = plain_file(name)
-        if not file:
+    def finish(self):
+        """Gives the new files their names if the run succeeded; else tells what its files are now. Returns the status."""
+        status = self.status()
+        if status == 0:
+            told, whole = self.outputs.replace()
+            for it in told:
+                tell(it)
+            return 0 if whole else 8
+        for label, output in self.outputs.by_label.items():
+            self.tell_left(label, output, status)
+        return status
+
+    def tell_left(self, label, output, status):
+        """Tells what a file is now behind a run that failed, and takes away what was written beside it, unless that is whole."""
+        name = named(output.name)
+        state = f"{name} is as it was before" if output.older else f"there is no {name} yet"
+        if not output.beside:
+            if status < 0 and output.plain:
+                tell(state if stamp(output.target) == output.older else f"{name} was begun, and may be cut short")
             return
-        with file:
-            file.seek(max(0, file.seek(0, os.SEEK_END) - 5))
-            if file.read() == b"\nend\n":
-                tell(f"{named(name)} is whole: its last line is `end`")
-            else:
-                tell(f"{named(name)} is cut short{self.so_far()}: no command takes it, and the next run begins it anew")
+        if self.child.returncode == 0 or label == ENDED.get(self.command) and output.ends():
+            tell(f"{state}; the new file is whole, and is {named(output.written)}")
+            return
+        output.drop()
+        if status < 0 or status in (8, 9) and output.older:
+            tell(state + self.so_far())
 
     def so_far(self):
-        """What a result holds that was cut short, where that was counted."""
+        """How far a run came that was stopped, where that was counted."""
         counted = self.progress and self.progress.member is not None
-        return f" at fault {self.progress.member} of {self.progress.last}" if counted else ""
+        return f": the run was stopped at fault {self.progress.member} of {self.progress.last}" if counted else ""
 
-    def end(self):
-        """Ends as the program did."""
-        status = self.status()
-        if status >= 0:
-            sys.exit(status)
-        if -status in STOPS:
-            signal.signal(-status, signal.SIG_DFL)
-            os.kill(os.getpid(), -status)
-        sys.exit(128 - status)
+
+def take_force(words):
+    """Whether --force is among the words, and the words without it."""
+    end = words.index("--") if "--" in words else len(words)
+    left = [it for at, it in enumerate(words) if at >= end or it != FORCE]
+    return len(left) < len(words), left
+
+
+def end(status):
+    """Ends as the program did."""
+    if status >= 0:
+        sys.exit(status)
+    if -status in STOPS:
+        signal.signal(-status, signal.SIG_DFL)
+        os.kill(os.getpid(), -status)
+    sys.exit(128 - status)
 
 
 def main():
-    run = Run(sys.argv[1], sys.argv[2:])
+    try:
+        run = Run(sys.argv[1], sys.argv[2:])
+    except Refused as error:
+        tell(str(error))
+        sys.exit(2)
     try:
         run.start()
     except OSError as error:
+        run.outputs.drop()
         tell(f"{named(sys.argv[1])} can't be run: {why(error)}")
         sys.exit(1)
     run.follow()
@@ -173,7 +214,12 @@ def main():
         run.explain()
     except Exception as error:  # whatever can't be told, the run ends as the program did
         tell(f"more can't be told ({error})")
-    run.end()
+    try:
+        status = run.finish()
+    except OSError as error:
+        tell(f"{named(error.filename)} can't be taken away: {why(error)}")
+        status = run.status() or 8
+    end(status)
 
 
 main()

@@ -1,11 +1,15 @@
-"""The commands: which words they take, which files they read and write, and the usage of each.
+"""The commands and the helpers: which words they take, which files they read and write, and the usage of each.
 
 usage.py [COMMAND] prints the usage on standard error."""
 
+import os
 import sys
 from typing import NamedTuple
 
 from telling import say
+
+HERE = os.path.dirname(os.path.dirname(os.path.dirname(os.path.realpath(__file__))))
+INSTALLED = os.path.exists(os.path.join(HERE, "program"))
 
 
 class Option(NamedTuple):
@@ -24,6 +28,12 @@ class Command(NamedTuple):
     options: tuple = ()
 
 
+class Helper(NamedTuple):
+    words: str
+    work: str
+
+
+FORCED = "writes over a file that is read too, and over one beside which no new file can be written"
 BUDGETS = (
     Option("blocks", 65_536, 4, "blocks of the stream that are tried, of 64 vectors each"),
     Option("cubes", 1_048_576, 64, "closed cubes that are spent on a pair of faults before it is given to the solver"),
@@ -80,23 +90,32 @@ COMMANDS = {
     "sim": Command(
         "NETLIST VECTORS", "NETLIST VECTORS", "", "prints what the circuit answers to each vector, and each fault that answers otherwise"
     ),
-    "synth": Command("N NETLIST RESULT", "", "NETLIST RESULT", "writes a netlist of N cells, 1 to 2,000, and a result for it"),
+    "synth": Command("N NETLIST RESULT", "", "NETLIST RESULT", "writes a netlist of N cells, 1 to 2000, and a result for it"),
 }
 
 
-def files_of(command, words):
-    """The words of an understood command, by their names in its usage."""
-    names, plain, value = [], False, False
-    for word in words:
+HELPERS = {
+    "report": Helper("NETLIST RESULT LOG [-o FILE.html]", "writes a page that says what a tester's log comes to"),
+    "pins": Helper("NETLIST", "says which input, output or scan cell each bit of a pattern or a log is"),
+    "where": Helper("NETLIST RESULT NUMBER ..", "says what is known of a fault: its place, its class, and where it shows"),
+    "chip": Helper("NETLIST RESULT DEFECT [LINE ..]", "prints the log of a chip with a defect, to try with"),
+    "from-verilog": Helper("[--top MODULE] FILE.v ..", "prints the netlist of a Verilog design"),
+}
+
+
+def places_of(command, words):
+    """The places of the names among the words of an understood command, by what its usage calls them."""
+    places, plain, value = [], False, False
+    for place, word in enumerate(words):
         if value:
             value = False
         elif not plain and word == "--":
             plain = True
-        elif not plain and word.startswith("--"):
+        elif not plain and word.startswith("-") and word != "-":
             value = "=" not in word
         else:
-            names.append(word)
-    return dict(zip(COMMANDS[command].words.split(), names))
+            places.append(place)
+    return dict(zip(COMMANDS[command].words.split(), places))
 
 
 def first_line(name):
@@ -105,15 +124,26 @@ def first_line(name):
     return " ".join(["diatest", name, command.words, *(f"[--{it.name} N]" for it in command.options)])
 
 
+def helper_line(name):
+    """The words of a helper."""
+    return f"{'diatest-' if INSTALLED else 'tools/'}{name} {HELPERS[name].words}"
+
+
 def usage(name=None):
-    """The usage of a command, or of all."""
+    """The usage of a command or a helper, or of all."""
+    if name in HELPERS:
+        return f"usage: {helper_line(name)}\n{HELPERS[name].work}\n"
     if name not in COMMANDS:
         lines = [("       " if at else "usage: ") + first_line(it) for at, it in enumerate(COMMANDS)]
-        return "\n".join([*lines, "       diatest help COMMAND", ""])
+        lines += ["       diatest help COMMAND", "       diatest --version"]
+        lines += [("         " if at else "helpers: ") + helper_line(it) for at, it in enumerate(HELPERS)]
+        return "\n".join([*lines, ""])
     lines = [f"usage: {first_line(name)}", COMMANDS[name].work]
     options = COMMANDS[name].options
     wide = max((len(it.name) for it in options), default=0)
-    lines += [f"  --{it.name} N{'':{wide - len(it.name)}}  {it.least} to {it.most:,}, else {it.default:,}: {it.work}" for it in options]
+    lines += [f"  --{it.name} N{'':{wide - len(it.name)}}  {it.least} to {it.most}, else {it.default}: {it.work}" for it in options]
+    if COMMANDS[name].made:
+        lines.append(f"  --force{'':{max(wide - 1, 2)}}{FORCED}")
     return "\n".join([*lines, ""])
 
 

@@ -1,0 +1,96 @@
+"""What is wrong with words that the program doesn't understand."""
+
+import difflib
+import re
+
+from telling import named
+from usage import COMMANDS
+
+NUMBER = re.compile(r"\+?[0-9]+|[+-]?0+")
+KINDS = ("passfail", "full", "samediff")
+CELLS = 2000
+
+
+def near(word, among):
+    """The one of some words that is nearest to a word, as a text."""
+    found = [it for it in among if word.startswith(it) or it.startswith(word) and word] or difflib.get_close_matches(word, among, 1)
+    return f"; the nearest is {found[0]}" if found else ""
+
+
+def in_range(text, least, most):
+    """Whether a text is a number in a range."""
+    return bool(NUMBER.fullmatch(text)) and len(text.lstrip("+-0")) < 19 and least <= int(text) <= most
+
+
+def wrong_number(what, text, least, most):
+    """What is wrong with a number, if something is."""
+    if in_range(text, least, most):
+        return None
+    grouped = text.replace(",", "").replace("_", "").replace("'", "")
+    mend = f": write {grouped}" if grouped != text and in_range(grouped, least, most) else ""
+    return f"{what} is a number from {least} to {most}, and {named(text)} is none{mend}"
+
+
+def split(name, words):
+    """The options of a command with their values, None where one is missing, and its other words."""
+    options, others, plain, at = [], [], False, 0
+    while at < len(words):
+        word, at = words[at], at + 1
+        if plain or not word.startswith("-") or word == "-":
+            others.append(word)
+        elif word == "--":
+            plain = True
+        else:
+            option, equals, value = word.partition("=")
+            if not equals and at < len(words) and not words[at].startswith("-"):
+                known = option[2:] in (it.name for it in COMMANDS[name].options)
+                value, equals, at = (words[at], "=", at + 1) if known else (value, equals, at)
+            options.append((option, value if equals else None))
+    return options, others
+
+
+def wrong_option(name, options):
+    """What is wrong with the first option that isn't right."""
+    known, seen = {f"--{it.name}": it for it in COMMANDS[name].options}, set()
+    for option, value in options:
+        if option not in known:
+            taken = f"its options are {', '.join(known)}" if known else "it has none"
+            return f"{name} has no option {named(option)}: {taken}"
+        if option in seen:
+            return f"{option} stands there twice"
+        seen.add(option)
+        if value is None:
+            return f"{option} has no number behind it"
+        found = wrong_number(option, value, known[option].least, known[option].most)
+        if found:
+            return found
+    return None
+
+
+def wrong_count(name, others):
+    """What is wrong with how many names there are."""
+    wanted = COMMANDS[name].words.split()
+    if len(others) < len(wanted):
+        return f"{name} takes {COMMANDS[name].words}: the {wanted[len(others)]} is missing"
+    if len(others) > len(wanted):
+        return f"{name} takes {COMMANDS[name].words}: {named(others[len(wanted)])} is a word too many"
+    return None
+
+
+def wrong(words):
+    """What is wrong with the words of a run, or None."""
+    for word in words:
+        try:
+            word.encode("utf-8")
+        except UnicodeEncodeError:
+            return f"{named(word)} isn't UTF-8"
+    name = words[0]
+    if name not in COMMANDS:
+        return f"there is no command {named(name)}{near(name, COMMANDS)}"
+    options, others = split(name, words[1:])
+    found = wrong_option(name, options) or wrong_count(name, others)
+    if found:
+        return found
+    if name == "dict" and others[0] not in KINDS:
+        return f"the kind of a dictionary is passfail, full or samediff, and {named(others[0])} is none{near(others[0], KINDS)}"
+    return wrong_number("N", others[0], 1, CELLS) if name == "synth" else None
