@@ -1,0 +1,166 @@
+"""What an installation has, and how it is put under a folder and taken away. The list of its files stands in lib/diatest/manifest: a line has a
+checksum and a path, or `folder` and the path of a folder that was made for it."""
+
+import hashlib
+import os
+import shutil
+
+import completion
+import manual
+from telling import named
+from usage import HELPERS, HERE
+
+LIBRARY = "lib/diatest"
+MANIFEST = f"{LIBRARY}/manifest"
+PAGES = ("README.md", "docs/DESK.md", "docs/FORMATS.md", "docs/TUTORIAL.md", "docs/WORDS.md")
+
+
+class Refused(Exception):
+    """Why nothing is installed or taken away."""
+
+
+def checksum(path):
+    """The checksum of a file, or of where a link leads; None where there is nothing."""
+    if os.path.islink(path):
+        return hashlib.sha256(b"link " + os.fsencode(os.readlink(path))).hexdigest()
+    try:
+        with open(path, "rb") as file:
+            return hashlib.sha256(file.read()).hexdigest()
+    except FileNotFoundError:
+        return None
+
+
+def copied(program):
+    """The files that are copied: by their paths under the folder where they come from."""
+    found = {f"{LIBRARY}/program": program, f"{LIBRARY}/diatest": f"{HERE}/diatest"}
+    for it in (*HELPERS, "from-verilog.ys", "uninstall"):
+        found[f"{LIBRARY}/tools/{it}"] = f"{HERE}/tools/{it}"
+    for it in sorted(os.listdir(f"{HERE}/tools/desk")):
+        if os.path.isfile(f"{HERE}/tools/desk/{it}"):
+            found[f"{LIBRARY}/tools/desk/{it}"] = f"{HERE}/tools/desk/{it}"
+    return found | {f"{LIBRARY}/{it}": f"{HERE}/{it}" for it in PAGES}
+
+
+def written(version):
+    """The files that are made: by their paths what stands in them."""
+    return {
+        f"{LIBRARY}/version": version,
+        "share/man/man1/diatest.1": manual.page(version.strip().replace("diatest, ", "", 1)),
+        "share/bash-completion/completions/diatest": completion.bash(),
+        "share/zsh/site-functions/_diatest": completion.zsh(),
+    }
+
+
+def linked():
+    """The links on the PATH: by their paths where they lead."""
+    links = {f"bin/diatest-{it}": f"../{LIBRARY}/tools/{it}" for it in HELPERS}
+    return {"bin/diatest": f"../{LIBRARY}/diatest"} | links
+
+
+def listed(prefix):
+    """The checksums of an installation's files by their paths, and its folders."""
+    files, folders = {}, []
+    try:
+        with open(f"{prefix}/{MANIFEST}", encoding="utf-8") as file:
+            for line in file:
+                first, path = line.rstrip("\n").split(" ", 1)
+                if first == "folder":
+                    folders.append(path)
+                else:
+                    files[path] = first
+    except FileNotFoundError:
+        pass
+    return files, folders
+
+
+def note(prefix, files, folders):
+    """Writes the list of an installation's files, so that one that is broken off can be taken away."""
+    with open(f"{prefix}/{MANIFEST}.new", "w", encoding="utf-8") as file:
+        file.writelines(f"folder {it}\n" for it in folders)
+        file.writelines(f"{sum_of} {path}\n" for path, sum_of in files.items())
+    os.replace(f"{prefix}/{MANIFEST}.new", f"{prefix}/{MANIFEST}")
+
+
+def make_folders(prefix, paths, folders):
+    """Makes the folders of these files, and adds those to a list that weren't there."""
+    for path in paths:
+        parts = path.split("/")[:-1]
+        for count in range(1, len(parts) + 1):
+            folder = "/".join(parts[:count])
+            if not os.path.isdir(f"{prefix}/{folder}"):
+                os.mkdir(f"{prefix}/{folder}")
+                folders.append(folder)
+
+
+def put(path, fill):
+    """Has a file made beside a path, and gives it the path."""
+    new = f"{path}.new-{os.getpid()}"
+    try:
+        fill(new)
+        os.replace(new, path)
+    finally:
+        if os.path.lexists(new):
+            os.unlink(new)
+
+
+def write(path, text):
+    with open(path, "w", encoding="utf-8") as file:
+        file.write(text)
+
+
+def copy(source, path):
+    shutil.copyfile(source, path)
+    os.chmod(path, 0o755 if os.access(source, os.X_OK) else 0o644)
+
+
+def fills(program, version):
+    """What makes each file of an installation, by its path."""
+    found = {it: lambda to, source=source: copy(source, to) for it, source in copied(program).items()}
+    found |= {it: lambda to, text=text: write(to, text) for it, text in written(version).items()}
+    return found | {it: lambda to, target=target: os.symlink(target, to) for it, target in linked().items()}
+
+
+def foreign(prefix, paths, files):
+    """Those of some paths where something stands that this installation didn't put there, or that was changed since."""
+    return [it for it in paths if os.path.lexists(f"{prefix}/{it}") and checksum(f"{prefix}/{it}") != files.get(it)]
+
+
+def install(prefix, program, version, force):
+    """Puts an installation under a folder; one that is there is replaced. Returns how many files it has."""
+    os.makedirs(prefix, exist_ok=True)
+    files, folders = listed(prefix)
+    made = fills(program, version)
+    strange = [] if force else foreign(prefix, [it for it in made if not os.path.isdir(f"{prefix}/{it}")], files)
+    strange += [it for it in made if os.path.isdir(f"{prefix}/{it}")]
+    if strange:
+        raise Refused(f"{named(f'{prefix}/{strange[0]}')} is there and isn't of an installation: take it away, or add --force")
+    make_folders(prefix, made, folders)
+    note(prefix, files, folders)
+    for path, fill in made.items():
+        put(f"{prefix}/{path}", fill)
+        files[path] = checksum(f"{prefix}/{path}")
+        note(prefix, files, folders)
+    for path in [it for it in files if it not in made]:
+        if checksum(f"{prefix}/{path}") == files[path]:
+            os.unlink(f"{prefix}/{path}")
+        del files[path]
+    note(prefix, files, folders)
+    return len(made)
+
+
+def uninstall(prefix):
+    """Takes an installation away. Returns how many files that were, and which are left, since they were changed."""
+    files, folders = listed(prefix)
+    if not files:
+        raise Refused(f"there is no installation under {named(prefix)}: no file {named(f'{prefix}/{MANIFEST}')} lists one")
+    left = foreign(prefix, files, files)
+    gone = [it for it in files if it not in left and os.path.lexists(f"{prefix}/{it}")]
+    for path in gone:
+        os.unlink(f"{prefix}/{path}")
+    os.unlink(f"{prefix}/{MANIFEST}")
+    for folder in reversed(folders):
+        try:
+            os.rmdir(f"{prefix}/{folder}")
+        except OSError:
+            pass  # something else stands there
+    return len(gone), left

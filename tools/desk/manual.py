@@ -1,0 +1,61 @@
+"""The page for `man`, made from the table of commands.
+
+manual.py prints it."""
+
+from usage import COMMANDS, FORCED, HELPERS, first_line
+
+STATUSES = (
+    ("0", "the work is done"),
+    ("1", "the program couldn't be built, or isn't there"),
+    ("2", "the words aren't understood, or a file that is read would be written over"),
+    ("3", "the netlist is refused"),
+    ("4", "the result is refused"),
+    ("5", "the dictionary is refused"),
+    ("6", "the log or the list of vectors is refused"),
+    ("7, 8", "a read or a write failed"),
+    ("9", "there was no memory"),
+    ("10", "the plan is refused"),
+)
+WHAT = """A netlist is a combinational or full-scan circuit in the ISCAS .bench format. Of it `gen` makes a result: test patterns, the classes of
+single stuck-at faults that they distinguish, and a proof for each two faults that no vector distinguishes. From a result and the log of a tester
+come the nets that may be at fault. What a run writes is written beside the name, and gets the name when the run has succeeded: a run that
+fails or is stopped leaves an older file as it was. Of a file that is refused standard error has the line, a caret and what mends it."""
+
+
+def roff(text):
+    """A text as it stands in a page."""
+    text = text.replace("\\", "\\e").replace("-", "\\-").replace("`", "").replace("'", "\\(aq")
+    return "\\&" + text if text.startswith(".") else text
+
+
+def tagged(tag, text):
+    """A paragraph with a tag."""
+    return [".TP", f".B {roff(tag)}", roff(text)]
+
+
+def page(version):
+    """The page."""
+    lines = [f'.TH DIATEST 1 "" "{roff(version)}" "User Commands"', ".SH NAME"]
+    lines += ["diatest \\- test patterns that distinguish stuck\\-at faults, and diagnosis by them", ".SH SYNOPSIS"]
+    for name in COMMANDS:
+        lines += [f".B {roff(first_line(name))}", ".br"]
+    lines += [".B diatest help \\fICOMMAND\\fP", ".br", ".B diatest \\-\\-version", ".SH DESCRIPTION"]
+    lines += [roff(it) for it in WHAT.splitlines()]
+    lines.append(".SH COMMANDS")
+    for name, command in COMMANDS.items():
+        lines += tagged(f"{name} {command.words}", command.work[:1].upper() + command.work[1:] + ".")
+        for it in command.options:
+            lines += [".RS", *tagged(f"--{it.name} N", f"{it.work} ({it.least} to {it.most}, else {it.default})"), ".RE"]
+    lines += [".SH OPTIONS OF EACH COMMAND", *tagged("--help, -h", "tells the words of the command")]
+    lines += [*tagged("--force", f"{FORCED} (for commands that write a file)"), ".SH HELPERS"]
+    for name, helper in HELPERS.items():
+        lines += tagged(f"diatest-{name} {helper.words}", helper.work[:1].upper() + helper.work[1:] + ".")
+    lines.append(".SH EXIT STATUS")
+    for status, meaning in STATUSES:
+        lines += tagged(status, meaning)
+    lines += [".SH ENVIRONMENT", *tagged("DIATEST", "names another program that is run")]
+    return "\n".join(lines) + "\n"
+
+
+if __name__ == "__main__":
+    print(page("diatest"), end="")
