@@ -78,7 +78,7 @@ def full(name, folder):
                 wanted -= file.write(piece[:wanted])
     except OSError as error:
         if error.errno in (errno.ENOSPC, errno.EDQUOT, errno.EFBIG):
-            return f"{named(name)} is cut short: {why(error)}"
+            return f"{named(name)} can't be written: {why(error)}"
     return None
 
 

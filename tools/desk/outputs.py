@@ -197,17 +197,3 @@ class Outputs:
         """Takes away what was written beside the names."""
         for it in self.all:
             it.drop()
-
-
-def write_whole(name, content):
-    """Writes bytes beside a name, and gives them the name when they are written. Returns what is to be told."""
-    outputs = Outputs({"": name})
-    if outputs.unsafe():
-        raise Refused(outputs.unsafe())
-    try:
-        with open(outputs.all[0].written, "wb") as file:
-            file.write(content)
-    except BaseException:
-        outputs.drop()
-        raise
-    return outputs.replace()[0]
