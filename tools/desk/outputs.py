@@ -108,10 +108,11 @@ class Output:
     def like_older(self, made):
         """Gives an open file the owner and the permissions of the older one."""
         older = os.stat(self.target)
-        try:
-            os.fchown(made, older.st_uid, older.st_gid)
-        except OSError:
-            pass  # only root may give a file away
+        for owner in (-1, older.st_uid):
+            try:
+                os.fchown(made, owner, older.st_gid)
+            except OSError:
+                break  # only root may give a file away, and only to one's own groups a file may go
         os.fchmod(made, stat.S_IMODE(older.st_mode))
 
     def unsafe(self):
