@@ -89,14 +89,16 @@ def make_folders(prefix, paths, folders):
             folder = "/".join(parts[:count])
             if not os.path.isdir(f"{prefix}/{folder}"):
                 os.mkdir(f"{prefix}/{folder}")
+                os.chmod(f"{prefix}/{folder}", 0o755)
                 folders.append(folder)
 
 
-def put(path, fill):
-    """Has a file made beside a path, and gives it the path."""
+def put(path, fill, noted):
+    """Has a file made beside a path, has its checksum noted, and gives it the path."""
     new = f"{path}.new-{os.getpid()}"
     try:
         fill(new)
+        noted(checksum(new))
         os.replace(new, path)
     finally:
         if os.path.lexists(new):
@@ -106,6 +108,7 @@ def put(path, fill):
 def write(path, text):
     with open(path, "w", encoding="utf-8") as file:
         file.write(text)
+    os.chmod(path, 0o644)
 
 
 def copy(source, path):
@@ -137,9 +140,8 @@ def install(prefix, program, version, force):
     make_folders(prefix, made, folders)
     note(prefix, files, folders)
     for path, fill in made.items():
-        put(f"{prefix}/{path}", fill)
+        put(f"{prefix}/{path}", fill, lambda sum_of, path=path: note(prefix, files | {path: sum_of}, folders))
         files[path] = checksum(f"{prefix}/{path}")
-        note(prefix, files, folders)
     for path in [it for it in files if it not in made]:
         if checksum(f"{prefix}/{path}") == files[path]:
             os.unlink(f"{prefix}/{path}")

@@ -101,6 +101,9 @@ class Output:
         try:
             if self.older:
                 self.like_older(made)
+        except OSError:
+            os.unlink(f"{front}.new-{count}")
+            raise
         finally:
             os.close(made)
         return f"{front}.new-{count}"

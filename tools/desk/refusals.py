@@ -71,7 +71,7 @@ HEADS = (  # what a file is by its beginning
     (rb"DIAT", "a dictionary"),
     (rb"diatest 1 ", "a result"),
     (rb"adapt 1 ", "an adaptive plan"),
-    (rb"[0-9]+ [01xX]+\r?\n", "a log"),
+    (rb"[ \t]*[0-9]+[ \t,;:]+[01xXzZHL?_ -]+\r?\n", "a log"),
     (rb"(?i)(\s|#[^\n]*\n)*(in|out)put\s*\(", "a netlist"),
     (rb"(?s)(\s|//[^\n]*\n|/\*.*?\*/)*(module|`timescale)\s", "Verilog, of which tools/from-verilog makes a netlist"),
 )
