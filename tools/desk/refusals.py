@@ -165,22 +165,32 @@ def log_order(command, name, line, text, patterns):
     return words + (mends.sentence(mend, "It seems that this log", name) if mend else "")
 
 
-def log_syntax(command, name, text):
-    """Where a line of a log leaves its form, and what the form is."""
+def log_mend(command, files, name, text):
+    """What a line of a log or of a list of vectors has, and what mends it."""
+    if command != "sim":
+        return mends.of_line(text, mends.NUMBERED, name)
+    numbered = re.fullmatch(rb"[0-9]+ ([01x]+|-)\r?\n", text)
+    if numbered and len(numbered[1]) != sizes(command, files)[1]:
+        return " This file looks like a log, and `sim` takes vectors."
+    return mends.of_line(text, mends.VECTORS, name)
+
+
+def log_syntax(command, files, name, text, other):
+    """Where a line of a log leaves its form, and what the form is. `other` tells of what other kind the file is."""
     words, number = LOG_WORDS.get(command, WHOLE_WORDS), re.match(NUMBER, text)
     if command != "sim" and number and int(number[0]) > LARGEST:
         return 0, f"{words}. Its number is above {LARGEST}, the largest that is read."
-    mend = "" if mends.of_file(text, name) else mends.of_line(text, mends.VECTORS if command == "sim" else mends.NUMBERED, name)
+    mend = "" if other else log_mend(command, files, name, text)
     partial = "" if command in (*PARTIAL, "sim") or "x" not in mend + text.decode("latin-1") else " `rank` and `suspects` take an x."
     return first_wrong(text, LOG_FORM.get(command, WHOLE_FORM)), f"{words}.{partial}{mend}"
 
 
-def log_place(command, files, name, rule, line, text):
+def log_place(command, files, name, rule, line, text, other):
     """The place of the caret in a line of a log, and what the rule asks."""
     if rule == "TooLong":
         return 0, "The text has at most 1,073,741,824 bytes."
     if rule == "Syntax":
-        return log_syntax(command, name, text)
+        return log_syntax(command, files, name, text, other)
     patterns, width = sizes(command, files)
     if rule == "Order":
         return 0, log_order(command, name, line, text, patterns)
@@ -233,13 +243,13 @@ def cut_or_feeds(kind, name, rule, text):
     return "" if whole else "The file ends inside this line: it was cut short."
 
 
-def in_text(kind, command, files, name, rule, step, line, file):
-    """The place of the caret in a log, a result or a plan, and what the rule asks."""
+def in_text(kind, command, files, name, rule, step, line, file, other):
+    """The place of the caret in a log, a result or a plan, and what the rule asks. `other` tells of what other kind the file is."""
     start = line_start(file, line)
     file.seek(start)
     text = file.readline(LONGEST)
     if kind == "log":
-        place, sentence = log_place(command, files, name, rule, line, text)
+        place, sentence = log_place(command, files, name, rule, line, text, other)
         return start + place, sentence
     if kind == "plan":
         place, sentence = 0, PLAN.get(rule, "")
@@ -262,11 +272,12 @@ def explain(command, files, console):
     if file is None:
         return f"diatest: {named(name)} can't be read a second time, to show the place\n"
     with file:
+        other = another(kind, command, name, file)
         if kind == "dictionary":
             place, shown, sentence = f"byte {byte}", bytes_caret(file, byte), DICTIONARY.get(rule, "")
         else:
             sentence = NETLIST.get(rule, "")
             if kind != "netlist":
-                byte, sentence = in_text(kind, command, files, name, rule, step, line, file)
+                byte, sentence = in_text(kind, command, files, name, rule, step, line, file, other)
             place, shown = f"line {line}", caret(file, byte)
-        return f"diatest: {named(name)}, {place}:\n{shown}\n{sentence}{another(kind, command, name, file)}\n"
+        return f"diatest: {named(name)}, {place}:\n{shown}\n{sentence}{other}\n"

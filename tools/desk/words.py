@@ -33,6 +33,7 @@ def wrong_number(what, text, least, most):
 
 def split(name, words):
     """The options of a command with their values, None where one is missing, and its other words."""
+    known = [f"--{it.name}" for it in COMMANDS[name].options]
     options, others, plain, at = [], [], False, 0
     while at < len(words):
         word, at = words[at], at + 1
@@ -42,10 +43,10 @@ def split(name, words):
             plain = True
         else:
             option, equals, value = word.partition("=")
-            if not equals and at < len(words) and not words[at].startswith("-"):
-                known = option[2:] in (it.name for it in COMMANDS[name].options)
-                value, equals, at = (words[at], "=", at + 1) if known else (value, equals, at)
-            options.append((option, value if equals else None))
+            value = value if equals else None
+            if option in known and not equals and at < len(words) and re.fullmatch(r"[^-].*|-0*[1-9][0-9]*|", words[at], re.DOTALL):
+                value, at = words[at], at + 1
+            options.append((option, value))
     return options, others
 
 
@@ -88,9 +89,8 @@ def wrong(words):
     if name not in COMMANDS:
         return f"there is no command {named(name)}{near(name, COMMANDS)}"
     options, others = split(name, words[1:])
-    found = wrong_option(name, options) or wrong_count(name, others)
-    if found:
-        return found
-    if name == "dict" and others[0] not in KINDS:
-        return f"the kind of a dictionary is passfail, full or samediff, and {named(others[0])} is none{near(others[0], KINDS)}"
-    return wrong_number("N", others[0], 1, CELLS) if name == "synth" else None
+    found = wrong_option(name, options)
+    if not found and name == "dict" and others and others[0] not in KINDS:
+        found = f"the kind of a dictionary is passfail, full or samediff, and {named(others[0])} is none{near(others[0], KINDS)}"
+    found = found or wrong_count(name, others)
+    return found or (wrong_number("N", others[0], 1, CELLS) if name == "synth" else None)
