@@ -54,6 +54,19 @@ class Netlist:
         return {name: at for at, name in enumerate(self.order)}
 
     @functools.cached_property
+    def levels(self):
+        """How many gates stand before each name, on the longest way: 0 for a source."""
+        found = {name: 0 for _, name in self.sources}
+        for name in self.order:
+            found[name] = 1 + max((found[it] for it in self.gates[name][1]), default=0)
+        return found
+
+    @functools.cached_property
+    def shown_lines(self):
+        """The names that some position shows."""
+        return set(self.shown)
+
+    @functools.cached_property
     def readers(self):
         """The gates that read each name, in order, with the pin that does."""
         found = {}

@@ -1,12 +1,15 @@
 """What a report is about: a netlist, a result and a tester's log, and what the program's commands say of them.
 
 The answers of single faults come of the helpers' own simulation. They are compared with what the commands print, so that the two agree
-wherever a page is made."""
+wherever a page is made. The commands check the result: `suspects` once, and `cover` again, which runs only if no single class explains all
+failing patterns."""
 
+import functools
 import hashlib
 import os
+import shutil
+import stat
 import subprocess
-import tempfile
 from typing import NamedTuple
 
 import bench
@@ -16,7 +19,7 @@ from results import TOP, Result, names_of
 class Ended(Exception):
     """A command that didn't end with status 0, and what it printed."""
 
-    def __init__(self, status, printed):
+    def __init__(self, status: int, printed: str):
         super().__init__(printed)
         self.status = status
 
@@ -31,7 +34,7 @@ class Score(NamedTuple):
     false: int
 
 
-def printed(*words):
+def printed(*words: str) -> list:
     """The lines that a command prints. What the script tells besides goes to standard error."""
     it = subprocess.run([f"{TOP}/diatest", *words], stdout=subprocess.PIPE, text=True, encoding="latin-1")
     if it.returncode:
@@ -39,14 +42,20 @@ def printed(*words):
     return it.stdout.splitlines()
 
 
-def rows_of(log):
+def suspects_of(netlist: str, result: str, log: str, *options: str):
+    """What `suspects` prints: the scores, and how many patterns are failing and logged."""
+    *lines, last = printed("suspects", netlist, result, log, *options)
+    return [Score(*map(int, it.split())) for it in lines], int(last.split()[3]), int(last.split()[5])
+
+
+def rows_of(log: str) -> dict:
     """The bits of each pattern in a log that the program has read."""
     with open(log, encoding="latin-1") as file:
         rows = {int(number): bits for number, bits in (line.split() for line in file)}
     return {number: "" if bits == "-" else bits for number, bits in rows.items()}
 
 
-def words_of(rows, positions, bit):
+def words_of(rows: dict, positions: int, bit: str) -> list:
     """For each position the patterns at which the rows have this bit: a word with a bit for each pattern."""
     found = [0] * positions
     for number, bits in rows.items():
@@ -57,12 +66,22 @@ def words_of(rows, positions, bit):
     return found
 
 
-def numbers_in(word):
+def numbers_in(word: int) -> list:
     """The places of the ones of a word."""
     return [at for at, it in enumerate(bin(word)[:1:-1]) if it == "1"]
 
 
-def checksum(name):
+def ones_in(word: int) -> int:
+    """How many ones a word has."""
+    return bin(word).count("1")
+
+
+def union(words) -> int:
+    """The patterns that stand in some of the words."""
+    return functools.reduce(lambda one, other: one | other, words, 0)
+
+
+def checksum(name: str) -> str:
     """The SHA-256 of a file."""
     found = hashlib.sha256()
     with open(name, "rb") as file:
@@ -71,48 +90,56 @@ def checksum(name):
     return found.hexdigest()
 
 
-class Case:
-    """All that a page is made of. Words have a bit for each pattern of the result."""
+def readable(kind: str, name: str, folder: str) -> str:
+    """A name under which a file can be read as often as needed: its own, or that of a copy if it is a pipe or a device."""
+    try:
+        mode = os.stat(name).st_mode
+    except OSError:
+        return name  # the program says why
+    if stat.S_ISREG(mode) or stat.S_ISDIR(mode):
+        return name
+    copy = os.path.join(folder, kind)
+    with open(name, "rb") as source, open(copy, "wb") as target:
+        shutil.copyfileobj(source, target)
+    return copy
 
-    def __init__(self, netlist, result, log):
-        self.files = {"netlist": netlist, "result": result, "log": log}
-        self.checked = printed("check", netlist, result)[0]
-        *suspects, last = printed("suspects", netlist, result, log)
-        self.suspects = [Score(*map(int, it.split())) for it in suspects]
-        *cover, total = printed("cover", netlist, result, log)
-        self.cover = [tuple(map(int, it.split())) for it in cover]
-        self.failing_count, self.logged_count = int(last.split()[3]), int(last.split()[5])
-        self.covered = int(total.split()[3])
-        self.checksums = {kind: checksum(name) for kind, name in self.files.items()}
-        self.netlist, self.result = bench.read(netlist), Result(result)
+
+class Case:
+    """All that a page is made of. Words have a bit for each pattern of the result. What is read from pipes is kept in a folder."""
+
+    def __init__(self, netlist: str, result: str, log: str, folder: str):
+        self.folder, self.files = folder, {"netlist": netlist, "result": result, "log": log}
+        self.read = {kind: readable(kind, name, folder) for kind, name in self.files.items()}
+        self.suspects, self.failing_count, self.logged_count = suspects_of(*self.read.values())
+        self.cover, self.covered = self.chosen()
+        self.checksums = {kind: checksum(name) for kind, name in self.read.items()}
+        self.netlist, self.result = bench.read(self.read["netlist"]), Result(self.read["result"])
         self.patterns, self.full = self.result.patterns, (1 << len(self.result.patterns)) - 1
         self.free = bench.values(self.netlist, self.patterns)
-        self.read_log(log)
-        self.read_faults(netlist)
+        self.good = [self.free[it] for it in self.netlist.shown]
+        self.read_log()
+        self.read_faults()
         self.explain()
 
-    def expected(self):
-        """The good answers, as `expect` writes them, which are those of the simulation."""
-        with tempfile.TemporaryDirectory() as folder:
-            name = os.path.join(folder, "expected.log")
-            printed("expect", self.files["netlist"], self.files["result"], name)
-            good = words_of(rows_of(name), len(self.netlist.positions), "1")
-        self.agree(good == [self.free[it] for it in self.netlist.shown], "the good answers")
-        return good
+    def chosen(self):
+        """What `cover` prints, and how many failing patterns that explains; nothing if the first suspect explains them all."""
+        if not self.failing_count or self.suspects and self.suspects[0].explained == self.failing_count:
+            return [], self.failing_count
+        *cover, total = printed("cover", *self.read.values())
+        return [tuple(map(int, it.split())) for it in cover], int(total.split()[3])
 
-    def read_log(self, log):
+    def read_log(self):
         """What was observed, and where it isn't what a good chip answers."""
-        rows, positions = rows_of(log), len(self.netlist.positions)
-        ones, zeros = (words_of(rows, positions, it) for it in "10")
-        self.logged, self.ones = sum(1 << it for it in rows), ones
-        self.seen = [one | zero for one, zero in zip(ones, zeros)]
-        self.wrong = [(one ^ good) & seen for one, good, seen in zip(ones, self.expected(), self.seen)]
-        self.failing = 0
-        for it in self.wrong:
-            self.failing |= it
-        self.agree((bin(self.failing).count("1"), len(rows)) == (self.failing_count, self.logged_count), "the failing patterns")
+        rows, positions = rows_of(self.read["log"]), len(self.netlist.positions)
+        self.ones, self.zeros = (words_of(rows, positions, it) for it in "10")
+        self.logged = sum(1 << it for it in rows)
+        self.seen = [one | zero for one, zero in zip(self.ones, self.zeros)]
+        self.wrong = [(one ^ good) & seen for one, good, seen in zip(self.ones, self.good, self.seen)]
+        self.failing = union(self.wrong)
+        self.wrong_bits, self.seen_bits = (sum(map(ones_in, words)) for words in (self.wrong, self.seen))
+        self.agree((ones_in(self.failing), len(rows)) == (self.failing_count, self.logged_count), "the failing patterns")
 
-    def read_faults(self, netlist):
+    def read_faults(self):
         """The members of each class that is listed, and their names."""
         listed = [it.number for it in self.suspects] + [number for number, _ in self.cover]
         classes = {self.result.classes[it] for it in listed}
@@ -122,34 +149,64 @@ class Case:
                 members.setdefault(its_class, []).append(number)
         self.members = {it: members[self.result.classes[it]] for it in listed}
         self.marks = {it: f"#{rank}" if rank <= len(self.suspects) else f"number {it}" for rank, it in enumerate(self.members, 1)}
-        names = names_of(netlist, {it for found in members.values() for it in found})
+        names = names_of(self.read["netlist"], {it for found in members.values() for it in found})
         self.names = {number: name for number, (_, name) in names.items()}
 
-    def answers(self, number):
-        """What each position shows where the chip has this fault."""
+    @functools.lru_cache(maxsize=32)
+    def answers(self, number: int) -> list:
+        """What each position shows if the chip has this fault."""
         return bench.answers(self.netlist, self.patterns, self.names[number], self.free)
 
-    def explain(self):
-        """Which failing patterns each listed number explains, and at which logged ones that passed it shows."""
-        self.explained, self.shows = {}, {}
-        for number in self.members:
-            differs = shows = 0
-            for answer, one, seen, wrong in zip(self.answers(number), self.ones, self.seen, self.wrong):
-                differs |= (answer ^ one) & seen
-                shows |= (answer ^ one) & seen & ~wrong
-            self.explained[number] = self.failing & ~differs
-            self.shows[number] = shows & ~self.failing
-        scores = {it.number: it.explained for it in self.suspects}
-        self.agree(all(bin(self.explained[it]).count("1") == count for it, count in scores.items()), "the explained patterns")
+    def changes(self, number: int) -> list:
+        """Where the fault's answers aren't the good ones: a word for each position."""
+        return [answer ^ good for answer, good in zip(self.answers(number), self.good)]
 
-    def agree(self, holds, what):
+    def missed(self, number: int) -> list:
+        """The failing bits that the fault doesn't predict: a word for each position."""
+        return [wrong & ~change for wrong, change in zip(self.wrong, self.changes(number))]
+
+    def false(self, number: int) -> list:
+        """The bits that passed though the fault would fail them: a word for each position."""
+        return [change & seen & ~wrong for change, seen, wrong in zip(self.changes(number), self.seen, self.wrong)]
+
+    def explain(self):
+        """Which failing patterns each listed number explains, at which logged ones it would fail that passed, and at which it would fail
+        that have an unobserved bit there."""
+        self.explained, self.shows, self.unlogged = {}, {}, {}
+        for number in self.members:
+            missed, false = union(self.missed(number)), union(self.false(number))
+            self.explained[number] = self.failing & ~missed & ~false
+            self.shows[number] = false & ~self.failing
+            self.unlogged[number] = union(change & ~seen for change, seen in zip(self.changes(number), self.seen))
+        self.agree(all(it == self.score(it.number) for it in self.suspects), "the counts of the suspects")
+
+    def score(self, number: int) -> Score:
+        """The counts of a number, by this simulation."""
+        missed, false = (sum(map(ones_in, words)) for words in (self.missed(number), self.false(number)))
+        return Score(number, ones_in(self.explained[number]), self.wrong_bits - missed, missed, false)
+
+    def agree(self, holds: bool, what: str):
         """Stops where the program and the simulation of the helpers differ."""
         if not holds:
             raise ValueError(f"{what} of the program aren't those of the simulation in tools/desk: one of the two is wrong")
 
+    def perfect(self, it: Score) -> bool:
+        """Whether a suspect predicts every observed bit."""
+        return it.explained == self.failing_count and not it.missed and not it.false
+
+    def failing_only(self) -> bool:
+        """Whether the log lacks patterns and has none that passes."""
+        return self.logged_count == self.failing_count < len(self.patterns)
+
+    def counts(self) -> dict:
+        """How many numbers, patterns and classes the result has, and how many members are equal to their lowest, and open."""
+        unclear = sum(self.result.evidence.get(it) == "O" for it in self.result.classes)
+        numbers, classes = len(self.result.classes), len(set(self.result.classes.values()))
+        return {"numbers": numbers, "patterns": len(self.patterns), "classes": classes, "equal": numbers - classes - unclear, "open": unclear}
+
     def coverage(self):
-        """How many faults there are, and how many of them show at a pattern, are shown to show nowhere, and are open there."""
+        """How many faults there are, and how many of them are detected by some pattern, are untestable, and are aborted."""
         hidden = [number for number, its_class in self.result.classes.items() if its_class == 0 and number]
-        unclear = sum(self.result.evidence.get(it) == "O" for it in hidden)
+        aborted = sum(self.result.evidence.get(it) == "O" for it in hidden)
         faults = len(self.result.classes) - 1
-        return faults, faults - len(hidden), len(hidden) - unclear, unclear
+        return faults, faults - len(hidden), len(hidden) - aborted, aborted

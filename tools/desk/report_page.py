@@ -4,115 +4,204 @@ import os
 import shlex
 from html import escape
 
+import report_step as steps
 import report_words as words
-from report_case import numbers_in
+from report_case import numbers_in, ones_in, union
+from report_kinds import kind, nets
+from report_place import by_net, driver, place, position, spot
 
 HERE = os.path.dirname(os.path.realpath(__file__))
-EQUALS = 12  # equal faults that are named in a row
-NAMED = 16  # patterns or positions that are named in a row
-PATTERNS = 1000  # failing patterns that have a row
+NETS = 3  # nets of a class that are shown without unfolding the others
+NAMED = 16  # patterns or positions that are named without unfolding the others
+OPEN_ROWS = 20  # positions in the chapters on them
+GROUPS = 200  # groups of failing patterns that have a row
 EVIDENCE = {"C": "by the gates", "T": "by a tree", "R": "by a refutation", "O": "open"}
+LABELS = (
+    "<b>explained</b>: failing patterns that the fault reproduces bit for bit; <b>hit</b>: failing bits it predicts; <b>missed</b>: failing "
+    "bits it doesn't; <b>false</b>: bits it predicts to fail that passed."
+)
 
 
-def cells(*texts, kinds=""):
-    """Cells of a row: their texts are HTML, and their kinds c (count), n (name), p (place) or t (text)."""
-    marks = {"c": ' class="count"', "n": ' class="name"', "p": ' class="name place"', "t": ""}
-    return "".join(f"<td{marks[kind]}>{text}</td>" for text, kind in zip(texts, kinds or "t" * len(texts)))
+def cell(text, kind="t", label=""):
+    """A cell of a row: its text is HTML, its kind c (count), n (name), p (place) or t (text), its label what stands above it."""
+    mark = {"c": ' class="count"', "n": ' class="name"', "p": ' class="name place"', "t": ""}[kind]
+    return f'<td{mark} data-label="{label}">{text}</td>'
+
+
+def row(heads, kinds, texts, number=None, mark=""):
+    """A row of cells. With a number it lights the class of that number."""
+    lights = f' data-class="{number}"' if number is not None else ""
+    return f"<tr{lights}{mark}>{''.join(cell(text, kind, head) for head, kind, text in zip(heads, kinds, texts))}</tr>"
 
 
 def table(heads, kinds, rows):
-    """A table with a head. A row is its cells, or a number and its cells, where it lights the class of that number."""
+    """A table with a head."""
     top = "".join(f'<th class="count">{it}</th>' if kind == "c" else f"<th>{it}</th>" for it, kind in zip(heads, kinds))
-    body = "\n".join(f'<tr data-class="{it[0]}">{it[1]}</tr>' if isinstance(it, tuple) else f"<tr>{it}</tr>" for it in rows)
+    body = "\n".join(rows)
     return f"<table>\n<thead><tr>{top}</tr></thead>\n<tbody>\n{body}\n</tbody>\n</table>"
 
 
+def folded(shown, hidden, said):
+    """HTML texts on a line each, of which some are shown when their line is clicked."""
+    more = f'<details><summary>{said}</summary>{"<br>".join(hidden)}</details>' if hidden else ""
+    return "<br>".join(shown) + more
+
+
 def listed(texts, most=NAMED):
-    """Some texts, escaped, with a word on those that aren't named."""
-    more = f" and {len(texts) - most:,} more" if len(texts) > most else ""
-    return escape(", ".join(texts[:most])) + more
+    """Some texts, escaped, the last ones folded."""
+    shown = escape(", ".join(texts[:most]))
+    return shown + folded([], [escape(", ".join(texts[most:]))], f"and {len(texts) - most:,} more") if len(texts) > most else shown
 
 
-def share(part, whole):
-    """A share in percent, never rounded up."""
-    hundredths = 10_000 * part // whole if whole else 10_000
-    return f"{hundredths // 100}.{hundredths % 100:02d}\u00a0%"
+def paragraph(text, kind=""):
+    """A paragraph of plain text."""
+    return f"<p{kind}>{escape(text)}</p>"
 
 
-def head(case):
+def verdict(case, said):
+    """The verdict: its heading and its sentences, and how much fails."""
+    more = "".join(paragraph(it) for it in said.more)
+    counts = "".join(f"<p>{kind}: {text}.</p>" for kind, text in observed(case))
+    return f'<div class="verdict{"" if case.failing else " good"}"><h2>{escape(said.heading)}.</h2>{more}{counts}</div>'
+
+
+def about(case, made):
     """What the report is about."""
-    netlist = case.netlist
-    cells_count = sum(kind == "cell" for kind, _ in netlist.sources)
-    circuit = [words.count(len(netlist.sources), "source"), words.count(len(netlist.positions), "position")]
-    circuit += [words.count(len(netlist.gates), "gate"), words.count(cells_count, "scan cell"), words.count(len(case.patterns), "pattern")]
-    faults, detected, hidden, unclear = case.coverage()
-    coverage = f"{share(detected, faults)}: {detected:,} of {words.count(faults, 'fault')} show at some pattern, "
-    coverage += f"{hidden:,} are shown to show at none, {unclear:,} {'is' if unclear == 1 else 'are'} open. "
-    coverage += f"Of those that can show, as far as is known: {share(detected, faults - hidden)}"
-    seen, wrong = (sum(bin(it).count("1") for it in found) for found in (case.seen, case.wrong))
-    log = f"{case.logged_count:,} of {words.count(len(case.patterns), 'pattern')}, {words.count(seen, 'observed bit')}"
-    failing = f"{words.count(case.failing_count, 'pattern')}, {words.count(wrong, 'bit')}"
-    name = os.path.splitext(os.path.basename(case.files["netlist"]))[0]
-    rows = [("Circuit", f"{name}: {', '.join(circuit)}", "")]
-    rows += [(kind.capitalize(), case.files[kind], case.checksums[kind]) for kind in case.files]
-    rows += [("Check", case.checked, ""), ("Coverage", coverage, ""), ("Logged", log, ""), ("Failing", failing, "")]
-    body = "\n".join(
-        f"<tr><th>{kind}</th><td>{escape(text)}" + (f'<br><span class="name sum">SHA-256 {it}</span>' if it else "") + "</td></tr>"
-        for kind, text, it in rows
-    )
-    return f"<h1>Diagnosis of a chip: {escape(name)}</h1>\n<table><tbody>\n{body}\n</tbody></table>"
+    netlist, count = case.netlist, words.count
+    scan = sum(kind == "cell" for kind, _ in netlist.sources)
+    circuit = [count(len(netlist.sources), "source"), count(len(netlist.positions), "position"), count(len(netlist.gates), "gate")]
+    circuit += [count(scan, "scan cell"), count(len(case.patterns), "pattern")]
+    rows = [("Circuit", escape(", ".join(circuit)))]
+    for kind, name in case.files.items():
+        rows.append((kind.capitalize(), f'{escape(name)}<br><span class="name sum">SHA-256 {case.checksums[kind]}</span>'))
+    rows += [("Valid", escape(", ".join(f"{kind} {number:,}" for kind, number in case.counts().items())))]
+    rows += [*coverage(case), ("Made", escape(made))]
+    body = "\n".join(f"<tr><th>{kind}</th><td>{text}</td></tr>" for kind, text in rows)
+    return f'<h2>Circuit, test and log</h2>\n<table class="about"><tbody>\n{body}\n</tbody></table>'
 
 
-def equals(case, number):
-    """The equal faults of a class, with how they are shown to be equal; open ones are marked."""
-    others = [it for it in case.members[number] if it != number]
-    said = []
-    for it in others[:EQUALS]:
-        mark, name = case.result.evidence.get(it, ""), case.names[it]
-        text = escape(f"{it}: {words.place(case.netlist, name)} at {name[-1]} ({EVIDENCE.get(mark, mark)})")
-        said.append(f'<span class="open">{text}</span>' if mark == "O" else text)
-    more = f" and {len(others) - EQUALS:,} more" if len(others) > EQUALS else ""
-    return ", ".join(said) + more or "none"
+def coverage(case):
+    """The coverage, by the names of the field."""
+    faults, detected, untestable, aborted = case.coverage()
+    yield "Fault coverage", f"{words.share(detected, faults)}: {detected:,} of {words.count(faults, 'fault')} detected"
+    yield "Test coverage", f"{words.share(detected, faults - untestable)} of the faults that aren't untestable"
+    yield "Untestable", f"{untestable:,}: no vector detects them"
+    yield "Aborted", f"{aborted:,}: a budget ended before a vector or a proof was found"
 
 
-def fault_cells(case, number):
-    """The cells that name a fault: its number, net, gate and pin, and stuck value."""
-    name = case.names[number]
-    return cells(f"{number}", escape(name[1]), escape(words.place(case.netlist, name)), name[-1], kinds="cnpc")
+def observed(case):
+    """What was observed and what fails; red if more than a tenth of the bits do."""
+    yield "Logged", f"{case.logged_count:,} of {words.count(len(case.patterns), 'pattern')}, {words.count(case.seen_bits, 'observed bit')}"
+    bits = f"{case.wrong_bits:,} of {words.count(case.seen_bits, 'observed bit')}, {words.share(case.wrong_bits, case.seen_bits or 1)}"
+    bits = f'<span class="many">{bits}</span>' if case.wrong_bits * 10 > case.seen_bits else bits
+    yield "Failing", f"{case.failing_count:,} of {words.count(case.logged_count, 'logged pattern')}; {bits}"
 
 
-def suspects(case):
-    """A row for each suspect class."""
-    heads = ["#", "number", "net", "gate and pin", "stuck at", "explained", "hit", "missed", "false", "equal faults"]
-    rows = []
+def tried(doubt):
+    """What was tried with a log that is doubted."""
+    heads, kinds, rows = ["change of the log", "failing patterns", "failing bits", "explained by one class"], "tccc", []
+    for it in sorted(doubt.tries, key=lambda it: it.wrong / (it.seen or 1)):
+        explained = "–" if it.explained is None else f"{it.explained:,} of {it.failing:,}"
+        texts = [escape(it.change), f"{it.failing:,} of {it.logged:,}", words.share(it.wrong, it.seen or 1), explained]
+        rows.append(row(heads, kinds, texts, mark=' class="best"' if it is doubt.best else ""))
+    said = "Each change is compared with what a good chip answers. The suspects are computed for the change that fits."
+    return f'<h2>Other orders, polarities and patterns</h2>\n{table(heads, kinds, rows)}\n<p class="note">{said}</p>'
+
+
+def member(case, number):
+    """A fault of a class, with how it is shown to be equal to the lowest; an open one is marked."""
+    mark, name = case.result.evidence.get(number), case.names[number]
+    how = f", {EVIDENCE.get(mark, mark)}" if mark else ""
+    said = escape(f"{place(case.netlist, name)} stuck at {name[-1]} ({number}{how})")
+    return f'<span class="open">{said}</span>' if mark == "O" else said
+
+
+def faults(case, number):
+    """The faults of a class by net, nearest to the inputs first; those behind the third net are folded."""
+    if len(case.members[number]) == 1:
+        return "this one alone"
+    lines = [f"net {escape(net)}: {', '.join(member(case, it) for it in found)}" for net, found in by_net(case, number).items()]
+    hidden = sum(len(it) for it in list(by_net(case, number).values())[NETS:])
+    return folded(lines[:NETS], lines[NETS:], f"{words.count(hidden, 'more fault')} on {words.count(len(lines) - NETS, 'more net')}")
+
+
+def where(case, number):
+    """Where most of a class lies."""
+    found = spot(case, number)
+    return f"<b>{escape(found.where)}</b><br>{escape(found.what)}"
+
+
+def defect(case, it):
+    """The kind of defect that fits a suspect."""
+    found = kind(case, it)
+    return escape(found.word + (f": net {nets(found.partners)} at its other end" if found.partners else ""))
+
+
+def suspects(case, doubt):
+    """A row for each suspect class; those that contradict the log are grey if the first is perfect."""
+    heads = ["#", "number", "where", "kind of defect", "explained", "hit", "missed", "false", "faults of the class"]
+    kinds, rows = "ccntccccn", []
+    perfect = case.perfect(case.suspects[0])
     for rank, it in enumerate(case.suspects, 1):
-        counts = cells(*(f"{count:,}" for count in it[1:]), equals(case, it.number), kinds="ccccn")
-        rows.append((it.number, cells(f'<span class="rank">{rank}</span>', kinds="c") + fault_cells(case, it.number) + counts))
-    note = (
-        "A row stands for a class of faults that the patterns don't part, by its lowest number. Explained are failing patterns of which the "
-        "fault answers every observed bit; hit are wrong bits that it also has wrong, missed those that it hasn't, false bits that it has wrong "
-        "and the chip hasn't. Pins are counted from 0. Equal faults are shown to be equal: no vector parts them. "
-        '<span class="open">Open</span> ones may yet differ, since a budget ended.'
-    )
-    body = table(heads, "ccnnccccct", rows) if rows else "<p>None: no fault shows at a wrong bit.</p>"
-    return f'<h2>Suspects</h2>\n{body}\n<p class="note">{note}<span class="screen"> A click on a row lights its class in the picture.</span></p>'
+        texts = [f'<span class="rank">{rank}</span>', f"{it.number}", where(case, it.number), defect(case, it)]
+        texts += [f"{count:,}" for count in it[1:]] + [faults(case, it.number)]
+        rows.append(row(heads, kinds, texts, it.number, ' class="contradicts"' if perfect and not case.perfect(it) else ""))
+    note = LABELS + " A row stands for a class: faults that no pattern of the result tells apart, named by its lowest number. Pins are counted from 0. "
+    note += "By the gates, by a tree and by a refutation say how a fault is shown to be equal to the lowest: no vector tells them apart. "
+    note += '<span class="open">Open</span> ones may differ from it: a budget ended first.'
+    note += " Grey rows contradict the log." if perfect else ""
+    fits = sum(map(case.perfect, case.suspects))
+    head = "Suspects, if the log is right" if doubt else "Suspects" + (f": {words.count(fits, 'class fits', 'classes fit')} exactly" if fits else ": none fits exactly")
+    return f'<h2>{head}</h2>\n{table(heads, kinds, rows)}\n<p class="note">{note}<span class="screen"> A click on a row shows its class in the picture.</span></p>'
 
 
 def cover(case):
-    """The classes that together explain the failing patterns."""
-    heads, rows = ["#", "number", "net", "gate and pin", "stuck at", "explained", "of them new", "as well explained by"], []
-    for (number, others), (_, new) in zip(words.also(case), case.cover):
-        explained = bin(case.explained[number]).count("1")
-        rank = cells(f'<span class="rank">{case.marks[number].partition("#")[2] or "–"}</span>', kinds="c")
-        others = listed([case.marks[it] for it in others if it != number]) or "none of those above"
-        rows.append((number, rank + fault_cells(case, number) + cells(f"{explained:,}", f"{new:,}", others, kinds="cct")))
+    """The classes that together explain the failing patterns, the best suspect standing for each that is as good."""
+    heads, kinds, rows = ["#", "number", "where", "explained", "of them new", "as well explained by"], "ccnccn", []
+    for (_, others), (_, new) in zip(words.also(case), case.cover):
+        number = others[0]
+        rank = f'<span class="rank">{case.marks[number].partition("#")[2] or "–"}</span>'
+        texts = [rank, f"{number}", where(case, number), f"{ones_in(case.explained[number]):,}", f"{new:,}"]
+        rows.append(row(heads, kinds, [*texts, listed([case.marks[it] for it in others[1:]]) or "no other suspect"], number))
     rest = case.failing_count - case.covered
-    said = f"Together they explain {case.covered:,} of {words.count(case.failing_count, 'failing pattern')}."
-    said += f" {words.count(rest, 'failing pattern')} {'is' if rest == 1 else 'are'} explained by no fault at all." if rest else ""
-    body = table(heads, "ccnnccct", rows) if rows else ""
-    note = "Each class explains most of the failing patterns that none above it explains; of several the one with the lowest number is taken. "
-    note += "The first column is its place among the suspects."
-    return f'<h2>Together</h2>\n{body}\n<p>{said}</p>\n<p class="note">{note}</p>'
+    said = f" {words.count(rest, 'failing pattern')} {'is' if rest == 1 else 'are'} explained by no fault." if rest else ""
+    note = "Each class explains most of the failing patterns that none above it explains; of several that do, the best suspect has the row."
+    head = f"{words.count(len(rows), 'class explains', 'classes together explain')} {case.covered:,} of {words.count(case.failing_count, 'failing pattern')}"
+    return f'<h2>Together: {head}</h2>\n{table(heads, kinds, rows)}\n<p>{said}</p>\n<p class="note">{note}</p>'
+
+
+def vector(case, pattern):
+    """A pattern by the names of the sources, folded, and its bits."""
+    bits = case.patterns[pattern]
+    rows = []
+    for value in "10":
+        names = [name for (_, name), bit in zip(case.netlist.sources, bits) if bit == value]
+        rows.append(f"<p>At {value}: {escape(', '.join(names)) or 'none'}.</p>")
+    bits = f'<p>Bits, in the order of the sources: <span class="name bits">{bits or "-"}</span></p>'
+    return f"<details><summary>Pattern {pattern}: {words.count(len(case.netlist.sources), 'source')}</summary>{''.join(rows)}{bits}</details>"
+
+
+def left_open(case):
+    """What the first suspect leaves open, by position."""
+    heads, kinds, rows = ["output or scan cell", "missed", "false", "patterns"], "ncct", []
+    for it in steps.left_open(case, case.suspects[0].number):
+        patterns = listed([str(at) for at in numbers_in(it.missed | it.false)])
+        rows.append(row(heads, kinds, [escape(position(case.netlist, it.at)), f"{ones_in(it.missed):,}", f"{ones_in(it.false):,}", patterns]))
+    return folded_rows(heads, kinds, rows, "The bits that the first suspect misses, and those it has false") if rows else ""
+
+
+def folded_rows(heads, kinds, rows, said):
+    """A table that is shown when its line is clicked; an open one if it is short."""
+    return f"<details{' open' if len(rows) <= OPEN_ROWS else ''}><summary>{said}: {len(rows):,} rows</summary>{table(heads, kinds, rows)}</details>"
+
+
+def next_step(case, doubt):
+    """The next step."""
+    step = steps.next_step(case, doubt)
+    body = [paragraph(it) for it in step.said]
+    body += [vector(case, step.pattern)] if step.pattern is not None else []
+    body += [left_open(case)] if case.suspects and not doubt else []
+    return "<h2>The next step</h2>\n" + "\n".join(body)
 
 
 def drawing(svg, said):
@@ -120,53 +209,79 @@ def drawing(svg, said):
     key = '<span class="key" style="background:#c62828"></span>first suspect<span class="key" style="background:#ef9a9a"></span>second and third'
     key += '<span class="key" style="background:#fbdcdc"></span>others<span class="key" style="background:#ffb74d"></span>failing position'
     note = f'<p class="note">From the suspects to the positions that fail.{key}. A dashed line is a chain of gates without branches.'
-    note += '<span class="screen"> A click on the picture shows it in full size, and a second one as wide as the page.</span></p>'
-    said = f"<p>{escape(said[:1].upper() + said[1:])}{'' if said.endswith('.') else '.'}</p>" if said else ""
+    note += '<span class="screen"> A click on the picture shows it in full size, and a second one as a whole.</span></p>'
+    said = f"<p>{escape(words.capital(said))}{'' if said.endswith('.') else '.'}</p>" if said else ""
     return "<h2>Where they are</h2>\n" + (f'<div class="picture">{svg}</div>\n{note}' if svg else "") + said
 
 
 def positions(case):
     """The failing positions by name."""
-    heads, rows = ["position", "output or scan cell", "net", "fails at", "patterns"], []
+    heads, kinds, rows = ["position", "output or scan cell", "net", "fails at", "patterns"], "cnnct", []
     for at, word in enumerate(case.wrong):
         if word:
             found = [str(it) for it in numbers_in(word)]
-            name = escape(words.position(case.netlist, at))
-            rows.append(cells(f"{at}", name, escape(case.netlist.shown[at]), f"{len(found):,}", listed(found), kinds="cnnct"))
-    body = table(heads, "cnnct", rows) if rows else "<p>None.</p>"
-    return f"<h2>Failing positions</h2>\n{body}"
+            texts = [f"{at}", escape(position(case.netlist, at)), escape(case.netlist.shown[at]), f"{len(found):,}", listed(found)]
+            rows.append((-len(found), at, row(heads, kinds, texts)))
+    rows = [it for _, _, it in sorted(rows)]
+    head = f"Failing positions: {len(rows):,} of {len(case.wrong):,}"
+    rest = folded_rows(heads, kinds, rows[OPEN_ROWS:], "Those that fail less often").replace("<details open>", "<details>") if rows[OPEN_ROWS:] else ""
+    return f"<h2>{head}</h2>\n{table(heads, kinds, rows[:OPEN_ROWS])}{rest}"
+
+
+def grouped(case):
+    """The failing patterns by the suspects that explain them: those that none explains first, then the largest group."""
+    groups = {}
+    for pattern in numbers_in(case.failing):
+        who = tuple(mark for number, mark in case.marks.items() if case.explained[number] >> pattern & 1)
+        groups[who] = groups.get(who, 0) | 1 << pattern
+    return sorted(groups.items(), key=lambda it: (bool(it[0]), -ones_in(it[1]), it[1]))
 
 
 def patterns(case):
-    """The failing patterns, and who explains them."""
-    heads, rows = ["pattern", "wrong bits", "at", "explained by"], []
-    failing = numbers_in(case.failing)
-    for pattern in failing[:PATTERNS]:
-        at = [words.position(case.netlist, it) for it, word in enumerate(case.wrong) if word >> pattern & 1]
-        who = [case.marks[number] for number, word in case.explained.items() if word >> pattern & 1]
-        rows.append(cells(f"{pattern}", f"{len(at):,}", listed(at, 8), listed(who) or "no fault", kinds="ccnt"))
-    more = f"<p>{len(failing) - PATTERNS:,} more have no row here.</p>" if len(failing) > PATTERNS else ""
-    body = table(heads, "ccnt", rows) if rows else "<p>None.</p>"
-    return f"<h2>Failing patterns</h2>\n{body}{more}"
+    """The failing patterns, grouped by who explains them."""
+    heads, kinds, rows = ["explained by", "how many", "patterns", "failing bits", "at"], "tctct", []
+    groups = grouped(case)
+    for who, word in groups[:GROUPS]:
+        bits = [(ones_in(it & word), at) for at, it in enumerate(case.wrong) if it & word]
+        at = [position(case.netlist, at) for _, at in sorted(bits, key=lambda it: (-it[0], it[1]))]
+        found = [str(it) for it in numbers_in(word)]
+        rows.append(row(heads, kinds, [listed(who) or "no fault listed", f"{len(found):,}", listed(found), f"{sum(it for it, _ in bits):,}", listed(at, 8)]))
+    more = f"<p>{len(groups) - GROUPS:,} more groups have no row.</p>" if len(groups) > GROUPS else ""
+    head = f"Failing patterns: {case.failing_count:,} of {case.logged_count:,}"
+    return f"<h2>{head}</h2>\n{table(heads, kinds, rows)}{more}"
 
 
 def again(case, page):
     """The commands that make it all again."""
     netlist, result, log = (shlex.quote(it if not it.startswith("-") else f"./{it}") for it in case.files.values())
-    lines = [f"./diatest check {netlist} {result}", f"./diatest expect {netlist} {result} expected.log"]
-    lines += [f"./diatest suspects {netlist} {result} {log}", f"./diatest cover {netlist} {result} {log}", f"./diatest faults {netlist}"]
+    lines = [f"./diatest check {netlist} {result}"]
+    if case.failing:
+        lines += [f"./diatest suspects {netlist} {result} {log}", f"./diatest cover {netlist} {result} {log}", f"./diatest faults {netlist}"]
     lines += [f"tools/report {netlist} {result} {log} -o {shlex.quote(page)}"]
     return f"<h2>To make it again</h2>\n<pre>{escape(chr(10).join(lines))}</pre>"
 
 
-def page(case, name, svg, said):
+def chapters(case, doubt, picture):
+    """The chapters that a chip that fails has."""
+    return [
+        *([tried(doubt)] if doubt else []),
+        *([suspects(case, doubt)] if case.suspects else []),
+        *([cover(case)] if case.cover else []),
+        next_step(case, doubt),
+        *([drawing(*picture)] if case.suspects else []),
+        positions(case),
+        patterns(case),
+    ]
+
+
+def page(case, doubt, name, picture, made):
     """The whole page, in its order."""
     style, script = (open(f"{HERE}/report.{it}", encoding="utf-8").read() for it in ("css", "js"))
-    kind = "" if case.failing else " good"
-    step = "\n".join(f"<p>{escape(it)}</p>" for it in words.next_step(case))
-    body = [head(case), f'<p class="verdict{kind}">{escape(words.verdict(case))}</p>', suspects(case), cover(case), drawing(svg, said)]
-    body += [positions(case), patterns(case), f"<h2>The next step</h2>\n{step}", again(case, name)]
-    title = escape(f"Diagnosis: {os.path.basename(case.files['log'])}")
-    top = f'<!doctype html>\n<html lang="en">\n<head>\n<meta charset="utf-8">\n<title>{title}</title>\n'
+    log, circuit = (os.path.basename(case.files[it]) for it in ("log", "netlist"))
+    title = escape(f"{log}: diagnosis of a chip of {os.path.splitext(circuit)[0]}")
+    body = [f"<h1>{title}</h1>", verdict(case, words.verdict(case, doubt))]
+    body += chapters(case, doubt, picture) if case.failing else []
+    body += [about(case, made), again(case, name)]
+    top = f'<!doctype html>\n<html lang="en">\n<head>\n<meta charset="utf-8">\n<meta name="viewport" content="width=device-width">\n<title>{title}</title>\n'
     top += f"<style>\n{style}</style>\n</head>\n<body>\n"
     return top + "\n\n".join(body) + f"\n<script>\n{script}</script>\n</body>\n</html>\n"

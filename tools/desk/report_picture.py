@@ -6,7 +6,7 @@ import subprocess
 from html import escape
 
 from report_graph import part, reached, site
-from report_words import driver, position
+from report_place import driver, position
 
 PATIENCE = 60  # seconds for dot
 REDS = (("#c62828", "#ffffff"), ("#ef9a9a", "#000000"), ("#fbdcdc", "#000000"))  # of the first, the next and the other suspects
@@ -48,8 +48,8 @@ class Picture:
                 where = int(rest[1]) if kind == "G" else None
                 self.at_fault.setdefault(site(case.names[it]), {}).setdefault(where, []).append((rank, case.marks[number], value))
         self.names = {it: f"d{at}" for at, it in enumerate(sorted(self.part.nodes, key=str))}
-        starts = {number: {site(case.names[it]) for it in found} for number, found in self.part.faults.items()}
-        self.reach = {number: reached(self.part.edges, found) for number, found in starts.items()}
+        self.starts = {number: {site(case.names[it]) for it in found} for number, found in self.part.faults.items()}
+        self.reach = {number: reached(self.part.edges, found) for number, found in self.starts.items()}
 
     def stuck(self, node, where, text):
         """The text of a pin or line with the marks and values of its faults, and its colours; no colours where it has none."""
@@ -93,13 +93,14 @@ class Picture:
         return table([cell(text, colours), *rows] if colours else rows)
 
     def lit(self, node):
-        """The classes in whose cone a node is, as the words of a class attribute."""
-        return " ".join(f"in{number}" for number, found in self.reach.items() if node in found)
+        """The classes that stand at a node and those in whose cone it is, as the words of a class attribute."""
+        words = [f"at{number}" for number, found in self.starts.items() if node in found]
+        return " ".join(words + [f"in{number}" for number, found in self.reach.items() if node in found])
 
     def first(self, node):
-        """A word more where the first suspect stands."""
+        """Words more if the first suspect stands there, and if it is a failing position."""
         ranks = [rank for found in self.at_fault.get(node, {}).values() for rank, _, _ in found]
-        return "first " if 1 in ranks else ""
+        return ("first " if 1 in ranks else "") + ("goal " if isinstance(node, int) else "")
 
     def words(self):
         """The words for dot."""

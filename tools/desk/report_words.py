@@ -1,6 +1,27 @@
-"""What a report says in sentences: where a fault stands, what the log comes to, and what to do next. All are plain text."""
+"""What a report says of a log in sentences. All are plain text."""
 
-from report_case import numbers_in
+from typing import NamedTuple
+
+from report_case import ones_in
+from report_kinds import nets, partners
+from report_place import in_full, in_short, stems
+
+LOOKS = "This looks like a log of other patterns, or in another order or polarity"
+UNFITTING = (
+    "None of these makes it fit: patterns shifted by one, positions in reverse order, bits inverted, the patterns of another result in the folder."
+)
+FAILING_ONLY = "The log has no passing pattern, so no fault can be ruled out because it would fail more patterns."
+
+
+class Verdict(NamedTuple):
+    """What a log comes to: a heading, and sentences that say more."""
+
+    heading: str
+    more: list
+
+    def line(self):
+        """The whole on one line."""
+        return " ".join([f"{self.heading}.", *self.more])
 
 
 def count(number, one, many=None):
@@ -8,61 +29,111 @@ def count(number, one, many=None):
     return f"{number:,} {one if number == 1 else many or one + 's'}"
 
 
-def driver(netlist, line):
-    """What drives a line: the gate's word, `input` or `scan cell`."""
-    return {"input": "input", "cell": "scan cell"}[netlist.kinds[line]] if line in netlist.kinds else netlist.gates[line][0]
+def share(part, whole):
+    """A share in percent, never rounded up."""
+    hundredths = 10_000 * part // whole if whole else 10_000
+    return f"{hundredths // 100}.{hundredths % 100:02d}\u00a0%"
 
 
-def place(netlist, name):
-    """Where a fault stands: the output of a gate, a pin of one, or a position."""
-    kind, line, *site, _ = name
-    if kind == "G":
-        return f"pin {site[1]} of {netlist.gates[site[0]][0]} {site[0]}"
-    if kind == "O":
-        return f"at {position(netlist, int(site[0]))}"
-    if line in netlist.gates:
-        return f"output of {netlist.gates[line][0]} {line}"
-    return f"{driver(netlist, line)} {line}"
+def capital(text):
+    """A text with a capital at its front."""
+    return text[:1].upper() + text[1:]
 
 
-def position(netlist, at):
-    """A position by name."""
-    kind, name = netlist.positions[at]
-    return f"output {name}" if kind == "output" else f"scan cell {name}"
-
-
-def fault(case, number):
-    """A fault in words."""
-    name = case.names[number]
-    where = "" if name[0] == "S" else f" ({place(case.netlist, name)})"
-    return f"net {name[1]} stuck at {name[-1]}{where}"
-
-
-def verdict(case):
-    """The report in one sentence."""
-    said = found(case)
-    return said[0].upper() + said[1:]
-
-
-def found(case):
+def verdict(case, doubt):
     """What the log comes to."""
     if not any(case.seen):
-        return "The log tells no bit, so it says nothing of the chip."
+        return Verdict("The log has no observed bit, so it says nothing about the chip", [])
     if not case.failing:
-        return f"The chip answers as a good one wherever the log tells, at {count(case.logged_count, 'pattern')}: nothing is suspect."
-    failing = count(case.failing_count, "failing pattern")
+        return good(case)
+    if doubt:
+        return doubted(case, doubt)
     if not case.suspects:
-        return f"No stuck-at fault shows at any bit that is wrong in the {failing}: is the log of this circuit and these patterns?"
-    first = case.suspects[0]
-    perfect = [it for it in case.suspects if it.explained == case.failing_count and not it.missed and not it.false]
+        return Verdict("No stuck-at fault predicts any of the failing bits", ["Check that the log is of this circuit and of these patterns."])
+    said = explained(case) if case.suspects[0].explained == case.failing_count else uneven(case)
+    return said._replace(more=said.more + [FAILING_ONLY]) if case.failing_only() and FAILING_ONLY not in said.more else said
+
+
+def good(case):
+    """Where nothing fails."""
+    unlogged, unseen = len(case.patterns) - case.logged_count, len(case.seen) * case.logged_count - case.seen_bits
+    lacks = [count(unlogged, "pattern")] if unlogged else []
+    lacks += [count(unseen, "bit of these", "bits of these")] if unseen else []
+    more = [f"The log lacks {' and '.join(lacks)}, so a defect may show there."] if lacks else []
+    passed = "the one pattern in the log passes" if case.logged_count == 1 else f"all {case.logged_count:,} patterns in the log pass"
+    return Verdict(f"No fault is suspect: {passed}", more)
+
+
+def doubted(case, doubt):
+    """Where the log looks like one of other patterns."""
+    fails = f"{case.failing_count:,} of {count(case.logged_count, 'pattern')} fail, at {share(case.wrong_bits, case.seen_bits)} of the observed bits."
+    more = [fails]
+    more.append(fitting(doubt.best) if doubt.best else UNFITTING)
+    if doubt.others and not doubt.best:
+        more.append(f"The log has more patterns than {', '.join(doubt.others)}, in the same folder.")
+    if doubt.still * 2 > doubt.cells:
+        more.append(f"{doubt.still:,} of {count(doubt.cells, 'scan cell')} never change in the log: check the scan chain.")
+    if not doubt.best and case.suspects:
+        more.append(f"If the log is right, several defects act at once; the nearest is {in_short(case, case.suspects[0].number)}.")
+    return Verdict(LOOKS, more)
+
+
+def fitting(best):
+    """Which change fits a log, in a sentence."""
+    it = f"With {best.change} it fits: "
+    if not best.failing:
+        return it + "all patterns pass."
+    it += f"{best.failing:,} of {count(best.logged, 'pattern')} {'fails' if best.failing == 1 else 'fail'}"
+    return it + (f", and one class of faults explains {best.explained:,} of them." if best.explained is not None else ".")
+
+
+def explained(case):
+    """Where the first suspect explains each failing pattern."""
+    first, failing = case.suspects[0], count(case.failing_count, "failing pattern")
+    perfect = [it for it in case.suspects if case.perfect(it)]
+    if case.failing_only():
+        return failing_only(case, perfect)
     if len(perfect) > 1:
-        named = fault(case, first.number)
-        return f"{len(perfect)} classes answer as the chip did wherever the log tells, so the log doesn't part them; the first is {named}."
+        return several(case, perfect)
     if perfect:
-        others = len(case.members[first.number]) - 1
-        so = ["", "; so does the other fault of its class"][others] if others < 2 else f"; so do the {others:,} other faults of its class"
-        return f"The chip answers as {fault(case, first.number)} does, at every bit that the log tells{so}."
-    return uneven(case, first, failing)
+        more = ["It predicts every observed bit."] + unlogged(case, first.number)
+        named = in_full(case, first.number)
+        return Verdict(f"A single stuck-at fault fits{',' if named.startswith('at gate ') else ':'} {named}", more)
+    passed = count(ones_in(case.shows[first.number]), "pattern")
+    more = [f"{capital(in_short(case, first.number))} explains each of the {failing}, but would also fail {passed} that passed."]
+    return Verdict("No single stuck-at fault fits: a bridge, or a defect that shows now and then", more + winners(case, first.number))
+
+
+def several(case, perfect):
+    """Where the log fits several classes."""
+    first = in_short(case, perfect[0].number)
+    many = f"{len(perfect)} classes" + (" or more" if len(perfect) == len(case.suspects) >= 20 else "")
+    return Verdict(f"{many} of stuck-at faults fit, and the log can't tell them apart", [f"The first is {first}."])
+
+
+def failing_only(case, perfect):
+    """Where the log has failing patterns only, and some class explains them all."""
+    number, failing = case.suspects[0].number, count(case.failing_count, "failing pattern")
+    said = f"{capital(in_short(case, number))} explains each of the {failing}"
+    others = f", and so {'does' if len(perfect) == 2 else 'do'} {count(len(perfect) - 1, 'other class', 'other classes')}" if len(perfect) > 1 else ""
+    more = [f"{said}{others}.", FAILING_ONLY, "A bridge of this net, or a defect that shows now and then, fits as well: log the passing patterns, too."]
+    return Verdict("A stuck-at fault, a bridge or a defect that shows now and then", more)
+
+
+def unlogged(case, number):
+    """What the log lacks of a fault that fits."""
+    lacks = ones_in(case.unlogged[number])
+    return [f"The log lacks bits of {count(lacks, 'pattern')} that this fault would fail."] if lacks else []
+
+
+def winners(case, number):
+    """The nets at the other end of a bridge, in a sentence."""
+    if not stems(case, number):
+        return []
+    found = partners(case, number)
+    if found:
+        return [f"A bridge to net {nets(found)} would explain why these passed."]
+    return ["No bridge of this net to a single other one explains why these passed; two suspects that each explain a part may be bridged."]
 
 
 def also(case):
@@ -79,76 +150,33 @@ def nearest_cover(case):
     return [(others[0], explained) for (_, others), (_, explained) in zip(also(case), case.cover)]
 
 
-def uneven(case, first, failing):
-    """The report in one sentence, where no fault answers as the chip did."""
-    if first.explained == case.failing_count:
-        passed = count(bin(case.shows[first.number]).count("1"), "pattern")
-        return (
-            f"{fault(case, first.number)} explains each of the {failing}, but would fail at {passed} more, which the chip passed: "
-            "a defect that shows now and then, as a loose contact, or a bridge of this net."
-        )
-    if not case.cover:
-        return f"No stuck-at fault explains any of the {failing} whole: several defects act at once; the nearest is {fault(case, first.number)}."
-    named = " and ".join(f"{fault(case, nearest)} ({explained})" for nearest, explained in nearest_cover(case)[:3])
-    more = f" and {count(len(case.cover) - 3, 'more')}" if len(case.cover) > 3 else ""
-    whole = "all of" if case.covered == case.failing_count else f"{case.covered:,} of"
-    if len(case.cover) == 1:
-        said, cause = f"{named} explains most, {whole} them", "look there first, for more than one defect"
-    else:
-        said, cause = f"together {named}{more} explain {whole} them", "a bridge between such nets, or several defects"
-    return f"No stuck-at fault explains each of the {failing}; {said}: {cause}."
-
-
-def parting(case, one, other):
-    """The positions and patterns at which two numbers answer differently: a word for each position."""
-    return [a ^ b for a, b in zip(case.answers(one), case.answers(other))]
-
-
-def fullest(words):
-    """The pattern that stands in most of the words, the lowest of several, and the first word that has it; None where all are 0."""
-    counts = {}
-    for word in words:
-        for it in numbers_in(word):
-            counts[it] = counts.get(it, 0) + 1
-    if not counts:
+def bridged(case):
+    """The two nets of the first classes that together explain the chip, if each has the other's value where it fails and not where it passes."""
+    chosen = [number for number, _ in nearest_cover(case)]
+    if len(chosen) != 2:
         return None
-    pattern = min(counts, key=lambda it: (-counts[it], it))
-    return pattern, next(at for at, word in enumerate(words) if word >> pattern & 1)
+    ends = [[line for line, _ in stems(case, it)] for it in chosen]
+    others = [partners(case, it) for it in chosen]
+    pairs = [(one, other) for one in ends[0] if one in others[1] for other in ends[1] if other in others[0]]
+    return pairs[0] if pairs else None
 
 
-def next_step(case):
-    """Which pattern parts the first two suspects, and whether the log has it: sentences."""
-    if not case.suspects:
-        return ["There are no suspects to part."]
-    if len(case.suspects) == 1:
-        return ["There is a single suspect, so no pattern is wanting: look at its net, and at the nets of its equal faults."]
-    one, other = case.suspects[0].number, case.suspects[1].number
-    differ = parting(case, one, other)
-    names = f"The first two suspects are {fault(case, one)} and {fault(case, other)}."
-    unseen = fullest([word & ~seen for word, seen in zip(differ, case.seen)])
-    if unseen:
-        pattern, at = unseen
-        bits = [case.answers(it)[at] >> pattern & 1 for it in (one, other)]
-        return [
-            names,
-            f"Pattern {pattern} parts them, and the log doesn't tell how: apply it and look at {position(case.netlist, at)}. "
-            f"The first answers {bits[0]} there, the second {bits[1]}.",
-            f"The pattern is {case.patterns[pattern] or '-'}.",
-        ]
-    return [names, *in_log(case, one, other, differ)]
-
-
-def in_log(case, one, other, differ):
-    """What the log says where it has all bits that part the first two suspects."""
-    sides = [sum(bin(~(word ^ chip) & bits).count("1") for word, chip, bits in zip(case.answers(it), case.ones, differ)) for it in (one, other)]
-    found = fullest(differ)
-    if not found:
-        return ["No pattern of the result parts them."]
-    pattern, at = found
-    shown = [word[at] >> pattern & 1 for word in (case.answers(one), case.answers(other), case.ones)]
-    return [
-        f"Pattern {pattern} parts them, and the chip was seen there: at {position(case.netlist, at)} the first answers {shown[0]}, "
-        f"the second {shown[1]}, and the chip answered {shown[2]}.",
-        f"The chip answered {sides[0]:,} of the bits that part them as the first and {sides[1]:,} as the second. "
-        "No pattern of the result that parts them is wanting in the log.",
-    ]
+def uneven(case):
+    """Where no class explains each failing pattern."""
+    first, failing = case.suspects[0], count(case.failing_count, "failing pattern")
+    if not case.cover:
+        bits = f"{first.hit:,} of {count(case.wrong_bits, 'failing bit')}, and would fail {first.false:,} that passed"
+        more = [f"The nearest is {in_short(case, first.number)}: it hits {bits}."]
+        return Verdict(f"No stuck-at fault explains any of the {failing} whole: several defects act at once", more)
+    chosen, rest = nearest_cover(case), case.failing_count - case.covered
+    if len(chosen) == 1:
+        more = [f"{capital(in_short(case, chosen[0][0]))} explains {case.covered:,} of the {failing}; no fault explains the rest."]
+        return Verdict("No single stuck-at fault fits: several defects act at once", more)
+    named = [f"{explained:,} by {in_short(case, it)}" for it, explained in chosen[:3]]
+    named += [f"others by {count(len(chosen) - 3, 'more class', 'more classes')}"] if len(chosen) > 3 else []
+    whole = f"{case.covered:,} of the {failing} are" if rest else "Both failing patterns are" if case.covered == 2 else f"All {failing} are"
+    more = [f"{whole} explained together: {', '.join(named)}."]
+    pair = bridged(case)
+    if pair:
+        more.append(f"A bridge between net {pair[0]} and net {pair[1]} fits.")
+    return Verdict(f"No single stuck-at fault fits: {'a bridge' if pair else 'a bridge, or several defects'}", more)

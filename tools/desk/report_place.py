@@ -1,0 +1,148 @@
+"""Where the faults of a class stand: the gate around which most of them lie, and all of them by net."""
+
+import re
+from typing import NamedTuple
+
+PINS = 4  # pins of a gate that are named
+
+
+class Spot(NamedTuple):
+    """Where most of a class lies: a gate, or a single net, pin or position; what is stuck there; and how many members lie elsewhere."""
+
+    where: str
+    what: str
+    gate: bool
+    more: int
+
+
+class Near(NamedTuple):
+    """A member of a class as it stands at a gate: a pin of it, or None for its output; the value; and the net, if its stem is the member."""
+
+    member: int
+    pin: object
+    value: str
+    net: object
+
+
+def driver(netlist, line):
+    """What drives a line: the gate's word, `input` or `scan cell`."""
+    return {"input": "input", "cell": "scan cell"}[netlist.kinds[line]] if line in netlist.kinds else netlist.gates[line][0]
+
+
+def position(netlist, at):
+    """A position by name."""
+    kind, name = netlist.positions[at]
+    return f"output {name}" if kind == "output" else f"scan cell {name}"
+
+
+def place(netlist, name):
+    """Where a fault stands: the output of a gate, a pin of one, or a position."""
+    kind, line, *site, _ = name
+    if kind == "G":
+        return f"pin {site[1]} of {netlist.gates[site[0]][0]} {site[0]}"
+    if kind == "O":
+        return f"at {position(netlist, int(site[0]))}"
+    if line in netlist.gates:
+        return f"output of {netlist.gates[line][0]} {line}"
+    return f"{driver(netlist, line)} {line}"
+
+
+def at_gates(netlist, member, name):
+    """The gates at which a member stands, and how."""
+    kind, line, *site, value = name
+    if kind == "G":
+        yield site[0], Near(member, int(site[1]), value, None)
+    if kind != "S":
+        return
+    if line in netlist.gates:
+        yield line, Near(member, None, value, line)
+    readers = netlist.readers.get(line, ())
+    if len(readers) == 1 and line not in netlist.shown_lines:
+        gate, pin = readers[0]
+        yield gate, Near(member, pin, value, line)
+
+
+def either(texts):
+    """Some texts, with `or` before the last."""
+    return texts[0] if len(texts) == 1 else f"{', '.join(texts[:-1])} or {texts[-1]}"
+
+
+def stuck_pins(near, all_pins):
+    """Which pins of a gate are stuck, in words."""
+    said = []
+    for value in "01":
+        pins = sorted((it for it in near if it.value == value and it.pin is not None), key=lambda it: it.pin)
+        if len(pins) > PINS:
+            said.append(f"{'any' if len(pins) == all_pins else f'one of {len(pins)} of its {all_pins}'} pin{'s' * (len(pins) < all_pins)} stuck at {value}")
+        elif pins:
+            said.append(f"{either([f'pin {it.pin}' + (f' (net {it.net})' if it.net else '') for it in pins])} stuck at {value}")
+    return said
+
+
+def at_gate(case, gate, near, members):
+    """The spot of a class around a gate."""
+    word, pins = case.netlist.gates[gate]
+    said = stuck_pins(near, len(pins)) + [f"its output stuck at {it.value}" for it in near if it.pin is None]
+    return Spot(f"gate {word} {gate}", ", or ".join(said), True, members - len({it.member for it in near}))
+
+
+def alone(case, member, members):
+    """The spot of a single member."""
+    name = case.names[member]
+    kind, line, *_, value = name
+    where = {"S": f"net {line}", "G": place(case.netlist, name), "O": f"the branch of net {line} {place(case.netlist, name)}"}[kind]
+    behind = {"S": f" ({place(case.netlist, name)})", "G": f" (a branch of net {line})", "O": ""}[kind]
+    return Spot(where, f"stuck at {value}{behind}", False, members - 1)
+
+
+def nearest_first(case, members):
+    """Members, those nearest to the inputs first, and the stem of a net before its branches."""
+    levels = case.netlist.levels
+    return sorted(members, key=lambda it: (levels[case.names[it][1]], case.names[it][1], case.names[it][0] != "S", it))
+
+
+def spot(case, number):
+    """Where most of a class lies: at the gate with most of its members, of several the nearest to the inputs."""
+    members, gates = case.members[number], {}
+    for member in members:
+        for gate, near in at_gates(case.netlist, member, case.names[member]):
+            gates.setdefault(gate, []).append(near)
+    best = min(gates, key=lambda it: (-len(gates[it]), case.netlist.levels[it], it), default=None)
+    if len(members) == 1 or best is None or len(gates[best]) == 1:
+        return alone(case, nearest_first(case, members)[0], len(members))
+    return at_gate(case, best, gates[best], len(members))
+
+
+def more(found):
+    """How many equal faults lie elsewhere, in words."""
+    return f"; {found.more:,} more equal fault{'' if found.more == 1 else 's'}" if found.more else ""
+
+
+def in_full(case, number):
+    """A class in words, as the subject of a verdict."""
+    found = spot(case, number)
+    said = f"at {found.where}: {found.what}" if found.gate else f"{found.where} {found.what}"
+    return said + more(found)
+
+
+def in_short(case, number):
+    """A class in words, inside a sentence: without parts in parentheses that hold others."""
+    found = spot(case, number)
+    if not found.gate:
+        return f"{found.where} {found.what.partition(' (')[0]}"
+    sites = found.what.split(", or ")
+    return f"a fault at {found.where} ({re.sub(' [(].*?[)]', '', sites[-1])}, or equal)"
+
+
+def stems(case, number):
+    """The nets whose stems are members of a class, with the values at which they are stuck."""
+    names = [case.names[it] for it in nearest_first(case, case.members[number])]
+    return [(line, value) for kind, line, *_, value in names if kind == "S"]
+
+
+def by_net(case, number):
+    """The members of a class by net, the net nearest to the inputs first."""
+    found = {}
+    for it in nearest_first(case, case.members[number]):
+        found.setdefault(case.names[it][1], []).append(it)
+    return found

@@ -1,0 +1,141 @@
+"""What a report says of the next step: what the first suspect leaves open, what tells the first two apart, and what the lab does. Plain
+text; a pattern to apply stands beside the sentence that asks for it."""
+
+from typing import NamedTuple
+
+from report_case import numbers_in, ones_in, union
+from report_kinds import nets, partners
+from report_place import in_short, position
+from report_words import bridged, count
+
+NAMED = 8  # patterns or positions in a sentence
+
+
+class Step(NamedTuple):
+    """Sentences, and the pattern that they ask for, if they do."""
+
+    said: list
+    pattern: object = None
+
+
+class Left(NamedTuple):
+    """What a suspect leaves open at a position: its missed and its false bits, each a word of patterns."""
+
+    at: int
+    missed: int
+    false: int
+
+
+def left_open(case, number):
+    """Where a suspect misses bits or has false ones, the most first."""
+    words = enumerate(zip(case.missed(number), case.false(number)))
+    found = [Left(at, missed, false) for at, (missed, false) in words if missed or false]
+    return sorted(found, key=lambda it: (-ones_in(it.missed) - ones_in(it.false), it.at))
+
+
+def some(texts, most=NAMED):
+    """Some texts, and how many more there are."""
+    return ", ".join(texts[:most]) + (f" and {len(texts) - most:,} more" if len(texts) > most else "")
+
+
+def patterns(word):
+    """The patterns of a word, in words."""
+    found = numbers_in(word)
+    return f"{'pattern' if len(found) == 1 else 'patterns'} {some([str(it) for it in found])}"
+
+
+def at_positions(case, words, one, many):
+    """How many bits stand at which positions, in words."""
+    found = [(ones_in(word), at) for at, word in enumerate(words) if word]
+    total = sum(bits for bits, _ in found)
+    named = some([position(case.netlist, at) for _, at in sorted(found, key=lambda it: (-it[0], it[1]))], 4)
+    return f"{count(total, one, many)}, {'all at ' if len(found) == 1 and total > 1 else 'at '}{named}"
+
+
+def first_leaves(case, it):
+    """Which bits the first suspect misses, and which it has false."""
+    said = []
+    if it.missed:
+        words = case.missed(it.number)
+        said.append(f"The first suspect misses {at_positions(case, words, 'failing bit', None)} ({patterns(union(words))}).")
+        if sum(map(bool, words)) == 1 and it.missed > 1:
+            said.append("Look for a second defect that reaches this position.")
+    if it.false:
+        words = case.false(it.number)
+        bits = at_positions(case, words, "bit that passed", "bits that passed")
+        said.append(f"The first suspect would also fail {bits} ({patterns(union(words))}).")
+    return said
+
+
+def differ(case, one, other):
+    """The bits that two numbers answer differently: a word for each position."""
+    return [a ^ b for a, b in zip(case.answers(one), case.answers(other))]
+
+
+def fullest(words):
+    """The pattern that stands in most of the words, the lowest of several, and the first word that has it; None if all are 0."""
+    counts = {}
+    for word in words:
+        for it in numbers_in(word):
+            counts[it] = counts.get(it, 0) + 1
+    if not counts:
+        return None
+    pattern = min(counts, key=lambda it: (-counts[it], it))
+    return pattern, next(at for at, word in enumerate(words) if word >> pattern & 1)
+
+
+def agreeing(case, number, words):
+    """At how many of some observed bits the chip answered as a number."""
+    return sum(ones_in(~(word ^ chip) & bits) for word, chip, bits in zip(case.answers(number), case.ones, words))
+
+
+def first_two(case):
+    """Which patterns tell the first two suspects apart, and how the chip answered there."""
+    one, other = (it.number for it in case.suspects[:2])
+    words = differ(case, one, other)
+    seen = [word & it for word, it in zip(words, case.seen)]
+    said = [f"The first two suspects are {in_short(case, one)} and {in_short(case, other)}."]
+    if any(seen):
+        total, alike = sum(map(ones_in, seen)), agreeing(case, one, seen)
+        tells = f"{patterns(union(seen))} {'tells' if ones_in(union(seen)) == 1 else 'tell'} them apart"
+        so = f"of the {total:,} bits there, the chip answered {alike:,} as the first and {total - alike:,} as the second"
+        said.append(f"In the log, {tells}: {so if total > 1 else 'the chip answered as the ' + ('first' if alike else 'second')}.")
+    unseen = fullest([word & ~it for word, it in zip(words, case.seen)])
+    if not unseen:
+        return Step(said)
+    pattern, at = unseen
+    bits = [case.answers(it)[at] >> pattern & 1 for it in (one, other)]
+    where = position(case.netlist, at)
+    said.append(f"The log lacks pattern {pattern} at {where}, which {'also tells' if any(seen) else 'would tell'} them apart: apply it.")
+    said.append(f"At {where} the first suspect predicts {bits[0]}, the second {bits[1]}.")
+    return Step(said, pattern)
+
+
+def in_the_lab(case, first):
+    """What the lab does next, if the log has all that the patterns can tell."""
+    members = case.members[first.number]
+    aborted = [it for it in members if case.result.evidence.get(it) == "O"]
+    if case.perfect(first):
+        said = ["The log rules out every other class."] if sum(map(case.perfect, case.suspects)) == 1 and not case.failing_only() else []
+        if len(members) > 1:
+            said.append(f"No pattern of the result tells the {len(members):,} faults of this class apart: inspect these places, the nearest to the inputs first.")
+        if aborted:
+            it = f"{count(len(aborted), 'fault')} of the class {'is' if len(aborted) == 1 else 'are'} open"
+            said.append(f"{it}: gen with a larger --conflicts may find a vector that tells {'it' if len(aborted) == 1 else 'them'} from the lowest.")
+        return said
+    others, pair = partners(case, first.number), bridged(case)
+    said = [f"Check the layout for a bridge between the first suspect and net {nets(others)}."] if others else []
+    said = [f"Check the layout for a bridge between net {pair[0]} and net {pair[1]}."] if pair else said
+    return said + ["Repeat the test at another voltage and speed: a defect that shows now and then changes with them, a stuck net doesn't."]
+
+
+def next_step(case, doubt):
+    """What to do next."""
+    if doubt:
+        changes = f"try it with {doubt.best.change}" if doubt.best else "compare the tester's list of patterns, its pin order and its levels with the result"
+        return Step([f"Check the log before the chip: {changes}."])
+    if not case.suspects:
+        return Step(["Check that the log is of this circuit and of these patterns."])
+    first = case.suspects[0]
+    step = first_two(case) if len(case.suspects) > 1 else Step(["There is a single suspect."])
+    return Step(first_leaves(case, first) + step.said + in_the_lab(case, first), step.pattern)

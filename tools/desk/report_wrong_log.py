@@ -1,0 +1,171 @@
+"""Whether a log looks like one of other patterns, or of another order or polarity, and which change of it fits."""
+
+import itertools
+import os
+from typing import NamedTuple
+
+import bench
+from report_case import Ended, ones_in, suspects_of, union
+
+FOLDER = 50  # results of the folder that are looked at
+LARGEST = 1 << 28  # bytes of one that is read
+SHIFTS = {0: None, -1: "patterns counted from 1", 1: "patterns counted one too low"}
+
+
+class Try(NamedTuple):
+    """A change of the log and what it comes to: how many patterns fail of those logged, how many bits of those observed, and how many failing
+    patterns one class explains, where `suspects` was asked. The result is the one whose patterns are meant."""
+
+    change: str
+    result: str
+    log: tuple
+    failing: int
+    logged: int
+    wrong: int
+    seen: int
+    explained: object = None
+
+
+class Doubt(NamedTuple):
+    """Why a log is doubted: what was tried, the best of that if it fits, other results of the folder, and the scan cells that never change."""
+
+    tries: list
+    best: object
+    others: list
+    still: int
+    cells: int
+
+
+def large(part, whole):
+    """Whether more than a tenth."""
+    return part * 10 > whole
+
+
+def tried(change, result, good, log, logged):
+    """What a log comes to against good answers."""
+    ones, zeros = log
+    seen = [one | zero for one, zero in zip(ones, zeros)]
+    wrong = [(one ^ word) & it for one, word, it in zip(ones, good, seen)]
+    return Try(change, result, log, ones_in(union(wrong)), ones_in(logged), sum(map(ones_in, wrong)), sum(map(ones_in, seen)))
+
+
+def moved(word, by, full):
+    """The word of patterns whose numbers are higher by so many."""
+    return word << by & full if by > 0 else word >> -by
+
+
+def changes(case):
+    """The log with its numbers shifted, its positions reversed, its bits inverted, or several of these."""
+    for by, back, turned in itertools.product(SHIFTS, (False, True), (False, True)):
+        said = [SHIFTS[by], "positions in reverse order" if back else None, "bits inverted" if turned else None]
+        words = [(moved(one, by, case.full), moved(zero, by, case.full)) for one, zero in zip(case.ones, case.zeros)]
+        words = words[::-1] if back else words
+        ones, zeros = [one for one, _ in words], [zero for _, zero in words]
+        log = (zeros, ones) if turned else (ones, zeros)
+        if any(said):
+            yield tried(" and ".join(filter(None, said)), case.read["result"], case.good, log, moved(case.logged, by, case.full))
+
+
+def patterns_of(name):
+    """The patterns of a file if it is a result, else None."""
+    found = []
+    with open(name, "rb") as file:
+        if file.read(8) != b"diatest ":
+            return None
+        file.readline()
+        for line in file:
+            fields = line.split(maxsplit=2)
+            if fields[:1] == [b"pattern"]:
+                found.append("" if fields[1] == b"-" else fields[1].decode("latin-1"))
+            elif fields[:1] != [b"budget"]:
+                return found
+    return None
+
+
+def neighbours(case):
+    """The other files of the result's folder, and of the log's."""
+    folders = dict.fromkeys(os.path.dirname(case.files[it]) or "." for it in ("result", "log"))
+    for folder in folders:
+        for name in sorted(os.listdir(folder) if os.path.isdir(folder) else ()):
+            whole = os.path.join(folder, name) if folder != "." else name
+            if os.path.isfile(whole) and os.path.getsize(whole) <= LARGEST and not os.path.samefile(whole, case.read["result"]):
+                yield whole
+
+
+def results_beside(case):
+    """The names and patterns of other results for this circuit in those folders."""
+    for name in neighbours(case):
+        try:
+            patterns = patterns_of(name)
+        except (OSError, IndexError):
+            continue
+        if patterns and patterns != case.patterns and all(len(it) == len(case.netlist.sources) for it in patterns):
+            yield name, patterns
+
+
+def other_results(case):
+    """The log with the patterns of other results for this circuit, and the names of those that have fewer patterns than the log."""
+    found, short, last = [], [], case.logged.bit_length()
+    for name, patterns in itertools.islice(results_beside(case), FOLDER):
+        if len(patterns) < last:
+            short.append(name)
+            continue
+        good = bench.answers(case.netlist, patterns)
+        found.append(tried(f"the patterns of {name}", name, good, (case.ones, case.zeros), case.logged))
+    return found, short
+
+
+def lines_of(log):
+    """The lines of a changed log."""
+    ones, zeros = log
+    seen = union(ones) | union(zeros)
+    for pattern in range(seen.bit_length()):
+        if seen >> pattern & 1:
+            bits = ("1" if one >> pattern & 1 else "0" if zero >> pattern & 1 else "x" for one, zero in zip(ones, zeros))
+            yield f"{pattern} {''.join(bits)}\n"
+
+
+def asked(case, it):
+    """A change with what `suspects` says of it."""
+    name = os.path.join(case.folder, "changed.log")
+    with open(name, "w", encoding="ascii") as file:
+        file.writelines(lines_of(it.log))
+    try:
+        scores, _, _ = suspects_of(case.read["netlist"], it.result, name, "--most", "1")
+    except Ended:  # the other result isn't valid
+        return it
+    return it._replace(explained=scores[0].explained if scores else 0)
+
+
+def never_change(case):
+    """How many scan cells show one bit alone though a good chip shows both, and how many cells there are."""
+    cells = still = 0
+    for (kind, _), one, zero, good in zip(case.netlist.positions, case.ones, case.zeros, case.good):
+        seen = one | zero
+        cells += kind == "cell"
+        still += kind == "cell" and bool(seen & good and seen & ~good) and not (one and zero)
+    return still, cells
+
+
+def fitting(case, tries):
+    """The change with the fewest failing bits, if they are few or one class explains most of the failing patterns."""
+    likely = [it for it in tries if it.wrong * 2 <= case.wrong_bits]
+    best = min(likely, key=lambda it: it.wrong / (it.seen or 1), default=None)
+    if not best:
+        return None, None
+    answer = asked(case, best)
+    few = best.wrong * 4 <= case.wrong_bits and not large(best.wrong, best.seen)
+    return best, answer if few or (answer.explained or 0) * 2 > answer.failing else None
+
+
+def doubt(case):
+    """Why the log is doubted, if it is: no class explains it, many bits fail, and either nearly every pattern does or a change fits."""
+    most = max((it.explained for it in case.suspects), default=0)
+    if not case.failing or most == case.failing_count or not large(case.wrong_bits, case.seen_bits):
+        return None
+    others, short = other_results(case)
+    tries = [*changes(case), *others]
+    asked_for, best = fitting(case, tries)
+    if not best and (case.failing_count * 10 < case.logged_count * 9 or large(most, case.failing_count)):
+        return None
+    return Doubt([best if best and it is asked_for else it for it in tries], best, short, *never_change(case))
