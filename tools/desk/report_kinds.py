@@ -1,5 +1,6 @@
 """Which kind of defect the behaviour of a suspect fits: stuck, one of several, now and then, or a bridge."""
 
+import functools
 from typing import NamedTuple
 
 from report_place import stems
@@ -14,9 +15,12 @@ class Kind(NamedTuple):
     partners: list
 
 
-def fits(word, explained, quiet):
-    """Whether a net has the value 1 at each explained pattern, and 0 at each that passed though the fault would fail it."""
-    return not explained & ~word and not quiet & word
+def winners(case, value, explained, quiet):
+    """The nets that have a value at each explained pattern, and not at those that passed though the fault would fail them."""
+    for net, word in case.free.items():
+        word = word if value == "1" else ~word
+        if not explained & ~word and not quiet & word:
+            yield net
 
 
 def suspected_nets(case):
@@ -25,18 +29,18 @@ def suspected_nets(case):
     return {line for kind, line, *_ in names if kind == "S"}
 
 
+@functools.lru_cache(maxsize=None)
 def partners(case, number):
     """The nets that as winners of a bridge explain when the fault shows, since they have its value then and the other one when it doesn't. Those of
     other suspects come first."""
     explained, quiet = case.explained[number], case.shows[number]
     if not explained or not quiet:
         return []
-    found = {}
+    found, values = {}, {value: dict.fromkeys(winners(case, value, explained, quiet)) for value in "01"}
     for line, stuck in stems(case, number):
-        cone = case.netlist.cone([line])
-        for net, word in case.free.items():
-            if fits(word if stuck == "1" else ~word, explained, quiet) and net not in cone:
-                found[net] = None
+        if values[stuck].keys() - found.keys():
+            cone = case.netlist.cone([line])
+            found.update((net, None) for net in values[stuck] if net not in cone)
     suspected = suspected_nets(case)
     return sorted(found, key=lambda net: net not in suspected)
 

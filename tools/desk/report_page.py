@@ -192,7 +192,7 @@ def left_open(case):
 
 def folded_rows(heads, kinds, rows, said):
     """A table that is shown when its line is clicked; an open one if it is short."""
-    return f"<details{' open' if len(rows) <= OPEN_ROWS else ''}><summary>{said}: {len(rows):,} rows</summary>{table(heads, kinds, rows)}</details>"
+    return f"<details{' open' if len(rows) <= OPEN_ROWS else ''}><summary>{said}: {words.count(len(rows), 'row')}</summary>{table(heads, kinds, rows)}</details>"
 
 
 def next_step(case, doubt):

@@ -1,5 +1,6 @@
 """Where the faults of a class stand: the gate around which most of them lie, and all of them by net."""
 
+import functools
 import re
 from typing import NamedTuple
 
@@ -101,6 +102,7 @@ def nearest_first(case, members):
     return sorted(members, key=lambda it: (levels[case.names[it][1]], case.names[it][1], case.names[it][0] != "S", it))
 
 
+@functools.lru_cache(maxsize=None)
 def spot(case, number):
     """Where most of a class lies: at the gate with most of its members, of several the nearest to the inputs."""
     members, gates = case.members[number], {}

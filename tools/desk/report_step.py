@@ -126,6 +126,8 @@ def in_the_lab(case, first):
     others, pair = partners(case, first.number), bridged(case)
     said = [f"Check the layout for a bridge between the first suspect and net {nets(others)}."] if others else []
     said = [f"Check the layout for a bridge between net {pair[0]} and net {pair[1]}."] if pair else said
+    if not case.shows[first.number] and case.cover:
+        return said + ["Inspect the places of the classes that together explain the failing patterns."]
     return said + ["Repeat the test at another voltage and speed: a defect that shows now and then changes with them, a stuck net doesn't."]
 
 

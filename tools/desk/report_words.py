@@ -1,5 +1,6 @@
 """What a report says of a log in sentences. All are plain text."""
 
+import functools
 from typing import NamedTuple
 
 from report_case import ones_in
@@ -150,6 +151,7 @@ def nearest_cover(case):
     return [(others[0], explained) for (_, others), (_, explained) in zip(also(case), case.cover)]
 
 
+@functools.lru_cache(maxsize=None)
 def bridged(case):
     """The two nets of the first classes that together explain the chip, if each has the other's value where it fails and not where it passes."""
     chosen = [number for number, _ in nearest_cover(case)]
