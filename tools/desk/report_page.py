@@ -20,6 +20,11 @@ LABELS = (
     "<b>explained</b>: failing patterns that the fault reproduces bit for bit; <b>hit</b>: failing bits it predicts; <b>missed</b>: failing "
     "bits it doesn't; <b>false</b>: bits it predicts to fail that passed."
 )
+CLASSES = (
+    " A row stands for a class: faults that no pattern of the result tells apart, named by its lowest number. Pins are counted from 0. By the "
+    "gates, by a tree and by a refutation say how a fault is shown to be equal to the lowest: no vector tells them apart. "
+    '<span class="open">Open</span> ones may differ from it: a budget ended first.'
+)
 
 
 def cell(text, kind="t", label=""):
@@ -146,13 +151,12 @@ def suspects(case, doubt):
         texts = [f'<span class="rank">{rank}</span>', f"{it.number}", where(case, it.number), defect(case, it)]
         texts += [f"{count:,}" for count in it[1:]] + [faults(case, it.number)]
         rows.append(row(heads, kinds, texts, it.number, ' class="contradicts"' if perfect and not case.perfect(it) else ""))
-    note = LABELS + " A row stands for a class: faults that no pattern of the result tells apart, named by its lowest number. Pins are counted from 0. "
-    note += "By the gates, by a tree and by a refutation say how a fault is shown to be equal to the lowest: no vector tells them apart. "
-    note += '<span class="open">Open</span> ones may differ from it: a budget ended first.'
-    note += " Grey rows contradict the log." if perfect else ""
+    note = LABELS + CLASSES + (" Grey rows contradict the log." if perfect else "")
+    note += '<span class="screen"> A click on a row shows its class in the picture.</span>'
     fits = sum(map(case.perfect, case.suspects))
-    head = "Suspects, if the log is right" if doubt else "Suspects" + (f": {words.count(fits, 'class fits', 'classes fit')} exactly" if fits else ": none fits exactly")
-    return f'<h2>{head}</h2>\n{table(heads, kinds, rows)}\n<p class="note">{note}<span class="screen"> A click on a row shows its class in the picture.</span></p>'
+    exact = f"{words.count(fits, 'class fits', 'classes fit')} exactly" if fits else "none fits exactly"
+    head = "Suspects, if the log is right" if doubt else f"Suspects: {exact}"
+    return f'<h2>{head}</h2>\n{table(heads, kinds, rows)}\n<p class="note">{note}</p>'
 
 
 def cover(case):
@@ -166,7 +170,8 @@ def cover(case):
     rest = case.failing_count - case.covered
     said = f" {words.count(rest, 'failing pattern')} {'is' if rest == 1 else 'are'} explained by no fault." if rest else ""
     note = "Each class explains most of the failing patterns that none above it explains; of several that do, the best suspect has the row."
-    head = f"{words.count(len(rows), 'class explains', 'classes together explain')} {case.covered:,} of {words.count(case.failing_count, 'failing pattern')}"
+    head = f"{words.count(len(rows), 'class explains', 'classes together explain')} {case.covered:,} of "
+    head += words.count(case.failing_count, "failing pattern")
     return f'<h2>Together: {head}</h2>\n{table(heads, kinds, rows)}\n<p>{said}</p>\n<p class="note">{note}</p>'
 
 
@@ -178,7 +183,8 @@ def vector(case, pattern):
         names = [name for (_, name), bit in zip(case.netlist.sources, bits) if bit == value]
         rows.append(f"<p>At {value}: {escape(', '.join(names)) or 'none'}.</p>")
     bits = f'<p>Bits, in the order of the sources: <span class="name bits">{bits or "-"}</span></p>'
-    return f"<details><summary>Pattern {pattern}: {words.count(len(case.netlist.sources), 'source')}</summary>{''.join(rows)}{bits}</details>"
+    said = f"Pattern {pattern}: {words.count(len(case.netlist.sources), 'source')}"
+    return f"<details><summary>{said}</summary>{''.join(rows)}{bits}</details>"
 
 
 def left_open(case):
@@ -190,9 +196,10 @@ def left_open(case):
     return folded_rows(heads, kinds, rows, "The bits that the first suspect misses, and those it has false") if rows else ""
 
 
-def folded_rows(heads, kinds, rows, said):
-    """A table that is shown when its line is clicked; an open one if it is short."""
-    return f"<details{' open' if len(rows) <= OPEN_ROWS else ''}><summary>{said}: {words.count(len(rows), 'row')}</summary>{table(heads, kinds, rows)}</details>"
+def folded_rows(heads, kinds, rows, said, begins=" open"):
+    """A table that is shown when its line is clicked; one that is short is shown at once, unless something else is said."""
+    begins = begins if len(rows) <= OPEN_ROWS else ""
+    return f"<details{begins}><summary>{said}: {words.count(len(rows), 'row')}</summary>{table(heads, kinds, rows)}</details>"
 
 
 def next_step(case, doubt):
@@ -224,7 +231,7 @@ def positions(case):
             rows.append((-len(found), at, row(heads, kinds, texts)))
     rows = [it for _, _, it in sorted(rows)]
     head = f"Failing positions: {len(rows):,} of {len(case.wrong):,}"
-    rest = folded_rows(heads, kinds, rows[OPEN_ROWS:], "Those that fail less often").replace("<details open>", "<details>") if rows[OPEN_ROWS:] else ""
+    rest = folded_rows(heads, kinds, rows[OPEN_ROWS:], "Those that fail less often", "") if rows[OPEN_ROWS:] else ""
     return f"<h2>{head}</h2>\n{table(heads, kinds, rows[:OPEN_ROWS])}{rest}"
 
 
@@ -245,7 +252,8 @@ def patterns(case):
         bits = [(ones_in(it & word), at) for at, it in enumerate(case.wrong) if it & word]
         at = [position(case.netlist, at) for _, at in sorted(bits, key=lambda it: (-it[0], it[1]))]
         found = [str(it) for it in numbers_in(word)]
-        rows.append(row(heads, kinds, [listed(who) or "no fault listed", f"{len(found):,}", listed(found), f"{sum(it for it, _ in bits):,}", listed(at, 8)]))
+        counts = f"{len(found):,}", listed(found), f"{sum(it for it, _ in bits):,}"
+        rows.append(row(heads, kinds, [listed(who) or "no suspect", *counts, listed(at, 8)]))
     more = f"<p>{len(groups) - GROUPS:,} more groups have no row.</p>" if len(groups) > GROUPS else ""
     head = f"Failing patterns: {case.failing_count:,} of {case.logged_count:,}"
     return f"<h2>{head}</h2>\n{table(heads, kinds, rows)}{more}"
@@ -282,6 +290,7 @@ def page(case, doubt, name, picture, made):
     body = [f"<h1>{title}</h1>", verdict(case, words.verdict(case, doubt))]
     body += chapters(case, doubt, picture) if case.failing else []
     body += [about(case, made), again(case, name)]
-    top = f'<!doctype html>\n<html lang="en">\n<head>\n<meta charset="utf-8">\n<meta name="viewport" content="width=device-width">\n<title>{title}</title>\n'
+    top = '<!doctype html>\n<html lang="en">\n<head>\n<meta charset="utf-8">\n<meta name="viewport" content="width=device-width">\n'
+    top += f"<title>{title}</title>\n"
     top += f"<style>\n{style}</style>\n</head>\n<body>\n"
     return top + "\n\n".join(body) + f"\n<script>\n{script}</script>\n</body>\n</html>\n"

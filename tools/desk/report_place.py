@@ -74,7 +74,7 @@ def stuck_pins(near, all_pins):
     for value in "01":
         pins = sorted((it for it in near if it.value == value and it.pin is not None), key=lambda it: it.pin)
         if len(pins) > PINS:
-            said.append(f"{'any' if len(pins) == all_pins else f'one of {len(pins)} of its {all_pins}'} pin{'s' * (len(pins) < all_pins)} stuck at {value}")
+            said.append(f"{'any pin' if len(pins) == all_pins else f'one of {len(pins)} of its {all_pins} pins'} stuck at {value}")
         elif pins:
             said.append(f"{either([f'pin {it.pin}' + (f' (net {it.net})' if it.net else '') for it in pins])} stuck at {value}")
     return said

@@ -118,7 +118,8 @@ def in_the_lab(case, first):
     if case.perfect(first):
         said = ["The log rules out every other class."] if sum(map(case.perfect, case.suspects)) == 1 and not case.failing_only() else []
         if len(members) > 1:
-            said.append(f"No pattern of the result tells the {len(members):,} faults of this class apart: inspect these places, the nearest to the inputs first.")
+            alike = f"No pattern of the result tells the {len(members):,} faults of this class apart"
+            said.append(f"{alike}: inspect these places, the nearest to the inputs first.")
         if aborted:
             it = f"{count(len(aborted), 'fault')} of the class {'is' if len(aborted) == 1 else 'are'} open"
             said.append(f"{it}: gen with a larger --conflicts may find a vector that tells {'it' if len(aborted) == 1 else 'them'} from the lowest.")
@@ -134,8 +135,8 @@ def in_the_lab(case, first):
 def next_step(case, doubt):
     """What to do next."""
     if doubt:
-        changes = f"try it with {doubt.best.change}" if doubt.best else "compare the tester's list of patterns, its pin order and its levels with the result"
-        return Step([f"Check the log before the chip: {changes}."])
+        check = "compare the tester's list of patterns, its pin order and its levels with the result"
+        return Step([f"Check the log before the chip: {f'try it with {doubt.best.change}' if doubt.best else check}."])
     if not case.suspects:
         return Step(["Check that the log is of this circuit and of these patterns."])
     first = case.suspects[0]

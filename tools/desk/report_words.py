@@ -9,7 +9,8 @@ from report_place import in_full, in_short, stems
 
 LOOKS = "This looks like a log of other patterns, or in another order or polarity"
 UNFITTING = (
-    "None of these makes it fit: patterns shifted by one, positions in reverse order, bits inverted, the patterns of another result in the folder."
+    "None of these makes it fit: patterns shifted by one, positions in reverse order, bits inverted, the patterns of another result in the "
+    "folder."
 )
 FAILING_ONLY = "The log has no passing pattern, so no fault can be ruled out because it would fail more patterns."
 
@@ -117,7 +118,7 @@ def failing_only(case, perfect):
     number, failing = case.suspects[0].number, count(case.failing_count, "failing pattern")
     said = f"{capital(in_short(case, number))} explains each of the {failing}"
     others = f", and so {'does' if len(perfect) == 2 else 'do'} {count(len(perfect) - 1, 'other class', 'other classes')}" if len(perfect) > 1 else ""
-    more = [f"{said}{others}.", FAILING_ONLY, "A bridge of this net, or a defect that shows now and then, fits as well: log the passing patterns, too."]
+    more = [f"{said}{others}.", FAILING_ONLY, "A bridge there, or a defect that shows now and then, fits as well: log the passing patterns, too."]
     return Verdict("A stuck-at fault, a bridge or a defect that shows now and then", more)
 
 

@@ -166,6 +166,7 @@ def doubt(case):
     others, short = other_results(case)
     tries = [*changes(case), *others]
     asked_for, best = fitting(case, tries)
-    if not best and (case.failing_count * 10 < case.logged_count * 9 or large(most, case.failing_count)):
+    applied = len(case.patterns) if case.failing_only() else case.logged_count
+    if not best and (case.failing_count * 10 < applied * 9 or large(most, case.failing_count)):
         return None
     return Doubt([best if best and it is asked_for else it for it in tries], best, short, *never_change(case))
