@@ -1,4 +1,4 @@
-"""How far a run of `gen` is, by the lines of the result that it has written."""
+"""How far a run of `gen` or `topup` is, by the lines of the result that it has written."""
 
 import os
 import time

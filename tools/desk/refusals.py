@@ -61,9 +61,11 @@ PLAN = {
 
 NUMBER, BITS, SEEN, END = rb"0|[1-9][0-9]*", rb"[01]+|-", rb"[01x]+|-", rb"\n"
 PARTIAL = ("rank", "suspects", "cover")
+LISTS = ("sim", "grade", "topup")  # the commands that read a list of vectors
 SEEN_WORDS = "A line is a pattern's number without zeros in front, one space, the bits that were seen (x for one that wasn't), and one LF"
-LOG_FORM = {"sim": (BITS, END), **dict.fromkeys(PARTIAL, (NUMBER, rb" ", SEEN, END))}
-LOG_WORDS = {"sim": "A line is a vector's bits, source 0 first, and one LF", **dict.fromkeys(PARTIAL, SEEN_WORDS)}
+LIST_WORDS = "A line is a vector's bits, source 0 first, and one LF"
+LOG_FORM = {**dict.fromkeys(LISTS, (BITS, END)), **dict.fromkeys(PARTIAL, (NUMBER, rb" ", SEEN, END))}
+LOG_WORDS = {**dict.fromkeys(LISTS, LIST_WORDS), **dict.fromkeys(PARTIAL, SEEN_WORDS)}
 WHOLE_FORM, WHOLE_WORDS = (NUMBER, rb" ", BITS, END), "A line is a pattern's number without zeros in front, one space, the bits, and one LF"
 
 LARGEST = 4_294_967_295  # of the numbers in texts
@@ -83,7 +85,7 @@ NAMES = {
     "log": ("LOG", "VECTORS"),
     "plan": ("PLAN",),
 }
-SAID = re.compile(r"(netlist|result|dictionary|log|plan): (?:Evidence )?(\w+) at (?:step (\d+), )?(?:byte (\d+))?(?:, )?(?:line (\d+))?")
+SAID = re.compile(r"(netlist|result|dictionary|log|vectors|plan): (?:Evidence )?(\w+) at (?:step (\d+), )?(?:byte (\d+))?(?:, )?(?:line (\d+))?")
 
 
 def first_wrong(text, form):
@@ -99,7 +101,7 @@ def first_wrong(text, form):
 
 def sizes(command, files):
     """How many patterns there are, if that is known, and how many bits a line has: by the file that the log goes with."""
-    if command == "sim":
+    if command in LISTS:
         return None, len(bench.read(files["NETLIST"]).sources)
     if "RESULT" in files:
         with open(files["RESULT"], "rb") as file:
@@ -167,21 +169,21 @@ def log_order(command, name, line, text, patterns):
 
 def log_mend(command, files, name, text):
     """What a line of a log or of a list of vectors has, and what mends it."""
-    if command != "sim":
+    if command not in LISTS:
         return mends.of_line(text, mends.NUMBERED, name)
     numbered = re.fullmatch(rb"[0-9]+ ([01x]+|-)\r?\n", text)
     if numbered and len(numbered[1]) != sizes(command, files)[1]:
-        return " This file looks like a log, and `sim` takes vectors."
+        return f" This file looks like a log, and `{command}` takes vectors."
     return mends.of_line(text, mends.VECTORS, name)
 
 
 def log_syntax(command, files, name, text, other):
     """Where a line of a log leaves its form, and what the form is. `other` tells of what other kind the file is."""
     words, number = LOG_WORDS.get(command, WHOLE_WORDS), re.match(NUMBER, text)
-    if command != "sim" and number and int(number[0]) > LARGEST:
+    if command not in LISTS and number and int(number[0]) > LARGEST:
         return 0, f"{words}. Its number is above {LARGEST}, the largest that is read."
     mend = "" if other else log_mend(command, files, name, text)
-    partial = "" if command in (*PARTIAL, "sim") or "x" not in mend + text.decode("latin-1") else " `rank` and `suspects` take an x."
+    partial = "" if command in (*PARTIAL, *LISTS) or "x" not in mend + text.decode("latin-1") else " `rank` and `suspects` take an x."
     return first_wrong(text, LOG_FORM.get(command, WHOLE_FORM)), f"{words}.{partial}{mend}"
 
 
@@ -265,7 +267,7 @@ def explain(command, files, console):
     said = SAID.match(console)
     if not said:
         return ""
-    kind, rule = said[1], said[2]
+    kind, rule = "log" if said[1] == "vectors" else said[1], said[2]
     step, byte, line = (int(it) if it else None for it in said.group(3, 4, 5))
     name = next(files[it] for it in NAMES[kind] if it in files)
     file = plain_file(name)

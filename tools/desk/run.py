@@ -23,7 +23,8 @@ from words import wrong
 KEPT = 1 << 16  # bytes of the console that are kept, of which a refusal is the first line
 REFUSED = (3, 4, 5, 6, 10)
 STOPS = (signal.SIGHUP, signal.SIGINT, signal.SIGQUIT, signal.SIGTERM)
-ENDED = {"gen": "RESULT", "compact": "NEW", "adapt": "PLAN", "synth": "RESULT"}  # by command the file whose last line is `end`
+RESULTS = ("gen", "grade", "topup", "synth")
+ENDED = {**dict.fromkeys(RESULTS, "RESULT"), "compact": "NEW", "adapt": "PLAN"}  # by command the file whose last line is `end`
 
 
 class Console:
@@ -59,7 +60,7 @@ class Run:
         self.outputs = self.begun(made, force)
         for label in made:
             self.words[2 + places[label]] = self.outputs.by_label[label].written
-        shown = self.command == "gen" and made and os.isatty(2)
+        shown = self.command in ("gen", "topup") and made and os.isatty(2)
         self.progress = Progress(self.outputs.by_label["RESULT"].written) if shown else None
 
     def begun(self, made, force):

@@ -46,6 +46,19 @@ COMMANDS = {
     "gen": Command(
         "NETLIST RESULT", "NETLIST", "RESULT", "generates a result for the netlist: patterns, classes, and evidence of each", BUDGETS
     ),
+    "grade": Command(
+        "NETLIST VECTORS RESULT",
+        "NETLIST VECTORS",
+        "RESULT",
+        "keeps the vectors that tell faults apart, and writes a result in which what they leave together is open",
+    ),
+    "topup": Command(
+        "NETLIST VECTORS RESULT",
+        "NETLIST VECTORS",
+        "RESULT",
+        "keeps the vectors that tell faults apart, and generates patterns and evidence for what they leave together",
+        BUDGETS[1:],
+    ),
     "check": Command("NETLIST RESULT", "NETLIST RESULT", "", "says whether the result is valid for the netlist"),
     "dict": Command(
         "passfail|full|samediff NETLIST RESULT DICTIONARY",

@@ -15,7 +15,7 @@ use Rattle.adaptive_tree.specs.Growth.{ask_steps}
 use Rattle.adaptive_tree.specs.RightNode.{IsRightNode, AreRightBranches}
 use Rattle.adaptive_tree.specs.Laws.{WellFormedTreesAreRight, WaysAreShort}
 use Rattle.adaptive_tree.proofs.NodeReading.{begins_true}
-use Rattle.adaptive_tree.proofs.Depth.{count_below, count_fits, count_fewer}
+use Rattle.adaptive_tree.proofs.CountsBelow.{count_below, count_fits, count_fewer}
 use Rattle.adaptive_tree.proofs.RightTrees.{Unread, ask_unread, none_behind_on, whole_unread, on_steps, push_branch, push_answers, pushed_place, begun_with, RightFrom, in_first_or_later}
 
 -- ---- each step from each line

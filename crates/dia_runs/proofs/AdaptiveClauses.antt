@@ -7,10 +7,10 @@ use Rattle.adaptive_tree.specs.WellFormed.{IsTextOf}
 use Rattle.adaptive_tree.specs.Laws.{WrittenIsRead}
 use Rattle.text_fields.specs.Fields.{Text}
 use Rattle.request_words.specs.Request.{Request, adapt, follow}
-use Rattle.dia_commands.specs.Ending.{Ending}
-use Rattle.dia_commands.specs.Outcome.{Outcome}
-use Rattle.dia_commands.specs.Plans.{plan_of}
-use Rattle.dia_commands.specs.Ran.{IsDone}
+use Rattle.run_steps.specs.Ending.{Ending}
+use Rattle.run_steps.specs.Outcome.{Outcome}
+use Rattle.dia_runs.specs.Requests.{plan_of}
+use Rattle.run_steps.specs.Ran.{IsDone}
 use Rattle.dia_runs.specs.AdaptiveRuns.{AdaptsPlan, PrintsOutcome}
 use Rattle.dia_runs.proofs.Clauses.{done_for, accepted_by, true_result}
 use Rattle.dia_runs.proofs.DictionaryClauses.{file_made, printed_text}

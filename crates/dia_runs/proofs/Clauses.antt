@@ -4,7 +4,6 @@ use Rattle.std.specs.FinMap.{get, insert}
 use Rattle.diag_shelf.specs.World.{Files, World, State}
 use Rattle.diag_shelf.proofs.FileMaps.{get_at_insert, get_off_insert}
 use Rattle.net_model.specs.declared.circuit.Design.{Design}
-use Rattle.net_model.specs.Circuit.{Circuit}
 use Rattle.result_records.specs.declared.record.Budgets.{Budgets}
 use Rattle.result_records.specs.declared.record.Record.{Record}
 use Rattle.result_records.specs.Spelling.{text_of}
@@ -13,18 +12,19 @@ use Rattle.result_file.specs.Laws.{ValidIsTrue}
 use Rattle.result_file.specs.Valid.{IsValid}
 use Rattle.dia_gen.proofs.Written.{made_closed}
 use Rattle.text_fields.specs.Fields.{Text}
-use Rattle.request_words.specs.Request.{Request, gen, check, make_dict, convert, diagnose, list_faults, simulate, synth, compact, rank, adapt, follow, expect, suspects, cover}
+use Rattle.request_words.specs.Request.{Request, gen, top_up, check, make_dict, convert, diagnose, list_faults, simulate, synth, compact, rank, adapt, follow, expect, suspects, cover}
 use Rattle.synth_netlist.specs.Synth.{synth_text}
-use Rattle.dia_commands.specs.Texts.{valid_text}
-use Rattle.dia_commands.specs.Netlists.{IsDesign}
-use Rattle.dia_commands.specs.Results.{IsResult}
-use Rattle.dia_commands.specs.declared.ending.FileKind.{FileKind}
-use Rattle.dia_commands.specs.declared.ending.RunFault.TheVariants.{NotUnderstood, Refused, ReadFailed, WriteFailed, NoMemory}
-use Rattle.dia_commands.specs.Ending.{Ending, done, not_understood, refused, read_failed, IsRefusal, IsDecided}
-use Rattle.dia_commands.specs.Outcome.{Outcome, said, IsCut, IsPartOf, Leaves, KeepsFiles, after_made, written_after}
-use Rattle.dia_commands.specs.Plan.{Judges, refused_file, accepted_file, CallsFor, MayLeave, IsLeftBy, IsRefusedWith, AreAccepted}
-use Rattle.dia_commands.specs.Plans.{MakesResult, plan_of}
-use Rattle.dia_commands.specs.Ran.{IsAmong, IsBroken, endings_of, Ran, IsDone}
+use Rattle.result_commands.specs.Texts.{valid_text}
+use Rattle.run_steps.specs.Netlists.{IsDesign}
+use Rattle.run_steps.specs.Results.{IsResult}
+use Rattle.run_steps.specs.declared.ending.FileKind.{FileKind}
+use Rattle.run_steps.specs.declared.ending.RunFault.TheVariants.{NotUnderstood, Refused, ReadFailed, WriteFailed, NoMemory}
+use Rattle.run_steps.specs.Ending.{Ending, done, not_understood, refused, read_failed, IsRefusal, IsDecided}
+use Rattle.run_steps.specs.Outcome.{Outcome, said, IsCut, IsPartOf, Leaves, KeepsFiles, ConsoleGained, after_made, written_after}
+use Rattle.run_steps.specs.Plan.{Judges, refused_file, accepted_file, CallsFor, MayLeave, IsLeftBy, IsRefusedWith, AreAccepted}
+use Rattle.result_commands.specs.Plans.{MakesResult, IsGenerated}
+use Rattle.dia_runs.specs.Requests.{plan_of, endings_of, Ran}
+use Rattle.run_steps.specs.Ran.{IsAmong, IsBroken, IsDone}
 use Rattle.dia_runs.specs.Promises.{KeepsUnlessDone, WasRead, LeavesResult, GeneratesResult, HoldsTrueResult, ChecksResult, Synthesizes, PrintsFaults, FilesAreJudgedOnce, DecidedByFiles, IsRefusedRequest, KeepsRefused, IsComplete}
 use Rattle.dia_runs.proofs.Judged.{EvidenceLaws, sound_design, circuit_of}
 use Rattle.dia_runs.proofs.PlanLemmas.{both_end, refused_where}
@@ -44,21 +44,24 @@ last_made : (before : List (Text × Text)) (result file : Text) (files : Files) 
 last_made [] result file files = get_at_insert files result file
 last_made (m ∷ before) result file files = last_made before result file (insert files m.0 m.1)
 
--- the file of a result that was made
-held_by : {before : List (Text × Text)} {result : Text} {budgets : Budgets} {c : Circuit} {o : Outcome} {old new : World} → (made : MakesResult before result budgets c o) → Leaves o.made o.console old new → get new.files result ≡ Some made.file
-held_by {before} {result} {budgets} {c} {o} {old} {new} made leaves =
+-- the file of a result that was made, and what was printed of it
+pub held_by : {before : List (Text × Text)} {result : Text} {AreMade : Text → Text → Type 0} {o : Outcome} {old new : World} → (made : MakesResult before result AreMade o) → Leaves o.made o.console old new → get new.files result ≡ Some made.file
+held_by {before} {result} {AreMade} {o} {old} {new} made leaves =
     ap (λ (f : Files). get f result) (leaves.files ∙ ap (λ (p : Outcome). after_made p.made old.files) made.outcome) ∙ last_made before result made.file old.files
 
-leaves_result : EvidenceLaws → {bytes result : Text} {budgets : Budgets} {before : List (Text × Text)} {design : Design} {o : Outcome} {old new : World} → IsDesign bytes design → MakesResult before result budgets design.circuit o → Leaves o.made o.console old new → LeavesResult bytes result budgets old new
+pub printed_by : {before : List (Text × Text)} {result : Text} {AreMade : Text → Text → Type 0} {o : Outcome} {old new : World} → (made : MakesResult before result AreMade o) → Leaves o.made o.console old new → ConsoleGained made.text old new
+printed_by {before} {result} {AreMade} {o} {old} {new} made leaves = leaves.console ∙ ap (λ (p : Outcome). old.console ++ p.console) made.outcome
+
+leaves_result : EvidenceLaws → {bytes result : Text} {budgets : Budgets} {before : List (Text × Text)} {design : Design} {o : Outcome} {old new : World} → IsDesign bytes design → MakesResult before result (IsGenerated design.circuit budgets) o → Leaves o.made o.console old new → LeavesResult bytes result budgets old new
 leaves_result laws {bytes} {result} {budgets} {before} {design} {o} {old} {new} accepted does leaves = record {
   design = design;
   accepted = accepted;
   file = does.file;
   saved = held_by does leaves;
-  summary = does.summary;
-  made = does.made;
-  closed = made_closed (sound_design laws accepted) does.made;
-  printed = leaves.console ∙ ap (λ (p : Outcome). old.console ++ p.console) does.outcome;
+  summary = does.made.summary;
+  made = does.made.made;
+  closed = made_closed (sound_design laws accepted) does.made.made;
+  printed = printed_by does leaves ∙ ap (λ (t : Text). old.console ++ t) does.made.text_is;
 }
 
 -- a netlist and a result that were accepted
@@ -147,6 +150,7 @@ IsOfRequest (Err NoMemory) = Unit {0}
 
 of_request : (request : Request) → AreAll IsOfRequest (endings_of (Some request))
 of_request (gen bench result budgets) = (tt, (tt, (tt, (tt, (tt, tt)))))
+of_request (top_up bench vectors result budgets) = (tt, (tt, (tt, (tt, (tt, (tt, tt))))))
 of_request (check bench result) = (tt, (tt, (tt, (tt, (tt, (tt, tt))))))
 of_request (make_dict kind bench result dict) = (tt, (tt, (tt, (tt, (tt, (tt, tt))))))
 of_request (convert old new) = (tt, (tt, (tt, (tt, (tt, tt)))))

@@ -4,10 +4,10 @@ use Rattle.diag_shelf.specs.World.{World}
 use Rattle.result_file.specs.Laws.{ValidIsTrue}
 use Rattle.compact_tests.specs.Laws.{ThinIsSound}
 use Rattle.request_words.specs.Request.{Request, compact}
-use Rattle.dia_commands.specs.Ending.{Ending}
-use Rattle.dia_commands.specs.Outcome.{Outcome}
-use Rattle.dia_commands.specs.Plans.{plan_of}
-use Rattle.dia_commands.specs.Ran.{IsDone}
+use Rattle.run_steps.specs.Ending.{Ending}
+use Rattle.run_steps.specs.Outcome.{Outcome}
+use Rattle.dia_runs.specs.Requests.{plan_of}
+use Rattle.run_steps.specs.Ran.{IsDone}
 use Rattle.dia_runs.specs.Compactions.{CompactsResult}
 use Rattle.dia_runs.proofs.Judged.{circuit_of}
 use Rattle.dia_runs.proofs.Clauses.{done_for, accepted_by, true_result}

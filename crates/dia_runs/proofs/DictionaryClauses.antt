@@ -12,12 +12,13 @@ use Rattle.dict_file.specs.Spelling.{dict_spelling, IsFileOf}
 use Rattle.dict_file.specs.Reading.{IsRefusedBy}
 use Rattle.text_fields.specs.Fields.{Text}
 use Rattle.request_words.specs.Request.{Request, make_dict, convert, diagnose}
-use Rattle.dia_commands.specs.Dictionaries.{IsDiagnosis}
-use Rattle.dia_commands.specs.Ending.{Ending}
-use Rattle.dia_commands.specs.Outcome.{Outcome, Leaves, after_made, ConsoleGained}
-use Rattle.dia_commands.specs.Plan.{Plan, refused_file, accepted_file, CallsFor}
-use Rattle.dia_commands.specs.Plans.{with_dictionary, with_log, says, plan_of}
-use Rattle.dia_commands.specs.Ran.{IsDone}
+use Rattle.dictionary_commands.specs.Dictionaries.{IsDiagnosis}
+use Rattle.run_steps.specs.Ending.{Ending}
+use Rattle.run_steps.specs.Outcome.{Outcome, Leaves, after_made, ConsoleGained}
+use Rattle.run_steps.specs.Plan.{Plan, refused_file, accepted_file, CallsFor}
+use Rattle.run_steps.specs.Plans.{with_dictionary, with_log, says}
+use Rattle.dia_runs.specs.Requests.{plan_of}
+use Rattle.run_steps.specs.Ran.{IsDone}
 use Rattle.dia_runs.specs.DictionaryRuns.{MakesDictionary, ConvertsDictionary, PrintsDiagnosis, DiagnosesAlike}
 use Rattle.dia_runs.proofs.Clauses.{accepted_by, true_result, done_for}
 

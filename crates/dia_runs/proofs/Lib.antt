@@ -9,4 +9,5 @@ pub mod CompactionClauses
 pub mod RankingClauses
 pub mod AdaptiveClauses
 pub mod SuspectClauses
+pub mod TopUpClauses
 pub mod RunLemmas

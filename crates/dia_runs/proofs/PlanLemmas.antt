@@ -3,10 +3,10 @@ use Rattle.std.proofs.Common.{◌≡◌, ◌≢◌, List, refl, sym, ap, subst, 
 use Rattle.std.proofs.lemmas.Option.{same_Some}
 use Rattle.diag_shelf.specs.World.{Files}
 use Rattle.text_fields.specs.Fields.{Text}
-use Rattle.dia_commands.specs.declared.ending.FileKind.{FileKind}
-use Rattle.dia_commands.specs.Ending.{done, refused}
-use Rattle.dia_commands.specs.Outcome.{Outcome}
-use Rattle.dia_commands.specs.Plan.{Plan, finish, judged, refused_file, accepted_file, IsClear, EndsIn, CallsFor, IsRefusedWith}
+use Rattle.run_steps.specs.declared.ending.FileKind.{FileKind}
+use Rattle.run_steps.specs.Ending.{done, refused}
+use Rattle.run_steps.specs.Outcome.{Outcome}
+use Rattle.run_steps.specs.Plan.{Plan, finish, judged, refused_file, accepted_file, IsClear, EndsIn, CallsFor, IsRefusedWith}
 
 module _ (files : Files) where
   -- what follows of two facts of where a plan ends

@@ -9,12 +9,12 @@ use Rattle.ranked_diag.specs.Ranked.{ranked_with, IsRanking}
 use Rattle.ranked_diag.specs.Laws.{LogIsPartial, OnePartialReading, WholeLogRanks, whole_lines}
 use Rattle.text_fields.specs.Fields.{Text}
 use Rattle.request_words.specs.Request.{Request, rank}
-use Rattle.dia_commands.specs.Dictionaries.{IsDictionaryFile}
-use Rattle.dia_commands.specs.Ending.{Ending}
-use Rattle.dia_commands.specs.Logs.{IsLogFor, IsPartialFor}
-use Rattle.dia_commands.specs.Outcome.{Outcome}
-use Rattle.dia_commands.specs.Plans.{plan_of}
-use Rattle.dia_commands.specs.Ran.{IsDone}
+use Rattle.run_steps.specs.Dictionaries.{IsDictionaryFile}
+use Rattle.run_steps.specs.Ending.{Ending}
+use Rattle.run_steps.specs.Logs.{IsLogFor, IsPartialFor}
+use Rattle.run_steps.specs.Outcome.{Outcome}
+use Rattle.dia_runs.specs.Requests.{plan_of}
+use Rattle.run_steps.specs.Ran.{IsDone}
 use Rattle.dia_runs.specs.Rankings.{PrintsRanking}
 use Rattle.dia_runs.proofs.Clauses.{done_for, accepted_by}
 

@@ -10,10 +10,11 @@ use Rattle.result_file.specs.Valid.{record_at}
 use Rattle.result_records.specs.Laws.{OneSpelling, SpellingIsLine}
 use Rattle.text_fields.proofs.Cuts.{cut_once}
 use Rattle.ranked_diag.specs.PartialLog.{Line, IsPartialLog, PartialRefused}
-use Rattle.ranked_diag.specs.Laws.{RefusedPartialIsWrong, OnePartialReading}
-use Rattle.dia_commands.specs.Plan.{IsClearFile}
+use Rattle.ranked_diag.specs.Laws.{RefusedPartialIsWrong, OnePartialRefusal, OnePartialReading}
+use Rattle.run_steps.specs.Texts.{log_text}
+use Rattle.run_steps.specs.Plan.{IsClearFile}
 use Rattle.dia_runs.proofs.FewPatterns.{numbered_patterns}
-use Rattle.dia_commands.specs.Suspects.{AreValidBytes, IsLogAt, IsRefusedAt}
+use Rattle.run_steps.specs.ResultLogs.{AreValidBytes, IsLogAt, IsRefusedAt}
 
 -- ---- bytes are those of one list of records
 
@@ -42,7 +43,7 @@ module _ (once : OneSpelling) (line : SpellingIsLine) where
 
 -- ---- logs
 
-module _ (once : OneSpelling) (line : SpellingIsLine) (wrong : RefusedPartialIsWrong) (reading : OnePartialReading) (c : Circuit) (circuit : IsCircuit c) (result : Text) where
+module _ (once : OneSpelling) (line : SpellingIsLine) (wrong : RefusedPartialIsWrong) (reading : OnePartialReading) (refusal : OnePartialRefusal) (c : Circuit) (circuit : IsCircuit c) (result : Text) where
   abbrev patterns : AreValidBytes c result → ℕ
   patterns of = length (patterns_in of.records)
 
@@ -59,4 +60,12 @@ module _ (once : OneSpelling) (line : SpellingIsLine) (wrong : RefusedPartialIsW
     once = λ bytes lines others one two.
         let n = patterns one.of in
         reading n (length c.positions) bytes lines others (numbered_patterns c circuit one.of.records one.of.valid) one.log (subst (λ k. IsPartialLog k (length c.positions) bytes others) (same_patterns two.of one.of) two.log);
+    one_refusal = λ bytes console other one two.
+        let n = patterns one.of in
+        let kind = two.refused.kind in
+        let line = two.refused.line in
+        let wrong_too : PartialRefused n (length c.positions) bytes kind line = subst (λ k. PartialRefused k (length c.positions) bytes kind line) (same_patterns two.of one.of) two.refused.refused in
+        let same : (one.refused.kind ≡ kind) × (one.refused.line ≡ line) =
+        refusal n (length c.positions) bytes one.refused.kind kind one.refused.line line (numbered_patterns c circuit one.of.records one.of.valid) one.refused.refused wrong_too in
+        one.refused.console_is ∙ ap₂ log_text same.0 same.1 ∙ sym two.refused.console_is;
   }

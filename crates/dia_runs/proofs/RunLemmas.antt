@@ -2,15 +2,17 @@
 use Rattle.std.proofs.Common.{Option}
 use Rattle.diag_shelf.specs.World.{State}
 use Rattle.result_file.specs.Laws.{ValidIsTrue}
+use Rattle.dia_gen.specs.Laws.{ListIsGraded}
 use Rattle.compact_tests.specs.Laws.{ThinIsSound}
 use Rattle.adaptive_tree.specs.Laws.{WrittenIsRead}
 use Rattle.request_words.specs.Request.{Request}
-use Rattle.dia_commands.specs.Ending.{Ending}
-use Rattle.dia_commands.specs.Ran.{Ran}
+use Rattle.run_steps.specs.Ending.{Ending}
+use Rattle.dia_runs.specs.Requests.{Ran}
 use Rattle.dia_runs.specs.Promises.{FilesAreJudgedOnce}
 use Rattle.dia_runs.specs.Run.{IsRunOf}
 use Rattle.dia_runs.proofs.Judged.{EvidenceLaws}
 use Rattle.dia_runs.proofs.Clauses.{words_of, not_understood_of, keeps_unless_done, made_of, checked_of, synth_made, faults_of, decided_by_files, keeps_refused, is_complete}
+use Rattle.dia_runs.proofs.TopUpClauses.{topped_up_of}
 use Rattle.dia_runs.proofs.SimulationClauses.{simulated_of}
 use Rattle.dia_runs.proofs.CompactionClauses.{compacted_of}
 use Rattle.dia_runs.proofs.RankingClauses.{RankingLaws, ranked_of}
@@ -18,10 +20,11 @@ use Rattle.dia_runs.proofs.AdaptiveClauses.{adapted_of, followed_of}
 use Rattle.dia_runs.proofs.SuspectClauses.{expected_of, suspected_of, covered_of}
 use Rattle.dia_runs.proofs.DictionaryClauses.{dictionary_made, converted_of, diagnosed_of}
 
-pub run_of : EvidenceLaws → ValidIsTrue → ThinIsSound → RankingLaws → WrittenIsRead → FilesAreJudgedOnce → (asked : Option Request) {ending : Ending} {a b : State} → Ran asked ending a b → IsRunOf asked ending a b
-run_of laws valid sound ranking written once asked {ending} {a} {b} r = record {
+pub run_of : EvidenceLaws → ListIsGraded → ValidIsTrue → ThinIsSound → RankingLaws → WrittenIsRead → FilesAreJudgedOnce → (asked : Option Request) {ending : Ending} {a b : State} → Ran asked ending a b → IsRunOf asked ending a b
+run_of laws graded valid sound ranking written once asked {ending} {a} {b} r = record {
   made = λ told. made_of (r.done told) laws;
   checked = λ told. checked_of (r.done told) valid;
+  topped_up = λ told. topped_up_of (r.done told) laws graded;
   synth = λ told. synth_made (r.done told) laws;
   dictionary = λ told. dictionary_made (r.done told) valid;
   converted = λ told. converted_of (r.done told);
@@ -41,6 +44,7 @@ run_of laws valid sound ranking written once asked {ending} {a} {b} r = record {
   causes = r.causes;
   stays = r.stays;
   done = r.done;
+  read = r.rest;
   unread = r.unread;
   broken_off = r.broken_off;
   others = r.others;

@@ -2,10 +2,10 @@
 use Rattle.std.proofs.Common.{◌++◌, Option, ap, ◌∙◌}
 use Rattle.diag_shelf.specs.World.{World}
 use Rattle.request_words.specs.Request.{Request, simulate}
-use Rattle.dia_commands.specs.Ending.{Ending}
-use Rattle.dia_commands.specs.Outcome.{Outcome}
-use Rattle.dia_commands.specs.Plans.{plan_of}
-use Rattle.dia_commands.specs.Ran.{IsDone}
+use Rattle.run_steps.specs.Ending.{Ending}
+use Rattle.run_steps.specs.Outcome.{Outcome}
+use Rattle.dia_runs.specs.Requests.{plan_of}
+use Rattle.run_steps.specs.Ran.{IsDone}
 use Rattle.dia_runs.specs.Simulations.{PrintsSimulation}
 use Rattle.dia_runs.proofs.Clauses.{done_for, accepted_by}
 

@@ -3,10 +3,10 @@ use Rattle.std.proofs.Common.{Option, ap}
 use Rattle.diag_shelf.specs.World.{World}
 use Rattle.result_file.specs.Laws.{ValidIsTrue}
 use Rattle.request_words.specs.Request.{Request, expect, suspects, cover}
-use Rattle.dia_commands.specs.Ending.{Ending}
-use Rattle.dia_commands.specs.Outcome.{Outcome}
-use Rattle.dia_commands.specs.Plans.{plan_of}
-use Rattle.dia_commands.specs.Ran.{IsDone}
+use Rattle.run_steps.specs.Ending.{Ending}
+use Rattle.run_steps.specs.Outcome.{Outcome}
+use Rattle.dia_runs.specs.Requests.{plan_of}
+use Rattle.run_steps.specs.Ran.{IsDone}
 use Rattle.dia_runs.specs.SuspectRuns.{WritesExpectedLog, PrintsSuspects, PrintsCover}
 use Rattle.dia_runs.proofs.Clauses.{done_for, accepted_by, true_result}
 use Rattle.dia_runs.proofs.DictionaryClauses.{file_made, printed_text}

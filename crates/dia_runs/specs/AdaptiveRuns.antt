@@ -5,11 +5,12 @@ use Rattle.diag_shelf.specs.World.{World}
 use Rattle.diagnose.specs.Lines.{text_limit}
 use Rattle.text_fields.specs.Fields.{Text}
 use Rattle.request_words.specs.Request.{Request, adapt, follow}
-use Rattle.dia_commands.specs.AdaptivePlans.{IsAdaptivePlanFile, IsMadePlan}
-use Rattle.dia_commands.specs.Ending.{Ending, done}
-use Rattle.dia_commands.specs.Logs.{IsLogTo}
-use Rattle.dia_commands.specs.Outcome.{ConsoleGained}
-use Rattle.dia_commands.specs.Texts.{outcome_text}
+use Rattle.run_steps.specs.AdaptivePlans.{IsAdaptivePlanFile}
+use Rattle.dictionary_commands.specs.AdaptivePlans.{IsMadePlan}
+use Rattle.run_steps.specs.Ending.{Ending, done}
+use Rattle.run_steps.specs.Logs.{IsLogTo}
+use Rattle.run_steps.specs.Outcome.{ConsoleGained}
+use Rattle.dictionary_commands.specs.Texts.{outcome_text}
 use Rattle.dia_runs.specs.Promises.{WasRead, HoldsTrueResult}
 
 -- The result is valid and true. Under the plan's name is the text of the plan for the classes of the result's patterns, and the console

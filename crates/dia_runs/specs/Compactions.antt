@@ -6,9 +6,9 @@ use Rattle.compact_tests.specs.declared.thin.Thin.{Thin}
 use Rattle.compact_tests.specs.Compacted.{IsCompacted, IsSound}
 use Rattle.text_fields.specs.Fields.{Text}
 use Rattle.request_words.specs.Request.{Request, compact}
-use Rattle.dia_commands.specs.Ending.{Ending, done}
-use Rattle.dia_commands.specs.Texts.{dropped_text}
-use Rattle.dia_commands.specs.Outcome.{ConsoleGained}
+use Rattle.run_steps.specs.Ending.{Ending, done}
+use Rattle.result_commands.specs.Texts.{dropped_text}
+use Rattle.run_steps.specs.Outcome.{ConsoleGained}
 use Rattle.dia_runs.specs.Promises.{HoldsTrueResult}
 
 -- The result is valid and true. Under the new name is what is left of it, which is valid, has the same classes and no pattern too many. The

@@ -10,13 +10,14 @@ use Rattle.dict_file.specs.Spelling.{dict_spelling, IsFileOf}
 use Rattle.request_words.specs.declared.request.EntryKind.{EntryKind}
 use Rattle.text_fields.specs.Fields.{Text}
 use Rattle.request_words.specs.Request.{Request, make_dict, convert, diagnose}
-use Rattle.dia_commands.specs.Ending.{Ending, done}
-use Rattle.dia_commands.specs.Texts.{groups_text, numbers_text}
-use Rattle.dia_commands.specs.Dictionaries.{IsDictionaryFile, IsMadeDictionary}
-use Rattle.dia_commands.specs.Logs.{IsLogFor}
-use Rattle.dia_commands.specs.Outcome.{Outcome, ConsoleGained}
-use Rattle.dia_commands.specs.Plan.{CallsFor}
-use Rattle.dia_commands.specs.Plans.{plan_of}
+use Rattle.run_steps.specs.Ending.{Ending, done}
+use Rattle.dictionary_commands.specs.Texts.{groups_text, numbers_text}
+use Rattle.run_steps.specs.Dictionaries.{IsDictionaryFile}
+use Rattle.dictionary_commands.specs.Dictionaries.{IsMadeDictionary}
+use Rattle.run_steps.specs.Logs.{IsLogFor}
+use Rattle.run_steps.specs.Outcome.{Outcome, ConsoleGained}
+use Rattle.run_steps.specs.Plan.{CallsFor}
+use Rattle.dia_runs.specs.Requests.{plan_of}
 use Rattle.dia_runs.specs.Promises.{WasRead, HoldsTrueResult}
 
 -- The result is valid and true. Under the dictionary's name is the version 2 of the dictionary of this kind at the result's patterns, and

@@ -1,3 +1,6 @@
+pub mod Groups
+pub mod Requests
+pub mod Limits
 pub mod Promises
 pub mod DictionaryRuns
 pub mod Simulations
@@ -5,4 +8,5 @@ pub mod Compactions
 pub mod Rankings
 pub mod AdaptiveRuns
 pub mod SuspectRuns
+pub mod TopUpRuns
 pub mod Run

@@ -15,16 +15,16 @@ use Rattle.result_file.specs.Meaning.{stated_records, IsTrueFile}
 use Rattle.dia_gen.specs.Made.{IsMade}
 use Rattle.text_fields.specs.Fields.{Text}
 use Rattle.request_words.specs.Request.{Request, gen, check, list_faults, synth}
-use Rattle.dia_commands.specs.declared.ending.FileKind.{FileKind}
-use Rattle.dia_commands.specs.Ending.{Ending, done, refused, not_understood, read_failed, no_memory, IsRefusal, IsDecided}
-use Rattle.dia_commands.specs.Outputs.{synth_budgets}
+use Rattle.run_steps.specs.declared.ending.FileKind.{FileKind}
+use Rattle.run_steps.specs.Ending.{Ending, done, refused, not_understood, read_failed, no_memory, IsRefusal, IsDecided}
+use Rattle.result_commands.specs.Synthesis.{synth_budgets}
 use Rattle.synth_netlist.specs.Synth.{synth_statements, synth_text}
-use Rattle.dia_commands.specs.Texts.{summary_text, valid_text}
-use Rattle.dia_commands.specs.Netlists.{IsDesign, IsRefused}
-use Rattle.dia_commands.specs.Faults.{IsFaultsText}
-use Rattle.dia_commands.specs.Outcome.{KeepsFiles, ConsoleGained}
-use Rattle.dia_commands.specs.Plan.{Plan, IsClear, IsRefusedWith, AreAccepted}
-use Rattle.dia_commands.specs.Plans.{plan_of}
+use Rattle.result_commands.specs.Texts.{summary_text, valid_text}
+use Rattle.run_steps.specs.Netlists.{IsDesign, IsRefused}
+use Rattle.listing_commands.specs.Faults.{IsFaultsText}
+use Rattle.run_steps.specs.Outcome.{KeepsFiles, ConsoleGained}
+use Rattle.run_steps.specs.Plan.{Plan, IsClear, IsRefusedWith, AreAccepted}
+use Rattle.dia_runs.specs.Requests.{plan_of}
 
 -- The file of this name was read, and accepted as this thing.
 pub record WasRead (files : Files) (name : Text) {X : Type 0} (Accepted : Text → X → Type 0) : Type 0 where
@@ -114,7 +114,7 @@ EachNumberIsAccepted = (n : ℕ) → n ≤ 2000 → IsAcceptedNumber n
 abbrev pub NoNumberIsRefused : Type 0
 NoNumberIsRefused = (n : ℕ) (console : Text) → n ≤ 2000 → IsRefused (synth_text n) console → ⊥
 
--- Whatever is asked, no file that is read is both refused and accepted.
+-- Whatever is asked, no file that is read is both refused and accepted, or refused with two texts.
 abbrev pub FilesAreJudgedOnce : Type 0
 FilesAreJudgedOnce = (request : Request) → IsClear (plan_of (Some request))
 

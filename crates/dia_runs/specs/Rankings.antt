@@ -5,11 +5,11 @@ use Rattle.dict_rows.specs.Dictionary.{listed_numbers}
 use Rattle.ranked_diag.specs.Ranked.{ranked_with}
 use Rattle.text_fields.specs.Fields.{Text}
 use Rattle.request_words.specs.Request.{Request, rank}
-use Rattle.dia_commands.specs.Ending.{Ending, done}
-use Rattle.dia_commands.specs.Dictionaries.{IsDictionaryFile}
-use Rattle.dia_commands.specs.Logs.{IsLogFor, IsPartialFor}
-use Rattle.dia_commands.specs.Outcome.{ConsoleGained}
-use Rattle.dia_commands.specs.Rankings.{IsRankText}
+use Rattle.run_steps.specs.Ending.{Ending, done}
+use Rattle.run_steps.specs.Dictionaries.{IsDictionaryFile}
+use Rattle.run_steps.specs.Logs.{IsLogFor, IsPartialFor}
+use Rattle.run_steps.specs.Outcome.{ConsoleGained}
+use Rattle.dictionary_commands.specs.Rankings.{IsRankText}
 use Rattle.dia_runs.specs.Promises.{WasRead}
 
 -- The console gained the numbers whose mismatches with the partial log are within so much of the least, ranked, how many they are, and

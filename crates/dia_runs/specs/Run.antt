@@ -3,13 +3,13 @@ use Rattle.std.specs.Prelude.{◌≡◌, ◌⊎◌, Option, None, IsTrue}
 use Rattle.diag_shelf.specs.World.{State}
 use Rattle.diag_shelf.specs.Calls.{Told}
 use Rattle.request_words.specs.Request.{Request}
-use Rattle.dia_commands.specs.Ending.{Ending, not_understood}
-use Rattle.dia_commands.specs.Outputs.{outputs_of}
-use Rattle.dia_commands.specs.Plan.{AreHeld}
-use Rattle.dia_commands.specs.Plans.{plan_of}
-use Rattle.dia_commands.specs.Ran.{IsAmong, IsBroken, endings_of, Stays, HasCauses, IsDone, IsUnread, IsBrokenOff, OnlyOutputs, NoneFailed}
+use Rattle.run_steps.specs.Ending.{Ending, not_understood}
+use Rattle.dia_runs.specs.Requests.{outputs_of, plan_of, endings_of}
+use Rattle.run_steps.specs.Plan.{AreHeld}
+use Rattle.run_steps.specs.Ran.{IsAmong, IsBroken, Stays, HasCauses, IsDone, IsReadOut, IsUnread, IsBrokenOff, OnlyOutputs, NoneFailed}
 use Rattle.dia_runs.specs.Promises.{KeepsUnlessDone, GeneratesResult, ChecksResult, Synthesizes, PrintsFaults, DecidedByFiles, KeepsRefused, IsComplete}
 use Rattle.dia_runs.specs.DictionaryRuns.{MakesDictionary, ConvertsDictionary, PrintsDiagnosis}
+use Rattle.dia_runs.specs.TopUpRuns.{TopsUpResult}
 use Rattle.dia_runs.specs.Simulations.{PrintsSimulation}
 use Rattle.dia_runs.specs.Compactions.{CompactsResult}
 use Rattle.dia_runs.specs.Rankings.{PrintsRanking}
@@ -28,6 +28,9 @@ pub record IsRunOf (asked : Option Request) (ending : Ending) (old new : State) 
   pub checked : Told old new (ChecksResult asked ending)
   -- ---- what the other commands leave where they are done
 
+  -- `grade` and `topup` leave a result whose first patterns are the vectors of the list that split a class of those kept before. Numbers of
+  -- one class answer alike to the whole list; without budgets the classes are exactly the list's.
+  pub topped_up : Told old new (TopsUpResult asked ending)
   -- `synth` leaves the netlist of its number, and a result of its circuit as that of `gen`.
   pub synth : Told old new (Synthesizes asked ending)
   -- `dict` accepts a result as `check` does, and leaves the dictionary of its patterns in version 2.
@@ -73,6 +76,8 @@ pub record IsRunOf (asked : Option Request) (ending : Ending) (old new : State) 
 
   -- Unless something failed, the words and files called for all that was done.
   pub done : Told old new (IsDone (plan_of asked) ending)
+  -- And the file that was read last was read to its end, or to one byte past the limit of its kind.
+  pub read : Told old new (IsReadOut (plan_of asked) ending)
   -- Where a read failed, whatever the ending, no file was created or changed, and nothing printed.
   pub unread : IsUnread ending old new
   -- Where a write failed or memory was wanting, nothing was done, or a part of what words and files call for.

@@ -4,10 +4,10 @@ use Rattle.diag_shelf.specs.World.{World}
 use Rattle.sim_listing.specs.SimText.{IsSimText}
 use Rattle.text_fields.specs.Fields.{Text}
 use Rattle.request_words.specs.Request.{Request, simulate}
-use Rattle.dia_commands.specs.Ending.{Ending, done}
-use Rattle.dia_commands.specs.Netlists.{IsDesign}
-use Rattle.dia_commands.specs.Logs.{IsListFor}
-use Rattle.dia_commands.specs.Outcome.{ConsoleGained}
+use Rattle.run_steps.specs.Ending.{Ending, done}
+use Rattle.run_steps.specs.Netlists.{IsDesign}
+use Rattle.run_steps.specs.Logs.{IsListFor}
+use Rattle.run_steps.specs.Outcome.{ConsoleGained}
 use Rattle.dia_runs.specs.Promises.{WasRead}
 
 -- The console gained what the netlist's circuit answers to the list's vectors, without a fault and with each that makes a difference.

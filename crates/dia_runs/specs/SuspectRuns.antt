@@ -4,9 +4,10 @@ use Rattle.std.specs.FinMap.{get}
 use Rattle.diag_shelf.specs.World.{World}
 use Rattle.text_fields.specs.Fields.{Text}
 use Rattle.request_words.specs.Request.{Request, expect, suspects, cover}
-use Rattle.dia_commands.specs.Ending.{Ending, done}
-use Rattle.dia_commands.specs.Outcome.{ConsoleGained}
-use Rattle.dia_commands.specs.Suspects.{IsLogAt, IsExpectedLog, IsSuspectsText, IsCoverText}
+use Rattle.run_steps.specs.Ending.{Ending, done}
+use Rattle.run_steps.specs.Outcome.{ConsoleGained}
+use Rattle.run_steps.specs.ResultLogs.{IsLogAt}
+use Rattle.listing_commands.specs.Suspects.{IsExpectedLog, IsSuspectsText, IsCoverText}
 use Rattle.dia_runs.specs.Promises.{WasRead, HoldsTrueResult}
 
 -- The result is valid and true. Under the log's name is what a chip without a fault answers to the result's patterns, and the console

@@ -1,9 +1,9 @@
 //! DIATEST: tests that tell single stuck-at faults apart.
 #![tactic(auto)]
 
-use dia_commands::{RunFault, status_of};
 use dia_runs::run;
 use real_shelf::RealShelf;
+use run_steps::{RunFault, status_of};
 use std::alloc::AllocError;
 use std::env;
 use std::io::ErrorKind;

@@ -3,7 +3,7 @@ use Rattle.std.specs.Prelude.{◌≤◌}
 use Rattle.result_records.specs.Limits.{AreWithinLimits}
 use Rattle.request_words.specs.Request as spec
 use Rattle.request_words.specs.declared.request.Request.{Request}
-use Rattle.request_words.specs.declared.request.Request.TheVariants.{Gen, Check, MakeDict, Convert, Diagnose, ListFaults, Simulate, Synth, Compact, Rank, Adapt, Follow, Expect, Suspects, Cover}
+use Rattle.request_words.specs.declared.request.Request.TheVariants.{Gen, Check, MakeDict, Convert, Diagnose, ListFaults, Simulate, Synth, Compact, Rank, Adapt, Follow, Expect, Suspects, Cover, TopUp}
 
 abbrev pub asked : Request → spec.Request
 asked (Gen bench result budgets) = spec.gen bench.now result.now budgets
@@ -21,6 +21,7 @@ asked (Follow plan log) = spec.follow plan.now log.now
 asked (Expect bench result log) = spec.expect bench.now result.now log.now
 asked (Suspects bench result log most) = spec.suspects bench.now result.now log.now most
 asked (Cover bench result log) = spec.cover bench.now result.now log.now
+asked (TopUp bench vectors result budgets) = spec.top_up bench.now vectors.now result.now budgets
 
 -- The numbers of a request are within their limits.
 abbrev pub HasLimits : Request → Type 0
@@ -39,3 +40,4 @@ HasLimits (Follow plan log) = Unit {0}
 HasLimits (Expect bench result log) = Unit {0}
 HasLimits (Suspects bench result log most) = (1 ≤ most) × (most ≤ 1000000)
 HasLimits (Cover bench result log) = Unit {0}
+HasLimits (TopUp bench vectors result budgets) = AreWithinLimits budgets

@@ -7,7 +7,7 @@ use Rattle.result_records.specs.declared.limits.TheConstants.{BLOCKS_LIMIT, CUBE
 use Rattle.result_records.specs.declared.record.Budgets.{Budgets}
 use Rattle.request_words.specs.Arguments.{bare_app, two_names_app, name_rule, number_rule, option_rule, is_taken, name_in, number_in, kind_named}
 use Rattle.request_words.specs.declared.request.Verb.{Verb}
-use Rattle.request_words.specs.declared.request.Verb.TheVariants.{Gen, Check, Dict, Convert, Diagnose, Faults, Sim, Synth, Compact, Rank, Adapt, Follow, Expect, Suspects, Cover}
+use Rattle.request_words.specs.declared.request.Verb.TheVariants.{Gen, Check, Dict, Convert, Diagnose, Faults, Sim, Synth, Compact, Rank, Adapt, Follow, Expect, Suspects, Cover, Grade, TopUp}
 use Rattle.request_words.specs.declared.request.EntryKind.{EntryKind}
 
 pub data Request : Type 0 where
@@ -41,6 +41,8 @@ pub data Request : Type 0 where
   suspects : (bench result log : Text) (most : ℕ) → Request
   -- list classes that together explain what fails in a partial log, for a netlist and a result
   cover : (bench result log : Text) → Request
+  -- keep of a list of vectors those that split a class, and generate a result behind them, for a netlist, with these budgets
+  top_up : (bench vectors result : Text) (budgets : Budgets) → Request
 
 -- ---- each command: how its words are read, and what they ask for
 
@@ -141,6 +143,27 @@ cover_app = log_app (codes "cover")
 abbrev pub cover_by : List Row → Request
 cover_by rows = cover (name_in (codes "bench") rows) (name_in (codes "result") rows) (name_in (codes "log") rows)
 
+-- a command of a netlist, a list of vectors and a result
+abbrev pub list_app : Text → App
+list_app name = with_rule (two_names_app name (codes "bench") (codes "vectors")) (name_rule (codes "result"))
+
+unfoldable pub grade_app : App
+grade_app = list_app (codes "grade")
+
+-- no pair is searched
+abbrev pub grade_by : List Row → Request
+grade_by rows = top_up (name_in (codes "bench") rows) (name_in (codes "vectors") rows) (name_in (codes "result") rows)
+    (record { blocks = 0; cubes = 0; conflicts = 0 })
+
+unfoldable pub topup_app : App
+topup_app = with_rule (with_rule (list_app (codes "topup"))
+    (option_rule (codes "cubes") (codes "64") 0 CUBES_LIMIT)) (option_rule (codes "conflicts") (codes "2000") 0 CONFLICTS_LIMIT)
+
+-- the list stands in the place of the stream
+abbrev pub topup_by : List Row → Request
+topup_by rows = top_up (name_in (codes "bench") rows) (name_in (codes "vectors") rows) (name_in (codes "result") rows)
+    (record { blocks = 0; cubes = number_in (codes "cubes") 0 CUBES_LIMIT rows; conflicts = number_in (codes "conflicts") 0 CONFLICTS_LIMIT rows })
+
 -- ---- the table of commands
 
 -- the command of a name
@@ -161,6 +184,8 @@ verb_named name =
     else if bytes_eq name (codes "expect") then Some Expect
     else if bytes_eq name (codes "suspects") then Some Suspects
     else if bytes_eq name (codes "cover") then Some Cover
+    else if bytes_eq name (codes "grade") then Some Grade
+    else if bytes_eq name (codes "topup") then Some TopUp
     else None
 
 -- the words that a command takes, and what they ask for
@@ -180,6 +205,8 @@ table Follow = (follow_app, λ rows. Some (follow_by rows))
 table Expect = (expect_app, λ rows. Some (expect_by rows))
 table Suspects = (suspects_app, λ rows. Some (suspects_by rows))
 table Cover = (cover_app, λ rows. Some (cover_by rows))
+table Grade = (grade_app, λ rows. Some (grade_by rows))
+table TopUp = (topup_app, λ rows. Some (topup_by rows))
 
 abbrev pub app_for : Verb → App
 app_for verb = (table verb).0

@@ -1,10 +1,11 @@
 //! The words of the commands that take more or less than two names: `gen`, `dict`, `faults`, `synth`, `compact`, `rank`,
-//! `adapt`, `expect`, `suspects` and `cover`.
+//! `adapt`, `expect`, `suspects`, `cover`, `grade` and `topup`.
 
-ghost use Rattle.std.specs.Prelude.{◌≡◌, IfOk, IfSome, codes, option_map};
+ghost use Rattle.std.specs.Prelude.{◌≡◌, ◌≤◌, IfOk, IfSome, codes, option_map};
 ghost use Rattle.clap.specs.Words.{app_of, found_of, rows_of, with_rule};
-ghost use Rattle.request_words.specs.Arguments.{option_rule};
-ghost use Rattle.request_words.specs.Request.{gen_app, gen_by, dict_app, dict_by, faults_app, faults_by, synth_app, synth_by, compact_app, compact_by, rank_app, rank_by, adapt_app, adapt_by, log_app, expect_by, suspects_app, suspects_by, cover_by};
+ghost use Rattle.result_records.specs.Limits.{AreWithinLimits};
+ghost use Rattle.request_words.specs.Arguments.{option_rule, number_in};
+ghost use Rattle.request_words.specs.Request.{gen_app, gen_by, dict_app, dict_by, faults_app, faults_by, synth_app, synth_by, compact_app, compact_by, rank_app, rank_by, adapt_app, adapt_by, log_app, expect_by, suspects_app, suspects_by, cover_by, list_app, grade_by, topup_app, topup_by};
 ghost use Rattle.request_words.specs.Asked.{asked, HasLimits};
 
 use crate::arguments::{
@@ -37,6 +38,13 @@ fn with_options<'a>(alloc: Global, command: Command<'a>) -> Result<Command<'a>, 
     ensures { IfOk result (λ c. app_of c ≡ with_rule (with_rule (with_rule (app_of command.entry) (option_rule (codes "blocks") (codes "4") 0 BLOCKS_LIMIT)) (option_rule (codes "cubes") (codes "64") 0 CUBES_LIMIT)) (option_rule (codes "conflicts") (codes "2000") 0 CONFLICTS_LIMIT)) }
 {
     let command = with_option(alloc, command, "blocks", "4", 0, BLOCKS_LIMIT)?;
+    with_search_options(alloc, command)
+}
+
+// A command with the options that bound the search for patterns.
+fn with_search_options<'a>(alloc: Global, command: Command<'a>) -> Result<Command<'a>, AllocError>
+    ensures { IfOk result (λ c. app_of c ≡ with_rule (with_rule (app_of command.entry) (option_rule (codes "cubes") (codes "64") 0 CUBES_LIMIT)) (option_rule (codes "conflicts") (codes "2000") 0 CONFLICTS_LIMIT)) }
+{
     let command = with_option(alloc, command, "cubes", "64", 0, CUBES_LIMIT)?;
     with_option(alloc, command, "conflicts", "2000", 0, CONFLICTS_LIMIT)
 }
@@ -46,16 +54,25 @@ pub(crate) fn gen_in<'a>(matches: &ArgMatches<'a>) -> Request<'a>
     ensures asked { asked result ≡ gen_by (rows_of (found_of matches.now)) }
     ensures limits { HasLimits result }
 {
-    let budgets = Budgets {
-        blocks: number_in(matches, "blocks", 0, BLOCKS_LIMIT),
-        cubes: number_in(matches, "cubes", 0, CUBES_LIMIT),
-        conflicts: number_in(matches, "conflicts", 0, CONFLICTS_LIMIT),
-    };
+    let blocks = number_in(matches, "blocks", 0, BLOCKS_LIMIT);
     Request::Gen(
         name_in(matches, "bench"),
         name_in(matches, "result"),
-        budgets,
+        budgets_in(matches, blocks),
     )
+}
+
+// The budgets of so many blocks, and with the options that bound the search.
+fn budgets_in(matches: &ArgMatches<'_>, blocks: u32) -> Budgets
+    requires { blocks ≤ BLOCKS_LIMIT }
+    ensures budgets { result ≡ record { blocks = blocks; cubes = number_in (codes "cubes") 0 CUBES_LIMIT (rows_of (found_of matches.now)); conflicts = number_in (codes "conflicts") 0 CONFLICTS_LIMIT (rows_of (found_of matches.now)) } }
+    ensures limits { AreWithinLimits result }
+{
+    Budgets {
+        blocks,
+        cubes: number_in(matches, "cubes", 0, CUBES_LIMIT),
+        conflicts: number_in(matches, "conflicts", 0, CONFLICTS_LIMIT),
+    }
 }
 
 /// Four names, of which the first is a kind.
@@ -226,5 +243,50 @@ pub(crate) fn cover_in<'a>(matches: &ArgMatches<'a>) -> Request<'a>
         name_in(matches, "bench"),
         name_in(matches, "result"),
         name_in(matches, "log"),
+    )
+}
+
+/// Three names, of which the second is a list of vectors.
+pub(crate) fn list_command<'a>(alloc: Global, name: &'a str) -> Result<Command<'a>, AllocError>
+    ensures { IfOk result (λ c. app_of c ≡ list_app name.entry.now) }
+{
+    two_names(alloc, name, "bench", "vectors")?.arg(name_arg(alloc, "result"))
+}
+
+/// The request of the matches of `grade`.
+pub(crate) fn grade_in<'a>(matches: &ArgMatches<'a>) -> Request<'a>
+    ensures asked { asked result ≡ grade_by (rows_of (found_of matches.now)) }
+    ensures limits { HasLimits result }
+{
+    let budgets = Budgets {
+        blocks: 0,
+        cubes: 0,
+        conflicts: 0,
+    };
+    Request::TopUp(
+        name_in(matches, "bench"),
+        name_in(matches, "vectors"),
+        name_in(matches, "result"),
+        budgets,
+    )
+}
+
+/// Three names and two options.
+pub(crate) fn topup_command<'a>(alloc: Global) -> Result<Command<'a>, AllocError>
+    ensures { IfOk result (λ c. app_of c ≡ topup_app) }
+{
+    with_search_options(alloc, list_command(alloc, "topup")?)
+}
+
+/// The request of its matches.
+pub(crate) fn topup_in<'a>(matches: &ArgMatches<'a>) -> Request<'a>
+    ensures asked { asked result ≡ topup_by (rows_of (found_of matches.now)) }
+    ensures limits { HasLimits result }
+{
+    Request::TopUp(
+        name_in(matches, "bench"),
+        name_in(matches, "vectors"),
+        name_in(matches, "result"),
+        budgets_in(matches, 0),
     )
 }

@@ -8,8 +8,9 @@ ghost use Rattle.request_words.specs.Asked.{asked, HasLimits};
 use crate::arguments::{WordsFault, name_in, parse, two_names};
 use crate::commands::{
     adapt_command, adapt_in, compact_command, compact_in, cover_in, dict_command, dict_in,
-    expect_in, faults_command, faults_in, gen_command, gen_in, log_command, rank_command, rank_in,
-    suspects_command, suspects_in, synth_command, synth_in,
+    expect_in, faults_command, faults_in, gen_command, gen_in, grade_in, list_command, log_command,
+    rank_command, rank_in, suspects_command, suspects_in, synth_command, synth_in, topup_command,
+    topup_in,
 };
 use clap::{ArgMatches, Command};
 use result_records::Budgets;
@@ -33,6 +34,8 @@ pub(crate) enum Verb {
     Expect,
     Suspects,
     Cover,
+    Grade,
+    TopUp,
 }
 
 /// What the entries of a dictionary tell of a number: at which patterns it answers otherwise than the fault-free circuit, all
@@ -77,6 +80,8 @@ pub enum Request<'a> {
     Suspects(&'a str, &'a str, &'a str, u32),
     /// To list classes that together explain what fails in a partial log, for a netlist and a result.
     Cover(&'a str, &'a str, &'a str),
+    /// To keep of a list of vectors those that split a class, and generate a result behind them, for a netlist.
+    TopUp(&'a str, &'a str, &'a str, Budgets),
 }
 
 /// The request of the words: the first is a command, which reads the others.
@@ -116,6 +121,8 @@ fn verb_named(name: &str) -> Option<Verb>
         "expect" => Some(Verb::Expect),
         "suspects" => Some(Verb::Suspects),
         "cover" => Some(Verb::Cover),
+        "grade" => Some(Verb::Grade),
+        "topup" => Some(Verb::TopUp),
         _ => None,
     }
 }
@@ -134,7 +141,7 @@ fn read_request(alloc: Global, verb: Verb, words: &[String]) -> Result<Request<'
 }
 
 // How `clap` reads the words behind a command's name.
-#[tactic(auto, unfolding(crate::specs::Request::check_app, crate::specs::Request::convert_app, crate::specs::Request::diagnose_app, crate::specs::Request::sim_app, crate::specs::Request::follow_app, crate::specs::Request::expect_app, crate::specs::Request::cover_app))]
+#[tactic(auto, unfolding(crate::specs::Request::check_app, crate::specs::Request::convert_app, crate::specs::Request::diagnose_app, crate::specs::Request::sim_app, crate::specs::Request::follow_app, crate::specs::Request::expect_app, crate::specs::Request::cover_app, crate::specs::Request::grade_app))]
 fn definition<'a>(alloc: Global, verb: Verb) -> Result<Command<'a>, AllocError>
     ensures { IfOk result (λ c. app_of c ≡ app_for verb) }
 {
@@ -154,6 +161,8 @@ fn definition<'a>(alloc: Global, verb: Verb) -> Result<Command<'a>, AllocError>
         Verb::Expect => log_command(alloc, "expect"),
         Verb::Suspects => suspects_command(alloc),
         Verb::Cover => log_command(alloc, "cover"),
+        Verb::Grade => list_command(alloc, "grade"),
+        Verb::TopUp => topup_command(alloc),
     }
 }
 
@@ -184,5 +193,7 @@ fn requested<'a>(verb: Verb, matches: &ArgMatches<'a>) -> Option<Request<'a>>
         Verb::Expect => Some(expect_in(matches)),
         Verb::Suspects => Some(suspects_in(matches)),
         Verb::Cover => Some(cover_in(matches)),
+        Verb::Grade => Some(grade_in(matches)),
+        Verb::TopUp => Some(topup_in(matches)),
     }
 }

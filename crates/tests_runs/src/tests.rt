@@ -17,4 +17,5 @@ mod runs;
 mod sims;
 mod synths;
 mod texts;
+mod topping_up;
 mod words;

@@ -3,7 +3,8 @@
 ghost use Rattle.table_dicts.specs.Setting.{IsSetting};
 
 use crate::tests::circuits::kept_of;
-use adaptive_tree::{plan, plan_at, write_plan};
+use adaptive_planner::{plan, plan_at};
+use adaptive_tree::write_plan;
 use fault_collapse::Subject;
 use sample_circuits::{AND_OF_TWO, CircuitParts, circuit};
 use std::alloc::Global;

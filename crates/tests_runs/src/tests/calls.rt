@@ -17,8 +17,13 @@ const LIMIT: u64 = 10_000;
 // The files that a run reads, its words, and the name of a file that it makes, or of none.
 type Calling = (&'static [File], &'static [&'static str], &'static str);
 
-static CALLS: [Calling; 16] = [
+static CALLS: [Calling; 17] = [
     (&[("n", TRUTH)], &["gen", "n", "r"], "r"),
+    (
+        &[("n", AND), ("v", b"11\n")],
+        &["topup", "n", "v", "r"],
+        "r",
+    ),
     (
         &[("n", TRUTH), ("r", TRUTH_RESULT)],
         &["check", "n", "r"],

@@ -4,7 +4,7 @@ use crate::tests::dictionaries::{is_diagnosed, is_refused};
 use crate::tests::runs::FileText::{Absent, Is};
 use crate::tests::runs::plain;
 use crate::tests::texts::{
-    AND_PLAN, AND_TWICE_CHOSEN, FULL_ONE, FULL_TWO, LOG, ONE, SAME_DIFF, TRUTH, TRUTH_FULL,
+    AND, AND_PLAN, AND_TWICE_CHOSEN, FULL_ONE, FULL_TWO, LOG, ONE, SAME_DIFF, TRUTH, TRUTH_FULL,
     TRUTH_RESULT, TWO,
 };
 use std::alloc::{AllocError, Global};
@@ -44,6 +44,25 @@ fn refuses_plan(alloc: Global, bytes: &[u8]) -> Result<bool, AllocError> {
     let console = said(alloc, "plan", bytes, "Order")?;
     let left = plain(alloc, &[("p", bytes), ("l", b"")], &["follow", "p", "l"])?;
     Ok(left.ended(10, Is(console.as_bytes())))
+}
+
+// The list that is cut is refused, unless it is cut between lines.
+fn refuses_list(alloc: Global, list: &[u8]) -> Result<bool, AllocError> {
+    let console = said(alloc, "vectors", list, "")?;
+    let left = plain(alloc, &[("n", AND), ("v", list)], &["grade", "n", "v", "r"])?;
+    Ok(is_of_lines(list) || left.ended(6, Is(console.as_bytes())) && left.holds("r", Absent))
+}
+
+#[test]
+fn lists_cut_to_each_length(rt: HostRuntime) -> Result<(), Fail> {
+    let list = b"01\n10\n11\n";
+    for length in 0..list.len() {
+        assert!(rt;
+            refuses_list(rt.alloc(), &list[..length])?,
+            "length {length}"
+        );
+    }
+    Ok(())
 }
 
 // Whether the log is refused with each dictionary of the AND.

@@ -5,7 +5,7 @@ use crate::tests::runs::plain;
 use std::alloc::{AllocError, Global};
 use std::test::Fail;
 
-static WRONG: [&[&str]; 43] = [
+static WRONG: [&[&str]; 49] = [
     &[],
     &["generate", "n", "r"],
     &["gen", "n"],
@@ -49,6 +49,12 @@ static WRONG: [&[&str]; 43] = [
     &["follow", "p"],
     &["follow", "p", "l", "m"],
     &["follow", "p", "l", "--within", "1"],
+    &["grade", "n", "v"],
+    &["grade", "n", "v", "r", "--cubes", "4"],
+    &["grade", "n", "v", "r", "--blocks", "0"],
+    &["topup", "n", "v", "r", "--blocks", "0"],
+    &["topup", "n", "v", "r", "--cubes", "1048577"],
+    &["topup", "n", "v", "r", "s"],
 ];
 
 // Whether a run says so, and makes no file.

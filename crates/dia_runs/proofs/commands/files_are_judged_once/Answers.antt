@@ -23,5 +23,14 @@ returns c =
       one_walk = c.walk_is_read_once.ensures.outcome;
       lists = c.list_is_read_once.ensures.wrong;
       one_list = c.list_is_read_once.ensures.reading;
+      refusal = c.one_refusal.ensures;
+      loop_walk = c.one_walk.ensures;
+      result_refusal = c.file_is_refused_once.ensures.once;
+      dictionary_fault = c.dictionary_is_read_once.ensures.fault;
+      log_refusal = c.log_is_read_once.ensures.refusal;
+      partial_refusal = c.partial_log_is_read_once.ensures.refusal;
+      plan_refusal = c.plan_is_read_once.ensures.refusal;
+      walk_refusal = c.walk_is_read_once.ensures.refusal;
+      list_refusal = c.list_is_read_once.ensures.refusal;
     } in
     clear laws

@@ -1,6 +1,6 @@
 use Rattle.std.proofs.Common.{subst}
 use Rattle.net_model.specs.Circuit.{IsCircuit}
-use Rattle.adaptive_tree.proofs.CircuitPlanLemmas.{told_by_answers}
+use Rattle.adaptive_planner.proofs.CircuitPlanLemmas.{told_by_answers}
 use Rattle.tests_dictionaries.proofs.tests.plans.is_planned_by_table.Goals as goal
 
 pub plan-requires : goal.plan-requires

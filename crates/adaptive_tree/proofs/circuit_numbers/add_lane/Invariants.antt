@@ -1,5 +1,0 @@
-use Rattle.adaptive_tree.specs.CircuitNumbers.{AreLaneNumbers}
-use Rattle.adaptive_tree.proofs.circuit_numbers.add_lane.Given as goal
-
-abbrev pub invariant-loop-place : goal.invariant-loop-place
-invariant-loop-place l = AreLaneNumbers l.source l.lane l.place l.found

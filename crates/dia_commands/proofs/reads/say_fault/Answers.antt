@@ -1,9 +1,0 @@
-use Rattle.std.proofs.Common.{refl}
-use Rattle.dia_commands.specs.Steps.{by_text, by_want}
-use Rattle.dia_commands.proofs.reads.say_fault.Goals as goal
-
-pub returns-in-Ok : goal.returns-in-Ok
-returns-in-Ok g c = by_text c.in-Ok.text.items c.in-Ok.ensures (rw c.deref.ensures.value at c.refuse.ensures)
-
-pub returns-in-Err : goal.returns-in-Err
-returns-in-Err g c = by_want refl refl

@@ -1,0 +1,42 @@
+-- The kinds of requests, by the crate of their commands.
+use Rattle.std.specs.Prelude.{⊤}
+use Rattle.request_words.specs.declared.request.Request.{Request}
+use Rattle.request_words.specs.declared.request.Request.TheVariants.{Gen, TopUp, Check, MakeDict, Convert, Diagnose, ListFaults, Simulate, Synth, Compact, Rank, Adapt, Follow, Expect, Suspects, Cover}
+
+-- it makes or checks a result, or leaves out patterns of one
+abbrev pub IsOfResults : Request → Type 0
+IsOfResults (Gen bench result budgets) = ⊤
+IsOfResults (TopUp bench vectors result budgets) = ⊤
+IsOfResults (Check bench result) = ⊤
+IsOfResults (Compact bench result new) = ⊤
+IsOfResults (Synth n bench result) = ⊤
+IsOfResults (MakeDict kind bench result dict) = ⊥
+IsOfResults (Convert old new) = ⊥
+IsOfResults (Diagnose dict log) = ⊥
+IsOfResults (Rank dict log within) = ⊥
+IsOfResults (Adapt bench result plan) = ⊥
+IsOfResults (Follow plan log) = ⊥
+IsOfResults (ListFaults bench) = ⊥
+IsOfResults (Simulate bench vectors) = ⊥
+IsOfResults (Expect bench result log) = ⊥
+IsOfResults (Suspects bench result log most) = ⊥
+IsOfResults (Cover bench result log) = ⊥
+
+-- it is about a dictionary or an adaptive plan
+abbrev pub IsOfDictionaries : Request → Type 0
+IsOfDictionaries (Gen bench result budgets) = ⊥
+IsOfDictionaries (TopUp bench vectors result budgets) = ⊥
+IsOfDictionaries (Check bench result) = ⊥
+IsOfDictionaries (Compact bench result new) = ⊥
+IsOfDictionaries (Synth n bench result) = ⊥
+IsOfDictionaries (MakeDict kind bench result dict) = ⊤
+IsOfDictionaries (Convert old new) = ⊤
+IsOfDictionaries (Diagnose dict log) = ⊤
+IsOfDictionaries (Rank dict log within) = ⊤
+IsOfDictionaries (Adapt bench result plan) = ⊤
+IsOfDictionaries (Follow plan log) = ⊤
+IsOfDictionaries (ListFaults bench) = ⊥
+IsOfDictionaries (Simulate bench vectors) = ⊥
+IsOfDictionaries (Expect bench result log) = ⊥
+IsOfDictionaries (Suspects bench result log most) = ⊥
+IsOfDictionaries (Cover bench result log) = ⊥

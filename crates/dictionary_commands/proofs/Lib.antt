@@ -1,0 +1,3 @@
+pub mod FullApart
+pub mod MadeLemmas
+pub mod MostApart

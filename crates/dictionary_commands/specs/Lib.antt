@@ -1,0 +1,5 @@
+pub mod AdaptivePlans
+pub mod Dictionaries
+pub mod Plans
+pub mod Rankings
+pub mod Texts

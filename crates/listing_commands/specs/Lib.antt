@@ -1,0 +1,4 @@
+pub mod Faults
+pub mod Plans
+pub mod Suspects
+pub mod Texts

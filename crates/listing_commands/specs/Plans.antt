@@ -1,0 +1,28 @@
+-- The plans of the commands that list faults, answers, suspects or covers, or write the log of a good chip.
+use Rattle.sim_listing.specs.SimText.{IsSimText}
+use Rattle.text_fields.specs.Fields.{Text}
+use Rattle.listing_commands.specs.Faults.{IsFaultsText}
+use Rattle.listing_commands.specs.Suspects.{IsExpectedLog, IsSuspectsText, IsCoverText}
+use Rattle.run_steps.specs.Plan.{Plan}
+use Rattle.run_steps.specs.Plans.{with_netlist, with_vectors, with_result, with_log_at, says, makes_file}
+use Rattle.std.specs.Prelude.{ℕ}
+
+-- `faults`: the faults of the netlist's circuit are printed
+abbrev pub faults_plan : Text → Plan
+faults_plan bench = with_netlist bench (λ design. says (IsFaultsText design))
+
+-- `sim`: the answers to a list of vectors are printed
+abbrev pub sim_plan : Text → Text → Plan
+sim_plan bench vectors = with_netlist bench (λ design. with_vectors vectors design.circuit (λ list. says (IsSimText design.circuit list)))
+
+-- `expect`: the log that a good chip gives is made
+abbrev pub expect_plan : Text → Text → Text → Plan
+expect_plan bench result log = with_netlist bench (λ design. with_result result design.circuit (λ file. makes_file log (IsExpectedLog design.circuit file)))
+
+-- `suspects`: the classes are printed that explain a log best
+abbrev pub suspects_plan : Text → Text → Text → ℕ → Plan
+suspects_plan bench result log most = with_netlist bench (λ design. with_result result design.circuit (λ file. with_log_at log design.circuit file (λ lines. says (IsSuspectsText design.circuit file lines most))))
+
+-- `cover`: classes are printed that explain a log together
+abbrev pub cover_plan : Text → Text → Text → Plan
+cover_plan bench result log = with_netlist bench (λ design. with_result result design.circuit (λ file. with_log_at log design.circuit file (λ lines. says (IsCoverText design.circuit file lines))))

@@ -1,0 +1,90 @@
+-- The plans of the commands that make, check or compact a result.
+use Rattle.result_commands.specs.Compactions.{IsMadeThin}
+use Rattle.run_steps.specs.Ending.{Ending, done}
+use Rattle.run_steps.specs.Netlists.{IsDesign}
+use Rattle.run_steps.specs.Outcome.{Outcome, saved, IsCut}
+use Rattle.result_commands.specs.Synthesis.{synth_budgets}
+use Rattle.run_steps.specs.Plan.{Plan, finish, IsLeftBy}
+use Rattle.result_commands.specs.Checked.{IsValidText}
+use Rattle.result_commands.specs.Texts.{kept_text, summary_text}
+use Rattle.dia_gen.specs.declared.output.ToppedUp.{ToppedUp}
+use Rattle.dia_gen.specs.Made.{IsToppedUp, IsMade, IsCutFile}
+use Rattle.diag_shelf.specs.World.{State}
+use Rattle.net_model.specs.Circuit.{Circuit}
+use Rattle.net_model.specs.declared.circuit.Design.{Design}
+use Rattle.result_file.specs.declared.checked.Summary.{Summary}
+use Rattle.result_records.specs.declared.record.Budgets.{Budgets}
+use Rattle.std.specs.Prelude.{◌≡◌, List, [], ◌∷◌, ◌++◌, ℕ, Bool, length}
+use Rattle.synth_netlist.specs.Synth.{synth_text}
+use Rattle.text_fields.specs.Fields.{Text}
+use Rattle.run_steps.specs.Plans.{with_netlist, with_result, with_list, says, makes_file}
+use Rattle.run_steps.specs.Ran.{Ends}
+
+-- ---- what is done with them
+
+-- a result, after these files, and the text that is printed of it
+pub record MakesResult (before : List (Text × Text)) (result : Text) (AreMade : Text → Text → Type 0) (o : Outcome) : Type 0 where
+  pub file : Text
+  pub text : Text
+  pub made : AreMade file text
+  pub outcome : o ≡ saved (before ++ (result, file) ∷ []) text
+
+-- a result that was cut short, after these files: a beginning of lines that are right for the circuit, and nothing printed
+pub record IsCutResult (before : List (Text × Text)) (result : Text) (c : Circuit) (made : List (Text × Text)) (text : Text) : Type 0 where
+  pub part : Text
+  pub lines : IsCutFile c part
+  pub files : IsCut made (before ++ (result, part) ∷ [])
+  pub silent : text ≡ []
+
+-- a part of it, or such a cut
+abbrev pub IsResultPart : Circuit → (Text → Text → Type 0) → List (Text × Text) → Text → List (Text × Text) → Text → Type 0
+IsResultPart c AreMade before result = IsLeftBy (MakesResult before result AreMade) (IsCutResult before result c)
+
+abbrev pub makes_result : Text → (Text → Text → Type 0) → Circuit → Plan
+makes_result result AreMade c = finish (MakesResult [] result AreMade) (IsCutResult [] result c)
+
+-- The file may be made for the circuit with these budgets, and the text says what it amounts to.
+pub record IsGenerated (c : Circuit) (budgets : Budgets) (file text : Text) : Type 0 where
+  pub summary : Summary
+  pub made : IsMade c budgets summary file
+  pub text_is : text ≡ summary_text summary
+
+-- The file may be made from the list with these budgets, and the text says what it amounts to and how many vectors were kept.
+pub record IsToppedUpFile (c : Circuit) (vectors : List (List Bool)) (budgets : Budgets) (file text : Text) : Type 0 where
+  pub topped : ToppedUp
+  pub is : IsToppedUp c vectors budgets topped file
+  pub text_is : text ≡ kept_text topped.summary topped.kept (length vectors)
+
+-- a netlist under this name, and then a result of its circuit
+abbrev pub makes_both : Text → Text → Text → Budgets → Plan
+makes_both bench netlist result budgets = finish (λ o. (design : Design) × IsDesign netlist design × MakesResult ((bench, netlist) ∷ []) result (IsGenerated design.circuit budgets) o)
+    (λ made text. (design : Design) × IsDesign netlist design × IsCutResult ((bench, netlist) ∷ []) result design.circuit made text)
+
+-- A result of the circuit was saved under this name, after these files, and a text printed of it, or a part of that.
+pub record SavesResult (c : Circuit) (AreMade : Text → Text → Type 0) (before : List (Text × Text)) (result : Text) (ending : Ending) (old new : State) : Type 0 where
+  pub file : Text
+  pub text : Text
+  pub ends : Ends (saved (before ++ (result, file) ∷ []) text) (IsResultPart c AreMade before result) ending old new
+  pub made : ending ≡ done → AreMade file text
+
+-- ---- each command
+
+-- `gen`: a result is made for the netlist's circuit
+abbrev pub gen_plan : Text → Text → Budgets → Plan
+gen_plan bench result budgets = with_netlist bench (λ design. makes_result result (IsGenerated design.circuit budgets) design.circuit)
+
+-- `grade` and `topup`: a result is made for the netlist's circuit from a list of vectors
+abbrev pub top_up_plan : Text → Text → Text → Budgets → Plan
+top_up_plan bench vectors result budgets = with_netlist bench (λ design. with_list vectors design.circuit (λ list. makes_result result (IsToppedUpFile design.circuit list budgets) design.circuit))
+
+-- `check`: what a valid result amounts to is printed
+abbrev pub check_plan : Text → Text → Plan
+check_plan bench result = with_netlist bench (λ design. with_result result design.circuit (λ file. says (IsValidText design.circuit file)))
+
+-- `compact`: what is left of a valid result is made
+abbrev pub compact_plan : Text → Text → Text → Plan
+compact_plan bench result new = with_netlist bench (λ design. with_result result design.circuit (λ file. makes_file new (IsMadeThin design.circuit file)))
+
+-- `synth`: the netlist of a number is made, and a result for it
+abbrev pub synth_plan : ℕ → Text → Text → Plan
+synth_plan n bench result = makes_both bench (synth_text n) result synth_budgets

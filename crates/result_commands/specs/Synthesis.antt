@@ -1,0 +1,5 @@
+-- The budgets of the results that `synth` makes.
+use Rattle.result_records.specs.declared.record.Budgets.{Budgets}
+
+abbrev pub synth_budgets : Budgets
+synth_budgets = record { blocks = 4; cubes = 16; conflicts = 100 }

@@ -1,0 +1,76 @@
+-- What the plans of `gen` and of `check` come to, written out: what a run is to do with the files that it reads, and what may stand where
+-- it breaks off. Laws say that the plans call for exactly this and leave exactly this.
+use Rattle.std.specs.Prelude.{◌≡◌, ◌↔◌, List, [], ◌∷◌, Some}
+use Rattle.std.specs.FinMap.{get}
+use Rattle.diag_shelf.specs.World.{Files}
+use Rattle.net_model.specs.declared.circuit.Design.{Design}
+use Rattle.result_records.specs.declared.record.Budgets.{Budgets}
+use Rattle.result_records.specs.declared.record.Record.{Record}
+use Rattle.result_file.specs.declared.checked.Summary.{Summary}
+use Rattle.result_records.specs.Spelling.{text_of}
+use Rattle.result_file.specs.Summary.{summary_of}
+use Rattle.result_file.specs.Valid.{IsValid, IsValidFile}
+use Rattle.dia_gen.specs.Made.{IsMade, IsCutFile}
+use Rattle.text_fields.specs.Fields.{Text}
+use Rattle.run_steps.specs.declared.ending.FileKind.TheVariants as kind
+use Rattle.run_steps.specs.Ending.{done, refused}
+use Rattle.result_commands.specs.Texts.{summary_text, valid_text}
+use Rattle.run_steps.specs.Netlists.{IsDesign, IsRefused}
+use Rattle.run_steps.specs.Results.{IsRefusedResult}
+use Rattle.run_steps.specs.Outcome.{Outcome, said, saved, IsCut, IsCutText, IsPartOf}
+use Rattle.run_steps.specs.Plan.{CallsFor, MayLeave}
+use Rattle.result_commands.specs.Plans.{gen_plan, check_plan}
+
+-- ---- gen
+
+-- This is what a run of `gen` is to do.
+pub data GenCallsFor (files : Files) (bench result : Text) (budgets : Budgets) (o : Outcome) : Type 0 where
+  -- The netlist's file is refused, and the text of the refusal printed.
+  gen_refused : (bytes console : Text) → get files bench ≡ Some bytes → IsRefused bytes console
+      → o ≡ said (refused kind.Netlist) console → GenCallsFor files bench result budgets o
+  -- It is accepted as a design; a file that may be made for its circuit stands under the result's name, and its summary is printed.
+  gen_made : (bytes : Text) (design : Design) (file : Text) (summary : Summary) → get files bench ≡ Some bytes → IsDesign bytes design → IsMade design.circuit budgets summary file
+      → o ≡ saved ((result, file) ∷ []) (summary_text summary) → GenCallsFor files bench result budgets o
+
+-- This is what a run of `gen` may leave that breaks off.
+pub data GenMayLeave (files : Files) (bench result : Text) (budgets : Budgets) (made : List (Text × Text)) (text : Text) : Type 0 where
+  -- The netlist's file is refused: no file is made, and a beginning of the refusal's text printed.
+  gen_refusal_begun : (bytes console : Text) → get files bench ≡ Some bytes → IsRefused bytes console
+      → made ≡ [] → IsCutText text console → GenMayLeave files bench result budgets made text
+  -- It is accepted: a file that may be made is there, or a beginning of it, and where it is whole a beginning of its summary.
+  gen_file_begun : (bytes : Text) (design : Design) (file : Text) (summary : Summary) → get files bench ≡ Some bytes → IsDesign bytes design → IsMade design.circuit budgets summary file
+      → IsPartOf (saved ((result, file) ∷ []) (summary_text summary)) made text → GenMayLeave files bench result budgets made text
+  -- Or a beginning of lines that are right for the circuit, and nothing is printed.
+  gen_cut : (bytes : Text) (design : Design) (part : Text) → get files bench ≡ Some bytes → IsDesign bytes design → IsCutFile design.circuit part
+      → IsCut made ((result, part) ∷ []) → text ≡ [] → GenMayLeave files bench result budgets made text
+
+-- The plan of `gen` is this.
+pub record GenIsWrittenOut : Type 0 where
+  pub calls_for : (files : Files) (bench result : Text) (budgets : Budgets) (o : Outcome) → CallsFor files (gen_plan bench result budgets) o ↔ GenCallsFor files bench result budgets o
+  pub may_leave : (files : Files) (bench result : Text) (budgets : Budgets) (made : List (Text × Text)) (text : Text) → MayLeave files (gen_plan bench result budgets) made text ↔ GenMayLeave files bench result budgets made text
+
+-- ---- check
+
+-- This is what a run of `check` is to do.
+pub data CheckCallsFor (files : Files) (bench result : Text) (o : Outcome) : Type 0 where
+  -- The netlist's file is refused, and the text of the refusal printed.
+  check_netlist_refused : (bytes console : Text) → get files bench ≡ Some bytes → IsRefused bytes console
+      → o ≡ said (refused kind.Netlist) console → CheckCallsFor files bench result o
+  -- It is accepted as a design, for whose circuit the result's file is refused, and the text of that refusal printed.
+  check_result_refused : (bytes file console : Text) (design : Design) → get files bench ≡ Some bytes → IsDesign bytes design → get files result ≡ Some file → IsRefusedResult design.circuit file console
+      → o ≡ said (refused kind.Result) console → CheckCallsFor files bench result o
+  -- The result's file is valid for the circuit, and what its lines amount to is printed.
+  check_accepted : (bytes file : Text) (design : Design) (records : List Record) → get files bench ≡ Some bytes → IsDesign bytes design → get files result ≡ Some file → IsValidFile design.circuit file
+      → file ≡ text_of records → IsValid design.circuit records → o ≡ said done (valid_text (summary_of records)) → CheckCallsFor files bench result o
+
+-- This is what a run of `check` may leave that breaks off: no file, and a beginning of the text that is to be printed.
+pub record CheckMayLeave (files : Files) (bench result : Text) (made : List (Text × Text)) (text : Text) : Type 0 where
+  pub o : Outcome
+  pub called : CheckCallsFor files bench result o
+  pub none : made ≡ []
+  pub begun : IsCutText text o.console
+
+-- The plan of `check` is this.
+pub record CheckIsWrittenOut : Type 0 where
+  pub calls_for : (files : Files) (bench result : Text) (o : Outcome) → CallsFor files (check_plan bench result) o ↔ CheckCallsFor files bench result o
+  pub may_leave : (files : Files) (bench result : Text) (made : List (Text × Text)) (text : Text) → MayLeave files (check_plan bench result) made text ↔ CheckMayLeave files bench result made text

@@ -1,0 +1,11 @@
+pub mod CheckedLemmas
+pub mod Followed
+pub mod HandedOn
+pub mod Judged
+pub mod NetlistLemmas
+pub mod PlanEnds
+pub mod ReadLemmas
+pub mod Refusals
+pub mod ResultReads
+pub mod Runs
+pub mod SuspectLemmas

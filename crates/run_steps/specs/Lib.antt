@@ -1,0 +1,14 @@
+pub mod AdaptivePlans
+pub mod Dictionaries
+pub mod Ending
+pub mod Limits
+pub mod Logs
+pub mod Netlists
+pub mod Outcome
+pub mod Plan
+pub mod Plans
+pub mod Ran
+pub mod ResultLogs
+pub mod Results
+pub mod Steps
+pub mod Texts

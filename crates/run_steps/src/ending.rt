@@ -1,0 +1,79 @@
+//! How a run ends, and the status of each ending.
+
+ghost use Rattle.std.specs.Prelude.{◌≡◌};
+ghost use Rattle.run_steps.specs.Ending.{OneEndingEach, status_of};
+ghost use Rattle.run_steps.specs.Limits.{limit_of};
+
+use bench_reader::NETLIST_LIMIT;
+use diagnose::TEXT_LIMIT;
+use dict_file::DICTIONARY_LIMIT;
+use result_records::RESULT_LIMIT;
+use std::alloc::AllocError;
+
+/// A kind of file that is read, and refused where a rule is broken.
+#[derive(Clone, Copy, Debug, PartialEq, Eq, Hash)]
+pub enum FileKind {
+    Netlist,
+    Result,
+    Dictionary,
+    /// A log, or a list of vectors.
+    Log,
+    AdaptivePlan,
+}
+
+/// How many bytes a file of a kind may have at most.
+pub(crate) fn limit_of(kind: FileKind) -> u64
+    ensures { result ≡ limit_of kind }
+{
+    match kind {
+        FileKind::Netlist => NETLIST_LIMIT,
+        FileKind::Result => RESULT_LIMIT,
+        FileKind::Dictionary => DICTIONARY_LIMIT,
+        FileKind::Log | FileKind::AdaptivePlan => TEXT_LIMIT,
+    }
+}
+
+/// Why a run did not do what it was asked.
+#[derive(Clone, Copy, Debug, PartialEq, Eq, Hash)]
+pub enum RunFault {
+    /// The words ask for nothing.
+    NotUnderstood,
+    /// A file of this kind is refused.
+    Refused(FileKind),
+    ReadFailed,
+    WriteFailed,
+    NoMemory,
+}
+
+impl From<AllocError> for RunFault {
+    ghost use Rattle.run_steps.specs.declared.ending.RunFault.TheVariants.{NoMemory};
+
+    ghost from_gives = { λ _ fault. fault ≡ NoMemory };
+
+    fn from(_: AllocError) -> Self {
+        RunFault::NoMemory
+    }
+}
+
+/// The status of an ending. A status stands in no other place of the code.
+pub fn status_of(ending: Result<(), RunFault>) -> u8
+    ensures { result ≡ status_of ending }
+{
+    match ending {
+        Ok(()) => 0,
+        Err(RunFault::NotUnderstood) => 2,
+        Err(RunFault::Refused(FileKind::Netlist)) => 3,
+        Err(RunFault::Refused(FileKind::Result)) => 4,
+        Err(RunFault::Refused(FileKind::Dictionary)) => 5,
+        Err(RunFault::Refused(FileKind::Log)) => 6,
+        Err(RunFault::ReadFailed) => 7,
+        Err(RunFault::WriteFailed) => 8,
+        Err(RunFault::NoMemory) => 9,
+        Err(RunFault::Refused(FileKind::AdaptivePlan)) => 10,
+    }
+}
+
+/// Endings of the same status are the same.
+pub fn one_ending_each()
+    ensures { OneEndingEach }
+{}

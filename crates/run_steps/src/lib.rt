@@ -1,0 +1,24 @@
+//! What the commands of the program share: files are read and judged, a text is printed or a file made, and the ending follows.
+#![tactic(auto)]
+
+mod adaptive_plans;
+mod dictionaries;
+mod ending;
+mod ends;
+mod log_reads;
+mod logs;
+mod netlists;
+mod reads;
+mod results;
+mod texts;
+mod words;
+
+pub use adaptive_plans::read_adaptive_plan;
+pub use dictionaries::read_dictionary;
+pub use ending::{FileKind, RunFault, one_ending_each, status_of};
+pub use ends::{save, say, write_fault};
+pub use log_reads::read_log_at;
+pub use logs::{read_list, read_observed, read_partial_log, read_vector_list, read_walk};
+pub use netlists::{judge_netlist, read_design};
+pub use results::{WholeResult, read_result, read_whole_result, setting_of};
+pub use words::refuse_words;

@@ -1,0 +1,38 @@
+//! From the name of a log for a result to what it has, or to the end of the run.
+
+ghost use Rattle.std.specs.Prelude.{List, IfErr, IfOk, length};
+ghost use Rattle.net_model.specs.PatternRows.{IsTableOf};
+ghost use Rattle.result_records.specs.declared.record.Record.{Record};
+ghost use Rattle.result_records.specs.Spelling.{text_of};
+ghost use Rattle.result_file.specs.Accepted.{IsAccepted};
+ghost use Rattle.ranked_diag.specs.PartialLog.{ArePartial};
+ghost use Rattle.run_steps.specs.declared.ending.FileKind.TheVariants as file;
+ghost use Rattle.run_steps.specs.Steps.{WasAccepted, IsOver};
+ghost use Rattle.run_steps.specs.ResultLogs.{IsLogAt, IsRefusedAt};
+
+use crate::ending::RunFault;
+use crate::logs::read_partial_log;
+use diag_shelf::Shelf;
+use fault_collapse::Subject;
+use ranked_diag::Partial;
+use result_file::Checked;
+use std::alloc::Global;
+
+/// Reads and judges the log under a name, for a result that was checked. Where it isn't accepted, the console says why, and the run is
+/// over.
+pub fn read_log_at<S: Shelf>(
+    alloc: Global,
+    shelf: &mut S,
+    subject: &Subject,
+    checked: &Checked,
+    name: &str,
+) -> Result<Partial, RunFault>
+    requires { IsTableOf subject.now checked.now.patterns checked.now.classes }
+    ensures lines { IfOk result (ArePartial (length checked.now.patterns) (length subject.now.positions)) }
+    ensures ok { IfOk result (λ partial. (records : List Record) → IsAccepted subject.now records checked.now → WasAccepted name.now file.Log (IsLogAt subject.now (text_of records)) partial (S.state shelf.old) (S.state shelf.new)) }
+    ensures err { IfErr result (λ why. (records : List Record) → IsAccepted subject.now records checked.now → IsOver name.now file.Log (IsRefusedAt subject.now (text_of records)) why (S.state shelf.old) (S.state shelf.new)) }
+{
+    let patterns = checked.classes.patterns();
+    let positions = subject.circuit().positions().len() as u32;
+    read_partial_log(alloc, shelf, patterns, positions, name)
+}

@@ -1,0 +1,55 @@
+//! From a file's name to what its bytes are accepted as, or to the end of the run.
+
+ghost use Rattle.std.specs.Prelude.{◌≡◌, ℕ, List, Option, Some, IfErr, IfOk};
+ghost use Rattle.run_steps.specs.Limits.{limit_of};
+ghost use Rattle.run_steps.specs.Steps.{AcceptsSome, AcceptsFile, RefusesFile, IsSaid, WasAccepted, IsOver};
+
+use crate::ending::{FileKind, RunFault};
+use crate::ends::{read_file, refuse};
+use diag_shelf::Shelf;
+use std::alloc::{AllocError, Global};
+
+/// Why bytes aren't accepted: they are refused, or there is no memory.
+pub(crate) trait BytesFault {
+    /// What the console says of it, if it is a refusal.
+    ghost said: { Self → Option (List ℕ) };
+
+    /// The text for the console. There is no memory for it where there was none to judge.
+    fn text(self, alloc: Global) -> Result<Vec<u8>, AllocError>
+        ensures { IfOk result (λ text. said self ≡ Some text.items) };
+}
+
+/// Reads the file of a kind under a name, and judges it. If it isn't accepted, the console says why, and the run is over.
+pub(crate) fn read_judged<S: Shelf, T, E: BytesFault, F: FnOnce(&[u8]) -> Result<T, E>>(
+    alloc: Global,
+    shelf: &mut S,
+    name: &str,
+    kind: FileKind,
+    judge: F,
+) -> Result<T, RunFault>
+    requires { F.IsAlwaysCallable judge }
+    ensures judged { IfOk result (AcceptsSome (F.post judge)) }
+    ensures ok { IfOk result (λ thing. WasAccepted name.now kind (AcceptsFile (F.post judge) (limit_of kind)) thing (S.state shelf.old) (S.state shelf.new)) }
+    ensures err { IfErr result (λ why. IsOver name.now kind (RefusesFile (F.post judge) E.said (limit_of kind)) why (S.state shelf.old) (S.state shelf.new)) }
+{
+    let bytes = read_file(alloc, shelf, name, kind)?;
+    match judge(&bytes) {
+        Ok(thing) => Ok(thing),
+        Err(fault) => Err(say_fault(alloc, shelf, kind, fault)),
+    }
+}
+
+/// Says why a file of some kind is refused.
+pub(crate) fn say_fault<S: Shelf, E: BytesFault>(
+    alloc: Global,
+    shelf: &mut S,
+    kind: FileKind,
+    fault: E,
+) -> RunFault
+    ensures { IsSaid (E.said fault) kind result (S.state shelf.old) (S.state shelf.new) }
+{
+    match fault.text(alloc) {
+        Ok(text) => refuse(shelf, RunFault::Refused(kind), &text),
+        Err(_) => RunFault::NoMemory,
+    }
+}
