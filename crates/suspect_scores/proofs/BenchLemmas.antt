@@ -1,20 +1,22 @@
 -- A block of lines: what is known of numbers by where their answers differ.
 use Rattle.std.proofs.Common.{◌≡◌, ◌≢◌, ◌∙◌, ℕ, ◌+◌, ◌-◌, ◌*◌, ◌/◌, ◌%◌, ◌<◌, ◌≤◌, ◌↔◌, ◌^◌, Bool, true, false, not, List, [], length, map, take, set, get_or, refl, sym, ap, subst, arith, inl, inr, IsTrue}
-use Rattle.std.specs.Prelude.{◌&&◌, All, sum_by, slice_range, nat_lt}
+use Rattle.std.specs.Prelude.{◌&&◌, ◌==◌, All, sum_by, slice_range, nat_lt}
 use Rattle.std.specs.Bool.{beq}
 use Rattle.std.specs.List.{range_with_len}
 use Rattle.std.proofs.lemmas.Bool.{cases_lt, cases_eq, false≢true, lt-ltb}
 use Rattle.std.proofs.lemmas.List.{get_or-map, length-map, length-set, get_or-set_same, get_or-set_other, ext_get_or}
 use Rattle.std.proofs.lemmas.Nat.{mul-le}
 use Rattle.std.proofs.Math.Seq.{take-length}
+use Rattle.net_model.specs.declared.fault.Fault.{Fault}
 use Rattle.net_model.specs.declared.fault.Fault.TheVariants.{Free}
 use Rattle.net_model.specs.Circuit.{Circuit}
 use Rattle.net_model.specs.Answer.{bit_at, IsAnswer}
+use Rattle.class_refine.proofs.PatternTables.{answer_width}
 use Rattle.net_model.specs.FaultList.{faults, fault_count, fault_numbered}
 use Rattle.net_model.specs.Rows.{bit_of, row_at, row_bit, HaveSameShape, IsWordSet}
 use Rattle.net_model.proofs.Listed.{some_number}
 use Rattle.net_model.proofs.Copies.{same_bits_same_list}
-use Rattle.fault_sim.specs.FaultSim.{FaultSim, AreDifferences, lanes_at}
+use Rattle.fault_sim.specs.FaultSim.{FaultSim, AreDifferences, IsDifference, lanes_at}
 use Rattle.table_dicts.specs.declared.setting.Setting.{Setting}
 use Rattle.dict_rows.specs.AnswerTable.{Answers, answer_to}
 use Rattle.dict_rows.specs.Rows.{AreRows}
@@ -23,7 +25,7 @@ use Rattle.table_dicts.proofs.BlockLemmas.{lane_pattern, block_end}
 use Rattle.table_dicts.proofs.FailLemmas.{is_table, patterns_are, answer_is}
 use Rattle.dict_rows.proofs.RowLemmas.{width_at, rows_later, same_shape, shape_later}
 use Rattle.ranked_diag.specs.declared.partial.Seen.TheVariants.{Unseen}
-use Rattle.ranked_diag.specs.Seen.{is_seen, differs}
+use Rattle.ranked_diag.specs.Seen.{is_seen, differs, differing_bits}
 use Rattle.ranked_diag.specs.PartialLog.{Line}
 use Rattle.word_sim.specs.declared.lanes.TheConstants.{LANES}
 use Rattle.table_dicts.specs.declared.bench.Bench.{Bench}
@@ -34,14 +36,14 @@ use Rattle.suspect_scores.specs.declared.suspect.Suspect.{Suspect}
 use Rattle.suspect_scores.specs.Scores.{is_failing, explains, explained_count, hit_bits, missed_bits, false_bits}
 use Rattle.suspect_scores.specs.Listed.{suspect_of}
 use Rattle.suspect_scores.specs.Marks.{logged_line, IsLogged}
-use Rattle.suspect_scores.specs.Scored.{score_to, does_explain, suspect_begun}
+use Rattle.suspect_scores.specs.Scored.{score_to, does_explain, meets_all, suspect_begun}
 use Rattle.suspect_scores.specs.Columns.{lane_score, AreColumnRows, AreSame, HasBlockMore, CanAddBlock}
 use Rattle.table_dicts.specs.Blocks.{HasRunPatterns}
 use Rattle.suspect_scores.specs.Benches.{IsAdded, AreAdded, IsNoted, IsNotedAt, AreNoted}
 use Rattle.suspect_scores.specs.Chosen.{explained_by}
 use Rattle.suspect_scores.proofs.MarkLemmas.{tested_at}
 use Rattle.suspect_scores.proofs.RangeSums.{count_small, sum_small}
-use Rattle.suspect_scores.proofs.ScoredLemmas.{IsScoreOf, line_right, suspect_more}
+use Rattle.suspect_scores.proofs.ScoredLemmas.{IsScoreOf, line_right, fits_told, suspect_more}
 
 -- a bit that says whether two others differ
 changed_is : (bit own free : Bool) → IsTrue bit ↔ (own ≢ free) → bit ≡ not (beq own free)
@@ -123,6 +125,26 @@ module _ (s : Setting) (lines : List Line) (table : Answers) (logged : Logged) (
       subst (λ (n : ℕ). IsScoreOf table number (logged_line lines line) (score n)) positions
       (line_right table number (logged_line lines line) (frees line number h known) (owns line number h known) (λ k. bit_at (lanes_at sim k) lane) (λ k. row_bit logged.columns.wrong k line) (λ k. row_bit logged.columns.right k line) changes
       (wrong_is line number h known) (right_is line number h known))
+
+  -- a lane fits where the answers of a fault, whose differences it has, have each observed bit of its line
+  pub lane_fits : (sim : FaultSim) (first lane : ℕ) (f : Fault) (answer : List Bool) → sim.circuit ≡ c → first + lane < length lines → IsAnswer c f (get_or logged.patterns.items (first + lane) []) answer
+      → ((position : ℕ) → position < length c.positions → IsDifference c f (get_or logged.patterns.items (first + lane) []) position (bit_at (lanes_at sim position) lane))
+      → meets_all (lane_score logged.columns sim first lane) ≡ (differing_bits (logged_line lines (first + lane)).1 answer == 0)
+  unfolding lane_score
+  lane_fits sim first lane f answer circuit h own differ =
+      let line = first + lane in
+      let known = some_number c in
+      let seen = (logged_line lines line).1 in
+      let free = answer_to table (logged_line lines line).0 0 in
+      let free_long : length free ≡ length seen = frees line 0 h known in
+      let own_long : length answer ≡ length seen = answer_width own ∙ sym (wide line 0 h known) in
+      let positions : length seen ≡ length sim.circuit.positions = wide line 0 h known ∙ sym (ap (λ (k : Circuit). length k.positions) circuit) in
+      let changed : ℕ → Bool = λ k. bit_at (lanes_at sim k) lane in
+      let wrong : ℕ → Bool = λ k. row_bit logged.columns.wrong k line in
+      let right : ℕ → Bool = λ k. row_bit logged.columns.right k line in
+      let changes : (k : ℕ) → k < length seen → changed k ≡ not (beq (bit_at answer k) (bit_at free k)) =
+      λ k low. changed_is (changed k) (bit_at answer k) (bit_at free k) (differ k (omega (arith, low, wide line 0 h known)) answer free own (subst (λ v. IsAnswer c Free v free) (sym (pattern_is line 0 h known)) (free_answer line 0 h known))) in
+      fits_told seen free answer free_long own_long changed wrong right (length sim.circuit.positions) positions changes (wrong_is line 0 h known) (right_is line 0 h known)
 
 -- ---- scores
 

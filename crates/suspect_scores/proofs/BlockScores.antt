@@ -14,7 +14,7 @@ use Rattle.suspect_scores.specs.declared.block_scores.LaneScores.{LaneScores}
 use Rattle.suspect_scores.specs.declared.scoring.LineScore.{LineScore}
 use Rattle.suspect_scores.specs.declared.suspect.Suspect.{Suspect}
 use Rattle.suspect_scores.specs.declared.bit_count.BitCount.{BitCount}
-use Rattle.suspect_scores.specs.Scored.{count_to, score_to, does_explain}
+use Rattle.suspect_scores.specs.Scored.{count_to, score_to, does_explain, meets_all}
 use Rattle.suspect_scores.specs.Columns.{IsBitCount, is_changed_lane, is_same_lane, AreSame, count_lanes, lane_score, AreLaneScores, suspect_to, DoSumsFit, HasSums, HasBlockMore, CanAddBlock}
 use Rattle.suspect_scores.proofs.RangeSums.{one_of, count_small, sum_small, sum_joined, count_shifted}
 use Rattle.suspect_scores.proofs.DoubleSums.{sum_none, sum_short}
@@ -38,7 +38,7 @@ below k n h = grind (arith, nat_tests)
 pub not_below : (k n : ℕ) → n ≤ k → nat_lt k n ≡ false
 not_below k n h = grind (arith, nat_tests)
 
-zero_test : (n : ℕ) → not (nat_lt 0 n) ≡ (n == 0)
+pub zero_test : (n : ℕ) → not (nat_lt 0 n) ≡ (n == 0)
 zero_test n = grind (arith, nat_tests)
 
 and_later : (a b c : Bool) → ((a && b) && c) ≡ (a && (b && c))
@@ -107,6 +107,20 @@ module _ (columns : LogColumns) (sim : FaultSim) (first lane lanes line : ℕ) (
         | inr past ↦
             (λ i. (nat_lt 0 (none_changed columns.wrong k past h i) && not (nat_lt 0 (count_same k))) && not (nat_lt 0 (count_changed columns.right k)))
             ∙ ap (λ (b : Bool). b && does_explain (lane_score columns sim first (lane + k))) (sym (not_below k lanes past))
+      ]
+
+  -- two tallies say which lanes fit
+  pub lanes_fit : (missed wrong : BitCount) (bits : ℕ) → IsBitCount (is_same_lane columns.wrong sim line lane lanes) (range_with_len 0 (length sim.circuit.positions)) missed
+      → IsBitCount (is_changed_lane columns.right sim line lane) (range_with_len 0 (length sim.circuit.positions)) wrong → ((k : ℕ) → k < 64 → bit_of bits k ≡ (nat_lt k lanes && (not (bit_of missed.some k) && not (bit_of wrong.some k))))
+      → (k : ℕ) → k < 64 → bit_of bits k ≡ (nat_lt k lanes && meets_all (lane_score columns sim first (lane + k)))
+  lanes_fit missed wrong bits misses wrongs is k h =
+      let s = lane_score columns sim first (lane + k) in
+      is k h ∙ elim (cases_lt k lanes) [
+        | inl low ↦
+            (λ i. nat_lt k lanes && (not (misses.some k h i) && not (wrongs.some k h i)))
+            ∙ ((λ i. nat_lt k lanes && (not (nat_lt 0 (missed_is k low i)) && not (nat_lt 0 (false_is k i))))
+            ∙ (λ i. nat_lt k lanes && (zero_test s.missed_bits i && zero_test s.false_bits i)))
+        | inr past ↦ (λ i. not_below k lanes past i && (not (bit_of missed.some k) && not (bit_of wrong.some k))) ∙ ap (λ (b : Bool). b && meets_all s) (sym (not_below k lanes past))
       ]
 
 -- ---- words one after another

@@ -20,7 +20,7 @@ count_mapped f [] = refl
 count_mapped f (x ∷ xs) = omega (arith, count_more (λ (b : Bool). b) (f x) (map f xs), count_more f x xs, count_mapped f xs)
 
 -- the marks of a line where it differs are as many as its differing bits
-bits_wrong : (free : List Bool) (seen : List Seen) → row_bits (wrong_row free seen) ≡ differing_bits seen free
+pub bits_wrong : (free : List Bool) (seen : List Seen) → row_bits (wrong_row free seen) ≡ differing_bits seen free
 unfolding row_bits
 bits_wrong free seen = count_listed (bit_at (wrong_row free seen)) (λ (b : Bool). b) false (wrong_row free seen) (λ k h. refl) ∙ count_mapped (λ x. differs x.0 x.1) (zip seen free)
 

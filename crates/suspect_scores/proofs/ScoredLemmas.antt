@@ -4,7 +4,7 @@ use Rattle.std.specs.Prelude.{sum_by, count_by, zip, nat_lt, ◌&&◌, ◌==◌,
 use Rattle.std.specs.Bool.{beq, Decides}
 use Rattle.std.specs.List.{range_with_len}
 use Rattle.std.proofs.lemmas.Bool.{ltb-true, eqb-true, lt-ltb, eq-eqb}
-use Rattle.std.proofs.lemmas.Bool.Decides.{same_from_decides}
+use Rattle.std.proofs.lemmas.Bool.Decides.{same_from_decides, nat_tests}
 use Rattle.std.proofs.lemmas.List.{take_more}
 use Rattle.std.proofs.lemmas.List.Sums.{sum_by-append, sum_by-cons}
 use Rattle.net_model.specs.Answer.{bit_at}
@@ -17,7 +17,7 @@ use Rattle.suspect_scores.specs.declared.scoring.LineScore.{LineScore}
 use Rattle.suspect_scores.specs.declared.suspect.Suspect.{Suspect}
 use Rattle.suspect_scores.specs.Scores.{SeenBits, is_hit, is_missed, is_false, told_of, is_failing, failing, explains, explained_count, hit_bits, missed_bits, false_bits}
 use Rattle.suspect_scores.specs.Listed.{suspect_of}
-use Rattle.suspect_scores.specs.Scored.{count_to, score_to, does_explain}
+use Rattle.suspect_scores.specs.Scored.{count_to, score_to, does_explain, meets_all}
 use Rattle.suspect_scores.specs.Columns.{HasBlockMore}
 use Rattle.suspect_scores.specs.Marks.{logged_line}
 use Rattle.suspect_scores.proofs.Tests.{both_true}
@@ -55,7 +55,7 @@ one_unlike Unseen true false = refl
 one_unlike Unseen false true = refl
 one_unlike Unseen false false = refl
 
-missed_or_false : (seen : List Seen) (free own : List Bool) → length own ≡ length free → count_by is_missed (zip seen (zip free own)) + count_by is_false (zip seen (zip free own)) ≡ differing_bits seen own
+pub missed_or_false : (seen : List Seen) (free own : List Bool) → length own ≡ length free → count_by is_missed (zip seen (zip free own)) + count_by is_false (zip seen (zip free own)) ≡ differing_bits seen own
 missed_or_false [] free own same = refl
 missed_or_false (s ∷ seen) [] [] same = refl
 missed_or_false (s ∷ seen) [] (o ∷ own) same = absurd (omega (arith, same))
@@ -152,6 +152,23 @@ module _ (table : Answers) (number : ℕ) (line : Line) (frees : length (answer_
           wrong = false_is;
           explains_it = (λ i. nat_lt 0 (hit_is i) && (missed_is i == 0 && false_is i == 0)) ∙ explained_is _ _ _ _ _ (hit_or_missed line.1 free own same) (missed_or_false line.1 free own same);
         }
+
+-- a line fits where nothing is missed or false
+both_zero : (missed wrong unlike : ℕ) → missed + wrong ≡ unlike → (missed == 0 && wrong == 0) ≡ (unlike == 0)
+both_zero missed wrong unlike e = grind (arith, nat_tests, e)
+
+-- two answers to one pattern
+abbrev two_answers : List Seen → List Bool → List Bool → Answers
+two_answers seen free own = record { numbers = 2; positions = length seen; rows = (free ∷ own ∷ []) ∷ [] }
+
+pub fits_told : (seen : List Seen) (free own : List Bool) → length free ≡ length seen → length own ≡ length seen → (changed wrong right : ℕ → Bool) (positions : ℕ) → length seen ≡ positions
+    → ((k : ℕ) → k < length seen → changed k ≡ not (beq (bit_at own k) (bit_at free k))) → ((k : ℕ) → k < length seen → wrong k ≡ differs (get_or seen k Unseen) (bit_at free k))
+    → ((k : ℕ) → k < length seen → right k ≡ (is_seen (get_or seen k Unseen) && not (differs (get_or seen k Unseen) (bit_at free k)))) → meets_all (score_to changed wrong right positions) ≡ (differing_bits seen own == 0)
+fits_told seen free own free_long own_long changed wrong right positions many changes wrongs rights =
+    let score = score_to changed wrong right (length seen) in
+    let told = line_right (two_answers seen free own) 1 (0, seen) free_long own_long changed wrong right changes wrongs rights in
+    let sums = missed_or_false seen free own (own_long ∙ sym free_long) in
+    (λ i. meets_all (score_to changed wrong right (sym many i))) ∙ both_zero score.missed_bits score.false_bits (differing_bits seen own) (omega (arith, told.missed, told.wrong, sums))
 
 -- ---- lines more
 

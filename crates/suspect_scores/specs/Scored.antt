@@ -31,6 +31,10 @@ score_to changed wrong right n = record {
 unfoldable pub row_bits : List Bool → ℕ
 row_bits row = count_to (bit_at row) (length row)
 
+-- whether each observed bit of the line is met
+abbrev pub meets_all : LineScore → Bool
+meets_all s = s.missed_bits == 0 && s.false_bits == 0
+
 -- whether the line is failing, and each of its observed bits is met
 abbrev pub does_explain : LineScore → Bool
 does_explain s = nat_lt 0 s.hit_bits && (s.missed_bits == 0 && s.false_bits == 0)

@@ -3,7 +3,7 @@
 ghost use Rattle.std.specs.Prelude.{◌≡◌, ℕ, ◌+◌, ◌-◌, ◌*◌, ◌<◌, ◌≤◌, ◌^◌, ◌&&◌, Bool, length, nat_lt, min};
 ghost use Rattle.std.specs.List.{range_with_len};
 ghost use Rattle.net_model.specs.Rows.{bit_of};
-ghost use Rattle.suspect_scores.specs.Scored.{does_explain};
+ghost use Rattle.suspect_scores.specs.Scored.{does_explain, meets_all};
 ghost use Rattle.suspect_scores.specs.Columns.{AreColumnRows, IsBitCount, AreSame, is_changed_lane, is_same_lane, lane_score, AreLaneScores, suspect_to, DoSumsFit, HasSums, HasBlockMore, CanAddBlock};
 
 use crate::bit_count::BitCount;
@@ -53,6 +53,21 @@ pub(crate) fn explained_word(
     ensures { (k : ℕ) → k < 64 → bit_of result k ≡ (nat_lt (word * 64 + k) count && does_explain (lane_score columns.now sim.now first (word * 64 + k))) }
 {
     score_lanes(columns, sim, first, word, lanes_in(count, word)).explained
+}
+
+/// In which of the 64 lanes of a word the answers have every observed bit of the line. The first line of the block is that
+/// of lane 0.
+pub fn fitting_word(columns: &LogColumns, sim: &FaultSim, first: u32, count: u32, word: u32) -> u64
+    requires columns { AreColumnRows (length sim.now.circuit.positions) columns.now }
+    requires word { word * 64 < LANES }
+    requires past { AreSame sim.now count LANES }
+    ensures { (k : ℕ) → k < 64 → bit_of result k ≡ (nat_lt (word * 64 + k) count && meets_all (lane_score columns.now sim.now first (word * 64 + k))) }
+{
+    let line = first as usize + word as usize * 64;
+    let lanes = lanes_in(count, word);
+    let missed = unchanged_bits(columns, sim, line, word, lanes);
+    let false_alarm = changed_bits(&columns.right, sim, line, word);
+    low_bits(!missed.some & !false_alarm.some, lanes as usize)
 }
 
 // The score of the lines of a block alone.

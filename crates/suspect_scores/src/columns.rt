@@ -12,13 +12,13 @@ use std::alloc::{AllocError, Global};
 
 /// Rows of bits, one for each position, with a bit for each line of a log.
 #[derive(Drop)]
-pub(crate) struct LogColumns {
+pub struct LogColumns {
     /// Where an observed bit differs from that of number 0.
-    pub(crate) wrong: AnswerRows,
+    pub wrong: AnswerRows,
     /// Where an observed bit doesn't.
-    pub(crate) right: AnswerRows,
+    pub right: AnswerRows,
     /// The positions that are wrong in some line, ascending.
-    pub(crate) wrong_positions: Vec<u32>,
+    pub wrong_positions: Vec<u32>,
 }
 
 impl LogColumns {

@@ -30,6 +30,14 @@ pub fn count_failing(
     Ok(count)
 }
 
+/// Whether a line of a log is failing.
+pub fn is_failing(logged: &Logged, line: usize) -> bool
+    requires { line < length logged.now.marks.wrong }
+    ensures { result ≡ nat_lt 0 (row_bits (row_at logged.now.marks.wrong line)) }
+{
+    count_bits(&logged.marks.wrong, line) > 0
+}
+
 // How many rows have a bit that is set.
 fn count_rows(rows: &AnswerRows) -> usize
     ensures { result ≡ count_to (λ row. nat_lt 0 (row_bits (row_at rows.now row))) (length rows.now) }

@@ -17,13 +17,17 @@ mod scoring;
 mod suspect;
 mod suspecting;
 
+pub use block_scores::fitting_word;
 pub use choices::{Choice, Cover};
+pub use columns::LogColumns;
 pub use covering::cover;
 pub use expecting::expected_log;
-pub use failed::count_failing;
+pub use failed::{count_failing, is_failing};
 pub use laws::{
     circuits_are_classed, expected_log_lists_nothing, members_score_alike, one_cover_explains,
     one_list_of_suspects,
 };
+pub use logged::Logged;
+pub use marks::LogMarks;
 pub use suspect::{Suspect, Suspects};
 pub use suspecting::suspects;

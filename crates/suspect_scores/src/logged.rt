@@ -14,18 +14,15 @@ use table_dicts::{Setting, number_answers_at};
 
 /// The patterns of a log's lines, and its marks, by line and by position.
 #[derive(Drop)]
-pub(crate) struct Logged {
-    pub(crate) patterns: Vec<Vector>,
-    pub(crate) marks: LogMarks,
-    pub(crate) columns: LogColumns,
+pub struct Logged {
+    pub patterns: Vec<Vector>,
+    pub marks: LogMarks,
+    pub columns: LogColumns,
 }
 
 impl Logged {
-    pub(crate) fn new(
-        alloc: Global,
-        setting: &Setting,
-        partial: &Partial,
-    ) -> Result<Logged, AllocError>
+    /// What a partial log tells of its patterns.
+    pub fn new(alloc: Global, setting: &Setting, partial: &Partial) -> Result<Logged, AllocError>
         requires setting { IsSetting setting.now }
         requires partial { ArePartial (length setting.now.patterns.now) (length setting.now.subject.now.positions) partial.now }
         ensures { IfOk result (IsLogged setting.now partial.now) }

@@ -14,13 +14,13 @@ use table_dicts::AnswerTable;
 
 /// Rows of bits, one for each line of a log, with a bit for each position.
 #[derive(Drop)]
-pub(crate) struct LogMarks {
+pub struct LogMarks {
     /// What number 0 answers.
-    pub(crate) free: AnswerRows,
+    pub free: AnswerRows,
     /// Where an observed bit differs from that.
-    pub(crate) wrong: AnswerRows,
+    pub wrong: AnswerRows,
     /// Where an observed bit doesn't.
-    pub(crate) right: AnswerRows,
+    pub right: AnswerRows,
 }
 
 impl LogMarks {
