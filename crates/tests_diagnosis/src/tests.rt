@@ -1,6 +1,7 @@
 //! The modules, by what they test.
 
 mod adaptive;
+mod bridged;
 mod kept;
 mod lists;
 mod logs;

@@ -33,7 +33,7 @@ const NOTHING: CircuitParts<'static> = CircuitParts {
 };
 
 // A log, how many suspects are asked for, and which there are: number, explained, hit, missed and false.
-type Logged = (&'static str, u32, &'static [(u32, u32, u64, u64, u64)]);
+type SuspectedLog = (&'static str, u32, &'static [(u32, u32, u64, u64, u64)]);
 
 // A log, and which numbers cover its failing patterns, with how many each explains that none before it does.
 type Covered = (&'static str, &'static [(u32, u32)]);
@@ -43,7 +43,7 @@ type Case = (
     CircuitParts<'static>,
     &'static [&'static str],
     &'static str,
-    &'static [Logged],
+    &'static [SuspectedLog],
     &'static [Covered],
 );
 
@@ -153,7 +153,7 @@ fn are_suspects(listed: &Suspects, wanted: &[(u32, u32, u64, u64, u64)]) -> bool
 }
 
 // Whether the log gives these suspects.
-fn is_suspected(alloc: Global, setting: &Setting, logged: &Logged) -> Result<bool, Fail>
+fn is_suspected(alloc: Global, setting: &Setting, logged: &SuspectedLog) -> Result<bool, Fail>
     requires { IsSetting setting.now }
 {
     let patterns = setting.patterns.as_slice().len() as u32;
@@ -163,7 +163,7 @@ fn is_suspected(alloc: Global, setting: &Setting, logged: &Logged) -> Result<boo
     Ok(are_suspects(&listed, logged.2))
 }
 
-fn are_suspected(alloc: Global, setting: &Setting, all: &[Logged]) -> Result<bool, Fail>
+fn are_suspected(alloc: Global, setting: &Setting, all: &[SuspectedLog]) -> Result<bool, Fail>
     requires { IsSetting setting.now }
 {
     for logged in all {

@@ -1,4 +1,4 @@
-use Rattle.std.proofs.Common.{◌∙◌, ◌+◌, ◌*◌, Bool, not, refl, ap, ap₂, arith, w64}
+use Rattle.std.proofs.Common.{◌∙◌, ◌+◌, ◌*◌, Bool, refl, ap, ap₂, arith, w64}
 use Rattle.std.specs.Prelude.{nat_lt, ◌&&◌}
 use Rattle.std.specs.Int.{bit_not}
 use Rattle.net_model.proofs.SingleWords.{digit_and, digit_not}

@@ -1,0 +1,16 @@
+pub mod Bridge
+pub mod Valuation
+pub mod Victim
+pub mod BridgeList
+pub mod Explains
+pub mod Found
+pub mod Trimmed
+pub mod LineRows
+pub mod Simulated
+pub mod Told
+pub mod Search
+pub mod Met
+pub mod Tried
+pub mod Texts
+pub mod Laws
+pub mod Printed
