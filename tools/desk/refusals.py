@@ -60,7 +60,7 @@ PLAN = {
 }
 
 NUMBER, BITS, SEEN, END = rb"0|[1-9][0-9]*", rb"[01]+|-", rb"[01x]+|-", rb"\n"
-PARTIAL = ("rank", "suspects", "cover")
+PARTIAL = ("rank", "suspects", "cover", "bridges")
 LISTS = ("sim", "grade", "topup")  # the commands that read a list of vectors
 SEEN_WORDS = "A line is a pattern's number without zeros in front, one space, the bits that were seen (x for one that wasn't), and one LF"
 LIST_WORDS = "A line is a vector's bits, source 0 first, and one LF"

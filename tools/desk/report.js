@@ -1,6 +1,6 @@
 // Shows the picture so that the first suspects and the failing positions are in view, and in full size where it is clicked. Lights the class of a
 // row in the picture and moves there; a second click, or the key Escape, puts it out. A page opened with #class7 lights the class of number
-// 7 at once. What is folded is printed unfolded.
+// 7 at once, and with #classb1 the first bridge. What is folded is printed unfolded.
 "use strict";
 const picture = document.querySelector(".picture");
 const SMALLEST = 0.1; // of the full size
@@ -28,9 +28,9 @@ function fit(place) {
     picture.scrollTop += now.top + (place.clientY - before.top) * now.height / before.height - frame.top - frame.height / 2;
     return;
   }
-  const all = box(nodesOf(".first, .goal")), room = Math.min((picture.clientWidth - 40) / all.width, (picture.clientHeight - 40) / all.height);
+  const all = box(nodesOf(".first, .bridge, .goal")), room = Math.min((picture.clientWidth - 40) / all.width, (picture.clientHeight - 40) / all.height);
   svg.style.width = natural * Math.min(1, Math.max(SMALLEST, room)) + "px";
-  centre(nodesOf(".first, .goal"));
+  centre(nodesOf(".first, .bridge, .goal"));
 }
 function light(number) {
   chosen = number === chosen ? null : number;
@@ -53,5 +53,5 @@ for (const it of document.querySelectorAll("tr[data-class]")) {
 }
 document.addEventListener("keydown", (it) => { if (it.key === "Escape" && chosen !== null) light(chosen); });
 addEventListener("beforeprint", () => document.querySelectorAll("details").forEach((it) => { it.open = true; }));
-const named = /^#class([0-9]+)$/.exec(location.hash);
+const named = /^#class(b?[0-9]+)$/.exec(location.hash);
 if (named) light(named[1]);

@@ -1,8 +1,8 @@
 """What a report is about: a netlist, a result and a tester's log, and what the program's commands say of them.
 
 The answers of single faults come of the helpers' own simulation. They are compared with what the commands print, so that the two agree
-wherever a page is made. The commands check the result: `suspects` once, and `cover` again, which runs only if no single class explains all
-failing patterns."""
+wherever a page is made. The commands check the result: `suspects` once, `bridges` again if a pattern fails, and `cover` if no single class
+explains all failing patterns."""
 
 import functools
 import hashlib
@@ -34,6 +34,20 @@ class Score(NamedTuple):
     false: int
 
 
+class Bridge(NamedTuple):
+    """A line of `bridges`: its kind and its two nets, how many failing patterns it explains, and how many passing ones it would fail."""
+
+    kind: str
+    first: str
+    second: str
+    explained: int
+    false: int
+
+    def lines(self) -> tuple:
+        """Its two nets."""
+        return self.first, self.second
+
+
 def printed(*words: str) -> list:
     """The lines that a command prints. What the script tells besides goes to standard error."""
     it = subprocess.run([f"{TOP}/diatest", *words], stdout=subprocess.PIPE, text=True, encoding="latin-1")
@@ -46,6 +60,13 @@ def suspects_of(netlist: str, result: str, log: str, *options: str):
     """What `suspects` prints: the scores, and how many patterns are failing and logged."""
     *lines, last = printed("suspects", netlist, result, log, *options)
     return [Score(*map(int, it.split())) for it in lines], int(last.split()[3]), int(last.split()[5])
+
+
+def bridges_of(netlist: str, result: str, log: str):
+    """What `bridges` prints: the best bridges, and how many of all that it found are exact."""
+    *lines, last = printed("bridges", netlist, result, log)
+    rows = [it.split() for it in lines]
+    return [Bridge(*names, int(explained), int(false)) for *names, explained, false in rows], int(last.split()[5])
 
 
 def rows_of(log: str) -> dict:
@@ -112,6 +133,8 @@ class Case:
         self.read = {kind: readable(kind, name, folder) for kind, name in self.files.items()}
         self.suspects, self.failing_count, self.logged_count = suspects_of(*self.read.values())
         self.cover, self.covered = self.chosen()
+        self.bridges, self.exact_count = bridges_of(*self.read.values()) if self.failing_count else ([], 0)
+        self.exact = [it for it in self.bridges if it.explained == self.failing_count and not it.false]
         self.checksums = {kind: checksum(name) for kind, name in self.read.items()}
         self.netlist, self.result = bench.read(self.read["netlist"]), Result(self.read["result"])
         self.patterns, self.full = self.result.patterns, (1 << len(self.result.patterns)) - 1
@@ -120,6 +143,7 @@ class Case:
         self.read_log()
         self.read_faults()
         self.explain()
+        self.agree(all(it[3:] == self.bridge_counts(it) for it in self.bridges), "the counts of the bridges")
 
     def chosen(self):
         """What `cover` prints, and how many failing patterns that explains; nothing if the first suspect explains them all."""
@@ -184,6 +208,23 @@ class Case:
         """The counts of a number, by this simulation."""
         missed, false = (sum(map(ones_in, words)) for words in (self.missed(number), self.false(number)))
         return Score(number, ones_in(self.explained[number]), self.wrong_bits - missed, missed, false)
+
+    @functools.lru_cache(maxsize=32)
+    def bridge_answers(self, it: Bridge) -> list:
+        """What each position shows if the chip has this bridge."""
+        one, other = self.free[it.first], self.free[it.second]
+        wins = {"and": one & other, "or": one | other, "dominant": one}[it.kind]
+        value = bench.values(self.netlist, self.patterns, dict.fromkeys(it.lines(), wins))
+        return [value[line] for line in self.netlist.shown]
+
+    def bridge_counts(self, it: Bridge) -> tuple:
+        """How many failing patterns a bridge explains, and how many passing ones it would fail, by this simulation."""
+        unlike = union((answer ^ one) & seen for answer, one, seen in zip(self.bridge_answers(it), self.ones, self.seen))
+        return ones_in(self.failing & ~unlike), ones_in(unlike & ~self.failing)
+
+    def bridged(self) -> list:
+        """The exact bridges, if no class predicts every observed bit."""
+        return [] if any(map(self.perfect, self.suspects)) else self.exact
 
     def agree(self, holds: bool, what: str):
         """Stops where the program and the simulation of the helpers differ."""

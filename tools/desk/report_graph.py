@@ -7,6 +7,7 @@ from typing import NamedTuple
 MOST = 300  # nodes of a picture
 SITES = 16  # faults of a class that are drawn, where not all are
 GOALS = 24  # failing positions, likewise
+BRIDGES = 3  # bridges whose nets are drawn
 
 
 class Edge(NamedTuple):
@@ -19,8 +20,10 @@ class Edge(NamedTuple):
 
 
 class Part(NamedTuple):
-    """What is drawn: the numbers whose classes are shown, the faults of each, the nodes, the edges, and what was left out in words."""
+    """What is drawn: the bridges and the numbers whose classes are shown, the faults of each, the nodes, the edges, and what was left out in
+    words."""
 
+    bridges: list
     numbers: list
     faults: dict
     nodes: set
@@ -130,19 +133,25 @@ def attempts(numbers, goals):
             yield top, False, most, goals[:GOALS]
 
 
+def drawn_bridges(case):
+    """The bridges whose nets are drawn: the first exact ones, if no class is exact."""
+    return case.bridged()[:BRIDGES]
+
+
 def part(case):
     """What is drawn of a case: as much as stays below so many nodes."""
     goals = sorted((it for it, word in enumerate(case.wrong) if word), key=lambda it: (-bin(case.wrong[it]).count("1"), it))
-    numbers = list(case.members)
+    numbers, bridges = list(case.members), drawn_bridges(case)
+    ends = [line for it in bridges for line in it.lines()]
     for top, whole, most, positions in attempts(numbers, goals):
         chosen = numbers[:top]
         faults = {it: case.members[it][:most] for it in chosen}
-        sites = list(dict.fromkeys(site(case.names[it]) for number in chosen for it in faults[number]))
+        sites = list(dict.fromkeys([*ends, *(site(case.names[it]) for number in chosen for it in faults[number])]))
         edges = (whole_cone if whole else ways)(case.netlist, sites, positions)
         edges = folded(edges, {*sites})
         nodes = {*sites, *(it.tail for it in edges), *(it.head for it in edges)}
         if len(nodes) <= MOST:
-            return Part(chosen, faults, nodes, edges, left_out(case, top, whole, most, goals, positions, nodes))
+            return Part(bridges, chosen, faults, nodes, edges, left_out(case, top, whole, most, goals, positions, nodes))
     return None
 
 

@@ -3,6 +3,7 @@
 import functools
 from typing import NamedTuple
 
+from report_bridges import other_end
 from report_place import stems
 
 NAMED = 2  # nets of a bridge that are named
@@ -15,34 +16,11 @@ class Kind(NamedTuple):
     partners: list
 
 
-def winners(case, value, explained, quiet):
-    """The nets that have a value at each explained pattern, and not at those that passed though the fault would fail them."""
-    for net, word in case.free.items():
-        word = word if value == "1" else ~word
-        if not explained & ~word and not quiet & word:
-            yield net
-
-
-def suspected_nets(case):
-    """The nets whose stems are members of a listed class."""
-    names = (case.names[it] for found in case.members.values() for it in found)
-    return {line for kind, line, *_ in names if kind == "S"}
-
-
 @functools.lru_cache(maxsize=None)
 def partners(case, number):
-    """The nets that as winners of a bridge explain when the fault shows, since they have its value then and the other one when it doesn't. Those of
-    other suspects come first."""
-    explained, quiet = case.explained[number], case.shows[number]
-    if not explained or not quiet:
-        return []
-    found, values = {}, {value: dict.fromkeys(winners(case, value, explained, quiet)) for value in "01"}
-    for line, stuck in stems(case, number):
-        if values[stuck].keys() - found.keys():
-            cone = case.netlist.cone([line])
-            found.update((net, None) for net in values[stuck] if net not in cone)
-    suspected = suspected_nets(case)
-    return sorted(found, key=lambda net: net not in suspected)
+    """The nets at the other end of the exact bridges whose victim is a stem of this class, if no class is exact."""
+    found = [other_end(it, line, value) for it in case.bridged() for line, value in stems(case, number)]
+    return list(dict.fromkeys(filter(None, found)))
 
 
 def kind(case, it):
@@ -51,10 +29,10 @@ def kind(case, it):
         return Kind("stuck", [])
     if not it.explained:
         return Kind("none: it explains no pattern", [])
-    rest = "" if it.explained == case.failing_count else "one of several defects"
     others = partners(case, it.number)
     if others:
-        return Kind(f"bridge, or {rest or 'now and then'}", others)
+        return Kind("bridge", others)
+    rest = "" if it.explained == case.failing_count else "one of several defects"
     return Kind(", ".join(filter(None, ["now and then" if case.shows[it.number] else "stuck", rest])), [])
 
 

@@ -4,9 +4,11 @@ import os
 import shlex
 from html import escape
 
+import report_bridges
 import report_step as steps
 import report_words as words
 from report_case import numbers_in, ones_in, union
+from report_graph import drawn_bridges
 from report_kinds import kind, nets
 from report_place import by_net, driver, place, position, spot
 
@@ -19,6 +21,10 @@ EVIDENCE = {"C": "by the gates", "T": "by a tree", "R": "by a refutation", "O": 
 LABELS = (
     "<b>explained</b>: failing patterns that the fault reproduces bit for bit; <b>hit</b>: failing bits it predicts; <b>missed</b>: failing "
     "bits it doesn't; <b>false</b>: bits it predicts to fail that passed."
+)
+BRIDGES = (
+    "<b>explained</b>: failing patterns that the bridge reproduces bit for bit; <b>false</b>: passing patterns that it would fail. No bridge is "
+    "listed that closes a loop."
 )
 CLASSES = (
     " A row stands for a class: faults that no pattern of the result tells apart, named by its lowest number. Pins are counted from 0. By the "
@@ -159,6 +165,29 @@ def suspects(case, doubt):
     return f'<h2>{head}</h2>\n{table(heads, kinds, rows)}\n<p class="note">{note}</p>'
 
 
+def on_bridges(case):
+    """How the exact bridges are to be read, in sentences."""
+    if case.exact_count > 1:
+        yield "More than one answers alike at these patterns: the log can't tell them apart, but the layout may."
+    if case.exact_count > len(case.exact):
+        yield f"The first {len(case.exact)} are listed; diatest bridges with --most {case.exact_count} lists all."
+    if not case.bridged():
+        yield "This is a second reading, since a stuck-at fault fits: a net that is shorted may behave as if it were stuck, as with a constant one."
+
+
+def bridges(case):
+    """A row for each exact bridge that is listed."""
+    heads, kinds, rows = ["#", "kind", "first net", "second net", "explained", "false"], "ctnncc", []
+    drawn = len(drawn_bridges(case))
+    for rank, it in enumerate(case.exact, 1):
+        texts = [f'<span class="rank">{rank}</span>', report_bridges.kind(it), escape(it.first), escape(it.second)]
+        rows.append(row(heads, kinds, [*texts, f"{it.explained:,}", f"{it.false:,}"], f"b{rank}" if rank <= drawn else None))
+    note = BRIDGES + ('<span class="screen"> A click on a row shows its nets in the picture.</span>' if drawn else "")
+    said = "".join(map(paragraph, on_bridges(case)))
+    head = words.count(case.exact_count, "fits", "fit")
+    return f'<h2>Bridges: {head} exactly</h2>\n{said}{table(heads, kinds, rows)}\n<p class="note">{note}</p>'
+
+
 def cover(case):
     """The classes that together explain the failing patterns, the best suspect standing for each that is as good."""
     heads, kinds, rows = ["#", "number", "where", "explained", "of them new", "as well explained by"], "ccnccn", []
@@ -207,14 +236,15 @@ def next_step(case, doubt):
     step = steps.next_step(case, doubt)
     body = [paragraph(it) for it in step.said]
     body += [vector(case, step.pattern)] if step.pattern is not None else []
-    body += [left_open(case)] if case.suspects and not doubt else []
+    body += [left_open(case)] if case.suspects and not doubt and not case.bridged() else []
     return "<h2>The next step</h2>\n" + "\n".join(body)
 
 
-def drawing(svg, said):
+def drawing(case, svg, said):
     """The picture and what it leaves out."""
     key = '<span class="key" style="background:#c62828"></span>first suspect<span class="key" style="background:#ef9a9a"></span>second and third'
     key += '<span class="key" style="background:#fbdcdc"></span>others<span class="key" style="background:#ffb74d"></span>failing position'
+    key += '<span class="key" style="background:#6a1b9a"></span>net of a bridge' if case.bridged() else ""
     note = f'<p class="note">From the suspects to the positions that fail.{key}. A dashed line is a chain of gates without branches.'
     note += '<span class="screen"> A click on the picture shows it in full size, and a second one as a whole.</span></p>'
     said = f"<p>{escape(words.capital(said))}{'' if said.endswith('.') else '.'}</p>" if said else ""
@@ -264,7 +294,7 @@ def again(case, page):
     netlist, result, log = (shlex.quote(it if not it.startswith("-") else f"./{it}") for it in case.files.values())
     lines = [f"./diatest check {netlist} {result}"]
     if case.failing:
-        lines += [f"./diatest suspects {netlist} {result} {log}", f"./diatest cover {netlist} {result} {log}", f"./diatest faults {netlist}"]
+        lines += [f"./diatest {it} {netlist} {result} {log}" for it in ("suspects", "cover", "bridges")] + [f"./diatest faults {netlist}"]
     lines += [f"tools/report {netlist} {result} {log} -o {shlex.quote(page)}"]
     return f"<h2>To make it again</h2>\n<pre>{escape(chr(10).join(lines))}</pre>"
 
@@ -274,9 +304,10 @@ def chapters(case, doubt, picture):
     return [
         *([tried(doubt)] if doubt else []),
         *([suspects(case, doubt)] if case.suspects else []),
+        *([bridges(case)] if case.exact else []),
         *([cover(case)] if case.cover else []),
         next_step(case, doubt),
-        *([drawing(*picture)] if case.suspects else []),
+        *([drawing(case, *picture)] if case.suspects else []),
         positions(case),
         patterns(case),
     ]

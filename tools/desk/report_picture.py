@@ -5,12 +5,14 @@ import shutil
 import subprocess
 from html import escape
 
+from report_bridges import end
 from report_graph import part, reached, site
 from report_place import driver, position
 
 PATIENCE = 60  # seconds for dot
 REDS = (("#c62828", "#ffffff"), ("#ef9a9a", "#000000"), ("#fbdcdc", "#000000"))  # of the first, the next and the other suspects
 ORANGE = "#ffb74d"
+VIOLET = ("#6a1b9a", "#ffffff")  # of what a bridge does to a net
 PINS = 8  # of a gate that are drawn with their names, where not more are at fault
 HEAD = """digraph suspects {
 rankdir=LR; nodesep=0.12; ranksep=0.25; bgcolor=transparent;
@@ -23,11 +25,12 @@ def label(text):
     return escape(text).replace("\\", "\\\\")
 
 
-def cell(text, colours=None, port=None, rows=1):
+def cell(text, colours=None, port=None, rows=1, columns=1):
     """A cell of a node's table."""
     fill, ink = colours or ("#ffffff", "#000000")
     port = "" if port is None else f' PORT="{port}"'
     rows = f' ROWSPAN="{rows}"' if rows > 1 else ""
+    rows += f' COLSPAN="{columns}"' if columns > 1 else ""
     return f'<TD BGCOLOR="{fill}"{port}{rows}><FONT COLOR="{ink}">{text}</FONT></TD>'
 
 
@@ -37,7 +40,8 @@ def table(rows):
 
 
 class Picture:
-    """The drawn part of a case, with what is at fault at each node: for each pin, or for the line itself, ranks and stuck values."""
+    """The drawn part of a case, with what is at fault at each node: for each pin, or for the line itself, ranks and stuck values; and the
+    bridges of each line."""
 
     def __init__(self, case):
         self.case, self.part = case, part(case)
@@ -48,7 +52,12 @@ class Picture:
                 where = int(rest[1]) if kind == "G" else None
                 self.at_fault.setdefault(site(case.names[it]), {}).setdefault(where, []).append((rank, case.marks[number], value))
         self.names = {it: f"d{at}" for at, it in enumerate(sorted(self.part.nodes, key=str))}
+        self.shorts = {}
+        for it in self.part.bridges:
+            for line in it.lines():
+                self.shorts.setdefault(line, []).append(end(it, line))
         self.starts = {number: {site(case.names[it]) for it in found} for number, found in self.part.faults.items()}
+        self.starts |= {f"b{rank}": {*it.lines()} for rank, it in enumerate(self.part.bridges, 1)}
         self.reach = {number: reached(self.part.edges, found) for number, found in self.starts.items()}
 
     def stuck(self, node, where, text):
@@ -71,17 +80,21 @@ class Picture:
         used = {it.pin for it in self.part.edges if it.head == gate} | set(self.at_fault.get(gate, {}))
         return [it for it in word_pins if it[0] in used]
 
+    def short(self, name, columns=1):
+        """The rows of a line's bridges."""
+        said = "<BR/>".join(map(label, self.shorts.get(name, ())))
+        return [cell(f"<B>{said}</B>", VIOLET, columns=columns)] if said else []
+
     def line(self, name):
-        """The table of a line: a gate with its pins where a suspect stands there, else its word and name."""
+        """The table of a line: a gate with its pins where a suspect stands there, else its word and name; and its bridges."""
         word = driver(self.case.netlist, name)
         text, colours = self.stuck(name, None, name)
         gate = f'<FONT POINT-SIZE="8">{word}</FONT><BR/>{text}'
-        if name not in self.at_fault or name not in self.case.netlist.gates:
-            return table([cell(gate, colours, "y")])
-        pins = [cell(*self.stuck(name, pin, line), f"p{pin}") for pin, line in self.pins(name)]
+        faulty = name in self.at_fault and name in self.case.netlist.gates
+        pins = [cell(*self.stuck(name, pin, line), f"p{pin}") for pin, line in self.pins(name)] if faulty else []
         if not pins:
-            return table([cell(gate, colours, "y")])
-        return table([pins[0] + cell(gate, colours, "y", len(pins)), *pins[1:]])
+            return table([cell(gate, colours, "y"), *self.short(name)])
+        return table([pins[0] + cell(gate, colours, "y", len(pins)), *pins[1:], *self.short(name, 2)])
 
     def goal(self, at):
         """The table of a failing position, with its count."""
@@ -98,9 +111,9 @@ class Picture:
         return " ".join(words + [f"in{number}" for number, found in self.reach.items() if node in found])
 
     def first(self, node):
-        """Words more if the first suspect stands there, and if it is a failing position."""
+        """Words more if the first suspect or a bridge stands there, and if it is a failing position."""
         ranks = [rank for found in self.at_fault.get(node, {}).values() for rank, _, _ in found]
-        return ("first " if 1 in ranks else "") + ("goal " if isinstance(node, int) else "")
+        return ("first " if 1 in ranks else "") + ("bridge " if node in self.shorts else "") + ("goal " if isinstance(node, int) else "")
 
     def words(self):
         """The words for dot."""

@@ -3,10 +3,10 @@ text; a pattern to apply stands beside the sentence that asks for it."""
 
 from typing import NamedTuple
 
+from report_bridges import layout
 from report_case import numbers_in, ones_in, union
-from report_kinds import nets, partners
 from report_place import in_short, position
-from report_words import bridged, count
+from report_words import count
 
 NAMED = 8  # patterns or positions in a sentence
 
@@ -124,12 +124,24 @@ def in_the_lab(case, first):
             it = f"{count(len(aborted), 'fault')} of the class {'is' if len(aborted) == 1 else 'are'} open"
             said.append(f"{it}: gen with a larger --conflicts may find a vector that tells {'it' if len(aborted) == 1 else 'them'} from the lowest.")
         return said
-    others, pair = partners(case, first.number), bridged(case)
-    said = [f"Check the layout for a bridge between the first suspect and net {nets(others)}."] if others else []
-    said = [f"Check the layout for a bridge between net {pair[0]} and net {pair[1]}."] if pair else said
     if not case.shows[first.number] and case.cover:
-        return said + ["Inspect the places of the classes that together explain the failing patterns."]
-    return said + ["Repeat the test at another voltage and speed: a defect that shows now and then changes with them, a stuck net doesn't."]
+        return ["Inspect the places of the classes that together explain the failing patterns."]
+    return ["Repeat the test at another voltage and speed: a defect that shows now and then changes with them, a stuck net doesn't."]
+
+
+def shorted(case):
+    """What the lab does if a bridge is the verdict, and the pattern that tells the first two bridges apart, if the log lacks one."""
+    said = [layout(case)]
+    if len(case.exact) == 1:
+        return Step(said)
+    one, other = map(case.bridge_answers, case.exact[:2])
+    unseen = fullest([(a ^ b) & ~seen for a, b, seen in zip(one, other, case.seen)])
+    if not unseen:
+        return Step(said + ["No pattern of the result tells the first two bridges apart."])
+    pattern, at = unseen
+    bits = [it[at] >> pattern & 1 for it in (one, other)]
+    said.append(f"The log lacks pattern {pattern} at {position(case.netlist, at)}, which would tell the first two bridges apart: apply it.")
+    return Step(said + [f"There the first bridge predicts {bits[0]}, the second {bits[1]}."], pattern)
 
 
 def next_step(case, doubt):
@@ -139,6 +151,8 @@ def next_step(case, doubt):
         return Step([f"Check the log before the chip: {f'try it with {doubt.best.change}' if doubt.best else check}."])
     if not case.suspects:
         return Step(["Check that the log is of this circuit and of these patterns."])
+    if case.bridged():
+        return shorted(case)
     first = case.suspects[0]
     step = first_two(case) if len(case.suspects) > 1 else Step(["There is a single suspect."])
     return Step(first_leaves(case, first) + step.said + in_the_lab(case, first), step.pattern)

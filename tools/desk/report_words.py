@@ -1,17 +1,17 @@
 """What a report says of a log in sentences. All are plain text."""
 
-import functools
 from typing import NamedTuple
 
+import report_bridges as bridges
 from report_case import ones_in
-from report_kinds import nets, partners
-from report_place import in_full, in_short, stems
+from report_place import in_full, in_short
 
 LOOKS = "This looks like a log of other patterns, or in another order or polarity"
 UNFITTING = (
     "None of these makes it fit: patterns shifted by one, positions in reverse order, bits inverted, the patterns of another result in the "
     "folder."
 )
+NEITHER = "No single stuck-at fault and no bridge fits"
 FAILING_ONLY = "The log has no passing pattern, so no fault can be ruled out because it would fail more patterns."
 
 
@@ -52,7 +52,8 @@ def verdict(case, doubt):
         return doubted(case, doubt)
     if not case.suspects:
         return Verdict("No stuck-at fault predicts any of the failing bits", ["Check that the log is of this circuit and of these patterns."])
-    said = explained(case) if case.suspects[0].explained == case.failing_count else uneven(case)
+    one = case.suspects[0].explained == case.failing_count
+    said = shorted(case) if case.bridged() else explained(case) if one else uneven(case)
     return said._replace(more=said.more + [FAILING_ONLY]) if case.failing_only() and FAILING_ONLY not in said.more else said
 
 
@@ -89,6 +90,13 @@ def fitting(best):
     return it + (f", and one class of faults explains {best.explained:,} of them." if best.explained is not None else ".")
 
 
+def shorted(case):
+    """Where a bridge predicts every observed bit, and no class does."""
+    first = capital(bridges.sentence(case.exact[0]))
+    more = ["It predicts every observed bit, and no single stuck-at fault does."] + bridges.alike(case)
+    return Verdict(first + (", or another bridge that answers alike" if case.exact_count > 1 else ""), more)
+
+
 def explained(case):
     """Where the first suspect explains each failing pattern."""
     first, failing = case.suspects[0], count(case.failing_count, "failing pattern")
@@ -101,9 +109,9 @@ def explained(case):
         more = ["It predicts every observed bit."] + unlogged(case, first.number)
         named = in_full(case, first.number)
         return Verdict(f"A single stuck-at fault fits{',' if named.startswith('at gate ') else ':'} {named}", more)
-    passed = count(ones_in(case.shows[first.number]), "pattern")
-    more = [f"{capital(in_short(case, first.number))} explains each of the {failing}, but would also fail {passed} that passed."]
-    return Verdict("No single stuck-at fault fits: a bridge, or a defect that shows now and then", more + winners(case, first.number))
+    passed = ones_in(case.shows[first.number])
+    more = [f"{capital(in_short(case, first.number))} explains each of the {failing}, but would also fail {count(passed, 'pattern')} that passed."]
+    return Verdict(f"{NEITHER}: a defect that shows now and then", more + bridges.nearest(case, passed))
 
 
 def several(case, perfect):
@@ -118,24 +126,15 @@ def failing_only(case, perfect):
     number, failing = case.suspects[0].number, count(case.failing_count, "failing pattern")
     said = f"{capital(in_short(case, number))} explains each of the {failing}"
     others = f", and so {'does' if len(perfect) == 2 else 'do'} {count(len(perfect) - 1, 'other class', 'other classes')}" if len(perfect) > 1 else ""
-    more = [f"{said}{others}.", FAILING_ONLY, "A bridge there, or a defect that shows now and then, fits as well: log the passing patterns, too."]
-    return Verdict("A stuck-at fault, a bridge or a defect that shows now and then", more)
+    more = [f"{said}{others}.", FAILING_ONLY, *bridges.second_reading(case)]
+    more.append("A defect that shows now and then fits, too: log the passing patterns as well.")
+    return Verdict(f"A stuck-at fault{', a bridge' if case.exact else ''} or a defect that shows now and then", more)
 
 
 def unlogged(case, number):
     """What the log lacks of a fault that fits."""
     lacks = ones_in(case.unlogged[number])
     return [f"The log lacks bits of {count(lacks, 'pattern')} that this fault would fail."] if lacks else []
-
-
-def winners(case, number):
-    """The nets at the other end of a bridge, in a sentence."""
-    if not stems(case, number):
-        return []
-    found = partners(case, number)
-    if found:
-        return [f"A bridge to net {nets(found)} would explain why these passed."]
-    return ["No bridge of this net to a single other one explains why these passed; two suspects that each explain a part may be bridged."]
 
 
 def also(case):
@@ -152,18 +151,6 @@ def nearest_cover(case):
     return [(others[0], explained) for (_, others), (_, explained) in zip(also(case), case.cover)]
 
 
-@functools.lru_cache(maxsize=None)
-def bridged(case):
-    """The two nets of the first classes that together explain the chip, if each has the other's value where it fails and not where it passes."""
-    chosen = [number for number, _ in nearest_cover(case)]
-    if len(chosen) != 2:
-        return None
-    ends = [[line for line, _ in stems(case, it)] for it in chosen]
-    others = [partners(case, it) for it in chosen]
-    pairs = [(one, other) for one in ends[0] if one in others[1] for other in ends[1] if other in others[0]]
-    return pairs[0] if pairs else None
-
-
 def uneven(case):
     """Where no class explains each failing pattern."""
     first, failing = case.suspects[0], count(case.failing_count, "failing pattern")
@@ -174,12 +161,9 @@ def uneven(case):
     chosen, rest = nearest_cover(case), case.failing_count - case.covered
     if len(chosen) == 1:
         more = [f"{capital(in_short(case, chosen[0][0]))} explains {case.covered:,} of the {failing}; no fault explains the rest."]
-        return Verdict("No single stuck-at fault fits: several defects act at once", more)
+        return Verdict(f"{NEITHER}: several defects act at once", more)
     named = [f"{explained:,} by {in_short(case, it)}" for it, explained in chosen[:3]]
     named += [f"others by {count(len(chosen) - 3, 'more class', 'more classes')}"] if len(chosen) > 3 else []
     whole = f"{case.covered:,} of the {failing} are" if rest else "Both failing patterns are" if case.covered == 2 else f"All {failing} are"
     more = [f"{whole} explained together: {', '.join(named)}."]
-    pair = bridged(case)
-    if pair:
-        more.append(f"A bridge between net {pair[0]} and net {pair[1]} fits.")
-    return Verdict(f"No single stuck-at fault fits: {'a bridge' if pair else 'a bridge, or several defects'}", more)
+    return Verdict(f"{NEITHER}: several defects", more + bridges.nearest(case, case.logged_count))

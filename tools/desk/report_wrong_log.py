@@ -159,9 +159,9 @@ def fitting(case, tries):
 
 
 def doubt(case):
-    """Why the log is doubted, if it is: no class explains it, many bits fail, and either nearly every pattern does or a change fits."""
+    """Why the log is doubted, if it is: no class and no bridge explains it, many bits fail, and either nearly every pattern does or a change fits."""
     most = max((it.explained for it in case.suspects), default=0)
-    if not case.failing or most == case.failing_count or not large(case.wrong_bits, case.seen_bits):
+    if not case.failing or case.exact or most == case.failing_count or not large(case.wrong_bits, case.seen_bits):
         return None
     others, short = other_results(case)
     tries = [*changes(case), *others]

@@ -41,6 +41,10 @@ BUDGETS = (
 )
 WITHIN = Option("within", 1_000_000, 0, "mismatches above the least that a number may have that is listed")
 MOST = Option("most", 1_000_000, 20, "suspects that are listed at the most", 1)
+BRIDGES = (
+    Option("most", 1_000_000, 20, "bridges that are listed at the most", 1),
+    Option("within", 1_000_000, 0, "failing patterns that a bridge may leave unexplained"),
+)
 
 COMMANDS = {
     "gen": Command(
@@ -98,6 +102,13 @@ COMMANDS = {
         "NETLIST RESULT LOG",
         "",
         "checks the result, and lists classes that together explain what fails in a log",
+    ),
+    "bridges": Command(
+        "NETLIST RESULT LOG",
+        "NETLIST RESULT LOG",
+        "",
+        "checks the result, and lists the shorts of two lines that explain what fails in a log, best first",
+        BRIDGES,
     ),
     "faults": Command("NETLIST", "NETLIST", "", "lists the faults: number, number of the root in the collapse, name"),
     "sim": Command(

@@ -16,7 +16,7 @@ use Rattle.diagnose.specs.declared.fault.LogKind.{LogKind}
 use Rattle.run_steps.specs.Texts.{refusal_text, loop_text, result_text, dictionary_rule, dictionary_text, log_text, vectors_text, plan_fault_text}
 use Rattle.synth_netlist.proofs.LoopWalks.{walk_first}
 use Rattle.text_fields.specs.Fields.{Text}
-use Rattle.request_words.specs.Request.{Request, gen, top_up, check, make_dict, convert, diagnose, list_faults, simulate, synth, compact, rank, adapt, follow, expect, suspects, cover}
+use Rattle.request_words.specs.Request.{Request, gen, top_up, check, make_dict, convert, diagnose, list_faults, simulate, synth, compact, rank, adapt, follow, expect, suspects, cover, bridges}
 use Rattle.run_steps.specs.Netlists.{IsDesign, IsRefused, by_text, by_loop}
 use Rattle.run_steps.specs.Results.{IsResult, IsRefusedResult}
 use Rattle.run_steps.specs.Dictionaries.{IsDictionaryFile, IsRefusedDictionary}
@@ -214,6 +214,7 @@ clear laws (adapt bench result plan) = (clear_netlist laws, λ bytes design is. 
 clear laws (expect bench result log) = (clear_netlist laws, λ bytes design is. (clear_result laws (circuit_of is), λ bytes file valid o made. ending_is made.3))
 clear laws (suspects bench result log most) = (clear_netlist laws, λ bytes design is. (clear_result laws (circuit_of is), λ bytes file valid. (clear_log_at laws (circuit_of is) file, λ bytes lines read o says. ending_is says.2)))
 clear laws (cover bench result log) = (clear_netlist laws, λ bytes design is. (clear_result laws (circuit_of is), λ bytes file valid. (clear_log_at laws (circuit_of is) file, λ bytes lines read o says. ending_is says.2)))
+clear laws (bridges bench result log most within) = (clear_netlist laws, λ bytes design is. (clear_result laws (circuit_of is), λ bytes file valid. (clear_log_at laws (circuit_of is) file, λ bytes lines read o says. ending_is says.2)))
 clear laws (follow plan log) = (clear_plan laws, λ bytes adaptive is. (clear_walk laws adaptive is.well_formed, λ bytes outcome read o says. ending_is says.2))
 
 -- ---- what evidence means

@@ -17,7 +17,7 @@ use Rattle.dia_runs.proofs.SimulationClauses.{simulated_of}
 use Rattle.dia_runs.proofs.CompactionClauses.{compacted_of}
 use Rattle.dia_runs.proofs.RankingClauses.{RankingLaws, ranked_of}
 use Rattle.dia_runs.proofs.AdaptiveClauses.{adapted_of, followed_of}
-use Rattle.dia_runs.proofs.SuspectClauses.{expected_of, suspected_of, covered_of}
+use Rattle.dia_runs.proofs.SuspectClauses.{expected_of, suspected_of, covered_of, bridged_of}
 use Rattle.dia_runs.proofs.DictionaryClauses.{dictionary_made, converted_of, diagnosed_of}
 
 pub run_of : EvidenceLaws → ListIsGraded → ValidIsTrue → ThinIsSound → RankingLaws → WrittenIsRead → FilesAreJudgedOnce → (asked : Option Request) {ending : Ending} {a b : State} → Ran asked ending a b → IsRunOf asked ending a b
@@ -38,6 +38,7 @@ run_of laws graded valid sound ranking written once asked {ending} {a} {b} r = r
   expected = λ told. expected_of (r.done told) valid;
   suspected = λ told. suspected_of (r.done told) valid;
   covered = λ told. covered_of (r.done told) valid;
+  bridged = λ told. bridged_of (r.done told) valid;
   ends = r.ends;
   words = words_of asked r.ends;
   not_asked = not_understood_of asked r.ends;

@@ -1,13 +1,13 @@
--- What follows from the record of a run that writes the log of a chip without a fault, lists suspects or a cover.
+-- What follows from the record of a run that writes the log of a chip without a fault, lists suspects, a cover or bridges.
 use Rattle.std.proofs.Common.{Option, ap}
 use Rattle.diag_shelf.specs.World.{World}
 use Rattle.result_file.specs.Laws.{ValidIsTrue}
-use Rattle.request_words.specs.Request.{Request, expect, suspects, cover}
+use Rattle.request_words.specs.Request.{Request, expect, suspects, cover, bridges}
 use Rattle.run_steps.specs.Ending.{Ending}
 use Rattle.run_steps.specs.Outcome.{Outcome}
 use Rattle.dia_runs.specs.Requests.{plan_of}
 use Rattle.run_steps.specs.Ran.{IsDone}
-use Rattle.dia_runs.specs.SuspectRuns.{WritesExpectedLog, PrintsSuspects, PrintsCover}
+use Rattle.dia_runs.specs.SuspectRuns.{WritesExpectedLog, PrintsSuspects, PrintsCover, PrintsBridges}
 use Rattle.dia_runs.proofs.Clauses.{done_for, accepted_by, true_result}
 use Rattle.dia_runs.proofs.DictionaryClauses.{file_made, printed_text}
 
@@ -54,5 +54,20 @@ module _ {asked : Option Request} {ending : Ending} {old new : World} (called : 
         lines = l.read;
         text = l.then.0;
         covers = covers;
+        printed = printed_text d.0 (ap (λ (p : Outcome). p.console) l.then.2) d.3;
+      }
+
+  pub bridged_of : ValidIsTrue → PrintsBridges asked ending old new
+  bridged_of law bench result log most within is z =
+      let d = done_for called (bridges bench result log most within) is z in
+      let w = accepted_by d.1 d.2 in
+      let v = accepted_by w.then d.2 in
+      let l = accepted_by v.then d.2 in
+      let listed = l.then.1 in
+      record {
+        read = true_result law w.read.held w.read.accepted v.read.held v.read.accepted listed.of.spelled listed.of.valid;
+        lines = l.read;
+        text = l.then.0;
+        listed = listed;
         printed = printed_text d.0 (ap (λ (p : Outcome). p.console) l.then.2) d.3;
       }

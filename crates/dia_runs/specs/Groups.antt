@@ -1,7 +1,7 @@
 -- The kinds of requests, by the crate of their commands.
 use Rattle.std.specs.Prelude.{⊤}
 use Rattle.request_words.specs.declared.request.Request.{Request}
-use Rattle.request_words.specs.declared.request.Request.TheVariants.{Gen, TopUp, Check, MakeDict, Convert, Diagnose, ListFaults, Simulate, Synth, Compact, Rank, Adapt, Follow, Expect, Suspects, Cover}
+use Rattle.request_words.specs.declared.request.Request.TheVariants.{Gen, TopUp, Check, MakeDict, Convert, Diagnose, ListFaults, Simulate, Synth, Compact, Rank, Adapt, Follow, Expect, Suspects, Cover, Bridges}
 
 -- it makes or checks a result, or leaves out patterns of one
 abbrev pub IsOfResults : Request → Type 0
@@ -21,6 +21,7 @@ IsOfResults (Simulate bench vectors) = ⊥
 IsOfResults (Expect bench result log) = ⊥
 IsOfResults (Suspects bench result log most) = ⊥
 IsOfResults (Cover bench result log) = ⊥
+IsOfResults (Bridges bench result log most within) = ⊥
 
 -- it is about a dictionary or an adaptive plan
 abbrev pub IsOfDictionaries : Request → Type 0
@@ -40,3 +41,4 @@ IsOfDictionaries (Simulate bench vectors) = ⊥
 IsOfDictionaries (Expect bench result log) = ⊥
 IsOfDictionaries (Suspects bench result log most) = ⊥
 IsOfDictionaries (Cover bench result log) = ⊥
+IsOfDictionaries (Bridges bench result log most within) = ⊥

@@ -14,7 +14,7 @@ use Rattle.dia_runs.specs.Simulations.{PrintsSimulation}
 use Rattle.dia_runs.specs.Compactions.{CompactsResult}
 use Rattle.dia_runs.specs.Rankings.{PrintsRanking}
 use Rattle.dia_runs.specs.AdaptiveRuns.{AdaptsPlan, PrintsOutcome}
-use Rattle.dia_runs.specs.SuspectRuns.{WritesExpectedLog, PrintsSuspects, PrintsCover}
+use Rattle.dia_runs.specs.SuspectRuns.{WritesExpectedLog, PrintsSuspects, PrintsCover, PrintsBridges}
 
 pub record IsRunOf (asked : Option Request) (ending : Ending) (old new : State) : Type 0 where
   -- ---- what `gen` and `check` leave where they are done
@@ -60,6 +60,9 @@ pub record IsRunOf (asked : Option Request) (ending : Ending) (old new : State) 
   pub suspected : Told old new (PrintsSuspects asked ending)
   -- `cover` prints classes one after another, each that explains most of the failing patterns that are left, until none explains any.
   pub covered : Told old new (PrintsCover asked ending)
+  -- `bridges` prints exactly the bridges without a loop that explain all failing patterns of the log but so many, best first, so many at most,
+  -- how many there are and how many are exact. With the whole log of a bridge's own answers that bridge is exact.
+  pub bridged : Told old new (PrintsBridges asked ending)
   -- ---- the ending, and its causes
 
   -- It is one of those that these words can have.

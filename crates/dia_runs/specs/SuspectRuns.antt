@@ -1,13 +1,14 @@
--- What the runs of `expect`, `suspects` and `cover` whose work is done leave.
+-- What the runs of `expect`, `suspects`, `cover` and `bridges` whose work is done leave.
 use Rattle.std.specs.Prelude.{◌≡◌, ℕ, Option, Some}
 use Rattle.std.specs.FinMap.{get}
 use Rattle.diag_shelf.specs.World.{World}
 use Rattle.text_fields.specs.Fields.{Text}
-use Rattle.request_words.specs.Request.{Request, expect, suspects, cover}
+use Rattle.request_words.specs.Request.{Request, expect, suspects, cover, bridges}
 use Rattle.run_steps.specs.Ending.{Ending, done}
 use Rattle.run_steps.specs.Outcome.{ConsoleGained}
 use Rattle.run_steps.specs.ResultLogs.{IsLogAt}
 use Rattle.listing_commands.specs.Suspects.{IsExpectedLog, IsSuspectsText, IsCoverText}
+use Rattle.listing_commands.specs.Bridges.{IsBridgesText}
 use Rattle.dia_runs.specs.Promises.{WasRead, HoldsTrueResult}
 
 -- The result is valid and true. Under the log's name is what a chip without a fault answers to the result's patterns, and the console
@@ -47,3 +48,16 @@ pub record HasCover (bench result log : Text) (old new : World) : Type 0 where
 -- A run of `cover` whose work is done prints it.
 abbrev pub PrintsCover : Option Request → Ending → World → World → Type 0
 PrintsCover request ending old new = (bench result log : Text) → request ≡ Some (cover bench result log) → ending ≡ done → HasCover bench result log old new
+
+-- The result is valid and true. The console gained the bridges of the log that explain all of its failing patterns but so many, the first so
+-- many of them.
+pub record HasBridges (bench result log : Text) (most within : ℕ) (old new : World) : Type 0 where
+  pub read : HoldsTrueResult bench result old.files
+  pub lines : WasRead old.files log (IsLogAt read.design.circuit read.file)
+  pub text : Text
+  pub listed : IsBridgesText read.design.circuit read.design.names read.file lines.thing within most text
+  pub printed : ConsoleGained text old new
+
+-- A run of `bridges` whose work is done prints them.
+abbrev pub PrintsBridges : Option Request → Ending → World → World → Type 0
+PrintsBridges request ending old new = (bench result log : Text) (most within : ℕ) → request ≡ Some (bridges bench result log most within) → ending ≡ done → HasBridges bench result log most within old new

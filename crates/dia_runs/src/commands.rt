@@ -22,7 +22,9 @@ use dictionary_commands::{
     convert_file, diagnose_log, follow_log, make_dictionary, make_plan, rank_log,
 };
 use fault_collapse::same_root_equal;
-use listing_commands::{expect_log, list_cover, list_faults, list_suspects, simulate};
+use listing_commands::{
+    expect_log, list_bridges, list_cover, list_faults, list_suspects, simulate,
+};
 use net_model::{none_reaches_itself, one_walk, walk_reaches_itself};
 use pair_sets::{covering_is_equal, full_tree_is_covered, leaves_are_closed};
 use ranked_diag::{partial_log_is_read_once, whole_log_ranks_as_listed};
@@ -159,6 +161,9 @@ fn list<S: Shelf>(alloc: Global, request: Request<'_>, shelf: &mut S) -> Result<
             list_suspects(alloc, shelf, bench, result, log, most)
         }
         Request::Cover(bench, result, log) => list_cover(alloc, shelf, bench, result, log),
+        Request::Bridges(bench, result, log, most, within) => {
+            list_bridges(alloc, shelf, bench, result, log, most, within)
+        }
         _ => unreachable!(),
     }
 }

@@ -1,3 +1,4 @@
+pub mod Bridges
 pub mod Faults
 pub mod Plans
 pub mod Suspects

@@ -1,6 +1,7 @@
--- The plans of the commands that list faults, answers, suspects or covers, or write the log of a good chip.
+-- The plans of the commands that list faults, answers, suspects, covers or bridges, or write the log of a good chip.
 use Rattle.sim_listing.specs.SimText.{IsSimText}
 use Rattle.text_fields.specs.Fields.{Text}
+use Rattle.listing_commands.specs.Bridges.{IsBridgesText}
 use Rattle.listing_commands.specs.Faults.{IsFaultsText}
 use Rattle.listing_commands.specs.Suspects.{IsExpectedLog, IsSuspectsText, IsCoverText}
 use Rattle.run_steps.specs.Plan.{Plan}
@@ -26,3 +27,7 @@ suspects_plan bench result log most = with_netlist bench (λ design. with_result
 -- `cover`: classes are printed that explain a log together
 abbrev pub cover_plan : Text → Text → Text → Plan
 cover_plan bench result log = with_netlist bench (λ design. with_result result design.circuit (λ file. with_log_at log design.circuit file (λ lines. says (IsCoverText design.circuit file lines))))
+
+-- `bridges`: the shorts of two lines are printed that explain a log best
+abbrev pub bridges_plan : Text → Text → Text → ℕ → ℕ → Plan
+bridges_plan bench result log most within = with_netlist bench (λ design. with_result result design.circuit (λ file. with_log_at log design.circuit file (λ lines. says (IsBridgesText design.circuit design.names file lines within most))))

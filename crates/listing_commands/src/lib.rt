@@ -1,6 +1,7 @@
-//! The commands that list faults, answers, suspects and covers, or write the log of a good chip, over any shelf.
+//! The commands that list faults, answers, suspects, covers and bridges, or write the log of a good chip, over any shelf.
 #![tactic(auto)]
 
+mod bridged;
 mod covered;
 mod expects;
 mod listing;
@@ -8,6 +9,7 @@ mod sims;
 mod suspected;
 mod texts;
 
+pub use bridged::list_bridges;
 pub use covered::list_cover;
 pub use expects::expect_log;
 pub use listing::list_faults;

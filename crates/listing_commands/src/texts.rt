@@ -1,8 +1,10 @@
 //! The lines of the console.
 
-ghost use Rattle.std.specs.Prelude.{◌≡◌, ◌++◌, IfOk, OnOk, string_bytes};
+ghost use Rattle.std.specs.Prelude.{◌≡◌, ◌++◌, IfOk, OnOk, codes, decimal, string_bytes};
+ghost use Rattle.bridging_faults.specs.Texts.{bridge_word, bridges_end};
 ghost use Rattle.listing_commands.specs.Texts.{line_start, count_text, expected_counts_text, suspect_line, suspects_end, choice_line, cover_end};
 
+use bridging_faults::BridgeKind;
 use std::alloc::{AllocError, Global};
 use suspect_scores::{Choice, Suspect};
 
@@ -87,5 +89,44 @@ pub(crate) fn push_cover_end(
     writeln!(
         text,
         "listed {listed} explained {explained} failing {failing}"
+    )
+}
+
+/// The word of a kind of bridges.
+pub(crate) fn bridge_word(kind: BridgeKind) -> &'static str
+    ensures { result.now ≡ bridge_word kind }
+{
+    match kind {
+        BridgeKind::And => "and",
+        BridgeKind::Or => "or",
+        BridgeKind::Dominant => "dominant",
+    }
+}
+
+/// How many failing patterns a bridge explains, and how many others it doesn't; the names of its lines stand before.
+pub(crate) fn bridge_counts(
+    alloc: Global,
+    explained: u32,
+    false_patterns: u32,
+) -> Result<String, AllocError>
+    ensures { IfOk result (λ text. string_bytes text ≡ codes " " ++ (decimal explained ++ (codes " " ++ (decimal false_patterns ++ codes "\n")))) }
+{
+    format!(in alloc; " {explained} {false_patterns}\n")
+}
+
+/// How many bridges are listed of how many, how many are exact, and how many patterns are failing and logged.
+#[tactic(auto, unfolding(bridging_faults::specs::Texts::bridges_end))]
+pub(crate) fn bridges_end(
+    alloc: Global,
+    listed: usize,
+    found: u64,
+    exact: u64,
+    failing: usize,
+    logged: usize,
+) -> Result<String, AllocError>
+    ensures { IfOk result (λ text. string_bytes text ≡ bridges_end listed found exact failing logged) }
+{
+    format!(in alloc;
+        "listed {listed} of {found} exact {exact} failing {failing} logged {logged}\n"
     )
 }

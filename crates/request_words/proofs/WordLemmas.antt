@@ -11,14 +11,14 @@ use Rattle.std.specs.Result.{IfOk, IsErrAnd}
 use Rattle.std.proofs.lemmas.Result.{IfOk-weaker}
 use Rattle.clap.specs.Walk.{is_empty}
 use Rattle.text_fields.specs.Fields.{Text}
-use Rattle.request_words.specs.Request.{Request, asked_by, app_for, request_by, gen_app, check_app, dict_app, convert_app, diagnose_app, faults_app, sim_app, synth_app, compact_app, rank_app, adapt_app, follow_app, expect_app, suspects_app, cover_app, grade_app, topup_app}
+use Rattle.request_words.specs.Request.{Request, asked_by, app_for, request_by, gen_app, check_app, dict_app, convert_app, diagnose_app, faults_app, sim_app, synth_app, compact_app, rank_app, adapt_app, follow_app, expect_app, suspects_app, cover_app, grade_app, topup_app, bridges_app}
 use Rattle.request_words.specs.declared.request.Verb.{Verb}
-use Rattle.request_words.specs.declared.request.Verb.TheVariants.{Gen, Check, Dict, Convert, Diagnose, Faults, Sim, Synth, Compact, Rank, Adapt, Follow, Expect, Suspects, Cover, Grade, TopUp}
+use Rattle.request_words.specs.declared.request.Verb.TheVariants.{Gen, Check, Dict, Convert, Diagnose, Faults, Sim, Synth, Compact, Rank, Adapt, Follow, Expect, Suspects, Cover, Grade, TopUp, Bridges}
 
 -- ---- each command is simple, and no argument has a rule on another
 
 pub is_simple : (verb : Verb) → is_simple_and_free (app_for verb) ≡ true
-unfolding gen_app check_app dict_app convert_app diagnose_app faults_app sim_app synth_app compact_app rank_app adapt_app follow_app expect_app suspects_app cover_app grade_app topup_app
+unfolding gen_app check_app dict_app convert_app diagnose_app faults_app sim_app synth_app compact_app rank_app adapt_app follow_app expect_app suspects_app cover_app grade_app topup_app bridges_app
 is_simple Gen = refl
 is_simple Check = refl
 is_simple Dict = refl
@@ -36,6 +36,7 @@ is_simple Suspects = refl
 is_simple Cover = refl
 is_simple Grade = refl
 is_simple TopUp = refl
+is_simple Bridges = refl
 
 -- a command with an argument more
 pub added : {old new : Command} {arg : Arg} {app : App} {rule : Rule} → AddsArg old arg new → app_of old ≡ app → rule_of arg ≡ rule → arg.global ≡ false → app_of new ≡ with_rule app rule

@@ -3,7 +3,7 @@ use Rattle.std.specs.Prelude.{◌≤◌}
 use Rattle.result_records.specs.Limits.{AreWithinLimits}
 use Rattle.request_words.specs.Request as spec
 use Rattle.request_words.specs.declared.request.Request.{Request}
-use Rattle.request_words.specs.declared.request.Request.TheVariants.{Gen, Check, MakeDict, Convert, Diagnose, ListFaults, Simulate, Synth, Compact, Rank, Adapt, Follow, Expect, Suspects, Cover, TopUp}
+use Rattle.request_words.specs.declared.request.Request.TheVariants.{Gen, Check, MakeDict, Convert, Diagnose, ListFaults, Simulate, Synth, Compact, Rank, Adapt, Follow, Expect, Suspects, Cover, TopUp, Bridges}
 
 abbrev pub asked : Request → spec.Request
 asked (Gen bench result budgets) = spec.gen bench.now result.now budgets
@@ -22,6 +22,7 @@ asked (Expect bench result log) = spec.expect bench.now result.now log.now
 asked (Suspects bench result log most) = spec.suspects bench.now result.now log.now most
 asked (Cover bench result log) = spec.cover bench.now result.now log.now
 asked (TopUp bench vectors result budgets) = spec.top_up bench.now vectors.now result.now budgets
+asked (Bridges bench result log most within) = spec.bridges bench.now result.now log.now most within
 
 -- The numbers of a request are within their limits.
 abbrev pub HasLimits : Request → Type 0
@@ -41,3 +42,4 @@ HasLimits (Expect bench result log) = Unit {0}
 HasLimits (Suspects bench result log most) = (1 ≤ most) × (most ≤ 1000000)
 HasLimits (Cover bench result log) = Unit {0}
 HasLimits (TopUp bench vectors result budgets) = AreWithinLimits budgets
+HasLimits (Bridges bench result log most within) = (1 ≤ most) × (most ≤ 1000000) × (within ≤ 1000000)

@@ -7,7 +7,7 @@ use Rattle.result_records.specs.declared.limits.TheConstants.{BLOCKS_LIMIT, CUBE
 use Rattle.result_records.specs.declared.record.Budgets.{Budgets}
 use Rattle.request_words.specs.Arguments.{bare_app, two_names_app, name_rule, number_rule, option_rule, is_taken, name_in, number_in, kind_named}
 use Rattle.request_words.specs.declared.request.Verb.{Verb}
-use Rattle.request_words.specs.declared.request.Verb.TheVariants.{Gen, Check, Dict, Convert, Diagnose, Faults, Sim, Synth, Compact, Rank, Adapt, Follow, Expect, Suspects, Cover, Grade, TopUp}
+use Rattle.request_words.specs.declared.request.Verb.TheVariants.{Gen, Check, Dict, Convert, Diagnose, Faults, Sim, Synth, Compact, Rank, Adapt, Follow, Expect, Suspects, Cover, Grade, TopUp, Bridges}
 use Rattle.request_words.specs.declared.request.EntryKind.{EntryKind}
 
 pub data Request : Type 0 where
@@ -43,6 +43,8 @@ pub data Request : Type 0 where
   cover : (bench result log : Text) → Request
   -- keep of a list of vectors those that split a class, and generate a result behind them, for a netlist, with these budgets
   top_up : (bench vectors result : Text) (budgets : Budgets) → Request
+  -- list bridges, so many at the most, that explain all failing patterns of a partial log but so many, for a netlist and a result
+  bridges : (bench result log : Text) (most within : ℕ) → Request
 
 -- ---- each command: how its words are read, and what they ask for
 
@@ -164,6 +166,14 @@ abbrev pub topup_by : List Row → Request
 topup_by rows = top_up (name_in (codes "bench") rows) (name_in (codes "vectors") rows) (name_in (codes "result") rows)
     (record { blocks = 0; cubes = number_in (codes "cubes") 0 CUBES_LIMIT rows; conflicts = number_in (codes "conflicts") 0 CONFLICTS_LIMIT rows })
 
+unfoldable pub bridges_app : App
+bridges_app = with_rule (with_rule (log_app (codes "bridges"))
+    (option_rule (codes "most") (codes "20") 1 1000000)) (option_rule (codes "within") (codes "0") 0 1000000)
+
+abbrev pub bridges_by : List Row → Request
+bridges_by rows = bridges (name_in (codes "bench") rows) (name_in (codes "result") rows) (name_in (codes "log") rows)
+    (number_in (codes "most") 1 1000000 rows) (number_in (codes "within") 0 1000000 rows)
+
 -- ---- the table of commands
 
 -- the command of a name
@@ -186,6 +196,7 @@ verb_named name =
     else if bytes_eq name (codes "cover") then Some Cover
     else if bytes_eq name (codes "grade") then Some Grade
     else if bytes_eq name (codes "topup") then Some TopUp
+    else if bytes_eq name (codes "bridges") then Some Bridges
     else None
 
 -- the words that a command takes, and what they ask for
@@ -207,6 +218,7 @@ table Suspects = (suspects_app, λ rows. Some (suspects_by rows))
 table Cover = (cover_app, λ rows. Some (cover_by rows))
 table Grade = (grade_app, λ rows. Some (grade_by rows))
 table TopUp = (topup_app, λ rows. Some (topup_by rows))
+table Bridges = (bridges_app, λ rows. Some (bridges_by rows))
 
 abbrev pub app_for : Verb → App
 app_for verb = (table verb).0

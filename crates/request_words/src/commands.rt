@@ -1,11 +1,11 @@
 //! The words of the commands that take more or less than two names: `gen`, `dict`, `faults`, `synth`, `compact`, `rank`,
-//! `adapt`, `expect`, `suspects`, `cover`, `grade` and `topup`.
+//! `adapt`, `expect`, `suspects`, `cover`, `grade`, `topup` and `bridges`.
 
 ghost use Rattle.std.specs.Prelude.{◌≡◌, ◌≤◌, IfOk, IfSome, codes, option_map};
 ghost use Rattle.clap.specs.Words.{app_of, found_of, rows_of, with_rule};
 ghost use Rattle.result_records.specs.Limits.{AreWithinLimits};
 ghost use Rattle.request_words.specs.Arguments.{option_rule, number_in};
-ghost use Rattle.request_words.specs.Request.{gen_app, gen_by, dict_app, dict_by, faults_app, faults_by, synth_app, synth_by, compact_app, compact_by, rank_app, rank_by, adapt_app, adapt_by, log_app, expect_by, suspects_app, suspects_by, cover_by, list_app, grade_by, topup_app, topup_by};
+ghost use Rattle.request_words.specs.Request.{gen_app, gen_by, dict_app, dict_by, faults_app, faults_by, synth_app, synth_by, compact_app, compact_by, rank_app, rank_by, adapt_app, adapt_by, log_app, expect_by, suspects_app, suspects_by, cover_by, list_app, grade_by, topup_app, topup_by, bridges_app, bridges_by};
 ghost use Rattle.request_words.specs.Asked.{asked, HasLimits};
 
 use crate::arguments::{
@@ -20,10 +20,10 @@ use std::alloc::{AllocError, Global};
 // The largest number of a netlist.
 const SYNTH_LIMIT: u32 = 2000;
 
-// The most mismatches above the least.
+// The most mismatches above the least, or failing patterns that a bridge leaves unexplained.
 const WITHIN_LIMIT: u32 = 1_000_000;
 
-// The most suspects that are listed.
+// The most suspects or bridges that are listed.
 const MOST_LIMIT: u32 = 1_000_000;
 
 /// Two names and three options.
@@ -288,5 +288,30 @@ pub(crate) fn topup_in<'a>(matches: &ArgMatches<'a>) -> Request<'a>
         name_in(matches, "vectors"),
         name_in(matches, "result"),
         budgets_in(matches, 0),
+    )
+}
+
+/// Three names and two options.
+pub(crate) fn bridges_command<'a>(alloc: Global) -> Result<Command<'a>, AllocError>
+    ensures { IfOk result (λ c. app_of c ≡ bridges_app) }
+{
+    let command = log_command(alloc, "bridges")?;
+    let command = with_option(alloc, command, "most", "20", 1, MOST_LIMIT)?;
+    with_option(alloc, command, "within", "0", 0, WITHIN_LIMIT)
+}
+
+/// The request of its matches.
+pub(crate) fn bridges_in<'a>(matches: &ArgMatches<'a>) -> Request<'a>
+    ensures asked { asked result ≡ bridges_by (rows_of (found_of matches.now)) }
+    ensures limits { HasLimits result }
+{
+    let most = number_in(matches, "most", 1, MOST_LIMIT);
+    let within = number_in(matches, "within", 0, WITHIN_LIMIT);
+    Request::Bridges(
+        name_in(matches, "bench"),
+        name_in(matches, "result"),
+        name_in(matches, "log"),
+        most,
+        within,
     )
 }

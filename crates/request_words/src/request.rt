@@ -7,10 +7,10 @@ ghost use Rattle.request_words.specs.Asked.{asked, HasLimits};
 
 use crate::arguments::{WordsFault, name_in, parse, two_names};
 use crate::commands::{
-    adapt_command, adapt_in, compact_command, compact_in, cover_in, dict_command, dict_in,
-    expect_in, faults_command, faults_in, gen_command, gen_in, grade_in, list_command, log_command,
-    rank_command, rank_in, suspects_command, suspects_in, synth_command, synth_in, topup_command,
-    topup_in,
+    adapt_command, adapt_in, bridges_command, bridges_in, compact_command, compact_in, cover_in,
+    dict_command, dict_in, expect_in, faults_command, faults_in, gen_command, gen_in, grade_in,
+    list_command, log_command, rank_command, rank_in, suspects_command, suspects_in, synth_command,
+    synth_in, topup_command, topup_in,
 };
 use clap::{ArgMatches, Command};
 use result_records::Budgets;
@@ -36,6 +36,7 @@ pub(crate) enum Verb {
     Cover,
     Grade,
     TopUp,
+    Bridges,
 }
 
 /// What the entries of a dictionary tell of a number: at which patterns it answers otherwise than the fault-free circuit, all
@@ -82,6 +83,9 @@ pub enum Request<'a> {
     Cover(&'a str, &'a str, &'a str),
     /// To keep of a list of vectors those that split a class, and generate a result behind them, for a netlist.
     TopUp(&'a str, &'a str, &'a str, Budgets),
+    /// To list bridges, so many at the most, that explain all failing patterns of a partial log but so many, for a netlist and a
+    /// result.
+    Bridges(&'a str, &'a str, &'a str, u32, u32),
 }
 
 /// The request of the words: the first is a command, which reads the others.
@@ -123,6 +127,7 @@ fn verb_named(name: &str) -> Option<Verb>
         "cover" => Some(Verb::Cover),
         "grade" => Some(Verb::Grade),
         "topup" => Some(Verb::TopUp),
+        "bridges" => Some(Verb::Bridges),
         _ => None,
     }
 }
@@ -163,6 +168,7 @@ fn definition<'a>(alloc: Global, verb: Verb) -> Result<Command<'a>, AllocError>
         Verb::Cover => log_command(alloc, "cover"),
         Verb::Grade => list_command(alloc, "grade"),
         Verb::TopUp => topup_command(alloc),
+        Verb::Bridges => bridges_command(alloc),
     }
 }
 
@@ -195,5 +201,6 @@ fn requested<'a>(verb: Verb, matches: &ArgMatches<'a>) -> Option<Request<'a>>
         Verb::Cover => Some(cover_in(matches)),
         Verb::Grade => Some(grade_in(matches)),
         Verb::TopUp => Some(topup_in(matches)),
+        Verb::Bridges => Some(bridges_in(matches)),
     }
 }

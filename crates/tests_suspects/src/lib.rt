@@ -1,4 +1,4 @@
-//! Tests of runs of `expect`, `suspects` and `cover`, over shelves in memory.
+//! Tests of runs of `expect`, `suspects`, `cover` and `bridges`, over shelves in memory.
 #![tactic(auto)]
 
 #[cfg(test)]

@@ -58,15 +58,12 @@ static OF_SUSPECTS: [Failing; 7] = [
 ];
 
 #[test]
-fn each_failing_call_of_suspects_and_cover_shows(rt: HostRuntime) -> Result<(), Fail> {
+fn each_failing_call_of_suspects_cover_and_bridges_shows(rt: HostRuntime) -> Result<(), Fail> {
     let files = [("n", AND), ("r", AND_RESULT), ("l", TWO)];
     let suspects = ["suspects", "n", "r", "l"];
     each_fails(&rt, rt.alloc(), &files, &suspects, &OF_SUSPECTS)?;
-    each_fails(
-        &rt,
-        rt.alloc(),
-        &files,
-        &["cover", "n", "r", "l"],
-        &OF_SUSPECTS,
-    )
+    let cover = ["cover", "n", "r", "l"];
+    each_fails(&rt, rt.alloc(), &files, &cover, &OF_SUSPECTS)?;
+    let bridges = ["bridges", "n", "r", "l"];
+    each_fails(&rt, rt.alloc(), &files, &bridges, &OF_SUSPECTS)
 }

@@ -1,4 +1,4 @@
-//! Runs of `suspects` and `cover` with a log of more lines than there are lanes.
+//! Runs of `suspects`, `cover` and `bridges` with a log of more lines than there are lanes.
 
 use crate::tests::runs::left_by;
 use std::alloc::Global;
@@ -91,12 +91,13 @@ fn log_of(alloc: Global, failing: &[u32]) -> Result<String, Fail> {
     Ok(log)
 }
 
-// Whether `suspects` and `cover` print this of the chip that answers 0 to these patterns.
+// Whether `suspects`, `cover` and `bridges` (the first two) print this of the chip that answers 0 to these patterns.
 fn are_printed(
     alloc: Global,
     failing: &[u32],
     suspects: &[u8],
     cover: &[u8],
+    bridges: &[u8],
 ) -> Result<bool, Fail> {
     let netlist = one_or(alloc)?;
     let made = result_of_or(alloc)?;
@@ -108,12 +109,20 @@ fn are_printed(
     ];
     let listed = left_by(alloc, 4096, &[], &files, &["suspects", "n", "r", "l"])?;
     let covered = left_by(alloc, 4096, &[], &files, &["cover", "n", "r", "l"])?;
-    Ok(listed.ended(0, suspects) && covered.ended(0, cover))
+    let words = ["bridges", "n", "r", "l", "--most", "2"];
+    let bridged = left_by(alloc, 4096, &[], &files, &words)?;
+    Ok(listed.ended(0, suspects) && covered.ended(0, cover) && bridged.ended(0, bridges))
 }
 
 const OF_BOTH: &[u8] = b"521 2 2 0 258\n1 1 1 1 0\n519 1 1 1 0\nlisted 3 failing 2 logged 261\n";
 
 const OF_LAST: &[u8] = b"519 1 1 0 0\n521 1 1 0 259\nlisted 2 failing 1 logged 261\n";
+
+const SHORTS_OF_BOTH: &[u8] =
+    b"and i0 i259 2 0\ndominant i1 z 2 257\nlisted 2 of 259 exact 1 failing 2 logged 261\n";
+
+const SHORTS_OF_LAST: &[u8] =
+    b"dominant i0 i259 1 0\ndominant i1 i259 1 0\nlisted 2 of 777 exact 259 failing 1 logged 261\n";
 
 // A chip fails at a pattern of either block, and one at a pattern of the last block alone. The output stuck at 0 puts a 0 also
 // at each other pattern with a 1.
@@ -121,8 +130,8 @@ const OF_LAST: &[u8] = b"519 1 1 0 0\n521 1 1 0 259\nlisted 2 failing 1 logged 2
 fn logs_of_two_blocks(rt: HostRuntime) -> Result<(), Fail> {
     let alloc = rt.alloc();
     let by_output = b"521 2\nlisted 1 explained 2 failing 2\n";
-    assert!(rt; are_printed(alloc, &[0, 259], OF_BOTH, by_output)?);
+    assert!(rt; are_printed(alloc, &[0, 259], OF_BOTH, by_output, SHORTS_OF_BOTH)?);
     let by_input = b"519 1\nlisted 1 explained 1 failing 1\n";
-    assert!(rt; are_printed(alloc, &[259], OF_LAST, by_input)?);
+    assert!(rt; are_printed(alloc, &[259], OF_LAST, by_input, SHORTS_OF_LAST)?);
     Ok(())
 }

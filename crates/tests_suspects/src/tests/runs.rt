@@ -97,3 +97,23 @@ pub(crate) fn all_leave(rt: &impl Abort, alloc: Global, cases: &[Case]) -> Resul
     }
     Ok(())
 }
+
+/// A log, the words, the status, and what is printed.
+pub(crate) type LogCase = (&'static [u8], &'static [&'static str], u8, &'static [u8]);
+
+/// Each log is so listed or refused, for a netlist with its result, and stays as it was.
+pub(crate) fn are_listed(
+    rt: &impl Abort,
+    alloc: Global,
+    netlist: &[u8],
+    output: &[u8],
+    cases: &[LogCase],
+) -> Result<(), Fail> {
+    for (at, (log, words, status, console)) in cases.iter().enumerate() {
+        let files = [("n", netlist), ("r", output), ("l", *log)];
+        let left = left_by(alloc, 64, &[], &files, *words)?;
+        let listed = left.ended(*status, *console) && left.holds("l", Some(*log));
+        assert!(rt; listed, "case {at}");
+    }
+    Ok(())
+}

@@ -1,16 +1,11 @@
 //! Runs of `suspects`.
 
-use crate::tests::runs::{Case, File, all_leave, left_by};
+use crate::tests::runs::{Case, File, LogCase, all_leave, are_listed, left_by};
 use crate::tests::texts::{
     AND, AND_EXPECTED, AND_RESULT, C17, C17_BRIDGED, C17_EXPECTED, C17_RESULT, C17_STUCK, TRUTH,
     UNSEEN,
 };
-use std::alloc::Global;
-use std::process::Abort;
 use std::test::Fail;
-
-// A log, the words, the status, and what is printed.
-type Suspecting = (&'static [u8], &'static [&'static str], u8, &'static [u8]);
 
 const SUSPECTS: &[&str] = &["suspects", "n", "r", "l"];
 
@@ -29,7 +24,7 @@ const HALF: &[u8] = b"4 1 1 1 0\n23 1 2 0 1\n27 1 1 1 0\n15 1 1 1 1\nlisted 4 fa
 const TWO: &[u8] = b"0 1\n3 0\n";
 
 // Whole logs, logs of some patterns, of none and of `x` alone; as many suspects as there are, fewer and more.
-static OF_C17: [Suspecting; 7] = [
+static OF_C17: [LogCase; 7] = [
     (C17_EXPECTED, SUSPECTS, 0, b"listed 0 failing 0 logged 11\n"),
     (C17_STUCK, SUSPECTS, 0, STUCK),
     (C17_BRIDGED, SUSPECTS, 0, BRIDGED),
@@ -54,7 +49,7 @@ static OF_C17: [Suspecting; 7] = [
     ),
 ];
 
-static OF_AND: [Suspecting; 7] = [
+static OF_AND: [LogCase; 7] = [
     (TWO, SUSPECTS, 0, OF_TWO),
     (
         TWO,
@@ -85,7 +80,7 @@ static OF_AND: [Suspecting; 7] = [
 ];
 
 // Lines that aren't those of a log for the AND's result: patterns out of order, twice and one too many; of another width.
-static REFUSED: [Suspecting; 7] = [
+static REFUSED: [LogCase; 7] = [
     (b"1 0\n0 0\n", SUSPECTS, 6, b"log: Order at line 2\n"),
     (b"1 0\n1 0\n", SUSPECTS, 6, b"log: Order at line 2\n"),
     (b"3 0\n4 0\n", SUSPECTS, 6, b"log: Order at line 2\n"),
@@ -99,23 +94,6 @@ static REFUSED: [Suspecting; 7] = [
         b"log: Syntax at line 1\n",
     ),
 ];
-
-// Whether each log is so listed or refused, for a netlist with its result.
-fn are_listed(
-    rt: &impl Abort,
-    alloc: Global,
-    netlist: &[u8],
-    output: &[u8],
-    cases: &[Suspecting],
-) -> Result<(), Fail> {
-    for (at, (log, words, status, console)) in cases.iter().enumerate() {
-        let files = [("n", netlist), ("r", output), ("l", *log)];
-        let left = left_by(alloc, 64, &[], &files, *words)?;
-        let listed = left.ended(*status, *console) && left.holds("l", Some(*log));
-        assert!(rt; listed, "case {at}");
-    }
-    Ok(())
-}
 
 #[test]
 fn suspects_that_are_listed(rt: HostRuntime) -> Result<(), Fail> {
