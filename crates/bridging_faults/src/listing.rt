@@ -33,7 +33,7 @@ pub fn bridges(
     ensures { IfOk result (λ list. (table : Answers) → AreAnswersAt setting.now table → AreListed setting.now.subject.now setting.now.patterns.now table partial.now within most list) }
 {
     let rows = line_rows(alloc, setting, partial)?;
-    let chosen = chosen_lines(alloc, &rows.free, within)?;
+    let chosen = chosen_lines(alloc, &rows, within)?;
     let failing = failing_lines(&rows.free);
     let sought = Sought {
         rows,
