@@ -191,10 +191,13 @@ fn is_apart(scope: &mut PairScope, bridge: Bridge) -> bool
     ensures circuit { scope.new.circuit ≡ scope.old.circuit }
     ensures apart { result ≡ is_apart scope.old.circuit bridge }
 {
-    let back = leads(scope, bridge.second, bridge.first);
-    let forth = leads(scope, bridge.first, bridge.second);
-    let ascend = bridge.first < bridge.second;
-    !back & (!is_wired(bridge.kind) | (ascend & !forth))
+    if leads(scope, bridge.second, bridge.first) {
+        return false;
+    }
+    if !is_wired(bridge.kind) {
+        return true;
+    }
+    (bridge.first < bridge.second) && !leads(scope, bridge.first, bridge.second)
 }
 
 // Whether a line is another, or leads to it.
