@@ -11,6 +11,7 @@ mod following;
 mod generating;
 mod kept;
 mod listing;
+mod long;
 mod netlists;
 mod rankings;
 mod runs;
