@@ -10,6 +10,7 @@ import os
 import shutil
 import stat
 import subprocess
+import sys
 from typing import NamedTuple
 
 import bench
@@ -48,17 +49,30 @@ class Bridge(NamedTuple):
         return self.first, self.second
 
 
-def printed(*words: str) -> list:
-    """The lines that a command prints. What the script tells besides goes to standard error."""
-    it = subprocess.run([f"{TOP}/diatest", *words], stdout=subprocess.PIPE, text=True, encoding="latin-1")
+COPIES = {}  # the user's words for what is read from pipes, by the names of the copies
+
+
+def told(text: str) -> str:
+    """A text with the user's words in the place of the names of copies."""
+    for copy, word in COPIES.items():
+        text = text.replace(copy, word)
+    return text
+
+
+def printed(*words: str, quiet: bool = False) -> list:
+    """The lines that a command prints. What the script tells besides goes to standard error, unless this is to be quiet."""
+    errors = subprocess.PIPE if quiet or COPIES else None
+    it = subprocess.run([f"{TOP}/diatest", *words], stdout=subprocess.PIPE, stderr=errors, text=True, encoding="latin-1")
+    if it.stderr and not quiet:
+        sys.stderr.write(told(it.stderr))
     if it.returncode:
-        raise Ended(it.returncode, it.stdout)
+        raise Ended(it.returncode, told(it.stdout))
     return it.stdout.splitlines()
 
 
-def suspects_of(netlist: str, result: str, log: str, *options: str):
+def suspects_of(netlist: str, result: str, log: str, *options: str, quiet: bool = False):
     """What `suspects` prints: the scores, and how many patterns are failing and logged."""
-    *lines, last = printed("suspects", netlist, result, log, *options)
+    *lines, last = printed("suspects", netlist, result, log, *options, quiet=quiet)
     return [Score(*map(int, it.split())) for it in lines], int(last.split()[3]), int(last.split()[5])
 
 
@@ -122,6 +136,7 @@ def readable(kind: str, name: str, folder: str) -> str:
     copy = os.path.join(folder, kind)
     with open(name, "rb") as source, open(copy, "wb") as target:
         shutil.copyfileobj(source, target)
+    COPIES[copy] = name
     return copy
 
 

@@ -41,3 +41,8 @@ def nets(found):
     if len(found) <= NAMED + 1:
         return " or ".join([", ".join(found[:-1]), found[-1]] if len(found) > 1 else found)
     return f"{', '.join(found[:NAMED])} or one of {len(found) - NAMED:,} more"
+
+
+def unnamed(found):
+    """The nets that are only counted there."""
+    return found[NAMED:] if len(found) > NAMED + 1 else []

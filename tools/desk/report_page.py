@@ -9,7 +9,7 @@ import report_step as steps
 import report_words as words
 from report_case import numbers_in, ones_in, union
 from report_graph import drawn_bridges
-from report_kinds import kind, nets
+from report_kinds import kind, nets, unnamed
 from report_place import by_net, driver, place, position, spot
 
 HERE = os.path.dirname(os.path.realpath(__file__))
@@ -73,7 +73,8 @@ def verdict(case, said):
     """The verdict: its heading and its sentences, and how much fails."""
     more = "".join(paragraph(it) for it in said.more)
     counts = "".join(f"<p>{kind}: {text}.</p>" for kind, text in observed(case))
-    return f'<div class="verdict{"" if case.failing else " good"}"><h2>{escape(said.heading)}.</h2>{more}{counts}</div>'
+    link = '<p class="screen"><a href="#next">Next step</a></p>' if case.failing else ""
+    return f'<div class="verdict{"" if case.failing else " good"}"><h2>{escape(said.heading)}.</h2>{link}{more}{counts}</div>'
 
 
 def about(case, made):
@@ -145,7 +146,9 @@ def where(case, number):
 def defect(case, it):
     """The kind of defect that fits a suspect."""
     found = kind(case, it)
-    return escape(found.word + (f": net {nets(found.partners)} at its other end" if found.partners else ""))
+    said = escape(found.word + (f": net {nets(found.partners)} at its other end" if found.partners else ""))
+    rest = unnamed(found.partners)
+    return said + (folded([], [escape(", ".join(rest))], f"the other {words.count(len(rest), 'net')}") if rest else "")
 
 
 def suspects(case, doubt):
@@ -237,7 +240,7 @@ def next_step(case, doubt):
     body = [paragraph(it) for it in step.said]
     body += [vector(case, step.pattern)] if step.pattern is not None else []
     body += [left_open(case)] if case.suspects and not doubt and not case.bridged() else []
-    return "<h2>The next step</h2>\n" + "\n".join(body)
+    return '<div id="next"></div>\n<h2>The next step</h2>\n' + "\n".join(body)
 
 
 def drawing(case, svg, said):

@@ -136,6 +136,15 @@ def in_short(case, number):
     return f"a fault at {found.where} ({re.sub(' [(].*?[)]', '', sites[-1])}, or equal)"
 
 
+def in_counts(case, number):
+    """A class in words, inside a sentence, with how many faults are equal to the one that is named."""
+    said, others = in_short(case, number), len(case.members[number]) - 1
+    if not others:
+        return said
+    equal = f"{others:,} more equal fault{'' if others == 1 else 's'}"
+    return said.replace(", or equal)", f"; {equal})") if spot(case, number).gate else f"{said} ({equal})"
+
+
 def stems(case, number):
     """The nets whose stems are members of a class, with the values at which they are stuck."""
     names = [case.names[it] for it in nearest_first(case, case.members[number])]

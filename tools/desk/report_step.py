@@ -5,6 +5,7 @@ from typing import NamedTuple
 
 from report_bridges import layout
 from report_case import numbers_in, ones_in, union
+from report_chain import dead
 from report_place import in_short, position
 from report_words import count
 
@@ -145,7 +146,16 @@ def shorted(case):
 
 
 def next_step(case, doubt):
-    """What to do next."""
+    """What to do next; a scan chain that looks broken comes first."""
+    step = of_log(case, doubt)
+    if dead(case):
+        first = "Shift a pattern of zeros and ones through the scan chain: if it doesn't come out, mend the chain first."
+        return step._replace(said=[first, *step.said])
+    return step
+
+
+def of_log(case, doubt):
+    """What to do next if the scan chain is right."""
     if doubt:
         check = "compare the tester's list of patterns, its pin order and its levels with the result"
         return Step([f"Check the log before the chip: {f'try it with {doubt.best.change}' if doubt.best else check}."])

@@ -4,12 +4,13 @@ from typing import NamedTuple
 
 import report_bridges as bridges
 from report_case import ones_in
-from report_place import in_full, in_short
+from report_chain import dead, heading
+from report_place import in_counts, in_full, in_short
 
 LOOKS = "This looks like a log of other patterns, or in another order or polarity"
 UNFITTING = (
-    "None of these makes it fit: patterns shifted by one, positions in reverse order, bits inverted, the patterns of another result in the "
-    "folder."
+    "None of these makes it fit: patterns shifted by one, positions in reverse order, bits inverted, scan cells shifted by one, the patterns of "
+    "another result in the folder."
 )
 NEITHER = "No single stuck-at fault and no bridge fits"
 FAILING_ONLY = "The log has no passing pattern, so no fault can be ruled out because it would fail more patterns."
@@ -43,7 +44,13 @@ def capital(text):
 
 
 def verdict(case, doubt):
-    """What the log comes to."""
+    """What the log comes to; a scan chain that looks broken comes first."""
+    said, broken = of_log(case, doubt), dead(case)
+    return Verdict(heading(broken), [f"{said.heading}.", *said.more]) if broken else said
+
+
+def of_log(case, doubt):
+    """What the log comes to if the scan chain is right."""
     if not any(case.seen):
         return Verdict("The log has no observed bit, so it says nothing about the chip", [])
     if not case.failing:
@@ -74,7 +81,7 @@ def doubted(case, doubt):
     more.append(fitting(doubt.best) if doubt.best else UNFITTING)
     if doubt.others and not doubt.best:
         more.append(f"The log has more patterns than {', '.join(doubt.others)}, in the same folder.")
-    if doubt.still * 2 > doubt.cells:
+    if doubt.still * 2 > doubt.cells and not dead(case):
         more.append(f"{doubt.still:,} of {count(doubt.cells, 'scan cell')} never change in the log: check the scan chain.")
     if not doubt.best and case.suspects:
         more.append(f"If the log is right, several defects act at once; the nearest is {in_short(case, case.suspects[0].number)}.")
@@ -110,7 +117,7 @@ def explained(case):
         named = in_full(case, first.number)
         return Verdict(f"A single stuck-at fault fits{',' if named.startswith('at gate ') else ':'} {named}", more)
     passed = ones_in(case.shows[first.number])
-    more = [f"{capital(in_short(case, first.number))} explains each of the {failing}, but would also fail {count(passed, 'pattern')} that passed."]
+    more = [f"{capital(in_counts(case, first.number))} explains each of the {failing}, but would also fail {count(passed, 'pattern')} that passed."]
     return Verdict(f"{NEITHER}: a defect that shows now and then", more + bridges.nearest(case, passed))
 
 

@@ -9,6 +9,7 @@ from report_case import Ended, ones_in, suspects_of, union
 
 FOLDER = 50  # results of the folder that are looked at
 LARGEST = 1 << 28  # bytes of one that is read
+ENOUGH = 10  # failing patterns without a passing one that say something of the others
 SHIFTS = {0: None, -1: "patterns counted from 1", 1: "patterns counted one too low"}
 
 
@@ -66,8 +67,20 @@ def changes(case):
             yield tried(" and ".join(filter(None, said)), case.read["result"], case.good, log, moved(case.logged, by, case.full))
 
 
+def shifted_cells(case):
+    """The log with the bits of the scan cells one place further back or front."""
+    cells = [at for at, (kind, _) in enumerate(case.netlist.positions) if kind == "cell"]
+    for by, said in ((1, "late"), (-1, "early")) if len(cells) > 1 else ():
+        words = [[*it] for it in (case.ones, case.zeros)]
+        for to, before in zip(words, (case.ones, case.zeros)):
+            for place, at in enumerate(cells):
+                to[at] = before[cells[place + by]] if 0 <= place + by < len(cells) else 0
+        change = f"scan cells shifted by one place (each bit stands one cell too {said})"
+        yield tried(change, case.read["result"], case.good, tuple(words), case.logged)
+
+
 def patterns_of(name):
-    """The patterns of a file if it is a result, else None."""
+    """The patterns of a file if it is a result, else None. Lines of other kinds may stand between them."""
     found = []
     with open(name, "rb") as file:
         if file.read(8) != b"diatest ":
@@ -77,7 +90,7 @@ def patterns_of(name):
             fields = line.split(maxsplit=2)
             if fields[:1] == [b"pattern"]:
                 found.append("" if fields[1] == b"-" else fields[1].decode("latin-1"))
-            elif fields[:1] != [b"budget"]:
+            elif fields[:1] == [b"class"]:
                 return found
     return None
 
@@ -131,7 +144,7 @@ def asked(case, it):
     with open(name, "w", encoding="ascii") as file:
         file.writelines(lines_of(it.log))
     try:
-        scores, _, _ = suspects_of(case.read["netlist"], it.result, name, "--most", "1")
+        scores, _, _ = suspects_of(case.read["netlist"], it.result, name, "--most", "1", quiet=True)
     except Ended:  # the other result isn't valid
         return it
     return it._replace(explained=scores[0].explained if scores else 0)
@@ -158,15 +171,22 @@ def fitting(case, tries):
     return best, answer if few or (answer.explained or 0) * 2 > answer.failing else None
 
 
+def applied(case):
+    """How many patterns were applied: those logged, or those from the first to the last of a long list of failing ones."""
+    if not case.failing_only():
+        return case.logged_count
+    first = (case.logged & -case.logged).bit_length()
+    return case.logged.bit_length() - first + 1 if case.failing_count >= ENOUGH else len(case.patterns)
+
+
 def doubt(case):
     """Why the log is doubted, if it is: no class and no bridge explains it, many bits fail, and either nearly every pattern does or a change fits."""
     most = max((it.explained for it in case.suspects), default=0)
     if not case.failing or case.exact or most == case.failing_count or not large(case.wrong_bits, case.seen_bits):
         return None
     others, short = other_results(case)
-    tries = [*changes(case), *others]
+    tries = [*changes(case), *shifted_cells(case), *others]
     asked_for, best = fitting(case, tries)
-    applied = len(case.patterns) if case.failing_only() else case.logged_count
-    if not best and (case.failing_count * 10 < applied * 9 or large(most, case.failing_count)):
+    if not best and (case.failing_count * 10 < applied(case) * 9 or large(most, case.failing_count)):
         return None
     return Doubt([best if best and it is asked_for else it for it in tries], best, short, *never_change(case))
