@@ -1,4 +1,7 @@
-"""Lines of sed and awk that mend a file which is written in another way. The tutorial's table has those of logs."""
+"""Lines of sed and awk that mend a file which is written in another way. The tutorial's table has those of logs.
+
+A line is looked at by a form in which WIDTH stands for how many bits a right one has. A mend that takes lines off is offered only if it leaves
+some, and takes off none with that many bits."""
 
 import re
 import shlex
@@ -8,9 +11,11 @@ from typing import NamedTuple
 class Mend(NamedTuple):
     has: str  # what a line has that isn't right
     form: bytes  # such a line
-    command: str
+    command: str  # LINE in it stands for the number of the line
+    keeps: bytes = b""  # the front of a line that stays, if others are taken off
 
 
+BIT = rb"[01xXzZHLhl?-]"
 ENCODED = (  # by the bytes at the front of a file
     Mend("is compressed by gzip", rb"\x1f\x8b", "zcat"),
     Mend("is compressed by xz", rb"\xfd7zXZ\x00", "xzcat"),
@@ -21,38 +26,71 @@ ENCODED = (  # by the bytes at the front of a file
 )
 FEEDS = Mend("ends with CR and LF", rb"[^\n]*\r\n?", r"sed 's/\r$//'")
 OPEN = Mend("has no LF behind it", rb"[^\n]+", r"sed '$a\'")
+EMPTY = Mend("is empty", rb"[ \t]*\n?", r"sed '/^[ \t]*$/d'", rb"[ \t]*\S")
+QUOTED = Mend("has quotation marks", rb'.*".*', "sed 's/\"//g'")
+LETTER = rb"[A-GI-KM-WYa-gi-km-wy]"  # none that stands for a bit
+REMARK = Mend(
+    "is a remark or a heading, and other lines may begin in the same way",
+    rb"(?=.*[GI-KM-WYgi-km-wy])([#;*%!/].*|[A-Za-z_]+([ \t,;:]+[A-Za-z_]+)*[:.]?\s*)",  # no word is a number in hexadecimal
+    "sed LINEd",
+)
+WORD_BEHIND = r"sed -E 's/[ \t,;:]+[A-Za-z]*[A-GI-KM-WYa-gi-km-wy][A-Za-z]*[ \t]*$//'"
+REMARK_BEHIND = r"sed -E 's/([01xXzZHLhl?-])[ \t]*(#|\/\/).*$/\1/'"
 
 NUMBERED = (  # by a line of a log, the first that fits
     FEEDS,
-    Mend("is empty", rb"[ \t]*\n?", "sed '/^[0-9]/!d'"),
+    EMPTY,
     Mend("has blanks at its front", rb"[ \t]+[^\s].*", r"sed -E 's/^[ \t]+//; s/[ \t]+$//'"),
-    Mend("has a word in front of the number", rb"[A-Za-z_]+[ :=]*[0-9]+[ \t,;:]+\S.*", "sed -E 's/^[A-Za-z_]+[ :=]*//'"),
-    Mend("begins with no number, as a heading or a remark", rb"[^0-9].*", "sed '/^[0-9]/!d'"),
-    Mend("has no number in front of its bits", rb"[01xX]{2,}\n?", "awk '{ print NR - 1, $0 }'"),
-    Mend("has zeros in front of its number", rb"0+[0-9]+\D.*", r"sed -E 's/^0+([0-9])/\1/'"),
+    Mend("has blanks at its end", rb"BIT{WIDTH}[ \t]+\n?", r"sed -E 's/^[ \t]+//; s/[ \t]+$//'"),
+    QUOTED,
+    Mend("has no number, and blanks or _ among its bits", rb"(?=.*[ _]+BIT)(BIT[ _]*){WIDTH}\n?", "sed 's/[ _]//g'"),
+    Mend("has no number in front of its bits", rb"[01xX]{WIDTH}\n?", "awk '{ print NR - 1, $0 }'"),
+    Mend("has H and L for 1 and 0", rb"([0-9]+[ \t,;:]+)?(?=.*[HLhl])(BIT[ _]*){WIDTH}\n?", "sed 'y/HLhl/1010/'"),
+    Mend("has a word in front of the number", rb"[A-Za-z_]+[ :=]*[0-9]+[ \t,;:]+(BIT[ _]*){WIDTH}.*", "sed -E 's/^[A-Za-z_]+[ :=]*//'"),
+    Mend("has something in front of its number", rb"[^0-9]+[0-9]+[^0-9A-Za-z]+(BIT[ _]*){WIDTH}.*", "sed -E 's/^[^0-9]+([0-9])/\\1/'"),
+    Mend("begins with no number, as a heading or a remark", rb"[^0-9].*", "sed '/^[0-9]/!d'", rb"[0-9]"),
+    REMARK,
+    Mend("has zeros in front of its number", rb"0+[0-9]+[^0-9A-Za-z]+(BIT[ _]*){WIDTH}(?!BIT).*", r"sed -E 's/^0+([0-9])/\1/'"),
     Mend("has a tab, a comma or several blanks behind its number", rb"[0-9]+([\t,;:]| [ \t,;:])[ \t,;:]*\S.*", r"sed -E 's/^([0-9]+)[ \t,;:]+/\1 /'"),
-    Mend("has no bits", rb"[0-9]+ *\n?", r"sed -E '/^[0-9]+ *$/d'"),
+    Mend("has a mark behind its number", rb"[0-9]+[])}=|>]\s*(BIT[ _]*){WIDTH}.*", r"sed -E 's/^([0-9]+)[])}=|>][ \t,;:]*/\1 /'"),
+    Mend("has no bits", rb"[0-9]+ +\n?", r"sed -E '/^[0-9]+ *$/d'"),
+    Mend("has no bits", rb"[0-9]+\n?", r"sed -E '/^[0-9]+ *$/d'", rb"[0-9]+[^0-9\n]+[^\s]"),
+    Mend("has a word behind its bits", rb"[0-9]+ (BIT[ _]*){WIDTH}[ \t,;:]+[A-Za-z]*LETTER[A-Za-z]*[ \t]*\n?", WORD_BEHIND),
+    Mend("has a remark behind its bits", rb"[0-9]+ (BIT[ _]*){WIDTH}[ \t]*(#|//).*", REMARK_BEHIND),
     Mend("has blanks at its end", rb".*[ \t]\n?", r"sed -E 's/^[ \t]+//; s/[ \t]+$//'"),
-    Mend("has H and L for 1 and 0", rb"[0-9]+ [^HL]*[HL].*", "sed 'y/HL/10/'"),
-    Mend("has X, Z, - or ? for what wasn't seen", rb"[0-9]+ [01xXzZ? _-]*[XzZ?-][01xXzZ? _-]*\n?", "sed -E 's/[XzZ?-]/x/g'"),
+    Mend("has 0b in front of its bits", rb"[0-9]+ 0b(BIT[ _]*){WIDTH}\n?", "sed 's/ 0b/ /'"),
+    Mend("has X, Z, - or ? for what wasn't seen", rb"([0-9]+ )?(?=[^\n]*[XzZ?-])([01xXzZ?-][ _]*){WIDTH}\n?", "sed -E 's/[XzZ?-]/x/g'"),
     Mend("has blanks or _ among its bits", rb"[0-9]+ [01x]+[ _][01x _]*\n?", r"sed -E ':a; s/^([0-9]+ [01x]+)[ _]+/\1/; ta'"),
     OPEN,
 )
 VECTORS = (  # by a line of a list of vectors
     FEEDS,
-    Mend("is empty", rb"[ \t]*\n?", "sed '/^[01]/!d'"),
-    Mend("has blanks at its front or its end", rb"[ \t]+[01]+[ \t]*\n?|[01]+[ \t]+\n?", r"sed -E 's/^[ \t]+//; s/[ \t]+$//'"),
-    Mend("has a word or a number in front of its bits", rb"(\S+ +)+[01]+\n?", "sed 's/^.* //'"),
-    Mend("begins with no bit, as a heading or a remark", rb"[^01].*", "sed '/^[01]/!d'"),
-    OPEN,
+    EMPTY,
+    Mend("has blanks at its front or its end", rb"[ \t]+\S.*|[01xX]+[ \t]+\n?", r"sed -E 's/^[ \t]+//; s/[ \t]+$//'"),
+    QUOTED,
+    Mend(
+        "has an x, and a vector's bit can't be x: fill it with 0 or 1",
+        rb"(?=[01]*[xX])([01xX]{WIDTH}|(?!0[xX])[01xX]+)\n?",
+        "sed 's/[xX]/0/g'",
+    ),
+    Mend("has blanks, commas or _ among its bits or behind them", rb"(?=.*[ ,;_])([01xX][ ,;_]*){WIDTH}\n?", "sed 's/[ ,;_]//g'"),
+    Mend("has a word or a number in front of its bits", rb"(\S+ +)+[01xX]{WIDTH}\n?", r"sed -E 's/^.* ([01xX]+)$/\1/'"),
+    Mend("has a word or a number in front of its bits", rb"[^\n]*[\t,;:=][01xX]{WIDTH}\n?", r"sed -E 's/^.*[\t,;:=]([01xX]+)$/\1/'"),
+    Mend("has a word or a number in front of its bits", rb"[^ ]+ +([01xX][ _]*){WIDTH}\n?", "sed -E 's/^[^ ]+ +//'"),
+    Mend("has a word behind its bits", rb"[01xX]{WIDTH}[ \t,;:]+[A-Za-z]*LETTER[A-Za-z]*[ \t]*\n?", WORD_BEHIND),
+    Mend("has a remark behind its bits", rb"[01xX]{WIDTH}[ \t]*(#|//).*", REMARK_BEHIND),
+    Mend("has 0b in front of its bits", rb"0b[01xX]{WIDTH}\n?", "sed 's/^0b//'"),
+    Mend("begins with no bit, as a heading or a remark", rb"[^01].*", "sed '/^[01]/!d'", rb"[01]"),
+    REMARK,
+    Mend("has no LF behind it", rb"[01]+", r"sed '$a\'"),
 )
 AGAIN = Mend("has patterns in another order, or some twice", rb"", "sort -n -s -u -k 1,1")
 FROM_ONE = Mend("counts patterns from 1", rb"", "awk '{ print $1 - 1, $2 }'")
 
 
-def sentence(mend, subject, name):
+def sentence(mend, subject, name, line=0):
     """What a line or a file has, and the line that mends it."""
-    return f" {subject} {mend.has}. This mends it:\n  {mend.command} {shlex.quote(name)} > NEW"
+    return f" {subject} {mend.has}. This mends it:\n  {mend.command.replace('LINE', str(line))} {shlex.quote(name)} > NEW"
 
 
 def of_file(head, name):
@@ -60,6 +98,26 @@ def of_file(head, name):
     return next((sentence(it, "The file", name) for it in ENCODED if re.match(it.form, head)), "")
 
 
-def of_line(line, mends, name):
-    """What a line has, and what mends it. The line has its LF, if there is one."""
-    return next((sentence(it, "The line", name) for it in mends if re.fullmatch(it.form, line, re.DOTALL)), "")
+def form(text, width):
+    """The expression of a form, for lines of so many bits."""
+    return re.compile(text.replace(b"BIT", BIT).replace(b"LETTER", LETTER).replace(b"WIDTH", b"%d" % width), re.DOTALL)
+
+
+def keeps_bits(mend, name, width):
+    """Whether a mend that takes lines off leaves some, and takes off none with so many bits."""
+    stays, bits, left = re.compile(mend.keeps), form(rb"(?<![0-9A-Za-z])(BIT[ _]*){WIDTH}(?![0-9A-Za-z])", width), False
+    with open(name, "rb") as file:
+        for line in file:
+            if stays.match(line):
+                left = True
+            elif len(line) > width and bits.search(line):
+                return False
+    return left
+
+
+def of_line(line, mends, name, width=0, number=0):
+    """What a line has, and what mends it. The line has its LF, if there is one; right ones have so many bits."""
+    for it in mends:
+        if form(it.form, width).fullmatch(line) and (not it.keeps or keeps_bits(it, name, width)):
+            return sentence(it, "The line", name, number)
+    return ""

@@ -62,6 +62,14 @@ def refuse_same(read, made, force):
                 raise Refused(f"{both} is read and would be written over; give the new file another name, or add {force}")
 
 
+def refuse_another(made, kind_of, force):
+    """Refuses a run that would write over a file of another kind, or over a log that may be a chip's. `made` has what is written under each name."""
+    for name, kind in made.items():
+        older = kind_of(name) if target(name) and is_plain(name) else None
+        if older and (older != kind or kind == "a log"):
+            raise Refused(f"{named(name)} looks like {older}, and {kind} would be written over it; give the new file another name, or add {force}")
+
+
 class Output:
     """A file that a run writes: `written` is the name that the program gets."""
 

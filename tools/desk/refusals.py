@@ -73,11 +73,15 @@ HEADS = (  # what a file is by its beginning
     (rb"DIAT", "a dictionary"),
     (rb"diatest 1 ", "a result"),
     (rb"adapt 1 ", "an adaptive plan"),
-    (rb"[ \t]*[0-9]+[ \t,;:]+[01xXzZHL?_ -]+\r?\n", "a log"),
+    (rb"[ \t]*[0-9]+[ \t,;:]+[01xXzZHLhl?_ -]+(\r?\n|$)", "a log"),
     (rb"(?i)(\s|#[^\n]*\n)*(in|out)put\s*\(", "a netlist"),
     (rb"(?s)(\s|//[^\n]*\n|/\*.*?\*/)*(module|`timescale)\s", "Verilog, of which tools/from-verilog makes a netlist"),
 )
 WANTED = {"netlist": "a netlist", "result": "a result", "dictionary": "a dictionary", "plan": "an adaptive plan", "log": "a log"}
+LISTED = (  # what an older file is whose beginning says nothing
+    (rb"[01]{2,}\r?(\n|$)", "a list of vectors"),
+    (rb"(?s)(.*\n)?[^0-9\n]*[0-9]+[^0-9A-Za-z\n]+[01xXzZHLhl?_ -]+[^0-9A-Za-z\n]*\n", "a log"),
+)
 NAMES = {
     "netlist": ("NETLIST",),
     "result": ("RESULT",),
@@ -167,22 +171,23 @@ def log_order(command, name, line, text, patterns):
     return words + (mends.sentence(mend, "It seems that this log", name) if mend else "")
 
 
-def log_mend(command, files, name, text):
-    """What a line of a log or of a list of vectors has, and what mends it."""
-    if command not in LISTS:
-        return mends.of_line(text, mends.NUMBERED, name)
-    numbered = re.fullmatch(rb"[0-9]+ ([01x]+|-)\r?\n", text)
-    if numbered and len(numbered[1]) != sizes(command, files)[1]:
+def log_mend(command, files, name, text, line):
+    """What a line of a log or of a list of vectors has, and what mends it; else how many bits such a line has."""
+    width = sizes(command, files)[1]
+    numbered = command in LISTS and re.fullmatch(rb"[0-9]+ ([01x]+|-)\r?\n", text)
+    if numbered and len(numbered[1]) != width and len(numbered[0].split()[0] + numbered[1]) != width:
         return f" This file looks like a log, and `{command}` takes vectors."
-    return mends.of_line(text, mends.VECTORS, name)
+    mend = mends.of_line(text, mends.VECTORS if command in LISTS else mends.NUMBERED, name, width, line)
+    return mend or f" Here a line has {width} bit{'' if width == 1 else 's'}{'' if command in LISTS else ' behind its number'}."
 
 
-def log_syntax(command, files, name, text, other):
+def log_syntax(command, files, name, line, text, other):
     """Where a line of a log leaves its form, and what the form is. `other` tells of what other kind the file is."""
     words, number = LOG_WORDS.get(command, WHOLE_WORDS), re.match(NUMBER, text)
-    if command not in LISTS and number and int(number[0]) > LARGEST:
+    alone = re.fullmatch(rb"[01 _]+\n?", text) and sum(it in b"01" for it in text) == sizes(command, files)[1]
+    if command not in LISTS and number and int(number[0]) > LARGEST and not alone:
         return 0, f"{words}. Its number is above {LARGEST}, the largest that is read."
-    mend = "" if other else log_mend(command, files, name, text)
+    mend = "" if other else log_mend(command, files, name, text, line)
     partial = "" if command in (*PARTIAL, *LISTS) or "x" not in mend + text.decode("latin-1") else " `rank` and `suspects` take an x."
     return first_wrong(text, LOG_FORM.get(command, WHOLE_FORM)), f"{words}.{partial}{mend}"
 
@@ -192,7 +197,7 @@ def log_place(command, files, name, rule, line, text, other):
     if rule == "TooLong":
         return 0, "The text has at most 1,073,741,824 bytes."
     if rule == "Syntax":
-        return log_syntax(command, files, name, text, other)
+        return log_syntax(command, files, name, line, text, other)
     patterns, width = sizes(command, files)
     if rule == "Order":
         return 0, log_order(command, name, line, text, patterns)
@@ -218,6 +223,16 @@ def result_place(rule, step, text):
         field, at = rb"(?<= );", step
     found = next(islice(re.finditer(field, text), at, None), None)
     return found.start() if found else len(text.rstrip(b"\n"))
+
+
+def kind_of(name):
+    """What a file seems to be, if that can be seen."""
+    file = plain_file(name)
+    if not file:
+        return None
+    with file:
+        head = file.read(4096)
+    return next((what for begin, what in (*HEADS, *LISTED) if re.match(begin, head)), None)
 
 
 def another(kind, command, name, file):

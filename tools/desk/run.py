@@ -13,9 +13,9 @@ import subprocess
 import sys
 
 from failures import unread, unwritten, why
-from outputs import FORCE, Outputs, Refused, refuse_same
+from outputs import FORCE, Outputs, Refused, refuse_another, refuse_same
 from progress import Progress, stamp
-from refusals import explain
+from refusals import LISTS, WANTED, explain, kind_of
 from telling import named, say, tell
 from usage import COMMANDS, places_of, usage
 from words import wrong
@@ -68,12 +68,18 @@ class Run:
         read = [self.files[it] for it in COMMANDS[self.command].read.split()] if made else []
         if not force:
             refuse_same(read, [self.files[it] for it in made], FORCE)
+            refuse_another({self.files[it]: self.written_as(it) for it in made}, kind_of, FORCE)
         outputs = Outputs({it: self.files[it] for it in made})
         unsafe = None if force else outputs.unsafe()
         if unsafe:
             outputs.drop()
             raise Refused(f"{unsafe}; with {FORCE} it is written in its place")
         return outputs
+
+    def written_as(self, label):
+        """What the run writes under a name of the usage."""
+        written = {"convert": "dictionary", "compact": "result"}[self.command] if label == "NEW" else label.lower()
+        return WANTED[written]
 
     def handle(self, handler):
         """Says what is done at a signal that stops a run, as long as it isn't ignored."""
@@ -132,6 +138,8 @@ class Run:
             say(explain(self.command, self.files, self.console.kept.decode("utf-8", "surrogateescape")))
         elif status in (7, 8):
             self.tell_failed(status)
+        elif status == 0 and self.command in LISTS and is_empty(self.files["VECTORS"]):
+            tell(f"{named(self.files['VECTORS'])} has no vectors")
         elif status == 9:
             tell("there was no memory for it")
 
@@ -179,6 +187,11 @@ class Run:
         """How far a run came that was stopped, where that was counted."""
         counted = self.progress and self.progress.member is not None
         return f": the run was stopped at fault {self.progress.member} of {self.progress.last}" if counted else ""
+
+
+def is_empty(name):
+    """Whether a name is that of a plain file without a byte."""
+    return os.path.isfile(name) and os.path.getsize(name) == 0
 
 
 def take_force(words):

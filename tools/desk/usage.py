@@ -33,7 +33,7 @@ class Helper(NamedTuple):
     work: str
 
 
-FORCED = "writes over a file that is read too, and over one beside which no new file can be written"
+FORCED = "writes over a file that is read too, over one of another kind, and over one beside which no new file can be written"
 BUDGETS = (
     Option("blocks", 65_536, 4, "blocks of the stream that are tried, of 64 vectors each"),
     Option("cubes", 1_048_576, 64, "closed cubes that are spent on a pair of faults before it is given to the solver"),
