@@ -7,7 +7,7 @@ from usage import COMMANDS, FORCED, HELPERS, first_line
 STATUSES = (
     ("0", "the work is done"),
     ("1", "the program couldn't be built, or isn't there"),
-    ("2", "the words aren't understood, or a file that is read would be written over"),
+    ("2", "the words aren't understood, or a file that is read or of another kind would be written over"),
     ("3", "the netlist is refused"),
     ("4", "the result is refused"),
     ("5", "the dictionary is refused"),
