@@ -3,6 +3,7 @@
 ghost use Rattle.std.specs.Prelude.{◌≡◌, map, string_bytes, Some};
 ghost use Rattle.request_words.specs.Asked.{asked, HasLimits};
 ghost use Rattle.request_words.specs.Request.{request_of};
+ghost use Rattle.dia_gen.specs.Laws.{OneFileOfList};
 ghost use Rattle.run_steps.specs.Ending.{Ending, OneEndingEach, status_of};
 ghost use Rattle.dia_runs.specs.Groups.{IsOfResults, IsOfDictionaries};
 ghost use Rattle.dia_runs.specs.Requests.{Ran};
@@ -14,7 +15,7 @@ ghost use Rattle.dia_runs.specs.Run.{IsRunOf};
 use adaptive_tree::{plan_is_read_once, walk_is_read_once, written_plan_is_read};
 use bench_reader::{never_accepted_and_refused, one_netlist, one_refusal};
 use compact_tests::thin_is_sound;
-use dia_gen::list_is_graded;
+use dia_gen::{file_of_list_is_one, list_is_graded};
 use diag_shelf::Shelf;
 use diagnose::{list_is_read_once, log_is_read_once};
 use dict_file::dictionary_is_read_once;
@@ -56,6 +57,9 @@ pub fn run<S: Shelf>(alloc: Global, words: &[String], shelf: &mut S) -> u8
 
     // A dictionary and its version 2 are diagnosed alike.
     ensures alike { DiagnosesAlike }
+
+    // Without budgets of cubes and conflicts one list of vectors makes one result.
+    ensures one_result { OneFileOfList }
 {
     same_root_equal();
     covering_is_equal();
@@ -63,6 +67,7 @@ pub fn run<S: Shelf>(alloc: Global, words: &[String], shelf: &mut S) -> u8
     full_tree_is_covered();
     valid_is_true();
     list_is_graded();
+    file_of_list_is_one();
     thin_is_sound();
     partial_log_is_read_once();
     whole_log_ranks_as_listed();
