@@ -1,7 +1,7 @@
 """Lines of sed and awk that mend a file which is written in another way. The tutorial's table has those of logs.
 
 A line is looked at by a form in which WIDTH stands for how many bits a right one has. A mend that takes lines off is offered only if it leaves
-some, and takes off none with that many bits."""
+some, and takes off none that may hold a pattern's bits."""
 
 import re
 import shlex
@@ -11,11 +11,11 @@ from typing import NamedTuple
 class Mend(NamedTuple):
     has: str  # what a line has that isn't right
     form: bytes  # such a line
-    command: str  # LINE in it stands for the number of the line
+    command: str  # LINE in it stands for the number of the line, and WIDTH for how many bits a right one has
     keeps: bytes = b""  # the front of a line that stays, if others are taken off
 
 
-BIT = rb"[01xXzZHLhl?-]"
+BIT = rb"[01xXzZHLhl?.-]"
 ENCODED = (  # by the bytes at the front of a file
     Mend("is compressed by gzip", rb"\x1f\x8b", "zcat"),
     Mend("is compressed by xz", rb"\xfd7zXZ\x00", "xzcat"),
@@ -29,13 +29,21 @@ OPEN = Mend("has no LF behind it", rb"[^\n]+", r"sed '$a\'")
 EMPTY = Mend("is empty", rb"[ \t]*\n?", r"sed '/^[ \t]*$/d'", rb"[ \t]*\S")
 QUOTED = Mend("has quotation marks", rb'.*".*', "sed 's/\"//g'")
 LETTER = rb"[A-GI-KM-WYa-gi-km-wy]"  # none that stands for a bit
+OF_WORDS = rb"[GI-KM-WYgi-km-wy]"  # a letter that stands for no bit, and is no digit of a number in hexadecimal
+COMMENT = rb"[ \t]*[#;*%!/]"
 REMARK = Mend(
     "is a remark or a heading, and other lines may begin in the same way",
-    rb"(?=.*[GI-KM-WYgi-km-wy])([#;*%!/].*|[A-Za-z_]+([ \t,;:]+[A-Za-z_]+)*[:.]?\s*)",  # no word is a number in hexadecimal
+    rb"(?=.*OF_WORDS)([#;*%!/].*|[A-Za-z_]+([ \t,;:]+[A-Za-z_]+)*[:.]?\s*)|(?!(BIT[ _]*){WIDTH}\s*\Z)[^0-9A-Za-z\s][^0-9A-Za-z]*",
     "sed LINEd",
 )
 WORD_BEHIND = r"sed -E 's/[ \t,;:]+[A-Za-z]*[A-GI-KM-WYa-gi-km-wy][A-Za-z]*[ \t]*$//'"
-REMARK_BEHIND = r"sed -E 's/([01xXzZHLhl?-])[ \t]*(#|\/\/).*$/\1/'"
+REMARK_BEHIND = r"sed -E 's/([01xXzZHLhl?.-])[ \t]*(#|\/\/).*$/\1/'"
+FROM_HEX = (  # each digit becomes a letter, which gets its two high bits in front, and then its two low ones in its place
+    "y/0123456789abcdefABCDEF/ghijklmnopqrstuvqrstuv/; s/[g-j]/00&/g; s/[k-n]/01&/g; s/[o-r]/10&/g; s/[s-v]/11&/g; "
+    r"y/klmnopqrstuv/ghijghijghij/; s/g/00/g; s/h/01/g; s/i/10/g; s/j/11/g; s/^0*([01]{WIDTH})$/\1/"
+)
+HEX_BEHIND = f"sed -E '/^[0-9]+ 0[xX][0-9A-Fa-f]+$/{{h; s/ .*//; x; s/.* 0[xX]//; {FROM_HEX}; H; x; s/\\n/ /}}'"
+HEX_ALONE = f"sed -E '/^0[xX][0-9A-Fa-f]+$/{{s/^..//; {FROM_HEX}}}'"
 
 NUMBERED = (  # by a line of a log, the first that fits
     FEEDS,
@@ -59,7 +67,8 @@ NUMBERED = (  # by a line of a log, the first that fits
     Mend("has a remark behind its bits", rb"[0-9]+ (BIT[ _]*){WIDTH}[ \t]*(#|//).*", REMARK_BEHIND),
     Mend("has blanks at its end", rb".*[ \t]\n?", r"sed -E 's/^[ \t]+//; s/[ \t]+$//'"),
     Mend("has 0b in front of its bits", rb"[0-9]+ 0b(BIT[ _]*){WIDTH}\n?", "sed 's/ 0b/ /'"),
-    Mend("has X, Z, - or ? for what wasn't seen", rb"([0-9]+ )?(?=[^\n]*[XzZ?-])([01xXzZ?-][ _]*){WIDTH}\n?", "sed -E 's/[XzZ?-]/x/g'"),
+    Mend("has its bits in hexadecimal, the first positions in the first digit", rb"[0-9]+ 0[xX]HEX\n?", HEX_BEHIND),
+    Mend("has X, Z, -, ? or . for what wasn't seen", rb"([0-9]+ )?(?=[^\n]*[XzZ?.-])([01xXzZ?.-][ _]*){WIDTH}\n?", "sed -E 's/[XzZ?.-]/x/g'"),
     Mend("has blanks or _ among its bits", rb"[0-9]+ [01x]+[ _][01x _]*\n?", r"sed -E ':a; s/^([0-9]+ [01x]+)[ _]+/\1/; ta'"),
     OPEN,
 )
@@ -68,10 +77,12 @@ VECTORS = (  # by a line of a list of vectors
     EMPTY,
     Mend("has blanks at its front or its end", rb"[ \t]+\S.*|[01xX]+[ \t]+\n?", r"sed -E 's/^[ \t]+//; s/[ \t]+$//'"),
     QUOTED,
+    Mend("has H and L for 1 and 0", rb"([0-9]+[ \t,;:]+)?(?=.*[HLhl])(BIT[ _]*){WIDTH}\n?", "sed 'y/HLhl/1010/'"),
+    Mend("is in hexadecimal, the first sources in the first digit", rb"0[xX]HEX\n?", HEX_ALONE),
     Mend(
-        "has an x, and a vector's bit can't be x: fill it with 0 or 1",
-        rb"(?=[01]*[xX])([01xX]{WIDTH}|(?!0[xX])[01xX]+)\n?",
-        "sed 's/[xX]/0/g'",
+        "has a bit that isn't given, and each bit of a vector has to be: fill it with 0 or 1",
+        rb"(?=[^\n]*[xXzZ?.-])((?=[^\n]*[01])[01xXzZ?.-]{WIDTH}|[xX]{WIDTH}|(?!0[xX])[01xX]+)\n?",
+        "sed 's/[xXzZ?.-]/0/g'",
     ),
     Mend("has blanks, commas or _ among its bits or behind them", rb"(?=.*[ ,;_])([01xX][ ,;_]*){WIDTH}\n?", "sed 's/[ ,;_]//g'"),
     Mend("has a word or a number in front of its bits", rb"(\S+ +)+[01xX]{WIDTH}\n?", r"sed -E 's/^.* ([01xX]+)$/\1/'"),
@@ -88,9 +99,10 @@ AGAIN = Mend("has patterns in another order, or some twice", rb"", "sort -n -s -
 FROM_ONE = Mend("counts patterns from 1", rb"", "awk '{ print $1 - 1, $2 }'")
 
 
-def sentence(mend, subject, name, line=0):
+def sentence(mend, subject, name, line=0, width=0):
     """What a line or a file has, and the line that mends it."""
-    return f" {subject} {mend.has}. This mends it:\n  {mend.command.replace('LINE', str(line))} {shlex.quote(name)} > NEW"
+    command = mend.command.replace("LINE", str(line)).replace("WIDTH", str(width))
+    return f" {subject} {mend.has}. This mends it:\n  {command} {shlex.quote(name)} > NEW"
 
 
 def of_file(head, name):
@@ -98,19 +110,39 @@ def of_file(head, name):
     return next((sentence(it, "The file", name) for it in ENCODED if re.match(it.form, head)), "")
 
 
+def hexadecimal(width):
+    """The form of so many bits in hexadecimal, in as few digits as they need."""
+    first = {0: b"", 1: b"[01]", 2: b"[0-3]", 3: b"[0-7]"}[width % 4]
+    return first + b"[0-9A-Fa-f]{%d}" % (width // 4)
+
+
 def form(text, width):
     """The expression of a form, for lines of so many bits."""
-    return re.compile(text.replace(b"BIT", BIT).replace(b"LETTER", LETTER).replace(b"WIDTH", b"%d" % width), re.DOTALL)
+    parts = {b"BIT": BIT, b"LETTER": LETTER, b"OF_WORDS": OF_WORDS, b"WIDTH": b"%d" % width, b"HEX": hexadecimal(width)}
+    for name, part in parts.items():
+        text = text.replace(name, part)
+    return re.compile(text, re.DOTALL)
 
 
-def keeps_bits(mend, name, width):
-    """Whether a mend that takes lines off leaves some, and takes off none with so many bits."""
-    stays, bits, left = re.compile(mend.keeps), form(rb"(?<![0-9A-Za-z])(BIT[ _]*){WIDTH}(?![0-9A-Za-z])", width), False
+def holds_bits(line, width, numbered):
+    """Whether a line that is taken off may hold a pattern's bits: it has so many, and in a log, where a pattern has a number, also a number before
+    them, or no word that says what they are. Behind a comment mark the number has to stand next to them."""
+    if not re.search(rb"[0-9A-Za-z]", line):
+        return bool(form(rb"\s*(BIT[ _]*){WIDTH}\s*", width).fullmatch(line))
+    number = rb"[0-9][^0-9A-Za-z]+\Z" if re.match(COMMENT, line) else rb"[0-9]"
+    found = form(rb"(?<![0-9A-Za-z])(BIT[ _]*){WIDTH}(?![0-9A-Za-z])", width).finditer(line)
+    bare = not numbered or not re.search(OF_WORDS, line)
+    return any(bare or re.search(number, line[: it.start()]) for it in found)
+
+
+def keeps_bits(mend, name, width, numbered):
+    """Whether a mend that takes lines off leaves some, and takes off none that may hold a pattern's bits."""
+    stays, left = re.compile(mend.keeps), False
     with open(name, "rb") as file:
         for line in file:
             if stays.match(line):
                 left = True
-            elif len(line) > width and bits.search(line):
+            elif len(line) > width and holds_bits(line, width, numbered):
                 return False
     return left
 
@@ -118,6 +150,6 @@ def keeps_bits(mend, name, width):
 def of_line(line, mends, name, width=0, number=0):
     """What a line has, and what mends it. The line has its LF, if there is one; right ones have so many bits."""
     for it in mends:
-        if form(it.form, width).fullmatch(line) and (not it.keeps or keeps_bits(it, name, width)):
-            return sentence(it, "The line", name, number)
+        if form(it.form, width).fullmatch(line) and (not it.keeps or keeps_bits(it, name, width, mends is NUMBERED)):
+            return sentence(it, "The line", name, number, width)
     return ""

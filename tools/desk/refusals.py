@@ -73,14 +73,14 @@ HEADS = (  # what a file is by its beginning
     (rb"DIAT", "a dictionary"),
     (rb"diatest 1 ", "a result"),
     (rb"adapt 1 ", "an adaptive plan"),
-    (rb"[ \t]*[0-9]+[ \t,;:]+[01xXzZHLhl?_ -]+(\r?\n|$)", "a log"),
+    (rb"[ \t]*[0-9]+[ \t,;:]+[01xXzZHLhl?._ -]+(\r?\n|$)", "a log"),
     (rb"(?i)(\s|#[^\n]*\n)*(in|out)put\s*\(", "a netlist"),
     (rb"(?s)(\s|//[^\n]*\n|/\*.*?\*/)*(module|`timescale)\s", "Verilog, of which tools/from-verilog makes a netlist"),
 )
 WANTED = {"netlist": "a netlist", "result": "a result", "dictionary": "a dictionary", "plan": "an adaptive plan", "log": "a log"}
 LISTED = (  # what an older file is whose beginning says nothing
     (rb"[01]{2,}\r?(\n|$)", "a list of vectors"),
-    (rb"(?s)(.*\n)?[^0-9\n]*[0-9]+[^0-9A-Za-z\n]+[01xXzZHLhl?_ -]+[^0-9A-Za-z\n]*\n", "a log"),
+    (rb"(?s)(.*\n)?[^0-9\n]*[0-9]+[^0-9A-Za-z\n]+[01xXzZHLhl?._ -]+[^0-9A-Za-z\n]*\n", "a log"),
 )
 NAMES = {
     "netlist": ("NETLIST",),
