@@ -1,21 +1,28 @@
-"""Whether scan cells of an end of the chain show one bit alone, as behind a broken scan chain. Texts are plain."""
+"""Whether scan cells at an end of the chain never change, as behind a broken scan chain. Texts are plain."""
 
 import functools
 from typing import NamedTuple
 
-FEWEST = 4  # scan cells of a chain that is looked at
+FEWEST = 4  # scan cells of a chain that is looked at, and by which a part has to be longer to be told in the place of a simpler one
 CHECK = "check the scan chain before anything else"
 PART = 8  # scan cells of a part that says something
 
 
-class Dead(NamedTuple):
-    """Cells that show one bit alone: the bit, how many they are of how many, and the first and the last of them."""
+class Cell(NamedTuple):
+    """A scan cell: its name, the bit that it shows alone, None if it shows both or none, and whether a good chip would change it."""
 
-    bit: int
-    count: int
-    cells: int
-    first: str
-    last: str
+    name: str
+    bit: object
+    changes: bool
+
+
+class Dead(NamedTuple):
+    """Cells at an end of the chain that never change, in the order of the chain, how many of them a good chip would change, and how many cells
+    the chain has."""
+
+    cells: list
+    changing: int
+    of: int
 
 
 def constant(ones, zeros):
@@ -23,34 +30,54 @@ def constant(ones, zeros):
     return None if bool(ones) == bool(zeros) else int(bool(ones))
 
 
-def run(cells, bit):
-    """How many cells, from the first on, show this bit alone, up to the last that a good chip would change; and how many it would change."""
+def scan_cells(case):
+    """The scan cells of a chip, in order."""
+    found = []
+    for (kind, name), ones, zeros, good in zip(case.netlist.positions, case.ones, case.zeros, case.good):
+        if kind == "cell":
+            seen = ones | zeros
+            found.append(Cell(name, constant(ones, zeros), bool(seen & good and seen & ~good)))
+    return found
+
+
+def run(cells, bits):
+    """The cells, from the first on, that show one of these bits alone, up to the last that a good chip would change."""
     length = changing = 0
-    for at, (_, ones, zeros, good) in enumerate(cells, 1):
-        if constant(ones, zeros) != bit:
+    for at, it in enumerate(cells, 1):
+        if it.bit not in bits:
             break
-        if (ones | zeros) & good and (ones | zeros) & ~good:
+        if it.changes:
             length, changing = at, changing + 1
-    return length, changing
+    return Dead(cells[:length], changing, len(cells))
+
+
+def longest(cells, kinds):
+    """The longest such run at either end, for some kinds of bits."""
+    ends = [run(cells, bits) for bits in kinds]
+    ends += [it._replace(cells=it.cells[::-1]) for it in (run(cells[::-1], bits) for bits in kinds)]
+    return max(ends, key=lambda it: (len(it.cells), it.changing))
 
 
 @functools.lru_cache(maxsize=None)
 def dead(case):
-    """The largest end of the chain whose cells show one bit alone though a good chip changes them; None if it is small."""
-    words = zip(case.netlist.positions, case.ones, case.zeros, case.good)
-    cells = [(name, ones, zeros, good) for (kind, name), ones, zeros, good in words if kind == "cell"]
+    """The longest end of the chain whose cells never change though a good chip changes them; None if it is short. One whose cells all show the
+    same bit is preferred, unless another one is longer by some."""
+    cells = scan_cells(case)
     if len(cells) < FEWEST:
         return None
-    ends = [(run(order, bit), order, bit) for order in (cells, cells[::-1]) for bit in (0, 1)]
-    (length, changing), order, bit = max(ends, key=lambda it: it[0])
-    if changing < min(PART, len(cells)) or changing * 4 < len(cells):
-        return None
-    found = order[:length] if order is cells else order[length - 1 :: -1]
-    return Dead(bit, length, len(cells), found[0][0], found[-1][0])
+    enough = max(min(PART, len(cells)), (len(cells) + 3) // 4)
+    one, mixed = longest(cells, ((0,), (1,))), longest(cells, ((0, 1),))
+    found = mixed if mixed.changing >= one.changing + FEWEST or one.changing < enough else one
+    return found if found.changing >= enough else None
 
 
 def heading(it):
     """What is said first of such cells."""
-    if it.count == it.cells:
-        return f"All {it.cells:,} scan cells read {it.bit}: {CHECK}"
-    return f"{it.count:,} of {it.cells:,} scan cells, {it.first} to {it.last}, never change and read {it.bit}: {CHECK}"
+    zeros, count, whole = sum(cell.bit == 0 for cell in it.cells), len(it.cells), len(it.cells) == it.of
+    both = f" ({zeros:,} read 0, {count - zeros:,} read 1)" if 0 < zeros < count else ""
+    if whole and both:
+        return f"None of the {it.of:,} scan cells changes{both}: {CHECK}"
+    if whole:
+        return f"All {it.of:,} scan cells read {it.cells[0].bit}: {CHECK}"
+    named = f"{count:,} of {it.of:,} scan cells, {it.cells[0].name} to {it.cells[-1].name}, never change"
+    return f"{named}{both or f' and read {it.cells[0].bit}'}: {CHECK}"
