@@ -117,28 +117,36 @@ def gate_value(word, pins, full):
 def values(netlist, vectors, forced=None):
     """The value of each name: a word with a bit for each vector, the first one lowest. `forced` has the words of names that a defect sets."""
     full, value, forced = (1 << len(vectors)) - 1, {}, forced or {}
-    for at, (_, name) in enumerate(netlist.sources):
-        value[name] = forced[name] if name in forced else int("0" + "".join(it[at] for it in reversed(vectors)), 2)
+    columns = zip(*reversed(vectors)) if vectors else [""] * len(netlist.sources)
+    for (_, name), column in zip(netlist.sources, columns):
+        value[name] = forced[name] if name in forced else int("0" + "".join(column), 2)
     for name in netlist.order:
         word, pins = netlist.gates[name]
         value[name] = forced[name] if name in forced else gate_value(word, [value[it] for it in pins], full)
     return value
 
 
+def behind(netlist, value, now, full):
+    """Words that a defect gives names, with the words of all names that these change, from the values without them."""
+    now = dict(now)
+    for name in sorted(netlist.cone(now) - now.keys(), key=netlist.place.get):
+        word, pins = netlist.gates[name]
+        now[name] = gate_value(word, [now.get(it, value[it]) for it in pins], full)
+    return now
+
+
 def changed(netlist, value, fault, full):
     """The values of the names that a fault changes, from those without it. A fault is its name's fields."""
     kind, *site, stuck = fault
+    stuck = full if stuck == "1" else 0
     if kind == "O":
         return {}
-    stuck, first = full if stuck == "1" else 0, site[1] if kind == "G" else site[0]
-    now = {first: stuck} if kind == "S" else {}
-    for name in sorted(netlist.cone([first]) - now.keys(), key=netlist.place.get):
-        word, pins = netlist.gates[name]
-        seen = [now.get(it, value[it]) for it in pins]
-        if kind == "G" and name == first:
-            seen[int(site[2])] = stuck
-        now[name] = gate_value(word, seen, full)
-    return now
+    if kind == "S":
+        return behind(netlist, value, {site[0]: stuck}, full)
+    word, pins = netlist.gates[site[1]]
+    seen = [value[it] for it in pins]
+    seen[int(site[2])] = stuck
+    return behind(netlist, value, {site[1]: gate_value(word, seen, full)}, full)
 
 
 def answers(netlist, vectors, fault=None, free=None):

@@ -1,28 +1,15 @@
 """What a report is about: a netlist, a result and a tester's log, and what the program's commands say of them.
 
 The answers of single faults come of the helpers' own simulation. They are compared with what the commands print, so that the two agree
-wherever a page is made. The commands check the result: `suspects` once, `bridges` again if a pattern fails, and `cover` if no single class
-explains all failing patterns."""
+wherever a page is made. `suspects`, `bridges` and `faults` run beside each other, and so does `cover`, if no single class explains all failing
+patterns. Each but `faults` checks the result."""
 
 import functools
 import hashlib
-import os
-import shutil
-import stat
-import subprocess
-import sys
 from typing import NamedTuple
 
 import bench
-from results import TOP, Result, names_of
-
-
-class Ended(Exception):
-    """A command that didn't end with status 0, and what it printed."""
-
-    def __init__(self, status: int, printed: str):
-        super().__init__(printed)
-        self.status = status
+from results import Result, names_in
 
 
 class Score(NamedTuple):
@@ -49,38 +36,23 @@ class Bridge(NamedTuple):
         return self.first, self.second
 
 
-COPIES = {}  # the user's words for what is read from pipes, by the names of the copies
-
-
-def told(text: str) -> str:
-    """A text with the user's words in the place of the names of copies."""
-    for copy, word in COPIES.items():
-        text = text.replace(copy, word)
-    return text
-
-
-def printed(*words: str, quiet: bool = False) -> list:
-    """The lines that a command prints. What the script tells besides goes to standard error, unless this is to be quiet."""
-    errors = subprocess.PIPE if quiet or COPIES else None
-    it = subprocess.run([f"{TOP}/diatest", *words], stdout=subprocess.PIPE, stderr=errors, text=True, encoding="latin-1")
-    if it.stderr and not quiet:
-        sys.stderr.write(told(it.stderr))
-    if it.returncode:
-        raise Ended(it.returncode, told(it.stdout))
-    return it.stdout.splitlines()
-
-
-def suspects_of(netlist: str, result: str, log: str, *options: str, quiet: bool = False):
-    """What `suspects` prints: the scores, and how many patterns are failing and logged."""
-    *lines, last = printed("suspects", netlist, result, log, *options, quiet=quiet)
+def suspects_in(printed: list):
+    """What the lines of `suspects` say: the scores, and how many patterns are failing and logged."""
+    *lines, last = printed
     return [Score(*map(int, it.split())) for it in lines], int(last.split()[3]), int(last.split()[5])
 
 
-def bridges_of(netlist: str, result: str, log: str):
-    """What `bridges` prints: the best bridges, and how many of all that it found are exact."""
-    *lines, last = printed("bridges", netlist, result, log)
+def bridges_in(printed: list):
+    """What the lines of `bridges` say: the best bridges, and how many of all that it found are exact."""
+    *lines, last = printed
     rows = [it.split() for it in lines]
     return [Bridge(*names, int(explained), int(false)) for *names, explained, false in rows], int(last.split()[5])
+
+
+def cover_in(printed: list):
+    """What the lines of `cover` say: each class with how many failing patterns are new with it, and how many are explained."""
+    *lines, last = printed
+    return [tuple(map(int, it.split())) for it in lines], int(last.split()[3])
 
 
 def rows_of(log: str) -> dict:
@@ -90,15 +62,14 @@ def rows_of(log: str) -> dict:
     return {number: "" if bits == "-" else bits for number, bits in rows.items()}
 
 
-def words_of(rows: dict, positions: int, bit: str) -> list:
-    """For each position the patterns at which the rows have this bit: a word with a bit for each pattern."""
-    found = [0] * positions
-    for number, bits in rows.items():
-        mask = 1 << number
-        for at, it in enumerate(bits):
-            if it == bit:
-                found[at] |= mask
-    return found
+ONES, ZEROS = str.maketrans("x", "0"), str.maketrans("01x", "100")
+
+
+def words_of(rows: dict, positions: int, table: dict) -> list:
+    """For each position the patterns whose bit the table turns into a 1: a word with a bit for each pattern."""
+    blank = "x" * positions
+    columns = zip(*(rows.get(it, blank) for it in range(max(rows, default=-1), -1, -1)))
+    return [int("".join(it).translate(table), 2) for it in columns] or [0] * positions
 
 
 def numbers_in(word: int) -> list:
@@ -125,52 +96,54 @@ def checksum(name: str) -> str:
     return found.hexdigest()
 
 
-def readable(kind: str, name: str, folder: str) -> str:
-    """A name under which a file can be read as often as needed: its own, or that of a copy if it is a pipe or a device."""
-    try:
-        mode = os.stat(name).st_mode
-    except OSError:
-        return name  # the program says why
-    if stat.S_ISREG(mode) or stat.S_ISDIR(mode):
-        return name
-    copy = os.path.join(folder, kind)
-    with open(name, "rb") as source, open(copy, "wb") as target:
-        shutil.copyfileobj(source, target)
-    COPIES[copy] = name
-    return copy
-
-
 class Case:
-    """All that a page is made of. Words have a bit for each pattern of the result. What is read from pipes is kept in a folder."""
+    """All that a page is made of. Words have a bit for each pattern of the result."""
 
-    def __init__(self, netlist: str, result: str, log: str, folder: str):
-        self.folder, self.files = folder, {"netlist": netlist, "result": result, "log": log}
-        self.read = {kind: readable(kind, name, folder) for kind, name in self.files.items()}
-        self.suspects, self.failing_count, self.logged_count = suspects_of(*self.read.values())
-        self.cover, self.covered = self.chosen()
-        self.bridges, self.exact_count = bridges_of(*self.read.values()) if self.failing_count else ([], 0)
-        self.exact = [it for it in self.bridges if it.explained == self.failing_count and not it.false]
+    def __init__(self, netlist: str, result: str, log: str, runs):
+        self.runs, self.files = runs, {"netlist": netlist, "result": result, "log": log}
+        self.read = {kind: runs.readable(kind, name) for kind, name in self.files.items()}
+        files = self.read.values()
+        suspects, bridges, faults = runs.start("suspects", *files), runs.start("bridges", *files), runs.start("faults", self.read["netlist"])
+        if faults.succeeds():  # else `suspects` says why the netlist can't be read
+            self.netlist = bench.read(self.read["netlist"])
+        self.suspects, self.failing_count, self.logged_count = suspects_in(suspects.lines())
+        cover = None if self.one_explains() else runs.start("cover", *files)
+        self.listing = faults.lines()
         self.checksums = {kind: checksum(name) for kind, name in self.read.items()}
-        self.netlist, self.result = bench.read(self.read["netlist"]), Result(self.read["result"])
+        self.simulate()
+        self.read_log()
+        self.members, self.names, self.explained, self.shows, self.unlogged = {}, {}, {}, {}, {}
+        self.take([it.number for it in self.suspects])
+        self.agree(all(it == self.score(it.number) for it in self.suspects), "the counts of the suspects")
+        self.cover, self.covered = cover_in(cover.lines()) if cover else ([], self.failing_count)
+        self.take([number for number, _ in self.cover])
+        self.read_bridges(bridges)
+
+    def one_explains(self) -> bool:
+        """Whether nothing fails, or one class explains all failing patterns, so that nothing is left for `cover`."""
+        return not self.failing_count or bool(self.suspects) and self.suspects[0].explained == self.failing_count
+
+    def simulate(self):
+        """What a good chip answers to the patterns of the result."""
+        self.result = Result(self.read["result"])
         self.patterns, self.full = self.result.patterns, (1 << len(self.result.patterns)) - 1
         self.free = bench.values(self.netlist, self.patterns)
         self.good = [self.free[it] for it in self.netlist.shown]
-        self.read_log()
-        self.read_faults()
-        self.explain()
-        self.agree(all(it[3:] == self.bridge_counts(it) for it in self.bridges), "the counts of the bridges")
 
-    def chosen(self):
-        """What `cover` prints, and how many failing patterns that explains; nothing if the first suspect explains them all."""
-        if not self.failing_count or self.suspects and self.suspects[0].explained == self.failing_count:
-            return [], self.failing_count
-        *cover, total = printed("cover", *self.read.values())
-        return [tuple(map(int, it.split())) for it in cover], int(total.split()[3])
+    def read_bridges(self, run):
+        """What `bridges` says, if a pattern fails; else it isn't waited for."""
+        if self.failing_count:
+            self.bridges, self.exact_count = bridges_in(run.lines())
+        else:
+            run.stop()
+            self.bridges, self.exact_count = [], 0
+        self.exact = [it for it in self.bridges if it.explained == self.failing_count and not it.false]
+        self.agree(all(it[3:] == self.bridge_counts(it) for it in self.bridges), "the counts of the bridges")
 
     def read_log(self):
         """What was observed, and where it isn't what a good chip answers."""
         rows, positions = rows_of(self.read["log"]), len(self.netlist.positions)
-        self.ones, self.zeros = (words_of(rows, positions, it) for it in "10")
+        self.ones, self.zeros = (words_of(rows, positions, it) for it in (ONES, ZEROS))
         self.logged = sum(1 << it for it in rows)
         self.seen = [one | zero for one, zero in zip(self.ones, self.zeros)]
         self.wrong = [(one ^ good) & seen for one, good, seen in zip(self.ones, self.good, self.seen)]
@@ -178,24 +151,22 @@ class Case:
         self.wrong_bits, self.seen_bits = (sum(map(ones_in, words)) for words in (self.wrong, self.seen))
         self.agree((ones_in(self.failing), len(rows)) == (self.failing_count, self.logged_count), "the failing patterns")
 
-    def read_faults(self):
-        """The members of each class that is listed, and their names."""
-        listed = [it.number for it in self.suspects] + [number for number, _ in self.cover]
-        classes = {self.result.classes[it] for it in listed}
-        members = {}
-        for number, its_class in self.result.classes.items():
-            if its_class in classes:
-                members.setdefault(its_class, []).append(number)
-        self.members = {it: members[self.result.classes[it]] for it in listed}
+    def take(self, numbers: list):
+        """Takes in numbers that are listed: the members of their classes with their names, and what each number explains."""
+        new = [it for it in dict.fromkeys(numbers) if it not in self.members]
+        self.members |= {it: self.result.members[self.result.classes[it]] for it in new}
+        names = names_in(self.listing, {member for it in new for member in self.members[it]})
+        self.names |= {number: name for number, (_, name) in names.items()}
         self.marks = {it: f"#{rank}" if rank <= len(self.suspects) else f"number {it}" for rank, it in enumerate(self.members, 1)}
-        names = names_of(self.read["netlist"], {it for found in members.values() for it in found})
-        self.names = {number: name for number, (_, name) in names.items()}
+        for it in new:
+            self.explain(it)
 
     @functools.lru_cache(maxsize=32)
     def answers(self, number: int) -> list:
         """What each position shows if the chip has this fault."""
         return bench.answers(self.netlist, self.patterns, self.names[number], self.free)
 
+    @functools.lru_cache(maxsize=32)
     def changes(self, number: int) -> list:
         """Where the fault's answers aren't the good ones: a word for each position."""
         return [answer ^ good for answer, good in zip(self.answers(number), self.good)]
@@ -208,16 +179,13 @@ class Case:
         """The bits that passed though the fault would fail them: a word for each position."""
         return [change & seen & ~wrong for change, seen, wrong in zip(self.changes(number), self.seen, self.wrong)]
 
-    def explain(self):
-        """Which failing patterns each listed number explains, at which logged ones it would fail that passed, and at which it would fail
-        that have an unobserved bit there."""
-        self.explained, self.shows, self.unlogged = {}, {}, {}
-        for number in self.members:
-            missed, false = union(self.missed(number)), union(self.false(number))
-            self.explained[number] = self.failing & ~missed & ~false
-            self.shows[number] = false & ~self.failing
-            self.unlogged[number] = union(change & ~seen for change, seen in zip(self.changes(number), self.seen))
-        self.agree(all(it == self.score(it.number) for it in self.suspects), "the counts of the suspects")
+    def explain(self, number: int):
+        """Which failing patterns a number explains, at which logged ones it would fail that passed, and at which it would fail that have an
+        unobserved bit there."""
+        missed, false = union(self.missed(number)), union(self.false(number))
+        self.explained[number] = self.failing & ~missed & ~false
+        self.shows[number] = false & ~self.failing
+        self.unlogged[number] = union(change & ~seen for change, seen in zip(self.changes(number), self.seen))
 
     def score(self, number: int) -> Score:
         """The counts of a number, by this simulation."""
@@ -229,8 +197,9 @@ class Case:
         """What each position shows if the chip has this bridge."""
         one, other = self.free[it.first], self.free[it.second]
         wins = {"and": one & other, "or": one | other, "dominant": one}[it.kind]
-        value = bench.values(self.netlist, self.patterns, dict.fromkeys(it.lines(), wins))
-        return [value[line] for line in self.netlist.shown]
+        changed = {line: wins for line in it.lines() if self.free[line] != wins}
+        now = bench.behind(self.netlist, self.free, changed, self.full)
+        return [now.get(line, self.free[line]) for line in self.netlist.shown]
 
     def bridge_counts(self, it: Bridge) -> tuple:
         """How many failing patterns a bridge explains, and how many passing ones it would fail, by this simulation."""

@@ -5,7 +5,8 @@ import os
 from typing import NamedTuple
 
 import bench
-from report_case import Ended, ones_in, suspects_of, union
+from report_case import ones_in, suspects_in, union
+from report_runs import Ended
 
 FOLDER = 50  # results of the folder that are looked at
 LARGEST = 1 << 28  # bytes of one that is read
@@ -140,11 +141,12 @@ def lines_of(log):
 
 def asked(case, it):
     """A change with what `suspects` says of it."""
-    name = os.path.join(case.folder, "changed.log")
+    name = os.path.join(case.runs.folder, "changed.log")
     with open(name, "w", encoding="ascii") as file:
         file.writelines(lines_of(it.log))
     try:
-        scores, _, _ = suspects_of(case.read["netlist"], it.result, name, "--most", "1", quiet=True)
+        run = case.runs.start("suspects", case.read["netlist"], it.result, name, "--most", "1")
+        scores, _, _ = suspects_in(run.lines(quiet=True))
     except Ended:  # the other result isn't valid
         return it
     return it._replace(explained=scores[0].explained if scores else 0)

@@ -1,5 +1,6 @@
 """Results and names of faults, as the helpers read them. Nothing is checked: the program's `check` does that."""
 
+import functools
 import os
 import subprocess
 
@@ -37,15 +38,30 @@ class Result:
         if fields != ["end"]:
             raise ValueError(f"{name} is no whole result: ./diatest check says where")
 
+    @functools.cached_property
+    def members(self):
+        """The numbers of each class, in order."""
+        found = {}
+        for number, its_class in self.classes.items():
+            found.setdefault(its_class, []).append(number)
+        return found
+
+
+def names_in(listing, numbers):
+    """The root and the name's fields of each of these numbers, from the lines of the program's list of faults."""
+    found = {}
+    for line in listing:
+        number, _, rest = line.partition(" ")
+        if number.isdigit() and int(number) in numbers:
+            root, *name = rest.split()
+            found[int(number)] = int(root), name
+    return found
+
 
 def names_of(netlist, numbers):
-    """The root and the name's fields of each of these numbers, from the program's list of faults."""
-    found = {}
+    """The same, from the list of faults that the program prints of a netlist."""
     with subprocess.Popen([f"{TOP}/diatest", "faults", netlist], stdout=subprocess.PIPE, text=True, encoding="latin-1") as listing:
-        for line in listing.stdout:
-            number, root, *name = line.split()
-            if number.isdigit() and int(number) in numbers:
-                found[int(number)] = int(root), name
+        found = names_in(listing.stdout, numbers)
     if listing.returncode:
         raise ValueError(f"{netlist} has no list of faults")
     return found

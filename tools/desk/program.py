@@ -1,0 +1,32 @@
+"""Which program the helpers run."""
+
+import os
+import signal
+import subprocess
+
+from results import TOP
+
+
+def program_of():
+    """The name of the program: the one that DIATEST names, that of an installation, or the one that `tools/build` leaves."""
+    installed = f"{TOP}/program"
+    return os.environ.get("DIATEST") or (installed if os.path.exists(installed) else f"{TOP}/crates/diatest/out/diatest")
+
+
+def deaf():
+    """Has a process that is started ignore the interrupt of a terminal, since it is stopped by another signal."""
+    signal.signal(signal.SIGINT, signal.SIG_IGN)
+
+
+def built():
+    """The same name, of a program that is built first if it must be; None if the build fails. The build is stopped if this is interrupted."""
+    name = program_of()
+    if os.environ.get("DIATEST") or name == f"{TOP}/program":
+        return name
+    build = subprocess.Popen([f"{TOP}/tools/build"], preexec_fn=deaf)
+    try:
+        return None if build.wait() else name
+    except BaseException:
+        build.terminate()
+        build.wait()
+        raise

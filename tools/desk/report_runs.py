@@ -1,0 +1,98 @@
+"""The commands that a report runs beside each other, and the files that they read."""
+
+import os
+import shutil
+import stat
+import subprocess
+import sys
+import tempfile
+
+from program import built
+from results import TOP
+
+
+class Ended(Exception):
+    """A command that didn't end with status 0, and what it printed."""
+
+    def __init__(self, status: int, printed: str):
+        super().__init__(printed)
+        self.status = status if status >= 0 else 128 - status
+
+
+class Run:
+    """A command that was started. What it prints goes to a file, so that it never waits for a reader."""
+
+    def __init__(self, runs, words):
+        self.runs = runs
+        self.out, self.error = (tempfile.TemporaryFile(dir=runs.folder) for _ in range(2))
+        self.child = subprocess.Popen([f"{TOP}/diatest", *words], stdout=self.out, stderr=self.error, env=runs.environment)
+
+    def succeeds(self) -> bool:
+        """Waits for the end, and says whether the status is 0."""
+        return self.child.wait() == 0
+
+    def text_of(self, file) -> str:
+        """What one of its files has."""
+        file.seek(0)
+        return file.read().decode("latin-1")
+
+    def lines(self, quiet: bool = False) -> list:
+        """Waits for the end, and returns the lines that it printed. What it told goes to standard error, unless this is to be quiet."""
+        status, error = self.child.wait(), self.text_of(self.error)
+        if error and not quiet:
+            sys.stderr.write(self.runs.told(error))
+        if status:
+            raise Ended(status, self.runs.told(self.text_of(self.out)))
+        return self.text_of(self.out).splitlines()
+
+    def stop(self):
+        """Stops the command if it still runs."""
+        if self.child.poll() is None:
+            self.child.terminate()
+            self.child.wait()
+        self.out.close()
+        self.error.close()
+
+
+class Runs:
+    """The commands of a report, in a folder for what they leave. Those that still run at the end of its `with` are stopped."""
+
+    def __init__(self, folder: str):
+        self.folder, self.started = folder, []
+        self.copies = {}  # the user's words for what is read from pipes, by the names of the copies
+        program = built()
+        if program is None:
+            raise Ended(1, "")
+        self.environment = {**os.environ, "DIATEST": program}
+
+    def __enter__(self):
+        return self
+
+    def __exit__(self, *_):
+        for it in self.started:
+            it.stop()
+
+    def start(self, *words: str) -> Run:
+        """Starts a command."""
+        self.started.append(Run(self, words))
+        return self.started[-1]
+
+    def told(self, text: str) -> str:
+        """A text with the user's words in the place of the names of copies."""
+        for copy, word in self.copies.items():
+            text = text.replace(copy, word)
+        return text
+
+    def readable(self, kind: str, name: str) -> str:
+        """A name under which a file can be read as often as needed: its own, or that of a copy if it is a pipe or a device."""
+        try:
+            mode = os.stat(name).st_mode
+        except OSError:
+            return name  # the program says why
+        if stat.S_ISREG(mode) or stat.S_ISDIR(mode):
+            return name
+        copy = os.path.join(self.folder, kind)
+        with open(name, "rb") as source, open(copy, "wb") as target:
+            shutil.copyfileobj(source, target)
+        self.copies[copy] = name
+        return copy
