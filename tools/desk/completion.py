@@ -59,7 +59,7 @@ _diatest "$@"
 def options_of(name):
     """The options of a command, with what each does."""
     options = [(f"--{it.name}", it.work) for it in COMMANDS[name].options]
-    return options + ([("--force", "writes over a file that is read too, or of another kind")] if COMMANDS[name].made else [])
+    return options + ([("--force", "allows to write over a file that the run reads, or one of another kind")] if COMMANDS[name].made else [])
 
 
 def quoted(text):

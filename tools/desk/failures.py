@@ -13,10 +13,10 @@ WHY = {
     errno.EISDIR: "it is a folder",
     errno.EACCES: "there is no permission",
     errno.EPERM: "there is no permission",
-    errno.EROFS: "what it stands on can't be written",
+    errno.EROFS: "its file system can only be read",
     errno.ENOSPC: "the disk is full",
     errno.EDQUOT: "the quota of the disk is used up",
-    errno.EFBIG: "it would be longer than a file may be here",
+    errno.EFBIG: "it would be larger than a file may be here",
     errno.EBADF: "it is closed",
     errno.EPIPE: "its reader has closed it",
 }
@@ -58,7 +58,7 @@ def unwritten(name):
     try:
         kind = os.stat(name).st_mode
         if stat.S_ISCHR(kind):
-            return f"{named(name)} can't be written: it is a device, which took no more bytes"
+            return f"{named(name)} can't be written: it is a device that took no more bytes"
         if stat.S_ISREG(kind) or stat.S_ISDIR(kind):
             os.close(os.open(name, os.O_WRONLY))
     except FileNotFoundError as error:

@@ -136,7 +136,7 @@ def install(prefix, program, version, force):
     strange = [] if force else foreign(prefix, [it for it in made if not os.path.isdir(f"{prefix}/{it}")], files)
     strange += [it for it in made if os.path.isdir(f"{prefix}/{it}")]
     if strange:
-        raise Refused(f"{named(f'{prefix}/{strange[0]}')} is there and isn't of an installation: take it away, or add --force")
+        raise Refused(f"{named(f'{prefix}/{strange[0]}')} exists and isn't part of an installation: remove it, or add --force")
     make_folders(prefix, made, folders)
     note(prefix, files, folders)
     for path, fill in made.items():

@@ -7,7 +7,7 @@ from usage import COMMANDS, FORCED, HELPERS, first_line
 STATUSES = (
     ("0", "the work is done"),
     ("1", "the program couldn't be built, or isn't there"),
-    ("2", "the words aren't understood, or a file that is read or of another kind would be written over"),
+    ("2", "the words aren't understood, or the run would write over a file that it reads or one of another kind"),
     ("3", "the netlist is refused"),
     ("4", "the result is refused"),
     ("5", "the dictionary is refused"),
@@ -16,10 +16,10 @@ STATUSES = (
     ("9", "there was no memory"),
     ("10", "the plan is refused"),
 )
-WHAT = """A netlist is a combinational or full-scan circuit in the ISCAS .bench format. Of it `gen` makes a result: test patterns, the classes of
-single stuck-at faults that they distinguish, and a proof for each two faults that no vector distinguishes. From a result and the log of a tester
-come the nets that may be at fault. What a run writes is written beside the name, and gets the name when the run has succeeded: a run that
-fails or is stopped leaves an older file as it was. Of a file that is refused standard error has the line, a caret and what mends it."""
+WHAT = """A netlist is a combinational or full-scan circuit in the ISCAS .bench format. `gen` makes a result of it: test patterns, the classes of
+single stuck-at faults that they distinguish, and a proof for each pair of faults that no vector distinguishes. From a result and the log of a
+tester it finds the nets that may be at fault. A run writes a new file beside the name, and renames it when the run has succeeded: a run that
+fails or is stopped leaves an older file as it was. If a file is refused, standard error has the line, a caret, and a command that mends it."""
 
 
 def roff(text):
@@ -45,7 +45,7 @@ def page(version):
     for name, command in COMMANDS.items():
         lines += tagged(f"{name} {command.words}", command.work[:1].upper() + command.work[1:] + ".")
         for it in command.options:
-            lines += [".RS", *tagged(f"--{it.name} N", f"{it.work} ({it.least} to {it.most}, else {it.default})"), ".RE"]
+            lines += [".RS", *tagged(f"--{it.name} N", f"{it.work} ({it.least} to {it.most}, default {it.default})"), ".RE"]
     lines += [".SH OPTIONS OF EACH COMMAND", *tagged("--help, -h", "tells the words of the command")]
     lines += [*tagged("--force", f"{FORCED} (for commands that write a file)"), ".SH HELPERS"]
     for name, helper in HELPERS.items():
@@ -53,7 +53,7 @@ def page(version):
     lines.append(".SH EXIT STATUS")
     for status, meaning in STATUSES:
         lines += tagged(status, meaning)
-    lines += [".SH ENVIRONMENT", *tagged("DIATEST", "names another program that is run")]
+    lines += [".SH ENVIRONMENT", *tagged("DIATEST", "names the program to run")]
     return "\n".join(lines) + "\n"
 
 

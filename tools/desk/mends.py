@@ -25,14 +25,14 @@ ENCODED = (  # by the bytes at the front of a file
     Mend("begins with a byte order mark", rb"\xef\xbb\xbf", r"sed '1s/^\xEF\xBB\xBF//'"),
 )
 FEEDS = Mend("ends with CR and LF", rb"[^\n]*\r\n?", r"sed 's/\r$//'")
-OPEN = Mend("has no LF behind it", rb"[^\n]+", r"sed '$a\'")
+OPEN = Mend("has no LF at its end", rb"[^\n]+", r"sed '$a\'")
 EMPTY = Mend("is empty", rb"[ \t]*\n?", r"sed '/^[ \t]*$/d'", rb"[ \t]*\S")
 QUOTED = Mend("has quotation marks", rb'.*".*', "sed 's/\"//g'")
 LETTER = rb"[A-GI-KM-WYa-gi-km-wy]"  # none that stands for a bit
 OF_WORDS = rb"[GI-KM-WYgi-km-wy]"  # a letter that stands for no bit, and is no digit of a number in hexadecimal
 COMMENT = rb"[ \t]*[#;*%!/]"
 REMARK = Mend(
-    "is a remark or a heading, and other lines may begin in the same way",
+    "is a remark or a heading",
     rb"(?=.*OF_WORDS)([#;*%!/].*|[A-Za-z_]+([ \t,;:]+[A-Za-z_]+)*[:.]?\s*)|(?!(BIT[ _]*){WIDTH}\s*\Z)[^0-9A-Za-z\s][^0-9A-Za-z]*",
     "sed LINEd",
 )
@@ -44,30 +44,31 @@ FROM_HEX = (  # each digit becomes a letter, which gets its two high bits in fro
 )
 HEX_BEHIND = f"sed -E '/^[0-9]+ 0[xX][0-9A-Fa-f]+$/{{h; s/ .*//; x; s/.* 0[xX]//; {FROM_HEX}; H; x; s/\\n/ /}}'"
 HEX_ALONE = f"sed -E '/^0[xX][0-9A-Fa-f]+$/{{s/^..//; {FROM_HEX}}}'"
+IN_HEX = Mend("has its bits in hexadecimal, the first positions in the first digit", rb"[0-9]+ 0[xX]HEX\n?", HEX_BEHIND)
 
 NUMBERED = (  # by a line of a log, the first that fits
     FEEDS,
     EMPTY,
-    Mend("has blanks at its front", rb"[ \t]+[^\s].*", r"sed -E 's/^[ \t]+//; s/[ \t]+$//'"),
-    Mend("has blanks at its end", rb"BIT{WIDTH}[ \t]+\n?", r"sed -E 's/^[ \t]+//; s/[ \t]+$//'"),
+    Mend("begins with blanks", rb"[ \t]+[^\s].*", r"sed -E 's/^[ \t]+//; s/[ \t]+$//'"),
+    Mend("ends with blanks", rb"BIT{WIDTH}[ \t]+\n?", r"sed -E 's/^[ \t]+//; s/[ \t]+$//'"),
     QUOTED,
     Mend("has no number, and blanks or _ among its bits", rb"(?=.*[ _]+BIT)(BIT[ _]*){WIDTH}\n?", "sed 's/[ _]//g'"),
-    Mend("has no number in front of its bits", rb"[01xX]{WIDTH}\n?", "awk '{ print NR - 1, $0 }'"),
+    Mend("has no number before its bits", rb"[01xX]{WIDTH}\n?", "awk '{ print NR - 1, $0 }'"),
     Mend("has H and L for 1 and 0", rb"([0-9]+[ \t,;:]+)?(?=.*[HLhl])(BIT[ _]*){WIDTH}\n?", "sed 'y/HLhl/1010/'"),
-    Mend("has a word in front of the number", rb"[A-Za-z_]+[ :=]*[0-9]+[ \t,;:]+(BIT[ _]*){WIDTH}.*", "sed -E 's/^[A-Za-z_]+[ :=]*//'"),
-    Mend("has something in front of its number", rb"[^0-9]+[0-9]+[^0-9A-Za-z]+(BIT[ _]*){WIDTH}.*", "sed -E 's/^[^0-9]+([0-9])/\\1/'"),
-    Mend("begins with no number, as a heading or a remark", rb"[^0-9].*", "sed '/^[0-9]/!d'", rb"[0-9]"),
+    Mend("has a word before its number", rb"[A-Za-z_]+[ :=]*[0-9]+[ \t,;:]+(BIT[ _]*){WIDTH}.*", "sed -E 's/^[A-Za-z_]+[ :=]*//'"),
+    Mend("has something before its number", rb"[^0-9]+[0-9]+[^0-9A-Za-z]+(BIT[ _]*){WIDTH}.*", "sed -E 's/^[^0-9]+([0-9])/\\1/'"),
+    Mend("doesn't begin with a number: it may be a heading or a remark", rb"[^0-9].*", "sed '/^[0-9]/!d'", rb"[0-9]"),
     REMARK,
-    Mend("has zeros in front of its number", rb"0+[0-9]+[^0-9A-Za-z]+(BIT[ _]*){WIDTH}(?!BIT).*", r"sed -E 's/^0+([0-9])/\1/'"),
-    Mend("has a tab, a comma or several blanks behind its number", rb"[0-9]+([\t,;:]| [ \t,;:])[ \t,;:]*\S.*", r"sed -E 's/^([0-9]+)[ \t,;:]+/\1 /'"),
-    Mend("has a mark behind its number", rb"[0-9]+[])}=|>]\s*(BIT[ _]*){WIDTH}.*", r"sed -E 's/^([0-9]+)[])}=|>][ \t,;:]*/\1 /'"),
+    Mend("has leading zeros in its number", rb"0+[0-9]+[^0-9A-Za-z]+(BIT[ _]*){WIDTH}(?!BIT).*", r"sed -E 's/^0+([0-9])/\1/'"),
+    Mend("has a tab, a comma or several blanks after its number", rb"[0-9]+([\t,;:]| [ \t,;:])[ \t,;:]*\S.*", r"sed -E 's/^([0-9]+)[ \t,;:]+/\1 /'"),
+    Mend("has a mark after its number", rb"[0-9]+[])}=|>]\s*(BIT[ _]*){WIDTH}.*", r"sed -E 's/^([0-9]+)[])}=|>][ \t,;:]*/\1 /'"),
     Mend("has no bits", rb"[0-9]+ +\n?", r"sed -E '/^[0-9]+ *$/d'"),
     Mend("has no bits", rb"[0-9]+\n?", r"sed -E '/^[0-9]+ *$/d'", rb"[0-9]+[^0-9\n]+[^\s]"),
-    Mend("has a word behind its bits", rb"[0-9]+ (BIT[ _]*){WIDTH}[ \t,;:]+[A-Za-z]*LETTER[A-Za-z]*[ \t]*\n?", WORD_BEHIND),
-    Mend("has a remark behind its bits", rb"[0-9]+ (BIT[ _]*){WIDTH}[ \t]*(#|//).*", REMARK_BEHIND),
-    Mend("has blanks at its end", rb".*[ \t]\n?", r"sed -E 's/^[ \t]+//; s/[ \t]+$//'"),
-    Mend("has 0b in front of its bits", rb"[0-9]+ 0b(BIT[ _]*){WIDTH}\n?", "sed 's/ 0b/ /'"),
-    Mend("has its bits in hexadecimal, the first positions in the first digit", rb"[0-9]+ 0[xX]HEX\n?", HEX_BEHIND),
+    Mend("has a word after its bits", rb"[0-9]+ (BIT[ _]*){WIDTH}[ \t,;:]+[A-Za-z]*LETTER[A-Za-z]*[ \t]*\n?", WORD_BEHIND),
+    Mend("has a remark after its bits", rb"[0-9]+ (BIT[ _]*){WIDTH}[ \t]*(#|//).*", REMARK_BEHIND),
+    Mend("ends with blanks", rb".*[ \t]\n?", r"sed -E 's/^[ \t]+//; s/[ \t]+$//'"),
+    Mend("has 0b before its bits", rb"[0-9]+ 0b(BIT[ _]*){WIDTH}\n?", "sed 's/ 0b/ /'"),
+    IN_HEX,
     Mend("has X, Z, -, ? or . for what wasn't seen", rb"([0-9]+ )?(?=[^\n]*[XzZ?.-])([01xXzZ?.-][ _]*){WIDTH}\n?", "sed -E 's/[XzZ?.-]/x/g'"),
     Mend("has blanks or _ among its bits", rb"[0-9]+ [01x]+[ _][01x _]*\n?", r"sed -E ':a; s/^([0-9]+ [01x]+)[ _]+/\1/; ta'"),
     OPEN,
@@ -75,7 +76,7 @@ NUMBERED = (  # by a line of a log, the first that fits
 VECTORS = (  # by a line of a list of vectors
     FEEDS,
     EMPTY,
-    Mend("has blanks at its front or its end", rb"[ \t]+\S.*|[01xX]+[ \t]+\n?", r"sed -E 's/^[ \t]+//; s/[ \t]+$//'"),
+    Mend("begins or ends with blanks", rb"[ \t]+\S.*|[01xX]+[ \t]+\n?", r"sed -E 's/^[ \t]+//; s/[ \t]+$//'"),
     QUOTED,
     Mend("has H and L for 1 and 0", rb"([0-9]+[ \t,;:]+)?(?=.*[HLhl])(BIT[ _]*){WIDTH}\n?", "sed 'y/HLhl/1010/'"),
     Mend("is in hexadecimal, the first sources in the first digit", rb"0[xX]HEX\n?", HEX_ALONE),
@@ -84,16 +85,16 @@ VECTORS = (  # by a line of a list of vectors
         rb"(?=[^\n]*[xXzZ?.-])((?=[^\n]*[01])[01xXzZ?.-]{WIDTH}|[xX]{WIDTH}|(?!0[xX])[01xX]+)\n?",
         "sed 's/[xXzZ?.-]/0/g'",
     ),
-    Mend("has blanks, commas or _ among its bits or behind them", rb"(?=.*[ ,;_])([01xX][ ,;_]*){WIDTH}\n?", "sed 's/[ ,;_]//g'"),
-    Mend("has a word or a number in front of its bits", rb"(\S+ +)+[01xX]{WIDTH}\n?", r"sed -E 's/^.* ([01xX]+)$/\1/'"),
-    Mend("has a word or a number in front of its bits", rb"[^\n]*[\t,;:=][01xX]{WIDTH}\n?", r"sed -E 's/^.*[\t,;:=]([01xX]+)$/\1/'"),
-    Mend("has a word or a number in front of its bits", rb"[^ ]+ +([01xX][ _]*){WIDTH}\n?", "sed -E 's/^[^ ]+ +//'"),
-    Mend("has a word behind its bits", rb"[01xX]{WIDTH}[ \t,;:]+[A-Za-z]*LETTER[A-Za-z]*[ \t]*\n?", WORD_BEHIND),
-    Mend("has a remark behind its bits", rb"[01xX]{WIDTH}[ \t]*(#|//).*", REMARK_BEHIND),
-    Mend("has 0b in front of its bits", rb"0b[01xX]{WIDTH}\n?", "sed 's/^0b//'"),
-    Mend("begins with no bit, as a heading or a remark", rb"[^01].*", "sed '/^[01]/!d'", rb"[01]"),
+    Mend("has blanks, commas or _ among its bits or after them", rb"(?=.*[ ,;_])([01xX][ ,;_]*){WIDTH}\n?", "sed 's/[ ,;_]//g'"),
+    Mend("has a word or a number before its bits", rb"(\S+ +)+[01xX]{WIDTH}\n?", r"sed -E 's/^.* ([01xX]+)$/\1/'"),
+    Mend("has a word or a number before its bits", rb"[^\n]*[\t,;:=][01xX]{WIDTH}\n?", r"sed -E 's/^.*[\t,;:=]([01xX]+)$/\1/'"),
+    Mend("has a word or a number before its bits", rb"[^ ]+ +([01xX][ _]*){WIDTH}\n?", "sed -E 's/^[^ ]+ +//'"),
+    Mend("has a word after its bits", rb"[01xX]{WIDTH}[ \t,;:]+[A-Za-z]*LETTER[A-Za-z]*[ \t]*\n?", WORD_BEHIND),
+    Mend("has a remark after its bits", rb"[01xX]{WIDTH}[ \t]*(#|//).*", REMARK_BEHIND),
+    Mend("has 0b before its bits", rb"0b[01xX]{WIDTH}\n?", "sed 's/^0b//'"),
+    Mend("doesn't begin with a bit: it may be a heading or a remark", rb"[^01].*", "sed '/^[01]/!d'", rb"[01]"),
     REMARK,
-    Mend("has no LF behind it", rb"[01]+", r"sed '$a\'"),
+    Mend("has no LF at its end", rb"[01]+", r"sed '$a\'"),
 )
 AGAIN = Mend("has patterns in another order, or some twice", rb"", "sort -n -s -u -k 1,1")
 FROM_ONE = Mend("counts patterns from 1", rb"", "awk '{ print $1 - 1, $2 }'")

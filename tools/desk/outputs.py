@@ -59,7 +59,7 @@ def refuse_same(read, made, force):
         for it in read:
             if same_file(it, output):
                 both = named(output) if it == output else f"{named(output)}, which is the same file as {named(it)},"
-                raise Refused(f"{both} is read and would be written over; give the new file another name, or add {force}")
+                raise Refused(f"{both} is read by this run, which would write over it; give the new file another name, or add {force}")
 
 
 def refuse_another(made, kind_of, force):
@@ -140,8 +140,8 @@ class Output:
                 os.fsync(file.fileno())  # so that no crash leaves an empty file in the place of the older one
         os.replace(self.written, self.target)
         if now and now != self.older:
-            return f"{named(self.name)} was written by another program during this run, and now is the file of this one"
-        return f"{named(self.name)} is written anew: it replaces the older file" if now else None
+            return f"{named(self.name)} was written by another program during this run; it is now the file of this run"
+        return f"{named(self.name)} is a new file, which replaces the older one" if now else None
 
     def ends(self):
         """Whether the last line of what was written is `end`."""
@@ -186,7 +186,7 @@ class Outputs:
                 told.append(it.replace())
             except OSError as error:
                 whole = False
-                told.append(f"{named(it.name)} can't be replaced: {why(error)}; the new file is whole, and is {named(it.written)}")
+                told.append(f"{named(it.name)} can't be replaced: {why(error)}; the new file is complete: {named(it.written)}")
         if lock is not None:
             os.close(lock)
         return list(filter(None, told)), whole

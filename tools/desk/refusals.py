@@ -16,27 +16,27 @@ NETLIST = {
     "TooLong": "A netlist has at most 16,777,216 bytes.",
     "BadByte": "Outside comments a netlist has printable ASCII, spaces, tabs and ends of lines. `#` begins a comment.",
     "UnknownGate": STATEMENT + " The gates are AND, NAND, OR, NOR, XOR, XNOR, NOT, BUFF, BUF, DFF, MUX, CONST0 and CONST1.",
-    "Expected": "Something else has to stand here, or the text ends too early. " + STATEMENT,
+    "Expected": "The format doesn't allow this here, or the text ends too early. " + STATEMENT,
     "WrongPins": "NOT, BUFF, BUF and DFF take one pin, MUX takes three, CONST0 and CONST1 none, and any other gate one or more.",
     "DrivenTwice": "A name is driven once, by an INPUT or by a gate, and this one was driven before.",
     "Undriven": "Each pin and each OUTPUT has to be an INPUT or a name that a gate drives. Upper and lower case differ.",
-    "Loop": "A gate doesn't reach itself but through a DFF. The names behind the colon are the way round.",
+    "Loop": "These gates are a loop without a DFF. The names after the colon are the way round.",
 }
 
 RESULT = {
     "TooLong": "A result has at most 2^40 bytes.",
-    "Syntax": "The line is no record of a result: one space parts its fields, numbers have no zeros in front, and one LF ends it.",
-    "Order": "Another record has to stand here.",
-    "Head": "`diatest 1` is followed by how many sources, positions and fault numbers this netlist has; no budget is above its limit.",
-    "Pattern": "A pattern has a bit for each source, and parts members of some class.",
-    "Member": "Evidence is about the lowest number without a mark that isn't the lowest of its class, and about that lowest one.",
-    "Roots": "`C` is for faults with one root in the collapse, and T, R and O are for others.",
+    "Syntax": "The line isn't a record of a result: one space separates its fields, numbers have no leading zeros, and one LF ends it.",
+    "Order": "A record of another kind has to be here.",
+    "Head": "After `diatest 1` come the numbers of sources, positions and fault numbers of this netlist; no budget is above its limit.",
+    "Pattern": "A pattern has a bit for each source, and splits some class.",
+    "Member": "Evidence comes in order: it is about the next member that has no mark yet, and about the lowest number of its class.",
+    "Roots": "`C` is for two faults with the same root in the collapse; T, R and O are for others.",
     "Table": "Classes and members have to be those that the patterns make, in order, with the marks that the evidence gives.",
     "BadTree": "A tree splits an undecided cube by a free source that can still matter, and has a token for each cube and no more.",
-    "LeafOpen": "A `.` closes a cube in which each position shows the same of both faults, and in this one some may differ.",
-    "WrongCount": "The tree or the log has another number of closed cubes, open cubes or chains than its letter and the budget ask.",
-    "NoSuchClause": "The chain uses the number of a clause that doesn't stand before it.",
-    "NoPivot": "The pivot has to stand in the clause so far, and its opposite in the other one.",
+    "LeafOpen": "A `.` closes a cube in which both faults show the same at each position, and in this one they may differ.",
+    "WrongCount": "The tree or the log has another number of closed cubes, open cubes or chains than its letter and the budget require.",
+    "NoSuchClause": "The chain uses the number of a clause that isn't before it.",
+    "NoPivot": "The pivot has to be in the clause so far, and its opposite in the other one.",
     "EmptyEarly": "Only the last chain of an R log may end in the empty clause.",
     "NotEmpty": "The last chain of an R log has to end in the empty clause.",
     "NotFresh": "The end of a chain of an O log has to be a clause that unit propagation couldn't see before.",
@@ -49,24 +49,24 @@ DICTIONARY = {
     "Version": "The version is 1 or 2.",
     "Kind": "The kind is 1 (pass/fail), 2 (full) or 3 (same/different).",
     "Value": "The number is outside its bounds, or a row has padding that isn't 0 or repeats an earlier one.",
-    "Trailing": "Bytes follow the last row.",
+    "Trailing": "There are bytes after the last row.",
 }
 
 PLAN = {
     "TooLong": "A plan that is read has at most 1,073,741,824 bytes.",
     "Syntax": "A line is `adapt 1 positions patterns classes`, `ask pattern branches`, `on bits`, `class number` or `end`, and one LF.",
-    "Order": "Behind the head comes one node, then `end`. A node is a class, or an ask and its branches; a branch is `on bits` and a node.",
-    "Value": "A number is outside its bounds, a pattern is asked twice on its way, or bits are of another width or stand there already.",
+    "Order": "After the head comes one node, then `end`. A node is a class, or an ask and its branches; a branch is `on bits` and a node.",
+    "Value": "A number is outside its bounds, a pattern is asked twice on one way, or bits have another width or are there already.",
 }
 
 NUMBER, BITS, SEEN, END = rb"0|[1-9][0-9]*", rb"[01]+|-", rb"[01x]+|-", rb"\n"
 PARTIAL = ("rank", "suspects", "cover", "bridges")
 LISTS = ("sim", "grade", "topup")  # the commands that read a list of vectors
-SEEN_WORDS = "A line is a pattern's number without zeros in front, one space, the bits that were seen (x for one that wasn't), and one LF"
+SEEN_WORDS = "A line is a pattern's number without leading zeros, one space, the observed bits (x for one that wasn't observed), and one LF"
 LIST_WORDS = "A line is a vector's bits, source 0 first, and one LF"
 LOG_FORM = {**dict.fromkeys(LISTS, (BITS, END)), **dict.fromkeys(PARTIAL, (NUMBER, rb" ", SEEN, END))}
 LOG_WORDS = {**dict.fromkeys(LISTS, LIST_WORDS), **dict.fromkeys(PARTIAL, SEEN_WORDS)}
-WHOLE_FORM, WHOLE_WORDS = (NUMBER, rb" ", BITS, END), "A line is a pattern's number without zeros in front, one space, the bits, and one LF"
+WHOLE_FORM, WHOLE_WORDS = (NUMBER, rb" ", BITS, END), "A line is a pattern's number without leading zeros, one space, the bits, and one LF"
 
 LARGEST = 4_294_967_295  # of the numbers in texts
 HEADS = (  # what a file is by its beginning
@@ -160,13 +160,13 @@ def log_order(command, name, line, text, patterns):
     if command in PARTIAL:
         beyond = number >= patterns and first_number(name) == 1
         mend = mends.FROM_ONE if beyond else mends.AGAIN if number < patterns else None
-        words = f"The number is below {patterns} and above that of the line before: patterns are counted from 0."
+        words = f"The number has to be below {patterns} and above that of the line before: patterns are counted from 0."
         return words + (mends.sentence(mend, "It seems that this log", name) if mend else "")
     if command == "follow":
-        return "The line has to answer the pattern that the plan asks there: `follow` with the lines above tells it."
+        return "The line has to be about the pattern that the plan asks here: `follow` with the lines above names it."
     if line > patterns:
-        return f"There are {patterns} patterns, and each has had its line."
-    words = f"Line {line} has the number {line - 1}: patterns are counted from 0, and `diagnose` wants each (`rank` doesn't)."
+        return f"There are {patterns} patterns, and each has its line already."
+    words = f"Line {line} has to have the number {line - 1}: patterns are counted from 0, and `diagnose` needs each of them (`rank` doesn't)."
     mend = mends.FROM_ONE if line == 1 and number == 1 else mends.AGAIN if number < line - 1 else None
     return words + (mends.sentence(mend, "It seems that this log", name) if mend else "")
 
@@ -178,7 +178,7 @@ def log_mend(command, files, name, text, line):
     if numbered and len(numbered[1]) != width and len(numbered[0].split()[0] + numbered[1]) != width:
         return f" This file looks like a log, and `{command}` takes vectors."
     mend = mends.of_line(text, mends.VECTORS if command in LISTS else mends.NUMBERED, name, width, line)
-    return mend or f" Here a line has {width} bit{'' if width == 1 else 's'}{'' if command in LISTS else ' behind its number'}."
+    return mend or f" Here a line has {width} bit{'' if width == 1 else 's'}{'' if command in LISTS else ' after its number'}."
 
 
 def log_syntax(command, files, name, line, text, other):
@@ -186,7 +186,7 @@ def log_syntax(command, files, name, line, text, other):
     words, number = LOG_WORDS.get(command, WHOLE_WORDS), re.match(NUMBER, text)
     alone = re.fullmatch(rb"[01 _]+\n?", text) and sum(it in b"01" for it in text) == sizes(command, files)[1]
     if command not in LISTS and number and int(number[0]) > LARGEST and not alone:
-        return 0, f"{words}. Its number is above {LARGEST}, the largest that is read."
+        return 0, f"{words}. Its number is above {LARGEST}, the largest allowed."
     mend = "" if other else log_mend(command, files, name, text, line)
     partial = "" if command in (*PARTIAL, *LISTS) or "x" not in mend + text.decode("latin-1") else " `rank` and `suspects` take an x."
     return first_wrong(text, LOG_FORM.get(command, WHOLE_FORM)), f"{words}.{partial}{mend}"
@@ -205,7 +205,7 @@ def log_place(command, files, name, rule, line, text, other):
         return 0, f"The log ends before the last of the {patterns} patterns. `rank` takes a log in which some are missing."
     begin = text.rfind(b" ") + 1
     bits = 0 if text[begin:] == b"-\n" else len(text) - 1 - begin
-    return begin + min(width, bits), f"Each line has {width} bits, and this one has {bits}."
+    return begin + min(width, bits), f"Each line has {width} bits, and this one has {bits}.{mends.of_line(text, (mends.IN_HEX,), name, width)}"
 
 
 def result_place(rule, step, text):

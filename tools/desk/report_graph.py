@@ -157,14 +157,14 @@ def part(case):
 
 def left_out(case, top, whole, most, goals, positions, nodes):
     """What isn't drawn, in words."""
-    said = [] if top == len(case.members) else [f"the first {top} of {len(case.members)} classes are drawn"]
+    said = [] if top == len(case.members) else [f"the picture has the first {top} of {len(case.members)} classes"]
     if not whole:
-        said.append("of all ways to a failing position a shortest one")
+        said.append("one shortest way to each failing position")
     if most and any(len(it) > most for it in list(case.members.values())[:top]):
-        said.append(f"of a class at most {most} faults")
+        said.append(f"at most {most} faults of a class")
     if len(positions) < len(goals):
-        said.append(f"the {len(positions)} positions that fail most, of {len(goals)}")
+        said.append(f"the {len(positions)} of {len(goals)} failing positions that fail most")
     apart = sum(it not in nodes for it in positions)
     if apart:
-        said.append(f"{apart} failing position{'' if apart == 1 else 's'} that no drawn fault reaches left out")
+        said.append(f"no drawn fault reaches {apart} failing position{'' if apart == 1 else 's'}")
     return "; ".join(said)

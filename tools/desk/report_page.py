@@ -11,6 +11,7 @@ from report_case import numbers_in, ones_in, union
 from report_graph import drawn_bridges
 from report_kinds import kind, nets, unnamed
 from report_place import by_net, driver, place, position, spot
+from usage import INSTALLED
 
 HERE = os.path.dirname(os.path.realpath(__file__))
 NETS = 3  # nets of a class that are shown without unfolding the others
@@ -27,9 +28,9 @@ BRIDGES = (
     "listed that closes a loop."
 )
 CLASSES = (
-    " A row stands for a class: faults that no pattern of the result tells apart, named by its lowest number. Pins are counted from 0. By the "
-    "gates, by a tree and by a refutation say how a fault is shown to be equal to the lowest: no vector tells them apart. "
-    '<span class="open">Open</span> ones may differ from it: a budget ended first.'
+    " A row stands for a class, the faults that no pattern of the result tells apart, and has the number of its lowest fault. Pins are counted "
+    "from 0. By the gates, by a tree and by a refutation say how a fault was shown to be equal to the lowest, so that no vector tells the two "
+    'apart. <span class="open">Open</span>: the fault may differ from the lowest, since a budget ended before that was settled.'
 )
 
 
@@ -116,7 +117,7 @@ def tried(doubt):
         explained = "–" if it.explained is None else f"{it.explained:,} of {it.failing:,}"
         texts = [escape(it.change), f"{it.failing:,} of {it.logged:,}", words.share(it.wrong, it.seen or 1), explained]
         rows.append(row(heads, kinds, texts, mark=' class="best"' if it is doubt.best else ""))
-    said = "Each change is compared with what a good chip answers. The suspects are computed for the change that fits."
+    said = "After each change the log is compared with what a good chip answers. Suspects are computed for the best change alone."
     return f'<h2>Other orders, polarities and patterns</h2>\n{table(heads, kinds, rows)}\n<p class="note">{said}</p>'
 
 
@@ -131,7 +132,7 @@ def member(case, number):
 def faults(case, number):
     """The faults of a class by net, nearest to the inputs first; those behind the third net are folded."""
     if len(case.members[number]) == 1:
-        return "this one alone"
+        return "this one only"
     lines = [f"net {escape(net)}: {', '.join(member(case, it) for it in found)}" for net, found in by_net(case, number).items()]
     hidden = sum(len(it) for it in list(by_net(case, number).values())[NETS:])
     return folded(lines[:NETS], lines[NETS:], f"{words.count(hidden, 'more fault')} on {words.count(len(lines) - NETS, 'more net')}")
@@ -175,7 +176,7 @@ def on_bridges(case):
     if case.exact_count > len(case.exact):
         yield f"The first {len(case.exact)} are listed; diatest bridges with --most {case.exact_count} lists all."
     if not case.bridged():
-        yield "This is a second reading, since a stuck-at fault fits: a net that is shorted may behave as if it were stuck, as with a constant one."
+        yield "This is a second reading, since a stuck-at fault fits, too: a net that is shorted to a constant one behaves as if it were stuck."
 
 
 def bridges(case):
@@ -193,7 +194,7 @@ def bridges(case):
 
 def cover(case):
     """The classes that together explain the failing patterns, the best suspect standing for each that is as good."""
-    heads, kinds, rows = ["#", "number", "where", "explained", "of them new", "as well explained by"], "ccnccn", []
+    heads, kinds, rows = ["#", "number", "where", "explained", "newly explained", "equally good"], "ccnccn", []
     for (_, others), (_, new) in zip(words.also(case), case.cover):
         number = others[0]
         rank = f'<span class="rank">{case.marks[number].partition("#")[2] or "–"}</span>'
@@ -201,7 +202,7 @@ def cover(case):
         rows.append(row(heads, kinds, [*texts, listed([case.marks[it] for it in others[1:]]) or "no other suspect"], number))
     rest = case.failing_count - case.covered
     said = f" {words.count(rest, 'failing pattern')} {'is' if rest == 1 else 'are'} explained by no fault." if rest else ""
-    note = "Each class explains most of the failing patterns that none above it explains; of several that do, the best suspect has the row."
+    note = "Each class explains the most failing patterns that no class above it explains. If several do, the row has the best suspect of them."
     head = f"{words.count(len(rows), 'class explains', 'classes together explain')} {case.covered:,} of "
     head += words.count(case.failing_count, "failing pattern")
     return f'<h2>Together: {head}</h2>\n{table(heads, kinds, rows)}\n<p>{said}</p>\n<p class="note">{note}</p>'
@@ -287,7 +288,7 @@ def patterns(case):
         found = [str(it) for it in numbers_in(word)]
         counts = f"{len(found):,}", listed(found), f"{sum(it for it, _ in bits):,}"
         rows.append(row(heads, kinds, [listed(who) or "no suspect", *counts, listed(at, 8)]))
-    more = f"<p>{len(groups) - GROUPS:,} more groups have no row.</p>" if len(groups) > GROUPS else ""
+    more = f"<p>{len(groups) - GROUPS:,} more groups aren't listed.</p>" if len(groups) > GROUPS else ""
     head = f"Failing patterns: {case.failing_count:,} of {case.logged_count:,}"
     return f"<h2>{head}</h2>\n{table(heads, kinds, rows)}{more}"
 
@@ -295,10 +296,11 @@ def patterns(case):
 def again(case, page):
     """The commands that make it all again."""
     netlist, result, log = (shlex.quote(it if not it.startswith("-") else f"./{it}") for it in case.files.values())
-    lines = [f"./diatest check {netlist} {result}"]
+    command, report = ("diatest", "diatest-report") if INSTALLED else ("./diatest", "tools/report")
+    lines = [f"{command} check {netlist} {result}"]
     if case.failing:
-        lines += [f"./diatest {it} {netlist} {result} {log}" for it in ("suspects", "cover", "bridges")] + [f"./diatest faults {netlist}"]
-    lines += [f"tools/report {netlist} {result} {log} -o {shlex.quote(page)}"]
+        lines += [f"{command} {it} {netlist} {result} {log}" for it in ("suspects", "cover", "bridges")] + [f"{command} faults {netlist}"]
+    lines += [f"{report} {netlist} {result} {log} -o {shlex.quote(page)}"]
     return f"<h2>To make it again</h2>\n<pre>{escape(chr(10).join(lines))}</pre>"
 
 

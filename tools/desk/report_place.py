@@ -133,7 +133,7 @@ def in_short(case, number):
     if not found.gate:
         return f"{found.where} {found.what.partition(' (')[0]}"
     sites = found.what.split(", or ")
-    return f"a fault at {found.where} ({re.sub(' [(].*?[)]', '', sites[-1])}, or equal)"
+    return f"a fault at {found.where} ({re.sub(' [(].*?[)]', '', sites[-1])}, or an equal fault)"
 
 
 def in_counts(case, number):
@@ -142,7 +142,7 @@ def in_counts(case, number):
     if not others:
         return said
     equal = f"{others:,} more equal fault{'' if others == 1 else 's'}"
-    return said.replace(", or equal)", f"; {equal})") if spot(case, number).gate else f"{said} ({equal})"
+    return said.replace(", or an equal fault)", f"; {equal})") if spot(case, number).gate else f"{said} ({equal})"
 
 
 def stems(case, number):

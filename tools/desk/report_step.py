@@ -149,7 +149,7 @@ def next_step(case, doubt):
     """What to do next; a scan chain that looks broken comes first."""
     step = of_log(case, doubt)
     if dead(case):
-        first = "Shift a pattern of zeros and ones through the scan chain: if it doesn't come out, mend the chain first."
+        first = "Shift a pattern of zeros and ones through the scan chain: if it doesn't come out, repair the chain first."
         return step._replace(said=[first, *step.said])
     return step
 
@@ -164,5 +164,5 @@ def of_log(case, doubt):
     if case.bridged():
         return shorted(case)
     first = case.suspects[0]
-    step = first_two(case) if len(case.suspects) > 1 else Step(["There is a single suspect."])
+    step = first_two(case) if len(case.suspects) > 1 else Step(["There is only one suspect."])
     return Step(first_leaves(case, first) + step.said + in_the_lab(case, first), step.pattern)

@@ -164,7 +164,7 @@ def uneven(case):
     if not case.cover:
         bits = f"{first.hit:,} of {count(case.wrong_bits, 'failing bit')}, and would fail {first.false:,} that passed"
         more = [f"The nearest is {in_short(case, first.number)}: it hits {bits}."]
-        return Verdict(f"No stuck-at fault explains any of the {failing} whole: several defects act at once", more)
+        return Verdict(f"No stuck-at fault explains any of the {failing} completely: several defects act at once", more)
     chosen, rest = nearest_cover(case), case.failing_count - case.covered
     if len(chosen) == 1:
         more = [f"{capital(in_short(case, chosen[0][0]))} explains {case.covered:,} of the {failing}; no fault explains the rest."]

@@ -10,7 +10,7 @@ MARKS = {
     "C": "equal, as the gates alone show (C)",
     "T": "equal, as a tree of cubes shows (T)",
     "R": "equal, as a refutation shows (R)",
-    "O": "open: no vector that parts it from the lowest was found (O)",
+    "O": "open: no vector that tells it from the lowest was found (O)",
 }
 
 
@@ -36,7 +36,7 @@ class Result:
             elif fields[0] == "member":
                 self.classes[int(fields[1])] = int(fields[2])
         if fields != ["end"]:
-            raise ValueError(f"{name} is no whole result: ./diatest check says where")
+            raise ValueError(f"{name} is no complete result: ./diatest check says where")
 
     @functools.cached_property
     def members(self):

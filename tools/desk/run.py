@@ -141,13 +141,13 @@ class Run:
         elif status == 0 and self.command in LISTS and is_empty(self.files["VECTORS"]):
             tell(f"{named(self.files['VECTORS'])} has no vectors")
         elif status == 9:
-            tell("there was no memory for it")
+            tell("there wasn't enough memory")
 
     def tell_failed(self, status):
         """Tells which file couldn't be read or written, and why."""
         tried = COMMANDS[self.command].read.split() if status == 7 else COMMANDS[self.command].made.split()
         causes = filter(None, map(unread if status == 7 else unwritten, (self.files[it] for it in tried)))
-        tell(next(causes, f"a {'read' if status == 7 else 'write'} failed, and now no cause is seen"))
+        tell(next(causes, f"a {'read' if status == 7 else 'write'} failed, and its cause can't be seen any more"))
 
     def tell_killed(self, number):
         """Tells that the program was stopped."""
@@ -174,10 +174,10 @@ class Run:
         state = f"{name} is as it was before" if output.older else f"there is no {name} yet"
         if not output.beside:
             if status < 0 and output.plain:
-                tell(state if stamp(output.target) == output.older else f"{name} was begun, and may be cut short")
+                tell(state if stamp(output.target) == output.older else f"{name} may be incomplete")
             return
         if self.child.returncode == 0 or label == ENDED.get(self.command) and output.ends():
-            tell(f"{state}; the new file is whole, and is {named(output.written)}")
+            tell(f"{state}; the new file is complete: {named(output.written)}")
             return
         output.drop()
         if status < 0 or status in (8, 9) and output.older:
@@ -227,11 +227,11 @@ def main():
     try:
         run.explain()
     except Exception as error:  # whatever can't be told, the run ends as the program did
-        tell(f"more can't be told ({error})")
+        tell(f"the cause can't be shown ({error})")
     try:
         status = run.finish()
     except OSError as error:
-        tell(f"{named(error.filename)} can't be taken away: {why(error)}")
+        tell(f"{named(error.filename)} can't be removed: {why(error)}")
         status = run.status() or 8
     end(status)
 

@@ -33,34 +33,34 @@ class Helper(NamedTuple):
     work: str
 
 
-FORCED = "writes over a file that is read too, over one of another kind, and over one beside which no new file can be written"
+FORCED = "allows to write over a file that the run reads, over one of another kind, and over one in a folder that takes no new file"
 BUDGETS = (
-    Option("blocks", 65_536, 4, "blocks of the stream that are tried, of 64 vectors each"),
-    Option("cubes", 1_048_576, 64, "closed cubes that are spent on a pair of faults before it is given to the solver"),
-    Option("conflicts", 100_000, 2_000, "clauses that the solver learns for a pair of faults before it is left open"),
+    Option("blocks", 65_536, 4, "how many blocks of 64 vectors of the stream are tried"),
+    Option("cubes", 1_048_576, 64, "how many closed cubes are spent on a pair of faults before the solver gets it"),
+    Option("conflicts", 100_000, 2_000, "how many clauses the solver learns for a pair of faults before the pair is left open"),
 )
-WITHIN = Option("within", 1_000_000, 0, "mismatches above the least that a number may have that is listed")
-MOST = Option("most", 1_000_000, 20, "suspects that are listed at the most", 1)
+WITHIN = Option("within", 1_000_000, 0, "lists also the numbers with up to N mismatches more than the least")
+MOST = Option("most", 1_000_000, 20, "how many suspects are listed at most", 1)
 BRIDGES = (
-    Option("most", 1_000_000, 20, "bridges that are listed at the most", 1),
-    Option("within", 1_000_000, 0, "failing patterns that a bridge may leave unexplained"),
+    Option("most", 1_000_000, 20, "how many bridges are listed at most", 1),
+    Option("within", 1_000_000, 0, "how many failing patterns a bridge may leave unexplained"),
 )
 
 COMMANDS = {
     "gen": Command(
-        "NETLIST RESULT", "NETLIST", "RESULT", "generates a result for the netlist: patterns, classes, and evidence of each", BUDGETS
+        "NETLIST RESULT", "NETLIST", "RESULT", "generates a result for the netlist: patterns, classes of faults, and evidence", BUDGETS
     ),
     "grade": Command(
         "NETLIST VECTORS RESULT",
         "NETLIST VECTORS",
         "RESULT",
-        "keeps the vectors that tell faults apart, and writes a result in which what they leave together is open",
+        "keeps the vectors of a list that tell faults apart, and writes their result; it searches for no further pattern",
     ),
     "topup": Command(
         "NETLIST VECTORS RESULT",
         "NETLIST VECTORS",
         "RESULT",
-        "keeps the vectors that tell faults apart, and generates patterns and evidence for what they leave together",
+        "keeps the vectors of a list that tell faults apart, and generates patterns and evidence for faults that they leave together",
         BUDGETS[1:],
     ),
     "check": Command("NETLIST RESULT", "NETLIST RESULT", "", "says whether the result is valid for the netlist"),
@@ -68,51 +68,51 @@ COMMANDS = {
         "passfail|full|samediff NETLIST RESULT DICTIONARY",
         "NETLIST RESULT",
         "DICTIONARY",
-        "checks the result, and writes the dictionary of this kind at its patterns",
+        "checks the result, and writes the dictionary of this kind for its patterns",
     ),
     "compact": Command(
         "NETLIST RESULT NEW", "NETLIST RESULT", "NEW", "checks the result, and writes it without the patterns that its classes don't need"
     ),
-    "convert": Command("OLD NEW", "OLD", "NEW", "writes a dictionary of either version in version 2"),
+    "convert": Command("OLD NEW", "OLD", "NEW", "writes a dictionary of version 1 or 2 as one of version 2"),
     "diagnose": Command(
-        "DICTIONARY LOG", "DICTIONARY LOG", "", "lists the fault numbers whose entry is that of the answers in a tester's log"
+        "DICTIONARY LOG", "DICTIONARY LOG", "", "lists the faults whose entry in the dictionary is that of the log"
     ),
     "rank": Command(
-        "DICTIONARY LOG", "DICTIONARY LOG", "", "lists the fault numbers that a log contradicts least, which may have gaps", (WITHIN,)
+        "DICTIONARY LOG", "DICTIONARY LOG", "", "lists the faults that a log contradicts least; the log may have gaps", (WITHIN,)
     ),
     "adapt": Command(
         "NETLIST RESULT PLAN",
         "NETLIST RESULT",
         "PLAN",
-        "checks the result, and writes which of its patterns to apply next, given the answers so far",
+        "checks the result, and writes a plan: which pattern to apply next, given the answers so far",
     ),
     "follow": Command("PLAN LOG", "PLAN LOG", "", "says where the answers so far lead in a plan"),
     "expect": Command(
-        "NETLIST RESULT LOG", "NETLIST RESULT", "LOG", "checks the result, and writes what a chip without a fault answers to its patterns"
+        "NETLIST RESULT LOG", "NETLIST RESULT", "LOG", "checks the result, and writes what a good chip answers to its patterns"
     ),
     "suspects": Command(
         "NETLIST RESULT LOG",
         "NETLIST RESULT LOG",
         "",
-        "checks the result, and lists the classes that explain most of what fails in a log, best first",
+        "checks the result, and lists the classes of faults that explain most failing patterns of a log, best first",
         (MOST,),
     ),
     "cover": Command(
         "NETLIST RESULT LOG",
         "NETLIST RESULT LOG",
         "",
-        "checks the result, and lists classes that together explain what fails in a log",
+        "checks the result, and lists classes of faults that together explain the failing patterns of a log",
     ),
     "bridges": Command(
         "NETLIST RESULT LOG",
         "NETLIST RESULT LOG",
         "",
-        "checks the result, and lists the shorts of two lines that explain what fails in a log, best first",
+        "checks the result, and lists the bridges of two nets that explain the failing patterns of a log, best first",
         BRIDGES,
     ),
-    "faults": Command("NETLIST", "NETLIST", "", "lists the faults: number, number of the root in the collapse, name"),
+    "faults": Command("NETLIST", "NETLIST", "", "lists the faults: number, number of the root in the collapse, and name"),
     "sim": Command(
-        "NETLIST VECTORS", "NETLIST VECTORS", "", "prints what the circuit answers to each vector, and each fault that answers otherwise"
+        "NETLIST VECTORS", "NETLIST VECTORS", "", "prints what the circuit answers to each vector, and what each fault answers that answers otherwise"
     ),
     "synth": Command("N NETLIST RESULT", "", "NETLIST RESULT", "writes a netlist of N cells, 1 to 2000, and a result for it"),
 }
@@ -165,7 +165,7 @@ def usage(name=None):
     lines = [f"usage: {first_line(name)}", COMMANDS[name].work]
     options = COMMANDS[name].options
     wide = max((len(it.name) for it in options), default=0)
-    lines += [f"  --{it.name} N{'':{wide - len(it.name)}}  {it.least} to {it.most}, else {it.default}: {it.work}" for it in options]
+    lines += [f"  --{it.name} N{'':{wide - len(it.name)}}  {it.least} to {it.most}, default {it.default}: {it.work}" for it in options]
     if COMMANDS[name].made:
         lines.append(f"  --force{'':{max(wide - 1, 2)}}{FORCED}")
     return "\n".join([*lines, ""])

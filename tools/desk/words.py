@@ -28,7 +28,7 @@ def wrong_number(what, text, least, most):
         return None
     grouped = text.replace(",", "").replace("_", "").replace("'", "")
     mend = f": write {grouped}" if grouped != text and in_range(grouped, least, most) else ""
-    return f"{what} is a number from {least} to {most}, and {named(text)} is none{mend}"
+    return f"{what} takes a number from {least} to {most}, and {named(text)} isn't one{mend}"
 
 
 def split(name, words):
@@ -58,10 +58,10 @@ def wrong_option(name, options):
             taken = f"its options are {', '.join(known)}" if known else "it has none"
             return f"{name} has no option {named(option)}: {taken}"
         if option in seen:
-            return f"{option} stands there twice"
+            return f"{option} is given twice"
         seen.add(option)
         if value is None:
-            return f"{option} has no number behind it"
+            return f"{option} needs a number after it"
         found = wrong_number(option, value, known[option].least, known[option].most)
         if found:
             return found
@@ -91,6 +91,6 @@ def wrong(words):
     options, others = split(name, words[1:])
     found = wrong_option(name, options)
     if not found and name == "dict" and others and others[0] not in KINDS:
-        found = f"the kind of a dictionary is passfail, full or samediff, and {named(others[0])} is none{near(others[0], KINDS)}"
+        found = f"the kind of a dictionary is passfail, full or samediff, and not {named(others[0])}{near(others[0], KINDS)}"
     found = found or wrong_count(name, others)
     return found or (wrong_number("N", others[0], 1, CELLS) if name == "synth" else None)
