@@ -75,7 +75,7 @@ HEADS = (  # what a file is by its beginning
     (rb"adapt 1 ", "an adaptive plan"),
     (rb"[ \t]*[0-9]+[ \t,;:]+[01xXzZHLhl?._ -]+(\r?\n|$)", "a log"),
     (rb"(?i)(\s|#[^\n]*\n)*(in|out)put\s*\(", "a netlist"),
-    (rb"(?s)(\s|//[^\n]*\n|/\*.*?\*/)*(module|`timescale)\s", "Verilog, of which tools/from-verilog makes a netlist"),
+    (rb"(?s)(\s|//[^\n]*\n|/\*.*?\*/)*(module|`timescale)\s", "Verilog, from which tools/from-verilog makes a netlist"),
 )
 WANTED = {"netlist": "a netlist", "result": "a result", "dictionary": "a dictionary", "plan": "an adaptive plan", "log": "a log"}
 LISTED = (  # what an older file is whose beginning says nothing
