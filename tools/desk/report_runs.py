@@ -4,11 +4,11 @@ import os
 import shutil
 import stat
 import subprocess
-import sys
 import tempfile
 
 from program import built
 from results import TOP
+from telling import say
 
 
 class Ended(Exception):
@@ -17,6 +17,12 @@ class Ended(Exception):
     def __init__(self, status: int, printed: str):
         super().__init__(printed)
         self.status = status if status >= 0 else 128 - status
+
+
+def read(file) -> bytes:
+    """All that an open file has."""
+    file.seek(0)
+    return file.read()
 
 
 class Run:
@@ -31,19 +37,14 @@ class Run:
         """Waits for the end, and says whether the status is 0."""
         return self.child.wait() == 0
 
-    def text_of(self, file) -> str:
-        """What one of its files has."""
-        file.seek(0)
-        return file.read().decode("latin-1")
-
     def lines(self, quiet: bool = False) -> list:
         """Waits for the end, and returns the lines that it printed. What it told goes to standard error, unless this is to be quiet."""
-        status, error = self.child.wait(), self.text_of(self.error)
-        if error and not quiet:
-            sys.stderr.write(self.runs.told(error))
+        status, printed = self.child.wait(), read(self.out).decode("latin-1")
+        if not quiet:
+            say(self.runs.told(read(self.error).decode("utf-8", "surrogateescape")))
         if status:
-            raise Ended(status, self.runs.told(self.text_of(self.out)))
-        return self.text_of(self.out).splitlines()
+            raise Ended(status, self.runs.told(printed))
+        return printed.splitlines()
 
     def stop(self):
         """Stops the command if it still runs."""
