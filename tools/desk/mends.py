@@ -31,6 +31,7 @@ QUOTED = Mend("has quotation marks", rb'.*".*', "sed 's/\"//g'")
 LETTER = rb"[A-GI-KM-WYa-gi-km-wy]"  # none that stands for a bit
 OF_WORDS = rb"[GI-KM-WYgi-km-wy]"  # a letter that stands for no bit, and is no digit of a number in hexadecimal
 COMMENT = rb"[ \t]*[#;*%!/]"
+REMARKED = rb"[#;*%!/]+[ \t]*[A-Za-z]"  # how a remark begins that has a word
 REMARK = Mend(
     "is a remark or a heading",
     rb"(?=.*OF_WORDS)([#;*%!/].*|[A-Za-z_]+([ \t,;:]+[A-Za-z_]+)*[:.]?\s*)|(?!(BIT[ _]*){WIDTH}\s*\Z)[^0-9A-Za-z\s][^0-9A-Za-z]*",
@@ -86,9 +87,9 @@ VECTORS = (  # by a line of a list of vectors
         "sed 's/[xXzZ?.-]/0/g'",
     ),
     Mend("has blanks, commas or _ among its bits or after them", rb"(?=.*[ ,;_])([01xX][ ,;_]*){WIDTH}\n?", "sed 's/[ ,;_]//g'"),
-    Mend("has a word or a number before its bits", rb"(\S+ +)+[01xX]{WIDTH}\n?", r"sed -E 's/^.* ([01xX]+)$/\1/'"),
-    Mend("has a word or a number before its bits", rb"[^\n]*[\t,;:=][01xX]{WIDTH}\n?", r"sed -E 's/^.*[\t,;:=]([01xX]+)$/\1/'"),
-    Mend("has a word or a number before its bits", rb"[^ ]+ +([01xX][ _]*){WIDTH}\n?", "sed -E 's/^[^ ]+ +//'"),
+    Mend("has a word or a number before its bits", rb"(?!REMARKED)(\S+ +)+[01xX]{WIDTH}\n?", r"sed -E 's/^.* ([01xX]+)$/\1/'"),
+    Mend("has a word or a number before its bits", rb"(?!REMARKED)[^\n]*[\t,;:=][01xX]{WIDTH}\n?", r"sed -E 's/^.*[\t,;:=]([01xX]+)$/\1/'"),
+    Mend("has a word or a number before its bits", rb"(?!REMARKED)[^ ]+ +([01xX][ _]*){WIDTH}\n?", "sed -E 's/^[^ ]+ +//'"),
     Mend("has a word after its bits", rb"[01xX]{WIDTH}[ \t,;:]+[A-Za-z]*LETTER[A-Za-z]*[ \t]*\n?", WORD_BEHIND),
     Mend("has a remark after its bits", rb"[01xX]{WIDTH}[ \t]*(#|//).*", REMARK_BEHIND),
     Mend("has 0b before its bits", rb"0b[01xX]{WIDTH}\n?", "sed 's/^0b//'"),
@@ -119,7 +120,7 @@ def hexadecimal(width):
 
 def form(text, width):
     """The expression of a form, for lines of so many bits."""
-    parts = {b"BIT": BIT, b"LETTER": LETTER, b"OF_WORDS": OF_WORDS, b"WIDTH": b"%d" % width, b"HEX": hexadecimal(width)}
+    parts = {b"BIT": BIT, b"LETTER": LETTER, b"OF_WORDS": OF_WORDS, b"REMARKED": REMARKED, b"WIDTH": b"%d" % width, b"HEX": hexadecimal(width)}
     for name, part in parts.items():
         text = text.replace(name, part)
     return re.compile(text, re.DOTALL)

@@ -4,6 +4,7 @@ The answers of single faults come of the helpers' own simulation. They are compa
 wherever a page is made. `suspects`, `bridges` and `faults` run beside each other, and so does `cover`, if no single class explains all failing
 patterns. Each but `faults` checks the result."""
 
+import contextlib
 import functools
 import hashlib
 from typing import NamedTuple
@@ -104,12 +105,12 @@ class Case:
         self.read = {kind: runs.readable(kind, name) for kind, name in self.files.items()}
         files = self.read.values()
         suspects, bridges, faults = runs.start("suspects", *files), runs.start("bridges", *files), runs.start("faults", self.read["netlist"])
-        if faults.succeeds():  # else `suspects` says why the netlist can't be read
-            self.netlist = bench.read(self.read["netlist"])
+        early = self.read_early() if faults.succeeds() else None  # else `suspects` says why the netlist can't be read
         self.suspects, self.failing_count, self.logged_count = suspects_in(suspects.lines())
         cover = None if self.one_explains() else runs.start("cover", *files)
         self.listing = faults.lines()
         self.checksums = {kind: checksum(name) for kind, name in self.read.items()}
+        self.result = early or Result(self.read["result"])
         self.simulate()
         self.read_log()
         self.members, self.names, self.explained, self.shows, self.unlogged = {}, {}, {}, {}, {}
@@ -123,9 +124,14 @@ class Case:
         """Whether nothing fails, or one class explains all failing patterns, so that nothing is left for `cover`."""
         return not self.failing_count or bool(self.suspects) and self.suspects[0].explained == self.failing_count
 
+    def read_early(self):
+        """Reads the netlist, which is right, and the result, while `suspects` checks it. Returns the result, or None where that can't be read."""
+        self.netlist = bench.read(self.read["netlist"])
+        with contextlib.suppress(OSError, ValueError, LookupError):
+            return Result(self.read["result"])
+
     def simulate(self):
         """What a good chip answers to the patterns of the result."""
-        self.result = Result(self.read["result"])
         self.patterns, self.full = self.result.patterns, (1 << len(self.result.patterns)) - 1
         self.free = bench.values(self.netlist, self.patterns)
         self.good = [self.free[it] for it in self.netlist.shown]

@@ -28,7 +28,9 @@ class Result:
 
     def __init__(self, name):
         self.patterns, self.classes, self.evidence = [], {}, {}
-        for fields in lines(name):
+        listed = lines(name)
+        fields = next(listed, [])
+        for fields in listed if fields[:1] == ["diatest"] else ():
             if fields[0] == "pattern":
                 self.patterns.append("" if fields[1] == "-" else fields[1])
             elif fields[0] == "same":
@@ -49,10 +51,10 @@ class Result:
 
 def names_in(listing, numbers):
     """The root and the name's fields of each of these numbers, from the lines of the program's list of faults."""
-    found = {}
+    found, wanted = {}, {str(it) for it in numbers}
     for line in listing:
         number, _, rest = line.partition(" ")
-        if number.isdigit() and int(number) in numbers:
+        if number in wanted:
             root, *name = rest.split()
             found[int(number)] = int(root), name
     return found
