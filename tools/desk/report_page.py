@@ -7,10 +7,10 @@ from html import escape
 import report_bridges
 import report_step as steps
 import report_words as words
-from report_case import numbers_in, ones_in, union
+from report_case import numbers_in, ones_in
 from report_graph import drawn_bridges
 from report_kinds import kind, nets, unnamed
-from report_place import by_net, driver, place, position, spot
+from report_place import by_net, place, position, spot
 from usage import INSTALLED
 
 HERE = os.path.dirname(os.path.realpath(__file__))
