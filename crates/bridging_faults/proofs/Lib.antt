@@ -24,3 +24,4 @@ pub mod KindSteps
 pub mod LineSteps
 pub mod SearchEnd
 pub mod ChosenLemmas
+pub mod ConeLemmas

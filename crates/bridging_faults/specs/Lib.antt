@@ -10,6 +10,7 @@ pub mod Simulated
 pub mod Told
 pub mod Search
 pub mod Met
+pub mod Cones
 pub mod Tried
 pub mod Texts
 pub mod Laws

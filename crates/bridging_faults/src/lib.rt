@@ -4,6 +4,7 @@
 mod best;
 mod bridge;
 mod choosing;
+mod cones;
 mod laws;
 mod line_rows;
 mod listing;

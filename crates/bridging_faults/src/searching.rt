@@ -1,22 +1,22 @@
 //! The search for bridges by the rows of the lines.
 
-ghost use Rattle.std.specs.Prelude.{◌≡◌, ◌≢◌, ◌↔◌, ◌+◌, ◌<◌, ◌≤◌, ◌^◌, ℕ, false, length, All, Contains, Some, IsTrue, OnOk, IfOk};
-ghost use Rattle.net_model.specs.Circuit.{IsCircuit, line_count};
+ghost use Rattle.std.specs.Prelude.{◌≡◌, ◌≢◌, ◌↔◌, ◌⊎◌, ◌+◌, ◌<◌, ◌≤◌, ◌^◌, ℕ, false, length, All, Contains, Some, IsTrue, OnOk, IfOk};
+ghost use Rattle.net_model.specs.Circuit.{line_count};
 ghost use Rattle.net_model.specs.Rows.{row_bit};
-ghost use Rattle.net_model.specs.Scope.{leads_to};
 ghost use Rattle.bridging_faults.specs.declared.scored.ScoredBridge.{ScoredBridge};
 ghost use Rattle.bridging_faults.specs.Bridge.{is_wired};
+ghost use Rattle.bridging_faults.specs.Cones.{AreConesOf};
 ghost use Rattle.bridging_faults.specs.Found.{kind_rank};
 ghost use Rattle.bridging_faults.specs.LineRows.{HaveShape};
 ghost use Rattle.bridging_faults.specs.Met.{crossing, is_apart, IsMetBelow, IsMetTo, IsMetKinds};
 ghost use Rattle.bridging_faults.specs.Search.{meeting_line};
-ghost use Rattle.bridging_faults.specs.Tried.{IsSought, IsTried, IsSearched};
+ghost use Rattle.bridging_faults.specs.Tried.{IsSought, IsReadyAt, IsTried, IsSearched};
 
 use crate::best::Best;
 use crate::bridge::{Bridge, BridgeKind};
+use crate::cones::LineCones;
 use crate::line_rows::{LineRows, is_explained_at, score, victim_at};
-use net_model::{Circuit, Fault, Site};
-use pair_scope::PairScope;
+use net_model::Circuit;
 use std::alloc::{AllocError, Global};
 
 /// What is known of the lines, and what is sought.
@@ -42,35 +42,27 @@ pub(crate) fn search(
     ensures searched { IfOk result (IsSearched circuit.now sought.now (IsMetBelow circuit.now sought.now.rows sought.now.chosen.items (line_count circuit.now))) }
     ensures most { IfOk result (λ best. best.most ≡ most) }
 {
-    let mut scope = PairScope::new(alloc, circuit)?;
+    let mut cones = LineCones::new(alloc, circuit)?;
     let mut best = Best::none(alloc, most);
     for x in 0..circuit.lines() {
-        meet_line(&mut best, &mut scope, sought, x)?;
+        if may_meet(sought, x) {
+            cones.show(x);
+            meet_line(&mut best, &cones, sought, x)?;
+        }
     }
     Ok(best)
 }
 
 // Tries the bridges that are met at a line.
-fn meet_line(
-    best: &mut Best,
-    scope: &mut PairScope,
-    sought: &Sought,
-    x: u32,
-) -> Result<(), AllocError>
-    requires circuit { IsCircuit scope.old.circuit }
-    requires sought { IsSought scope.old.circuit sought.now }
-    requires x { x < line_count scope.old.circuit }
-    requires searched { IsSearched scope.old.circuit sought.now (IsMetBelow scope.old.circuit sought.now.rows sought.now.chosen.items x) best.old }
-    ensures circuit { scope.new.circuit ≡ scope.old.circuit }
+fn meet_line(best: &mut Best, cones: &LineCones, sought: &Sought, x: u32) -> Result<(), AllocError>
+    requires ready { IsReadyAt cones.now sought.now x }
+    requires searched { IsSearched cones.now.circuit.now sought.now (IsMetBelow cones.now.circuit.now sought.now.rows sought.now.chosen.items x) best.old }
     ensures most { best.new.most ≡ best.old.most }
-    ensures searched { OnOk result (IsSearched scope.old.circuit sought.now (IsMetBelow scope.old.circuit sought.now.rows sought.now.chosen.items (x + 1)) best.new) }
+    ensures searched { OnOk result (IsSearched cones.now.circuit.now sought.now (IsMetBelow cones.now.circuit.now sought.now.rows sought.now.chosen.items (x + 1)) best.new) }
 {
-    if !may_meet(sought, x) {
-        return Ok(());
-    }
-    for y in 0..scope.circuit().lines() {
+    for y in 0..cones.circuit.lines() {
         if y != x {
-            meet_pair(best, scope, sought, x, y)?;
+            meet_pair(best, cones, sought, x, y)?;
         }
     }
     Ok(())
@@ -94,66 +86,58 @@ fn may_meet(sought: &Sought, x: u32) -> bool
 // Tries the bridges of two lines, of which the first may be the victim.
 fn meet_pair(
     best: &mut Best,
-    scope: &mut PairScope,
+    cones: &LineCones,
     sought: &Sought,
     x: u32,
     y: u32,
 ) -> Result<(), AllocError>
-    requires circuit { IsCircuit scope.old.circuit }
-    requires sought { IsSought scope.old.circuit sought.now }
-    requires x { x < line_count scope.old.circuit }
-    requires y { y < line_count scope.old.circuit }
+    requires ready { IsReadyAt cones.now sought.now x }
+    requires y { y < line_count cones.now.circuit.now }
     requires two { x ≢ y }
-    requires searched { IsSearched scope.old.circuit sought.now (IsMetTo scope.old.circuit sought.now.rows sought.now.chosen.items x y) best.old }
-    ensures circuit { scope.new.circuit ≡ scope.old.circuit }
+    requires searched { IsSearched cones.now.circuit.now sought.now (IsMetTo cones.now.circuit.now sought.now.rows sought.now.chosen.items x y) best.old }
     ensures most { best.new.most ≡ best.old.most }
-    ensures searched { OnOk result (IsSearched scope.old.circuit sought.now (IsMetTo scope.old.circuit sought.now.rows sought.now.chosen.items x (y + 1)) best.new) }
+    ensures searched { OnOk result (IsSearched cones.now.circuit.now sought.now (IsMetTo cones.now.circuit.now sought.now.rows sought.now.chosen.items x (y + 1)) best.new) }
 {
-    meet_kind(best, scope, sought, BridgeKind::And, x, y)?;
-    meet_kind(best, scope, sought, BridgeKind::Or, x, y)?;
-    meet_kind(best, scope, sought, BridgeKind::Dominant, x, y)
+    meet_kind(best, cones, sought, BridgeKind::And, x, y)?;
+    meet_kind(best, cones, sought, BridgeKind::Or, x, y)?;
+    meet_kind(best, cones, sought, BridgeKind::Dominant, x, y)
 }
 
 // Tries the bridge of one kind.
 fn meet_kind(
     best: &mut Best,
-    scope: &mut PairScope,
+    cones: &LineCones,
     sought: &Sought,
     kind: BridgeKind,
     x: u32,
     y: u32,
 ) -> Result<(), AllocError>
-    requires circuit { IsCircuit scope.old.circuit }
-    requires sought { IsSought scope.old.circuit sought.now }
-    requires x { x < line_count scope.old.circuit }
-    requires y { y < line_count scope.old.circuit }
+    requires ready { IsReadyAt cones.now sought.now x }
+    requires y { y < line_count cones.now.circuit.now }
     requires two { x ≢ y }
-    requires searched { IsSearched scope.old.circuit sought.now (IsMetKinds scope.old.circuit sought.now.rows sought.now.chosen.items x y (kind_rank kind)) best.old }
-    ensures circuit { scope.new.circuit ≡ scope.old.circuit }
+    requires searched { IsSearched cones.now.circuit.now sought.now (IsMetKinds cones.now.circuit.now sought.now.rows sought.now.chosen.items x y (kind_rank kind)) best.old }
     ensures most { best.new.most ≡ best.old.most }
-    ensures searched { OnOk result (IsSearched scope.old.circuit sought.now (IsMetKinds scope.old.circuit sought.now.rows sought.now.chosen.items x y (kind_rank kind + 1)) best.new) }
+    ensures searched { OnOk result (IsSearched cones.now.circuit.now sought.now (IsMetKinds cones.now.circuit.now sought.now.rows sought.now.chosen.items x y (kind_rank kind + 1)) best.new) }
 {
-    meet(best, scope, sought, crossing(kind, x, y), x)
+    meet(best, cones, sought, crossing(kind, x, y), x)
 }
 
 // Tries a bridge at a line: where it is met there and found, it is put among the best.
 fn meet(
     best: &mut Best,
-    scope: &mut PairScope,
+    cones: &LineCones,
     sought: &Sought,
     bridge: Bridge,
     x: u32,
 ) -> Result<(), AllocError>
-    requires circuit { IsCircuit scope.old.circuit }
-    requires sought { IsSought scope.old.circuit sought.now }
-    requires first { bridge.first < line_count scope.old.circuit }
-    requires second { bridge.second < line_count scope.old.circuit }
+    requires ready { IsReadyAt cones.now sought.now x }
+    requires first { bridge.first < line_count cones.now.circuit.now }
+    requires second { bridge.second < line_count cones.now.circuit.now }
     requires few { best.old.found < 2 ^ 54 }
     requires exact { best.old.exact ≤ best.old.found }
     requires new { (s : ScoredBridge) → s.bridge ≡ bridge → meeting_line sought.now.rows sought.now.chosen.items bridge ≡ Some x → Contains best.old.listed.items s → ⊥ }
-    ensures circuit { scope.new.circuit ≡ scope.old.circuit }
     ensures most { best.new.most ≡ best.old.most }
-    ensures tried { OnOk result (IsTried scope.old.circuit sought.now bridge x best.old best.new) }
+    ensures tried { OnOk result (IsTried cones.now.circuit.now sought.now bridge x best.old best.new) }
 {
     if !meets(sought, bridge, x) {
         return Ok(());
@@ -161,7 +145,7 @@ fn meet(
     let Some(scored) = score(&sought.rows, bridge, sought.within) else {
         return Ok(());
     };
-    if !is_apart(scope, bridge) {
+    if !is_apart(cones, bridge, x) {
         return Ok(());
     }
     let is_exact = (scored.explained == sought.failing) & (scored.false_patterns == 0);
@@ -184,32 +168,21 @@ fn meets(sought: &Sought, bridge: Bridge, x: u32) -> bool
     false
 }
 
-// Whether two lines are a bridge without a loop.
-fn is_apart(scope: &mut PairScope, bridge: Bridge) -> bool
-    requires first { bridge.first < line_count scope.old.circuit }
-    requires second { bridge.second < line_count scope.old.circuit }
-    ensures circuit { scope.new.circuit ≡ scope.old.circuit }
-    ensures apart { result ≡ is_apart scope.old.circuit bridge }
+// Whether two lines, of which one is the line of the cones, are a bridge without a loop.
+fn is_apart(cones: &LineCones, bridge: Bridge, x: u32) -> bool
+    requires cones { AreConesOf x cones.now }
+    requires one { (x ≡ bridge.first) ⊎ (x ≡ bridge.second) }
+    requires first { bridge.first < line_count cones.now.circuit.now }
+    requires second { bridge.second < line_count cones.now.circuit.now }
+    ensures { result ≡ is_apart cones.now.circuit.now bridge }
 {
-    if leads(scope, bridge.second, bridge.first) {
+    if cones.leads(x, bridge.second, bridge.first) {
         return false;
     }
     if !is_wired(bridge.kind) {
         return true;
     }
-    (bridge.first < bridge.second) && !leads(scope, bridge.first, bridge.second)
-}
-
-// Whether a line is another, or leads to it.
-fn leads(scope: &mut PairScope, from: u32, line: u32) -> bool
-    requires from { from < line_count scope.old.circuit }
-    requires line { line < line_count scope.old.circuit }
-    ensures circuit { scope.new.circuit ≡ scope.old.circuit }
-    ensures leads { result ≡ leads_to scope.old.circuit from line }
-{
-    let stem = Fault::Stuck(Site::Stem(from), false);
-    scope.show(stem, stem);
-    scope.split(line)
+    (bridge.first < bridge.second) && !cones.leads(x, bridge.first, bridge.second)
 }
 
 // Whether the two lines of such a bridge are alike.
