@@ -1,7 +1,7 @@
 //! A sweep from the faults outward: whether the two copies of a line can differ, line by line. Where they can't, the clauses
 //! that are learned say so, and what stands on them later is short.
 
-ghost use Rattle.std.specs.Prelude.{◌+◌, ◌<◌, ◌^◌, All, IfOk, OnErr, length};
+ghost use Rattle.std.specs.Prelude.{◌+◌, ◌<◌, ◌≤◌, ◌^◌, All, IfOk, OnErr, length};
 ghost use Rattle.pair_miter.specs.Adds.{Grows};
 ghost use Rattle.pair_miter.specs.SplitLines.{AreVariables};
 ghost use Rattle.pair_miter.specs.Variables.{variable_count};
@@ -14,10 +14,15 @@ use crate::search::{Search, restart};
 use crate::step::{SolverStep, take_step};
 use clause_pool::{Lit, Pool};
 use pair_miter::{Chain, Copies, Miter};
+use solver_trail::Trail;
 use std::alloc::{AllocError, Global};
 
 // The most clauses that are learned for one way in which the copies of a line can differ.
 const TRIES: u32 = 5;
+
+// What the tries that settle nothing may cost together, where a try costs its conflicts and one more. Behind lines that do differ
+// the sweep would learn little, line after line, up to the whole budget of the pair.
+const IDLE_LIMIT: usize = 100;
 
 /// Tries each split line in the order of evaluation. Answers the last chain of a refutation, if there is one.
 pub(crate) fn sweep(
@@ -54,13 +59,14 @@ fn try_all(
     ensures grows { Grows pool.old pool.new }
 {
     let variables = miter.variables();
+    let mut idle = 0;
     for copies in lines {
         let one = apart(variables, *copies, true);
-        if let Some(last) = reach(alloc, miter, search, pool, conflicts, one)? {
+        if let Some(last) = attempt(alloc, miter, search, pool, conflicts, one, &mut idle)? {
             return Ok(Some(last));
         }
         let other = apart(variables, *copies, false);
-        if let Some(last) = reach(alloc, miter, search, pool, conflicts, other)? {
+        if let Some(last) = attempt(alloc, miter, search, pool, conflicts, other, &mut idle)? {
             return Ok(Some(last));
         }
     }
@@ -80,7 +86,53 @@ fn apart(variables: u32, copies: Copies, bit: bool) -> Both
     }
 }
 
-// Tries to make both literals true, with a few conflicts at most.
+// Tries to make both literals true, unless the tries that settled nothing have cost enough. It settles something if one of the
+// two is false at its end.
+fn attempt(
+    alloc: Global,
+    miter: &Miter,
+    search: &mut Search,
+    pool: &mut Pool,
+    conflicts: u32,
+    both: Both,
+    idle: &mut usize,
+) -> Result<Option<Chain>, AllocError>
+    requires search { IsSearch miter.now conflicts search.old pool.old.clauses }
+    requires few { length (miter_clauses miter.now) + conflicts < 2 ^ 32 }
+    requires both { AreBoth (variable_count miter.now.circuit miter.now.f miter.now.g) both }
+    ensures ends { IfOk result (EndsSweep miter.now conflicts search.new pool.new.clauses) }
+    ensures err { OnErr result (HasLearned (miter_clauses miter.now) conflicts pool.new.clauses) }
+    ensures grows { Grows pool.old pool.new }
+{
+    if *idle >= IDLE_LIMIT {
+        return Ok(None);
+    }
+    let before = search.chains.len();
+    if let Some(last) = reach(alloc, miter, search, pool, conflicts, both)? {
+        return Ok(Some(last));
+    }
+    if !is_settled(&search.trail, &both) {
+        *idle += search.chains.len().saturating_sub(before) + 1;
+    }
+    restart(search, pool);
+    Ok(None)
+}
+
+// Whether one of the two literals is false.
+fn is_settled(trail: &Trail, both: &Both) -> bool
+    requires { AreBoth trail.now.assignment.variables both.now }
+{
+    is_false(trail, both.first) || is_false(trail, both.second)
+}
+
+// Whether a literal is false.
+fn is_false(trail: &Trail, lit: Lit) -> bool
+    requires { lit.variable ≤ trail.now.assignment.variables }
+{
+    trail.value(lit.variable()) == Some(!lit.positive())
+}
+
+// Goes down to both literals true, with a few conflicts at most.
 fn reach(
     alloc: Global,
     miter: &Miter,
@@ -108,6 +160,5 @@ fn reach(
             SolverStep::Refuted(last) => return Ok(Some(last)),
         }
     }
-    restart(search, pool);
     Ok(None)
 }

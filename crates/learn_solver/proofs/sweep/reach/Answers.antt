@@ -2,9 +2,9 @@ use Rattle.std.proofs.Common.{refl, subst}
 use Rattle.std.proofs.lemmas.Result.{IfOk-from_err}
 use Rattle.learn_solver.specs.declared.aim.Aim.TheVariants.{Both}
 use Rattle.learn_solver.specs.declared.search.Search.{Search}
-use Rattle.learn_solver.specs.Search.{EndsStep, EndsSweep, IsSearch}
+use Rattle.learn_solver.specs.Search.{EndsStep, EndsSweep}
 use Rattle.pair_miter.proofs.PlaceSteps.{grows_none, grows_through}
-use Rattle.learn_solver.proofs.Searching.{prepared_on, restarted, search_on}
+use Rattle.learn_solver.proofs.Searching.{prepared_on, search_on}
 use Rattle.learn_solver.proofs.sweep.reach.Goals.{else-loop-turn-test, then-loop-turn-test+else-len-conflicts+in_ok-take_step+in-Open}
 use Rattle.learn_solver.proofs.sweep.reach.Goals as goal
 
@@ -28,25 +28,12 @@ pub returns-in-Refuted-clause-ends : goal.returns-in-Refuted-clause-ends
 returns-in-Refuted-clause-ends c =
     subst (EndsStep c.args.miter.now c.args.conflicts (Both c.args.both) c.loop-turn.search c.take_step.new.search c.take_step.new.pool.clauses) c.in-Refuted.is c.in_ok-take_step.ensures.ends
 
-ended : (c : goal.After-restart) → IsSearch c.args.miter.now c.args.conflicts c.loop-turn-test.search c.loop-turn-test.pool.clauses
-ended c = elim c.loop-turn-test.branch [
+pub returns-clause-ends : goal.returns-clause-ends
+returns-clause-ends c = elim c.loop-turn-test.branch [
   | else-loop-turn-test w ↦ rw (w.search-is, w.pool-is) c.loop-turn.invariant.search
   | then-loop-turn-test+else-len-conflicts+in_ok-take_step+in-Open w ↦
       let end = subst (EndsStep c.args.miter.now c.args.conflicts (Both c.args.both) c.loop-turn.search w.take_step.new.search w.take_step.new.pool.clauses) w.in-Open.is w.in_ok-take_step.ensures.ends in
       rw (w.search-is, w.pool-is) end.0
-]
-
-pub returns-clause-ends : goal.returns-clause-ends
-returns-clause-ends c =
-    let e = c.restart.ensures in
-    restarted c.args.miter.now c.args.conflicts c.loop-turn-test.search c.loop-turn-test.pool.clauses (ended c) c.restart.new.search e.prepared e.variables e.chains
-
-pub restart-requires : goal.restart-requires
-restart-requires c = elim c.loop-turn-test.branch [
-  | else-loop-turn-test w ↦ rw (w.search-is, w.pool-is) c.loop-turn.invariant.search.prepared
-  | then-loop-turn-test+else-len-conflicts+in_ok-take_step+in-Open w ↦
-      let end = subst (EndsStep c.args.miter.now c.args.conflicts (Both c.args.both) c.loop-turn.search w.take_step.new.search w.take_step.new.pool.clauses) w.in-Open.is w.in_ok-take_step.ensures.ends in
-      rw (w.search-is, w.pool-is) end.0.prepared
 ]
 
 pub returns-in_err-take_step-clause-ends : goal.returns-in_err-take_step-clause-ends
