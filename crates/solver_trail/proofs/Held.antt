@@ -1,11 +1,11 @@
 -- The literals of a list of set literals.
-use Rattle.std.proofs.Common.{◌≡◌, ◌∙◌, inl, inr, ℕ, ◌<◌, List, [], ◌∷◌, ◌++◌, length, get_or, sym, ap, arith}
-use Rattle.std.specs.Prelude.{Bool, true, false, not, Contains}
+use Rattle.std.proofs.Common.{◌≡◌, ◌∙◌, inl, inr, ℕ, ◌<◌, List, [], ◌∷◌, ◌++◌, length, get_or, refl, sym, ap, arith}
+use Rattle.std.specs.Prelude.{◌↔◌, Bool, true, false, not, Contains, IsTrue, None, Some}
 use Rattle.std.proofs.lemmas.Bool.{cases_eq, cases_lt}
 use Rattle.std.proofs.lemmas.List.{length-map, get_or-map, get_or_append_left, get_or_push}
 use Rattle.clause_pool.specs.Literal.{Literal, opposite}
 use Rattle.solver_trail.specs.declared.set_literals.SetLiteral.{SetLiteral}
-use Rattle.solver_trail.specs.Assignment.{Assignment, IsTrail, assigned_literals, literals_of, no_literal}
+use Rattle.solver_trail.specs.Assignment.{Assignment, IsTrail, IsValueOf, assigned_literals, literals_of, no_literal}
 
 pub literal_at : (entries : List SetLiteral) (k : ℕ) (d : SetLiteral) (e : Literal) → k < length entries
     → get_or (literals_of entries) k e ≡ (get_or entries k d).literal
@@ -52,3 +52,12 @@ not_both a l trail one two =
     signs : (b : Bool) → b ≡ not b → ⊥
     signs true e = cc
     signs false e = cc
+
+-- ---- whether a literal is true
+
+pub sign_is_true : (a : Assignment) (l : Literal) (sign : Bool) → IsTrail a → IsValueOf a l (Some sign) → IsTrue sign ↔ Contains (assigned_literals a) l
+sign_is_true a l true trail v = (λ yes. v, λ there. refl)
+sign_is_true a l false trail v = (λ yes. absurd (let wrong : ◌≡◌ {A = Bool} false true = yes in cc), λ there. absurd (not_both a l trail there v))
+
+pub unset_is_not_true : (a : Assignment) (l : Literal) → IsValueOf a l None → IsTrue false ↔ Contains (assigned_literals a) l
+unset_is_not_true a l v = (λ yes. absurd (let wrong : ◌≡◌ {A = Bool} false true = yes in cc), λ there. absurd (v.not_held there))

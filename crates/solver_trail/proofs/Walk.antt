@@ -51,8 +51,7 @@ walk_more {w = w} h step reasons = record {
 
 -- ---- at a watch
 
-module _ {attached : Attached} {clauses : List Clause} {lit : Literal} {a : Assignment} {w : Watches} {last : Option ℕ}
-    (h : IsWatchWalk attached clauses lit a w last) {watch : ℕ} (at : IsAtWatch h.ahead watch) where
+module _ {attached : Attached} {clauses : List Clause} {a : Assignment} {w : Watches} (h : HasWatches attached clauses a w) {watch : ℕ} (within : watch < length (watched_literals w)) where
   -- the number of the watch's clause, and the literal of the clause's other watch
   abbrev pub number : ℕ
   number = owner attached.long.items watch
@@ -61,62 +60,70 @@ module _ {attached : Attached} {clauses : List Clause} {lit : Literal} {a : Assi
   other = other_watched (watched_literals w) watch
 
   pub half_within : watch / 2 < length attached.long.items
-  half_within = omega (arith, at.within, h.watches.size)
+  half_within = omega (arith, within, h.size)
 
   pub other_within : partner watch < length (watched_literals w)
-  other_within = partner_within watch (length attached.long.items) (length (watched_literals w)) h.watches.size at.within
+  other_within = partner_within watch (length attached.long.items) (length (watched_literals w)) h.size within
 
   pub number_in : Contains (numbers_attached attached) number
   number_in = Contains-append_right attached.short.items attached.long.items number (Contains-get_or attached.long.items (watch / 2) 0 half_within)
 
   pub number_bounds : (0 < number) × (number ≤ length clauses)
-  number_bounds = All-contains (λ n. (0 < n) × (n ≤ length clauses)) (numbers_attached attached) number h.watches.in_pool.numbered number_in
+  number_bounds = All-contains (λ n. (0 < n) × (n ≤ length clauses)) (numbers_attached attached) number h.in_pool.numbered number_in
 
   module _ (clause : Clause) (found : numbered_clause clauses number ≡ Some clause) where
     pub clause_proper : IsProper a.variables clause
-    clause_proper = h.watches.in_pool.proper number clause number_in found
+    clause_proper = h.in_pool.proper number clause number_in found
 
-    pub both_watched : AreWatched clause lit other
-    both_watched = subst (λ l. AreWatched clause l other) at.is (h.watches.watching watch at.within clause found)
+    pub both_watched : AreWatched clause (watched (watched_literals w) watch) other
+    both_watched = h.watching watch within clause found
 
     pub inside : (l : Literal) → Contains clause l → l.variable ≤ a.variables
     inside l is_in = (All-contains (λ (l : Literal). IsVariable a.variables l.variable) clause l clause_proper.inside is_in).1
 
+module _ {attached : Attached} {clauses : List Clause} {lit : Literal} {a : Assignment} {w : Watches} {last : Option ℕ}
+    (h : IsWatchWalk attached clauses lit a w last) {watch : ℕ} (at : IsAtWatch h.ahead watch) where
+  abbrev pub its_number : ℕ
+  its_number = owner attached.long.items watch
+
+  abbrev pub partners : Literal
+  partners = other_watched (watched_literals w) watch
+
   -- ---- one watch further
 
   module _ {b : Assignment} (step : Propagates a b) (trail : IsTrail b) (false_now : Contains (assigned_literals b) (opposite lit)) (clause : Clause)
-      (found : numbered_clause clauses number ≡ Some clause) (target : Literal) (t : IsRewatch (assigned_literals b) clause lit other target) where
-    two : AreWatched clause lit other
-    two = both_watched clause found
+      (found : numbered_clause clauses its_number ≡ Some clause) (target : Literal) (t : IsRewatch (assigned_literals b) clause lit partners target) where
+    two : AreWatched clause lit partners
+    two = subst (λ l. AreWatched clause l partners) at.is (both_watched h.watches at.within clause found)
 
     -- the partner's literal isn't the false one
-    not_other : other ≢ lit
+    not_other : partners ≢ lit
     not_other e = two.apart (ap (λ (l : Literal). l.variable) (sym e))
 
-    still_watched : AreWatched clause target other
+    still_watched : AreWatched clause target partners
     still_watched = by t
       where
-        by : IsRewatch (assigned_literals b) clause lit other target
-            → AreWatched clause target other
-        by (inl same) = subst (λ l. AreWatched clause l other) (sym same.0) two
+        by : IsRewatch (assigned_literals b) clause lit partners target
+            → AreWatched clause target partners
+        by (inl same) = subst (λ l. AreWatched clause l partners) (sym same.0) two
         by (inr opened) = record {
           first = opened.inside;
           second = two.second;
-          apart = λ e. opened.apart (same_variable clause target other (clause_proper clause found).once opened.inside two.second e);
+          apart = λ e. opened.apart (same_variable clause target partners (clause_proper h.watches at.within clause found).once opened.inside two.second e);
         }
 
     pub target_code : code_of target < length w.firsts.items
-    target_code = omega (arith, code_within target a.variables (inside clause found target still_watched.first), h.watches.codes)
+    target_code = omega (arith, code_within target a.variables (inside h.watches at.within clause found target still_watched.first), h.watches.codes)
 
     module _ {new : Watches} (literals : watched_literals new ≡ set (watched_literals w) watch target) (firsts : length new.firsts.items ≡ length w.firsts.items)
         {now : Option ℕ} (passed : (after : IsAhead new lit now) × (h.ahead.rest ≡ watch ∷ after.rest)) where
       literals_watching : AreWatching attached.long.items clauses (watched_literals new)
       literals_watching = subst (AreWatching attached.long.items clauses) (sym literals)
           (each_set (λ m l o. WatchesIn clauses (owner attached.long.items m) l o) (watched_literals w) watch target at.within
-          (λ c e. subst (λ c. AreWatched c target other) (same_clause clauses number clause c found e) still_watched)
+          (λ c e. subst (λ c. AreWatched c target partners) (same_clause clauses its_number clause c found e) still_watched)
           (λ c e.
-          let there : numbered_clause clauses number ≡ Some c = ap (λ n. numbered_clause clauses (get_or attached.long.items n 0)) (sym (partner_half watch)) ∙ e in
-          subst (λ c. AreWatched c other target) (same_clause clauses number clause c found there)
+          let there : numbered_clause clauses its_number ≡ Some c = ap (λ n. numbered_clause clauses (get_or attached.long.items n 0)) (sym (partner_half watch)) ∙ e in
+          subst (λ c. AreWatched c partners target) (same_clause clauses its_number clause c found there)
           (record { first = two.second; second = still_watched.first; apart = λ e. still_watched.apart (sym e) }))
           (λ m less ne apart. h.watches.watching m less))
 
@@ -127,17 +134,17 @@ module _ {attached : Attached} {clauses : List Clause} {lit : Literal} {a : Assi
           let k = kept_more step visited reached (watched_literals w) le kept in
           subst (AreKept b.literals visited reached) (sym literals)
           (each_set (λ m l o. IsPartnerTrue b.literals visited reached l o) (watched_literals w) watch target at.within
-          (by t (λ j d below e. subst (λ l. IsPartnerTrue b.literals visited reached l other) at.is (k watch at.within) j d below e))
+          (by t (λ j d below e. subst (λ l. IsPartnerTrue b.literals visited reached l partners) at.is (k watch at.within) j d below e))
           (λ j d below e.
-          let back = k (partner watch) (other_within) j d below e in
+          let back = k (partner watch) (other_within h.watches at.within) j d below e in
           let lit_true : (get_or b.literals back.place d).literal ≡ lit = back.is_true ∙ (ap (watched (watched_literals w)) (partner_back watch) ∙ at.is) in
           absurd (not_both b lit trail (held_at b.literals back.place d lit back.within lit_true) false_now))
           (λ m less ne apart. k m less))
         where
-          by : IsRewatch (assigned_literals b) clause lit other target
-              → IsPartnerTrue b.literals visited reached lit other
-              → IsPartnerTrue b.literals visited reached target other
-          by (inl same) was = subst (λ l. IsPartnerTrue b.literals visited reached l other) (sym same.0) was
+          by : IsRewatch (assigned_literals b) clause lit partners target
+              → IsPartnerTrue b.literals visited reached lit partners
+              → IsPartnerTrue b.literals visited reached target partners
+          by (inl same) was = subst (λ l. IsPartnerTrue b.literals visited reached l partners) (sym same.0) was
           by (inr opened) was = λ j d below e. absurd (opened.not_false (held_at b.literals j d (opposite target) (omega (arith, below, le, ap length step.added, length-append a.literals step.more)) e))
 
       seen_later : EachWatch (λ m l o. l ≡ lit → Contains (assigned_literals b) o ⊎ IsWatchAmong passed.0.rest m) (watched_literals new)
@@ -153,8 +160,8 @@ module _ {attached : Attached} {clauses : List Clause} {lit : Literal} {a : Assi
             ]
           ]))
         where
-          by : IsRewatch (assigned_literals b) clause lit other target → target ≡ lit
-              → Contains (assigned_literals b) other ⊎ IsWatchAmong passed.0.rest watch
+          by : IsRewatch (assigned_literals b) clause lit partners target → target ≡ lit
+              → Contains (assigned_literals b) partners ⊎ IsWatchAmong passed.0.rest watch
           by (inl same) e = inl same.1
           by (inr opened) e = absurd (opened.not_false (subst (λ l. Contains (assigned_literals b) (opposite l)) (sym e) false_now))
 

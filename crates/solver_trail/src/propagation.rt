@@ -1,14 +1,14 @@
 //! Unit propagation. Clauses of one literal come first. Then the set literals are gone through in order: each clause that watches
 //! the opposite of one, which is false now, watches another literal instead, or has its other watched literal set.
 
-ghost use Rattle.std.specs.Prelude.{◌≡◌, ℕ, ◌+◌, ◌<◌, ◌≤◌, [], None, Some, Contains, IsNone, IfSome, MatchOption, is_none, if◌then◌else◌, length};
+ghost use Rattle.std.specs.Prelude.{◌≡◌, ℕ, ◌+◌, ◌^◌, ◌<◌, ◌≤◌, [], None, Some, Contains, IsNone, IfSome, MatchOption, is_none, if◌then◌else◌, length};
 ghost use Rattle.clause_pool.specs.Literal.{opposite};
 ghost use Rattle.clause_pool.specs.LiteralCode.{code_of};
 ghost use Rattle.clause_pool.specs.Clauses.{Clause, numbered_clause};
 ghost use Rattle.clause_pool.specs.Proper.{IsProper};
 ghost use Rattle.solver_trail.specs.Assignment.{IsTrail, Propagates, assigned_literals};
 ghost use Rattle.solver_trail.specs.Trail.{AreAttached, AreReasons, AreShort, IsPropagated};
-ghost use Rattle.solver_trail.specs.Watches.{AreInLists, AreKept, watched_literals};
+ghost use Rattle.solver_trail.specs.Watches.{AreInLists, AreKept, other_watched, owner, watched_literals};
 ghost use Rattle.solver_trail.specs.Propagation.{numbers_attached, trail_state, AreSatisfied, AreOthersFalse, IsOpenOther, IsVisited, IsConflict, KeepsReasons, HasWatches, ArePartnersTrue};
 
 use crate::set_literals::SetLiterals;
@@ -162,14 +162,39 @@ fn visit_watches(
     let mut last = None;
     for _ in 0..watches.len() {
         let watch = watches.after(lit, last)?;
-        let number = attached.long[watch / 2];
-        let other = watches.literal(partner(watch));
-        match visit(set, pool, number, lit, other) {
+        match visit_watch(set, watches, attached, pool, lit, watch) {
             Some(target) => last = watches.rewatch(lit, last, watch, target),
-            None => return Some(number),
+            None => return Some(attached.long[watch / 2]),
         }
     }
     None
+}
+
+// The literal that a watch watches from now on in place of one that has become false, none where its clause is false. The partner's
+// literal stands beside the watch: while it is true, neither the clause is read nor its number.
+fn visit_watch(
+    set: &mut SetLiterals,
+    watches: &Watches,
+    attached: &Attached,
+    pool: &Pool,
+    lit: Lit,
+    watch: usize,
+) -> Option<Lit>
+    requires trail { IsTrail set.old }
+    requires watches { HasWatches attached.now pool.now.clauses set.old watches.now }
+    requires within { watch < length (watched_literals watches.now) }
+    requires few { length (watched_literals watches.now) < 2 ^ 32 }
+    ensures set { Propagates set.old set.new }
+    ensures trail { IsTrail set.new }
+    ensures watches { HasWatches attached.now pool.now.clauses set.new watches.now }
+    ensures target { IsVisited pool.now.clauses (owner attached.now.long.items watch) (assigned_literals set.new) lit (other_watched (watched_literals watches.now) watch) result }
+{
+    let other = watches.literal(partner(watch));
+    if set.is_true(other) {
+        return Some(lit);
+    }
+    let number = attached.long[watch / 2];
+    visit(set, pool, number, lit, other)
 }
 
 // The literal that a clause watches from now on in place of one that has become false, none where the clause is false. It is

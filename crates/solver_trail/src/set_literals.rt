@@ -1,6 +1,6 @@
 //! The literals that are set, in order, with their levels and reasons.
 
-ghost use Rattle.std.specs.Prelude.{◌≡◌, ◌<◌, ◌≤◌, ◌+◌, ◌-◌, [], None, Some, IsTrue, IsFalse, IfOk, length, take, vec_capacity};
+ghost use Rattle.std.specs.Prelude.{◌≡◌, ◌<◌, ◌≤◌, ◌+◌, ◌-◌, ◌↔◌, [], None, Some, Contains, IsTrue, IsFalse, IfOk, length, take, vec_capacity};
 ghost use Rattle.std.specs.List.{HoldsAt};
 ghost use Rattle.solver_trail.specs.Assignment.{IsUnset, IsSetAt, IsValueOf, IsTrail, FollowsLevel, CutsAbove, IsSteady, IsNotFalseBefore, with_literal, decision, assigned_literals};
 ghost use Rattle.solver_trail.specs.declared.set_literals.SetLiteral.{SetLiteral};
@@ -93,6 +93,17 @@ impl SetLiterals {
     {
         let slot = self.slots[lit.variable() as usize]?;
         Some(slot.positive == lit.positive())
+    }
+
+    /// Whether a literal is true.
+    pub(crate) fn is_true(&self, lit: Lit) -> bool
+        requires { lit.variable ≤ self.now.variables }
+        ensures { IsTrue result ↔ Contains (assigned_literals self.now) lit }
+    {
+        match self.value_of(lit) {
+            Some(value) => value,
+            None => false,
+        }
     }
 
     /// The place of the literal that makes this one false, or any higher number if it isn't false.
