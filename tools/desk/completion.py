@@ -4,7 +4,7 @@ completion.py bash|zsh prints it."""
 
 import sys
 
-from usage import COMMANDS, HELPERS
+from usage import COMMANDS, HELPERS, FileOption
 from words import KINDS
 
 BASH = """# Completion of diatest for bash.
@@ -78,8 +78,8 @@ def bash():
 
 def zsh_case(name):
     """What zsh completes behind a command."""
-    numbers = {f"--{it.name}" for it in COMMANDS[name].options}
-    words = [f"'{option}[{quoted(work)}]{':number:' if option in numbers else ''}'" for option, work in options_of(name)]
+    values = {f"--{it.name}": ":file:_files" if isinstance(it, FileOption) else ":number:" for it in COMMANDS[name].options}
+    words = [f"'{option}[{quoted(work)}]{values.get(option, '')}'" for option, work in options_of(name)]
     words += [f"'1:kind:({' '.join(KINDS)})'"] if name == "dict" else []
     return f"    {name}) _arguments {' '.join([*words, repr('*:file:_files')])} ;;"
 

@@ -2,7 +2,7 @@
 
 manual.py prints it."""
 
-from usage import COMMANDS, FORCED, HELPERS, first_line
+from usage import COMMANDS, FORCED, HELPERS, FileOption, first_line
 
 STATUSES = (
     ("0", "the work is done"),
@@ -45,7 +45,8 @@ def page(version):
     for name, command in COMMANDS.items():
         lines += tagged(f"{name} {command.words}", command.work[:1].upper() + command.work[1:] + ".")
         for it in command.options:
-            lines += [".RS", *tagged(f"--{it.name} N", f"{it.work} ({it.least} to {it.most}, default {it.default})"), ".RE"]
+            limits = "" if isinstance(it, FileOption) else f" ({it.least} to {it.most}, default {it.default})"
+            lines += [".RS", *tagged(f"--{it.name} {it.label}", it.work + limits), ".RE"]
     lines += [".SH OPTIONS OF EACH COMMAND", *tagged("--help, -h", "tells the words of the command")]
     lines += [*tagged("--force", f"{FORCED} (for commands that write a file)"), ".SH HELPERS"]
     for name, helper in HELPERS.items():

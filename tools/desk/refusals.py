@@ -7,7 +7,7 @@ from itertools import islice
 import bench
 import mends
 from telling import bytes_caret, caret, line_start, named, plain_file
-from usage import COMMANDS
+from usage import COMMANDS, FileOption
 
 LONGEST = 1 << 24  # bytes of a line that are looked at
 
@@ -61,12 +61,12 @@ PLAN = {
 
 NUMBER, BITS, SEEN, END = rb"0|[1-9][0-9]*", rb"[01]+|-", rb"[01x]+|-", rb"\n"
 PARTIAL = ("rank", "suspects", "cover", "bridges")
-LISTS = ("sim", "grade", "topup")  # the commands that read a list of vectors
 SEEN_WORDS = "A line is a pattern's number without leading zeros, one space, the observed bits (x for one that wasn't observed), and one LF"
 LIST_WORDS = "A line is a vector's bits, source 0 first, and one LF"
-LOG_FORM = {**dict.fromkeys(LISTS, (BITS, END)), **dict.fromkeys(PARTIAL, (NUMBER, rb" ", SEEN, END))}
-LOG_WORDS = {**dict.fromkeys(LISTS, LIST_WORDS), **dict.fromkeys(PARTIAL, SEEN_WORDS)}
-WHOLE_FORM, WHOLE_WORDS = (NUMBER, rb" ", BITS, END), "A line is a pattern's number without leading zeros, one space, the bits, and one LF"
+WHOLE_WORDS = "A line is a pattern's number without leading zeros, one space, the bits, and one LF"
+LIST_FORM = (BITS, END), LIST_WORDS
+SEEN_FORM = (NUMBER, rb" ", SEEN, END), SEEN_WORDS
+WHOLE_FORM = (NUMBER, rb" ", BITS, END), WHOLE_WORDS
 
 LARGEST = 4_294_967_295  # of the numbers in texts
 HEADS = (  # what a file is by its beginning
@@ -88,6 +88,7 @@ NAMES = {
     "dictionary": ("DICTIONARY", "OLD"),
     "log": ("LOG", "VECTORS"),
     "plan": ("PLAN",),
+    "vectors": ("VECTORS",),
 }
 SAID = re.compile(r"(netlist|result|dictionary|log|vectors|plan): (?:Evidence )?(\w+) at (?:step (\d+), )?(?:byte (\d+))?(?:, )?(?:line (\d+))?")
 
@@ -103,14 +104,18 @@ def first_wrong(text, form):
     return at
 
 
-def sizes(command, files):
-    """How many patterns there are, if that is known, and how many bits a line has: by the file that the log goes with."""
-    if command in LISTS:
+def sizes(kind, command, files):
+    """How many patterns there are, if that is known, and how many bits a line has: by the files that the log goes with."""
+    if kind == "vectors":
         return None, len(bench.read(files["NETLIST"]).sources)
     if "RESULT" in files:
         with open(files["RESULT"], "rb") as file:
             positions = int(file.readline(80).split()[3])
-            return sum(line.startswith(b"pattern ") for line in file), positions
+            patterns = sum(line.startswith(b"pattern ") for line in file)
+        if "VECTORS" in files:
+            with open(files["VECTORS"], "rb") as file:
+                patterns = sum(1 for _ in file)
+        return patterns, positions
     with open(files["PLAN" if command == "follow" else "DICTIONARY"], "rb") as file:
         if command == "follow":
             positions, patterns = file.readline(80).split()[2:4]
@@ -154,14 +159,18 @@ def first_number(name):
     return int(found[0]) if found else None
 
 
-def log_order(command, name, line, text, patterns):
+def log_order(command, files, name, line, text, patterns):
     """What the number of a line of a log has to be."""
     number = int(re.match(NUMBER, text)[0])
     if command in PARTIAL:
         beyond = number >= patterns and first_number(name) == 1
         mend = mends.FROM_ONE if beyond else mends.AGAIN if number < patterns else None
-        words = f"The number has to be below {patterns} and above that of the line before: patterns are counted from 0."
-        return words + (mends.sentence(mend, "It seems that this log", name) if mend else "")
+        what = "vectors" if "VECTORS" in files else "patterns"
+        words = f"The number has to be below {patterns} and above that of the line before: {what} are counted from 0."
+        if mend:
+            return words + mends.sentence(mend, "It seems that this log", name)
+        listed = number >= patterns and what == "patterns" and any(isinstance(it, FileOption) for it in COMMANDS[command].options)
+        return words + (" If the log is numbered by a list of vectors, name the list: --applied VECTORS." if listed else "")
     if command == "follow":
         return "The line has to be about the pattern that the plan asks here: `follow` with the lines above names it."
     if line > patterns:
@@ -171,36 +180,38 @@ def log_order(command, name, line, text, patterns):
     return words + (mends.sentence(mend, "It seems that this log", name) if mend else "")
 
 
-def log_mend(command, files, name, text, line):
+def log_mend(kind, command, files, name, text, line):
     """What a line of a log or of a list of vectors has, and what mends it; else how many bits such a line has."""
-    width = sizes(command, files)[1]
-    numbered = command in LISTS and re.fullmatch(rb"[0-9]+ ([01x]+|-)\r?\n", text)
+    width = sizes(kind, command, files)[1]
+    numbered = kind == "vectors" and re.fullmatch(rb"[0-9]+ ([01x]+|-)\r?\n", text)
     if numbered and len(numbered[1]) != width and len(numbered[0].split()[0] + numbered[1]) != width:
-        return f" This file looks like a log, and `{command}` takes vectors."
-    mend = mends.of_line(text, mends.VECTORS if command in LISTS else mends.NUMBERED, name, width, line)
-    return mend or f" Here a line has {width} bit{'' if width == 1 else 's'}{'' if command in LISTS else ' after its number'}."
+        taker = command if "VECTORS" in COMMANDS[command].read else "--applied"
+        return f" This file looks like a log, and `{taker}` takes vectors."
+    mend = mends.of_line(text, mends.VECTORS if kind == "vectors" else mends.NUMBERED, name, width, line)
+    return mend or f" Here a line has {width} bit{'' if width == 1 else 's'}{'' if kind == 'vectors' else ' after its number'}."
 
 
-def log_syntax(command, files, name, line, text, other):
+def log_syntax(kind, command, files, name, line, text, other):
     """Where a line of a log leaves its form, and what the form is. `other` tells of what other kind the file is."""
-    words, number = LOG_WORDS.get(command, WHOLE_WORDS), re.match(NUMBER, text)
-    alone = re.fullmatch(rb"[01 _]+\n?", text) and sum(it in b"01" for it in text) == sizes(command, files)[1]
-    if command not in LISTS and number and int(number[0]) > LARGEST and not alone:
+    form, words = LIST_FORM if kind == "vectors" else SEEN_FORM if command in PARTIAL else WHOLE_FORM
+    number = kind == "log" and re.match(NUMBER, text)
+    alone = re.fullmatch(rb"[01 _]+\n?", text) and sum(it in b"01" for it in text) == sizes(kind, command, files)[1]
+    if number and int(number[0]) > LARGEST and not alone:
         return 0, f"{words}. Its number is above {LARGEST}, the largest allowed."
-    mend = "" if other else log_mend(command, files, name, text, line)
-    partial = "" if command in (*PARTIAL, *LISTS) or "x" not in mend + text.decode("latin-1") else " `rank` and `suspects` take an x."
-    return first_wrong(text, LOG_FORM.get(command, WHOLE_FORM)), f"{words}.{partial}{mend}"
+    mend = "" if other else log_mend(kind, command, files, name, text, line)
+    partial = words == WHOLE_WORDS and "x" in mend + text.decode("latin-1")
+    return first_wrong(text, form), f"{words}.{' `rank` and `suspects` take an x.' if partial else ''}{mend}"
 
 
-def log_place(command, files, name, rule, line, text, other):
-    """The place of the caret in a line of a log, and what the rule asks."""
+def log_place(kind, command, files, name, rule, line, text, other):
+    """The place of the caret in a line of a log or of a list of vectors, and what the rule asks."""
     if rule == "TooLong":
         return 0, "The text has at most 1,073,741,824 bytes."
     if rule == "Syntax":
-        return log_syntax(command, files, name, line, text, other)
-    patterns, width = sizes(command, files)
+        return log_syntax(kind, command, files, name, line, text, other)
+    patterns, width = sizes(kind, command, files)
     if rule == "Order":
-        return 0, log_order(command, name, line, text, patterns)
+        return 0, log_order(command, files, name, line, text, patterns)
     if rule == "Missing":
         return 0, f"The log ends before the last of the {patterns} patterns. `rank` takes a log in which some are missing."
     begin = text.rfind(b" ") + 1
@@ -243,7 +254,7 @@ def another(kind, command, name, file):
     found = next((what for begin, what in HEADS if re.match(begin, head)), None)
     if encoded or not found or found == WANTED[kind]:
         return encoded
-    takes = [WANTED[it] for it, names in NAMES.items() if set(names) & set(COMMANDS[command].read.split())]
+    takes = [WANTED[it] for it, names in NAMES.items() if it in WANTED and set(names) & set(COMMANDS[command].read.split())]
     order = f" The order is: diatest {command} {COMMANDS[command].words}." if found in takes else ""
     return f" This file looks like {found}.{order}"
 
@@ -265,8 +276,8 @@ def in_text(kind, command, files, name, rule, step, line, file, other):
     start = line_start(file, line)
     file.seek(start)
     text = file.readline(LONGEST)
-    if kind == "log":
-        place, sentence = log_place(command, files, name, rule, line, text, other)
+    if kind in ("log", "vectors"):
+        place, sentence = log_place(kind, command, files, name, rule, line, text, other)
         return start + place, sentence
     if kind == "plan":
         place, sentence = 0, PLAN.get(rule, "")
@@ -282,14 +293,14 @@ def explain(command, files, console):
     said = SAID.match(console)
     if not said:
         return ""
-    kind, rule = "log" if said[1] == "vectors" else said[1], said[2]
+    rule, label = said[2], next(it for it in NAMES[said[1]] if it in files)
+    kind, name = "vectors" if label == "VECTORS" else said[1], files[label]  # `sim` has a list, and says `log`
     step, byte, line = (int(it) if it else None for it in said.group(3, 4, 5))
-    name = next(files[it] for it in NAMES[kind] if it in files)
     file = plain_file(name)
     if file is None:
         return f"diatest: {named(name)} can't be read a second time, to show the place\n"
     with file:
-        other = another(kind, command, name, file)
+        other = another("log" if kind == "vectors" else kind, command, name, file)
         if kind == "dictionary":
             place, shown, sentence = f"byte {byte}", bytes_caret(file, byte), DICTIONARY.get(rule, "")
         else:

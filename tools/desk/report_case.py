@@ -10,7 +10,7 @@ import hashlib
 from typing import NamedTuple
 
 import bench
-from results import Result, names_in
+from results import Result, names_in, vectors_of
 
 
 class Score(NamedTuple):
@@ -98,12 +98,13 @@ def checksum(name: str) -> str:
 
 
 class Case:
-    """All that a page is made of. Words have a bit for each pattern of the result."""
+    """All that a page is made of. Words have a bit for each pattern of the result, or for each vector of the list that was applied."""
 
-    def __init__(self, netlist: str, result: str, log: str, runs):
+    def __init__(self, runs, netlist: str, result: str, log: str, applied: object = None):
         self.runs, self.files = runs, {"netlist": netlist, "result": result, "log": log}
+        self.files |= {"vectors": applied} if applied is not None else {}
         self.read = {kind: runs.readable(kind, name) for kind, name in self.files.items()}
-        files = self.read.values()
+        files = self.words(self.read["log"])
         suspects, bridges, faults = runs.start("suspects", *files), runs.start("bridges", *files), runs.start("faults", self.read["netlist"])
         early = self.read_early() if faults.succeeds() else None  # else `suspects` says why the netlist can't be read
         self.suspects, self.failing_count, self.logged_count = suspects_in(suspects.lines())
@@ -120,6 +121,11 @@ class Case:
         self.take([number for number, _ in self.cover])
         self.read_bridges(bridges)
 
+    def words(self, log: str) -> list:
+        """The words of a command that reads a log of these patterns, behind its name."""
+        applied = [f"--applied={self.read['vectors']}"] if "vectors" in self.read else []
+        return [self.read["netlist"], self.read["result"], log, *applied]
+
     def one_explains(self) -> bool:
         """Whether nothing fails, or one class explains all failing patterns, so that nothing is left for `cover`."""
         return not self.failing_count or bool(self.suspects) and self.suspects[0].explained == self.failing_count
@@ -131,8 +137,9 @@ class Case:
             return Result(self.read["result"])
 
     def simulate(self):
-        """What a good chip answers to the patterns of the result."""
-        self.patterns, self.full = self.result.patterns, (1 << len(self.result.patterns)) - 1
+        """What a good chip answers to the patterns."""
+        self.patterns = vectors_of(self.read["vectors"]) if "vectors" in self.read else self.result.patterns
+        self.full = (1 << len(self.patterns)) - 1
         self.free = bench.values(self.netlist, self.patterns)
         self.good = [self.free[it] for it in self.netlist.shown]
 
@@ -160,12 +167,22 @@ class Case:
     def take(self, numbers: list):
         """Takes in numbers that are listed: the members of their classes with their names, and what each number explains."""
         new = [it for it in dict.fromkeys(numbers) if it not in self.members]
-        self.members |= {it: self.result.members[self.result.classes[it]] for it in new}
-        names = names_in(self.listing, {member for it in new for member in self.members[it]})
+        members = {it: self.result.members[self.result.classes[it]] for it in new}
+        names = names_in(self.listing, {member for it in new for member in members[it]})
         self.names |= {number: name for number, (_, name) in names.items()}
+        self.members |= {it: self.alike(it, members[it]) for it in new}
         self.marks = {it: f"#{rank}" if rank <= len(self.suspects) else f"number {it}" for rank, it in enumerate(self.members, 1)}
         for it in new:
             self.explain(it)
+
+    def alike(self, number: int, members: list) -> list:
+        """The members of its class of the result that the list, if one was applied, doesn't tell from a number. Those that are equal answer as
+        the lowest, and those that are open may not."""
+        if "vectors" not in self.files:
+            return members
+        standing = {it: it if self.result.evidence.get(it) == "O" else members[0] for it in members}
+        answers = self.answers(standing[number])
+        return [it for it in members if standing[it] == standing[number] or self.answers(standing[it]) == answers]
 
     @functools.lru_cache(maxsize=32)
     def answers(self, number: int) -> list:

@@ -208,15 +208,15 @@ def cover(case):
     return f'<h2>Together: {head}</h2>\n{table(heads, kinds, rows)}\n<p>{said}</p>\n<p class="note">{note}</p>'
 
 
-def vector(case, pattern):
-    """A pattern by the names of the sources, folded, and its bits."""
-    bits = case.patterns[pattern]
+def vector(case, step):
+    """The pattern that a step asks for, by the names of the sources, folded, and its bits."""
+    bits = (case.result.patterns if step.further else case.patterns)[step.pattern]
     rows = []
     for value in "10":
         names = [name for (_, name), bit in zip(case.netlist.sources, bits) if bit == value]
         rows.append(f"<p>At {value}: {escape(', '.join(names)) or 'none'}.</p>")
     bits = f'<p>Bits, in the order of the sources: <span class="name bits">{bits or "-"}</span></p>'
-    said = f"Pattern {pattern}: {words.count(len(case.netlist.sources), 'source')}"
+    said = f"Pattern {step.pattern}{' of the result' if step.further else ''}: {words.count(len(case.netlist.sources), 'source')}"
     return f"<details><summary>{said}</summary>{''.join(rows)}{bits}</details>"
 
 
@@ -239,7 +239,7 @@ def next_step(case, doubt):
     """The next step."""
     step = steps.next_step(case, doubt)
     body = [paragraph(it) for it in step.said]
-    body += [vector(case, step.pattern)] if step.pattern is not None else []
+    body += [vector(case, step)] if step.pattern is not None else []
     body += [left_open(case)] if case.suspects and not doubt and not case.bridged() else []
     return '<div id="next"></div>\n<h2>The next step</h2>\n' + "\n".join(body)
 
@@ -295,7 +295,8 @@ def patterns(case):
 
 def again(case, page):
     """The commands that make it all again."""
-    netlist, result, log = (shlex.quote(it if not it.startswith("-") else f"./{it}") for it in case.files.values())
+    netlist, result, log, *applied = (shlex.quote(it if not it.startswith("-") else f"./{it}") for it in case.files.values())
+    log += "".join(f" --applied {it}" for it in applied)
     command, report = ("diatest", "diatest-report") if INSTALLED else ("./diatest", "tools/report")
     lines = [f"{command} check {netlist} {result}"]
     if case.failing:

@@ -3,6 +3,7 @@ text; a pattern to apply stands beside the sentence that asks for it."""
 
 from typing import NamedTuple
 
+import bench
 from report_bridges import layout
 from report_case import numbers_in, ones_in, union
 from report_chain import dead
@@ -13,10 +14,11 @@ NAMED = 8  # patterns or positions in a sentence
 
 
 class Step(NamedTuple):
-    """Sentences, and the pattern that they ask for, if they do."""
+    """Sentences, the pattern that they ask for, if they do, and whether that is one of the result though a list was applied."""
 
     said: list
     pattern: object = None
+    further: bool = False
 
 
 class Left(NamedTuple):
@@ -103,13 +105,24 @@ def first_two(case):
         said.append(f"In the log, {tells}: {so if total > 1 else 'the chip answered as the ' + ('first' if alike else 'second')}.")
     unseen = fullest([word & ~it for word, it in zip(words, case.seen)])
     if not unseen:
-        return Step(said)
+        return Step(said) if any(words) or "vectors" not in case.files else further(case, one, other, said)
     pattern, at = unseen
     bits = [case.answers(it)[at] >> pattern & 1 for it in (one, other)]
     where = position(case.netlist, at)
     said.append(f"The log lacks pattern {pattern} at {where}, which {'also tells' if any(seen) else 'would tell'} them apart: apply it.")
     said.append(f"At {where} the first suspect predicts {bits[0]}, the second {bits[1]}.")
     return Step(said, pattern)
+
+
+def further(case, one, other, said):
+    """The pattern of the result that tells two suspects apart, if no vector of the list that was applied does."""
+    answers = [bench.answers(case.netlist, case.result.patterns, case.names[it]) for it in (one, other)]
+    found = fullest([a ^ b for a, b in zip(*answers)])
+    case.agree(found is not None, "the classes of the suspects")
+    pattern, at = found
+    bits, where = [it[at] >> pattern & 1 for it in answers], position(case.netlist, at)
+    tells = f"No vector of the list tells them apart. Pattern {pattern} of the result does, at {where}: apply it, too."
+    return Step([*said, tells, f"At {where} the first suspect predicts {bits[0]}, the second {bits[1]}."], pattern, True)
 
 
 def in_the_lab(case, first):
@@ -119,7 +132,8 @@ def in_the_lab(case, first):
     if case.perfect(first):
         said = ["The log rules out every other class."] if sum(map(case.perfect, case.suspects)) == 1 and not case.failing_only() else []
         if len(members) > 1:
-            alike = f"No pattern of the result tells the {len(members):,} faults of this class apart"
+            none = "No pattern of the result and no vector of the list" if "vectors" in case.files else "No pattern of the result"
+            alike = f"{none} tells the {len(members):,} faults of this class apart"
             said.append(f"{alike}: inspect these places, the nearest to the inputs first.")
         if aborted:
             it = f"{count(len(aborted), 'fault')} of the class {'is' if len(aborted) == 1 else 'are'} open"
@@ -138,7 +152,8 @@ def shorted(case):
     one, other = map(case.bridge_answers, case.exact[:2])
     unseen = fullest([(a ^ b) & ~seen for a, b, seen in zip(one, other, case.seen)])
     if not unseen:
-        return Step(said + ["No pattern of the result tells the first two bridges apart."])
+        none = "No vector of the list" if "vectors" in case.files else "No pattern of the result"
+        return Step(said + [f"{none} tells the first two bridges apart."])
     pattern, at = unseen
     bits = [it[at] >> pattern & 1 for it in (one, other)]
     said.append(f"The log lacks pattern {pattern} at {position(case.netlist, at)}, which would tell the first two bridges apart: apply it.")
@@ -165,4 +180,4 @@ def of_log(case, doubt):
         return shorted(case)
     first = case.suspects[0]
     step = first_two(case) if len(case.suspects) > 1 else Step(["There is only one suspect."])
-    return Step(first_leaves(case, first) + step.said + in_the_lab(case, first), step.pattern)
+    return step._replace(said=first_leaves(case, first) + step.said + in_the_lab(case, first))

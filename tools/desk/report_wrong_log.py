@@ -145,7 +145,9 @@ def asked(case, it):
     with open(name, "w", encoding="ascii") as file:
         file.writelines(lines_of(it.log))
     try:
-        run = case.runs.start("suspects", case.read["netlist"], it.result, name, "--most", "1")
+        own = it.result == case.read["result"]
+        words = case.words(name) if own else [case.read["netlist"], it.result, name]
+        run = case.runs.start("suspects", *words, "--most", "1")
         scores, _, _ = suspects_in(run.lines(quiet=True))
     except Ended:  # the other result isn't valid
         return it

@@ -60,6 +60,15 @@ def names_in(listing, numbers):
     return found
 
 
+def vectors_of(name):
+    """The vectors of a list."""
+    with open(name, encoding="latin-1") as file:
+        found = ["" if it == "-\n" else it.rstrip("\n") for it in file]
+    if not all(set(it) <= set("01") for it in found):
+        raise ValueError(f"{name} is no list of vectors: ./diatest sim says where")
+    return found
+
+
 def names_of(netlist, numbers):
     """The same, from the list of faults that the program prints of a netlist."""
     with subprocess.Popen([f"{TOP}/diatest", "faults", netlist], stdout=subprocess.PIPE, text=True, encoding="latin-1") as listing:

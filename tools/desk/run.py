@@ -15,9 +15,9 @@ import sys
 from failures import unread, unwritten, why
 from outputs import FORCE, Outputs, Refused, refuse_another, refuse_same
 from progress import Progress, stamp
-from refusals import LISTS, WANTED, explain, kind_of
+from refusals import WANTED, explain, kind_of
 from telling import named, say, tell
-from usage import COMMANDS, places_of, usage
+from usage import COMMANDS, files_of, places_of, read_by, usage
 from words import wrong
 
 KEPT = 1 << 16  # bytes of the console that are kept, of which a refusal is the first line
@@ -55,7 +55,7 @@ class Run:
         known = words[:1] != [] and words[0] in COMMANDS
         self.command, self.words = words[0] if known else None, [program, *words]
         places = places_of(words[0], words[1:]) if known else {}
-        self.files = {label: words[1 + at] for label, at in places.items()}
+        self.files = files_of(words[0], words[1:]) if known else {}
         made = COMMANDS[words[0]].made.split() if known and not self.wrong else []
         self.outputs = self.begun(made, force)
         for label in made:
@@ -65,7 +65,7 @@ class Run:
 
     def begun(self, made, force):
         """The files that the run writes, unless that would destroy one."""
-        read = [self.files[it] for it in COMMANDS[self.command].read.split()] if made else []
+        read = [self.files[it] for it in read_by(self.command, self.files)] if made else []
         if not force:
             refuse_same(read, [self.files[it] for it in made], FORCE)
             refuse_another({self.files[it]: self.written_as(it) for it in made}, kind_of, FORCE)
@@ -138,14 +138,14 @@ class Run:
             say(explain(self.command, self.files, self.console.kept.decode("utf-8", "surrogateescape")))
         elif status in (7, 8):
             self.tell_failed(status)
-        elif status == 0 and self.command in LISTS and is_empty(self.files["VECTORS"]):
+        elif status == 0 and is_empty(self.files.get("VECTORS", "")):
             tell(f"{named(self.files['VECTORS'])} has no vectors")
         elif status == 9:
             tell("there wasn't enough memory")
 
     def tell_failed(self, status):
         """Tells which file couldn't be read or written, and why."""
-        tried = COMMANDS[self.command].read.split() if status == 7 else COMMANDS[self.command].made.split()
+        tried = read_by(self.command, self.files) if status == 7 else COMMANDS[self.command].made.split()
         causes = filter(None, map(unread if status == 7 else unwritten, (self.files[it] for it in tried)))
         tell(next(causes, f"a {'read' if status == 7 else 'write'} failed, and its cause can't be seen any more"))
 

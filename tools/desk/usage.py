@@ -18,6 +18,19 @@ class Option(NamedTuple):
     default: int
     work: str
     least: int = 0
+    label = "N"
+
+    def told(self):
+        return f"{self.least} to {self.most}, default {self.default}: {self.work}"
+
+
+class FileOption(NamedTuple):
+    name: str
+    label: str  # what the usage calls the file, which is read before the log
+    work: str
+
+    def told(self):
+        return self.work
 
 
 class Command(NamedTuple):
@@ -41,9 +54,11 @@ BUDGETS = (
 )
 WITHIN = Option("within", 1_000_000, 0, "lists also the numbers with up to N mismatches more than the least")
 MOST = Option("most", 1_000_000, 20, "how many suspects are listed at most", 1)
+APPLIED = FileOption("applied", "VECTORS", "the list of vectors by which the log is numbered, in place of the result's patterns")
 BRIDGES = (
     Option("most", 1_000_000, 20, "how many bridges are listed at most", 1),
     Option("within", 1_000_000, 0, "how many failing patterns a bridge may leave unexplained"),
+    APPLIED,
 )
 
 COMMANDS = {
@@ -88,20 +103,25 @@ COMMANDS = {
     ),
     "follow": Command("PLAN LOG", "PLAN LOG", "", "says where the answers so far lead in a plan"),
     "expect": Command(
-        "NETLIST RESULT LOG", "NETLIST RESULT", "LOG", "checks the result, and writes what a good chip answers to its patterns"
+        "NETLIST RESULT LOG",
+        "NETLIST RESULT",
+        "LOG",
+        "checks the result, and writes what a good chip answers to its patterns",
+        (APPLIED,),
     ),
     "suspects": Command(
         "NETLIST RESULT LOG",
         "NETLIST RESULT LOG",
         "",
         "checks the result, and lists the classes of faults that explain most failing patterns of a log, best first",
-        (MOST,),
+        (MOST, APPLIED),
     ),
     "cover": Command(
         "NETLIST RESULT LOG",
         "NETLIST RESULT LOG",
         "",
         "checks the result, and lists classes of faults that together explain the failing patterns of a log",
+        (APPLIED,),
     ),
     "bridges": Command(
         "NETLIST RESULT LOG",
@@ -119,7 +139,7 @@ COMMANDS = {
 
 
 HELPERS = {
-    "report": Helper("NETLIST RESULT LOG [-o FILE.html]", "writes a page that says what a tester's log comes to"),
+    "report": Helper("NETLIST RESULT LOG [--applied VECTORS] [-o FILE.html]", "writes a page that says what a tester's log comes to"),
     "pins": Helper("NETLIST", "says which input, output or scan cell each bit of a pattern or a log is"),
     "where": Helper("NETLIST RESULT NUMBER ..", "says what is known of a fault: its place, its class, and where it shows"),
     "chip": Helper("NETLIST RESULT DEFECT [LINE ..]", "prints the log of a chip with a defect, to try with"),
@@ -142,10 +162,30 @@ def places_of(command, words):
     return dict(zip(COMMANDS[command].words.split(), places))
 
 
+def files_of(command, words):
+    """The files among the words of an understood command, also those of its options, by what its usage calls them."""
+    files = {label: words[at] for label, at in places_of(command, words).items()}
+    labels = {f"--{it.name}": it.label for it in COMMANDS[command].options if isinstance(it, FileOption)}
+    behind = words[1:] + [""]
+    for word, after in zip(words[: words.index("--")] if "--" in words else words, behind):
+        option, equals, value = word.partition("=")
+        if option in labels:
+            files[labels[option]] = value if equals else after
+    return files
+
+
+def read_by(command, files):
+    """What a run reads, in this order, by what its usage calls it."""
+    read = COMMANDS[command].read.split()
+    given = [it.label for it in COMMANDS[command].options if isinstance(it, FileOption) and it.label in files]
+    at = read.index("LOG") if "LOG" in read else len(read)
+    return read[:at] + given + read[at:]
+
+
 def first_line(name):
     """The words of a command."""
     command = COMMANDS[name]
-    return " ".join(["diatest", name, command.words, *(f"[--{it.name} N]" for it in command.options)])
+    return " ".join(["diatest", name, command.words, *(f"[--{it.name} {it.label}]" for it in command.options)])
 
 
 def helper_line(name):
@@ -164,10 +204,10 @@ def usage(name=None):
         return "\n".join([*lines, ""])
     lines = [f"usage: {first_line(name)}", COMMANDS[name].work]
     options = COMMANDS[name].options
-    wide = max((len(it.name) for it in options), default=0)
-    lines += [f"  --{it.name} N{'':{wide - len(it.name)}}  {it.least} to {it.most}, default {it.default}: {it.work}" for it in options]
-    if COMMANDS[name].made:
-        lines.append(f"  --force{'':{max(wide - 1, 2)}}{FORCED}")
+    told = [(f"--{it.name} {it.label}", it.told()) for it in options]
+    told += [("--force", FORCED)] if COMMANDS[name].made else []
+    wide = max((len(it) for it, _ in told), default=0)
+    lines += [f"  {it:{wide}}  {work}" for it, work in told]
     return "\n".join([*lines, ""])
 
 

@@ -4,9 +4,10 @@ import difflib
 import re
 
 from telling import named
-from usage import COMMANDS
+from usage import COMMANDS, FileOption
 
 NUMBER = re.compile(r"\+?[0-9]+|[+-]?0+")
+VALUE, NAME = re.compile(r"[^-].*|-0*[1-9][0-9]*|", re.DOTALL), re.compile(r"[^-].*|-?", re.DOTALL)  # what may stand behind an option
 KINDS = ("passfail", "full", "samediff")
 CELLS = 2000
 
@@ -33,7 +34,7 @@ def wrong_number(what, text, least, most):
 
 def split(name, words):
     """The options of a command with their values, None where one is missing, and its other words."""
-    known = [f"--{it.name}" for it in COMMANDS[name].options]
+    known = {f"--{it.name}": NAME if isinstance(it, FileOption) else VALUE for it in COMMANDS[name].options}
     options, others, plain, at = [], [], False, 0
     while at < len(words):
         word, at = words[at], at + 1
@@ -44,7 +45,7 @@ def split(name, words):
         else:
             option, equals, value = word.partition("=")
             value = value if equals else None
-            if option in known and not equals and at < len(words) and re.fullmatch(r"[^-].*|-0*[1-9][0-9]*|", words[at], re.DOTALL):
+            if option in known and not equals and at < len(words) and known[option].fullmatch(words[at]):
                 value, at = words[at], at + 1
             options.append((option, value))
     return options, others
@@ -61,8 +62,8 @@ def wrong_option(name, options):
             return f"{option} is given twice"
         seen.add(option)
         if value is None:
-            return f"{option} needs a number after it"
-        found = wrong_number(option, value, known[option].least, known[option].most)
+            return f"{option} needs a {'name' if isinstance(known[option], FileOption) else 'number'} after it"
+        found = None if isinstance(known[option], FileOption) else wrong_number(option, value, known[option].least, known[option].most)
         if found:
             return found
     return None

@@ -3,7 +3,7 @@
 ghost use Rattle.std.specs.Prelude.{◌≡◌, ◌<◌, ◌^◌, length, IfOk};
 ghost use Rattle.net_model.specs.Circuit.{line_count};
 ghost use Rattle.dict_rows.specs.AnswerTable.{Answers};
-ghost use Rattle.table_dicts.specs.Setting.{IsSetting, AreAnswersAt};
+ghost use Rattle.table_dicts.specs.Setting.{IsScored, AreAnswersAt};
 ghost use Rattle.ranked_diag.specs.PartialLog.{ArePartial};
 ghost use Rattle.bridging_faults.specs.Found.{AreListed};
 ghost use Rattle.bridging_faults.specs.LineRows.{HaveShape, AreLineRows};
@@ -28,7 +28,7 @@ pub fn bridges(
     most: u32,
     within: u32,
 ) -> Result<Bridges, AllocError>
-    requires setting { IsSetting setting.now }
+    requires setting { IsScored setting.now }
     requires partial { ArePartial (length setting.now.patterns.now) (length setting.now.subject.now.positions) partial.now }
     ensures { IfOk result (λ list. (table : Answers) → AreAnswersAt setting.now table → AreListed setting.now.subject.now setting.now.patterns.now table partial.now within most list) }
 {
@@ -47,7 +47,7 @@ pub fn bridges(
 
 // What is known of each line at each line of a log.
 fn line_rows(alloc: Global, setting: &Setting, partial: &Partial) -> Result<LineRows, AllocError>
-    requires setting { IsSetting setting.now }
+    requires setting { IsScored setting.now }
     requires partial { ArePartial (length setting.now.patterns.now) (length setting.now.subject.now.positions) partial.now }
     ensures shape { IfOk result HaveShape }
     ensures lines { IfOk result (λ rows. length rows.good ≡ line_count setting.now.subject.now) }

@@ -12,7 +12,7 @@ use Rattle.result_file.specs.Laws.{ValidIsTrue}
 use Rattle.result_file.specs.Valid.{IsValid}
 use Rattle.dia_gen.proofs.Written.{made_closed}
 use Rattle.text_fields.specs.Fields.{Text}
-use Rattle.request_words.specs.Request.{Request, gen, top_up, check, make_dict, convert, diagnose, list_faults, simulate, synth, compact, rank, adapt, follow, expect, suspects, cover, bridges}
+use Rattle.request_words.specs.Request.{Request, gen, top_up, check, make_dict, convert, diagnose, list_faults, simulate, synth, compact, rank, adapt, follow, expect, suspects, cover, bridges, expect_at, suspects_at, cover_at, bridges_at}
 use Rattle.synth_netlist.specs.Synth.{synth_text}
 use Rattle.result_commands.specs.Texts.{valid_text}
 use Rattle.run_steps.specs.Netlists.{IsDesign}
@@ -166,6 +166,10 @@ of_request (expect bench result log) = (tt, (tt, (tt, (tt, (tt, (tt, tt))))))
 of_request (suspects bench result log most) = (tt, (tt, (tt, (tt, (tt, (tt, (tt, tt)))))))
 of_request (cover bench result log) = (tt, (tt, (tt, (tt, (tt, (tt, (tt, tt)))))))
 of_request (bridges bench result log most within) = (tt, (tt, (tt, (tt, (tt, (tt, (tt, tt)))))))
+of_request (expect_at bench result log vectors) = (tt, (tt, (tt, (tt, (tt, (tt, (tt, tt)))))))
+of_request (suspects_at bench result log most vectors) = (tt, (tt, (tt, (tt, (tt, (tt, (tt, tt)))))))
+of_request (cover_at bench result log vectors) = (tt, (tt, (tt, (tt, (tt, (tt, (tt, tt)))))))
+of_request (bridges_at bench result log most within vectors) = (tt, (tt, (tt, (tt, (tt, (tt, (tt, tt)))))))
 
 pub words_of : (asked : Option Request) {ending : Ending} → IsAmong ending (endings_of asked) → ending ≡ not_understood → asked ≡ None
 words_of None {ending} among is = refl

@@ -1,5 +1,5 @@
 -- No file is both accepted and refused, and none is read as two things or refused with two texts.
-use Rattle.std.proofs.Common.{◌≡◌, ℕ, ◌-◌, ◌≤◌, Bool, List, [], length, map, ap, ap₂, subst, ◌∙◌, arith, sym}
+use Rattle.std.proofs.Common.{◌≡◌, ℕ, ◌-◌, ◌<◌, ◌≤◌, ◌^◌, Bool, List, [], length, map, ap, ap₂, subst, ◌∙◌, arith, sym}
 use Rattle.std.specs.Prelude.{Some, slice_get, slice_index_or}
 use Rattle.std.proofs.lemmas.Option.{same_Some}
 use Rattle.net_model.specs.declared.circuit.Design.{Design}
@@ -16,17 +16,17 @@ use Rattle.diagnose.specs.declared.fault.LogKind.{LogKind}
 use Rattle.run_steps.specs.Texts.{refusal_text, loop_text, result_text, dictionary_rule, dictionary_text, log_text, vectors_text, plan_fault_text}
 use Rattle.synth_netlist.proofs.LoopWalks.{walk_first}
 use Rattle.text_fields.specs.Fields.{Text}
-use Rattle.request_words.specs.Request.{Request, gen, top_up, check, make_dict, convert, diagnose, list_faults, simulate, synth, compact, rank, adapt, follow, expect, suspects, cover, bridges}
+use Rattle.request_words.specs.Request.{Request, gen, top_up, check, make_dict, convert, diagnose, list_faults, simulate, synth, compact, rank, adapt, follow, expect, suspects, cover, bridges, expect_at, suspects_at, cover_at, bridges_at}
 use Rattle.run_steps.specs.Netlists.{IsDesign, IsRefused, by_text, by_loop}
 use Rattle.run_steps.specs.Results.{IsResult, IsRefusedResult}
 use Rattle.run_steps.specs.Dictionaries.{IsDictionaryFile, IsRefusedDictionary}
-use Rattle.run_steps.specs.Logs.{IsRefusedBySome, IsLogFor, IsRefusedLog, IsPartialFor, IsRefusedPartial, IsLogTo, IsRefusedWalk, IsListFor, IsRefusedList, IsRefusedVectors}
+use Rattle.run_steps.specs.Logs.{IsRefusedBySome, IsLogFor, IsRefusedLog, IsPartialFor, IsRefusedPartialOf, IsRefusedPartial, IsLogTo, IsRefusedWalk, IsListFor, IsRefusedList, IsRefusedVectors}
 use Rattle.run_steps.specs.AdaptivePlans.{IsAdaptivePlanFile, IsRefusedPlan}
 use Rattle.run_steps.specs.ResultLogs.{IsLogAt, IsRefusedAt}
 use Rattle.dict_rows.specs.declared.dict.Dict.{Dict}
 use Rattle.dict_file.specs.Laws.{RefusedIsWrong, OneDictionary, OneFault}
 use Rattle.diagnose.specs.Laws.{RefusedTesterLogIsWrong, OneTesterLogRefusal, OneLogReading, RefusedListIsWrong, OneListRefusal, OneListReading}
-use Rattle.ranked_diag.specs.PartialLog.{Line}
+use Rattle.ranked_diag.specs.PartialLog.{Line, IsPartialLog}
 use Rattle.ranked_diag.specs.Laws.{RefusedPartialIsWrong, OnePartialRefusal, OnePartialReading}
 use Rattle.adaptive_tree.specs.declared.outcome.Outcome.{Outcome as WalkOutcome}
 use Rattle.adaptive_tree.specs.declared.steps.Plan.{Plan as AdaptivePlan}
@@ -40,6 +40,7 @@ use Rattle.result_records.specs.Laws.{OneSpelling, SpellingIsLine}
 use Rattle.result_file.specs.Laws.{RefusedFileIsWrong, OneFileRefusal}
 use Rattle.fault_collapse.specs.Laws.{SameRootEqual}
 use Rattle.pair_sets.specs.Laws.{CoveringEqual, LeavesClosed, SpendingBounded}
+use Rattle.run_steps.proofs.ReadLemmas.{few_vectors}
 use Rattle.dia_runs.proofs.ResultLogs.{log_is_clear}
 use Rattle.result_file.proofs.Truth.{AreSound}
 use Rattle.result_file.proofs.SoundLemmas.{sound_circuit}
@@ -154,12 +155,19 @@ clear_log laws d few = record {
   one_refusal = λ bytes console other. said_once (λ kind also line number. laws.log_refusal d.patterns d.positions bytes kind also line number (omega (arith, few)));
 }
 
-clear_partial : HasLaws → (d : Dict) → d.patterns ≤ 67108864 → IsClearFile (List Line) (IsRefusedPartial d) (IsPartialFor d)
-clear_partial laws d few = record {
-  apart = λ bytes console lines is refused. laws.partial_logs d.patterns d.positions bytes lines refused.kind refused.line (omega (arith, few)) refused.refused is;
-  once = λ bytes x y is also. laws.one_partial d.patterns d.positions bytes x y (omega (arith, few)) is also;
-  one_refusal = λ bytes console other. said_once (λ kind also line number. laws.partial_refusal d.patterns d.positions bytes kind also line number (omega (arith, few)));
+clear_partial_of : HasLaws → (patterns positions : ℕ) → patterns < 2 ^ 32 → IsClearFile (List Line) (IsRefusedPartialOf patterns positions) (IsPartialLog patterns positions)
+clear_partial_of laws patterns positions few = record {
+  apart = λ bytes console lines is refused. laws.partial_logs patterns positions bytes lines refused.kind refused.line few refused.refused is;
+  once = λ bytes x y is also. laws.one_partial patterns positions bytes x y few is also;
+  one_refusal = λ bytes console other. said_once (λ kind also line number. laws.partial_refusal patterns positions bytes kind also line number few);
 }
+
+clear_partial : HasLaws → (d : Dict) → d.patterns ≤ 67108864 → IsClearFile (List Line) (IsRefusedPartial d) (IsPartialFor d)
+clear_partial laws d few = clear_partial_of laws d.patterns d.positions (omega (arith, few))
+
+-- of a list of vectors
+clear_log_of : HasLaws → (c : Circuit) {bytes : Text} {list : List (List Bool)} → IsListFor c bytes list → IsClearFile (List Line) (IsRefusedPartialOf (length list) (length c.positions)) (IsPartialLog (length list) (length c.positions))
+clear_log_of laws c {bytes} {list} read = clear_partial_of laws (length list) (length c.positions) (few_vectors read)
 
 clear_log_at : HasLaws → {c : Circuit} → IsCircuit c → (result : Text) → IsClearFile (List Line) (IsRefusedAt c result) (IsLogAt c result)
 clear_log_at laws {c} circuit result = log_is_clear laws.one_spelling laws.one_line laws.partial_logs laws.one_partial laws.partial_refusal c circuit result
@@ -215,6 +223,13 @@ clear laws (expect bench result log) = (clear_netlist laws, λ bytes design is. 
 clear laws (suspects bench result log most) = (clear_netlist laws, λ bytes design is. (clear_result laws (circuit_of is), λ bytes file valid. (clear_log_at laws (circuit_of is) file, λ bytes lines read o says. ending_is says.2)))
 clear laws (cover bench result log) = (clear_netlist laws, λ bytes design is. (clear_result laws (circuit_of is), λ bytes file valid. (clear_log_at laws (circuit_of is) file, λ bytes lines read o says. ending_is says.2)))
 clear laws (bridges bench result log most within) = (clear_netlist laws, λ bytes design is. (clear_result laws (circuit_of is), λ bytes file valid. (clear_log_at laws (circuit_of is) file, λ bytes lines read o says. ending_is says.2)))
+clear laws (expect_at bench result log vectors) = (clear_netlist laws, λ bytes design is. (clear_result laws (circuit_of is), λ bytes file valid. (clear_vectors laws design.circuit, λ bytes list read o made. ending_is made.3)))
+clear laws (suspects_at bench result log most vectors) =
+    (clear_netlist laws, λ bytes design is. (clear_result laws (circuit_of is), λ bytes file valid. (clear_vectors laws design.circuit, λ bytes list read. (clear_log_of laws design.circuit read, λ bytes lines also o says. ending_is says.2))))
+clear laws (cover_at bench result log vectors) =
+    (clear_netlist laws, λ bytes design is. (clear_result laws (circuit_of is), λ bytes file valid. (clear_vectors laws design.circuit, λ bytes list read. (clear_log_of laws design.circuit read, λ bytes lines also o says. ending_is says.2))))
+clear laws (bridges_at bench result log most within vectors) =
+    (clear_netlist laws, λ bytes design is. (clear_result laws (circuit_of is), λ bytes file valid. (clear_vectors laws design.circuit, λ bytes list read. (clear_log_of laws design.circuit read, λ bytes lines also o says. ending_is says.2))))
 clear laws (follow plan log) = (clear_plan laws, λ bytes adaptive is. (clear_walk laws adaptive is.well_formed, λ bytes outcome read o says. ending_is says.2))
 
 -- ---- what evidence means

@@ -8,6 +8,8 @@ pub mod SimulationClauses
 pub mod CompactionClauses
 pub mod RankingClauses
 pub mod AdaptiveClauses
+pub mod BridgeClauses
 pub mod SuspectClauses
+pub mod AppliedClauses
 pub mod TopUpClauses
 pub mod RunLemmas

@@ -38,7 +38,7 @@ module _ (once : OneSpelling) (line : SpellingIsLine) where
   spelled_all [] each = tt
   spelled_all (r ∷ records) each = (each 0 (omega arith), spelled_all records (λ at h. each (suc at) (omega (arith, h))))
 
-  records_once : {c : Circuit} {result : Text} (of other : AreValidBytes c result) → of.records ≡ other.records
+  pub records_once : {c : Circuit} {result : Text} (of other : AreValidBytes c result) → of.records ≡ other.records
   records_once of other = text_once of.records other.records (spelled_all of.records of.valid.lines.spelled) (spelled_all other.records other.valid.lines.spelled) (sym of.spelled ∙ other.spelled)
 
 -- ---- logs

@@ -17,11 +17,13 @@ use Rattle.dia_runs.proofs.SimulationClauses.{simulated_of}
 use Rattle.dia_runs.proofs.CompactionClauses.{compacted_of}
 use Rattle.dia_runs.proofs.RankingClauses.{RankingLaws, ranked_of}
 use Rattle.dia_runs.proofs.AdaptiveClauses.{adapted_of, followed_of}
+use Rattle.dia_runs.proofs.BridgeClauses.{BridgeLaws}
 use Rattle.dia_runs.proofs.SuspectClauses.{expected_of, suspected_of, covered_of, bridged_of}
+use Rattle.dia_runs.proofs.AppliedClauses.{expected_at_of, suspected_at_of, covered_at_of, bridged_at_of}
 use Rattle.dia_runs.proofs.DictionaryClauses.{dictionary_made, converted_of, diagnosed_of}
 
-pub run_of : EvidenceLaws → ListIsGraded → ValidIsTrue → ThinIsSound → RankingLaws → WrittenIsRead → FilesAreJudgedOnce → (asked : Option Request) {ending : Ending} {a b : State} → Ran asked ending a b → IsRunOf asked ending a b
-run_of laws graded valid sound ranking written once asked {ending} {a} {b} r = record {
+pub run_of : EvidenceLaws → ListIsGraded → ValidIsTrue → ThinIsSound → RankingLaws → BridgeLaws → WrittenIsRead → FilesAreJudgedOnce → (asked : Option Request) {ending : Ending} {a b : State} → Ran asked ending a b → IsRunOf asked ending a b
+run_of laws graded valid sound ranking bridging written once asked {ending} {a} {b} r = record {
   made = λ told. made_of (r.done told) laws;
   checked = λ told. checked_of (r.done told) valid;
   topped_up = λ told. topped_up_of (r.done told) laws graded;
@@ -38,7 +40,11 @@ run_of laws graded valid sound ranking written once asked {ending} {a} {b} r = r
   expected = λ told. expected_of (r.done told) valid;
   suspected = λ told. suspected_of (r.done told) valid;
   covered = λ told. covered_of (r.done told) valid;
-  bridged = λ told. bridged_of (r.done told) valid;
+  bridged = λ told. bridged_of (r.done told) valid bridging;
+  expected_at = λ told. expected_at_of (r.done told) valid;
+  suspected_at = λ told. suspected_at_of (r.done told) valid;
+  covered_at = λ told. covered_at_of (r.done told) valid;
+  bridged_at = λ told. bridged_at_of (r.done told) valid bridging;
   ends = r.ends;
   words = words_of asked r.ends;
   not_asked = not_understood_of asked r.ends;

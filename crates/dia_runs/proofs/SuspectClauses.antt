@@ -8,6 +8,8 @@ use Rattle.run_steps.specs.Outcome.{Outcome}
 use Rattle.dia_runs.specs.Requests.{plan_of}
 use Rattle.run_steps.specs.Ran.{IsDone}
 use Rattle.dia_runs.specs.SuspectRuns.{WritesExpectedLog, PrintsSuspects, PrintsCover, PrintsBridges}
+use Rattle.dia_runs.proofs.BridgeClauses.{BridgeLaws, lines_at, no_bridge, winners_explain}
+use Rattle.dia_runs.proofs.Judged.{circuit_of}
 use Rattle.dia_runs.proofs.Clauses.{done_for, accepted_by, true_result}
 use Rattle.dia_runs.proofs.DictionaryClauses.{file_made, printed_text}
 
@@ -57,8 +59,8 @@ module _ {asked : Option Request} {ending : Ending} {old new : World} (called : 
         printed = printed_text d.0 (ap (λ (p : Outcome). p.console) l.then.2) d.3;
       }
 
-  pub bridged_of : ValidIsTrue → PrintsBridges asked ending old new
-  bridged_of law bench result log most within is z =
+  pub bridged_of : ValidIsTrue → BridgeLaws → PrintsBridges asked ending old new
+  bridged_of law laws bench result log most within is z =
       let d = done_for called (bridges bench result log most within) is z in
       let w = accepted_by d.1 d.2 in
       let v = accepted_by w.then d.2 in
@@ -69,5 +71,7 @@ module _ {asked : Option Request} {ending : Ending} {old new : World} (called : 
         lines = l.read;
         text = l.then.0;
         listed = listed;
+        nothing = no_bridge laws listed.are;
+        winners = winners_explain laws (circuit_of w.read.accepted) listed.are.answers (lines_at laws l.read.accepted listed.of);
         printed = printed_text d.0 (ap (λ (p : Outcome). p.console) l.then.2) d.3;
       }

@@ -7,6 +7,8 @@ pub mod Simulations
 pub mod Compactions
 pub mod Rankings
 pub mod AdaptiveRuns
+pub mod BridgePromises
 pub mod SuspectRuns
+pub mod AppliedRuns
 pub mod TopUpRuns
 pub mod Run

@@ -1,7 +1,7 @@
 -- What each request reads, does and makes, and how a run of it may end.
 use Rattle.std.specs.Prelude.{List, [], ◌∷◌, Option, Some, None}
 use Rattle.text_fields.specs.Fields.{Text}
-use Rattle.request_words.specs.Request.{Request, gen, top_up, check, make_dict, convert, diagnose, list_faults, simulate, synth, compact, rank, adapt, follow, expect, suspects, cover, bridges}
+use Rattle.request_words.specs.Request.{Request, gen, top_up, check, make_dict, convert, diagnose, list_faults, simulate, synth, compact, rank, adapt, follow, expect, suspects, cover, bridges, expect_at, suspects_at, cover_at, bridges_at}
 use Rattle.run_steps.specs.Plan.{Plan}
 use Rattle.diag_shelf.specs.World.{State}
 use Rattle.run_steps.specs.Ending.{Ending}
@@ -9,7 +9,7 @@ use Rattle.run_steps.specs.Plans.{words_plan, words_endings}
 use Rattle.run_steps.specs.Ran.{Follows, written_endings, netlist_endings, list_endings, result_endings, result_log_endings, dictionary_endings, dictionary_log_endings, walk_endings}
 use Rattle.result_commands.specs.Plans.{gen_plan, top_up_plan, check_plan, compact_plan, synth_plan}
 use Rattle.dictionary_commands.specs.Plans.{dict_plan, convert_plan, diagnose_plan, rank_plan, adapt_plan, follow_plan}
-use Rattle.listing_commands.specs.Plans.{faults_plan, sim_plan, expect_plan, suspects_plan, cover_plan, bridges_plan}
+use Rattle.listing_commands.specs.Plans.{faults_plan, sim_plan, expect_plan, suspects_plan, cover_plan, bridges_plan, expect_at_plan, suspects_at_plan, cover_at_plan, bridges_at_plan}
 
 -- the names that a request may create
 abbrev pub outputs_of : Option Request → List Text
@@ -31,6 +31,10 @@ outputs_of (Some (expect bench result log)) = log ∷ []
 outputs_of (Some (suspects bench result log most)) = []
 outputs_of (Some (cover bench result log)) = []
 outputs_of (Some (bridges bench result log most within)) = []
+outputs_of (Some (expect_at bench result log vectors)) = log ∷ []
+outputs_of (Some (suspects_at bench result log most vectors)) = []
+outputs_of (Some (cover_at bench result log vectors)) = []
+outputs_of (Some (bridges_at bench result log most within vectors)) = []
 
 -- the plan of each
 abbrev pub plan_of : Option Request → Plan
@@ -52,6 +56,10 @@ plan_of (Some (expect bench result log)) = expect_plan bench result log
 plan_of (Some (suspects bench result log most)) = suspects_plan bench result log most
 plan_of (Some (cover bench result log)) = cover_plan bench result log
 plan_of (Some (bridges bench result log most within)) = bridges_plan bench result log most within
+plan_of (Some (expect_at bench result log vectors)) = expect_at_plan bench result log vectors
+plan_of (Some (suspects_at bench result log most vectors)) = suspects_at_plan bench result log most vectors
+plan_of (Some (cover_at bench result log vectors)) = cover_at_plan bench result log vectors
+plan_of (Some (bridges_at bench result log most within vectors)) = bridges_at_plan bench result log most within vectors
 
 -- how a run may end that is asked this
 abbrev pub endings_of : Option Request → List Ending
@@ -73,6 +81,10 @@ endings_of (Some (expect bench result log)) = result_endings
 endings_of (Some (suspects bench result log most)) = result_log_endings
 endings_of (Some (cover bench result log)) = result_log_endings
 endings_of (Some (bridges bench result log most within)) = result_log_endings
+endings_of (Some (expect_at bench result log vectors)) = result_log_endings
+endings_of (Some (suspects_at bench result log most vectors)) = result_log_endings
+endings_of (Some (cover_at bench result log vectors)) = result_log_endings
+endings_of (Some (bridges_at bench result log most within vectors)) = result_log_endings
 
 -- A run did what it was asked.
 abbrev pub Ran : Option Request → Ending → State → State → Type 0

@@ -15,6 +15,7 @@ use Rattle.dia_runs.specs.Compactions.{CompactsResult}
 use Rattle.dia_runs.specs.Rankings.{PrintsRanking}
 use Rattle.dia_runs.specs.AdaptiveRuns.{AdaptsPlan, PrintsOutcome}
 use Rattle.dia_runs.specs.SuspectRuns.{WritesExpectedLog, PrintsSuspects, PrintsCover, PrintsBridges}
+use Rattle.dia_runs.specs.AppliedRuns.{WritesExpectedAt, PrintsSuspectsAt, PrintsCoverAt, PrintsBridgesAt}
 
 pub record IsRunOf (asked : Option Request) (ending : Ending) (old new : State) : Type 0 where
   -- ---- what `gen` and `check` leave where they are done
@@ -61,8 +62,17 @@ pub record IsRunOf (asked : Option Request) (ending : Ending) (old new : State) 
   -- `cover` prints classes one after another, each that explains most of the failing patterns that are left, until none explains any.
   pub covered : Told old new (PrintsCover asked ending)
   -- `bridges` prints exactly the bridges without a loop that explain all failing patterns of the log but so many, best first, so many at most,
-  -- how many there are and how many are exact. With the whole log of a bridge's own answers that bridge is exact.
+  -- how many there are and how many are exact. With the whole log of a bridge's own answers that bridge is exact. If no pattern fails, nothing
+  -- is listed. A bridge whose first line wins, and shows one bit at every logged pattern, explains what the stuck stem of the second does.
   pub bridged : Told old new (PrintsBridges asked ending)
+  -- With a list of vectors that were applied the log is numbered by them. `expect` leaves the log that a chip without a fault gives to them.
+  pub expected_at : Told old new (WritesExpectedAt asked ending)
+  -- `suspects` and `cover` go by the classes that the result's patterns and these vectors make together, so that the faults of one class
+  -- answer alike to all of them, and a fault that the result marks equal stays with the lowest of its class.
+  pub suspected_at : Told old new (PrintsSuspectsAt asked ending)
+  pub covered_at : Told old new (PrintsCoverAt asked ending)
+  -- `bridges` goes by the vectors alone, and promises the same as without a list.
+  pub bridged_at : Told old new (PrintsBridgesAt asked ending)
   -- ---- the ending, and its causes
 
   -- It is one of those that these words can have.

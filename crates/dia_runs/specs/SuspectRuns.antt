@@ -9,6 +9,8 @@ use Rattle.run_steps.specs.Outcome.{ConsoleGained}
 use Rattle.run_steps.specs.ResultLogs.{IsLogAt}
 use Rattle.listing_commands.specs.Suspects.{IsExpectedLog, IsSuspectsText, IsCoverText}
 use Rattle.listing_commands.specs.Bridges.{IsBridgesText}
+use Rattle.result_records.specs.Marks.{patterns_in}
+use Rattle.dia_runs.specs.BridgePromises.{ListsNoBridge, WinnersExplainAsStuck}
 use Rattle.dia_runs.specs.Promises.{WasRead, HoldsTrueResult}
 
 -- The result is valid and true. Under the log's name is what a chip without a fault answers to the result's patterns, and the console
@@ -56,6 +58,8 @@ pub record HasBridges (bench result log : Text) (most within : ℕ) (old new : W
   pub lines : WasRead old.files log (IsLogAt read.design.circuit read.file)
   pub text : Text
   pub listed : IsBridgesText read.design.circuit read.design.names read.file lines.thing within most text
+  pub nothing : ListsNoBridge listed.are.table lines.thing text
+  pub winners : WinnersExplainAsStuck read.design.circuit (patterns_in listed.of.records) listed.are.table lines.thing
   pub printed : ConsoleGained text old new
 
 -- A run of `bridges` whose work is done prints them.

@@ -4,8 +4,9 @@ ghost use Rattle.std.specs.Prelude.{◌≡◌, map, string_bytes, Some};
 ghost use Rattle.request_words.specs.Asked.{asked, HasLimits};
 ghost use Rattle.request_words.specs.Request.{request_of};
 ghost use Rattle.dia_gen.specs.Laws.{OneFileOfList};
+ghost use Rattle.listing_commands.specs.Laws.{ResultsSaySame};
 ghost use Rattle.run_steps.specs.Ending.{Ending, OneEndingEach, status_of};
-ghost use Rattle.dia_runs.specs.Groups.{IsOfResults, IsOfDictionaries};
+ghost use Rattle.dia_runs.specs.Groups.{IsOfResults, IsOfDictionaries, IsOfListings};
 ghost use Rattle.dia_runs.specs.Requests.{Ran};
 ghost use Rattle.dia_runs.specs.DictionaryRuns.{DiagnosesAlike};
 ghost use Rattle.dia_runs.specs.Limits.{HaveLimits};
@@ -14,6 +15,7 @@ ghost use Rattle.dia_runs.specs.Run.{IsRunOf};
 
 use adaptive_tree::{plan_is_read_once, walk_is_read_once, written_plan_is_read};
 use bench_reader::{never_accepted_and_refused, one_netlist, one_refusal};
+use bridging_faults::{expected_log_lists_nothing, explains_as_one_number};
 use compact_tests::thin_is_sound;
 use dia_gen::{file_of_list_is_one, list_is_graded};
 use diag_shelf::Shelf;
@@ -24,7 +26,8 @@ use dictionary_commands::{
 };
 use fault_collapse::same_root_equal;
 use listing_commands::{
-    expect_log, list_bridges, list_cover, list_faults, list_suspects, simulate,
+    expect_log, expect_log_at, list_bridges, list_bridges_at, list_cover, list_cover_at,
+    list_faults, list_suspects, list_suspects_at, own_patterns_say_same, simulate,
 };
 use net_model::{none_reaches_itself, one_walk, walk_reaches_itself};
 use pair_sets::{covering_is_equal, full_tree_is_covered, leaves_are_closed};
@@ -60,6 +63,9 @@ pub fn run<S: Shelf>(alloc: Global, words: &[String], shelf: &mut S) -> u8
 
     // Without budgets of cubes and conflicts one list of vectors makes one result.
     ensures one_result { OneFileOfList }
+
+    // With a result's own patterns as the list that was applied all is told as without a list.
+    ensures own_patterns { ResultsSaySame }
 {
     same_root_equal();
     covering_is_equal();
@@ -71,6 +77,10 @@ pub fn run<S: Shelf>(alloc: Global, words: &[String], shelf: &mut S) -> u8
     thin_is_sound();
     partial_log_is_read_once();
     whole_log_ranks_as_listed();
+    record_is_spelled_once();
+    expected_log_lists_nothing();
+    explains_as_one_number();
+    own_patterns_say_same();
     written_plan_is_read();
     dictionary_is_read_once();
     files_are_judged_once();
@@ -168,6 +178,31 @@ fn list<S: Shelf>(alloc: Global, request: Request<'_>, shelf: &mut S) -> Result<
         Request::Cover(bench, result, log) => list_cover(alloc, shelf, bench, result, log),
         Request::Bridges(bench, result, log, most, within) => {
             list_bridges(alloc, shelf, bench, result, log, most, within)
+        }
+        _ => list_at(alloc, request, shelf),
+    }
+}
+
+// Calls the command of a request that lists, or writes a log, by a list of vectors that were applied.
+fn list_at<S: Shelf>(alloc: Global, request: Request<'_>, shelf: &mut S) -> Result<(), RunFault>
+    requires limits { HasLimits request }
+    requires other { ¬ IsOfResults request }
+    requires no_dictionary { ¬ IsOfDictionaries request }
+    requires no_listing { ¬ IsOfListings request }
+    ensures { Ran (Some (asked request.entry)) result (S.state shelf.old) (S.state shelf.new) }
+{
+    match request {
+        Request::ExpectAt(bench, result, log, vectors) => {
+            expect_log_at(alloc, shelf, bench, result, log, vectors)
+        }
+        Request::SuspectsAt(bench, result, log, most, vectors) => {
+            list_suspects_at(alloc, shelf, bench, result, log, most, vectors)
+        }
+        Request::CoverAt(bench, result, log, vectors) => {
+            list_cover_at(alloc, shelf, bench, result, log, vectors)
+        }
+        Request::BridgesAt(bench, result, log, most, within, vectors) => {
+            list_bridges_at(alloc, shelf, bench, result, log, most, within, vectors)
         }
         _ => unreachable!(),
     }

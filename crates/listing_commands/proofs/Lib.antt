@@ -1,2 +1,5 @@
+pub mod AlikeLemmas
 pub mod BridgeLemmas
+pub mod OwnPatterns
 pub mod SimLemmas
+pub mod PartedLemmas

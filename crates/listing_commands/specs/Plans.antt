@@ -1,11 +1,12 @@
 -- The plans of the commands that list faults, answers, suspects, covers or bridges, or write the log of a good chip.
 use Rattle.sim_listing.specs.SimText.{IsSimText}
 use Rattle.text_fields.specs.Fields.{Text}
+use Rattle.listing_commands.specs.Applied.{IsExpectedAt, IsSuspectsAt, IsCoverAt, IsBridgesAt}
 use Rattle.listing_commands.specs.Bridges.{IsBridgesText}
 use Rattle.listing_commands.specs.Faults.{IsFaultsText}
 use Rattle.listing_commands.specs.Suspects.{IsExpectedLog, IsSuspectsText, IsCoverText}
 use Rattle.run_steps.specs.Plan.{Plan}
-use Rattle.run_steps.specs.Plans.{with_netlist, with_vectors, with_result, with_log_at, says, makes_file}
+use Rattle.run_steps.specs.Plans.{with_netlist, with_vectors, with_list, with_result, with_log_at, with_log_of, says, makes_file}
 use Rattle.std.specs.Prelude.{ℕ}
 
 -- `faults`: the faults of the netlist's circuit are printed
@@ -31,3 +32,21 @@ cover_plan bench result log = with_netlist bench (λ design. with_result result 
 -- `bridges`: the shorts of two lines are printed that explain a log best
 abbrev pub bridges_plan : Text → Text → Text → ℕ → ℕ → Plan
 bridges_plan bench result log most within = with_netlist bench (λ design. with_result result design.circuit (λ file. with_log_at log design.circuit file (λ lines. says (IsBridgesText design.circuit design.names file lines within most))))
+
+-- ---- with vectors that were applied
+
+-- `expect`: the log that a good chip gives to the vectors is made
+abbrev pub expect_at_plan : Text → Text → Text → Text → Plan
+expect_at_plan bench result log vectors = with_netlist bench (λ design. with_result result design.circuit (λ file. with_list vectors design.circuit (λ list. makes_file log (IsExpectedAt design.circuit list))))
+
+-- `suspects`: the classes are printed that explain a log of the vectors best
+abbrev pub suspects_at_plan : Text → Text → Text → ℕ → Text → Plan
+suspects_at_plan bench result log most vectors = with_netlist bench (λ design. with_result result design.circuit (λ file. with_list vectors design.circuit (λ list. with_log_of log design.circuit list (λ lines. says (IsSuspectsAt design.circuit file list lines most)))))
+
+-- `cover`: classes are printed that explain a log of the vectors together
+abbrev pub cover_at_plan : Text → Text → Text → Text → Plan
+cover_at_plan bench result log vectors = with_netlist bench (λ design. with_result result design.circuit (λ file. with_list vectors design.circuit (λ list. with_log_of log design.circuit list (λ lines. says (IsCoverAt design.circuit file list lines)))))
+
+-- `bridges`: the shorts of two lines are printed that explain a log of the vectors best
+abbrev pub bridges_at_plan : Text → Text → Text → ℕ → ℕ → Text → Plan
+bridges_at_plan bench result log most within vectors = with_netlist bench (λ design. with_result result design.circuit (λ file. with_list vectors design.circuit (λ list. with_log_of log design.circuit list (λ lines. says (IsBridgesAt design.circuit design.names file list lines within most)))))

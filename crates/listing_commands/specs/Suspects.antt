@@ -13,10 +13,16 @@ use Rattle.suspect_scores.specs.Scores.{failing, explains}
 use Rattle.suspect_scores.specs.Listed.{AreSuspects}
 use Rattle.suspect_scores.specs.Covering.{IsCover}
 use Rattle.suspect_scores.specs.Expected.{expected_text}
-use Rattle.suspect_scores.specs.Laws.{own_lines, AnswersOtherwise, StandsFirst, ScoreAlike, is_explained, IsReadBack, ListsNothing}
+use Rattle.suspect_scores.specs.Laws.{own_lines, AnswersOtherwise, AreAlikeIn, StandsFirst, ScoreAlike, is_explained, IsReadBack, ListsNothing}
 use Rattle.text_fields.specs.Fields.{Text}
 use Rattle.run_steps.specs.ResultLogs.{AreValidBytes}
 use Rattle.listing_commands.specs.Texts.{expected_counts_text, suspects_text, cover_text}
+
+-- There are answers to the patterns, and the members of a class answer alike.
+pub record ClassesAnswerAlike (c : Circuit) (patterns : List (List Bool)) (classes : ClassTable) : Type 0 where
+  pub table : Answers
+  pub answers : AreAnswers c patterns table
+  pub alike : AreAlikeIn classes table
 
 -- ---- the log that a chip without a fault gives
 

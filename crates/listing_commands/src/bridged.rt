@@ -7,7 +7,7 @@ ghost use Rattle.result_records.specs.declared.record.Record.{Record};
 ghost use Rattle.result_records.specs.Spelling.{text_of};
 ghost use Rattle.result_file.specs.Accepted.{IsAccepted};
 ghost use Rattle.ranked_diag.specs.PartialLog.{Line, ArePartial};
-ghost use Rattle.table_dicts.specs.Setting.{IsSetting};
+ghost use Rattle.table_dicts.specs.Setting.{IsScored};
 ghost use Rattle.bridging_faults.specs.declared.scored.ScoredBridge.{ScoredBridge};
 ghost use Rattle.bridging_faults.specs.Printed.{AreBridgesOf};
 ghost use Rattle.bridging_faults.specs.Texts.{bridge_line, bridges_text};
@@ -95,8 +95,8 @@ fn bridges_at<S: Shelf>(
     say(shelf, &text)
 }
 
-// The text of the bridges of a log at a setting.
-fn text_at(
+/// The text of the bridges of a log at a setting.
+pub(crate) fn text_at(
     alloc: Global,
     setting: &Setting,
     names: &Names,
@@ -105,10 +105,12 @@ fn text_at(
     within: u32,
 ) -> Result<Vec<u8>, AllocError>
     requires named { length names.now ≡ line_count setting.now.subject.now }
-    requires setting { IsSetting setting.now }
+    requires scored { IsScored setting.now }
     requires partial { ArePartial (length setting.now.patterns.now) (length setting.now.subject.now.positions) partial.now }
     ensures { IfOk result (λ text. AreBridgesOf setting.now.subject.now names.now setting.now.patterns.now partial.now within most text.items) }
 {
+    // That the circuit answers to each pattern is known by this.
+    setting.subject.circuit().stands();
     let listed = bridges(alloc, setting, partial, most, within)?;
     let failing = count_failing(alloc, setting, partial)?;
     let text = bridges_text(alloc, names, &listed, failing, partial.len())?;

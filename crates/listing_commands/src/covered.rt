@@ -6,11 +6,11 @@ ghost use Rattle.result_records.specs.declared.record.Record.{Record};
 ghost use Rattle.result_records.specs.Spelling.{text_of};
 ghost use Rattle.result_file.specs.Accepted.{IsAccepted};
 ghost use Rattle.ranked_diag.specs.PartialLog.{Line, ArePartial};
-ghost use Rattle.table_dicts.specs.Setting.{IsSetting};
+ghost use Rattle.table_dicts.specs.Setting.{IsScored};
 ghost use Rattle.listing_commands.specs.Plans.{cover_plan};
 ghost use Rattle.run_steps.specs.Plans.{says, with_log_at, with_result};
 ghost use Rattle.run_steps.specs.Ran.{Follows, result_log_endings};
-ghost use Rattle.listing_commands.specs.Suspects.{IsCoverOf, IsCoverText};
+ghost use Rattle.listing_commands.specs.Suspects.{ClassesAnswerAlike, IsCoverOf, IsCoverText};
 ghost use Rattle.listing_commands.specs.Texts.{choice_line, cover_text};
 
 use crate::texts::{push_choice, push_cover_end};
@@ -20,7 +20,7 @@ use ranked_diag::Partial;
 use result_file::Checked;
 use run_steps::{RunFault, read_design, read_log_at, read_result, say, setting_of};
 use std::alloc::{AllocError, Global};
-use suspect_scores::{Cover, circuits_are_classed, count_failing, cover, one_cover_explains};
+use suspect_scores::{Cover, count_failing, cover, one_cover_explains};
 use table_dicts::Setting;
 
 /// Reads and judges the netlist, then the result and then the log, and prints classes that together explain the failing patterns of the
@@ -65,22 +65,27 @@ fn cover_at<S: Shelf>(
     requires table { IsTableOf subject.now checked.now.patterns checked.now.classes }
     ensures { (records : List Record) → IsAccepted subject.now records checked.now → Follows (with_log_at log.now subject.now (text_of records) (λ (lines : List Line). says (IsCoverText subject.now (text_of records) lines))) result_log_endings [] result (S.state shelf.old) (S.state shelf.new) }
 {
+    // That the members of a class answer alike is known by this.
+    subject.circuit().stands();
     let partial = read_log_at(alloc, shelf, subject, checked, log)?;
     let setting = setting_of(subject, checked);
     let text = text_at(alloc, &setting, &partial)?;
     say(shelf, text.as_bytes())
 }
 
-// The text of the cover of a log at a setting.
-fn text_at(alloc: Global, setting: &Setting, partial: &Partial) -> Result<String, AllocError>
-    requires setting { IsSetting setting.now }
+/// The text of the cover of a log at a setting.
+pub(crate) fn text_at(
+    alloc: Global,
+    setting: &Setting,
+    partial: &Partial,
+) -> Result<String, AllocError>
+    requires scored { IsScored setting.now }
+    requires alike { ClassesAnswerAlike setting.now.subject.now setting.now.patterns.now setting.now.classes.now }
     requires partial { ArePartial (length setting.now.patterns.now) (length setting.now.subject.now.positions) partial.now }
     ensures { IfOk result (λ text. IsCoverOf setting.now.subject.now setting.now.patterns.now setting.now.classes.now partial.now (string_bytes text)) }
 {
-    // What a cover explains is known by these.
-    circuits_are_classed();
+    // What a cover explains is known by this.
     one_cover_explains();
-    setting.subject.circuit().stands();
     let choices = cover(alloc, setting, partial)?;
     let failing = count_failing(alloc, setting, partial)?;
     let text = cover_text(alloc, &choices, failing)?;

@@ -1,18 +1,19 @@
 //! The command `expect`: from the bytes of a netlist and a result to the log that a chip without a fault gives.
 
 ghost use Rattle.std.specs.Prelude.{ℕ, List, IfOk, string_bytes, [], ◌∷◌};
-ghost use Rattle.table_dicts.specs.Setting.{IsSetting};
+ghost use Rattle.table_dicts.specs.Setting.{IsScored};
+ghost use Rattle.listing_commands.specs.Applied.{IsExpectedAt};
 ghost use Rattle.listing_commands.specs.Plans.{expect_plan};
 ghost use Rattle.run_steps.specs.Plans.{makes_file, with_result};
 ghost use Rattle.run_steps.specs.Ran.{Follows, result_endings};
-ghost use Rattle.listing_commands.specs.Suspects.{IsExpectedLog, IsExpectedOf};
+ghost use Rattle.listing_commands.specs.Suspects.{IsExpectedLog};
 
 use crate::texts::expected_counts_text;
 use diag_shelf::Shelf;
 use fault_collapse::Subject;
 use run_steps::{RunFault, read_design, read_result, save, setting_of};
 use std::alloc::{AllocError, Global};
-use suspect_scores::{circuits_are_classed, expected_log, expected_log_lists_nothing};
+use suspect_scores::{expected_log, expected_log_lists_nothing};
 use table_dicts::Setting;
 
 /// Reads and judges the netlist and then the result, and writes the log that a chip without a fault gives to the result's patterns under
@@ -47,22 +48,21 @@ fn expect_for<S: Shelf>(
     save(shelf, output, &made.file, made.text.as_bytes())
 }
 
-// A log, and what is printed of it.
+/// A log, and what is printed of it.
 #[derive(Drop)]
-struct Expected {
-    file: Vec<u8>,
-    text: String,
+pub(crate) struct Expected {
+    pub(crate) file: Vec<u8>,
+    pub(crate) text: String,
 }
 
-// The log that a chip without a fault gives at a setting, and what is printed of it.
-fn expected_of(alloc: Global, setting: &Setting) -> Result<Expected, AllocError>
-    requires { IsSetting setting.now }
-    ensures { IfOk result (λ made. IsExpectedOf setting.now.subject.now setting.now.patterns.now setting.now.classes.now made.file.items (string_bytes made.text)) }
+/// The log that a chip without a fault gives at a setting, and what is printed of it.
+pub(crate) fn expected_of(alloc: Global, setting: &Setting) -> Result<Expected, AllocError>
+    requires { IsScored setting.now }
+    ensures { IfOk result (λ made. IsExpectedAt setting.now.subject.now setting.now.patterns.now made.file.items (string_bytes made.text)) }
 {
-    // That the log is read back and lists nothing is known by these.
-    circuits_are_classed();
+    // That the log is read back and lists nothing is known by this.
     expected_log_lists_nothing();
-    let patterns = setting.classes.patterns();
+    let patterns = setting.patterns.as_slice().len() as u32;
     let positions = setting.subject.circuit().positions().len() as u32;
     let file = expected_log(alloc, setting)?;
     let text = expected_counts_text(alloc, patterns, positions)?;

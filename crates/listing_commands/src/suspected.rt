@@ -6,11 +6,12 @@ ghost use Rattle.result_records.specs.declared.record.Record.{Record};
 ghost use Rattle.result_records.specs.Spelling.{text_of};
 ghost use Rattle.result_file.specs.Accepted.{IsAccepted};
 ghost use Rattle.ranked_diag.specs.PartialLog.{Line, ArePartial};
-ghost use Rattle.table_dicts.specs.Setting.{IsSetting};
+ghost use Rattle.table_dicts.specs.Setting.{IsScored};
+ghost use Rattle.listing_commands.specs.Applied.{AreSuspectsAt};
 ghost use Rattle.listing_commands.specs.Plans.{suspects_plan};
 ghost use Rattle.run_steps.specs.Plans.{says, with_log_at, with_result};
 ghost use Rattle.run_steps.specs.Ran.{Follows, result_log_endings};
-ghost use Rattle.listing_commands.specs.Suspects.{AreSuspectsOf, IsSuspectsText};
+ghost use Rattle.listing_commands.specs.Suspects.{ClassesAnswerAlike, IsSuspectsText};
 ghost use Rattle.listing_commands.specs.Texts.{suspect_line, suspects_text};
 
 use crate::texts::{push_suspect, push_suspects_end};
@@ -21,8 +22,7 @@ use result_file::Checked;
 use run_steps::{RunFault, read_design, read_log_at, read_result, say, setting_of};
 use std::alloc::{AllocError, Global};
 use suspect_scores::{
-    Suspects, circuits_are_classed, count_failing, members_score_alike, one_list_of_suspects,
-    suspects,
+    Suspects, count_failing, members_score_alike, one_list_of_suspects, suspects,
 };
 use table_dicts::Setting;
 
@@ -71,28 +71,29 @@ fn suspects_at<S: Shelf>(
     requires table { IsTableOf subject.now checked.now.patterns checked.now.classes }
     ensures { (records : List Record) → IsAccepted subject.now records checked.now → Follows (with_log_at log.now subject.now (text_of records) (λ (lines : List Line). says (IsSuspectsText subject.now (text_of records) lines most))) result_log_endings [] result (S.state shelf.old) (S.state shelf.new) }
 {
+    // That the members of a class answer alike is known by this.
+    subject.circuit().stands();
     let partial = read_log_at(alloc, shelf, subject, checked, log)?;
     let setting = setting_of(subject, checked);
     let text = text_at(alloc, &setting, &partial, most)?;
     say(shelf, text.as_bytes())
 }
 
-// The text of the suspects of a log at a setting.
-fn text_at(
+/// The text of the suspects of a log at a setting.
+pub(crate) fn text_at(
     alloc: Global,
     setting: &Setting,
     partial: &Partial,
     most: u32,
 ) -> Result<String, AllocError>
-    requires setting { IsSetting setting.now }
+    requires scored { IsScored setting.now }
+    requires alike { ClassesAnswerAlike setting.now.subject.now setting.now.patterns.now setting.now.classes.now }
     requires partial { ArePartial (length setting.now.patterns.now) (length setting.now.subject.now.positions) partial.now }
-    ensures { IfOk result (λ text. AreSuspectsOf setting.now.subject.now setting.now.patterns.now setting.now.classes.now partial.now most (string_bytes text)) }
+    ensures { IfOk result (λ text. AreSuspectsAt setting.now.subject.now setting.now.patterns.now setting.now.classes.now partial.now most (string_bytes text)) }
 {
     // What holds of all members of a class and of the log of one fault is known by these.
-    circuits_are_classed();
     members_score_alike();
     one_list_of_suspects();
-    setting.subject.circuit().stands();
     let listed = suspects(alloc, setting, partial, most)?;
     let failing = count_failing(alloc, setting, partial)?;
     let text = suspects_text(alloc, &listed, failing, partial.len())?;

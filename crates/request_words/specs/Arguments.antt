@@ -33,6 +33,10 @@ number_rule id most = record (name_rule id) { parser = Some (vp.Signed (pos 1) (
 abbrev pub option_rule : Text → Text → ℕ → ℕ → Rule
 option_rule id default least most = record (new_rule id) { long = Some id; defaults = default ∷ []; parser = Some (vp.Signed (pos least) (pos most)) }
 
+-- an option with a text, and no default
+abbrev pub text_rule : Text → Rule
+text_rule id = record (new_rule id) { long = Some id; action = Some Set }
+
 -- ---- matches
 
 -- whether the words are taken
@@ -42,6 +46,10 @@ is_taken app words = is_empty (fault_of app words)
 -- the name under an id; of one that has to stand there is always one
 abbrev pub name_in : Text → List Row → Text
 name_in id rows = unwrap_or (first_of id rows) []
+
+-- the text under an id, if there is one
+abbrev pub text_in : Text → List Row → Option Text
+text_in id rows = first_of id rows
 
 -- the number that a text is, and the least where it is none from the least to the most
 abbrev pub number_from : ℕ → ℕ → Option Text → ℕ

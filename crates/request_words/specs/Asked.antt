@@ -3,7 +3,7 @@ use Rattle.std.specs.Prelude.{◌≤◌}
 use Rattle.result_records.specs.Limits.{AreWithinLimits}
 use Rattle.request_words.specs.Request as spec
 use Rattle.request_words.specs.declared.request.Request.{Request}
-use Rattle.request_words.specs.declared.request.Request.TheVariants.{Gen, Check, MakeDict, Convert, Diagnose, ListFaults, Simulate, Synth, Compact, Rank, Adapt, Follow, Expect, Suspects, Cover, TopUp, Bridges}
+use Rattle.request_words.specs.declared.request.Request.TheVariants.{Gen, Check, MakeDict, Convert, Diagnose, ListFaults, Simulate, Synth, Compact, Rank, Adapt, Follow, Expect, Suspects, Cover, TopUp, Bridges, ExpectAt, SuspectsAt, CoverAt, BridgesAt}
 
 abbrev pub asked : Request → spec.Request
 asked (Gen bench result budgets) = spec.gen bench.now result.now budgets
@@ -23,6 +23,10 @@ asked (Suspects bench result log most) = spec.suspects bench.now result.now log.
 asked (Cover bench result log) = spec.cover bench.now result.now log.now
 asked (TopUp bench vectors result budgets) = spec.top_up bench.now vectors.now result.now budgets
 asked (Bridges bench result log most within) = spec.bridges bench.now result.now log.now most within
+asked (ExpectAt bench result log vectors) = spec.expect_at bench.now result.now log.now vectors.now
+asked (SuspectsAt bench result log most vectors) = spec.suspects_at bench.now result.now log.now most vectors.now
+asked (CoverAt bench result log vectors) = spec.cover_at bench.now result.now log.now vectors.now
+asked (BridgesAt bench result log most within vectors) = spec.bridges_at bench.now result.now log.now most within vectors.now
 
 -- The numbers of a request are within their limits.
 abbrev pub HasLimits : Request → Type 0
@@ -43,3 +47,7 @@ HasLimits (Suspects bench result log most) = (1 ≤ most) × (most ≤ 1000000)
 HasLimits (Cover bench result log) = Unit {0}
 HasLimits (TopUp bench vectors result budgets) = AreWithinLimits budgets
 HasLimits (Bridges bench result log most within) = (1 ≤ most) × (most ≤ 1000000) × (within ≤ 1000000)
+HasLimits (ExpectAt bench result log vectors) = Unit {0}
+HasLimits (SuspectsAt bench result log most vectors) = (1 ≤ most) × (most ≤ 1000000)
+HasLimits (CoverAt bench result log vectors) = Unit {0}
+HasLimits (BridgesAt bench result log most within vectors) = (1 ≤ most) × (most ≤ 1000000) × (within ≤ 1000000)

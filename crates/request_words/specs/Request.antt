@@ -1,11 +1,12 @@
 -- What the words ask for. Each command's words behind its first are read by one simple command of `clap`.
 use Rattle.std.specs.Prelude.{ℕ, List, [], ◌∷◌, Option, Some, None, codes, if◌then◌else◌, option_map}
+use Rattle.std.specs.Option.{option_map_or}
 use Rattle.std.specs.Str.{bytes_eq}
 use Rattle.text_fields.specs.Fields.{Text}
-use Rattle.clap.specs.Words.{App, Row, matches_of, with_rule}
+use Rattle.clap.specs.Words.{App, Row, Rule, matches_of, with_rule}
 use Rattle.result_records.specs.declared.limits.TheConstants.{BLOCKS_LIMIT, CUBES_LIMIT, CONFLICTS_LIMIT}
 use Rattle.result_records.specs.declared.record.Budgets.{Budgets}
-use Rattle.request_words.specs.Arguments.{bare_app, two_names_app, name_rule, number_rule, option_rule, is_taken, name_in, number_in, kind_named}
+use Rattle.request_words.specs.Arguments.{bare_app, two_names_app, name_rule, number_rule, option_rule, text_rule, is_taken, name_in, number_in, text_in, kind_named}
 use Rattle.request_words.specs.declared.request.Verb.{Verb}
 use Rattle.request_words.specs.declared.request.Verb.TheVariants.{Gen, Check, Dict, Convert, Diagnose, Faults, Sim, Synth, Compact, Rank, Adapt, Follow, Expect, Suspects, Cover, Grade, TopUp, Bridges}
 use Rattle.request_words.specs.declared.request.EntryKind.{EntryKind}
@@ -45,6 +46,11 @@ pub data Request : Type 0 where
   top_up : (bench vectors result : Text) (budgets : Budgets) → Request
   -- list bridges, so many at the most, that explain all failing patterns of a partial log but so many, for a netlist and a result
   bridges : (bench result log : Text) (most within : ℕ) → Request
+  -- the same as `expect`, `suspects`, `cover` and `bridges`, of a list of vectors that were applied
+  expect_at : (bench result log vectors : Text) → Request
+  suspects_at : (bench result log : Text) (most : ℕ) (vectors : Text) → Request
+  cover_at : (bench result log vectors : Text) → Request
+  bridges_at : (bench result log : Text) (most within : ℕ) (vectors : Text) → Request
 
 -- ---- each command: how its words are read, and what they ask for
 
@@ -127,23 +133,37 @@ follow_by rows = follow (name_in (codes "plan") rows) (name_in (codes "log") row
 abbrev pub log_app : Text → App
 log_app name = with_rule (two_names_app name (codes "bench") (codes "result")) (name_rule (codes "log"))
 
+-- the list of vectors by which a log is numbered
+abbrev pub applied_rule : Rule
+applied_rule = text_rule (codes "applied")
+
+-- what is asked without such a list, or of one
+abbrev pub by_applied : List Row → Request → (Text → Request) → Request
+by_applied rows alone of_list = option_map_or of_list (text_in (codes "applied") rows) alone
+
 unfoldable pub expect_app : App
-expect_app = log_app (codes "expect")
+expect_app = with_rule (log_app (codes "expect")) applied_rule
 
 abbrev pub expect_by : List Row → Request
-expect_by rows = expect (name_in (codes "bench") rows) (name_in (codes "result") rows) (name_in (codes "log") rows)
+expect_by rows = by_applied rows
+    (expect (name_in (codes "bench") rows) (name_in (codes "result") rows) (name_in (codes "log") rows))
+    (expect_at (name_in (codes "bench") rows) (name_in (codes "result") rows) (name_in (codes "log") rows))
 
 unfoldable pub suspects_app : App
-suspects_app = with_rule (log_app (codes "suspects")) (option_rule (codes "most") (codes "20") 1 1000000)
+suspects_app = with_rule (with_rule (log_app (codes "suspects")) (option_rule (codes "most") (codes "20") 1 1000000)) applied_rule
 
 abbrev pub suspects_by : List Row → Request
-suspects_by rows = suspects (name_in (codes "bench") rows) (name_in (codes "result") rows) (name_in (codes "log") rows) (number_in (codes "most") 1 1000000 rows)
+suspects_by rows = by_applied rows
+    (suspects (name_in (codes "bench") rows) (name_in (codes "result") rows) (name_in (codes "log") rows) (number_in (codes "most") 1 1000000 rows))
+    (suspects_at (name_in (codes "bench") rows) (name_in (codes "result") rows) (name_in (codes "log") rows) (number_in (codes "most") 1 1000000 rows))
 
 unfoldable pub cover_app : App
-cover_app = log_app (codes "cover")
+cover_app = with_rule (log_app (codes "cover")) applied_rule
 
 abbrev pub cover_by : List Row → Request
-cover_by rows = cover (name_in (codes "bench") rows) (name_in (codes "result") rows) (name_in (codes "log") rows)
+cover_by rows = by_applied rows
+    (cover (name_in (codes "bench") rows) (name_in (codes "result") rows) (name_in (codes "log") rows))
+    (cover_at (name_in (codes "bench") rows) (name_in (codes "result") rows) (name_in (codes "log") rows))
 
 -- a command of a netlist, a list of vectors and a result
 abbrev pub list_app : Text → App
@@ -167,12 +187,15 @@ topup_by rows = top_up (name_in (codes "bench") rows) (name_in (codes "vectors")
     (record { blocks = 0; cubes = number_in (codes "cubes") 0 CUBES_LIMIT rows; conflicts = number_in (codes "conflicts") 0 CONFLICTS_LIMIT rows })
 
 unfoldable pub bridges_app : App
-bridges_app = with_rule (with_rule (log_app (codes "bridges"))
-    (option_rule (codes "most") (codes "20") 1 1000000)) (option_rule (codes "within") (codes "0") 0 1000000)
+bridges_app = with_rule (with_rule (with_rule (log_app (codes "bridges"))
+    (option_rule (codes "most") (codes "20") 1 1000000)) (option_rule (codes "within") (codes "0") 0 1000000)) applied_rule
 
 abbrev pub bridges_by : List Row → Request
-bridges_by rows = bridges (name_in (codes "bench") rows) (name_in (codes "result") rows) (name_in (codes "log") rows)
-    (number_in (codes "most") 1 1000000 rows) (number_in (codes "within") 0 1000000 rows)
+bridges_by rows = by_applied rows
+    (bridges (name_in (codes "bench") rows) (name_in (codes "result") rows) (name_in (codes "log") rows)
+    (number_in (codes "most") 1 1000000 rows) (number_in (codes "within") 0 1000000 rows))
+    (bridges_at (name_in (codes "bench") rows) (name_in (codes "result") rows) (name_in (codes "log") rows)
+    (number_in (codes "most") 1 1000000 rows) (number_in (codes "within") 0 1000000 rows))
 
 -- ---- the table of commands
 

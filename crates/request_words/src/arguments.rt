@@ -1,10 +1,10 @@
 //! Words by the definition of a simple command of `clap`, and what its matches hold.
 
-ghost use Rattle.std.specs.Prelude.{◌≡◌, ◌≢◌, ◌≤◌, ◌<◌, [], IfOk, OnOk, Err, map, pos, string_bytes, true, false};
+ghost use Rattle.std.specs.Prelude.{◌≡◌, ◌≢◌, ◌≤◌, ◌<◌, [], IfOk, OnOk, Err, map, option_map, pos, string_bytes, true, false};
 ghost use Rattle.clap.specs.Words.{rule_of, app_of, found_of, rows_of, matches_of, fault_of, kind_of, is_simple_and_free, with_rule};
 ghost use Rattle.clap.specs.declared.error.ErrorKind.TheVariants.{OutOfMemory};
 ghost use Rattle.clap.specs.declared.builder.value_parser.ValueParser.TheVariants as value_parsers;
-ghost use Rattle.request_words.specs.Arguments.{bare_app, two_names_app, name_rule, number_rule, option_rule, name_in, number_in, kind_named};
+ghost use Rattle.request_words.specs.Arguments.{bare_app, two_names_app, name_rule, number_rule, option_rule, text_rule, name_in, number_in, text_in, kind_named};
 
 use crate::request::EntryKind;
 use clap::builder::ValueParser;
@@ -108,6 +108,25 @@ pub(crate) fn with_option<'a>(
     command.arg(option_arg(alloc, id, default, least, most))
 }
 
+// An option with a text, and no default.
+fn text_arg<'a>(alloc: Global, id: &'a str) -> Arg<'a>
+    ensures rule { rule_of result ≡ text_rule id.entry.now }
+    ensures local { result.global ≡ false }
+{
+    Arg::new(alloc, id).long(id).action(ArgAction::Set)
+}
+
+/// A command with an option more: a text, and no default.
+pub(crate) fn with_text_option<'a>(
+    alloc: Global,
+    command: Command<'a>,
+    id: &'a str,
+) -> Result<Command<'a>, AllocError>
+    ensures { IfOk result (λ c. app_of c ≡ with_rule (app_of command.entry) (text_rule id.entry.now)) }
+{
+    command.arg(text_arg(alloc, id))
+}
+
 // What takes the numbers from a least to a most.
 fn number_parser<'a>(least: u32, most: u32) -> ValueParser<'a>
     ensures { result ≡ value_parsers.Signed (pos least) (pos most) }
@@ -152,6 +171,13 @@ pub(crate) fn name_in<'a>(matches: &ArgMatches<'a>, id: &str) -> &'a str
         Some(name) => name,
         None => "",
     }
+}
+
+/// The text under an id, if there is one.
+pub(crate) fn text_in<'a>(matches: &ArgMatches<'a>, id: &str) -> Option<&'a str>
+    ensures { option_map (λ text. text.now) result ≡ text_in id.now (rows_of (found_of matches.now)) }
+{
+    matches.get_str(id)
 }
 
 /// The number under an id, from a least to a most.

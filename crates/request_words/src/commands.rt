@@ -5,12 +5,12 @@ ghost use Rattle.std.specs.Prelude.{◌≡◌, ◌≤◌, IfOk, IfSome, codes, o
 ghost use Rattle.clap.specs.Words.{app_of, found_of, rows_of, with_rule};
 ghost use Rattle.result_records.specs.Limits.{AreWithinLimits};
 ghost use Rattle.request_words.specs.Arguments.{option_rule, number_in};
-ghost use Rattle.request_words.specs.Request.{gen_app, gen_by, dict_app, dict_by, faults_app, faults_by, synth_app, synth_by, compact_app, compact_by, rank_app, rank_by, adapt_app, adapt_by, log_app, expect_by, suspects_app, suspects_by, cover_by, list_app, grade_by, topup_app, topup_by, bridges_app, bridges_by};
+ghost use Rattle.request_words.specs.Request.{gen_app, gen_by, dict_app, dict_by, faults_app, faults_by, synth_app, synth_by, compact_app, compact_by, rank_app, rank_by, adapt_app, adapt_by, log_app, applied_rule, expect_app, expect_by, suspects_app, suspects_by, cover_app, cover_by, list_app, grade_by, topup_app, topup_by, bridges_app, bridges_by};
 ghost use Rattle.request_words.specs.Asked.{asked, HasLimits};
 
 use crate::arguments::{
-    bare_command, kind_named, name_arg, name_in, number_arg, number_in, two_names, with_names,
-    with_option,
+    bare_command, kind_named, name_arg, name_in, number_arg, number_in, text_in, two_names,
+    with_names, with_option, with_text_option,
 };
 use crate::request::Request;
 use clap::{ArgMatches, Command};
@@ -194,31 +194,48 @@ pub(crate) fn adapt_in<'a>(matches: &ArgMatches<'a>) -> Request<'a>
     )
 }
 
-/// Three names, of which the last is a log.
-pub(crate) fn log_command<'a>(alloc: Global, name: &'a str) -> Result<Command<'a>, AllocError>
+// Three names, of which the last is a log.
+fn log_command<'a>(alloc: Global, name: &'a str) -> Result<Command<'a>, AllocError>
     ensures { IfOk result (λ c. app_of c ≡ log_app name.entry.now) }
 {
     two_names(alloc, name, "bench", "result")?.arg(name_arg(alloc, "log"))
 }
 
-/// The request of the matches of `expect`.
+// A command with the option that names the list of vectors by which the log is numbered.
+fn with_applied<'a>(alloc: Global, command: Command<'a>) -> Result<Command<'a>, AllocError>
+    ensures { IfOk result (λ c. app_of c ≡ with_rule (app_of command.entry) applied_rule) }
+{
+    with_text_option(alloc, command, "applied")
+}
+
+/// Three names and an option.
+pub(crate) fn expect_command<'a>(alloc: Global) -> Result<Command<'a>, AllocError>
+    ensures { IfOk result (λ c. app_of c ≡ expect_app) }
+{
+    with_applied(alloc, log_command(alloc, "expect")?)
+}
+
+/// The request of its matches.
 pub(crate) fn expect_in<'a>(matches: &ArgMatches<'a>) -> Request<'a>
     ensures asked { asked result ≡ expect_by (rows_of (found_of matches.now)) }
     ensures limits { HasLimits result }
 {
-    Request::Expect(
-        name_in(matches, "bench"),
-        name_in(matches, "result"),
-        name_in(matches, "log"),
-    )
+    let bench = name_in(matches, "bench");
+    let results = name_in(matches, "result");
+    let log = name_in(matches, "log");
+    match text_in(matches, "applied") {
+        Some(vectors) => Request::ExpectAt(bench, results, log, vectors),
+        None => Request::Expect(bench, results, log),
+    }
 }
 
-/// Three names and an option.
+/// Three names and two options.
 pub(crate) fn suspects_command<'a>(alloc: Global) -> Result<Command<'a>, AllocError>
     ensures { IfOk result (λ c. app_of c ≡ suspects_app) }
 {
     let command = log_command(alloc, "suspects")?;
-    with_option(alloc, command, "most", "20", 1, MOST_LIMIT)
+    let command = with_option(alloc, command, "most", "20", 1, MOST_LIMIT)?;
+    with_applied(alloc, command)
 }
 
 /// The request of its matches.
@@ -226,24 +243,35 @@ pub(crate) fn suspects_in<'a>(matches: &ArgMatches<'a>) -> Request<'a>
     ensures asked { asked result ≡ suspects_by (rows_of (found_of matches.now)) }
     ensures limits { HasLimits result }
 {
-    Request::Suspects(
-        name_in(matches, "bench"),
-        name_in(matches, "result"),
-        name_in(matches, "log"),
-        number_in(matches, "most", 1, MOST_LIMIT),
-    )
+    let bench = name_in(matches, "bench");
+    let results = name_in(matches, "result");
+    let log = name_in(matches, "log");
+    let most = number_in(matches, "most", 1, MOST_LIMIT);
+    match text_in(matches, "applied") {
+        Some(vectors) => Request::SuspectsAt(bench, results, log, most, vectors),
+        None => Request::Suspects(bench, results, log, most),
+    }
 }
 
-/// The request of the matches of `cover`.
+/// Three names and an option.
+pub(crate) fn cover_command<'a>(alloc: Global) -> Result<Command<'a>, AllocError>
+    ensures { IfOk result (λ c. app_of c ≡ cover_app) }
+{
+    with_applied(alloc, log_command(alloc, "cover")?)
+}
+
+/// The request of its matches.
 pub(crate) fn cover_in<'a>(matches: &ArgMatches<'a>) -> Request<'a>
     ensures asked { asked result ≡ cover_by (rows_of (found_of matches.now)) }
     ensures limits { HasLimits result }
 {
-    Request::Cover(
-        name_in(matches, "bench"),
-        name_in(matches, "result"),
-        name_in(matches, "log"),
-    )
+    let bench = name_in(matches, "bench");
+    let results = name_in(matches, "result");
+    let log = name_in(matches, "log");
+    match text_in(matches, "applied") {
+        Some(vectors) => Request::CoverAt(bench, results, log, vectors),
+        None => Request::Cover(bench, results, log),
+    }
 }
 
 /// Three names, of which the second is a list of vectors.
@@ -291,13 +319,14 @@ pub(crate) fn topup_in<'a>(matches: &ArgMatches<'a>) -> Request<'a>
     )
 }
 
-/// Three names and two options.
+/// Three names and three options.
 pub(crate) fn bridges_command<'a>(alloc: Global) -> Result<Command<'a>, AllocError>
     ensures { IfOk result (λ c. app_of c ≡ bridges_app) }
 {
     let command = log_command(alloc, "bridges")?;
     let command = with_option(alloc, command, "most", "20", 1, MOST_LIMIT)?;
-    with_option(alloc, command, "within", "0", 0, WITHIN_LIMIT)
+    let command = with_option(alloc, command, "within", "0", 0, WITHIN_LIMIT)?;
+    with_applied(alloc, command)
 }
 
 /// The request of its matches.
@@ -305,13 +334,13 @@ pub(crate) fn bridges_in<'a>(matches: &ArgMatches<'a>) -> Request<'a>
     ensures asked { asked result ≡ bridges_by (rows_of (found_of matches.now)) }
     ensures limits { HasLimits result }
 {
+    let bench = name_in(matches, "bench");
+    let results = name_in(matches, "result");
+    let log = name_in(matches, "log");
     let most = number_in(matches, "most", 1, MOST_LIMIT);
     let within = number_in(matches, "within", 0, WITHIN_LIMIT);
-    Request::Bridges(
-        name_in(matches, "bench"),
-        name_in(matches, "result"),
-        name_in(matches, "log"),
-        most,
-        within,
-    )
+    match text_in(matches, "applied") {
+        Some(vectors) => Request::BridgesAt(bench, results, log, most, within, vectors),
+        None => Request::Bridges(bench, results, log, most, within),
+    }
 }

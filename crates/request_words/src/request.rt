@@ -7,10 +7,10 @@ ghost use Rattle.request_words.specs.Asked.{asked, HasLimits};
 
 use crate::arguments::{WordsFault, name_in, parse, two_names};
 use crate::commands::{
-    adapt_command, adapt_in, bridges_command, bridges_in, compact_command, compact_in, cover_in,
-    dict_command, dict_in, expect_in, faults_command, faults_in, gen_command, gen_in, grade_in,
-    list_command, log_command, rank_command, rank_in, suspects_command, suspects_in, synth_command,
-    synth_in, topup_command, topup_in,
+    adapt_command, adapt_in, bridges_command, bridges_in, compact_command, compact_in,
+    cover_command, cover_in, dict_command, dict_in, expect_command, expect_in, faults_command,
+    faults_in, gen_command, gen_in, grade_in, list_command, rank_command, rank_in,
+    suspects_command, suspects_in, synth_command, synth_in, topup_command, topup_in,
 };
 use clap::{ArgMatches, Command};
 use result_records::Budgets;
@@ -86,6 +86,14 @@ pub enum Request<'a> {
     /// To list bridges, so many at the most, that explain all failing patterns of a partial log but so many, for a netlist and a
     /// result.
     Bridges(&'a str, &'a str, &'a str, u32, u32),
+    /// As `Expect`, for a list of vectors that were applied.
+    ExpectAt(&'a str, &'a str, &'a str, &'a str),
+    /// As `Suspects`, where the log is numbered by a list of vectors that were applied.
+    SuspectsAt(&'a str, &'a str, &'a str, u32, &'a str),
+    /// As `Cover`, where the log is numbered by a list of vectors that were applied.
+    CoverAt(&'a str, &'a str, &'a str, &'a str),
+    /// As `Bridges`, where the log is numbered by a list of vectors that were applied.
+    BridgesAt(&'a str, &'a str, &'a str, u32, u32, &'a str),
 }
 
 /// The request of the words: the first is a command, which reads the others.
@@ -146,7 +154,7 @@ fn read_request(alloc: Global, verb: Verb, words: &[String]) -> Result<Request<'
 }
 
 // How `clap` reads the words behind a command's name.
-#[tactic(auto, unfolding(crate::specs::Request::check_app, crate::specs::Request::convert_app, crate::specs::Request::diagnose_app, crate::specs::Request::sim_app, crate::specs::Request::follow_app, crate::specs::Request::expect_app, crate::specs::Request::cover_app, crate::specs::Request::grade_app))]
+#[tactic(auto, unfolding(crate::specs::Request::check_app, crate::specs::Request::convert_app, crate::specs::Request::diagnose_app, crate::specs::Request::sim_app, crate::specs::Request::follow_app, crate::specs::Request::grade_app))]
 fn definition<'a>(alloc: Global, verb: Verb) -> Result<Command<'a>, AllocError>
     ensures { IfOk result (λ c. app_of c ≡ app_for verb) }
 {
@@ -163,9 +171,9 @@ fn definition<'a>(alloc: Global, verb: Verb) -> Result<Command<'a>, AllocError>
         Verb::Rank => rank_command(alloc),
         Verb::Adapt => adapt_command(alloc),
         Verb::Follow => two_names(alloc, "follow", "plan", "log"),
-        Verb::Expect => log_command(alloc, "expect"),
+        Verb::Expect => expect_command(alloc),
         Verb::Suspects => suspects_command(alloc),
-        Verb::Cover => log_command(alloc, "cover"),
+        Verb::Cover => cover_command(alloc),
         Verb::Grade => list_command(alloc, "grade"),
         Verb::TopUp => topup_command(alloc),
         Verb::Bridges => bridges_command(alloc),

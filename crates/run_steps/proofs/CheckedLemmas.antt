@@ -35,7 +35,7 @@ module _ {c : Circuit} {all : List Record} (right : AreRightLines c all) where
       All-cons (λ v. length v ≡ c.sources) bits (patterns_in rest) line.content.width (widths_from (before ++ Pattern bits ∷ []) rest (e ∙ sym (append_assoc before (Pattern bits ∷ []) rest)))
   widths_from before (r ∷ rest) e = widths_from (before ++ r ∷ []) rest (e ∙ sym (append_assoc before (r ∷ []) rest))
 
-valid_widths : {c : Circuit} {records : List Record} → IsValid c records → All (λ v. length v ≡ c.sources) (patterns_in records)
+pub valid_widths : {c : Circuit} {records : List Record} → IsValid c records → All (λ v. length v ≡ c.sources) (patterns_in records)
 valid_widths {c} {records} valid = widths_from valid.lines [] records refl
 
 -- so are those that a check answers, and the table is theirs

@@ -1,6 +1,6 @@
 -- What was read of a file is all of it, or one byte more than the limit; and what is judged of that is judged of the file.
-use Rattle.std.proofs.Common.{◌≡◌, ◌≢◌, ℕ, ◌+◌, ◌≤◌, ◌<◌, Bool, List, Option, Some, None, length, length-take, refl, sym, ap, subst, ◌∙◌, inl, inr, arith}
-use Rattle.std.specs.Prelude.{◌==◌}
+use Rattle.std.proofs.Common.{◌≡◌, ◌≢◌, ℕ, ◌+◌, ◌≤◌, ◌<◌, Bool, List, [], ◌∷◌, Option, Some, None, length, length-append, length-take, refl, sym, ap, subst, ◌∙◌, inl, inr, arith, zero-le}
+use Rattle.std.specs.Prelude.{◌==◌, ◌^◌}
 use Rattle.std.specs.List.{count_by}
 use Rattle.std.specs.Option.{option_map}
 use Rattle.std.proofs.lemmas.Bool.{cases_lt}
@@ -15,8 +15,8 @@ use Rattle.dict_file.specs.Reading.{IsRefusedBy, TellsDictFault}
 use Rattle.diagnose.specs.declared.fault.LogKind.{LogKind}
 use Rattle.diagnose.specs.declared.fault.LogFault.{LogFault}
 use Rattle.diagnose.specs.declared.fault.LogFault.TheVariants as log
-use Rattle.diagnose.specs.Lines.{LineForm, RestRule, LinesRefused, TellsLogFault, too_long, at_line, line_number}
-use Rattle.diagnose.specs.VectorText.{VectorsRefused}
+use Rattle.diagnose.specs.Lines.{LineForm, RestRule, LinesRefused, TellsLogFault, too_long, at_line, line_number, lines_from}
+use Rattle.diagnose.specs.VectorText.{IsVectorList, VectorsRefused, listed_vector}
 use Rattle.ranked_diag.specs.PartialLog as partial
 use Rattle.adaptive_tree.specs.declared.fault.PlanKind.{PlanKind}
 use Rattle.adaptive_tree.specs.declared.fault.PlanFault.{PlanFault}
@@ -138,3 +138,12 @@ walk_read adaptive {all} {bytes} {outcome} e is = said_of_file (λ (b : Text). I
 
 pub list_read : (c : Circuit) {all bytes : Text} {vectors : List (List Bool)} → bytes ≡ read_of TEXT_LIMIT all → IsListFor c bytes vectors → IsListFor c all vectors
 list_read c {all} {bytes} {vectors} e is = said_of_file (λ (b : Text). IsListFor c b vectors) (λ (list : IsListFor c bytes vectors). list.short) e is
+
+-- each row has a byte at least
+row_bytes : (line : LineForm) (n : ℕ) (rows : List (List Bool)) → length rows ≤ length (lines_from line n rows)
+row_bytes line n [] = zero-le
+row_bytes line n (row ∷ rows) = omega (arith, length-append (line n row) (10 ∷ lines_from line (n + 1) rows), row_bytes line (n + 1) rows)
+
+-- so a list that is no longer than the limit has few vectors
+pub few_vectors : {sources : ℕ} {bytes : Text} {vectors : List (List Bool)} → IsVectorList sources bytes vectors → length vectors < 2 ^ 32
+few_vectors {sources} {bytes} {vectors} is = omega (arith, is.short, ap length is.text_is, row_bytes listed_vector 0 vectors)

@@ -1,5 +1,5 @@
 -- The steps of a plan: files that are read, and what is done at its end.
-use Rattle.std.specs.Prelude.{◌≡◌, Bool, List, [], ◌∷◌}
+use Rattle.std.specs.Prelude.{◌≡◌, Bool, List, [], ◌∷◌, length}
 use Rattle.net_model.specs.declared.circuit.Design.{Design}
 use Rattle.net_model.specs.Circuit.{Circuit}
 use Rattle.text_fields.specs.Fields.{Text}
@@ -8,10 +8,10 @@ use Rattle.run_steps.specs.Netlists.{IsDesign, IsRefused}
 use Rattle.run_steps.specs.Results.{IsResult, IsRefusedResult}
 use Rattle.dict_rows.specs.declared.dict.Dict.{Dict}
 use Rattle.run_steps.specs.Dictionaries.{IsDictionaryFile, IsRefusedDictionary}
-use Rattle.ranked_diag.specs.PartialLog.{Line}
+use Rattle.ranked_diag.specs.PartialLog.{Line, IsPartialLog}
 use Rattle.adaptive_tree.specs.declared.outcome.Outcome.{Outcome as WalkOutcome}
 use Rattle.adaptive_tree.specs.declared.steps.Plan.{Plan as AdaptivePlan}
-use Rattle.run_steps.specs.Logs.{IsLogFor, IsRefusedLog, IsPartialFor, IsRefusedPartial, IsLogTo, IsRefusedWalk, IsListFor, IsRefusedList, IsRefusedVectors}
+use Rattle.run_steps.specs.Logs.{IsLogFor, IsRefusedLog, IsPartialFor, IsRefusedPartial, IsRefusedPartialOf, IsLogTo, IsRefusedWalk, IsListFor, IsRefusedList, IsRefusedVectors}
 use Rattle.run_steps.specs.AdaptivePlans.{IsAdaptivePlanFile, IsRefusedPlan}
 use Rattle.run_steps.specs.ResultLogs.{IsLogAt, IsRefusedAt}
 use Rattle.run_steps.specs.declared.ending.FileKind.TheVariants as kind
@@ -61,6 +61,10 @@ with_vectors vectors c next = judged vectors kind.Log (List (List Bool)) (IsRefu
 -- the same, in a command that may read a log too
 abbrev pub with_list : Text → Circuit → (List (List Bool) → Plan) → Plan
 with_list vectors c next = judged vectors kind.Log (List (List Bool)) (IsRefusedVectors c) (IsListFor c) next
+
+-- a partial log of such a list
+abbrev pub with_log_of : Text → Circuit → List (List Bool) → (List Line → Plan) → Plan
+with_log_of log c vectors next = judged log kind.Log (List Line) (IsRefusedPartialOf (length vectors) (length c.positions)) (IsPartialLog (length vectors) (length c.positions)) next
 
 -- ---- what is done with them
 

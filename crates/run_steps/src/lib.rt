@@ -17,7 +17,7 @@ pub use adaptive_plans::read_adaptive_plan;
 pub use dictionaries::read_dictionary;
 pub use ending::{FileKind, RunFault, one_ending_each, status_of};
 pub use ends::{save, say, write_fault};
-pub use log_reads::read_log_at;
+pub use log_reads::{read_log_at, read_log_of};
 pub use logs::{read_list, read_observed, read_partial_log, read_vector_list, read_walk};
 pub use netlists::{judge_netlist, read_design};
 pub use results::{WholeResult, read_result, read_whole_result, setting_of};

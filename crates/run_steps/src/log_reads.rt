@@ -1,12 +1,13 @@
-//! From the name of a log for a result to what it has, or to the end of the run.
+//! From the name of a log for a result, or for vectors that were applied, to what it has, or to the end of the run.
 
-ghost use Rattle.std.specs.Prelude.{List, IfErr, IfOk, length};
+ghost use Rattle.std.specs.Prelude.{◌<◌, ◌^◌, List, IfErr, IfOk, length};
 ghost use Rattle.net_model.specs.PatternRows.{IsTableOf};
 ghost use Rattle.result_records.specs.declared.record.Record.{Record};
 ghost use Rattle.result_records.specs.Spelling.{text_of};
 ghost use Rattle.result_file.specs.Accepted.{IsAccepted};
-ghost use Rattle.ranked_diag.specs.PartialLog.{ArePartial};
+ghost use Rattle.ranked_diag.specs.PartialLog.{ArePartial, IsPartialLog};
 ghost use Rattle.run_steps.specs.declared.ending.FileKind.TheVariants as file;
+ghost use Rattle.run_steps.specs.Logs.{IsRefusedPartialOf};
 ghost use Rattle.run_steps.specs.Steps.{WasAccepted, IsOver};
 ghost use Rattle.run_steps.specs.ResultLogs.{IsLogAt, IsRefusedAt};
 
@@ -14,6 +15,7 @@ use crate::ending::RunFault;
 use crate::logs::read_partial_log;
 use diag_shelf::Shelf;
 use fault_collapse::Subject;
+use net_model::{Circuit, Vector};
 use ranked_diag::Partial;
 use result_file::Checked;
 use std::alloc::Global;
@@ -34,5 +36,24 @@ pub fn read_log_at<S: Shelf>(
 {
     let patterns = checked.classes.patterns();
     let positions = subject.circuit().positions().len() as u32;
+    read_partial_log(alloc, shelf, patterns, positions, name)
+}
+
+/// Reads and judges the log under a name, whose lines have the numbers of these vectors. If it isn't accepted, the console says why, and the
+/// run is over.
+pub fn read_log_of<S: Shelf>(
+    alloc: Global,
+    shelf: &mut S,
+    circuit: &Circuit,
+    vectors: &[Vector],
+    name: &str,
+) -> Result<Partial, RunFault>
+    requires { length vectors.now < 2 ^ 32 }
+    ensures lines { IfOk result (ArePartial (length vectors.now) (length circuit.now.positions)) }
+    ensures ok { IfOk result (λ partial. WasAccepted name.now file.Log (IsPartialLog (length vectors.now) (length circuit.now.positions)) partial (S.state shelf.old) (S.state shelf.new)) }
+    ensures err { IfErr result (λ why. IsOver name.now file.Log (IsRefusedPartialOf (length vectors.now) (length circuit.now.positions)) why (S.state shelf.old) (S.state shelf.new)) }
+{
+    let patterns = vectors.len() as u32;
+    let positions = circuit.positions().len() as u32;
     read_partial_log(alloc, shelf, patterns, positions, name)
 }

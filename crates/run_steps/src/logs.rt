@@ -1,6 +1,6 @@
 //! From the name of a log, whole, partial or of a walk, or a list of vectors to what it has, or to the end of the run.
 
-ghost use Rattle.std.specs.Prelude.{IfErr, IfOk};
+ghost use Rattle.std.specs.Prelude.{◌<◌, ◌^◌, length, IfErr, IfOk};
 ghost use Rattle.dict_rows.specs.Rows.{AreRows};
 ghost use Rattle.net_model.specs.Rows.{AreWide};
 ghost use Rattle.diagnose.specs.Lines.{TellsLogFault};
@@ -105,6 +105,7 @@ pub fn read_vector_list<S: Shelf>(
     name: &str,
 ) -> Result<Vectors, RunFault>
     ensures wide { IfOk result (AreWide circuit.now.sources) }
+    ensures few { IfOk result (λ vectors. length vectors < 2 ^ 32) }
     ensures ok { IfOk result (λ vectors. WasAccepted name.now file.Log (IsListFor circuit.now) vectors (S.state shelf.old) (S.state shelf.new)) }
     ensures err { IfErr result (λ why. IsOver name.now file.Log (IsRefusedVectors circuit.now) why (S.state shelf.old) (S.state shelf.new)) }
 {

@@ -3,6 +3,7 @@ pub mod Examples
 pub mod ExamplesC17
 pub mod ScoreLemmas
 pub mod ClassLemmas
+pub mod ClassedLemmas
 pub mod CoverLemmas
 pub mod SuspectLemmas
 pub mod OwnLines

@@ -1,27 +1,24 @@
--- Numbers of one class have one score, and hit plus missed is the same for all numbers.
+-- Numbers that answer alike have one score, and hit plus missed is the same for all numbers.
 use Rattle.std.proofs.Common.{◌≡◌, ◌∙◌, ℕ, ◌+◌, ◌<◌, ◌≤◌, Bool, true, false, cond, not, List, [], ◌∷◌, length, refl, sym, ap, ap₂, subst, arith, inl, inr}
 use Rattle.std.specs.Prelude.{sum_by, count_by, zip, ◌&&◌, ◌==◌, All, slice_index_or}
 use Rattle.std.specs.Bool.{beq}
 use Rattle.std.proofs.lemmas.Bool.{cases_lt, eqb-true}
-use Rattle.std.proofs.lemmas.List.{get_or_past, get_or-map, length-map, length-replicate}
+use Rattle.std.proofs.lemmas.List.{get_or_past, get_or-map, length-map}
 use Rattle.std.proofs.lemmas.List.Sums.{sum_by-cons}
 use Rattle.std.proofs.lemmas.List.Elements.{All-head, All-tail}
 use Rattle.net_model.specs.ClassTable.{ClassTable, class_table, class_at, representative}
 use Rattle.net_model.specs.Circuit.{Circuit}
-use Rattle.net_model.specs.FaultList.{fault_count}
 use Rattle.net_model.specs.PatternRows.{IsTableOf}
 use Rattle.net_model.proofs.OneAnswer.{one_rows}
 use Rattle.net_model.proofs.Listed.{some_number}
-use Rattle.class_refine.proofs.Names.{numbers_after}
 use Rattle.class_refine.proofs.Pieces.{representative_lowest}
 use Rattle.dict_rows.specs.AnswerTable.{Answers, answer_to}
-use Rattle.table_dicts.proofs.ClassLemmas.{together_where_alike}
 use Rattle.table_dicts.proofs.FailLemmas.{is_table}
 use Rattle.ranked_diag.specs.declared.partial.Seen.{Seen}
 use Rattle.ranked_diag.specs.Seen.{differs, differing_bits}
 use Rattle.ranked_diag.specs.PartialLog.{Line, patterns_of}
 use Rattle.suspect_scores.specs.Scores.{SeenBits, is_hit, is_missed, is_false, told_of, wrong_bits, failing, explained_count, bits_where, hit_bits, missed_bits, false_bits}
-use Rattle.suspect_scores.specs.Laws.{IsClassed, CircuitsAreClassed, ScoreAlike, MembersScoreAlike, HitAndMissedAddUp}
+use Rattle.suspect_scores.specs.Laws.{CircuitsAreClassed, HaveOneAnswer, AreAlikeIn, ScoreAlike, AlikeScoreAlike, HitAndMissedAddUp}
 
 pub circuits_are_classed : CircuitsAreClassed
 circuits_are_classed c patterns t table circuit of are = record {
@@ -32,33 +29,28 @@ circuits_are_classed c patterns t table circuit of are = record {
 
 -- ---- classes
 
-pub table_numbers : (c : Circuit) (patterns : List (List Bool)) (t : ClassTable) → IsTableOf c patterns t → length t.class_of ≡ fault_count c
-table_numbers c patterns t of = ap (λ (u : ClassTable). length u.class_of) of.table ∙ (numbers_after of.rows _ ∙ length-replicate (fault_count c) 0)
+-- numbers that answer alike do so past the last pattern too
+pub alike_past : (table : Answers) (m n : ℕ) → HaveOneAnswer table m n → (pattern : ℕ) → answer_to table pattern m ≡ answer_to table pattern n
+alike_past table m n same pattern = elim (cases_lt pattern (length table.rows)) [
+  | inl low ↦ same pattern low
+  | inr past ↦
+      let none = get_or_past table.rows pattern [] past in
+      let nothing : (k : ℕ) → answer_to table pattern k ≡ [] = λ k. ap (λ (row : List (List Bool)). slice_index_or row k []) none ∙ get_or_past [] k [] (omega arith) in
+      nothing m ∙ sym (nothing n)
+]
 
-module _ (t : ClassTable) (table : Answers) (classed : IsClassed t table) where
-  pub numbers_are : length t.class_of ≡ table.numbers
-  numbers_are = ap (λ (u : ClassTable). length u.class_of) classed.classes_are ∙ (numbers_after table.rows _ ∙ length-replicate table.numbers 0)
-
-  -- numbers of one class answer alike
-  pub answer_alike : (m n : ℕ) → m < table.numbers → n < table.numbers → class_at t m ≡ class_at t n → (pattern : ℕ) → answer_to table pattern m ≡ answer_to table pattern n
-  answer_alike m n hm hn same pattern =
-      let within = (together_where_alike table.numbers m n table.rows hm hn).0 (subst (λ (u : ClassTable). class_at u m ≡ class_at u n) classed.classes_are same) in
-      elim (cases_lt pattern (length table.rows)) [
-        | inl low ↦ within pattern low
-        | inr past ↦
-            let none = get_or_past table.rows pattern [] past in
-            let nothing : (k : ℕ) → answer_to table pattern k ≡ [] = λ k. ap (λ (row : List (List Bool)). slice_index_or row k []) none ∙ get_or_past [] k [] (omega arith) in
-            nothing m ∙ sym (nothing n)
-      ]
-
-  -- and numbers that answer alike are of one class
-  pub class_alike : (m n : ℕ) → m < table.numbers → n < table.numbers → ((pattern : ℕ) → pattern < length table.rows → answer_to table pattern m ≡ answer_to table pattern n) → class_at t m ≡ class_at t n
-  class_alike m n hm hn same = subst (λ (u : ClassTable). class_at u m ≡ class_at u n) (sym classed.classes_are) ((together_where_alike table.numbers m n table.rows hm hn).1 same)
-
+module _ (t : ClassTable) (table : Answers) (alike : AreAlikeIn t table) where
+  -- the representative of a number's class is of that class, and no higher
   pub lowest_is : (number : ℕ) → number < table.numbers → (representative t (class_at t number) ≤ number) × (class_at t (representative t (class_at t number)) ≡ class_at t number)
   lowest_is number h =
-      let is = representative_lowest t number (omega (arith, h, numbers_are)) in
+      let is = representative_lowest t number (omega (arith, h, alike.numbers)) in
       (is.within, eqb-true (class_at t (representative t (class_at t number))) (class_at t number) is.passes)
+
+  -- so it answers as the number
+  pub lowest_alike : (number : ℕ) → number < table.numbers → (pattern : ℕ) → answer_to table pattern (representative t (class_at t number)) ≡ answer_to table pattern number
+  lowest_alike number h =
+      let lowest = lowest_is number h in
+      alike_past table (representative t (class_at t number)) number (alike.alike (representative t (class_at t number)) number (omega (arith, h, lowest.0)) h lowest.1)
 
 -- ---- scores of numbers that answer alike
 
@@ -68,10 +60,8 @@ score_alike table lines m n same =
     let counted : (test : SeenBits → Bool) → bits_where table test lines m ≡ bits_where table test lines n = λ test i. sum_by (λ line. count_by test (zip line.1 (zip (answer_to table line.0 0) (same line.0 i)))) lines in
     record { explained = λ i. count_by (λ line. differing_bits line.1 (same line.0 i) == 0) (failing table lines); hit = counted is_hit; missed = counted is_missed; wrong = counted is_false }
 
-pub members_score_alike : MembersScoreAlike
-members_score_alike t table lines number classed h =
-    let lowest = lowest_is t table classed number h in
-    score_alike table lines number (representative t (class_at t number)) (answer_alike t table classed number (representative t (class_at t number)) h (omega (arith, h, lowest.0)) (sym lowest.1))
+pub alike_score_alike : AlikeScoreAlike
+alike_score_alike t table lines number alike h = score_alike table lines number (representative t (class_at t number)) (λ pattern. sym (lowest_alike t table alike number h pattern))
 
 -- ---- hit and missed
 

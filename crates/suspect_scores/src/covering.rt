@@ -2,7 +2,7 @@
 
 ghost use Rattle.std.specs.Prelude.{◌≡◌, length, IfOk};
 ghost use Rattle.dict_rows.specs.AnswerTable.{Answers};
-ghost use Rattle.table_dicts.specs.Setting.{IsSetting, AreAnswersAt};
+ghost use Rattle.table_dicts.specs.Setting.{IsScored, AreAnswersAt};
 ghost use Rattle.ranked_diag.specs.PartialLog.{ArePartial};
 ghost use Rattle.suspect_scores.specs.Covering.{IsCover};
 
@@ -16,7 +16,7 @@ use table_dicts::{Setting, representatives};
 
 /// Classes that together explain the failing patterns of a partial log, one after another.
 pub fn cover(alloc: Global, setting: &Setting, partial: &Partial) -> Result<Cover, AllocError>
-    requires setting { IsSetting setting.now }
+    requires setting { IsScored setting.now }
     requires partial { ArePartial (length setting.now.patterns.now) (length setting.now.subject.now.positions) partial.now }
     ensures { IfOk result (λ choices. (table : Answers) → AreAnswersAt setting.now table → IsCover setting.now.classes.now table partial.now choices) }
 {

@@ -4,7 +4,7 @@ ghost use Rattle.std.specs.Prelude.{◌≡◌, ◌<◌, ◌++◌, ◌∷◌, [],
 ghost use Rattle.std.specs.String.{string_bytes};
 ghost use Rattle.dict_rows.specs.AnswerTable.{Answers, answer_to};
 ghost use Rattle.dict_rows.specs.Entries.{answers_of};
-ghost use Rattle.table_dicts.specs.Setting.{IsSetting, AreAnswersAt};
+ghost use Rattle.table_dicts.specs.Setting.{IsScored, AreAnswersAt};
 ghost use Rattle.diagnose.specs.Lines.{lines_from};
 ghost use Rattle.diagnose.specs.LogText.{log_line};
 ghost use Rattle.suspect_scores.specs.Expected.{expected_text};
@@ -15,7 +15,7 @@ use text_fields::push_bits;
 
 /// The log that a chip without a fault gives to the patterns.
 pub fn expected_log(alloc: Global, setting: &Setting) -> Result<Vec<u8>, AllocError>
-    requires { IsSetting setting.now }
+    requires { IsScored setting.now }
     ensures { IfOk result (λ text. (table : Answers) → AreAnswersAt setting.now table → text.items ≡ expected_text table) }
 {
     let patterns = setting.patterns.as_slice();

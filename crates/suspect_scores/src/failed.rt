@@ -4,7 +4,7 @@ ghost use Rattle.std.specs.Prelude.{◌≡◌, ◌<◌, length, nat_lt, IfOk, if
 ghost use Rattle.net_model.specs.Answer.{bit_at};
 ghost use Rattle.net_model.specs.Rows.{row_at};
 ghost use Rattle.dict_rows.specs.AnswerTable.{Answers};
-ghost use Rattle.table_dicts.specs.Setting.{IsSetting, AreAnswersAt};
+ghost use Rattle.table_dicts.specs.Setting.{IsScored, AreAnswersAt};
 ghost use Rattle.ranked_diag.specs.PartialLog.{ArePartial};
 ghost use Rattle.suspect_scores.specs.Scores.{failing};
 ghost use Rattle.suspect_scores.specs.Scored.{count_to, row_bits};
@@ -21,7 +21,7 @@ pub fn count_failing(
     setting: &Setting,
     partial: &Partial,
 ) -> Result<usize, AllocError>
-    requires setting { IsSetting setting.now }
+    requires setting { IsScored setting.now }
     requires partial { ArePartial (length setting.now.patterns.now) (length setting.now.subject.now.positions) partial.now }
     ensures { IfOk result (λ count. (table : Answers) → AreAnswersAt setting.now table → count ≡ length (failing table partial.now)) }
 {

@@ -24,8 +24,8 @@ pub use covering::cover;
 pub use expecting::expected_log;
 pub use failed::{count_failing, is_failing};
 pub use laws::{
-    circuits_are_classed, expected_log_lists_nothing, members_score_alike, one_cover_explains,
-    one_list_of_suspects,
+    circuits_are_classed, classed_are_alike, expected_log_lists_nothing, members_score_alike,
+    one_cover_explains, one_list_of_suspects,
 };
 pub use logged::Logged;
 pub use marks::LogMarks;

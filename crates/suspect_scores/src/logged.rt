@@ -1,7 +1,7 @@
 //! The patterns of a log, and what it tells of them.
 
 ghost use Rattle.std.specs.Prelude.{◌≡◌, ◌<◌, length, All, IfOk};
-ghost use Rattle.table_dicts.specs.Setting.{IsSetting};
+ghost use Rattle.table_dicts.specs.Setting.{IsScored};
 ghost use Rattle.ranked_diag.specs.PartialLog.{ArePartial};
 ghost use Rattle.suspect_scores.specs.Marks.{IsLogged, logged_vectors};
 
@@ -23,7 +23,7 @@ pub struct Logged {
 impl Logged {
     /// What a partial log tells of its patterns.
     pub fn new(alloc: Global, setting: &Setting, partial: &Partial) -> Result<Logged, AllocError>
-        requires setting { IsSetting setting.now }
+        requires setting { IsScored setting.now }
         requires partial { ArePartial (length setting.now.patterns.now) (length setting.now.subject.now.positions) partial.now }
         ensures { IfOk result (IsLogged setting.now partial.now) }
     {

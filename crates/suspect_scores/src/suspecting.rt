@@ -3,7 +3,7 @@
 ghost use Rattle.std.specs.Prelude.{◌≡◌, ◌<◌, List, length, map, filter, IsPermutation, IsSorted, All, IfOk};
 ghost use Rattle.net_model.specs.FaultList.{fault_count};
 ghost use Rattle.dict_rows.specs.AnswerTable.{Answers};
-ghost use Rattle.table_dicts.specs.Setting.{IsSetting, AreAnswersAt};
+ghost use Rattle.table_dicts.specs.Setting.{IsScored, AreAnswersAt};
 ghost use Rattle.ranked_diag.specs.PartialLog.{Line, ArePartial};
 ghost use Rattle.suspect_scores.specs.Listed.{AreSuspects, suspect_of, suspect_cmp, unlike_bits};
 ghost use Rattle.suspect_scores.specs.Marks.{IsLogged, IsMarked};
@@ -28,7 +28,7 @@ pub fn suspects(
     partial: &Partial,
     most: u32,
 ) -> Result<Suspects, AllocError>
-    requires setting { IsSetting setting.now }
+    requires setting { IsScored setting.now }
     requires partial { ArePartial (length setting.now.patterns.now) (length setting.now.subject.now.positions) partial.now }
     ensures { IfOk result (λ listed. (table : Answers) → AreAnswersAt setting.now table → AreSuspects setting.now.classes.now table partial.now most listed) }
 {

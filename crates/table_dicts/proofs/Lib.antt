@@ -8,3 +8,4 @@ pub mod OneTable
 pub mod ClassFailLemmas
 pub mod ClassEntryLemmas
 pub mod ColumnLemmas
+pub mod SettingLemmas

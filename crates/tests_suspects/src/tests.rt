@@ -1,5 +1,6 @@
 //! A module tests the runs of a command.
 
+mod applied;
 mod bridging;
 mod covers;
 mod expecting;

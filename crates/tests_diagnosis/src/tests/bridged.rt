@@ -1,6 +1,6 @@
 //! Which bridges a log leaves, best first.
 
-ghost use Rattle.table_dicts.specs.Setting.{IsSetting};
+ghost use Rattle.table_dicts.specs.Setting.{IsScored};
 
 use crate::tests::kept::kept_of;
 use bridging_faults::{Bridge, BridgeKind, Bridges, ScoredBridge, bridges};
@@ -256,7 +256,7 @@ fn are_bridges(list: &Bridges, logged: &BridgedLog) -> bool {
 
 // Whether the log leaves these bridges.
 fn is_left(alloc: Global, setting: &Setting, logged: &BridgedLog) -> Result<bool, Fail>
-    requires { IsSetting setting.now }
+    requires { IsScored setting.now }
 {
     let patterns = setting.patterns.as_slice().len() as u32;
     let positions = setting.subject.circuit().positions().len() as u32;
@@ -267,7 +267,7 @@ fn is_left(alloc: Global, setting: &Setting, logged: &BridgedLog) -> Result<bool
 
 // Whether all logs do.
 fn are_left(alloc: Global, setting: &Setting, all: &[BridgedLog]) -> Result<bool, Fail>
-    requires { IsSetting setting.now }
+    requires { IsScored setting.now }
 {
     for logged in all {
         if !is_left(alloc, setting, logged)? {
@@ -286,6 +286,7 @@ fn holds(alloc: Global, case: &Case) -> Result<bool, Fail> {
         patterns: &kept.patterns,
         classes: &kept.classes,
     };
+    setting.stands();
     are_left(alloc, &setting, case.2)
 }
 

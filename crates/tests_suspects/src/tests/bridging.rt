@@ -10,10 +10,10 @@ const BRIDGES: &[&str] = &["bridges", "n", "r", "l"];
 
 const NO_FAILING: &[u8] = b"listed 0 of 0 exact 0 failing 0 logged 11\n";
 
-const OF_STUCK: &[u8] =
+pub(crate) const OF_STUCK: &[u8] =
     b"and 7 11 3 0\nand 1 2 3 1\nand 1 11 3 1\nand 2 7 3 1\nor 10 16 3 1\nor 16 19 3 1\ndominant 1 11 3 1\ndominant 7 2 3 1\ndominant 7 11 3 1\ndominant 10 16 3 1\ndominant 19 16 3 1\ndominant 1 2 3 2\ndominant 11 16 3 3\ndominant 2 16 3 7\nlisted 14 of 14 exact 1 failing 3 logged 11\n";
 
-const OF_BRIDGED: &[u8] =
+pub(crate) const OF_BRIDGED: &[u8] =
     b"and 10 19 2 0\nor 22 23 2 0\nor 7 22 2 1\ndominant 11 2 2 3\nor 2 11 2 4\ndominant 6 16 2 4\ndominant 2 16 2 8\nlisted 7 of 7 exact 2 failing 2 logged 11\n";
 
 const WITHIN_ONE: &[u8] =

@@ -9,10 +9,10 @@ use std::test::Fail;
 
 const SUSPECTS: &[&str] = &["suspects", "n", "r", "l"];
 
-const STUCK: &[u8] =
+pub(crate) const STUCK: &[u8] =
     b"3 3 6 0 0\n17 3 6 0 1\n10 1 2 4 0\n12 1 2 4 0\n6 1 2 4 1\n26 0 3 3 0\n28 0 3 3 0\n31 0 3 3 1\n33 0 3 3 1\nlisted 9 failing 3 logged 11\n";
 
-const BRIDGED: &[u8] =
+pub(crate) const BRIDGED: &[u8] =
     b"4 2 2 0 6\n23 2 2 0 12\n14 1 1 1 3\n15 1 1 1 6\n27 1 1 1 6\nlisted 5 failing 2 logged 11\n";
 
 const OF_TWO: &[u8] = b"1 1 1 1 0\n6 1 1 1 0\nlisted 2 failing 2 logged 2\n";

@@ -5,7 +5,7 @@ use crate::tests::texts::{AND, AND_RESULT};
 use std::alloc::{AllocError, Global};
 use std::test::Fail;
 
-static WRONG: [&[&str]; 21] = [
+static WRONG: [&[&str]; 29] = [
     &["expect", "n", "r"],
     &["expect", "n", "r", "l", "s"],
     &["expect", "n", "r", "l", "--most", "1"],
@@ -27,6 +27,14 @@ static WRONG: [&[&str]; 21] = [
     &["bridges", "n", "r", "l", "--most", "1", "--most", "1"],
     &["bridges", "n", "r", "l", "--within", "1", "--within", "1"],
     &["bridges", "n", "r", "l", "--cubes", "1"],
+    &["expect", "n", "r", "l", "--applied"],
+    &["expect", "n", "r", "l", "--applied", "v", "--applied", "v"],
+    &["suspects", "n", "r", "l", "--applied", "-v"],
+    &["suspects", "n", "r", "l", "--applied=v", "--applied=w"],
+    &["cover", "n", "r", "--applied", "l"],
+    &["bridges", "n", "r", "l", "v", "--applied"],
+    &["check", "n", "r", "--applied", "v"],
+    &["adapt", "n", "r", "p", "--applied", "v"],
 ];
 
 // Whether a run says so, and makes no file.

@@ -1,4 +1,5 @@
 use Rattle.std.proofs.Common.{refl, inl, inr}
+use Rattle.table_dicts.proofs.SettingLemmas.{scored}
 use Rattle.result_records.specs.Spelling.{text_of}
 use Rattle.listing_commands.specs.Bridges.{IsBridgesText}
 use Rattle.run_steps.proofs.SuspectLemmas.{valid_bytes}
@@ -8,6 +9,9 @@ use Rattle.listing_commands.proofs.bridged.bridges_at.Goals as goal
 
 pub text_at-requires-clause-named : goal.text_at-requires-clause-named
 text_at-requires-clause-named g c = rw c.setting_of-setting.ensures.circuit c.requires.named
+
+pub text_at-requires-clause-scored : goal.text_at-requires-clause-scored
+text_at-requires-clause-scored g c = scored c.setting_of-setting.ensures.setting
 
 pub text_at-requires-clause-partial : goal.text_at-requires-clause-partial
 text_at-requires-clause-partial g c = rw (c.setting_of-setting.ensures.circuit, c.setting_of-setting.ensures.patterns) c.in_ok-partial.ensures.lines

@@ -1,10 +1,21 @@
-use Rattle.std.proofs.Common.{refl, inl, inr}
+use Rattle.std.proofs.Common.{refl, sym, subst, inl, inr}
+use Rattle.net_model.specs.Circuit.{IsCircuit}
+use Rattle.table_dicts.proofs.SettingLemmas.{scored}
 use Rattle.result_records.specs.Spelling.{text_of}
 use Rattle.listing_commands.specs.Suspects.{IsCoverText}
 use Rattle.run_steps.proofs.SuspectLemmas.{valid_bytes}
 use Rattle.run_steps.proofs.Followed.{ends_at_file, goes_on, no_memory_after}
 use Rattle.run_steps.proofs.PlanEnds.{three_read, says_follows}
+use Rattle.listing_commands.proofs.AlikeLemmas.{own_alike}
 use Rattle.listing_commands.proofs.covered.cover_at.Goals as goal
+
+pub text_at-requires-clause-scored : goal.text_at-requires-clause-scored
+text_at-requires-clause-scored g c = scored c.setting_of-setting.ensures.setting
+
+pub text_at-requires-clause-alike : goal.text_at-requires-clause-alike
+text_at-requires-clause-alike g c =
+    let is : IsCircuit c.args.subject.now = subst IsCircuit c.circuit.ensures.value c.stands.ensures in
+    own_alike (subst IsCircuit (sym c.setting_of-setting.ensures.circuit) is) c.setting_of-setting.ensures.setting.classes
 
 pub text_at-requires-clause-partial : goal.text_at-requires-clause-partial
 text_at-requires-clause-partial g c = rw (c.setting_of-setting.ensures.circuit, c.setting_of-setting.ensures.patterns) c.in_ok-partial.ensures.lines

@@ -8,14 +8,13 @@ use Rattle.suspect_scores.specs.declared.choices.Choice.{Choice}
 use Rattle.suspect_scores.specs.Listed.{representatives}
 use Rattle.suspect_scores.specs.Covering.{IsCover}
 use Rattle.suspect_scores.specs.Chosen.{explained_by, AreAllLeft, AreChosenFrom}
-use Rattle.suspect_scores.proofs.ScoreLemmas.{table_numbers}
 use Rattle.suspect_scores.proofs.ChosenLemmas.{chosen_cover}
 use Rattle.suspect_scores.proofs.covering.cover.Goals as goal
 
 pub explained_rows-requires-clause-numbers : goal.explained_rows-requires-clause-numbers
 explained_rows-requires-clause-numbers c =
     subst (λ (xs : List ℕ). All (λ number. number < fault_count c.args.setting.now.subject.now) xs) (sym c.as_slice-numbers.ensures.value)
-    (subst (λ n. All (λ number. number < n) c.in_ok-lowest.lowest.items) (table_numbers c.args.setting.now.subject.now c.args.setting.now.patterns.now c.args.setting.now.classes.now c.requires.setting.classes) c.in_ok-lowest.ensures.within)
+    (subst (λ n. All (λ number. number < n) c.in_ok-lowest.lowest.items) c.requires.setting.numbers c.in_ok-lowest.ensures.within)
 
 pub returns : goal.returns
 unfolding representatives

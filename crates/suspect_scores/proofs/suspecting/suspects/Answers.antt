@@ -4,7 +4,6 @@ use Rattle.net_model.specs.FaultList.{fault_count}
 use Rattle.suspect_scores.specs.declared.suspect.Suspect.{Suspect}
 use Rattle.suspect_scores.specs.Listed.{representatives, hitting, suspect_of}
 use Rattle.suspect_scores.specs.Scored.{has_hit}
-use Rattle.suspect_scores.proofs.ScoreLemmas.{table_numbers}
 use Rattle.suspect_scores.proofs.suspecting.suspects.Goals as goal
 
 pub scores-requires-clause-answered : goal.scores-requires-clause-answered
@@ -13,7 +12,7 @@ scores-requires-clause-answered c = c.in_ok-logged.ensures.answered
 pub scores-requires-clause-numbers : goal.scores-requires-clause-numbers
 scores-requires-clause-numbers c =
     subst (λ (xs : List ℕ). All (λ number. number < fault_count c.args.setting.now.subject.now) xs) (sym c.as_slice.ensures.value)
-    (subst (λ n. All (λ number. number < n) c.in_ok-lowest.lowest.items) (table_numbers c.args.setting.now.subject.now c.args.setting.now.patterns.now c.args.setting.now.classes.now c.requires.setting.classes) c.in_ok-lowest.ensures.within)
+    (subst (λ n. All (λ number. number < n) c.in_ok-lowest.lowest.items) c.requires.setting.numbers c.in_ok-lowest.ensures.within)
 
 pub returns : goal.returns
 unfolding hitting representatives
