@@ -86,13 +86,18 @@ class Netlist:
         return found
 
 
-def read(name):
-    """The netlist of a file. A ValueError says that it is none."""
+def netlist_of(text, name):
+    """The netlist of a file's text. A ValueError says that it is none."""
     try:
-        with open(name, encoding="latin-1") as file:
-            return Netlist(file.read())
+        return Netlist(text)
     except (IndexError, ValueError):
         raise ValueError(f"{name} is no netlist: ./diatest faults {name} says where") from None
+
+
+def read(name):
+    """The netlist of a file. A ValueError says that it is none."""
+    with open(name, encoding="latin-1") as file:
+        return netlist_of(file.read(), name)
 
 
 def gate_value(word, pins, full):

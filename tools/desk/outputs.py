@@ -209,3 +209,20 @@ class Outputs:
         """Takes away what was written beside the names."""
         for it in self.all:
             it.drop()
+
+
+def put(name, text):
+    """Writes a text beside a name, and renames it when it is whole; what isn't a plain file is written straight through."""
+    output = Output(name)
+    try:
+        with open(output.written, "w", encoding="utf-8", errors="backslashreplace", newline="") as file:
+            file.write(text)
+        if output.beside:
+            output.replace()
+    except OSError as error:
+        output.drop()
+        error.filename = error.filename or name
+        raise
+    except BaseException:
+        output.drop()
+        raise

@@ -321,13 +321,18 @@ def chapters(case, doubt, picture):
 
 def page(case, doubt, name, picture, made):
     """The whole page, in its order."""
-    style, script = (open(f"{HERE}/report.{it}", encoding="utf-8").read() for it in ("css", "js"))
     log, circuit = (os.path.basename(case.files[it]) for it in ("log", "netlist"))
     title = escape(f"{log}: diagnosis of a chip of {os.path.splitext(circuit)[0]}")
-    body = [f"<h1>{title}</h1>", verdict(case, words.verdict(case, doubt))]
+    body = [verdict(case, words.verdict(case, doubt))]
     body += chapters(case, doubt, picture) if case.failing else []
-    body += [about(case, made), again(case, name)]
+    return document(title, [*body, about(case, made), again(case, name)], "report.css")
+
+
+def document(title, body, *styles):
+    """A page with this title and these parts, all of them HTML, and with these files of styles."""
+    style = "".join(open(f"{HERE}/{it}", encoding="utf-8").read() for it in styles)
+    script = open(f"{HERE}/report.js", encoding="utf-8").read()
     top = '<!doctype html>\n<html lang="en">\n<head>\n<meta charset="utf-8">\n<meta name="viewport" content="width=device-width">\n'
     top += f"<title>{title}</title>\n"
     top += f"<style>\n{style}</style>\n</head>\n<body>\n"
-    return top + "\n\n".join(body) + f"\n<script>\n{script}</script>\n</body>\n</html>\n"
+    return top + "\n\n".join([f"<h1>{title}</h1>", *body]) + f"\n<script>\n{script}</script>\n</body>\n</html>\n"

@@ -31,7 +31,7 @@ class Run:
     def __init__(self, runs, words):
         self.runs = runs
         self.out, self.error = (tempfile.TemporaryFile(dir=runs.folder) for _ in range(2))
-        self.child = subprocess.Popen([f"{TOP}/diatest", *words], stdout=self.out, stderr=self.error, env=runs.environment)
+        self.child = subprocess.Popen([runs.command, *words], stdout=self.out, stderr=self.error, env=runs.environment)
 
     def succeeds(self) -> bool:
         """Waits for the end, and says whether the status is 0."""
@@ -57,6 +57,8 @@ class Run:
 
 class Runs:
     """The commands of a report, in a folder for what they leave. Those that still run at the end of its `with` are stopped."""
+
+    command = f"{TOP}/diatest"
 
     def __init__(self, folder: str):
         self.folder, self.started = folder, []

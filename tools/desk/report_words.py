@@ -15,12 +15,17 @@ UNFITTING = (
 NEITHER = "No single stuck-at fault and no bridge fits"
 FAILING_ONLY = "The log has no passing pattern, so no fault can be ruled out because it would fail more patterns."
 
+# The kinds of chips. By stuck-at faults alone a chip is of one of the first five.
+SINGLE, NOW_AND_THEN, SEVERAL, PARTLY, UNEXPLAINED = "single", "now and then", "several", "partly", "unexplained"
+BRIDGE, PASSES, EMPTY, SCAN_CHAIN, WRONG_LOG = "bridge", "passes", "empty", "scan chain", "wrong log"
+
 
 class Verdict(NamedTuple):
-    """What a log comes to: a heading, and sentences that say more."""
+    """What a log comes to: a heading, sentences that say more, and the kind of the chip."""
 
     heading: str
     more: list
+    kind: str
 
     def line(self):
         """The whole on one line."""
@@ -46,22 +51,29 @@ def capital(text):
 def verdict(case, doubt):
     """What the log comes to; a scan chain that looks broken comes first."""
     said, broken = of_log(case, doubt), dead(case)
-    return Verdict(heading(broken), [f"{said.heading}.", *said.more]) if broken else said
+    return Verdict(heading(broken), [f"{said.heading}.", *said.more], SCAN_CHAIN) if broken else said
 
 
 def of_log(case, doubt):
     """What the log comes to if the scan chain is right."""
     if not any(case.seen):
-        return Verdict("The log has no observed bit, so it says nothing about the chip", [])
+        return Verdict("The log has no observed bit, so it says nothing about the chip", [], EMPTY)
     if not case.failing:
         return good(case)
     if doubt:
         return doubted(case, doubt)
     if not case.suspects:
-        return Verdict("No stuck-at fault predicts any of the failing bits", ["Check that the log is of this circuit and of these patterns."])
-    one = case.suspects[0].explained == case.failing_count
-    said = shorted(case) if case.bridged() else explained(case) if one else uneven(case)
+        return by_stuck_at(case)
+    said = shorted(case) if case.bridged() else by_stuck_at(case)
     return said._replace(more=said.more + [FAILING_ONLY]) if case.failing_only() and FAILING_ONLY not in said.more else said
+
+
+def by_stuck_at(case):
+    """What a log with failing patterns comes to by stuck-at faults alone."""
+    if not case.suspects:
+        check = ["Check that the log is of this circuit and of these patterns."]
+        return Verdict("No stuck-at fault predicts any of the failing bits", check, UNEXPLAINED)
+    return explained(case) if case.suspects[0].explained == case.failing_count else uneven(case)
 
 
 def good(case):
@@ -71,7 +83,7 @@ def good(case):
     lacks += [count(unseen, "bit of these", "bits of these")] if unseen else []
     more = [f"The log lacks {' and '.join(lacks)}, so a defect may show there."] if lacks else []
     passed = "the one pattern in the log passes" if case.logged_count == 1 else f"all {case.logged_count:,} patterns in the log pass"
-    return Verdict(f"No fault is suspect: {passed}", more)
+    return Verdict(f"No fault is suspect: {passed}", more, PASSES)
 
 
 def doubted(case, doubt):
@@ -85,7 +97,7 @@ def doubted(case, doubt):
         more.append(f"{doubt.still:,} of {count(doubt.cells, 'scan cell')} never change in the log: check the scan chain.")
     if not doubt.best and case.suspects:
         more.append(f"If the log is right, several defects act at once; the nearest is {in_short(case, case.suspects[0].number)}.")
-    return Verdict(LOOKS, more)
+    return Verdict(LOOKS, more, WRONG_LOG)
 
 
 def fitting(best):
@@ -101,7 +113,7 @@ def shorted(case):
     """Where a bridge predicts every observed bit, and no class does."""
     first = capital(bridges.sentence(case.exact[0]))
     more = ["It predicts every observed bit, and no single stuck-at fault does."] + bridges.alike(case)
-    return Verdict(first + (", or another bridge that answers alike" if case.exact_count > 1 else ""), more)
+    return Verdict(first + (", or another bridge that answers alike" if case.exact_count > 1 else ""), more, BRIDGE)
 
 
 def explained(case):
@@ -115,17 +127,17 @@ def explained(case):
     if perfect:
         more = ["It predicts every observed bit."] + unlogged(case, first.number)
         named = in_full(case, first.number)
-        return Verdict(f"A single stuck-at fault fits{',' if named.startswith('at gate ') else ':'} {named}", more)
+        return Verdict(f"A single stuck-at fault fits{',' if named.startswith('at gate ') else ':'} {named}", more, SINGLE)
     passed = ones_in(case.shows[first.number])
     more = [f"{capital(in_counts(case, first.number))} explains each of the {failing}, but would also fail {count(passed, 'pattern')} that passed."]
-    return Verdict(f"{NEITHER}: a defect that shows now and then", more + bridges.nearest(case, passed))
+    return Verdict(f"{NEITHER}: a defect that shows now and then", more + bridges.nearest(case, passed), NOW_AND_THEN)
 
 
 def several(case, perfect):
     """Where the log fits several classes."""
     first = in_short(case, perfect[0].number)
     many = f"{len(perfect)} classes" + (" or more" if len(perfect) == len(case.suspects) >= 20 else "")
-    return Verdict(f"{many} of stuck-at faults fit, and the log can't tell them apart", [f"The first is {first}."])
+    return Verdict(f"{many} of stuck-at faults fit, and the log can't tell them apart", [f"The first is {first}."], SINGLE)
 
 
 def failing_only(case, perfect):
@@ -135,7 +147,7 @@ def failing_only(case, perfect):
     others = f", and so {'does' if len(perfect) == 2 else 'do'} {count(len(perfect) - 1, 'other class', 'other classes')}" if len(perfect) > 1 else ""
     more = [f"{said}{others}.", FAILING_ONLY, *bridges.second_reading(case)]
     more.append("A defect that shows now and then fits, too: log the passing patterns as well.")
-    return Verdict(f"A stuck-at fault{', a bridge' if case.exact else ''} or a defect that shows now and then", more)
+    return Verdict(f"A stuck-at fault{', a bridge' if case.exact else ''} or a defect that shows now and then", more, SINGLE)
 
 
 def unlogged(case, number):
@@ -164,13 +176,13 @@ def uneven(case):
     if not case.cover:
         bits = f"{first.hit:,} of {count(case.wrong_bits, 'failing bit')}, and would fail {first.false:,} that passed"
         more = [f"The nearest is {in_short(case, first.number)}: it hits {bits}."]
-        return Verdict(f"No stuck-at fault explains any of the {failing} completely: several defects act at once", more)
+        return Verdict(f"No stuck-at fault explains any of the {failing} completely: several defects act at once", more, UNEXPLAINED)
     chosen, rest = nearest_cover(case), case.failing_count - case.covered
     if len(chosen) == 1:
         more = [f"{capital(in_short(case, chosen[0][0]))} explains {case.covered:,} of the {failing}; no fault explains the rest."]
-        return Verdict(f"{NEITHER}: several defects act at once", more)
+        return Verdict(f"{NEITHER}: several defects act at once", more, PARTLY)
     named = [f"{explained:,} by {in_short(case, it)}" for it, explained in chosen[:3]]
     named += [f"others by {count(len(chosen) - 3, 'more class', 'more classes')}"] if len(chosen) > 3 else []
     whole = f"{case.covered:,} of the {failing} are" if rest else "Both failing patterns are" if case.covered == 2 else f"All {failing} are"
     more = [f"{whole} explained together: {', '.join(named)}."]
-    return Verdict(f"{NEITHER}: several defects", more + bridges.nearest(case, case.logged_count))
+    return Verdict(f"{NEITHER}: several defects", more + bridges.nearest(case, case.logged_count), PARTLY if rest else SEVERAL)

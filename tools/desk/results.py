@@ -24,19 +24,26 @@ def lines(name):
 
 
 class Result:
-    """The patterns of a result, the class of each number, and the last evidence of each member."""
+    """How many sources a result has, its patterns, of each class but the first the class that it was a part of and the pattern that split it
+    off, the class and the mark of each number, and the last evidence of each member."""
 
     def __init__(self, name):
-        self.patterns, self.classes, self.evidence = [], {}, {}
+        self.patterns, self.births, self.classes, self.marks, self.evidence = [], {}, {}, {}, {}
         listed = lines(name)
-        fields = next(listed, [])
-        for fields in listed if fields[:1] == ["diatest"] else ():
-            if fields[0] == "pattern":
-                self.patterns.append("" if fields[1] == "-" else fields[1])
-            elif fields[0] == "same":
-                self.evidence[int(fields[1])] = fields[3]
-            elif fields[0] == "member":
-                self.classes[int(fields[1])] = int(fields[2])
+        try:
+            fields = next(listed, [])
+            self.sources = int(fields[2])
+            for fields in listed if fields[0] == "diatest" else ():
+                if fields[0] == "pattern":
+                    self.patterns.append("" if fields[1] == "-" else fields[1])
+                elif fields[0] == "same":
+                    self.evidence[int(fields[1])] = fields[3]
+                elif fields[0] == "class" and fields[2] != "-":
+                    self.births[int(fields[1])] = int(fields[2]), int(fields[3])
+                elif fields[0] == "member":
+                    self.classes[int(fields[1])], self.marks[int(fields[1])] = int(fields[2]), fields[3]
+        except (LookupError, ValueError):
+            fields = []
         if fields != ["end"]:
             raise ValueError(f"{name} is no complete result: ./diatest check says where")
 

@@ -140,8 +140,22 @@ COMMANDS = {
 
 HELPERS = {
     "report": Helper("NETLIST RESULT LOG [--applied VECTORS] [-o FILE.html]", "writes a page that says what a tester's log comes to"),
+    "volume": Helper(
+        "NETLIST RESULT LOG .. [--applied LIST] [-o FOLDER] [--jobs N] [--sshlogin HOSTS]",
+        "diagnoses the chips of a lot, each by its log, and writes one page on all of them, with tables",
+    ),
     "pins": Helper("NETLIST", "says which input, output or scan cell each bit of a pattern or a log is"),
     "where": Helper("NETLIST RESULT NUMBER ..", "says what is known of a fault: its place, its class, and where it shows"),
+    "faillog": Helper(
+        "NETLIST EXPECTED DATALOG [--map FILE] [--first N] [--last N] [--limit N | --pin-limit N]",
+        "prints the log that a tester's list of failing bits comes to",
+    ),
+    "coverage": Helper(
+        "NETLIST RESULT [--applied LIST] [--json | --faults | --curve] [--only FILE] [--svg FILE]",
+        "counts the faults that patterns detect, and the classes into which they distinguish them",
+    ),
+    "patterns": Helper("RESULT LIST [--both | --found]", "says which patterns of a result are which vectors of a list, and which were found"),
+    "constrain": Helper("NETLIST LIST PIN=0|1 .. [-o NAME]", "writes the netlist and the list with some inputs held at a value"),
     "chip": Helper("NETLIST RESULT DEFECT [LINE ..]", "prints the log of a chip with a defect, to try with"),
     "from-verilog": Helper("[--top MODULE] FILE.v ..", "prints the netlist of a Verilog design"),
 }
