@@ -13,7 +13,7 @@ from report_place import by_net, in_short
 from report_runs import Ended, Runs, read
 from report_words import SCAN_CHAIN, SINGLE, WRONG_LOG, by_stuck_at, nearest_cover, verdict
 from report_wrong_log import Doubt, doubt
-from results import Result
+from results import Result, vectors_of
 from volume_lot import FAILED, NO_ANSWER, REFUSED, UNREAD, Lot
 
 STATUSES = {6: REFUSED, 7: UNREAD}  # of a command; what ends otherwise has failed
@@ -41,8 +41,7 @@ class Test:
         """The patterns of a log: those of the result, or the vectors that were applied."""
         if self.lot.applied is None:
             return self.result.patterns
-        with open(self.lot.applied, encoding="latin-1") as file:
-            return ["" if it == "-\n" else it.rstrip("\n") for it in file]
+        return vectors_of(self.lot.applied)
 
     @functools.cached_property
     def free(self) -> Dict[str, int]:
@@ -66,7 +65,7 @@ class Listing:
 
 
 class LotRuns(Runs):
-    """The commands for a chip of a lot: of the program itself, by the vectors that were applied. The faults are listed once."""
+    """The commands for a chip of a lot: of the program itself. The faults are listed once."""
 
     def __init__(self, test: Test, folder: str):
         super().__init__(folder)
@@ -75,7 +74,7 @@ class LotRuns(Runs):
     def start(self, *words: str) -> Any:
         """Starts a command."""
         if words[0] != "faults":
-            return super().start(*words, *(self.test.lot.options() if words[2] == self.test.lot.result else []))
+            return super().start(*words)
         self.test.names = self.test.names or super().start(*words).lines()
         return Listing(self.test.names)
 
@@ -85,7 +84,7 @@ class LotCase(Case):
 
     def __init__(self, test: Test, log: str, runs: LotRuns):
         self.test = test
-        super().__init__(test.lot.netlist, test.lot.result, log, runs)
+        super().__init__(runs, test.lot.netlist, test.lot.result, log, test.lot.applied)
 
     def read_early(self) -> Result:
         """The netlist and the result."""
@@ -97,11 +96,6 @@ class LotCase(Case):
         self.patterns, self.free = self.test.patterns, self.test.free
         self.full = (1 << len(self.patterns)) - 1
         self.good = [self.free[it] for it in self.netlist.shown]
-
-    def keep_alike(self, number: int) -> None:
-        """Takes those members off a class that vectors which were applied tell from a number: open ones that no pattern of the result tells apart."""
-        if self.test.lot.applied is not None:
-            self.members[number] = [it for it in self.members[number] if it == number or self.answers(it) == self.answers(number)]
 
 
 def called(case: Case) -> List[List[int]]:
@@ -129,8 +123,6 @@ def weights(case: Case, groups: List[List[int]]) -> Dict[str, float]:
 def of_case(case: LotCase, why_doubted: Optional[Doubt]) -> Dict[str, Any]:
     """The answer of a chip whose log was accepted."""
     groups = called(case) if case.failing and not why_doubted else []
-    for number in [it for group in groups for it in group]:
-        case.keep_alike(number)
     said, by_faults = verdict(case, why_doubted), by_stuck_at(case).kind if groups else ""
     trusted = groups if said.kind not in (WRONG_LOG, SCAN_CHAIN) or by_faults == SINGLE else []
     bridges = case.bridged() if trusted else []
