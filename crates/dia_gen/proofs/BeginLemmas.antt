@@ -37,6 +37,7 @@ begun {s} {d} b kept =
       patterns = sym (append-nil d.keeper.kept.vectors);
       marks = rw b.marks (given_none (fault_count s.circuit) (sym (table_numbers keeper.table)));
       space = b.space;
+      looked = rw b.looked (λ v there. absurd (omega (arith, there.1)));
     }
 
 module _ {s : GenerationSetting} {d : Draft} (b : IsBegun s d) where

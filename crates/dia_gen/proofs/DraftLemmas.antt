@@ -39,6 +39,7 @@ drafted_on wait is = record {
   patterns = is.patterns;
   marks = is.marks;
   space = is.space;
+  looked = is.looked;
 }
 
 -- ---- one element more

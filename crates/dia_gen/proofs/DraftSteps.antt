@@ -1,6 +1,6 @@
 -- A draft with one line more, and a draft that is broken off.
 use Rattle.std.proofs.Common.{◌≡◌, ◌∙◌, ◌<◌, ◌-◌, length, length-append, get_or, ℕ, List, [], ◌∷◌, ◌++◌, Bool, Result, Ok, Err, sym, ap, subst, arith}
-use Rattle.std.specs.Prelude.{OnOk, IfErr, Option, Some, slice_set}
+use Rattle.std.specs.Prelude.{OnOk, IfErr, Option, Some, slice_set, Contains}
 use Rattle.std.proofs.lemmas.List.{append-nil, append_assoc}
 use Rattle.std.proofs.lemmas.List.Elements.{filter_map-append}
 use Rattle.std.proofs.Math.Seq.{get_or-append_seam}
@@ -21,7 +21,7 @@ use Rattle.result_records.specs.Spelling.{text_of}
 use Rattle.result_file.specs.Valid.{AreRightLines}
 use Rattle.result_records.proofs.RecordLists.{text-append}
 use Rattle.kept_vectors.specs.Kept.{Keeps}
-use Rattle.kept_vectors.specs.Keeper.{Keeper}
+use Rattle.kept_vectors.specs.Keeper.{Keeper, SeparatesMember}
 use Rattle.class_refine.proofs.PatternTables.{table_numbers}
 use Rattle.kept_vectors.proofs.KeepLemmas.{leads_rise}
 use Rattle.kept_vectors.proofs.Separating.{IsAdded, separating_added}
@@ -84,11 +84,20 @@ module _ {s : GenerationSetting} {d : Draft} {kept : List (List Bool)} {later : 
   abbrev lead : ℕ
   lead = representative d.keeper.kept.table (class_at d.keeper.kept.table member)
 
-  inside : member < fault_count s.circuit
+  pub inside : member < fault_count s.circuit
   inside = omega (arith, lowest.inside, table_numbers is.keeper.table)
 
   lead_below : lead < fault_count s.circuit
   lead_below = omega (arith, table_numbers is.keeper.table, lead_inside d.keeper.kept.table is.keeper.whole member lowest.inside)
+
+  pub inside_kept : member < fault_count d.keeper.circuit
+  inside_kept = subst (λ (c : Circuit). member < fault_count c) (sym is.circuit) inside
+
+  -- a vector of the block that is looked at is found within the budgets
+  pub looked_apart : (v : List Bool) → Contains d.keeper.looked v → SeparatesMember d.keeper.circuit d.keeper.kept.table member v → IsApartBy s.circuit (fault_numbered s.circuit lead) (fault_numbered s.circuit member) s.budgets v
+  looked_apart v there separates =
+      let now = subst (λ (c : Circuit). SeparatesMember c d.keeper.kept.table member v) is.circuit separates in
+      record { budget = is.looked v there; width = now.width; separates = now }
 
   -- a kept vector that separates the lowest open number from its representative
   module _ (v : List Bool) (apart : IsApartBy s.circuit (fault_numbered s.circuit lead) (fault_numbered s.circuit member) s.budgets v) (keeper : Keeper) (keeps : Keeps d.keeper.circuit (v ∷ []) d.keeper.kept keeper.kept) where
@@ -113,8 +122,8 @@ module _ {s : GenerationSetting} {d : Draft} {kept : List (List Bool)} {later : 
     pub marks_stay : DoMarksStay d.keeper.kept.table keeper.kept.table d.marks d.marks
     marks_stay = λ n below old some. mark_stays d.keeper.kept.table keeper.kept.table d.marks n (added.leads n below old) some
 
-    pattern_drafted : keeper.circuit ≡ d.keeper.circuit → IsDrafted s (record d { keeper = keeper }) kept (later ++ Pattern v ∷ [])
-    pattern_drafted circuit =
+    pattern_drafted : keeper.circuit ≡ d.keeper.circuit → keeper.looked ≡ d.keeper.looked → IsDrafted s (record d { keeper = keeper }) kept (later ++ Pattern v ∷ [])
+    pattern_drafted circuit looked =
         let t = d.keeper.kept.table in
         let evidence : evidence_in (later ++ Pattern v ∷ []) ≡ evidence_in later = filter_map-append evidence_of later (Pattern v ∷ []) ∙ append-nil (evidence_in later) in
         let patterns : patterns_in (later ++ Pattern v ∷ []) ≡ patterns_in later ++ v ∷ [] = filter_map-append pattern_of later (Pattern v ∷ []) in
@@ -127,13 +136,14 @@ module _ {s : GenerationSetting} {d : Draft} {kept : List (List Bool)} {later : 
           patterns = added.vectors ∙ ap (λ (vs : List (List Bool)). vs ++ v ∷ []) is.patterns ∙ append_assoc kept (patterns_in later) (v ∷ []) ∙ ap (λ (vs : List (List Bool)). kept ++ vs) (sym patterns);
           marks = rw evidence (given_risen (record { numbers = added.finer.numbers; rise = leads_rise added.keeper.whole added.finer }) is.marks);
           space = is.space;
+          looked = rw looked is.looked;
         }
 
     -- its line is made, or the draft is broken off
-    pub pattern_written : keeper.circuit ≡ d.keeper.circuit → {after : Text} {start mid now : State} → HasGathered (text_of (lines_with s.circuit s.budgets kept later)) [] d.gathered start mid → (vectors : List (List Bool)) → vectors ≡ keeper.kept.vectors
+    pub pattern_written : keeper.circuit ≡ d.keeper.circuit → keeper.looked ≡ d.keeper.looked → {after : Text} {start mid now : State} → HasGathered (text_of (lines_with s.circuit s.budgets kept later)) [] d.gathered start mid → (vectors : List (List Bool)) → vectors ≡ keeper.kept.vectors
         → (result : Result (Unit {0}) ShelfFault) → Gathers (text_of (Pattern (get_or vectors (length vectors - 1) []) ∷ [])) result d.gathered after mid now → OnOk result (IsDraft s (record d { keeper = keeper; gathered = after }) start now) × IfErr result (λ fault. BrokeOff s.circuit fault start now)
-    pattern_written circuit {after} written vectors vectors_are result wrote =
-        let drafted = pattern_drafted circuit in
+    pattern_written circuit looked {after} written vectors vectors_are result wrote =
+        let drafted = pattern_drafted circuit looked in
         let line = rw (last_added vectors vectors_are) at wrote in
         (line_drafted kept later (Pattern v) drafted written result line, line_stopped kept later (Pattern v) drafted written result line)
 
@@ -160,4 +170,5 @@ module _ {s : GenerationSetting} {d : Draft} {kept : List (List Bool)} {later : 
           patterns = is.patterns ∙ ap (λ (vs : List (List Bool)). kept ++ vs) (sym patterns);
           marks = rw (gives, evidence) (given_more number member proof is.marks lowest.inside lowest.unmarked lead_is);
           space = is.space;
+          looked = is.looked;
         }

@@ -1,4 +1,5 @@
 pub mod DraftLemmas
+pub mod AheadLemmas
 pub mod PairLemmas
 pub mod DraftResult
 pub mod Written
@@ -9,6 +10,7 @@ pub mod LogSpelling
 pub mod BeginLemmas
 mod KeptLemmas
 pub mod DraftSteps
+pub mod AheadSteps
 pub mod EndLemmas
 pub mod FallenLemmas
 pub mod CubeLemmas

@@ -1,5 +1,5 @@
 -- A result under way.
-use Rattle.std.specs.Prelude.{◌≡◌, ◌<◌, ◌^◌, ℕ, Bool, List, [], ◌++◌, take, None, Some, replicate, slice_get, All, IsTrue}
+use Rattle.std.specs.Prelude.{◌≡◌, ◌≢◌, ◌<◌, ◌^◌, ◌⊎◌, ℕ, Bool, List, [], ◌++◌, take, None, Some, replicate, slice_get, All, Contains, IsTrue}
 use Rattle.diag_shelf.specs.World.{State}
 use Rattle.net_model.specs.Circuit.{Circuit, IsCircuit}
 use Rattle.net_model.specs.FaultList.{fault_count}
@@ -31,7 +31,7 @@ pub record AreDraftLines (c : Circuit) (budgets : Budgets) (kept : List (List Bo
   pub no_choice : (at : ℕ) (v : List Bool) → budgets.cubes ≡ 0 → budgets.conflicts ≡ 0 → slice_get later at ≡ Some (Pattern v) → ⊥
 
 -- What the lines are made from: these vectors of the setting are kept, and then the patterns of the later lines. The marks are those of
--- their evidence, and the space is one for pairs of the circuit.
+-- their evidence, the space is one for pairs of the circuit, and a block is looked at only if there is a budget to find a pattern.
 pub record IsDrafted (s : GenerationSetting) (d : Draft) (kept : List (List Bool)) (later : List Record) : Type 0 where
   pub first : IsKeptOf s.circuit s.vectors kept
   pub lines : AreDraftLines s.circuit s.budgets kept later
@@ -40,7 +40,8 @@ pub record IsDrafted (s : GenerationSetting) (d : Draft) (kept : List (List Bool
   pub keeper : IsKeeper (keeper_with s.circuit d.keeper.kept)
   pub patterns : d.keeper.kept.vectors ≡ kept ++ patterns_in later
   pub marks : AreGiven d.keeper.kept.table (evidence_in later) d.marks
-  pub space : IsSpaceFor s.circuit d.space
+  pub space : IsSpaceFor s.circuit s.budgets d.space
+  pub looked : (v : List Bool) → Contains d.keeper.looked v → (s.budgets.cubes ≢ 0) ⊎ (s.budgets.conflicts ≢ 0)
 
 -- The first vectors are kept, no number is marked, and no line is made.
 pub record IsBegun (s : GenerationSetting) (d : Draft) : Type 0 where
@@ -50,7 +51,8 @@ pub record IsBegun (s : GenerationSetting) (d : Draft) : Type 0 where
   pub few : fault_count s.circuit < 2 ^ 27
   pub limits : AreWithinLimits s.budgets
   pub marks : d.marks ≡ replicate (fault_count s.circuit) None
-  pub space : IsSpaceFor s.circuit d.space
+  pub space : IsSpaceFor s.circuit s.budgets d.space
+  pub looked : d.keeper.looked ≡ []
   pub gathered : d.gathered ≡ []
 
 -- The lines so far are written, but for those that wait.

@@ -1,11 +1,11 @@
 -- What becomes of a number and its representative: a cube whose vectors separate them, or evidence.
-use Rattle.std.specs.Prelude.{◌≡◌, ◌⊎◌, ◌≢◌, ◌<◌, ℕ, Bool, true, Option, Some, None, IfSome, slice_index_or, List, [], ◌∷◌, length}
+use Rattle.std.specs.Prelude.{◌≡◌, ◌⊎◌, ◌≢◌, ◌<◌, ℕ, Bool, true, Option, Some, None, IfSome, slice_index_or, List, [], ◌∷◌, length, All}
 use Rattle.net_model.specs.declared.fault.Fault.{Fault}
 use Rattle.net_model.specs.Circuit.{Circuit}
 use Rattle.net_model.specs.Answer.{bit_at, Separates}
 use Rattle.net_model.specs.Scope.{is_relevant}
 use Rattle.net_model.specs.Collapse.{root}
-use Rattle.net_model.specs.FaultList.{fault_numbered}
+use Rattle.net_model.specs.FaultList.{fault_count, fault_numbered}
 use Rattle.pair_sets.specs.declared.tree.Token.{Token}
 use Rattle.pair_sets.specs.declared.tree.Token.TheVariants.{Rest}
 use Rattle.pair_sets.specs.Tree.{IsSpending}
@@ -20,16 +20,12 @@ use Rattle.result_records.specs.declared.record.Budgets.{Budgets}
 use Rattle.result_records.specs.declared.record.Proof.{Proof}
 use Rattle.result_records.specs.Spelling.{HasProofSpelling}
 use Rattle.result_file.specs.Lines.{HasRightRoots, IsRightProof}
+use Rattle.dia_gen.specs.declared.ahead.Ahead.{Ahead}
+use Rattle.dia_gen.specs.declared.ahead.Known.{Known}
 use Rattle.dia_gen.specs.declared.pair.PairSpace.{PairSpace}
 use Rattle.dia_gen.specs.declared.pair.Settled.{Settled}
 use Rattle.dia_gen.specs.declared.pair.Settled.TheVariants.{Apart, By}
 use Rattle.dia_gen.specs.Made.{HasNoSearch, HasNoRefutation}
-
--- The space is one for pairs of the circuit, and no clause is left in it.
-pub record IsSpaceFor (c : Circuit) (space : PairSpace) : Type 0 where
-  pub simulated : space.sim.circuit ≡ c
-  pub miters : IfSome space.miters (λ miters. miters ≡ c)
-  pub emptied : space.pool.clauses ≡ []
 
 -- The cube has the vector's bit at each source that is relevant for the two.
 abbrev pub HasRelevant : Circuit → Fault → Fault → List Bool → List (Option Bool) → Type 0
@@ -85,3 +81,29 @@ pub record IsProofFor (c : Circuit) (budgets : Budgets) (lead member : ℕ) (pro
 abbrev pub IsSettledFor : Circuit → Budgets → ℕ → ℕ → Settled → Type 0
 IsSettledFor c budgets lead member (Apart cube) = AreApartBy c (fault_numbered c lead) (fault_numbered c member) budgets cube.items
 IsSettledFor c budgets lead member (By proof) = IsProofFor c budgets lead member proof
+
+-- What is known of a number: what a search finds of it and the representative that it had then.
+pub record IsKnownOf (c : Circuit) (budgets : Budgets) (number : ℕ) (known : Known) : Type 0 where
+  pub found : IsSearchedFor c (fault_numbered c known.lead) (fault_numbered c number) budgets known.found
+
+-- There is room for each number, and what is known holds.
+pub record IsAheadFor (c : Circuit) (budgets : Budgets) (ahead : Ahead) : Type 0 where
+  pub room : length ahead.known.items ≡ fault_count c
+  pub lowest : length ahead.lowest.items ≡ fault_count c
+  pub known : (n : ℕ) → IfSome (slice_index_or ahead.known.items n None) (IsKnownOf c budgets n)
+
+-- The space is one for pairs of the circuit, no clause is left in it, and what it knows of pairs holds.
+pub record IsSpaceFor (c : Circuit) (budgets : Budgets) (space : PairSpace) : Type 0 where
+  pub simulated : space.sim.circuit ≡ c
+  pub miters : IfSome space.miters (λ miters. miters ≡ c)
+  pub emptied : space.pool.clauses ≡ []
+  pub ahead : IsAheadFor c budgets space.ahead
+
+-- There is a cube, and each has a place for each source.
+pub record AreCubesFor (c : Circuit) (cubes : List (List (Option Bool))) : Type 0 where
+  pub some : 0 < length cubes
+  pub widths : All (λ cube. length cube ≡ c.sources) cubes
+
+-- A vector of the first of the new cubes is one of the first of the old ones.
+abbrev pub IsNarrowed : List (List (Option Bool)) → List (List (Option Bool)) → Type 0
+IsNarrowed old new = (v : List Bool) → IsOfCube (slice_index_or new 0 []) v → IsOfCube (slice_index_or old 0 []) v

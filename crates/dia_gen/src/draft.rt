@@ -1,6 +1,8 @@
 //! A result under way.
 
-ghost use Rattle.std.specs.Prelude.{◌≡◌, ◌<◌, ◌+◌, ℕ, IfOk, IfErr, OnOk, IsSome, IsTrue, MatchOption};
+ghost use Rattle.std.specs.Prelude.{◌≡◌, ◌<◌, ◌+◌, ℕ, List, Bool, Contains, IfOk, IfErr, OnOk, IsSome, IsTrue, MatchOption};
+ghost use Rattle.kept_vectors.specs.Cube.{IsOfCube};
+ghost use Rattle.kept_vectors.specs.Keeper.{SeparatesMember};
 ghost use Rattle.diag_shelf.specs.World.{State};
 ghost use Rattle.net_model.specs.FaultList.{fault_count, fault_numbered};
 ghost use Rattle.net_model.specs.ClassTable.{class_at, class_count, representative};
@@ -10,13 +12,14 @@ ghost use Rattle.dia_gen.specs.Draft.{IsBegun, IsDraft};
 ghost use Rattle.dia_gen.specs.Marked.{AreMarkedUpTo, DoMarksStay};
 ghost use Rattle.dia_gen.specs.Writing.{BrokeOff};
 
+use crate::block::add_ahead;
 use crate::fallen::lowest_fallen;
 use crate::gathered::Gathered;
 use crate::pair::{PairSpace, Settled, settle_pair};
 use crate::setting::GenerationSetting;
 use crate::writing::{write_head, write_last, write_patterns};
 use diag_shelf::{Shelf, ShelfFault};
-use kept_vectors::Keeper;
+use kept_vectors::{Cube, Keeper};
 use member_marks::{Marks, mark_of};
 use result_file::{Evidence, Proof, Record};
 use std::alloc::{AllocError, Global};
@@ -124,8 +127,9 @@ impl<'a> Draft<'a> {
         Ok(None)
     }
 
-    // Writes evidence for the lowest number that isn't marked, or the pattern that tells it from its representative.
-    // Answers whether it was a pattern. Before a search nothing waits.
+    // Writes evidence for the lowest number that isn't marked, or a pattern that tells it from its representative: one of the
+    // block that is looked at if one does, else one of a new block. Returns whether it was a pattern. Before a search nothing
+    // waits.
     fn settle<S: Shelf>(
         &mut self,
         alloc: Global,
@@ -143,12 +147,15 @@ impl<'a> Draft<'a> {
         ensures marked { IfOk result (λ apart. ¬ IsTrue apart → (n : ℕ) → n < member + 1 → IsSome (given_mark self.new.keeper.kept.table self.new.marks n)) }
         ensures err { IfErr result (λ fault. BrokeOff setting.now.circuit fault start (S.state shelf.new)) }
     {
+        if self.keep_apart(setting, shelf, member)? {
+            return Ok(true);
+        }
         let classes = self.keeper.classes();
         let lead = classes.representative(classes.class_of(member));
         self.write_before_search(setting, shelf, lead, member)?;
         match settle_pair(alloc, setting, &mut self.space, lead, member) {
             Ok(Settled::Apart(cube)) => {
-                self.add_pattern(setting, shelf, member, &cube)?;
+                self.add_pattern(alloc, setting, shelf, member, cube)?;
                 Ok(true)
             }
             Ok(Settled::By(proof)) => {
@@ -182,27 +189,91 @@ impl<'a> Draft<'a> {
         self.gathered.write_out(shelf)
     }
 
-    // Adds a pattern that tells a number from its representative.
-    fn add_pattern<S: Shelf>(
+    // Adds a pattern of the block that is looked at that tells a number from its representative, if there is one. Returns
+    // whether there is.
+    fn keep_apart<S: Shelf>(
         &mut self,
         setting: &GenerationSetting,
         shelf: &mut S,
         member: u32,
-        cube: &[Option<bool>],
+    ) -> Result<bool, ShelfFault>
+        ghost start: { State }
+        requires draft { IsDraft setting.now self.old start (S.state shelf.old) }
+        requires lowest { IsLowestOpen self.old.keeper.kept.table self.old.marks member }
+        ensures draft { OnOk result (IsDraft setting.now self.new start (S.state shelf.new)) }
+        ensures more { IfOk result (λ apart. IsTrue apart → class_count self.old.keeper.kept.table < class_count self.new.keeper.kept.table) }
+        ensures stay { IfOk result (λ apart. IsTrue apart → DoMarksStay self.old.keeper.kept.table self.new.keeper.kept.table self.old.marks self.new.marks) }
+        ensures same { IfOk result (λ apart. ¬ IsTrue apart → self.new ≡ self.old) }
+        ensures none { IfOk result (λ apart. ¬ IsTrue apart → (v : List Bool) → Contains self.old.keeper.looked v → SeparatesMember setting.now.circuit self.old.keeper.kept.table member v → ⊥) }
+        ensures err { IfErr result (λ fault. BrokeOff setting.now.circuit fault start (S.state shelf.new)) }
+    {
+        match self.keeper.keep_apart(member) {
+            Ok(true) => {
+                write_last(&mut self.gathered, shelf, self.keeper.vectors())?;
+                Ok(true)
+            }
+            Ok(false) => Ok(false),
+            Err(_) => Err(ShelfFault::NoMemory),
+        }
+    }
+
+    // Adds a pattern that tells a number from its representative, which all vectors of a cube do.
+    fn add_pattern<S: Shelf>(
+        &mut self,
+        alloc: Global,
+        setting: &GenerationSetting,
+        shelf: &mut S,
+        member: u32,
+        cube: Vec<Option<bool>>,
     ) -> Result<(), ShelfFault>
         ghost start: { State }
         requires draft { IsDraft setting.now self.old start (S.state shelf.old) }
         requires lowest { IsLowestOpen self.old.keeper.kept.table self.old.marks member }
-        requires apart { AreApartBy setting.now.circuit (fault_numbered setting.now.circuit (representative self.old.keeper.kept.table (class_at self.old.keeper.kept.table member))) (fault_numbered setting.now.circuit member) setting.now.budgets cube.now }
+        requires apart { AreApartBy setting.now.circuit (fault_numbered setting.now.circuit (representative self.old.keeper.kept.table (class_at self.old.keeper.kept.table member))) (fault_numbered setting.now.circuit member) setting.now.budgets cube.items }
         ensures draft { OnOk result (IsDraft setting.now self.new start (S.state shelf.new)) }
         ensures more { OnOk result (class_count self.old.keeper.kept.table < class_count self.new.keeper.kept.table) }
         ensures stay { OnOk result (DoMarksStay self.old.keeper.kept.table self.new.keeper.kept.table self.old.marks self.new.marks) }
         ensures err { IfErr result (λ fault. BrokeOff setting.now.circuit fault start (S.state shelf.new)) }
     {
-        match self.keeper.keep_of_cube(cube) {
-            Ok(()) => write_last(&mut self.gathered, shelf, self.keeper.vectors()),
+        match self.look_ahead(alloc, setting, member, cube) {
+            Ok(()) => {
+                self.keep_apart(setting, shelf, member)?;
+                Ok(())
+            }
             Err(_) => Err(ShelfFault::NoMemory),
         }
+    }
+
+    // Looks at a block of vectors of a cube for a number, and of the cubes of the next numbers that wait.
+    fn look_ahead(
+        &mut self,
+        alloc: Global,
+        setting: &GenerationSetting,
+        member: u32,
+        cube: Vec<Option<bool>>,
+    ) -> Result<(), AllocError>
+        requires draft { (start : State) × (now : State) × IsDraft setting.now self.old start now }
+        requires lowest { IsLowestOpen self.old.keeper.kept.table self.old.marks member }
+        requires apart { AreApartBy setting.now.circuit (fault_numbered setting.now.circuit (representative self.old.keeper.kept.table (class_at self.old.keeper.kept.table member))) (fault_numbered setting.now.circuit member) setting.now.budgets cube.items }
+        ensures draft { OnOk result ((start now : State) → IsDraft setting.now self.old start now → IsDraft setting.now self.new start now) }
+        ensures kept { self.new.keeper.kept ≡ self.old.keeper.kept }
+        ensures marks { self.new.marks ≡ self.old.marks }
+        ensures looked { OnOk result ((v : List Bool) × Contains self.new.keeper.looked v × IsOfCube cube.items v) }
+    {
+        let mut cubes = Vec::new(alloc);
+        cubes.push(Cube::new(cube))?;
+        let classes = self.keeper.classes();
+        let marks = &self.marks;
+        add_ahead(
+            alloc,
+            setting,
+            &mut self.space,
+            classes,
+            marks,
+            member + 1,
+            &mut cubes,
+        )?;
+        self.keeper.look(cubes.as_slice())
     }
 
     // Adds evidence for a number with its representative.

@@ -1,6 +1,8 @@
 //! The generator of results.
 #![tactic(auto)]
 
+mod ahead;
+mod block;
 mod counts;
 mod draft;
 mod fallen;

@@ -5,11 +5,12 @@ ghost use Rattle.clause_pool.specs.Clauses.{BeginsWith};
 ghost use Rattle.net_model.specs.Answer.{bit_at};
 ghost use Rattle.net_model.specs.Circuit.{IsCircuit};
 ghost use Rattle.net_model.specs.Fault.{IsFaultOf};
-ghost use Rattle.net_model.specs.FaultList.{fault_count};
+ghost use Rattle.net_model.specs.FaultList.{fault_count, fault_numbered};
 ghost use Rattle.pair_miter.specs.Miter as spec;
 ghost use Rattle.result_records.specs.declared.limits.TheConstants.{CONFLICTS_LIMIT};
 ghost use Rattle.dia_gen.specs.Settled.{IsSpaceFor, HasRelevant, IsSettledFor, IsSearchedFor, IsOpenFor, IsSolvedFor, IsSettledBy};
 
+use crate::ahead::Ahead;
 use crate::setting::GenerationSetting;
 use clause_pool::Pool;
 use distinguish_search::{Searched, search_with};
@@ -29,13 +30,14 @@ pub(crate) enum Settled {
 }
 
 // What pairs are settled in, one after another, so that each costs what its faults reach: the simulation that a search
-// restarts, the space of miters, which is made for the first pair that the solver takes, and the pool of their clauses, which is
-// empty between two pairs.
+// restarts, the space of miters, which is made for the first pair that the solver takes, the pool of their clauses, which is
+// empty between two pairs, and what is found of pairs ahead of their turn.
 #[derive(Drop)]
 pub(crate) struct PairSpace<'a> {
     pub(crate) sim: PairSim<'a>,
     pub(crate) miters: Option<MiterSpace<'a>>,
     pub(crate) pool: Pool,
+    pub(crate) ahead: Ahead,
 }
 
 impl<'a> PairSpace<'a> {
@@ -43,17 +45,19 @@ impl<'a> PairSpace<'a> {
         alloc: Global,
         setting: &GenerationSetting<'a>,
     ) -> Result<PairSpace<'a>, AllocError>
-        ensures { IfOk result (IsSpaceFor setting.now.circuit) }
+        ensures { IfOk result (IsSpaceFor setting.now.circuit setting.now.budgets) }
     {
+        let ahead = Ahead::new(alloc, setting)?;
         Ok(PairSpace {
             sim: PairSim::new(alloc, setting.circuit(), &Fault::Free, &Fault::Free)?,
             miters: None,
             pool: Pool::with_room(alloc, 0, 0)?,
+            ahead,
         })
     }
 }
 
-// Settles a pair of numbers: by their roots, else by a search where there is a budget for it, else by what the solver
+// Settles a pair of numbers: by their roots, else by what a search finds if there is a budget for it, else by what the solver
 // learns.
 pub(crate) fn settle_pair(
     alloc: Global,
@@ -65,20 +69,42 @@ pub(crate) fn settle_pair(
     requires lead { lead < fault_count setting.now.circuit }
     requires member { member < fault_count setting.now.circuit }
     requires circuit { IsCircuit setting.now.circuit }
-    requires space { IsSpaceFor setting.now.circuit space.old }
+    requires space { IsSpaceFor setting.now.circuit setting.now.budgets space.old }
     ensures settled { IfOk result (IsSettledFor setting.now.circuit setting.now.budgets lead member) }
-    ensures space { OnOk result (IsSpaceFor setting.now.circuit space.new) }
+    ensures space { OnOk result (IsSpaceFor setting.now.circuit setting.now.budgets space.new) }
 {
     if setting.same_root(lead, member) {
         return Ok(Settled::By(Proof::Collapse));
     }
-    let f = setting.fault(lead);
-    let g = setting.fault(member);
-    match search_cubes(alloc, setting, &mut space.sim, &f, &g)? {
+    match find(alloc, setting, space, lead, member)? {
         Searched::Apart(cube) => Ok(Settled::Apart(cube)),
         Searched::Covered(tree) => Ok(Settled::By(Proof::Covered(tree))),
-        Searched::Spent(tree) => learn(alloc, setting, space, &f, &g, tree),
+        Searched::Spent(tree) => {
+            let (f, g) = (setting.fault(lead), setting.fault(member));
+            learn(alloc, setting, space, &f, &g, tree)
+        }
     }
+}
+
+// What a search of cubes finds of a pair of numbers: what is known of them, else by a search now.
+pub(crate) fn find(
+    alloc: Global,
+    setting: &GenerationSetting,
+    space: &mut PairSpace,
+    lead: u32,
+    member: u32,
+) -> Result<Searched, AllocError>
+    requires lead { lead < fault_count setting.now.circuit }
+    requires member { member < fault_count setting.now.circuit }
+    requires space { IsSpaceFor setting.now.circuit setting.now.budgets space.old }
+    ensures found { IfOk result (IsSearchedFor setting.now.circuit (fault_numbered setting.now.circuit lead) (fault_numbered setting.now.circuit member) setting.now.budgets) }
+    ensures space { OnOk result (IsSpaceFor setting.now.circuit setting.now.budgets space.new) }
+{
+    if let Some(found) = space.ahead.take(lead, member) {
+        return Ok(found);
+    }
+    let (f, g) = (setting.fault(lead), setting.fault(member));
+    search_cubes(alloc, setting, &mut space.sim, &f, &g)
 }
 
 // What a search of cubes finds: without a budget for it, the tree of one open leaf.
@@ -117,9 +143,9 @@ fn learn(
     requires second { IsFaultOf setting.now.circuit g.now }
     requires circuit { IsCircuit setting.now.circuit }
     requires open { IsOpenFor setting.now.circuit f.now g.now setting.now.budgets tree }
-    requires space { IsSpaceFor setting.now.circuit space.old }
+    requires space { IsSpaceFor setting.now.circuit setting.now.budgets space.old }
     ensures settled { IfOk result (IsSettledBy setting.now.circuit f.now g.now setting.now.budgets) }
-    ensures space { OnOk result (IsSpaceFor setting.now.circuit space.new) }
+    ensures space { OnOk result (IsSpaceFor setting.now.circuit setting.now.budgets space.new) }
 {
     if setting.budgets().conflicts == 0 {
         return Ok(Settled::By(Proof::Spent(tree, Log::new(alloc))));

@@ -1,6 +1,6 @@
 //! What a result is made for.
 
-ghost use Rattle.std.specs.Prelude.{◌≡◌, ◌<◌, ◌↔◌, ◌^◌, IsTrue, IfOk, OnOk};
+ghost use Rattle.std.specs.Prelude.{◌≡◌, ◌<◌, ◌↔◌, ◌^◌, [], All, IsTrue, IfOk, OnOk, length};
 ghost use Rattle.net_model.specs.Circuit.{IsCircuit};
 ghost use Rattle.net_model.specs.Fault.{IsFaultOf};
 ghost use Rattle.net_model.specs.Collapse.{root};
@@ -98,6 +98,23 @@ impl<'a> GenerationSetting<'a> {
         self.subject.fault(number)
     }
 
+    // The number of each number's root.
+    pub(crate) fn roots(&self) -> &[u32]
+        ensures count { length result.now ≡ fault_count self.now.circuit }
+        ensures within { All (λ root. root < length result.now) result.now }
+    {
+        self.subject.forest().roots()
+    }
+
+    // For how many of the next numbers that wait a cube is sought before a block is looked at: a 1,024th of all, at least 64 and
+    // at most 256, and none without a budget of cubes.
+    pub(crate) fn ahead(&self) -> u32 {
+        if self.budgets.cubes == 0 {
+            return 0;
+        }
+        (self.numbers() / 1024).max(64).min(256)
+    }
+
     // Whether the faults with these numbers have the same root.
     pub(crate) fn same_root(&self, a: u32, b: u32) -> bool
         requires first { a < fault_count self.now.circuit }
@@ -113,6 +130,7 @@ impl<'a> GenerationSetting<'a> {
         ensures limits { AreWithinLimits self.now.budgets }
         ensures circuit { IfOk result (λ keeper. keeper.circuit ≡ self.now.circuit) }
         ensures kept { IfOk result (λ keeper. Keeps self.now.circuit self.now.vectors (nothing_kept (fault_count self.now.circuit)) keeper.kept) }
+        ensures looked { IfOk result (λ keeper. keeper.looked ≡ []) }
     {
         self.subject.circuit().stands();
         let mut keeper = Keeper::new(alloc, self.subject)?;
@@ -124,6 +142,7 @@ impl<'a> GenerationSetting<'a> {
     fn keep_first(&self, keeper: &mut Keeper) -> Result<(), AllocError>
         requires { keeper.old.circuit ≡ self.now.circuit }
         ensures circuit { keeper.new.circuit ≡ self.now.circuit }
+        ensures looked { keeper.new.looked ≡ [] }
         ensures ok { OnOk result (Keeps self.now.circuit self.now.vectors keeper.old.kept keeper.new.kept) }
     {
         match self.first {

@@ -1,9 +1,5 @@
--- The vectors of a cube: its bits are written source by source.
-use Rattle.std.proofs.Common.{◌≡◌, ◌∙◌, ℕ, ◌+◌, ◌<◌, ◌≤◌, Bool, false, Option, Some, None, List, set, map, length, length-set, get_or, sym, ap, arith, inl, inr}
-use Rattle.std.specs.Prelude.{All}
-use Rattle.std.proofs.lemmas.Bool.{cases_lt}
-use Rattle.std.proofs.lemmas.List.{get_or_past, get_or-set_same, get_or-set_other}
-use Rattle.std.proofs.lemmas.List.Elements.{All-map}
+-- The vectors of a cube whose bits are written source by source, and of two cubes that agree.
+use Rattle.std.proofs.Common.{◌≡◌, ◌∙◌, ◌↔◌, ℕ, ◌<◌, Bool, Option, Some, None, List, length, get_or, refl, sym}
 use Rattle.net_model.specs.Answer.{bit_at}
 use Rattle.kept_vectors.specs.Cube.{IsOfCube}
 
@@ -12,49 +8,37 @@ pub record IsOfCubeBelow (cube : List (Option Bool)) (n : ℕ) (v : List Bool) :
   pub width : length v ≡ length cube
   pub fixed : (source : ℕ) (bit : Bool) → source < n → get_or cube source None ≡ Some bit → bit_at v source ≡ bit
 
-module _ (cube : List (Option Bool)) where
-  pub below_none : (vectors : List (List Bool)) → All (λ v. length v ≡ length cube) vectors → All (IsOfCubeBelow cube 0) vectors
-  below_none vectors widths = λ k d h. record { width = widths k d h; fixed = λ source bit low. absurd (omega arith) }
+-- where both have a bit it is the same
+abbrev pub DoAgree : List (Option Bool) → List (Option Bool) → ℕ → Type 0
+DoAgree one other source = (bit also : Bool) → get_or one source None ≡ Some bit → get_or other source None ≡ Some also → bit ≡ also
 
-  -- a free source
-  pub below_free : (n : ℕ) → get_or cube n None ≡ None → (vectors : List (List Bool)) → All (IsOfCubeBelow cube n) vectors → All (IsOfCubeBelow cube (n + 1)) vectors
-  below_free n free vectors all = λ k d h. record {
-    width = (all k d h).width;
-    fixed = λ source bit low is. elim (cases_lt source n) [
-      | inl less ↦ (all k d h).fixed source bit less is
-      | inr most ↦
-          let e : source ≡ n = omega (arith, low, most) in
-          let none : None ≡ Some bit = sym free ∙ ap (λ (m : ℕ). get_or cube m None) (sym e) ∙ is in
-          absurd (cc)
-    ];
-  }
+-- The bits of one cube where the other has none, and those of the other.
+pub record IsBound (old other new : List (Option Bool)) : Type 0 where
+  pub width : length new ≡ length old
+  pub also : length other ≡ length old
+  pub agree : (source : ℕ) → DoAgree old other source
+  pub bound : (source : ℕ) (bit : Bool) → get_or other source None ≡ Some bit → get_or new source None ≡ Some bit
+  pub free : (source : ℕ) → get_or other source None ≡ None → get_or new source None ≡ get_or old source None
 
-  with_bit : (n : ℕ) (b : Bool) → n < length cube → get_or cube n None ≡ Some b → (v : List Bool) → IsOfCubeBelow cube n v → IsOfCubeBelow cube (n + 1) (set v n b)
-  with_bit n b inside is v so_far = record {
-    width = length-set v n b ∙ so_far.width;
-    fixed = λ source bit low at. elim (cases_lt source n) [
-      | inl less ↦ get_or-set_other v n source b false (omega (arith, less)) ∙ so_far.fixed source bit less at
-      | inr most ↦
-          let e : source ≡ n = omega (arith, low, most) in
-          let one : Some b ≡ Some bit = sym is ∙ ap (λ (m : ℕ). get_or cube m None) (sym e) ∙ at in
-          let same : b ≡ bit = (cc) in
-          ap (bit_at (set v n b)) e ∙ get_or-set_same v n b false (omega (arith, inside, so_far.width)) ∙ same
-    ];
-  }
+module _ {old other new : List (Option Bool)} (is : IsBound old other new) where
+  -- a bit of the old one
+  old_bit : (v : List Bool) → IsOfCube new v → (source : ℕ) (bit : Bool) → get_or old source None ≡ Some bit → (o : Option Bool) → get_or other source None ≡ o → bit_at v source ≡ bit
+  old_bit v of source bit has None none = of.fixed source bit (is.free source none ∙ has)
+  old_bit v of source bit has (Some also) some = of.fixed source also (is.bound source also some) ∙ sym (is.agree source bit also has some)
 
-  -- a source with a bit
-  pub below_fixed : (n : ℕ) (b : Bool) → n < length cube → get_or cube n None ≡ Some b → (vectors : List (List Bool)) → All (IsOfCubeBelow cube n) vectors → All (IsOfCubeBelow cube (n + 1)) (map (λ v. set v n b) vectors)
-  below_fixed n b inside is vectors all = All-map (IsOfCubeBelow cube (n + 1)) (λ v. set v n b) vectors (λ k d h. with_bit n b inside is (get_or vectors k d) (all k d h))
+  -- a bit of the new one
+  new_bit : (v : List Bool) → IsOfCube old v → IsOfCube other v → (source : ℕ) (bit : Bool) → get_or new source None ≡ Some bit → (o : Option Bool) → get_or other source None ≡ o → bit_at v source ≡ bit
+  new_bit v one two source bit has None none = one.fixed source bit (sym (is.free source none) ∙ has)
+  new_bit v one two source bit has (Some also) some =
+      let same : Some also ≡ Some bit = sym (is.bound source also some) ∙ has in
+      let bits : also ≡ bit = (cc) in
+      two.fixed source also some ∙ bits
 
-  -- all sources
-  pub below_all : (n : ℕ) → n ≡ length cube → (vectors : List (List Bool)) → All (IsOfCubeBelow cube n) vectors → All (IsOfCube cube) vectors
-  below_all n e vectors all = λ k d h. record {
-    width = (all k d h).width;
-    fixed = λ source bit is. elim (cases_lt source n) [
-      | inl less ↦ (all k d h).fixed source bit less is
-      | inr past ↦ absurd (outside source bit (omega (arith, past, e)) is)
-    ];
-  }
-    where
-      outside : (source : ℕ) (bit : Bool) → length cube ≤ source → get_or cube source None ≡ Some bit → ⊥
-      outside source bit past is = let none = get_or_past cube source None past in cc
+  pub of_both : (v : List Bool) → IsOfCube new v ↔ (IsOfCube old v × IsOfCube other v)
+  of_both v = (
+    λ of. (
+      record { width = of.width ∙ is.width; fixed = λ source bit has. old_bit v of source bit has (get_or other source None) refl },
+      record { width = of.width ∙ is.width ∙ sym is.also; fixed = λ source bit has. of.fixed source bit (is.bound source bit has) },
+    ),
+    λ both. record { width = both.0.width ∙ sym is.width; fixed = λ source bit has. new_bit v both.0 both.1 source bit has (get_or other source None) refl },
+  )

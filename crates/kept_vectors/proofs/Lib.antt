@@ -20,3 +20,5 @@ pub mod ListLemmas
 pub mod StreamLemmas
 pub mod PartedLemmas
 pub mod Separating
+mod StandingLemmas
+mod StandingLanes

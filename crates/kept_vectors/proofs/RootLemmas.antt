@@ -18,7 +18,8 @@ use Rattle.class_refine.proofs.Refined.{numbers-refined, class-refined, after_sa
 use Rattle.word_sim.specs.GoodSim.{GoodSim, vectors_of}
 use Rattle.kept_vectors.specs.Units.{AreTogether}
 use Rattle.kept_vectors.specs.Notes.{AreRootsOf, HasUnit}
-use Rattle.kept_vectors.specs.Keeper.{Keeper, IsKeeper}
+use Rattle.kept_vectors.specs.Keeper.{IsKeeperOf}
+use Rattle.kept_vectors.specs.Kept.{KeptSoFar}
 use Rattle.class_refine.proofs.PatternTables.{answer_in_row}
 use Rattle.kept_vectors.proofs.NoteLemmas.{alike_by_roots}
 
@@ -77,7 +78,7 @@ module _ (c : Circuit) (circuit : IsCircuit c) (roots : List ℕ) (are : AreRoot
       let inside : n < fault_count c = omega (arith, h, length-replicate {A = ℕ} (fault_count c) 0) in
       get_or-replicate {A = ℕ} (fault_count c) (get_or roots n 0) 0 0 (are.within n 0 (omega (arith, inside, are.whole))) ∙ sym (get_or-replicate {A = ℕ} (fault_count c) n 0 0 inside)
 
-pub keeper_together : (k : Keeper) → IsKeeper k → (roots : List ℕ) → AreRootsOf k.circuit roots → AreTogether roots k.kept.table
-keeper_together k is roots are =
+pub keeper_together : {c : Circuit} {kept : KeptSoFar} → IsKeeperOf c kept → (roots : List ℕ) → AreRootsOf c roots → AreTogether roots kept.table
+keeper_together {c} {kept} is roots are =
     subst (AreTogether roots) (sym is.table.table)
-    (together_fold k.circuit is.circuit roots are k.kept.vectors is.table.rows is.table.answers is.splits.widths (first_table (fault_count k.circuit)) (length-replicate {A = ℕ} (fault_count k.circuit) 0) (together_first k.circuit is.circuit roots are))
+    (together_fold c is.circuit roots are kept.vectors is.table.rows is.table.answers is.splits.widths (first_table (fault_count c)) (length-replicate {A = ℕ} (fault_count c) 0) (together_first c is.circuit roots are))

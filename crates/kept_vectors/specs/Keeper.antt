@@ -1,5 +1,9 @@
--- A circuit, and what is kept for it.
+-- A circuit, what is kept for it, and the block that is looked at.
+use Rattle.std.specs.Prelude.{ℕ, Bool, List, []}
+use Rattle.net_model.specs.Answer.{Separates}
 use Rattle.net_model.specs.Circuit.{Circuit, IsCircuit}
+use Rattle.net_model.specs.ClassTable.{ClassTable, class_at, representative}
+use Rattle.net_model.specs.FaultList.{fault_numbered}
 use Rattle.net_model.specs.PatternRows.{IsTableOf}
 use Rattle.class_refine.specs.Fields.{IsWhole}
 use Rattle.kept_vectors.specs.Kept.{KeptSoFar, SplitInTurn}
@@ -7,13 +11,24 @@ use Rattle.kept_vectors.specs.Kept.{KeptSoFar, SplitInTurn}
 pub record Keeper : Type 0 where
   pub circuit : Circuit
   pub kept : KeptSoFar
+  -- the vectors of the block that is looked at
+  pub looked : List (List Bool)
 
+-- nothing is looked at
 abbrev pub keeper_with : Circuit → KeptSoFar → Keeper
-keeper_with circuit kept = record { circuit = circuit; kept = kept }
+keeper_with circuit kept = record { circuit = circuit; kept = kept; looked = [] }
 
--- What is true of every keeper: each kept vector splits a class of those before it, and the table is that of all of them.
-pub record IsKeeper (k : Keeper) : Type 0 where
-  pub circuit : IsCircuit k.circuit
-  pub splits : SplitInTurn k.circuit k.kept.vectors
-  pub table : IsTableOf k.circuit k.kept.vectors k.kept.table
-  pub whole : IsWhole k.kept.table
+-- Each kept vector splits a class of those before it, and the table is that of all of them.
+pub record IsKeeperOf (c : Circuit) (kept : KeptSoFar) : Type 0 where
+  pub circuit : IsCircuit c
+  pub splits : SplitInTurn c kept.vectors
+  pub table : IsTableOf c kept.vectors kept.table
+  pub whole : IsWhole kept.table
+
+-- What is true of every keeper.
+abbrev pub IsKeeper : Keeper → Type 0
+IsKeeper k = IsKeeperOf k.circuit k.kept
+
+-- The vector separates the number from the representative of its class.
+abbrev pub SeparatesMember : Circuit → ClassTable → ℕ → List Bool → Type 0
+SeparatesMember c t member v = Separates c v (fault_numbered c (representative t (class_at t member))) (fault_numbered c member)

@@ -8,3 +8,4 @@ pub mod Notes
 pub mod Scan
 pub mod Units
 pub mod Waits
+pub mod Standing

@@ -2,7 +2,7 @@
 use Rattle.std.specs.Prelude.{◌≡◌, ℕ, ◌≤◌, ◌<◌, Bool, List, [], ◌∷◌, ◌++◌, length, take, slice_index_or, IsTrue}
 use Rattle.std.specs.Bool.{MatchBool}
 use Rattle.net_model.specs.Circuit.{Circuit, IsCircuit}
-use Rattle.net_model.specs.FaultList.{faults}
+use Rattle.net_model.specs.FaultList.{faults, fault_count}
 use Rattle.word_sim.specs.declared.lanes.TheConstants.{LANES}
 use Rattle.kept_vectors.specs.declared.scan.Kept.{Kept}
 use Rattle.kept_vectors.specs.declared.scan.Scan.{Scan}
@@ -13,13 +13,14 @@ use Rattle.kept_vectors.specs.Notes.{AreOf}
 abbrev pub kept_now : Kept → KeptSoFar
 kept_now kept = record { vectors = kept.vectors.items; table = kept.classes }
 
--- The faults are those of the simulators' circuit, there is room for all of it, and a list for each lane.
+-- The faults are those of the simulators' circuit, there is room for all of it, a list for each lane, and a row for each number.
 pub record IsScan (s : Scan) : Type 0 where
   pub circuit : IsCircuit s.good.circuit
   pub faults_are : s.listed.now ≡ faults s.good.circuit
   pub block : s.block.sources ≡ s.good.circuit.sources
   pub differences : AreOf s.good.circuit s.differences
   pub lanes : length s.waiting.lanes.items ≡ LANES
+  pub rows : length s.rows.items ≡ fault_count s.good.circuit
 
 -- what a vector does: where it splits a class it stands behind the others, and else nothing changes
 abbrev pub IsOffered : Bool → List Bool → KeptSoFar → KeptSoFar → Type 0

@@ -1,76 +1,121 @@
-//! The vectors of a cube: some sources have a bit, and the others are free.
+//! Cubes: some sources have a bit, and the others are free.
 
-ghost use Rattle.std.specs.Prelude.{◌≡◌, ◌<◌, List, Bool, [], ◌∷◌, All, Contains, OnOk, OnErr, length};
-ghost use Rattle.net_model.specs.FaultList.{fault_count};
-ghost use Rattle.class_refine.specs.Fields.{IsWhole};
+ghost use Rattle.std.specs.Prelude.{◌≡◌, ◌<◌, ◌↔◌, ℕ, List, Bool, [], Some, None, true, false, All, IsTrue, length, slice_index_or};
+ghost use Rattle.net_model.specs.Answer.{bit_at};
+ghost use Rattle.word_sim.specs.Block.{IsBlock};
 ghost use Rattle.kept_vectors.specs.Cube.{IsOfCube};
-ghost use Rattle.kept_vectors.specs.Notes.{noted_by, AreAsked};
-ghost use Rattle.kept_vectors.specs.Kept.{Keeps};
-ghost use Rattle.kept_vectors.specs.Scan.{kept_now, IsScan};
-ghost use Rattle.kept_vectors.specs.Units.{AreTogether};
 
-use crate::differences::Differences;
-use crate::scan::{Kept, Scan};
-use crate::tally::Tally;
-use class_refine::Classes;
-use std::alloc::AllocError;
-use word_sim::{Block, GoodSim};
+use std::marker::Model;
+use word_sim::{Block, Lanes};
 
-// Gives the fixed sources of a cube their bits in all vectors of a block.
-pub(crate) fn fix_sources(block: &mut Block, cube: &[Option<bool>])
-    requires { length cube.now ≡ block.old.sources }
-    ensures sources { block.new.sources ≡ block.old.sources }
-    ensures count { length block.new.vectors ≡ length block.old.vectors }
-    ensures cube { All (IsOfCube cube.now) block.new.vectors }
+/// A bit for each source, or none if the source is free.
+#[derive(Drop)]
+pub struct Cube {
+    bits: Vec<Option<bool>>,
+}
+
+impl Model for Cube {
+    ghost use Rattle.std.specs.Prelude.{List, Option, Bool};
+
+    ghost Value = { List (Option Bool) };
+
+    ghost view = { λ cube. cube.bits.items };
+}
+
+impl Cube {
+    /// The cube with these bits.
+    pub fn new(bits: Vec<Option<bool>>) -> Cube
+        ensures { result ≡ bits.items }
+    {
+        Cube { bits }
+    }
+
+    /// The bits.
+    pub fn bits(&self) -> &[Option<bool>]
+        ensures { result.now ≡ self.now }
+    {
+        self.bits.as_slice()
+    }
+
+    /// Binds the sources that another cube binds, unless one of them has the other bit here. Returns whether none has.
+    pub fn join(&mut self, other: &[Option<bool>]) -> bool
+        requires { length other.now ≡ length self.old }
+        ensures width { length self.new ≡ length self.old }
+        ensures joined { IsTrue result → (v : List Bool) → IsOfCube self.new v ↔ (IsOfCube self.old v × IsOfCube other.now v) }
+        ensures apart { ¬ IsTrue result → (v : List Bool) → IsOfCube self.old v → IsOfCube other.now v → ⊥ }
+        ensures same { ¬ IsTrue result → self.new ≡ self.old }
+    {
+        if contradict(self.bits.as_slice(), other) {
+            return false;
+        }
+        bind(self.bits.as_mut_slice(), other);
+        true
+    }
+}
+
+// Whether two cubes have other bits at a source.
+fn contradict(one: &[Option<bool>], other: &[Option<bool>]) -> bool
+    requires { length other.now ≡ length one.now }
+    ensures apart { IsTrue result → (v : List Bool) → IsOfCube one.now v → IsOfCube other.now v → ⊥ }
+    ensures agree { ¬ IsTrue result → (source : ℕ) (bit also : Bool) → slice_index_or one.now source None ≡ Some bit → slice_index_or other.now source None ≡ Some also → bit ≡ also }
 {
-    for source in 0..block.sources() {
-        if let Some(bit) = cube[source as usize] {
-            block.fix(source, bit);
+    for source in 0..one.len() {
+        if let (Some(bit), Some(also)) = (one[source], other[source])
+            && bit != also
+        {
+            return true;
+        }
+    }
+    false
+}
+
+// Binds the sources that another cube binds.
+fn bind(cube: &mut [Option<bool>], other: &[Option<bool>])
+    requires { length other.now ≡ length cube.old }
+    ensures width { length cube.new ≡ length cube.old }
+    ensures bound { (source : ℕ) (bit : Bool) → slice_index_or other.now source None ≡ Some bit → slice_index_or cube.new source None ≡ Some bit }
+    ensures free { (source : ℕ) → slice_index_or other.now source None ≡ None → slice_index_or cube.new source None ≡ slice_index_or cube.old source None }
+{
+    for source in 0..other.len() {
+        if other[source].is_some() {
+            cube[source] = other[source];
         }
     }
 }
 
-impl Scan<'_> {
-    // Keeps of the vectors of the block the one at which most units answer otherwise than the representatives of their
-    // classes, if it splits a class.
-    pub(crate) fn keep_fullest(&mut self, kept: &mut Kept) -> Result<(), AllocError>
-        requires scan { IsScan self.old }
-        requires whole { IsWhole kept.old.classes }
-        requires numbers { length kept.old.classes.class_of ≡ fault_count self.old.good.circuit }
-        requires together { AreTogether self.old.differences.units.roots.now kept.old.classes }
-        requires some { 0 < length self.old.block.vectors }
-        ensures scan { IsScan self.new }
-        ensures circuit { self.new.good.circuit ≡ self.old.good.circuit }
-        ensures ok { OnOk result ((v : List Bool) × Contains self.old.block.vectors v × Keeps self.old.good.circuit (v ∷ []) (kept_now kept.old) (kept_now kept.new)) }
-        ensures err { OnErr result (kept_now kept.new ≡ kept_now kept.old) }
-    {
-        let live = self.block.live();
-        self.note(&kept.classes)?;
-        let (good, differences) = (&self.good, &self.differences);
-        let numbers = differences.numbers.as_slice();
-        count_told(good, differences, &kept.classes, numbers, &mut self.tally);
-        let lane = self.tally.fullest(live);
-        self.waiting
-            .wait_all(good, differences, &kept.classes, lane, lane + 1)?;
-        self.judge_lane(kept, lane, lane + 1)?;
-        Ok(())
+// Gives the cubes equal shares of the lanes of a block, one behind another, and the bound sources of each its bits in them.
+pub(crate) fn fix_cubes(block: &mut Block, cubes: &[Cube])
+    requires some { 0 < length cubes.now }
+    requires live { 0 < length block.old.vectors }
+    requires widths { All (λ cube. length cube ≡ block.old.sources) cubes.now }
+    ensures sources { block.new.sources ≡ block.old.sources }
+    ensures count { length block.new.vectors ≡ length block.old.vectors }
+    ensures block { IsBlock block.new }
+    ensures first { IsOfCube (slice_index_or cubes.now 0 []) (slice_index_or block.new.vectors 0 []) }
+{
+    let live = block.live();
+    let share = (live as usize / cubes.len()).max(1) as u32;
+    let mut from = 0;
+    for cube in cubes {
+        let end = (from + share).min(live);
+        fix_sources(block, cube, Lanes::first(end).and(Lanes::first(from).not()));
+        from = end;
     }
 }
 
-// Counts in each lane how many of these numbers answer otherwise than the representatives of their classes.
-fn count_told(
-    good: &GoodSim,
-    differences: &Differences,
-    classes: &Classes,
-    numbers: &[u32],
-    tally: &mut Tally,
-)
-    requires whole { IsWhole classes.now }
-    requires asked { AreAsked good.now (noted_by differences.now) classes.now numbers.now }
+// Gives the bound sources of a cube their bits in the vectors of these lanes.
+fn fix_sources(block: &mut Block, cube: &Cube, lanes: Lanes)
+    requires { length cube.now ≡ block.old.sources }
+    ensures sources { block.new.sources ≡ block.old.sources }
+    ensures count { length block.new.vectors ≡ length block.old.vectors }
+    ensures block { IsBlock block.new }
+    ensures fixed { (lane : ℕ) → lane < length block.old.vectors → bit_at lanes lane ≡ true → IsOfCube cube.now (slice_index_or block.new.vectors lane []) }
+    ensures others { (lane : ℕ) → lane < length block.old.vectors → bit_at lanes lane ≡ false → slice_index_or block.new.vectors lane [] ≡ slice_index_or block.old.vectors lane [] }
 {
-    tally.clear();
-    for number in numbers {
-        let lead = classes.representative(classes.class_of(*number));
-        tally.add(differences.apart(lead, *number));
+    let bits = cube.bits();
+    for source in 0..block.sources() {
+        if let Some(bit) = bits[source as usize] {
+            block.fix(source, bit, lanes);
+        }
     }
 }

@@ -1,15 +1,15 @@
 //! The keeper of vectors.
 
-ghost use Rattle.std.specs.Prelude.{◌≡◌, ◌≤◌, ◌<◌, ℕ, List, Bool, [], ◌∷◌, All, IfOk, OnOk, OnErr, length, slice_index_or};
+ghost use Rattle.std.specs.Prelude.{◌≡◌, ◌≤◌, ◌<◌, ℕ, List, Bool, [], ◌∷◌, All, Contains, IfOk, OnOk, OnErr, IsTrue, length, slice_index_or};
 ghost use Rattle.net_model.specs.FaultList.{fault_count};
 ghost use Rattle.net_model.specs.PatternRows.{SplitsClass};
 ghost use Rattle.kept_vectors.specs.Cube.{IsOfCube};
-ghost use Rattle.kept_vectors.specs.Keeper.{keeper_with, IsKeeper};
+ghost use Rattle.kept_vectors.specs.Keeper.{keeper_with, IsKeeper, SeparatesMember};
 ghost use Rattle.kept_vectors.specs.Kept.{nothing_kept, Keeps, KeepsFirst, KeepsRun};
 ghost use Rattle.word_sim.specs.Block.{block_with};
 ghost use Rattle.word_sim.specs.Stream.{stream};
 
-use crate::cube::fix_sources;
+use crate::cube::{Cube, fix_cubes};
 use crate::scan::{Kept, Scan};
 use class_refine::Classes;
 use fault_collapse::Subject;
@@ -19,12 +19,15 @@ use std::marker::Model;
 use word_sim::{Block, LANES, Stream, stream_continues};
 
 /// The vectors that are kept for a circuit, and the classes of fault numbers that they tell apart. Of the vectors that
-/// come, one after another, each is kept that splits a class of those kept before it.
+/// come, one after another, each is kept that splits a class of those kept before it. A block of vectors of cubes is
+/// looked at first, and simulated once: then a vector of it is kept for one number after another.
 pub struct Keeper<'a> {
     scan: Scan<'a>,
     kept: Kept,
     // Behind the blocks that were drawn of it.
     stream: Stream,
+    // Whether the scan's block is looked at.
+    stands: bool,
 }
 
 // Written out, it is one step in the proof of each function that lets a keeper go, where a derived one is a step for
@@ -35,6 +38,7 @@ impl Drop for Keeper<'_> {
             scan: _,
             kept: _,
             stream: _,
+            stands: _,
         } = self;
     }
 }
@@ -63,6 +67,7 @@ impl<'a> Keeper<'a> {
             scan,
             kept: Kept { vectors, classes },
             stream,
+            stands: false,
         })
     }
 
@@ -70,10 +75,12 @@ impl<'a> Keeper<'a> {
     /// vectors, and not all, have been looked at, as if no others had come.
     pub fn keep_stream(&mut self, blocks: u32) -> Result<(), AllocError>
         ensures circuit { self.new.circuit ≡ self.old.circuit }
+        ensures looked { self.new.looked ≡ [] }
         ensures ok { OnOk result (Keeps self.old.circuit (stream self.old.circuit.sources blocks) self.old.kept self.new.kept) }
         ensures err { OnErr result (KeepsFirst self.old.circuit (stream self.old.circuit.sources blocks) self.old.kept self.new.kept) }
     {
         stream_continues();
+        self.stands = false;
         let mut stream = Stream::new(self.scan.block.sources());
         let mut left = blocks;
         while left > 0 {
@@ -90,9 +97,11 @@ impl<'a> Keeper<'a> {
     pub fn keep_list(&mut self, vectors: &[Vector]) -> Result<(), AllocError>
         requires { All (λ v. length v ≡ self.old.circuit.sources) vectors.now }
         ensures circuit { self.new.circuit ≡ self.old.circuit }
+        ensures looked { self.new.looked ≡ [] }
         ensures ok { OnOk result (Keeps self.old.circuit vectors.now self.old.kept self.new.kept) }
         ensures err { OnErr result (KeepsFirst self.old.circuit vectors.now self.old.kept self.new.kept) }
     {
+        self.stands = false;
         let mut first = 0;
         while first < vectors.len() {
             let end = first + (vectors.len() - first).min(LANES as usize);
@@ -107,27 +116,51 @@ impl<'a> Keeper<'a> {
     pub fn keep(&mut self, v: &Vector) -> Result<(), AllocError>
         requires { length v.now ≡ self.old.circuit.sources }
         ensures circuit { self.new.circuit ≡ self.old.circuit }
+        ensures looked { self.new.looked ≡ [] }
         ensures ok { OnOk result (Keeps self.old.circuit (v.now ∷ []) self.old.kept self.new.kept) }
         ensures err { OnErr result (self.new.kept ≡ self.old.kept) }
     {
+        self.stands = false;
         self.scan.block.clear();
         self.scan.block.push(v);
         self.scan.keep_block(&mut self.kept)
     }
 
-    /// Keeps a vector of a cube if it splits a class: of the next blocks of the stream, as many as there are lanes for, with the
-    /// bits of the cube in each vector, the one at which most roots of collapse answer otherwise than the representatives of
-    /// their classes. After an error what is kept has not changed.
-    pub fn keep_of_cube(&mut self, cube: &[Option<bool>]) -> Result<(), AllocError>
-        requires { length cube.now ≡ self.old.circuit.sources }
+    /// Looks at a block of vectors of these cubes: the free sources have the bits of the next blocks of the stream, and
+    /// the cubes have equal shares of the lanes. What is kept stays. After an error no block is looked at.
+    pub fn look(&mut self, cubes: &[Cube]) -> Result<(), AllocError>
+        requires some { 0 < length cubes.now }
+        requires widths { All (λ cube. length cube ≡ self.old.circuit.sources) cubes.now }
         ensures circuit { self.new.circuit ≡ self.old.circuit }
-        ensures ok { OnOk result ((v : List Bool) × IsOfCube cube.now v × Keeps self.old.circuit (v ∷ []) self.old.kept self.new.kept) }
-        ensures err { OnErr result (self.new.kept ≡ self.old.kept) }
+        ensures kept { self.new.kept ≡ self.old.kept }
+        ensures looked { OnOk result ((v : List Bool) × Contains self.new.looked v × IsOfCube (slice_index_or cubes.now 0 []) v) }
+        ensures err { OnErr result (self.new.looked ≡ []) }
     {
+        self.stands = false;
         self.scan.block.clear();
         self.stream.fill(LANES / 64, &mut self.scan.block);
-        fix_sources(&mut self.scan.block, cube);
-        self.scan.keep_fullest(&mut self.kept)
+        fix_cubes(&mut self.scan.block, cubes);
+        self.scan.look(&self.kept.classes)?;
+        self.stands = true;
+        Ok(())
+    }
+
+    /// Keeps a vector of the block that is looked at, if one separates a number from the representative of its class: of
+    /// those the one at which most roots of collapse answer otherwise than the representatives of their classes. Returns
+    /// whether there is one. The block is looked at still. After an error what is kept has not changed.
+    pub fn keep_apart(&mut self, member: u32) -> Result<bool, AllocError>
+        requires { member < fault_count self.old.circuit }
+        ensures circuit { self.new.circuit ≡ self.old.circuit }
+        ensures looked { self.new.looked ≡ self.old.looked }
+        ensures apart { IfOk result (λ apart. IsTrue apart → (v : List Bool) × Contains self.old.looked v × SeparatesMember self.old.circuit self.old.kept.table member v × Keeps self.old.circuit (v ∷ []) self.old.kept self.new.kept) }
+        ensures same { IfOk result (λ apart. ¬ IsTrue apart → self.new.kept ≡ self.old.kept) }
+        ensures none { IfOk result (λ apart. ¬ IsTrue apart → (v : List Bool) → Contains self.old.looked v → SeparatesMember self.old.circuit self.old.kept.table member v → ⊥) }
+        ensures err { OnErr result (self.new.kept ≡ self.old.kept) }
+    {
+        if !self.stands {
+            return Ok(false);
+        }
+        self.scan.keep_apart(&mut self.kept, member)
     }
 
     /// Keeps the vectors of a run, one after another, up to the first that splits no class. Answers how many are kept. After
@@ -136,10 +169,12 @@ impl<'a> Keeper<'a> {
         requires few { length vectors.now ≤ LANES }
         requires widths { All (λ v. length v ≡ self.old.circuit.sources) vectors.now }
         ensures circuit { self.new.circuit ≡ self.old.circuit }
+        ensures looked { self.new.looked ≡ [] }
         ensures ok { IfOk result (λ count. KeepsRun self.old.circuit vectors.now count self.old.kept self.new.kept) }
         ensures stops { IfOk result (λ count. count < length vectors.now → ¬ SplitsClass self.old.circuit self.new.kept.vectors (slice_index_or vectors.now count [])) }
         ensures err { OnErr result ((count : ℕ) × (count < length vectors.now) × KeepsRun self.old.circuit vectors.now count self.old.kept self.new.kept) }
     {
+        self.stands = false;
         fill(&mut self.scan.block, vectors);
         let count = self.scan.judge(&mut self.kept, true)?;
         Ok(count as usize)
@@ -171,6 +206,7 @@ impl<'a> Keeper<'a> {
             scan: _,
             kept,
             stream: _,
+            stands: _,
         } = self;
         kept.into_parts()
     }

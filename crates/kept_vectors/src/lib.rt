@@ -10,10 +10,12 @@ mod leaving;
 mod notes;
 mod parting;
 mod scan;
+mod standing;
 mod tally;
 mod units;
 mod waiting;
 
+pub use cube::Cube;
 pub use keeper::Keeper;
 pub use laws::{
     kept_answer_alike, kept_once, kept_tell_as_much, none_of_list_splits, nothing_more_is_kept,

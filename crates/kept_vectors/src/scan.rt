@@ -21,7 +21,7 @@ use fault_collapse::Subject;
 use fault_list::FaultList;
 use net_model::Vector;
 use std::alloc::{AllocError, Global};
-use word_sim::{Block, GoodSim, LANES};
+use word_sim::{Block, GoodSim, LANES, Lanes};
 
 // The kept vectors, and their classes.
 #[derive(Drop)]
@@ -58,8 +58,8 @@ impl Kept {
 }
 
 // What tells which vectors split a class: the circuit's faults, a block of vectors, the simulators of the block and of
-// faults on it with what the faults showed, the units that wait for a lane at which they leave their classes, and the
-// numbers that leave at one.
+// faults on it with what the faults showed, the units that wait for a lane at which they leave their classes, the numbers
+// that leave at one, and for a block that stands by unit the lanes at which it leaves.
 pub(crate) struct Scan<'a> {
     pub(crate) listed: &'a FaultList,
     pub(crate) block: Block,
@@ -68,6 +68,8 @@ pub(crate) struct Scan<'a> {
     pub(crate) waiting: Waiting,
     pub(crate) leaving: Leaving,
     pub(crate) tally: Tally,
+    // By number, of a block that stands.
+    pub(crate) rows: Vec<Lanes>,
 }
 
 // Written out, as a keeper's.
@@ -81,6 +83,7 @@ impl Drop for Scan<'_> {
             waiting: _,
             leaving: _,
             tally: _,
+            rows: _,
         } = self;
     }
 }
@@ -111,6 +114,7 @@ impl<'a> Scan<'a> {
         let waiting = Waiting::new(alloc)?;
         let leaving = Leaving::new(alloc);
         let tally = Tally::new(alloc)?;
+        let rows = vec![in alloc; Lanes::all(false); differences.turns.len()]?;
         let block = Block::new(alloc, circuit.sources())?;
         Ok(Scan {
             listed,
@@ -120,6 +124,7 @@ impl<'a> Scan<'a> {
             waiting,
             leaving,
             tally,
+            rows,
         })
     }
 

@@ -1,7 +1,9 @@
 //! How many units answer otherwise than the representatives of their classes, lane by lane.
 
-ghost use Rattle.std.specs.Prelude.{◌≤◌, ◌<◌};
+ghost use Rattle.std.specs.Prelude.{◌≡◌, ◌<◌, ℕ, true, IsTrue};
+ghost use Rattle.net_model.specs.Answer.{bit_at};
 
+use crate::apart::first_lane;
 use std::alloc::{AllocError, Global};
 use word_sim::{LANES, Lanes};
 
@@ -39,16 +41,16 @@ impl Tally {
         }
     }
 
-    // Of the first lanes, this many, the one with the highest count: the lowest of these.
-    pub(crate) fn fullest(&self, live: u32) -> u32
-        requires some { 0 < live }
-        requires few { live ≤ LANES }
-        ensures { result < live }
+    // Of these lanes the one with the highest count: the lowest of these.
+    pub(crate) fn fullest(&self, lanes: Lanes) -> u32
+        requires { (lane : ℕ) × (lane < LANES) × IsTrue (bit_at lanes lane) }
+        ensures within { result < LANES }
+        ensures has { bit_at lanes result ≡ true }
     {
-        let mut fullest = 0;
+        let mut fullest = first_lane(lanes, 0, LANES);
         let mut most = 0;
-        for lane in 0..live {
-            let count = self.count(lane);
+        for lane in fullest..LANES {
+            let count = if lanes.get(lane) { self.count(lane) } else { 0 };
             if count > most {
                 fullest = lane;
                 most = count;

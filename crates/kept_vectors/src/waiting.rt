@@ -1,6 +1,7 @@
 //! Units that wait at the lanes at which they leave their classes.
 
-ghost use Rattle.std.specs.Prelude.{◌≡◌, ◌≤◌, ◌<◌, ◌++◌, ℕ, [], ◌∷◌, All, IfOk, OnOk, OnErr, length, slice_index_or};
+ghost use Rattle.std.specs.Prelude.{◌≡◌, ◌≤◌, ◌<◌, ◌++◌, ℕ, [], ◌∷◌, true, All, Contains, IfOk, OnOk, OnErr, length, slice_index_or};
+ghost use Rattle.net_model.specs.Answer.{bit_at};
 ghost use Rattle.net_model.specs.Circuit.{IsCircuit};
 ghost use Rattle.net_model.specs.FaultList.{fault_count};
 ghost use Rattle.class_refine.specs.Fields.{IsWhole};
@@ -14,7 +15,7 @@ use crate::differences::Differences;
 use class_refine::Classes;
 use std::alloc::{AllocError, Global};
 use std::marker::Model;
-use word_sim::{GoodSim, LANES};
+use word_sim::{GoodSim, LANES, Lanes};
 
 // The numbers that wait at one lane.
 #[derive(Drop)]
@@ -116,6 +117,29 @@ impl Waiting {
         self.clear();
         let numbers = differences.numbers.as_slice();
         self.wait(good, differences, classes, numbers, from, live)
+    }
+
+    // Lets each of these numbers wait at a lane if its row has the lane, and nobody else.
+    pub(crate) fn wait_at(
+        &mut self,
+        rows: &[Lanes],
+        numbers: &[u32],
+        lane: u32,
+    ) -> Result<(), AllocError>
+        requires below { All (λ n. n < length rows.now) numbers.now }
+        requires few { lane < LANES }
+        requires lanes { length self.old.lanes.items ≡ LANES }
+        ensures count { length self.new.lanes.items ≡ length self.old.lanes.items }
+        ensures right { OnOk result ((n : ℕ) → Contains (slice_index_or self.new.lanes.items lane []) n → Contains numbers.now n × (bit_at (slice_index_or rows.now n []) lane ≡ true)) }
+        ensures all { OnOk result ((n : ℕ) → Contains numbers.now n → bit_at (slice_index_or rows.now n []) lane ≡ true → Contains (slice_index_or self.new.lanes.items lane []) n) }
+    {
+        self.clear();
+        for number in numbers {
+            if rows[*number as usize].get(lane) {
+                self.lanes[lane as usize].push(*number)?;
+            }
+        }
+        Ok(())
     }
 
     // Lets each unit of these numbers wait at the first lane from `from` on at which it answers otherwise than the

@@ -1,17 +1,21 @@
-//! Sources that have one bit in all vectors of a block.
+//! Sources that have one bit in some vectors of a block.
 
-ghost use Rattle.std.specs.Prelude.{◌≡◌, ◌<◌, map, slice_set};
-ghost use Rattle.word_sim.specs.Block.{block_with};
+ghost use Rattle.std.specs.Prelude.{◌≡◌, ◌<◌, ℕ, [], true, false, length, slice_index_or, slice_set};
+ghost use Rattle.net_model.specs.Answer.{bit_at};
 
 use crate::block::Block;
 use crate::lanes::Lanes;
 
 impl Block {
-    /// Gives a source the same bit in every vector.
-    pub fn fix(&mut self, source: u32, bit: bool)
+    /// Gives a source the same bit in the vectors of these lanes.
+    pub fn fix(&mut self, source: u32, bit: bool, lanes: Lanes)
         requires { source < self.old.sources }
-        ensures { self.new ≡ block_with self.old.sources (map (λ v. slice_set v source bit) self.old.vectors) }
+        ensures sources { self.new.sources ≡ self.old.sources }
+        ensures count { length self.new.vectors ≡ length self.old.vectors }
+        ensures fixed { (lane : ℕ) → lane < length self.old.vectors → bit_at lanes lane ≡ true → slice_index_or self.new.vectors lane [] ≡ slice_set (slice_index_or self.old.vectors lane []) source bit }
+        ensures others { (lane : ℕ) → lane < length self.old.vectors → bit_at lanes lane ≡ false → slice_index_or self.new.vectors lane [] ≡ slice_index_or self.old.vectors lane [] }
     {
-        self.rows[source as usize] = Lanes::all(bit);
+        let row = self.rows[source as usize];
+        self.rows[source as usize] = lanes.select(row, Lanes::all(bit));
     }
 }

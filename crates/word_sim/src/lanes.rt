@@ -153,9 +153,9 @@ impl Lanes {
         self.with_word(at, with_bit(self.word(at), (lane % 64) as usize, bit))
     }
 
-    // 1 in the first lanes, this many.
+    /// 1 in the first lanes, this many.
     #[inline]
-    pub(crate) fn first(live: u32) -> Lanes
+    pub fn first(live: u32) -> Lanes
         requires { live ≤ LANES }
         ensures { (lane : ℕ) → lane < LANES → bit_at result lane ≡ nat_lt lane live }
     {

@@ -8,16 +8,16 @@ returns-in-Covered-clause-settled c =
     let setting = c.args.setting.now in
     proof_for (iff_false c.same_root.ensures c.if-same_root.false)
     (covered_by setting.circuit c.requires.circuit (fault_numbered setting.circuit c.args.lead) (fault_numbered setting.circuit c.args.member) setting.budgets c.in-Covered.tree
-    (rw (c.in-Covered.is, c.fault-f.ensures.value, c.fault-g.ensures.value) at c.in_ok-cube.ensures.found))
+    (rw c.in-Covered.is at c.in_ok-cube.ensures.found))
+
+pub returns-in-Apart-clause-settled : goal.returns-in-Apart-clause-settled
+returns-in-Apart-clause-settled c =
+    let setting = c.args.setting.now in
+    let found = rw c.in-Apart.is at c.in_ok-cube.ensures.found in
+    cube_apart setting.circuit (fault_numbered setting.circuit c.args.lead) (fault_numbered setting.circuit c.args.member) setting.budgets c.in-Apart.cube.items (λ none. let e = found.none none in cc) found.is_searched
 
 pub returns-in-Spent-clause-settled : goal.returns-in-Spent-clause-settled
 returns-in-Spent-clause-settled c =
     let setting = c.args.setting.now in
     settled_for setting.circuit setting.budgets c.args.lead c.args.member (iff_false c.same_root.ensures c.if-same_root.false) c.learn.result
     (rw (c.fault-f.ensures.value, c.fault-g.ensures.value) at c.learn.ensures.settled)
-
-pub returns-in-Apart-clause-settled : goal.returns-in-Apart-clause-settled
-returns-in-Apart-clause-settled c =
-    let setting = c.args.setting.now in
-    let found = rw (c.in-Apart.is, c.fault-f.ensures.value, c.fault-g.ensures.value) at c.in_ok-cube.ensures.found in
-    cube_apart setting.circuit (fault_numbered setting.circuit c.args.lead) (fault_numbered setting.circuit c.args.member) setting.budgets c.in-Apart.cube.items (λ none. let e = found.none none in cc) found.is_searched

@@ -1,37 +1,19 @@
-use Rattle.std.proofs.Common.{◌≡◌, ◌∙◌, ◌<◌, Bool, List, length, set, map, refl, sym, ap, arith}
-use Rattle.std.proofs.lemmas.List.{length-map}
-use Rattle.word_sim.specs.Block.{Block}
-use Rattle.kept_vectors.proofs.CubeLemmas.{below_none, below_free, below_fixed, below_all}
+use Rattle.std.proofs.Common.{◌≡◌, ◌∙◌, ◌<◌, [], length, sym, ap, arith, inl, inr}
+use Rattle.std.proofs.lemmas.Bool.{cases_Bool}
+use Rattle.std.proofs.lemmas.List.Elements.{All-from_get_or}
+use Rattle.net_model.specs.Answer.{bit_at}
 use Rattle.kept_vectors.proofs.cube.fix_sources.Goals as goal
-use Rattle.kept_vectors.proofs.cube.fix_sources.Goals.{in-Some, in_default}
 
-pub loop-source-preserved : goal.loop-source-preserved
-loop-source-preserved c =
-    let cube = c.args.cube.now in
-    let source = c.loop-source.source in
-    let old = c.loop-source.block in
+pub returns-clause-block : goal.returns-clause-block
+returns-clause-block c =
+    let old = c.sources-source-end.ensures.block in
     let so_far = c.loop-source.invariant in
-    elim c.match-cube-source.branch [
-      | in-Some w ↦
-          let inside : source < length cube = omega (arith, c.loop-source-test.true, c.sources-source-end.ensures.value, c.requires) in
-          let is = w.block-is ∙ w.fix.ensures in
-          let vectors : c.match-cube-source.block.vectors ≡ map (λ v. set v source w.in-Some.bit) old.vectors = ap (λ (b : Block). b.vectors) is in
-          record {
-            sources = ap (λ (b : Block). b.sources) is ∙ so_far.sources;
-            count = ap length vectors ∙ length-map old.vectors (λ (v : List Bool). set v source w.in-Some.bit) ∙ so_far.count;
-            fixed = rw vectors (below_fixed cube source w.in-Some.bit inside w.in-Some.is old.vectors so_far.fixed);
-          }
-      | in_default w ↦ record {
-        sources = ap (λ (b : Block). b.sources) w.block-is ∙ so_far.sources;
-        count = ap (λ (b : Block). length b.vectors) w.block-is ∙ so_far.count;
-        fixed = rw w.block-is (below_free cube source w.in_default.is old.vectors so_far.fixed);
-      }
-    ]
-
-pub loop-source-init : goal.loop-source-init
-loop-source-init c =
-    record { sources = refl; count = refl; fixed = below_none c.args.cube.now c.args.block.now.vectors (λ k d h. c.sources-source-end.ensures.block.widths k d h ∙ sym c.requires) }
-
-pub returns-clause-cube : goal.returns-clause-cube
-returns-clause-cube c =
-    below_all c.args.cube.now c.loop-source.source (omega (arith, c.loop-source-test.false, c.sources-source-end.ensures.value, c.requires)) c.loop-source.block.vectors c.loop-source.invariant.fixed
+    record {
+      few = omega (arith, old.few, so_far.count);
+      widths = All-from_get_or (λ v. length v ≡ c.loop-source.block.sources) c.loop-source.block.vectors [] (λ lane below.
+          let inside : lane < length c.args.block.now.vectors = omega (arith, below, so_far.count) in
+          elim (cases_Bool (bit_at c.args.lanes lane)) [
+            | inl one ↦ (so_far.fixed lane inside one).width ∙ c.requires ∙ sym so_far.sources
+            | inr zero ↦ ap length (so_far.others lane inside zero) ∙ old.widths lane [] inside ∙ sym so_far.sources
+          ]);
+    }

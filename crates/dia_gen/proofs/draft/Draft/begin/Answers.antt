@@ -9,5 +9,6 @@ returns c = record {
   limits = c.in_ok-keeper.ensures.limits;
   marks = rw c.numbers.ensures.value at c.in_ok-marks.ensures;
   space = c.in_ok-space.ensures;
+  looked = c.in_ok-keeper.ensures.looked;
   gathered = c.new-2.ensures;
 }

@@ -1,5 +1,8 @@
 use Rattle.dia_gen.proofs.draft.Draft.settle.Given as goal
 
+abbrev pub ghost-keep_apart : goal.ghost-keep_apart
+ghost-keep_apart g a = g.start
+
 abbrev pub ghost-write_before_search : goal.ghost-write_before_search
 ghost-write_before_search g a = g.start
 

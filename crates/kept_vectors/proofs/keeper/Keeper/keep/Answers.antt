@@ -1,5 +1,6 @@
 use Rattle.std.proofs.Common.{◌≡◌, ◌∷◌, ◌++◌, [], sym, length, ap, arith, ◌∙◌}
 use Rattle.std.specs.Prelude.{All}
+use Rattle.std.proofs.lemmas.Bool.{false≢true}
 use Rattle.word_sim.specs.Block.{Block}
 use Rattle.kept_vectors.specs.Keeper.{Keeper, keeper_with, IsKeeper}
 use Rattle.kept_vectors.specs.Scan.{kept_now}
@@ -9,7 +10,7 @@ use Rattle.kept_vectors.proofs.KeepLemmas.{either_way, keeper_after, keeper_firs
 use Rattle.kept_vectors.proofs.keeper.Keeper.keep.Goals as goal
 
 pub keep_block-requires-clause-together : goal.keep_block-requires-clause-together
-keep_block-requires-clause-together c = keeper_together _ c.self.invariant.keeper c.self.inside.scan.differences.units.roots.now c.self.invariant.scan.differences.roots
+keep_block-requires-clause-together c = keeper_together c.self.invariant.keeper c.self.inside.scan.differences.units.roots.now c.self.invariant.scan.differences.roots
 
 pub keep_block-requires-clause-numbers : goal.keep_block-requires-clause-numbers
 keep_block-requires-clause-numbers c = table_numbers c.self.invariant.keeper.table
@@ -29,4 +30,5 @@ invariant_of-self c =
       scan = c.keep_block.ensures.scan;
       keeper = rw c.keep_block.ensures.circuit keeper;
       stream = rw c.keep_block.ensures.circuit c.self.invariant.stream;
+      stands = λ is. absurd (false≢true is);
     }

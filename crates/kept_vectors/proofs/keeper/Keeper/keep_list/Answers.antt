@@ -2,6 +2,7 @@ use Rattle.std.proofs.Common.{◌≡◌, ◌∙◌, Bool, List, length, refl, sy
 use Rattle.std.specs.Prelude.{All}
 use Rattle.std.proofs.lemmas.List.{take_all}
 use Rattle.std.proofs.lemmas.List.Elements.{All-take, All-drop}
+use Rattle.std.proofs.lemmas.Bool.{false≢true}
 use Rattle.std.proofs.lemmas.Result.{err_from_is_err_and}
 use Rattle.net_model.specs.FaultList.{fault_count}
 use Rattle.net_model.specs.Circuit.{Circuit}
@@ -40,6 +41,7 @@ loop-first-init c =
       drawn = c.self.invariant.stream;
       circuit = refl;
       scan = c.self.invariant.scan;
+      stands = refl;
       keeper = c.self.invariant.keeper;
       keeps = keeps_none circuit (kept_now c.self.inside.kept);
     }
@@ -49,6 +51,7 @@ invariant_of-self c = record {
   scan = c.loop-first.invariant.scan;
   keeper = rw c.loop-first.invariant.circuit c.loop-first.invariant.keeper;
   stream = rw c.loop-first.invariant.circuit c.loop-first.invariant.drawn;
+  stands = λ is. absurd (false≢true (sym c.loop-first.invariant.stands ∙ is));
 }
 
 pub fill-requires-clause-widths : goal.fill-requires-clause-widths
@@ -63,6 +66,7 @@ keep_block-requires-clause-scan c =
       block = ap (λ (b : Block). b.sources) c.fill.ensures ∙ scan.block;
       differences = scan.differences;
       lanes = scan.lanes;
+      rows = scan.rows;
     }
 
 pub keep_block-requires-clause-whole : goal.keep_block-requires-clause-whole
@@ -74,7 +78,7 @@ keep_block-requires-clause-numbers c = table_numbers c.loop-first.invariant.keep
 pub keep_block-requires-clause-together : goal.keep_block-requires-clause-together
 keep_block-requires-clause-together c =
     let so_far = c.loop-first.invariant in
-    keeper_together _ so_far.keeper c.loop-first.self-inside.scan.differences.units.roots.now (subst (λ (k : Circuit). AreRootsOf k c.loop-first.self-inside.scan.differences.units.roots.now) so_far.circuit so_far.scan.differences.roots)
+    keeper_together so_far.keeper c.loop-first.self-inside.scan.differences.units.roots.now (subst (λ (k : Circuit). AreRootsOf k c.loop-first.self-inside.scan.differences.units.roots.now) so_far.circuit so_far.scan.differences.roots)
 
 pub invariant_of-self-in_err-keep_block : goal.invariant_of-self-in_err-keep_block
 invariant_of-self-in_err-keep_block c =
@@ -86,6 +90,7 @@ invariant_of-self-in_err-keep_block c =
       scan = c.in_err-keep_block.ensures.scan;
       keeper = rw (c.in_err-keep_block.ensures.circuit, so_far.circuit) keeper;
       stream = rw (c.in_err-keep_block.ensures.circuit, so_far.circuit) so_far.drawn;
+      stands = λ is. absurd (false≢true (sym c.loop-first.invariant.stands ∙ is));
     }
 
 pub returns-in_err-keep_block-clause-circuit : goal.returns-in_err-keep_block-clause-circuit
@@ -113,6 +118,7 @@ loop-first-preserved c =
       drawn = so_far.drawn;
       circuit = c.in_ok-keep_block.ensures.circuit ∙ so_far.circuit;
       scan = c.in_ok-keep_block.ensures.scan;
+      stands = so_far.stands;
       keeper = keeper_after circuit (part_of vectors c.loop-first.first c.min.result) old new so_far.keeper (part_widths ((goal.at.loop-first-preserved c).After-min)) keeps;
       keeps = list_more vectors c.loop-first.first c.min.result so_far.keeps keeps;
     }

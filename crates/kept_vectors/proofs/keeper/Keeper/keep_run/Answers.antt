@@ -1,5 +1,6 @@
 use Rattle.std.proofs.Common.{◌≡◌, ◌∙◌, ℕ, Bool, true, List, [], length, get_or, refl, sym, ap, subst}
 use Rattle.std.specs.Prelude.{All}
+use Rattle.std.proofs.lemmas.Bool.{false≢true}
 use Rattle.std.proofs.lemmas.Result.{err_from_is_err_and}
 use Rattle.net_model.specs.PatternRows.{SplitsClass}
 use Rattle.word_sim.specs.Block.{Block}
@@ -34,7 +35,7 @@ pub fill-requires-clause-widths : goal.fill-requires-clause-widths
 fill-requires-clause-widths c = λ k d below. c.requires.widths k d below ∙ ap (λ (k : Keeper). k.circuit.sources) (sym c.self.view_is) ∙ sym c.self.invariant.scan.block
 
 pub judge-requires-clause-together : goal.judge-requires-clause-together
-judge-requires-clause-together c = keeper_together _ c.self.invariant.keeper c.self.inside.scan.differences.units.roots.now c.self.invariant.scan.differences.roots
+judge-requires-clause-together c = keeper_together c.self.invariant.keeper c.self.inside.scan.differences.units.roots.now c.self.invariant.scan.differences.roots
 
 pub judge-requires-clause-numbers : goal.judge-requires-clause-numbers
 judge-requires-clause-numbers c = table_numbers c.self.invariant.keeper.table
@@ -46,6 +47,7 @@ invariant_of-self c =
       scan = c.judge.ensures.scan;
       keeper = rw c.judge.ensures.circuit (keeper ((goal.at.invariant_of-self c).After-judge) some.0 some.2);
       stream = rw c.judge.ensures.circuit c.self.invariant.stream;
+      stands = λ is. absurd (false≢true is);
     }
 
 pub invariant_of-self-2 : goal.invariant_of-self-2
@@ -53,6 +55,7 @@ invariant_of-self-2 c = record {
   scan = c.judge.ensures.scan;
   keeper = rw c.judge.ensures.circuit (keeper ((goal.at.invariant_of-self-2 c).After-judge) c.in_ok-count.count c.in_ok-count.ensures.ok);
   stream = rw c.judge.ensures.circuit c.self.invariant.stream;
+  stands = λ is. absurd (false≢true is);
 }
 
 pub returns-in_err-count-clause-err : goal.returns-in_err-count-clause-err

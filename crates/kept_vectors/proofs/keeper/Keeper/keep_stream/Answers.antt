@@ -1,4 +1,5 @@
 use Rattle.std.proofs.Common.{◌≡◌, ◌∙◌, ℕ, ◌+◌, ◌-◌, Bool, List, refl, sym, ap, subst, arith}
+use Rattle.std.proofs.lemmas.Bool.{false≢true}
 use Rattle.std.proofs.lemmas.Result.{err_from_is_err_and}
 use Rattle.net_model.specs.FaultList.{fault_count}
 use Rattle.net_model.specs.Circuit.{Circuit}
@@ -26,6 +27,7 @@ loop-left-init c =
       drawn = c.self.invariant.stream;
       circuit = refl;
       scan = c.self.invariant.scan;
+      stands = refl;
       keeper = c.self.invariant.keeper;
       keeps = subst (λ (n : ℕ). Keeps circuit (stream circuit.sources n) old old) none (keeps_none circuit old);
     }
@@ -35,6 +37,7 @@ invariant_of-self-2 c = record {
   scan = c.loop-left.invariant.scan;
   keeper = rw c.loop-left.invariant.circuit c.loop-left.invariant.keeper;
   stream = rw c.loop-left.invariant.circuit (c.args.blocks - c.loop-left.left, c.loop-left.invariant.place);
+  stands = λ is. absurd (false≢true (sym c.loop-left.invariant.stands ∙ is));
 }
 
 pub fill-left-requires-clause-sources : goal.fill-left-requires-clause-sources
@@ -50,12 +53,13 @@ keep_block-requires-clause-scan c =
       block = c.fill-left.ensures.sources ∙ ap (λ (s : StreamState). s.sources) c.loop-left.invariant.place ∙ ap (λ (k : Circuit). k.sources) (sym c.loop-left.invariant.circuit);
       differences = scan.differences;
       lanes = scan.lanes;
+      rows = scan.rows;
     }
 
 pub keep_block-requires-clause-together : goal.keep_block-requires-clause-together
 keep_block-requires-clause-together c =
     let so_far = c.loop-left.invariant in
-    keeper_together _ so_far.keeper c.loop-left.self-inside.scan.differences.units.roots.now (subst (λ (k : Circuit). AreRootsOf k c.loop-left.self-inside.scan.differences.units.roots.now) so_far.circuit so_far.scan.differences.roots)
+    keeper_together so_far.keeper c.loop-left.self-inside.scan.differences.units.roots.now (subst (λ (k : Circuit). AreRootsOf k c.loop-left.self-inside.scan.differences.units.roots.now) so_far.circuit so_far.scan.differences.roots)
 
 pub keep_block-requires-clause-numbers : goal.keep_block-requires-clause-numbers
 keep_block-requires-clause-numbers c = table_numbers c.loop-left.invariant.keeper.table ∙ ap fault_count (sym c.loop-left.invariant.circuit)
@@ -78,6 +82,7 @@ loop-left-preserved c =
       drawn = so_far.drawn;
       circuit = c.in_ok-keep_block.ensures.circuit ∙ so_far.circuit;
       scan = c.in_ok-keep_block.ensures.scan;
+      stands = so_far.stands;
       keeper = keeper_after circuit (blocks_from circuit.sources done count) old new so_far.keeper (stream_widths circuit.sources _) keeps;
       keeps = rw now (stream_more c.stream_continues.ensures done count so_far.keeps keeps);
     }
@@ -95,6 +100,7 @@ invariant_of-self c =
       keeper = rw (c.in_err-keep_block.ensures.circuit, c.loop-left.invariant.circuit)
           (keeper_first_after circuit (blocks_from circuit.sources done c.fill-left.result) old new so_far.keeper (stream_widths circuit.sources _) some);
       stream = rw (c.in_err-keep_block.ensures.circuit, c.loop-left.invariant.circuit) c.loop-left.invariant.drawn;
+      stands = λ is. absurd (false≢true (sym c.loop-left.invariant.stands ∙ is));
     }
 
 pub returns-in_err-keep_block-clause-circuit : goal.returns-in_err-keep_block-clause-circuit

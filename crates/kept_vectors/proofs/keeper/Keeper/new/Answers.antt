@@ -1,4 +1,5 @@
 use Rattle.std.proofs.Common.{◌≡◌, ◌∙◌, sym, ap, subst}
+use Rattle.std.proofs.lemmas.Bool.{false≢true}
 use Rattle.net_model.specs.Circuit.{Circuit, IsCircuit}
 use Rattle.net_model.specs.ClassTable.{first_table}
 use Rattle.net_model.specs.FaultList.{fault_count}
@@ -24,6 +25,7 @@ invariant_of-result c =
       scan = scan.scan;
       keeper = subst IsKeeper (sym (first_keeper c)) (keeper_first c.args.subject.now (subst IsCircuit c.circuit.ensures.value c.circuit.ensures.circuit));
       stream = (0, c.new-stream.ensures ∙ ap (λ n. stream_at n 0) (c.sources.ensures.value ∙ ap (λ (k : Circuit). k.sources) (c.circuit.ensures.value ∙ sym scan.circuit)));
+      stands = λ is. absurd (false≢true is);
     }
 
 pub returns : goal.returns
