@@ -1,7 +1,10 @@
 """Netlists in the .bench format, read and simulated. They are taken to be right: the program says where one isn't."""
 
+from __future__ import annotations
+
 import functools
 import re
+from collections.abc import Iterable
 
 TOKEN = re.compile(r"#[^\r\n]*|[(),=]|[^\s(),=#]+")
 
@@ -11,7 +14,7 @@ class Netlist:
     cell's, `shown` the name that each position shows, `kinds` what each source is by its name, and `gates` the gate word and the pins of each
     driven name."""
 
-    def __init__(self, text):
+    def __init__(self, text: str) -> None:
         tokens = [it for it in TOKEN.findall(text) if not it.startswith("#")]
         inputs, outputs, cells, self.gates = [], [], [], {}
         at = 0
@@ -32,7 +35,7 @@ class Netlist:
         self.kinds = {name: kind for kind, name in self.sources}
 
     @functools.cached_property
-    def order(self):
+    def order(self) -> list[str]:
         """The driven names, each behind those of its pins."""
         done, order = {it for _, it in self.sources}, []
         for root in self.gates:
@@ -49,12 +52,12 @@ class Netlist:
         return order
 
     @functools.cached_property
-    def place(self):
+    def place(self) -> dict[str, int]:
         """The place of each driven name in that order."""
         return {name: at for at, name in enumerate(self.order)}
 
     @functools.cached_property
-    def levels(self):
+    def levels(self) -> dict[str, int]:
         """How many gates stand before each name, on the longest way: 0 for a source."""
         found = {name: 0 for _, name in self.sources}
         for name in self.order:
@@ -62,12 +65,12 @@ class Netlist:
         return found
 
     @functools.cached_property
-    def shown_lines(self):
+    def shown_lines(self) -> set[str]:
         """The names that some position shows."""
         return set(self.shown)
 
     @functools.cached_property
-    def readers(self):
+    def readers(self) -> dict[str, list[tuple[str, int]]]:
         """The gates that read each name, in order, with the pin that does."""
         found = {}
         for gate, (_, pins) in self.gates.items():
@@ -75,7 +78,7 @@ class Netlist:
                 found.setdefault(name, []).append((gate, pin))
         return found
 
-    def cone(self, names):
+    def cone(self, names: Iterable[str]) -> set[str]:
         """The names whose values these can change, these too."""
         found, stack = set(names), list(names)
         while stack:
@@ -86,7 +89,7 @@ class Netlist:
         return found
 
 
-def netlist_of(text, name):
+def netlist_of(text: str, name: str) -> Netlist:
     """The netlist of a file's text. A ValueError says that it is none."""
     try:
         return Netlist(text)
@@ -94,13 +97,13 @@ def netlist_of(text, name):
         raise ValueError(f"{name} is no netlist: ./diatest faults {name} says where") from None
 
 
-def read(name):
+def read(name: str) -> Netlist:
     """The netlist of a file. A ValueError says that it is none."""
     with open(name, encoding="latin-1") as file:
         return netlist_of(file.read(), name)
 
 
-def gate_value(word, pins, full):
+def gate_value(word: str, pins: list[int], full: int) -> int:
     """The function of a gate on words that have a bit for each vector."""
     if word == "MUX":
         return pins[1] & ~pins[0] | pins[2] & pins[0]
@@ -119,7 +122,7 @@ def gate_value(word, pins, full):
     return full & ~value if word in ("NAND", "NOR", "XNOR", "NOT") else value
 
 
-def values(netlist, vectors, forced=None):
+def values(netlist: Netlist, vectors: list[str], forced: dict[str, int] | None = None) -> dict[str, int]:
     """The value of each name: a word with a bit for each vector, the first one lowest. `forced` has the words of names that a defect sets."""
     full, value, forced = (1 << len(vectors)) - 1, {}, forced or {}
     columns = zip(*reversed(vectors)) if vectors else [""] * len(netlist.sources)
@@ -131,7 +134,7 @@ def values(netlist, vectors, forced=None):
     return value
 
 
-def behind(netlist, value, now, full):
+def behind(netlist: Netlist, value: dict[str, int], now: dict[str, int], full: int) -> dict[str, int]:
     """Words that a defect gives names, with the words of all names that these change, from the values without them."""
     now = dict(now)
     for name in sorted(netlist.cone(now) - now.keys(), key=netlist.place.get):
@@ -140,7 +143,7 @@ def behind(netlist, value, now, full):
     return now
 
 
-def changed(netlist, value, fault, full):
+def changed(netlist: Netlist, value: dict[str, int], fault: list[str], full: int) -> dict[str, int]:
     """The values of the names that a fault changes, from those without it. A fault is its name's fields."""
     kind, *site, stuck = fault
     stuck = full if stuck == "1" else 0
@@ -154,7 +157,7 @@ def changed(netlist, value, fault, full):
     return behind(netlist, value, {site[1]: gate_value(word, seen, full)}, full)
 
 
-def answers(netlist, vectors, fault=None, free=None):
+def answers(netlist: Netlist, vectors: list[str], fault: list[str] | None = None, free: dict[str, int] | None = None) -> list[int]:
     """What each position shows: a word with a bit for each vector, the first one lowest. A fault is its name's fields; `free` has the
     values without it, where they are known."""
     full = (1 << len(vectors)) - 1

@@ -2,6 +2,8 @@
 
 completion.py bash|zsh prints it."""
 
+from __future__ import annotations
+
 import sys
 
 from usage import COMMANDS, HELPERS, FileOption
@@ -56,27 +58,27 @@ _diatest "$@"
 """
 
 
-def options_of(name):
+def options_of(name: str) -> list[tuple[str, str]]:
     """The options of a command, with what each does."""
     options = [(f"--{it.name}", it.work) for it in COMMANDS[name].options]
     return options + ([("--force", "allows to write over a file that the run reads, or one of another kind")] if COMMANDS[name].made else [])
 
 
-def quoted(text):
+def quoted(text: str) -> str:
     """A text between quotes of zsh, in which brackets and colons mean nothing."""
     for it in "[]:":
         text = text.replace(it, "\\" + it)
     return text.replace("'", "'\\''")
 
 
-def bash():
+def bash() -> str:
     """The file for bash."""
     cases = [f"    {name}) options=\"{' '.join(it for it, _ in options_of(name))}\" ;;" for name in COMMANDS if options_of(name)]
     helped = " ".join([*COMMANDS, *HELPERS])
     return BASH % {"commands": " ".join(COMMANDS), "helped": helped, "cases": "\n".join(cases), "kinds": " ".join(KINDS)}
 
 
-def zsh_case(name):
+def zsh_case(name: str) -> str:
     """What zsh completes behind a command."""
     values = {f"--{it.name}": ":file:_files" if isinstance(it, FileOption) else ":number:" for it in COMMANDS[name].options}
     words = [f"'{option}[{quoted(work)}]{values.get(option, '')}'" for option, work in options_of(name)]
@@ -84,7 +86,7 @@ def zsh_case(name):
     return f"    {name}) _arguments {' '.join([*words, repr('*:file:_files')])} ;;"
 
 
-def zsh():
+def zsh() -> str:
     """The file for zsh."""
     described = [f"    '{name}:{quoted(command.work)}'" for name, command in COMMANDS.items()]
     helped = " ".join([*COMMANDS, *HELPERS])

@@ -1,5 +1,7 @@
 """Why a file can't be read or written."""
 
+from __future__ import annotations
+
 import errno
 import os
 import select
@@ -26,12 +28,12 @@ class Unwritten(Exception):
     """Why standard output can't be written."""
 
 
-def why(error):
+def why(error: OSError) -> str:
     """The cause of a failed call."""
     return WHY.get(error.errno) or (error.strerror or "the cause isn't known").lower()
 
 
-def unread(name):
+def unread(name: str) -> str | None:
     """Why a file can't be read, if it can't."""
     try:
         kind = os.stat(name).st_mode
@@ -43,7 +45,7 @@ def unread(name):
     return None
 
 
-def uncreated(name, folder):
+def uncreated(name: str, folder: str) -> str | None:
     """Why a file can't be created in a folder, if it can't."""
     if not os.path.isdir(folder):
         return f"{named(name)} can't be created: there is no folder {named(folder)}"
@@ -52,7 +54,7 @@ def uncreated(name, folder):
     return None
 
 
-def unwritten(name):
+def unwritten(name: str) -> str | None:
     """Why a file can't be written, if it can't. It is neither created nor changed."""
     folder = os.path.dirname(name) or "."
     try:
@@ -69,7 +71,7 @@ def unwritten(name):
     return full(name, folder)
 
 
-def full(name, folder):
+def full(name: str, folder: str) -> str | None:
     """Whether no byte more fits on the disk of a file, tried with a file that has no name."""
     try:
         with open(os.open(folder, os.O_TMPFILE | os.O_WRONLY), "wb", buffering=0) as file:
@@ -82,7 +84,7 @@ def full(name, folder):
     return None
 
 
-def hand_out(text):
+def hand_out(text: str) -> None:
     """Writes a text on standard output."""
     left = text.encode("utf-8", "surrogateescape")
     while left:

@@ -59,9 +59,17 @@ class Parser(argparse.ArgumentParser):
 
     def error(self, message: str) -> NoReturn:
         """Ends with what is wrong with the words."""
+        word = message.partition("unrecognized arguments: ")[2]
         for form, plain in SAID:
             message = re.sub(form, plain, message, flags=re.DOTALL)
-        raise Misused(message)
+        name = word.startswith("-") and os.path.lexists(word)
+        raise Misused(message + (f": write the name of a file so: ./{word}" if name else ""))
+
+    def parse(self, words: List[str]) -> Words:
+        """Takes in words, of which those behind -- are names. One of these that begins with - gets ./ before it."""
+        at = words.index("--") if "--" in words else len(words)
+        behind = [f"./{it}" if it.startswith("-") else it for it in words[at + 1 :]]
+        return self.parse_intermixed_args([*words[:at], *behind])
 
     def print_help(self, file: object = None) -> None:
         """Prints the help."""

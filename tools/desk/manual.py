@@ -2,6 +2,8 @@
 
 manual.py prints it."""
 
+from __future__ import annotations
+
 from usage import COMMANDS, FORCED, HELPERS, FileOption, first_line
 
 STATUSES = (
@@ -22,18 +24,18 @@ tester it finds the nets that may be at fault. A run writes a new file beside th
 fails or is stopped leaves an older file as it was. If a file is refused, standard error has the line, a caret, and a command that mends it."""
 
 
-def roff(text):
+def roff(text: str) -> str:
     """A text as it stands in a page."""
     text = text.replace("\\", "\\e").replace("-", "\\-").replace("`", "").replace("'", "\\(aq")
     return "\\&" + text if text.startswith(".") else text
 
 
-def tagged(tag, text):
+def tagged(tag: str, text: str) -> list[str]:
     """A paragraph with a tag."""
     return [".TP", f".B {roff(tag)}", roff(text)]
 
 
-def page(version):
+def page(version: str) -> str:
     """The page."""
     lines = [f'.TH DIATEST 1 "" "{roff(version)}" "User Commands"', ".SH NAME"]
     lines += ["diatest \\- test patterns that distinguish stuck\\-at faults, and diagnosis by them", ".SH SYNOPSIS"]

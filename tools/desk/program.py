@@ -1,5 +1,7 @@
 """Which program the helpers run."""
 
+from __future__ import annotations
+
 import os
 import signal
 import subprocess
@@ -7,18 +9,18 @@ import subprocess
 from results import TOP
 
 
-def program_of():
+def program_of() -> str:
     """The name of the program: the one that DIATEST names, that of an installation, or the one that `tools/build` leaves."""
     installed = f"{TOP}/program"
     return os.environ.get("DIATEST") or (installed if os.path.exists(installed) else f"{TOP}/crates/diatest/out/diatest")
 
 
-def deaf():
+def deaf() -> None:
     """Has a process that is started ignore the interrupt of a terminal, since it is stopped by another signal."""
     signal.signal(signal.SIGINT, signal.SIG_IGN)
 
 
-def built():
+def built() -> str | None:
     """The same name, of a program that is built first if it must be; None if the build fails. The build is stopped if this is interrupted."""
     name = program_of()
     if os.environ.get("DIATEST") or name == f"{TOP}/program":

@@ -1,5 +1,7 @@
 """How far a run of `gen` or `topup` is, by the lines of the result that it has written."""
 
+from __future__ import annotations
+
 import os
 import time
 
@@ -10,7 +12,7 @@ FIRST = 3  # seconds before anything is shown
 AT_ONCE = 64  # pieces that are read in a second
 
 
-def stamp(name):
+def stamp(name: str) -> tuple[int, int, int] | None:
     """What shows whether a file is another than before."""
     try:
         it = os.stat(name)
@@ -22,12 +24,12 @@ def stamp(name):
 class Progress:
     """Reads the result as it grows, and shows the counts on a line of the terminal that it writes over."""
 
-    def __init__(self, name):
+    def __init__(self, name: str) -> None:
         self.name, self.before, self.began = name, stamp(name), time.monotonic()
         self.offset, self.rest, self.shown = 0, b"", 0
         self.last, self.patterns, self.member, self.open = None, 0, None, set()
 
-    def count(self, line):
+    def count(self, line: bytes) -> None:
         """Counts a line, of which the beginning is given."""
         fields = line.split(b" ", 5)
         if fields[0] == b"diatest" and len(fields) > 4:
@@ -38,7 +40,7 @@ class Progress:
             self.member = int(fields[1])
             (self.open.add if fields[3] == b"O" else self.open.discard)(self.member)
 
-    def read(self):
+    def read(self) -> None:
         """Reads the lines that are new."""
         with open(self.name, "rb") as file:
             file.seek(self.offset)
@@ -52,14 +54,14 @@ class Progress:
                 if len(piece) < PIECE:
                     break
 
-    def line(self, seconds):
+    def line(self, seconds: int) -> str:
         """The counts as a text."""
         if self.last is None:
             return f"no line is written yet, {seconds} s"
         text = f"{self.patterns} patterns, {seconds} s"
         return text if self.member is None else f"fault {self.member} of {self.last}, {len(self.open)} open, {text}"
 
-    def show(self):
+    def show(self) -> None:
         """Shows the counts, once the run has taken a while and the file is begun."""
         seconds = int(time.monotonic() - self.began)
         if seconds < FIRST or stamp(self.name) in (None, self.before):
@@ -73,7 +75,7 @@ class Progress:
         say(f"\r{text:{self.shown}}\r")
         self.shown = len(text)
 
-    def clear(self):
+    def clear(self) -> None:
         """Takes the line off the terminal."""
         if self.shown:
             say(f"\r{'':{self.shown}}\r")

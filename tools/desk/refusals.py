@@ -7,7 +7,7 @@ from itertools import islice
 import bench
 import mends
 from telling import bytes_caret, caret, line_start, named, plain_file
-from usage import COMMANDS, FileOption
+from usage import COMMANDS, FileOption, order_of
 
 LONGEST = 1 << 24  # bytes of a line that are looked at
 
@@ -216,7 +216,8 @@ def log_place(kind, command, files, name, rule, line, text, other):
         return 0, f"The log ends before the last of the {patterns} patterns. `rank` takes a log in which some are missing."
     begin = text.rfind(b" ") + 1
     bits = 0 if text[begin:] == b"-\n" else len(text) - 1 - begin
-    return begin + min(width, bits), f"Each line has {width} bits, and this one has {bits}.{mends.of_line(text, (mends.IN_HEX,), name, width)}"
+    mend = mends.of_line(text, (mends.IN_HEX,), name, width)
+    return begin + min(width, bits), f"Each line has {width} bit{'' if width == 1 else 's'}, and this one has {bits}.{mend}"
 
 
 def result_place(rule, step, text):
@@ -254,8 +255,9 @@ def another(kind, command, name, file):
     found = next((what for begin, what in HEADS if re.match(begin, head)), None)
     if encoded or not found or found == WANTED[kind]:
         return encoded
-    takes = [WANTED[it] for it, names in NAMES.items() if it in WANTED and set(names) & set(COMMANDS[command].read.split())]
-    order = f" The order is: diatest {command} {COMMANDS[command].words}." if found in takes else ""
+    line, read = order_of(command)
+    takes = [WANTED[it] for it, names in NAMES.items() if it in WANTED and set(names) & set(read)]
+    order = f" The order is: {line}." if found in takes else ""
     return f" This file looks like {found}.{order}"
 
 

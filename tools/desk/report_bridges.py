@@ -51,6 +51,13 @@ def second_reading(case):
     return [f"{said}: {sentence(case.exact[0])}."]
 
 
+def as_well(case):
+    """How many bridges predict every observed bit as a class does, at the end of a sentence."""
+    if not case.exact:
+        return ""
+    return f"; {'one bridge predicts' if case.exact_count == 1 else f'{case.exact_count:,} bridges predict'} the log as well"
+
+
 def nearest(case, passed):
     """What the best bridge lacks, if none is exact and it fails fewer patterns that passed than the first suspect does, in a sentence."""
     best = case.bridges[0] if case.bridges else None

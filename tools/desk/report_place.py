@@ -5,6 +5,7 @@ import re
 from typing import NamedTuple
 
 PINS = 4  # pins of a gate that are named
+NETS = 4  # nets of a class that are named
 
 
 class Spot(NamedTuple):
@@ -115,16 +116,23 @@ def spot(case, number):
     return at_gate(case, best, gates[best], len(members))
 
 
-def more(found):
-    """How many equal faults lie elsewhere, in words."""
-    return f"; {found.more:,} more equal fault{'' if found.more == 1 else 's'}" if found.more else ""
+def on_nets(case, number):
+    """A class whose faults stand in several places, by its nets in words, those nearest to the inputs first."""
+    nets = list(by_net(case, number))
+    named = nets[:NETS] if len(nets) > NETS + 1 else nets
+    rest = [f"{len(nets) - NETS:,} more"] if len(nets) > NETS + 1 else []
+    said = " and ".join(filter(None, [", ".join([*named, *rest][:-1]), [*named, *rest][-1]]))
+    return f"one of {len(case.members[number]):,} faults that answer alike, on nets {said}"
 
 
 def in_full(case, number):
-    """A class in words, as the subject of a verdict."""
+    """A class in words, as the subject of a verdict. One gate or one net names it only if all its faults stand there."""
     found = spot(case, number)
-    said = f"at {found.where}: {found.what}" if found.gate else f"{found.where} {found.what}"
-    return said + more(found)
+    if not found.more:
+        return f"at {found.where}: {found.what}" if found.gate else f"{found.where} {found.what}"
+    if len(by_net(case, number)) > 1:
+        return on_nets(case, number)
+    return f"{in_short(case, number)} ({found.more:,} more equal fault{'' if found.more == 1 else 's'})"
 
 
 def in_short(case, number):

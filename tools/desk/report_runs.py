@@ -9,6 +9,7 @@ import tempfile
 from program import built
 from results import TOP
 from telling import say
+from usage import HELPER
 
 
 class Ended(Exception):
@@ -60,13 +61,13 @@ class Runs:
 
     command = f"{TOP}/diatest"
 
-    def __init__(self, folder: str):
+    def __init__(self, folder: str, helper: str):
         self.folder, self.started = folder, []
         self.copies = {}  # the user's words for what is read from pipes, by the names of the copies
         program = built()
         if program is None:
             raise Ended(1, "")
-        self.environment = {**os.environ, "DIATEST": program}
+        self.environment = {**os.environ, "DIATEST": program, HELPER: helper}
 
     def __enter__(self):
         return self
@@ -87,7 +88,10 @@ class Runs:
         return text
 
     def readable(self, kind: str, name: str) -> str:
-        """A name under which a file can be read as often as needed: its own, or that of a copy if it is a pipe or a device."""
+        """A name under which a file can be read as often as needed: its own, or that of a copy if it is a pipe or a device. No command takes it
+        for an option."""
+        if name.startswith("-"):
+            name = f"./{name}"
         try:
             mode = os.stat(name).st_mode
         except OSError:

@@ -13,6 +13,7 @@ UNFITTING = (
     "another result in the folder."
 )
 NEITHER = "No single stuck-at fault and no bridge fits"
+FEW = 5  # of so many observed bits at most one fails: then a suspect may be near what is wrong with the chip
 FAILING_ONLY = "The log has no passing pattern, so no fault can be ruled out because it would fail more patterns."
 
 # The kinds of chips. By stuck-at faults alone a chip is of one of the first five.
@@ -57,7 +58,8 @@ def verdict(case, doubt):
 def of_log(case, doubt):
     """What the log comes to if the scan chain is right."""
     if not any(case.seen):
-        return Verdict("The log has no observed bit, so it says nothing about the chip", [], EMPTY)
+        lacks = "has no observed bit" if case.logged_count else "is empty"
+        return Verdict(f"The log {lacks}, so it says nothing about the chip", [], EMPTY)
     if not case.failing:
         return good(case)
     if doubt:
@@ -95,8 +97,10 @@ def doubted(case, doubt):
         more.append(f"The log has more patterns than {', '.join(doubt.others)}, in the same folder.")
     if doubt.still * 2 > doubt.cells and not dead(case):
         more.append(f"{doubt.still:,} of {count(doubt.cells, 'scan cell')} never change in the log: check the scan chain.")
-    if not doubt.best and case.suspects:
-        more.append(f"If the log is right, several defects act at once; the nearest is {in_short(case, case.suspects[0].number)}.")
+    if not doubt.best and case.suspects and not dead(case):
+        few = case.wrong_bits * FEW <= case.seen_bits
+        nearest = f"; the nearest is {in_short(case, case.suspects[0].number)}" if few else ""
+        more.append(f"If the log is right, several defects act at once{nearest}.")
     return Verdict(LOOKS, more, WRONG_LOG)
 
 
@@ -125,9 +129,10 @@ def explained(case):
     if len(perfect) > 1:
         return several(case, perfect)
     if perfect:
-        more = ["It predicts every observed bit."] + unlogged(case, first.number)
+        more = [f"{'Each of them' if case.exact else 'It'} predicts every observed bit."] + unlogged(case, first.number)
         named = in_full(case, first.number)
-        return Verdict(f"A single stuck-at fault fits{',' if named.startswith('at gate ') else ':'} {named}", more, SINGLE)
+        fits = f"A single stuck-at fault fits{',' if named.startswith('at gate ') else ':'} {named}"
+        return Verdict(fits + bridges.as_well(case), more, SINGLE)
     passed = ones_in(case.shows[first.number])
     more = [f"{capital(in_counts(case, first.number))} explains each of the {failing}, but would also fail {count(passed, 'pattern')} that passed."]
     return Verdict(f"{NEITHER}: a defect that shows now and then", more + bridges.nearest(case, passed), NOW_AND_THEN)
@@ -137,7 +142,8 @@ def several(case, perfect):
     """Where the log fits several classes."""
     first = in_short(case, perfect[0].number)
     many = f"{len(perfect)} classes" + (" or more" if len(perfect) == len(case.suspects) >= 20 else "")
-    return Verdict(f"{many} of stuck-at faults fit, and the log can't tell them apart", [f"The first is {first}."], SINGLE)
+    fit = f"{many} of stuck-at faults fit, and the log can't tell them apart"
+    return Verdict(fit + bridges.as_well(case), [f"The first is {first}."], SINGLE)
 
 
 def failing_only(case, perfect):

@@ -1,8 +1,11 @@
 """Results and names of faults, as the helpers read them. Nothing is checked: the program's `check` does that."""
 
+from __future__ import annotations
+
 import functools
 import os
 import subprocess
+from collections.abc import Iterable, Iterator
 
 TOP = os.path.dirname(os.path.dirname(os.path.dirname(os.path.realpath(__file__))))
 LONGEST = 1 << 24  # bytes of a line that are read; those behind are passed over
@@ -14,7 +17,7 @@ MARKS = {
 }
 
 
-def lines(name):
+def lines(name: str) -> Iterator[list[str]]:
     """The fields of each line of a result; of a long one those that stand first."""
     with open(name, "rb") as file:
         while line := file.readline(LONGEST):
@@ -27,7 +30,7 @@ class Result:
     """How many sources a result has, its patterns, of each class but the first the class that it was a part of and the pattern that split it
     off, the class and the mark of each number, and the last evidence of each member."""
 
-    def __init__(self, name):
+    def __init__(self, name: str) -> None:
         self.patterns, self.births, self.classes, self.marks, self.evidence = [], {}, {}, {}, {}
         listed = lines(name)
         try:
@@ -48,7 +51,7 @@ class Result:
             raise ValueError(f"{name} is no complete result: ./diatest check says where")
 
     @functools.cached_property
-    def members(self):
+    def members(self) -> dict[int, list[int]]:
         """The numbers of each class, in order."""
         found = {}
         for number, its_class in self.classes.items():
@@ -56,7 +59,7 @@ class Result:
         return found
 
 
-def names_in(listing, numbers):
+def names_in(listing: Iterable[str], numbers: Iterable[int]) -> dict[int, tuple[int, list[str]]]:
     """The root and the name's fields of each of these numbers, from the lines of the program's list of faults."""
     found, wanted = {}, {str(it) for it in numbers}
     for line in listing:
@@ -67,7 +70,7 @@ def names_in(listing, numbers):
     return found
 
 
-def vectors_of(name):
+def vectors_of(name: str) -> list[str]:
     """The vectors of a list."""
     with open(name, encoding="latin-1") as file:
         found = ["" if it == "-\n" else it.rstrip("\n") for it in file]
@@ -76,7 +79,7 @@ def vectors_of(name):
     return found
 
 
-def names_of(netlist, numbers):
+def names_of(netlist: str, numbers: Iterable[int]) -> dict[int, tuple[int, list[str]]]:
     """The same, from the list of faults that the program prints of a netlist."""
     with subprocess.Popen([f"{TOP}/diatest", "faults", netlist], stdout=subprocess.PIPE, text=True, encoding="latin-1") as listing:
         found = names_in(listing.stdout, numbers)
@@ -85,7 +88,7 @@ def names_of(netlist, numbers):
     return found
 
 
-def in_words(name):
+def in_words(name: list[str]) -> str:
     """A fault's name in words."""
     if name == ["free"]:
         return "the circuit without a fault"

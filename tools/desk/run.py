@@ -15,7 +15,7 @@ import sys
 from failures import unread, unwritten, why
 from outputs import FORCE, Outputs, Refused, refuse_another, refuse_same
 from progress import Progress, stamp
-from refusals import WANTED, explain, kind_of
+from refusals import PARTIAL, WANTED, explain, kind_of
 from telling import named, say, tell
 from usage import COMMANDS, files_of, places_of, read_by, usage
 from words import wrong
@@ -138,10 +138,17 @@ class Run:
             say(explain(self.command, self.files, self.console.kept.decode("utf-8", "surrogateescape")))
         elif status in (7, 8):
             self.tell_failed(status)
-        elif status == 0 and is_empty(self.files.get("VECTORS", "")):
-            tell(f"{named(self.files['VECTORS'])} has no vectors")
+        elif status == 0:
+            self.tell_empty()
         elif status == 9:
             tell("there wasn't enough memory")
+
+    def tell_empty(self):
+        """Tells which list or log that was read is empty."""
+        if is_empty(self.files.get("VECTORS", "")):
+            tell(f"{named(self.files['VECTORS'])} has no vectors")
+        if self.command in PARTIAL and is_empty(self.files["LOG"]):
+            tell(f"{named(self.files['LOG'])} is empty, so it says nothing about the chip")
 
     def tell_failed(self, status):
         """Tells which file couldn't be read or written, and why."""

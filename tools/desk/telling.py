@@ -1,5 +1,8 @@
 """What is told on standard error: sentences, and the line of a file with a caret. Of a file no more is held than a piece."""
 
+from __future__ import annotations
+
+import io
 import os
 import stat
 
@@ -7,7 +10,7 @@ PIECE = 1 << 20
 BEFORE, BEHIND = 48, 32  # bytes of a line that are shown before and behind the caret
 
 
-def say(text):
+def say(text: str) -> None:
     """Writes a text on standard error, if there is one."""
     try:
         os.write(2, text.encode("utf-8", "surrogateescape"))
@@ -15,23 +18,23 @@ def say(text):
         pass
 
 
-def tell(sentence):
+def tell(sentence: str) -> None:
     """Writes a sentence of the script's on standard error."""
     say(f"diatest: {sentence}\n")
 
 
-def shown(text):
+def shown(text: bytes) -> str:
     """Bytes as printable characters, others escaped."""
     named = {9: "\\t", 10: "\\n", 13: "\\r"}
     return "".join(chr(it) if 32 <= it < 127 else named.get(it, f"\\x{it:02x}") for it in text)
 
 
-def named(name):
+def named(name: str) -> str:
     """The name of a file, without what would disturb a terminal."""
     return name if name and name.isprintable() else "'" + shown(os.fsencode(name)) + "'"
 
 
-def plain_file(name):
+def plain_file(name: str) -> io.BufferedReader | None:
     """A file that can be read again from its beginning, opened; else None."""
     try:
         return open(name, "rb") if stat.S_ISREG(os.stat(name).st_mode) else None
@@ -39,7 +42,7 @@ def plain_file(name):
         return None
 
 
-def line_start(file, number):
+def line_start(file: io.BufferedReader, number: int) -> int:
     """The offset of a line, counted from 1; the file's length where there are fewer."""
     file.seek(0)
     offset, left = 0, number - 1
@@ -56,7 +59,7 @@ def line_start(file, number):
     return offset
 
 
-def caret(file, byte):
+def caret(file: io.BufferedReader, byte: int) -> str:
     """The part of a line around a byte, and a caret under it. The byte may be the file's end."""
     start = max(0, byte - BEFORE)
     file.seek(start)
@@ -71,7 +74,7 @@ def caret(file, byte):
     return f"  {before}{shown(behind)}{more}\n  {'':{len(before)}}^"
 
 
-def bytes_caret(file, byte):
+def bytes_caret(file: io.BufferedReader, byte: int) -> str:
     """The bytes around one, in base 16, and a caret under it."""
     first = max(0, byte - 8)
     file.seek(first)

@@ -1,15 +1,18 @@
 """The commands and the helpers: which words they take, which files they read and write, and the usage of each.
 
-usage.py [COMMAND] prints the usage on standard error."""
+usage.py [COMMAND] prints the usage on standard error. If there is no such command, it says so, and the status is 2."""
+
+from __future__ import annotations
 
 import os
 import sys
-from typing import NamedTuple
+from typing import Container, NamedTuple
 
 from telling import say
 
 HERE = os.path.dirname(os.path.dirname(os.path.dirname(os.path.realpath(__file__))))
 INSTALLED = os.path.exists(os.path.join(HERE, "program"))
+HELPER = "DIATEST_HELPER"  # the variable by which a helper that runs a command gives its name
 
 
 class Option(NamedTuple):
@@ -20,7 +23,7 @@ class Option(NamedTuple):
     least: int = 0
     label = "N"
 
-    def told(self):
+    def told(self) -> str:
         return f"{self.least} to {self.most}, default {self.default}: {self.work}"
 
 
@@ -29,7 +32,7 @@ class FileOption(NamedTuple):
     label: str  # what the usage calls the file, which is read before the log
     work: str
 
-    def told(self):
+    def told(self) -> str:
         return self.work
 
 
@@ -46,18 +49,36 @@ class Helper(NamedTuple):
     work: str
 
 
+# printed: numbers
+NUMBERS = {
+    "blocks": (0, 65_536, 4),
+    "cubes": (0, 1_048_576, 64),
+    "conflicts": (0, 100_000, 2_000),
+    "n": (1, 2_000, None),
+    "within": (0, 1_000_000, 0),
+    "most": (1, 1_000_000, 20),
+}
+# end
+
+
+def option(name: str, work: str) -> Option:
+    """An option with a number, as the program takes it."""
+    least, most, default = NUMBERS[name]
+    return Option(name, most, default, work, least)
+
+
 FORCED = "allows to write over a file that the run reads, over one of another kind, and over one in a folder that takes no new file"
 BUDGETS = (
-    Option("blocks", 65_536, 4, "how many blocks of 64 vectors of the stream are tried"),
-    Option("cubes", 1_048_576, 64, "how many closed cubes are spent on a pair of faults before the solver gets it"),
-    Option("conflicts", 100_000, 2_000, "how many clauses the solver learns for a pair of faults before the pair is left open"),
+    option("blocks", "how many blocks of 64 vectors of the stream are tried"),
+    option("cubes", "how many closed cubes are spent on a pair of faults before the solver gets it"),
+    option("conflicts", "how many clauses the solver learns for a pair of faults before the pair is left open"),
 )
-WITHIN = Option("within", 1_000_000, 0, "lists also the numbers with up to N mismatches more than the least")
-MOST = Option("most", 1_000_000, 20, "how many suspects are listed at most", 1)
+WITHIN = option("within", "lists also the numbers with up to N mismatches more than the least")
+MOST = option("most", "how many suspects are listed at most")
 APPLIED = FileOption("applied", "VECTORS", "the list of vectors by which the log is numbered, in place of the result's patterns")
 BRIDGES = (
-    Option("most", 1_000_000, 20, "how many bridges are listed at most", 1),
-    Option("within", 1_000_000, 0, "how many failing patterns a bridge may leave unexplained"),
+    option("most", "how many bridges are listed at most"),
+    option("within", "how many failing patterns a bridge may leave unexplained"),
     APPLIED,
 )
 
@@ -134,7 +155,7 @@ COMMANDS = {
     "sim": Command(
         "NETLIST VECTORS", "NETLIST VECTORS", "", "prints what the circuit answers to each vector, and what each fault answers that answers otherwise"
     ),
-    "synth": Command("N NETLIST RESULT", "", "NETLIST RESULT", "writes a netlist of N cells, 1 to 2000, and a result for it"),
+    "synth": Command("N NETLIST RESULT", "", "NETLIST RESULT", "writes a netlist of N cells, {} to {}, and a result for it".format(*NUMBERS["n"])),
 }
 
 
@@ -161,7 +182,7 @@ HELPERS = {
 }
 
 
-def places_of(command, words):
+def places_of(command: str, words: list[str]) -> dict[str, int]:
     """The places of the names among the words of an understood command, by what its usage calls them."""
     places, plain, value = [], False, False
     for place, word in enumerate(words):
@@ -176,7 +197,7 @@ def places_of(command, words):
     return dict(zip(COMMANDS[command].words.split(), places))
 
 
-def files_of(command, words):
+def files_of(command: str, words: list[str]) -> dict[str, str]:
     """The files among the words of an understood command, also those of its options, by what its usage calls them."""
     files = {label: words[at] for label, at in places_of(command, words).items()}
     labels = {f"--{it.name}": it.label for it in COMMANDS[command].options if isinstance(it, FileOption)}
@@ -188,7 +209,7 @@ def files_of(command, words):
     return files
 
 
-def read_by(command, files):
+def read_by(command: str, files: Container[str]) -> list[str]:
     """What a run reads, in this order, by what its usage calls it."""
     read = COMMANDS[command].read.split()
     given = [it.label for it in COMMANDS[command].options if isinstance(it, FileOption) and it.label in files]
@@ -196,18 +217,27 @@ def read_by(command, files):
     return read[:at] + given + read[at:]
 
 
-def first_line(name):
+def first_line(name: str) -> str:
     """The words of a command."""
     command = COMMANDS[name]
     return " ".join(["diatest", name, command.words, *(f"[--{it.name} {it.label}]" for it in command.options)])
 
 
-def helper_line(name):
+def helper_line(name: str) -> str:
     """The words of a helper."""
     return f"{'diatest-' if INSTALLED else 'tools/'}{name} {HELPERS[name].words}"
 
 
-def usage(name=None):
+def order_of(command: str) -> tuple[str, list[str]]:
+    """The words of a command in their order, and the names of what it reads; those of the helper, if one runs the command."""
+    helper = os.environ.get(HELPER)
+    if helper in HELPERS:
+        line = helper_line(helper).partition(" [")[0]
+        return line, line.split()
+    return f"diatest {command} {COMMANDS[command].words}", COMMANDS[command].read.split()
+
+
+def usage(name: str | None = None) -> str:
     """The usage of a command or a helper, or of all."""
     if name in HELPERS:
         return f"usage: {helper_line(name)}\n{HELPERS[name].work}\n"
@@ -225,5 +255,16 @@ def usage(name=None):
     return "\n".join([*lines, ""])
 
 
+def main(words):
+    """Prints the usage that words ask for. Returns the status."""
+    from words import unknown  # which reads the tables of this module
+
+    if not words or words[0] in (*COMMANDS, *HELPERS, "help", "-h", "--help"):
+        say(usage(*words[:1]))
+        return 0
+    say(f"diatest: {unknown(words[0])}. `diatest help` lists all of them.\n")
+    return 2
+
+
 if __name__ == "__main__":
-    say(usage(*sys.argv[1:2]))
+    sys.exit(main(sys.argv[1:]))

@@ -68,7 +68,7 @@ class LotRuns(Runs):
     """The commands for a chip of a lot: of the program itself. The faults are listed once."""
 
     def __init__(self, test: Test, folder: str):
-        super().__init__(folder)
+        super().__init__(folder, "volume")
         self.test, self.command = test, self.environment["DIATEST"]
 
     def start(self, *words: str) -> Any:
@@ -148,7 +148,7 @@ def of_case(case: LotCase, why_doubted: Optional[Doubt]) -> Dict[str, Any]:
 
 def refusal(lot: Lot, log: str, error: Ended) -> Dict[str, Any]:
     """The answer of a log at which a command ended: its status, what it printed, and what the script tells of the place."""
-    with tempfile.TemporaryDirectory(prefix="volume-") as folder, Runs(folder) as runs:
+    with tempfile.TemporaryDirectory(prefix="volume-") as folder, Runs(folder, "volume") as runs:
         run = runs.start("suspects", lot.netlist, lot.result, log, *lot.options())
         run.succeeds()
         told = read(run.error).decode("utf-8", "surrogateescape")

@@ -157,8 +157,8 @@ def about(test: Test, sums: Sums, made: str) -> str:
 
 def again(lot: Lot) -> str:
     """The commands that make it again, and the page of one chip."""
-    words = " ".join(shlex.quote(it if not it.startswith("-") else f"./{it}") for it in (lot.netlist, lot.result))
-    options = " ".join(map(shlex.quote, [*lot.options(), "-o", lot.folder]))
+    words = " ".join(map(shlex.quote, (lot.netlist, lot.result)))
+    options = " ".join(map(shlex.quote, [*lot.options(), "-o", f"./{lot.folder}" if lot.folder.startswith("-") else lot.folder]))
     lines = [f"tools/volume {words} LOG .. {options}"] + ([f"tools/report {words} LOG"] if lot.applied is None else [])
     return f"<h2>To make it again</h2>\n<pre>{escape(chr(10).join(lines))}</pre>"
 

@@ -20,7 +20,7 @@ from volume_jobs import LARGEST, Jobs, Plan, batches, check_host
 from volume_lot import FAILED, JOBS, KEPT, LOT, UNREAD, Lot, answer_name, answer_of, clean, lock, not_plain, save, sums_of, without_answer
 from volume_page import page
 from volume_sums import bridges, fault_shares, nets, patterns, positions
-from volume_words import Sums, sentences
+from volume_words import Sums, reasons, sentences
 
 MADE = ("volume.html", "nets.csv", "bridges.csv", "chips.csv", "volume.json")
 Answers = Dict[str, Dict[str, Any]]
@@ -36,10 +36,11 @@ class Refused(Exception):
 
 
 class Said(NamedTuple):
-    """What is printed of a lot, and how many logs have no answer yet."""
+    """What is printed of a lot, how many logs have no answer yet, and what is told of these."""
 
     text: str
     left: int
+    told: List[str]
 
 
 def program() -> str:
@@ -70,7 +71,7 @@ def accept(lot: Lot) -> None:
     for name in lot.files().values():
         if os.path.exists(name) and not os.path.isdir(name) and not stat.S_ISREG(os.stat(name).st_mode):
             raise Refused(f"{named(name)} is no plain file, and each job reads it")
-    with tempfile.TemporaryDirectory(prefix="volume-") as folder, Runs(folder) as runs:
+    with tempfile.TemporaryDirectory(prefix="volume-") as folder, Runs(folder, "volume") as runs:
         runs.start("expect", lot.netlist, lot.result, os.devnull, *lot.options()).lines()
 
 
@@ -148,7 +149,7 @@ def run(lot: Lot, plan: Plan, tell: Tell) -> Answers:
 
 def listing(lot: Lot) -> List[str]:
     """The list of faults."""
-    with tempfile.TemporaryDirectory(prefix="volume-") as folder, Runs(folder) as runs:
+    with tempfile.TemporaryDirectory(prefix="volume-") as folder, Runs(folder, "volume") as runs:
         return runs.start("faults", lot.netlist).lines()
 
 
@@ -161,4 +162,4 @@ def tables(lot: Lot, answers: Answers) -> Said:
     texts = (page(test, sums, made()), nets_csv(sums), bridges_csv(sums), chips_csv(sums), volume_json(lot, sums))
     for name, text in zip(MADE, texts):
         put(os.path.join(lot.folder, name), text)
-    return Said(" ".join(sentences(sums)), len(sums.left()))
+    return Said(" ".join(sentences(sums)), len(sums.left()), reasons(sums))

@@ -6,8 +6,11 @@ import math
 from typing import Any, Dict, List, NamedTuple, Tuple
 
 from report_words import count
+from telling import named
 from volume_lot import FAILED, UNREAD
 from volume_sums import WRONG_KINDS, Row, kinds
+
+TOLD = 8  # logs without an answer whose reasons are told
 
 TEXTS = {  # what each kind means, on the page
     "single": "a single stuck-at fault predicts every observed bit",
@@ -70,10 +73,20 @@ def by_kinds(found: List[Tuple[str, int]]) -> str:
 
 
 def leads(what: str, it: Row, chips: int) -> str:
-    """Which net or pair of nets leads, in a sentence."""
-    named = f"Net {it.nets[0]}" if len(it.nets) == 1 else f"The pair of nets {it.nets[0]} and {it.nets[1]}"
+    """Which net or pair of nets leads, in a sentence. One chip alone makes none lead."""
+    one = len(it.nets) == 1
+    if it.chips == 1:
+        return f"No {'net' if one else 'pair of nets'} leads: the first is called out by one chip alone."
+    named = f"Net {it.nets[0]}" if one else f"The pair of nets {it.nets[0]} and {it.nets[1]}"
     said = f"{named} leads the {what} with {percent(it.share)} of {count(chips, 'chip')}"
     return f"{said}; chance would give {percent(it.expected)}, so the ratio is {times(it.ratio)}."
+
+
+def reasons(sums: Sums) -> List[str]:
+    """Why logs have no answer, of the first few."""
+    left = sums.left()
+    found = [it["said"] if it["kind"] == UNREAD else f"{named(it['log'])}: {it['said']}" for it in left[:TOLD]]
+    return found + ([f"{count(len(left) - TOLD, 'more log')} without an answer: chips.csv says why"] if len(left) > TOLD else [])
 
 
 def sentences(sums: Sums) -> List[str]:

@@ -1,29 +1,39 @@
 """What is wrong with words that the program doesn't understand."""
 
+from __future__ import annotations
+
 import difflib
 import re
+from typing import Iterable
 
 from telling import named
-from usage import COMMANDS, FileOption
+from usage import COMMANDS, HELPERS, NUMBERS, FileOption, helper_line
 
 NUMBER = re.compile(r"\+?[0-9]+|[+-]?0+")
 VALUE, NAME = re.compile(r"[^-].*|-0*[1-9][0-9]*|", re.DOTALL), re.compile(r"[^-].*|-?", re.DOTALL)  # what may stand behind an option
-KINDS = ("passfail", "full", "samediff")
-CELLS = 2000
+KINDS = COMMANDS["dict"].words.split()[0].split("|")
 
 
-def near(word, among):
+def near(word: str, among: Iterable[str]) -> str:
     """The one of some words that is nearest to a word, as a text."""
     found = [it for it in among if word.startswith(it) or it.startswith(word) and word] or difflib.get_close_matches(word, among, 1)
     return f"; the nearest is {found[0]}" if found else ""
 
 
-def in_range(text, least, most):
+def unknown(word: str) -> str:
+    """What is wrong with a word that isn't a command."""
+    names = {it: it for it in COMMANDS} | {it: helper_line(it).split()[0] for it in HELPERS}
+    found = [it for it in names if word.startswith(it) or it.startswith(word) and word] or difflib.get_close_matches(word, names)
+    meant = f"; the nearest {'is' if len(found) == 1 else 'are'} {', '.join(names[it] for it in found)}" if found else ""
+    return f"there is no command {named(word)}{meant}"
+
+
+def in_range(text: str, least: int, most: int) -> bool:
     """Whether a text is a number in a range."""
     return bool(NUMBER.fullmatch(text)) and len(text.lstrip("+-0")) < 19 and least <= int(text) <= most
 
 
-def wrong_number(what, text, least, most):
+def wrong_number(what: str, text: str, least: int, most: int) -> str | None:
     """What is wrong with a number, if something is."""
     if in_range(text, least, most):
         return None
@@ -32,7 +42,7 @@ def wrong_number(what, text, least, most):
     return f"{what} takes a number from {least} to {most}, and {named(text)} isn't one{mend}"
 
 
-def split(name, words):
+def split(name: str, words: list[str]) -> tuple[list[tuple[str, str | None]], list[str]]:
     """The options of a command with their values, None where one is missing, and its other words."""
     known = {f"--{it.name}": NAME if isinstance(it, FileOption) else VALUE for it in COMMANDS[name].options}
     options, others, plain, at = [], [], False, 0
@@ -51,7 +61,7 @@ def split(name, words):
     return options, others
 
 
-def wrong_option(name, options):
+def wrong_option(name: str, options: list[tuple[str, str | None]]) -> str | None:
     """What is wrong with the first option that isn't right."""
     known, seen = {f"--{it.name}": it for it in COMMANDS[name].options}, set()
     for option, value in options:
@@ -69,7 +79,7 @@ def wrong_option(name, options):
     return None
 
 
-def wrong_count(name, others):
+def wrong_count(name: str, others: list[str]) -> str | None:
     """What is wrong with how many names there are."""
     wanted = COMMANDS[name].words.split()
     if len(others) < len(wanted):
@@ -79,7 +89,7 @@ def wrong_count(name, others):
     return None
 
 
-def wrong(words):
+def wrong(words: list[str]) -> str | None:
     """What is wrong with the words of a run, or None."""
     for word in words:
         try:
@@ -88,10 +98,10 @@ def wrong(words):
             return f"{named(word)} isn't UTF-8"
     name = words[0]
     if name not in COMMANDS:
-        return f"there is no command {named(name)}{near(name, COMMANDS)}"
+        return unknown(name)
     options, others = split(name, words[1:])
     found = wrong_option(name, options)
     if not found and name == "dict" and others and others[0] not in KINDS:
         found = f"the kind of a dictionary is passfail, full or samediff, and not {named(others[0])}{near(others[0], KINDS)}"
     found = found or wrong_count(name, others)
-    return found or (wrong_number("N", others[0], 1, CELLS) if name == "synth" else None)
+    return found or (wrong_number("N", others[0], *NUMBERS["n"][:2]) if name == "synth" else None)
